@@ -4,8 +4,8 @@ use Rattle.std.specs.Int.{int_max, int_min}
 use Rattle.std.proofs.lemmas.Int.{ints, clamps}
 use Rattle.std.proofs.lemmas.List.{take_all}
 use Rattle.vr_spans.specs.declared.runs.Run.{Run}
-use Rattle.vr_spans.specs.Runs.{limit, in_run, has, IsRun, IsNormalFrom, IsNormal, StaysNear}
-use Rattle.vr_spans.specs.Build.{IsWithin, StartsBy, Gains, stretched, CanStretch, common}
+use Rattle.vr_spans.specs.Runs.{limit, in_run, has, IsRun, IsNormalFrom, IsNormal}
+use Rattle.vr_spans.specs.Build.{StaysNear, IsWithin, StartsBy, Gains, stretched, CanStretch, common}
 use Rattle.vr_spans.proofs.RunsLemmas.{starts_later, normal_rest}
 use Rattle.vr_spans.proofs.Numbers.{has_below}
 use Rattle.vr_spans.proofs.Stretched.{RisesFrom, rises-stretched, CanStretchAll, can_stretch}

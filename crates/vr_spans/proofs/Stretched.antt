@@ -4,8 +4,8 @@ use Rattle.std.proofs.lemmas.Int.{ints, clamps}
 use Rattle.std.specs.Int.{int_min}
 use Rattle.std.proofs.lemmas.Bool.{or_cases, or_left, or_right}
 use Rattle.vr_spans.specs.declared.runs.Run.{Run}
-use Rattle.vr_spans.specs.Runs.{far, in_run, has, IsNormalFrom, StaysNear, IsReached}
-use Rattle.vr_spans.specs.Build.{stretched, CanStretch}
+use Rattle.vr_spans.specs.Runs.{in_run, has, IsNormalFrom, IsReached}
+use Rattle.vr_spans.specs.Build.{far, StaysNear, stretched, CanStretch}
 
 -- the ends of each run can be moved
 abbrev pub CanStretchAll : ℤ → ℤ → List Run → Type 0

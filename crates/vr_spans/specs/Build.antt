@@ -1,15 +1,23 @@
 -- Words of the functions that build a set run by run.
-use Rattle.std.specs.Prelude.{◌≡◌, Bool, ◌||◌, List, [], ◌∷◌, ◌++◌, Option, None, Some, IfNone, ℤ, pos, neg_ℤ, ◌+ℤ◌, ◌≤ℤ◌}
+use Rattle.std.specs.Prelude.{◌≡◌, ◌^◌, Bool, true, ◌||◌, List, [], ◌∷◌, ◌++◌, Option, None, Some, IfNone, ℤ, pos, neg_ℤ, ◌+ℤ◌, ◌≤ℤ◌}
 use Rattle.std.specs.Int.{int_max, int_min}
 use Rattle.std.specs.Option.{option_to_list}
 use Rattle.std.specs.Ordering.{int_cmp}
 use Rattle.std.specs.List.Sorted.{IsSortedByKey}
 use Rattle.vr_spans.specs.declared.runs.Run.{Run}
-use Rattle.vr_spans.specs.Runs.{limit, far, in_run, has, IsNormal}
+use Rattle.vr_spans.specs.Runs.{limit, in_run, has, IsNormal}
 
 -- the numbers of the run, if it has any, lie within the limits
 abbrev pub IsWithin : Run → Type 0
 IsWithin r = (neg_ℤ limit ≤ℤ r.lo) × (r.hi ≤ℤ limit)
+
+-- sums of a number of a set and the length of a way lie between this number and its negative
+abbrev pub far : ℤ
+far = pos (2 ^ 62)
+
+-- the numbers of the set stay near 0 where they are moved by first, and where they are moved by last
+abbrev pub StaysNear : ℤ → ℤ → List Run → Type 0
+StaysNear first last rs = (x : ℤ) → has rs x ≡ true → (neg_ℤ far ≤ℤ (x +ℤ first)) × ((x +ℤ last) ≤ℤ far)
 
 -- the run with its begin moved by first and its end by last
 abbrev pub stretched : ℤ → ℤ → Run → Run

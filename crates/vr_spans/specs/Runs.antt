@@ -8,9 +8,9 @@ use Rattle.vr_spans.specs.declared.runs.Run.{Run}
 abbrev pub limit : ℤ
 limit = pos (2 ^ 40)
 
--- sums of a number of a set and a length lie between this number and its negative
-abbrev pub far : ℤ
-far = pos (2 ^ 62)
+-- the ways over which a set is reached lie between this number and its negative
+abbrev pub farthest : ℤ
+farthest = pos (2 ^ 60)
 
 -- whether x is one of the run's numbers
 abbrev pub in_run : Run → ℤ → Bool
@@ -41,10 +41,6 @@ in_limits x = int_le (neg_ℤ limit) x && int_le x limit
 -- the numbers of the set stay within the limits where they are moved by first, and where they are moved by last
 abbrev pub StaysWithin : ℤ → ℤ → List Run → Type 0
 StaysWithin first last rs = (x : ℤ) → has rs x ≡ true → (neg_ℤ limit ≤ℤ (x +ℤ first)) × ((x +ℤ last) ≤ℤ limit)
-
--- the numbers of the set stay near 0 where they are moved by first, and where they are moved by last
-abbrev pub StaysNear : ℤ → ℤ → List Run → Type 0
-StaysNear first last rs = (x : ℤ) → has rs x ≡ true → (neg_ℤ far ≤ℤ (x +ℤ first)) × ((x +ℤ last) ≤ℤ far)
 
 -- x is a number of the set plus one of the numbers from first to last
 abbrev pub IsReached : ℤ → ℤ → List Run → ℤ → Type 0

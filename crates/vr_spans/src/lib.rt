@@ -12,6 +12,7 @@ mod sets;
 
 pub use laws::one_normal_form;
 pub use memory::NoMemory;
+pub use reach::FARTHEST;
 pub use runs::{LIMIT, Run};
 pub use sets::Spans;
 

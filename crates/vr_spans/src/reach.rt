@@ -1,10 +1,13 @@
 //! The numbers that a set leads to within another: meets, shifts, and ways of a length between two bounds.
 
-ghost use Rattle.std.specs.Prelude.{◌≡◌, ◌↔◌, ◌&&◌, map, IsTrue, IfOk, OnOk, ℤ, pos, ◌-ℤ◌, ◌≤ℤ◌};
-ghost use Rattle.vr_spans.specs.Runs.{has, IsNormal, IsReached, StaysWithin, StaysNear};
-ghost use Rattle.vr_spans.specs.Build.{stretched};
+ghost use Rattle.std.specs.Prelude.{◌≡◌, ◌↔◌, ◌&&◌, map, IsTrue, IfOk, OnOk, ℤ, pos, neg_ℤ, ◌-ℤ◌, ◌≤ℤ◌};
+ghost use Rattle.vr_spans.specs.Runs.{has, IsNormal, IsReached, StaysWithin, farthest};
+ghost use Rattle.vr_spans.specs.Build.{stretched, StaysNear};
 
 use crate::{LIMIT, NoMemory, Run, Spans};
+
+/// No way that `reach_into` takes is longer than this, in either direction.
+pub const FARTHEST: i64 = 1 << 60;
 
 /// All numbers that a set may have.
 const ALL: [Run; 1] = [Run {
@@ -75,7 +78,8 @@ impl Spans {
 
     /// Writes those numbers of `within` over `out` that are a number of this set plus one from `first` to `last`.
     ///
-    /// This is one pass over the runs of both sets. The sums may lie beyond `LIMIT`, and at most 2^62 from 0.
+    /// This is one pass over the runs of both sets. `first` and `last` lie in `-FARTHEST..=FARTHEST`, so the sums may lie
+    /// beyond `LIMIT`.
     pub fn reach_into(
         &self,
         first: i64,
@@ -84,7 +88,8 @@ impl Spans {
         out: &mut Spans,
     ) -> Result<(), NoMemory>
         requires in_order { first ≤ℤ last }
-        requires near { StaysNear first last self.now }
+        requires from { neg_ℤ farthest ≤ℤ first }
+        requires to { last ≤ℤ farthest }
         ensures exact { OnOk result ((x : ℤ) →
             IsTrue (has out.new x) ↔ (IsTrue (has within.now x) × IsReached first last self.now x)) }
         ensures normal { IsNormal out.new }
