@@ -1,7 +1,7 @@
 -- The entries of an array, and what is read of them.
-use Rattle.std.proofs.Common.{◌≡◌, ℕ, suc, ◌+◌, Bool, true, false, not, cond, ◌||◌, ltb, List, [], ◌∷◌, length, map, position, find, Option, Some, None, option_map, String, Global, string_bytes, Bor, refl, sym, ap, ap₂, ◌∙◌}
+use Rattle.std.proofs.Common.{◌≡◌, ℕ, suc, ◌+◌, ◌<◌, ◌≤◌, get_or, drop, Bool, true, false, not, cond, ◌||◌, ltb, List, [], ◌∷◌, length, map, position, find, Option, Some, None, option_map, String, Global, string_bytes, Bor, refl, sym, ap, ap₂, ◌∙◌}
 use Rattle.std.specs.List.{list_any, position_or_len}
-use Rattle.std.proofs.lemmas.List.{length-map}
+use Rattle.std.proofs.lemmas.List.{length-map, at_drop_more, at_drop_all}
 use Rattle.serde_json.specs.View.{view, items_view, members_view}
 use Rattle.serde_json.specs.declared.value.Value.{Value}
 use Rattle.vr_json.specs.Reading.{list_of, keys_of}
@@ -46,3 +46,17 @@ found_key p es = sym (find-map string_bytes p (map (λ e. e.0) es)) ∙ ap (find
 pub shown_key : (o : Option (Bor (String Global))) → option_map (λ key. string_bytes key.now) o ≡ option_map string_bytes (option_map (λ key. key.now) o)
 shown_key None = refl
 shown_key (Some key) = refl
+
+-- an element where a loop stands, and what is found from there on
+module _ {A B : Type 0} (f : A → B) (p : B → Bool) (xs : List A) (i : ℕ) (x : A) (lt : i < length xs) (is : x ≡ get_or xs i x) where
+  opened : find p (map f (drop i xs)) ≡ cond (p (f x)) (Some (f x)) (find p (map f (drop (i + 1) xs)))
+  opened = at_drop_more (λ ys. find p (map f ys)) xs i x lt ∙ ap (λ y. cond (p (f y)) (Some (f y)) (find p (map f (drop (i + 1) xs)))) (sym is)
+
+  pub found_here : p (f x) ≡ true → find p (map f (drop i xs)) ≡ Some (f x)
+  found_here h = opened ∙ ap (λ b. cond b (Some (f x)) (find p (map f (drop (i + 1) xs)))) h
+
+  pub passed_over : p (f x) ≡ false → find p (map f (drop i xs)) ≡ find p (map f (drop (i + 1) xs))
+  passed_over h = opened ∙ ap (λ b. cond b (Some (f x)) (find p (map f (drop (i + 1) xs)))) h
+
+pub none_left : {A B : Type 0} (f : A → B) (p : B → Bool) (xs : List A) (i : ℕ) → length xs ≤ i → find p (map f (drop i xs)) ≡ None
+none_left f p xs i le = at_drop_all (λ ys. find p (map f ys)) xs i le

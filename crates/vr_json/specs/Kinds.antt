@@ -1,6 +1,7 @@
 -- The kinds of values that are no object and no array.
-use Rattle.std.specs.Prelude.{ℕ, ℤ, ◌&&◌, List, Bool, length, nat_le, int_le, if◌then◌else◌, position, Result, Ok, Err}
+use Rattle.std.specs.Prelude.{ℕ, ℤ, pos, ◌-ℤ◌, nat_abs, ◌&&◌, List, Bool, length, nat_le, int_le, if◌then◌else◌, find, position, option_map, Result, Ok, Err}
 use Rattle.std.specs.Option.{ok_or}
+use Rattle.std.specs.Borrow.{Bor}
 use Rattle.std.specs.Str.{bytes_eq}
 use Rattle.serde_json.specs.Data.{Data}
 use Rattle.serde_json.specs.Find.{as_number, as_i64, as_str, as_bool}
@@ -31,6 +32,24 @@ word_in words d = do
 abbrev pub flag_in : Data → Result Bool Cause
 flag_in d = ok_or (as_bool d) OtherKind
 
+-- a whole number in lo..=hi, as a count
+abbrev pub count_in : ℕ → ℕ → Data → Result ℕ Cause
+count_in lo hi d = whole_in (pos lo) (pos hi) d >>= λ z. Ok (nat_abs z)
+
+-- the number of one of n things, from 0
+abbrev pub below_in : ℕ → Data → Result ℕ Cause
+below_in n d = whole_in (pos 0) (pos n -ℤ pos 1) d >>= λ z. Ok (nat_abs z)
+
+-- a word of the code, beside what it stands for
+abbrev pub named : {A : Type 0} → Bor (List ℕ) × A → List ℕ × A
+named w = (w.0.now, w.1)
+
+-- a string that is one of some words, as what the first such word stands for: its kind, then its words
+abbrev pub choice_in : {A : Type 0} → List (List ℕ × A) → Data → Result A Cause
+choice_in words d = do
+  s ← ok_or (as_str d) OtherKind
+  ok_or (option_map (λ w. w.1) (find (λ w. bytes_eq w.0 s) words)) UnknownWord
+
 -- the same at a path
 abbrev pub whole : ℤ → ℤ → ReaderOf ℤ
 whole lo hi path d = at_path path (whole_in lo hi d)
@@ -43,3 +62,12 @@ word words path d = at_path path (word_in words d)
 
 abbrev pub flag : ReaderOf Bool
 flag path d = at_path path (flag_in d)
+
+abbrev pub count : ℕ → ℕ → ReaderOf ℕ
+count lo hi path d = at_path path (count_in lo hi d)
+
+abbrev pub below : ℕ → ReaderOf ℕ
+below n path d = at_path path (below_in n d)
+
+abbrev pub choice : {A : Type 0} → List (List ℕ × A) → ReaderOf A
+choice words path d = at_path path (choice_in words d)

@@ -1,5 +1,5 @@
 -- Reading: a value, or the first fault. Each table of a format is a reader, made of the few forms of this file.
-use Rattle.std.specs.Prelude.{◌≡◌, ℕ, ◌&&◌, List, [], ◌∷◌, ◌++◌, Bool, not, length, nat_le, if◌then◌else◌, find, Option, Some, None, Result, Ok, Err, IfOk, ⊤}
+use Rattle.std.specs.Prelude.{◌≡◌, ℕ, ◌&&◌, List, [], ◌∷◌, ◌++◌, Bool, not, length, nat_le, if◌then◌else◌, find, replicate, Option, Some, None, is_some, Result, Ok, Err, IfOk, ⊤}
 use Rattle.std.specs.List.{list_any}
 use Rattle.std.specs.Str.{bytes_eq}
 use Rattle.std.specs.Option.{ok_or}
@@ -60,6 +60,13 @@ required key read path d = field key path d >>= if_present (Err (fault_at Absent
 abbrev pub optional : {A : Type 0} → List ℕ → A → ReaderOf A → ReaderOf A
 optional key absent read path d = field key path d >>= if_present (Ok absent) (read (name_path path key))
 
+abbrev pub present : {A : Type 0} → Result A Fault → Result (Option A) Fault
+present reading = reading >>= λ x. Ok (Some x)
+
+-- a field that may be absent, with no value then
+abbrev pub maybe : {A : Type 0} → List ℕ → ReaderOf A → ReaderOf (Option A)
+maybe key read path d = field key path d >>= if_present (Ok None) (λ e. present (read (name_path path key) e))
+
 abbrev pub keys_of : Members → List (List ℕ)
 keys_of no_members = []
 keys_of (member key d members) = key ∷ keys_of members
@@ -97,3 +104,21 @@ entries read earlier path (d ∷ ds) = read earlier (item_path path (length earl
 -- an array of lo to hi such entries
 abbrev pub array : {A : Type 0} → ℕ → ℕ → (List A → ReaderOf A) → ReaderOf (List A)
 array lo hi read path d = list lo hi path d >>= entries read [] path
+
+-- an array of two such values
+abbrev pub pair_entries : {A : Type 0} → ReaderOf A → List ℕ → List Data → Result (A × A) Fault
+pair_entries read path (first ∷ second ∷ []) = read (item_path path 0) first >>= λ x. (read (item_path path 1) second >>= λ y. Ok (x, y))
+pair_entries read path ds = Err (fault_at WrongLength path)
+
+abbrev pub pair : {A : Type 0} → ReaderOf A → ReaderOf (A × A)
+pair read path d = list 2 2 path d >>= pair_entries read path
+
+-- an array of n values, or one value for all
+abbrev pub for_each : {A : Type 0} → ℕ → (List A → ReaderOf A) → ReaderOf (List A)
+for_each n read path d = if is_some (as_array d) then array n n read path d else (read [] path d >>= λ x. Ok (replicate n x))
+
+-- ---- rules
+
+-- nothing, unless a rule is broken
+abbrev pub refuse_if : Bool → Cause → List ℕ → Result ⊤ Fault
+refuse_if broken cause path = if broken then Err (fault_at cause path) else Ok tt

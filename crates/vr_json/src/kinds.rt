@@ -90,7 +90,13 @@ pub fn list<'a>(
 /// A string of `lo` to `hi` bytes.
 ///
 /// Refused at `path`: `OtherKind` where it is no string, then `WrongLength`.
-pub fn text(alloc: Global, value: &Value, lo: usize, hi: usize, path: &Path) -> Result<Text, ReadFail>
+pub fn text(
+    alloc: Global,
+    value: &Value,
+    lo: usize,
+    hi: usize,
+    path: &Path,
+) -> Result<Text, ReadFail>
     ensures { Answers result (text_of lo hi path.now (view value.now)) }
 {
     match value.as_str() {

@@ -1,6 +1,6 @@
 //! Readers, and the forms that tables are made of.
 
-ghost use Rattle.std.specs.Prelude.{List, [], ℕ, Result, map};
+ghost use Rattle.std.specs.Prelude.{List, [], ℕ, Result};
 ghost use Rattle.serde_json.specs.Data.{Data};
 ghost use Rattle.serde_json.specs.View.{view};
 ghost use Rattle.vr_json.specs.Reading as reading;
@@ -9,11 +9,9 @@ ghost use Rattle.vr_json.specs.Places.{place_path};
 
 use crate::fault::refusal;
 use crate::fields::field;
-use crate::kinds::list;
 use crate::{Cause, Path, Place, ReadFail};
 use serde_json::Value;
 use std::alloc::Global;
-use vr_model::Seq;
 
 /// Reads a value of one form.
 pub trait Reader {
@@ -84,46 +82,39 @@ pub fn optional<R: Reader>(
     }
 }
 
-/// An array of `lo` to `hi` entries.
-pub struct Array<R> {
-    pub lo: usize,
-    pub hi: usize,
-    pub entry: R,
-}
-
-impl<R: Reader> Reader for Array<R> {
-    ghost use Rattle.vr_json.specs.Reading.{array};
-
-    type Item = Seq<R::Item>;
-
-    ghost reads = { λ it earlier path d. array it.lo it.hi (R.reads it.entry) path d };
-
-    fn read(
-        &self,
-        alloc: Global,
-        _earlier: &[Seq<R::Item>],
-        value: &Value,
-        place: Place<'_>,
-    ) -> Result<Seq<R::Item>, ReadFail> {
-        let path = place.path()?;
-        let values = list(alloc, value, self.lo, self.hi, &path)?;
-        entries(alloc, &self.entry, values, &path)
-    }
-}
-
-// What is read of each entry, in order.
-fn entries<R: Reader>(
+/// A field that may be absent, with no value then.
+///
+/// Refused as the reader says, and with the cause `OtherKind`, at `path`, where the value is no object.
+pub fn maybe<R: Reader>(
     alloc: Global,
-    reader: &R,
-    values: &[Value],
+    value: &Value,
+    name: &str,
     path: &Path,
-) -> Result<Seq<R::Item>, ReadFail>
-    ensures { Answers result (reading.entries (R.reads reader.now) [] path.now (map view values.now)) }
+    reader: &R,
+) -> Result<Option<R::Item>, ReadFail>
+    ensures { Answers result (reading.maybe name.now (R.reads reader.now []) path.now (view value.now)) }
 {
-    let mut found = Seq::new(alloc);
-    for (k, value) in values.iter().enumerate() {
-        let entry = reader.read(alloc, found.as_slice(), value, path.entry(k))?;
-        found.push(entry)?;
+    match field(alloc, value, name, path)? {
+        None => Ok(None),
+        Some(found) => {
+            let item = reader.read(alloc, &[], found, path.field(name))?;
+            Ok(Some(item))
+        }
     }
-    Ok(found)
+}
+
+/// Refuses the value at a place where a rule is broken.
+pub fn refuse_if(
+    alloc: Global,
+    broken: bool,
+    cause: Cause,
+    place: Place<'_>,
+) -> Result<(), ReadFail>
+    ensures { Answers result (reading.refuse_if broken cause (place_path place.entry)) }
+{
+    if broken {
+        Err(refusal(alloc, cause, place))
+    } else {
+        Ok(())
+    }
 }

@@ -1,7 +1,7 @@
 use Rattle.std.proofs.Common.{◌≡◌, [], length, drop, map}
 use Rattle.serde_json.specs.View.{view}
 use Rattle.vr_json.specs.Reading.{entries}
-use Rattle.vr_json.proofs.reader.entries.Given as goal
+use Rattle.vr_json.proofs.arrays.entries.Given as goal
 
 abbrev pub invariant-loop-k : goal.invariant-loop-k
 invariant-loop-k g l = record {
