@@ -1,10 +1,13 @@
 //! The records of a routing model, and the definitions that every layer above cites.
 #![tactic(auto)]
 
+mod lookups;
 mod memory;
 mod neighbours;
 mod records;
+mod search;
 mod sequence;
+mod steps;
 mod words;
 
 pub use memory::NoMemory;
@@ -13,5 +16,7 @@ pub use records::{
     Allowed, BreakRow, Dimension, End, Evaluator, First, Group, Improve, Interval, Matrix, Model,
     Pair, Parts, Policy, Report, SearchRow, Soft, StopRow, Vehicle, VehicleBreaks,
 };
+pub use search::{Event, Kind, Lambda, Limit};
 pub use sequence::Seq;
+pub use steps::Steps;
 pub use words::Text;

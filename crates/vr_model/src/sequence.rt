@@ -1,6 +1,6 @@
 //! A list of values, which contracts see as the list.
 
-ghost use Rattle.std.specs.Prelude.{◌≡◌, ◌<◌, [], ◌∷◌, ◌++◌, length, slice_get, slice_index_or, OnOk, OnErr, Some};
+ghost use Rattle.std.specs.Prelude.{◌≡◌, ◌<◌, ◌==◌, [], ◌∷◌, ◌++◌, length, slice_get, slice_index_or, OnOk, OnErr, Some};
 
 use crate::NoMemory;
 use std::alloc::Global;
@@ -46,6 +46,13 @@ impl<T> Seq<T> {
         ensures { result ≡ length self.now }
     {
         self.items.len()
+    }
+
+    /// Whether there is no value.
+    pub fn is_empty(&self) -> bool
+        ensures { result ≡ (length self.now == 0) }
+    {
+        self.items.is_empty()
     }
 
     /// The value at a place.

@@ -1,0 +1,19 @@
+-- A scan of a list of moves for the first that is acceptable.
+use Rattle.std.specs.Prelude.{ℕ, suc, Bool, cond, nat_lt, nat_le, List, [], ◌∷◌}
+use Rattle.vr_model.specs.declared.neighbours.Move.{Move}
+
+-- how a scan ends: at the first acceptable move and its place from 1, at the end of so many moves of which none is
+-- acceptable, or for want of tries
+pub data Scan : Type 0 where
+  Accepted : ℕ → Move → Scan
+  Complete : ℕ → Scan
+  Cut : Scan
+
+-- the scan of the moves behind the first `place` ones, of which none was acceptable
+abbrev pub scan_from : ℕ → (Move → Bool) → ℕ → List Move → Scan
+scan_from place acceptable rest [] = cond (nat_lt rest place) Cut (Complete place)
+scan_from place acceptable rest (m ∷ ms) = cond (acceptable m) (cond (nat_le (suc place) rest) (Accepted (suc place) m) Cut) (scan_from (suc place) acceptable rest ms)
+
+-- the scan of a list of moves of which at most `rest` may be tried
+abbrev pub scan : List Move → (Move → Bool) → ℕ → Scan
+scan ms acceptable rest = scan_from 0 acceptable rest ms
