@@ -1,0 +1,4 @@
+pub mod Plain
+pub mod Nearest
+pub mod Idle
+pub mod Totals
