@@ -1,0 +1,22 @@
+-- What a source gives and a sink takes in one call, and the causes of failure.
+use Rattle.std.specs.Prelude.{◌≡◌, ◌⊎◌, ◌↔◌, ◌<◌, ◌^◌, ◌+◌, ◌-◌, ◌++◌, ℕ, List, [], Option, Some, min}
+
+-- the count of faults rose in a call, or stands at the last value of its counter
+abbrev pub Rose : ℕ → ℕ → Type 0
+Rose old new = (old < new) ⊎ (new ≡ 2 ^ 64 - 1)
+
+-- one more on a counter of 64 bits, which stands still at its last value
+abbrev pub risen : ℕ → ℕ
+risen count = min (count + 1) (2 ^ 64 - 1)
+
+-- where the source told what was left, these bytes stood at its front, and the rest is left
+pub record Gave (old new : Option (List ℕ)) (piece : List ℕ) : Type 0 where
+  pub told : (bytes : List ℕ) → old ≡ Some bytes → (rest : List ℕ) × (bytes ≡ piece ++ rest) × (new ≡ Some rest)
+
+-- where the source told what was left and there was room, it gave no byte exactly where none was left
+pub record EndsAtEnd (old : Option (List ℕ)) (room given : ℕ) : Type 0 where
+  pub told : (bytes : List ℕ) → old ≡ Some bytes → 0 < room → (given ≡ 0) ↔ (bytes ≡ [])
+
+-- where the sink tells what it took, it told it before, and took these bytes since
+pub record Took (old new : Option (List ℕ)) (piece : List ℕ) : Type 0 where
+  pub told : (after : List ℕ) → new ≡ Some after → (before : List ℕ) × (old ≡ Some before) × (after ≡ before ++ piece)

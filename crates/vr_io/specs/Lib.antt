@@ -1,0 +1,4 @@
+pub mod Edges
+pub mod Whole
+pub mod Kept
+pub mod Script

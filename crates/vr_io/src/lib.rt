@@ -1,0 +1,24 @@
+//! Where bytes come from and go to, and how all of them are read and written.
+//!
+//! A [`Source`] and a [`Sink`] are devices that may fail: each tells how often it has, so that a caller's contract can
+//! say that a failure has a cause. There are three kinds of each: over std's readers and writers, in memory without
+//! faults, and in memory with faults at the calls that a test names.
+#![tactic(auto)]
+
+mod edges;
+mod memory;
+mod pure;
+mod remaining;
+mod script;
+mod scripted;
+mod standard;
+#[cfg(test)]
+mod tests;
+mod whole;
+
+pub use edges::{Failed, Sink, Source};
+pub use memory::NoMemory;
+pub use pure::{PureSink, PureSource};
+pub use scripted::{MemSink, MemSource};
+pub use standard::{StdSink, StdSource};
+pub use whole::{ReadError, WriteFault, read_all, write_all};
