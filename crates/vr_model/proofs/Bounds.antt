@@ -1,11 +1,12 @@
 -- The bounds of arc costs and transits of a well-formed model.
-use Rattle.std.proofs.Common.{◌≡◌, ℕ, ◌+◌, ◌*◌, ◌<◌, ◌≤◌, ◌⊎◌, Bool, true, false, List, [], ◌∷◌, length, Option, Some, None, refl, sym, subst, inl, inr, arith}
+use Rattle.std.proofs.Common.{◌≡◌, ℕ, ◌+◌, ◌*◌, ◌<◌, ◌≤◌, ◌⊎◌, Bool, false, List, [], ◌∷◌, length, Option, Some, None, sym, subst, inl, inr, arith}
 use Rattle.std.specs.Prelude.{ℤ, pos, negsuc, int_lt, slice_index_or}
 use Rattle.std.specs.List.{list_any}
 use Rattle.std.proofs.Math.Nat.{mul-le-mul_right}
 use Rattle.std.proofs.lemmas.Int.{ints}
 use Rattle.std.proofs.lemmas.List.Folds.{list_any_at}
 use Rattle.vr_model.specs.Numbers.{number_at}
+use Rattle.vr_model.specs.Testing.{clash, fails}
 use Rattle.vr_model.specs.declared.records.Model.{Model}
 use Rattle.vr_model.specs.declared.records.Evaluator.{Evaluator}
 use Rattle.vr_model.specs.Tables.{no_matrix, no_vehicle, no_dimension, no_evaluator, matrix_at, entry, vehicle_at, dimension_at, evaluator_number, evaluator_of, matrix_part, arc_cost, transit}
@@ -24,15 +25,8 @@ pub place_low : (n i j : ℕ) → i < n → j < n → i * n + j < n * n
 place_low n i j low next = let p : (i + 1) * n ≤ n * n = mul-le-mul_right n (omega (arith, low)) in omega (arith, p, next)
 
 -- where a test passes at no entry of a list, it passes at none of its places
-none_at : {A : Type 0} (p : A → Bool) (xs : List A) (k : ℕ) (d : A) → list_any p xs ≡ false → k < length xs → p (slice_index_or xs k d) ≡ false
-none_at p xs k d none low = go (p (slice_index_or xs k d)) refl
-  where
-    go : (b : Bool) → p (slice_index_or xs k d) ≡ b → p (slice_index_or xs k d) ≡ false
-    go false e = e
-    go true e = absurd (let f : list_any p xs ≡ true = list_any_at p xs k d low e in clash f none)
-      where
-        clash : list_any p xs ≡ true → list_any p xs ≡ false → ⊥
-        clash h g = Prim.cc
+pub none_at : {A : Type 0} (p : A → Bool) (xs : List A) (k : ℕ) (d : A) → list_any p xs ≡ false → k < length xs → p (slice_index_or xs k d) ≡ false
+none_at p xs k d none low = fails (p (slice_index_or xs k d)) (λ t. clash (list_any p xs) (list_any_at p xs k d low t) none)
 
 module _ (model : Model) (well : IsWellFormed model) where
   -- the place of an entry in its matrix

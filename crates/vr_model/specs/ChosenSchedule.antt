@@ -6,7 +6,7 @@ use Rattle.std.proofs.lemmas.Int.{ints}
 use Rattle.std.proofs.lemmas.List.{take_at, drop_at, take-append-drop, ext_get_or, length-map, length-append}
 use Rattle.vr_model.specs.Numbers.{number_at, below, within, horizon, is_lex_le}
 use Rattle.vr_model.specs.Lines.{Line}
-use Rattle.vr_model.specs.Schedules.{Plan, Sides, both_sides, KeepsRules, IsFeasible, IsChosen, is_no_later, cumul, arc_at}
+use Rattle.vr_model.specs.Schedules.{no_break, Plan, Sides, both_sides, KeepsRules, IsFeasible, IsChosen, is_no_later, cumul, arc_at}
 use Rattle.vr_model.specs.declared.records.BreakRow.{BreakRow}
 use Rattle.vr_model.specs.Testing.{and_left, and_right, and_both, or_cases, within_is, le_of_test}
 use Rattle.vr_model.specs.ScheduleTests.{keeps_rules, keeps_rules-sound, keeps_rules-complete}
@@ -91,7 +91,7 @@ cumuls_in_box (t ∷ tests) (c ∷ cs) e h =
     ((b.0, count_reaches (pos 0) horizon c b.0 b.1), cumuls_in_box tests cs (omega (arith, e)) (λ k low. h (suc k) (omega arith)))
 
 starts_in_box : (rows : List BreakRow) (zs : List ℤ) → length zs ≡ length rows
-    → ((i : ℕ) → i < length rows → ((slice_index_or rows i (record { from = pos 0; to = pos 0; duration = pos 0 })).from ≤ℤ number_at zs i) × (number_at zs i ≤ℤ (slice_index_or rows i (record { from = pos 0; to = pos 0; duration = pos 0 })).to))
+    → ((i : ℕ) → i < length rows → ((slice_index_or rows i no_break).from ≤ℤ number_at zs i) × (number_at zs i ≤ℤ (slice_index_or rows i no_break).to))
     → InBox (map side rows) zs
 starts_in_box [] [] e h = tt
 starts_in_box [] (z ∷ zs) e h = absurd (omega (arith, e))

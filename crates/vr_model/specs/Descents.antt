@@ -3,7 +3,7 @@ use Rattle.std.specs.Prelude.{ℕ, zero, suc, ◌-◌, Bool, true, false, ◌&&�
 use Rattle.vr_model.specs.Moves.{apply, moves}
 use Rattle.vr_model.specs.Rules.{is_valid}
 use Rattle.vr_model.specs.Costs.{cost}
-use Rattle.vr_model.specs.Scans.{scan}
+use Rattle.vr_model.specs.Scans.{Scan, scan}
 use Rattle.vr_model.specs.Scans.Scan.{Accepted, Complete, Cut}
 use Rattle.vr_model.specs.Outcomes.{SearchState, Outcome, tried, accepted, ended, event_at, with_event, from_first}
 use Rattle.vr_model.specs.declared.records.Model.{Model}
@@ -16,17 +16,19 @@ use Rattle.vr_model.specs.declared.neighbours.Move.{Move}
 abbrev pub improves : Model → List (List ℕ) → Move → Bool
 improves model lists mv = let after = apply model lists mv in is_valid model after && int_lt (cost model after) (cost model lists)
 
+-- how a descent goes on after a scan: from the accepted move again, or it ends
+abbrev pub descended : Model → Limit → (SearchState → Outcome) → SearchState → Scan → Outcome
+descended model limit again state (Accepted n mv) = let next = accepted model state n mv in with_event (event_at model next kind.Move) (again next)
+descended model limit again state (Complete n) = ended (tried state n) Optimum
+descended model limit again state Cut = ended (tried state (limit.tries - state.used)) Tries
+
 -- Greedy descent from where a search stands, by at most so many scans. Each scan that does not end the search uses a
 -- try, so with one scan more than there are tries left the bound is never met.
 unfoldable pub descent_from : Model → Limit → ℕ → SearchState → Outcome
 descent_from model limit zero state = ended state Tries
 descent_from model limit (suc scans) state = elim (state.found == limit.solutions) [
   | true ↦ ended state Solutions
-  | false ↦ elim (scan (moves model state.lists) (improves model state.lists) (limit.tries - state.used)) [
-    | Accepted n mv ↦ (let next = accepted model state n mv in with_event (event_at model next kind.Move) (descent_from model limit scans next))
-    | Complete n ↦ ended (tried state n) Optimum
-    | Cut ↦ ended (tried state (limit.tries - state.used)) Tries
-  ]
+  | false ↦ descended model limit (descent_from model limit scans) state (scan (moves model state.lists) (improves model state.lists) (limit.tries - state.used))
 ]
 
 -- greedy descent from lists

@@ -7,7 +7,7 @@ use Rattle.vr_model.specs.Routes.{UsedArc, used_arcs, cost_of_arc}
 use Rattle.vr_model.specs.Moves.{apply, moves}
 use Rattle.vr_model.specs.Rules.{is_valid}
 use Rattle.vr_model.specs.Costs.{cost}
-use Rattle.vr_model.specs.Scans.{scan}
+use Rattle.vr_model.specs.Scans.{Scan, scan}
 use Rattle.vr_model.specs.Scans.Scan.{Accepted, Complete, Cut}
 use Rattle.vr_model.specs.Outcomes.{SearchState, Outcome, tried, accepted, ended, event_at, with_event, from_first}
 use Rattle.vr_model.specs.declared.records.Model.{Model}
@@ -64,22 +64,27 @@ raised model penalties lists origin target = cond (is_raised model penalties lis
 abbrev pub has_costly_arc : Model → List (List ℕ) → Bool
 has_costly_arc model lists = list_any (λ arc. int_lt (pos 0) (cost_of_arc model arc)) (used_arcs model lists)
 
+-- after a complete scan of no move, or where no used arc has a cost above 0, no penalty can help
+abbrev pub is_at_end : Model → SearchState → ℕ → Bool
+is_at_end model state n = (n == 0) || not (has_costly_arc model state.lists)
+
+-- how guided local search goes on after a scan: from the accepted move, with raised penalties, or it ends
+abbrev pub guided_on : Model → Limit → (Penalties → SearchState → Outcome) → Penalties → SearchState → Scan → Outcome
+guided_on model limit again penalties state (Accepted n mv) = let next = accepted model state n mv in with_event (event_at model next kind.Move) (again penalties next)
+guided_on model limit again penalties state (Complete n) = elim (is_at_end model state n) [
+  | true ↦ ended (tried state n) Optimum
+  | false ↦ with_event (event_at model (tried state n) kind.Round) (again (raised model penalties state.lists) (tried state n))
+]
+guided_on model limit again penalties state Cut = ended (tried state (limit.tries - state.used)) Tries
+
 -- Guided local search from where a search stands, by at most so many scans. Each scan that does not end the search
 -- uses a try, so with one scan more than there are tries left the bound is never met.
 unfoldable pub guided_from : Model → Limit → Lambda → ℕ → Penalties → SearchState → Outcome
 guided_from model limit lambda zero penalties state = ended state Tries
 guided_from model limit lambda (suc scans) penalties state = elim (state.found == limit.solutions) [
   | true ↦ ended state Solutions
-  | false ↦ elim (scan (moves model state.lists) (improves_augmented model lambda penalties state.lists) (limit.tries - state.used)) [
-    | Accepted n mv ↦ (let next = accepted model state n mv in
-        with_event (event_at model next kind.Move) (guided_from model limit lambda scans penalties next))
-    | Complete n ↦ elim ((n == 0) || not (has_costly_arc model state.lists)) [
-      | true ↦ ended (tried state n) Optimum
-      | false ↦ with_event (event_at model (tried state n) kind.Round)
-          (guided_from model limit lambda scans (raised model penalties state.lists) (tried state n))
-    ]
-    | Cut ↦ ended (tried state (limit.tries - state.used)) Tries
-  ]
+  | false ↦ guided_on model limit (guided_from model limit lambda scans) penalties state
+      (scan (moves model state.lists) (improves_augmented model lambda penalties state.lists) (limit.tries - state.used))
 ]
 
 -- guided local search from lists

@@ -3,7 +3,7 @@ use Rattle.std.specs.Prelude.{ℕ, Bool, true, not, ◌&&◌, ◌||◌, List, []
 use Rattle.std.specs.List.{list_all}
 use Rattle.vr_model.specs.Numbers.{number_at, within, is_same_number}
 use Rattle.vr_model.specs.Tables.{dimension_at, transit, row_of, breaks_of}
-use Rattle.vr_model.specs.Routes.{arcs_between}
+use Rattle.vr_model.specs.Routes.{UsedArc, arcs_between}
 use Rattle.vr_model.specs.declared.records.Model.{Model}
 use Rattle.vr_model.specs.declared.records.Dimension.{Dimension}
 use Rattle.vr_model.specs.declared.records.Interval.{Interval}
@@ -44,6 +44,10 @@ start_allows dimension capacity row x = stop_allows capacity row x && (not dimen
 abbrev pub stop_rows : Dimension → ℕ → List ℕ → List (Option StopRow)
 stop_rows dimension v list = row_of dimension.starts v ∷ (map (row_of dimension.nodes) list ++ row_of dimension.ends v ∷ [])
 
+-- what an arc of vehicle v asks in dimension d: its transit, and the visit time of the node where it begins
+abbrev pub line_arc : Model → ℕ → ℕ → UsedArc → Arc
+line_arc model d v arc = record { transit = transit model d v arc.origin arc.target; visit = number_at (dimension_at model d).visit arc.origin }
+
 -- the line of vehicle v with a list in dimension d
 abbrev pub line : Model → ℕ → ℕ → List ℕ → Line
 line model d v list =
@@ -53,7 +57,7 @@ line model d v list =
       allowed = start_allows dimension capacity (row_of dimension.starts v)
           ∷ (map (λ node. stop_allows capacity (row_of dimension.nodes node)) list
           ++ stop_allows capacity (row_of dimension.ends v) ∷ []);
-      arcs = map (λ arc. record { transit = transit model d v arc.origin arc.target; visit = number_at dimension.visit arc.origin }) (arcs_between model v list);
+      arcs = map (line_arc model d v) (arcs_between model v list);
       slack_max = dimension.slack_max;
       breaks = breaks_of dimension v;
     }

@@ -24,13 +24,19 @@ slack plan k = number_at plan.slacks k
 abbrev pub allows : Line → ℕ → ℤ → Bool
 allows line k x = within (pos 0) horizon x && slice_index_or line.allowed k (λ _. false) x
 
+abbrev pub no_arc : Arc
+no_arc = record { transit = pos 0; visit = pos 0 }
+
 -- arc k
 abbrev pub arc_at : Line → ℕ → Arc
-arc_at line k = slice_index_or line.arcs k (record { transit = pos 0; visit = pos 0 })
+arc_at line k = slice_index_or line.arcs k no_arc
+
+abbrev pub no_break : BreakRow
+no_break = record { from = pos 0; to = pos 0; duration = pos 0 }
 
 -- break i
 abbrev pub break_at : Line → ℕ → BreakRow
-break_at line i = slice_index_or line.breaks i (record { from = pos 0; to = pos 0; duration = pos 0 })
+break_at line i = slice_index_or line.breaks i no_break
 
 -- where break i starts
 abbrev pub break_start : Plan → ℕ → ℤ

@@ -1,6 +1,7 @@
 //! The records of a routing model, and the definitions that every layer above cites.
 #![tactic(auto)]
 
+pub mod laws;
 mod lookups;
 mod memory;
 mod neighbours;

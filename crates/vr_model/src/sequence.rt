@@ -71,3 +71,12 @@ impl<T> Seq<T> {
         &self.items
     }
 }
+
+impl<T> From<Vec<T>> for Seq<T> {
+    ghost from_gives = { λ items seq. seq ≡ items.items };
+
+    /// The same values; nothing is copied.
+    fn from(items: Vec<T>) -> Seq<T> {
+        Seq { items }
+    }
+}

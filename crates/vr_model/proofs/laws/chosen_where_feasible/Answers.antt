@@ -1,0 +1,5 @@
+use Rattle.vr_model.proofs.ChoiceLaws.{chosen_where_feasible}
+use Rattle.vr_model.proofs.laws.chosen_where_feasible.Goals as goal
+
+pub returns : goal.returns
+returns c = chosen_where_feasible

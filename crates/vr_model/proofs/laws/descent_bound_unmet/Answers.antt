@@ -1,0 +1,5 @@
+use Rattle.vr_model.proofs.SearchBounds.{descent_bound_unmet}
+use Rattle.vr_model.proofs.laws.descent_bound_unmet.Goals as goal
+
+pub returns : goal.returns
+returns c = descent_bound_unmet

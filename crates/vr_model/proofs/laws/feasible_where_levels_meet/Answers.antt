@@ -1,0 +1,5 @@
+use Rattle.vr_model.proofs.Joining.{feasible_where_levels_meet}
+use Rattle.vr_model.proofs.laws.feasible_where_levels_meet.Goals as goal
+
+pub returns : goal.returns
+returns c = feasible_where_levels_meet

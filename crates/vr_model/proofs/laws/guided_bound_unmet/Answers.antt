@@ -1,0 +1,5 @@
+use Rattle.vr_model.proofs.SearchBounds.{guided_bound_unmet}
+use Rattle.vr_model.proofs.laws.guided_bound_unmet.Goals as goal
+
+pub returns : goal.returns
+returns c = guided_bound_unmet

@@ -1,0 +1,5 @@
+use Rattle.vr_model.proofs.LeastChoice.{least_is_first}
+use Rattle.vr_model.proofs.laws.least_is_first.Goals as goal
+
+pub returns : goal.returns
+returns g c = least_is_first _

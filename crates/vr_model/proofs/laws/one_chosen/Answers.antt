@@ -1,0 +1,5 @@
+use Rattle.vr_model.proofs.ChoiceLaws.{one_chosen}
+use Rattle.vr_model.proofs.laws.one_chosen.Goals as goal
+
+pub returns : goal.returns
+returns c = one_chosen

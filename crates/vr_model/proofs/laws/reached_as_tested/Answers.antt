@@ -1,0 +1,5 @@
+use Rattle.vr_model.proofs.ChoiceLaws.{reached_as_tested}
+use Rattle.vr_model.proofs.laws.reached_as_tested.Goals as goal
+
+pub returns : goal.returns
+returns c = reached_as_tested

@@ -1,0 +1,5 @@
+use Rattle.vr_model.proofs.RunCounts.{runs_as_long_as_form}
+use Rattle.vr_model.proofs.laws.runs_as_long_as_form.Goals as goal
+
+pub returns : goal.returns
+returns g c = runs_as_long_as_form _

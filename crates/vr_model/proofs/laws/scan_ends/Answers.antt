@@ -1,0 +1,5 @@
+use Rattle.vr_model.proofs.ScanEnding.{scan_ends}
+use Rattle.vr_model.proofs.laws.scan_ends.Goals as goal
+
+pub returns : goal.returns
+returns c = scan_ends

@@ -1,0 +1,109 @@
+//! Laws over the definitions. A call has no code: its contract is the law, and a proof that needs
+//! the law calls it.
+
+ghost use Rattle.vr_model.specs.ChoosingLaws.{LeastIsFirst, ScanEnds};
+ghost use Rattle.vr_model.specs.ChosenLaws.{ChosenIsLeast, ChosenWhereFeasible, EndReachedAsTested, LeastCumulMayBePinned, OneChosen, ReachedAsTested, RulesAsTested};
+ghost use Rattle.vr_model.specs.Levels.{CumulWhereLevelsMeet, EndReachedByCrossing, FeasibleWhereLevelsMeet, ReachedAtEnd, ReachedAtStart, ReachedByCrossing};
+ghost use Rattle.vr_model.specs.Runs.{RunsAsLongAsForm};
+ghost use Rattle.vr_model.specs.SearchLaws.{DescentBoundUnmet, GuidedBoundUnmet};
+ghost use Rattle.vr_model.specs.SoundLines.{LinesAreSound};
+
+/// The rules of a schedule hold exactly where their tests pass.
+pub fn rules_as_tested()
+    ensures { RulesAsTested }
+{}
+
+/// No two schedules of a line are chosen.
+pub fn one_chosen()
+    ensures { OneChosen }
+{}
+
+/// The function of the chosen schedule gives the least of all schedules.
+pub fn chosen_is_least()
+    ensures { ChosenIsLeast }
+{}
+
+/// There is a chosen schedule exactly where a line is feasible.
+pub fn chosen_where_feasible()
+    ensures { ChosenWhereFeasible }
+{}
+
+/// Where the cumuls before a stop are settled, its least cumul may be put in, and the chosen schedule
+/// stays the same.
+pub fn least_cumul_may_be_pinned()
+    ensures { LeastCumulMayBePinned }
+{}
+
+/// The test of what is reached at a stop passes exactly at the numbers that are.
+pub fn reached_as_tested()
+    ensures { ReachedAsTested }
+{}
+
+/// The test of what the end is reached from passes exactly at the numbers that it is reached from.
+pub fn end_reached_as_tested()
+    ensures { EndReachedAsTested }
+{}
+
+/// The line of a well-formed model with a list of distinct visits is sound.
+pub fn lines_are_sound()
+    ensures { LinesAreSound }
+{}
+
+/// At each stop, a line is feasible exactly where some cumul is reached with some number of breaks
+/// taken, and the end is reached from it with the others.
+pub fn feasible_where_levels_meet()
+    ensures { FeasibleWhereLevelsMeet }
+{}
+
+/// A schedule has a cumul at a stop exactly where the cumul is reached there with some number of
+/// breaks taken, and the end is reached from it with the others.
+pub fn cumul_where_levels_meet()
+    ensures { CumulWhereLevelsMeet }
+{}
+
+/// What is reached at a stop is what its arc leads to from what is reached at the stop before.
+pub fn reached_by_crossing()
+    ensures { ReachedByCrossing }
+{}
+
+/// The end is reached from what the arc of a stop leads from, to what the end is reached from at
+/// the stop behind.
+pub fn end_reached_by_crossing()
+    ensures { EndReachedByCrossing }
+{}
+
+/// The first stop is reached at what it allows, where the breaks taken fit before.
+pub fn reached_at_start()
+    ensures { ReachedAtStart }
+{}
+
+/// The end is reached at what it allows, where the other breaks fit after.
+pub fn reached_at_end()
+    ensures { ReachedAtEnd }
+{}
+
+/// A set has as many runs as its normal form is long.
+pub fn runs_as_long_as_form<R>()
+    ensures { RunsAsLongAsForm R }
+{}
+
+/// The choice of a least entry gives the first entry of the least key.
+pub fn least_is_first<A>()
+    ensures { LeastIsFirst A }
+{}
+
+/// A scan accepts the first acceptable move where it may try that far, is complete where no move is
+/// acceptable and it may try them all, and is cut else.
+pub fn scan_ends()
+    ensures { ScanEnds }
+{}
+
+/// A greater bound on the scans of greedy descent changes nothing.
+pub fn descent_bound_unmet()
+    ensures { DescentBoundUnmet }
+{}
+
+/// A greater bound on the scans of guided local search changes nothing.
+pub fn guided_bound_unmet()
+    ensures { GuidedBoundUnmet }
+{}

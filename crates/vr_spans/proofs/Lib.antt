@@ -1,0 +1,10 @@
+pub mod RunsLemmas
+pub mod Builder
+pub mod Numbers
+pub mod Begins
+pub mod TwoLists
+pub mod Gather
+pub mod Gaps
+pub mod Stretched
+pub mod Shared
+pub mod Answered

@@ -1,0 +1,150 @@
+//! The numbers that a set leads to within another: meets, shifts, and ways of a length between two bounds.
+
+ghost use Rattle.std.specs.Prelude.{◌≡◌, ◌↔◌, ◌&&◌, map, IsTrue, IfOk, OnOk, ℤ, pos, neg_ℤ, ◌-ℤ◌, ◌≤ℤ◌};
+ghost use Rattle.vr_spans.specs.Runs.{has, IsNormal, IsReached, StaysWithin, farthest};
+ghost use Rattle.vr_spans.specs.Build.{stretched, StaysNear};
+
+use crate::{LIMIT, NoMemory, Run, Spans};
+
+/// No way that `reach_into` takes is longer than this, in either direction.
+pub const FARTHEST: i64 = 1 << 60;
+
+/// All numbers that a set may have.
+const ALL: [Run; 1] = [Run {
+    lo: -LIMIT,
+    hi: LIMIT,
+}];
+
+impl Spans {
+    /// The numbers in both sets.
+    pub fn meet(&self, other: &Spans) -> Result<Spans, NoMemory>
+        ensures exact { IfOk result (λ both. (x : ℤ) → has both x ≡ (has self.now x && has other.now x)) }
+        ensures normal { IfOk result (λ both. IsNormal both) }
+    {
+        let mut both = self.fresh();
+        self.meet_into(other, &mut both)?;
+        Ok(both)
+    }
+
+    /// Writes the numbers in both sets over `out`.
+    pub fn meet_into(&self, other: &Spans, out: &mut Spans) -> Result<(), NoMemory>
+        ensures exact { OnOk result ((x : ℤ) → has out.new x ≡ (has self.now x && has other.now x)) }
+        ensures normal { IsNormal out.new }
+    {
+        out.reach(self.runs.as_slice(), 0, 0, other.runs.as_slice())
+    }
+
+    /// The set with every number moved by `by`; no number may leave `-LIMIT..=LIMIT`.
+    pub fn shift(&self, by: i64) -> Result<Spans, NoMemory>
+        requires { StaysWithin by by self.now }
+        ensures exact { IfOk result (λ moved. (x : ℤ) → has moved x ≡ has self.now (x -ℤ by)) }
+        ensures normal { IfOk result (λ moved. IsNormal moved) }
+    {
+        let mut moved = self.fresh();
+        self.shift_into(by, &mut moved)?;
+        Ok(moved)
+    }
+
+    /// Writes the set with every number moved by `by` over `out`; no number may leave `-LIMIT..=LIMIT`.
+    pub fn shift_into(&self, by: i64, out: &mut Spans) -> Result<(), NoMemory>
+        requires { StaysWithin by by self.now }
+        ensures exact { OnOk result ((x : ℤ) → has out.new x ≡ has self.now (x -ℤ by)) }
+        ensures normal { IsNormal out.new }
+    {
+        out.reach(self.runs.as_slice(), by, by, &ALL)
+    }
+
+    /// Every number of the set plus each number from 0 to `by`, which is not negative; none may leave `-LIMIT..=LIMIT`.
+    pub fn grow(&self, by: i64) -> Result<Spans, NoMemory>
+        requires rises { pos 0 ≤ℤ by }
+        requires within { StaysWithin (pos 0) by self.now }
+        ensures exact { IfOk result (λ grown. (x : ℤ) → IsTrue (has grown x) ↔ IsReached (pos 0) by self.now x) }
+        ensures normal { IfOk result (λ grown. IsNormal grown) }
+    {
+        let mut grown = self.fresh();
+        self.grow_into(by, &mut grown)?;
+        Ok(grown)
+    }
+
+    /// Writes every number of the set plus each number from 0 to `by` over `out`, as `grow` answers it.
+    pub fn grow_into(&self, by: i64, out: &mut Spans) -> Result<(), NoMemory>
+        requires rises { pos 0 ≤ℤ by }
+        requires within { StaysWithin (pos 0) by self.now }
+        ensures exact { OnOk result ((x : ℤ) → IsTrue (has out.new x) ↔ IsReached (pos 0) by self.now x) }
+        ensures normal { IsNormal out.new }
+    {
+        out.reach(self.runs.as_slice(), 0, by, &ALL)
+    }
+
+    /// Writes those numbers of `within` over `out` that are a number of this set plus one from `first` to `last`.
+    ///
+    /// This is one pass over the runs of both sets. `first` and `last` lie in `-FARTHEST..=FARTHEST`, so the sums may lie
+    /// beyond `LIMIT`.
+    pub fn reach_into(
+        &self,
+        first: i64,
+        last: i64,
+        within: &Spans,
+        out: &mut Spans,
+    ) -> Result<(), NoMemory>
+        requires in_order { first ≤ℤ last }
+        requires from { neg_ℤ farthest ≤ℤ first }
+        requires to { last ≤ℤ farthest }
+        ensures exact { OnOk result ((x : ℤ) →
+            IsTrue (has out.new x) ↔ (IsTrue (has within.now x) × IsReached first last self.now x)) }
+        ensures normal { IsNormal out.new }
+    {
+        out.reach(self.runs.as_slice(), first, last, within.runs.as_slice())
+    }
+
+    /// Makes this the set of the numbers that the runs of `from`, stretched by `first` and `last`, share with those of `within`.
+    #[inline]
+    fn reach(&mut self, from: &[Run], first: i64, last: i64, within: &[Run]) -> Result<(), NoMemory>
+        requires from { IsNormal from.now }
+        requires within { IsNormal within.now }
+        requires in_order { first ≤ℤ last }
+        requires near { StaysNear first last from.now }
+        ensures exact { OnOk result ((x : ℤ) →
+            has self.new x ≡ (has (map (stretched first last) from.now) x && has within.now x)) }
+        ensures normal { IsNormal self.new }
+    {
+        if from.len() == 1 && within.len() == 1 {
+            return self.put(from[0].stretch(first, last).meet(within[0]));
+        }
+        self.reach_by_run(from, first, last, within)
+    }
+
+    /// As `reach`, for any number of runs.
+    #[inline(never)]
+    fn reach_by_run(
+        &mut self,
+        from: &[Run],
+        first: i64,
+        last: i64,
+        within: &[Run],
+    ) -> Result<(), NoMemory>
+        requires from { IsNormal from.now }
+        requires within { IsNormal within.now }
+        requires in_order { first ≤ℤ last }
+        requires near { StaysNear first last from.now }
+        ensures exact { OnOk result ((x : ℤ) →
+            has self.new x ≡ (has (map (stretched first last) from.now) x && has within.now x)) }
+        ensures normal { IsNormal self.new }
+    {
+        self.clear();
+        let mut held = None;
+        let mut left = from;
+        let mut right = within;
+        'pass: while !left.is_empty() && !right.is_empty() {
+            let reached = left[0].stretch(first, last);
+            let bound = right[0];
+            held = self.push_behind(held, reached.meet(bound))?;
+            if reached.hi <= bound.hi {
+                left = &left[1..];
+            } else {
+                right = &right[1..];
+            }
+        }
+        self.push_held(held)
+    }
+}
