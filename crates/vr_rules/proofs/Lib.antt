@@ -6,3 +6,4 @@ pub mod PathLemmas
 pub mod CostLemmas
 pub mod ListLemmas
 pub mod TotalLemmas
+pub mod SampleLemmas

@@ -58,7 +58,7 @@ IsDistinct-from_is_distinct [] h = tt
 IsDistinct-from_is_distinct (x ∷ xs) h =
     (absent xs x (not-true (holds xs x) (and_left (not (holds xs x)) (is_distinct xs) h)), IsDistinct-from_is_distinct xs (and_right (not (holds xs x)) (is_distinct xs) h))
 
-all-from_list_all : (p : ℕ → Bool) (xs : List ℕ) → list_all p xs ≡ true → All (λ x. p x ≡ true) xs
+pub all-from_list_all : {A : Type 0} (p : A → Bool) (xs : List A) → list_all p xs ≡ true → All (λ x. p x ≡ true) xs
 all-from_list_all p [] h k d low = absurd (omega (arith, low))
 all-from_list_all p (x ∷ xs) h zero d low = and_left (p x) (list_all p xs) h
 all-from_list_all p (x ∷ xs) h (suc k) d low = all-from_list_all p xs (and_right (p x) (list_all p xs) h) k d (omega (arith, low))

@@ -2,3 +2,4 @@ pub mod Plain
 pub mod Nearest
 pub mod Idle
 pub mod Totals
+pub mod Samples
