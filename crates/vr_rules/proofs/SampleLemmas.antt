@@ -1,8 +1,7 @@
 -- The models of tests are well formed and plain.
-use Rattle.std.proofs.Common.{◌≡◌, ◌∙◌, ◌<◌, ◌≤◌, ◌*◌, ℕ, zero, suc, List, [], ◌∷◌, Bool, true, false, IsTrue, refl, ap, sym, arith, length, ℤ, pos, negsuc, ◌≤ℤ◌}
-use Rattle.std.specs.Prelude.{◌&&◌, ◌==◌, nat_lt, nat_le, int_le, int_lt, All}
-use Rattle.std.specs.List.{list_all, list_any}
-use Rattle.std.proofs.lemmas.Bool.{eqb-true}
+use Rattle.std.proofs.Common.{◌≡◌, ◌∙◌, ◌<◌, ◌≤◌, ◌*◌, ℕ, List, [], true, false, IsTrue, refl, ap, arith, length, ℤ, pos, negsuc}
+use Rattle.std.specs.Prelude.{nat_le}
+use Rattle.std.specs.List.{list_any}
 use Rattle.std.proofs.lemmas.Bool.Decides.{nat_tests}
 use Rattle.std.proofs.lemmas.Int.{ints}
 use Rattle.std.proofs.lemmas.List.Elements.{All-nil, All-cons, All-weaker}
@@ -12,11 +11,10 @@ use Rattle.vr_model.specs.Numbers.{within}
 use Rattle.vr_model.specs.Testing.{within_is, eq_of_test, each_passes}
 use Rattle.vr_model.specs.ModelRules.{is_negative, has_negative_cost}
 use Rattle.vr_model.specs.WellFormed.{IsIn, IsMatrix, IsVehicle, IsWellFormed}
-use Rattle.vr_model.specs.declared.records.Model.{Model}
 use Rattle.vr_model.specs.declared.records.Vehicle.{Vehicle}
 use Rattle.vr_rules.specs.Plain.{IsPlain}
 use Rattle.vr_rules.specs.Samples.{sample, is_sample, sample_tests, is_sample_vehicle, vehicle_tests}
-use Rattle.vr_rules.proofs.ListLemmas.{all-from_list_all}
+use Rattle.vr_rules.proofs.TestLemmas.{all-from_list_all}
 
 pub IsPlain-sample : (nodes : ℕ) (entries : List ℤ) (vehicles : List Vehicle) → IsPlain (sample nodes entries vehicles)
 IsPlain-sample nodes entries vehicles = record { dimensions = refl; groups = refl; pairs = refl; allowed = refl; first = refl }

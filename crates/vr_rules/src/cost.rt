@@ -10,7 +10,7 @@ ghost use Rattle.vr_rules.specs.Totals.{HasTotal};
 
 use vr_model::{Model, Parts, Seq};
 
-// The costs of the arcs that a vehicle takes with a list, added up.
+// The costs of the arcs that a vehicle takes with a list, added up. A list of 1000 visits has 1001 arcs.
 fn arcs_of_route(model: &Model, vehicle: u32, list: &[u32]) -> i64
     requires well_formed { IsWellFormed model.now }
     requires vehicle { vehicle < length model.now.vehicles }
@@ -78,8 +78,9 @@ fn fixed_of_lists(model: &Model, lists: &[Seq<u32>]) -> i64
     total
 }
 
-/// What lists cost, by the six parts of the cost. On models without rules on their routes only the costs of arcs
-/// and the fixed costs of used vehicles are more than 0. Takes no memory.
+/// What lists of visits cost, one list for each vehicle: the six parts of the cost, none of them negative, with a sum
+/// below 2^63. On models without rules on their routes only two parts can be more than 0: the arcs of the used
+/// vehicles, and their fixed costs (in OR-Tools `SetFixedCostOfVehicle`). Takes no memory.
 pub fn lists_cost(model: &Model, lists: &[Seq<u32>]) -> Parts
     requires well_formed { IsWellFormed model.now }
     requires plain { IsPlain model.now }
@@ -97,7 +98,7 @@ pub fn lists_cost(model: &Model, lists: &[Seq<u32>]) -> Parts
     }
 }
 
-/// The cost: the sum of its parts.
+/// The cost: the sum of its parts, which is not negative and below 2^63.
 pub fn total_cost(parts: &Parts) -> i64
     requires { HasTotal parts.now }
     ensures { result ≡ sum_of parts.now }
