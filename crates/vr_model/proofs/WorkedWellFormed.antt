@@ -1,10 +1,11 @@
 -- Two of the worked models are well-formed, one with a dimension, a row and a break.
-use Rattle.std.proofs.Common.{◌≡◌, ℕ, zero, suc, ◌<◌, false, List, [], ◌∷◌, Some, refl, inl, arith}
+use Rattle.std.proofs.Common.{◌≡◌, ℕ, zero, suc, ◌<◌, false, List, [], ◌∷◌, length, Some, refl, inl, arith}
 use Rattle.std.specs.Prelude.{ℤ, pos, IsTrue}
 use Rattle.std.specs.List.{All, list_all}
 use Rattle.std.proofs.lemmas.Int.{ints}
 use Rattle.std.proofs.lemmas.List.Sums.{AllPass-from_list_all}
 use Rattle.vr_model.specs.Numbers.{within, horizon}
+use Rattle.vr_model.specs.Tables.{dimension_at}
 use Rattle.vr_model.specs.ModelRules.{has_negative_cost, has_large_entry, goes_back}
 use Rattle.vr_model.specs.WellFormed.{least_value, greatest_cost, greatest_value, greatest_coefficient, IsIn, IsMatrix, IsVehicle, IsEvaluator, IsBreak, AreBreaks, IsDimension, IsSearch, IsWellFormed}
 use Rattle.vr_model.specs.Testing.{within_is}
@@ -55,7 +56,7 @@ three_well_formed = record {
   no_node_allowed_twice = refl;
   search_in_range = default_is_search;
   costs_not_negative = costs;
-  entries_not_large = λ d k low. absurd (omega (arith, low));
+  entries_not_large = λ d k low within_list. absurd (omega (arith, low));
   transits_forward = λ d low. absurd (omega (arith, low));
   can_save = refl;
 }
@@ -127,10 +128,10 @@ rests_well_formed = record {
     costs zero low = refl
     costs (suc v) low = absurd (omega (arith, low))
 
-    entries : (d k : ℕ) → d < 1 → has_large_entry rests d k ≡ false
-    entries zero zero low = refl
-    entries zero (suc k) low = refl
-    entries (suc d) k low = absurd (omega (arith, low))
+    entries : (d k : ℕ) → d < 1 → k < length (dimension_at rests d).evaluators → has_large_entry rests d k ≡ false
+    entries zero zero low some = refl
+    entries zero (suc k) low some = absurd (omega (arith, some))
+    entries (suc d) k low some = absurd (omega (arith, low))
 
     transits : (d : ℕ) → d < 1 → goes_back rests d ≡ false
     transits zero low = refl
