@@ -84,7 +84,7 @@ pub struct VehicleBreaks {
     pub rows: Seq<BreakRow>,
 }
 
-#[derive(Clone, Copy)]
+#[derive(Clone, Copy, Default)]
 pub struct BreakRow {
     pub from: i64,
     pub to: i64,
