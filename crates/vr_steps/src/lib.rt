@@ -5,8 +5,12 @@ mod crossing;
 mod ends;
 mod hops;
 mod levels;
+mod lines;
+mod stops;
 
 pub use crossing::{cross, cross_back, cross_back_into, cross_into};
 pub use ends::{end_levels, start_levels};
 pub use hops::{Breaks, Hop};
 pub use levels::Levels;
+pub use lines::Line;
+pub use stops::{StopName, allowed_at};
