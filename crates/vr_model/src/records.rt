@@ -140,7 +140,7 @@ pub struct VehicleBreaks {
 
 /// A break: it begins in `from..=to`, with `0 <= from <= to`, and takes `duration`, at least 1; all up
 /// to the horizon.
-#[derive(Clone, Copy)]
+#[derive(Clone, Copy, Default)]
 pub struct BreakRow {
     pub from: i64,
     pub to: i64,

@@ -1,0 +1,4 @@
+pub mod Arcs
+pub mod Levels
+pub mod Stops
+pub mod Lines
