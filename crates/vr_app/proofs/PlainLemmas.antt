@@ -1,6 +1,6 @@
 -- Plain models, and the inputs that give them.
-use Rattle.std.proofs.Common.{◌≡◌, ◌∙◌, ◌<◌, ◌≤◌, ◌*◌, ◌&&◌, ℕ, ℤ, pos, negsuc, zero, suc, List, [], ◌∷◌, Bool, true, false, cond, Option, Some, None, refl, ap, arith, length, length-append, All}
-use Rattle.std.specs.Prelude.{option_and_then, nat_le, ◌≤ℤ◌}
+use Rattle.std.proofs.Common.{◌≡◌, ◌∙◌, ◌<◌, ◌≤◌, ◌*◌, ◌&&◌, ℕ, ℤ, pos, negsuc, zero, suc, List, [], Bool, true, false, cond, Option, Some, None, refl, ap, arith, length, length-append, All}
+use Rattle.std.specs.Prelude.{option_and_then, nat_le}
 use Rattle.std.specs.List.{list_any}
 use Rattle.std.specs.Str.{IsUtf8, is_utf8}
 use Rattle.std.proofs.lemmas.Int.{ints}

@@ -1,6 +1,5 @@
 -- Replies.
-use Rattle.std.proofs.Common.{◌≡◌, ◌≤◌, ◌∙◌, ℕ, ℤ, pos, List, Bool, true, false, cond, Option, Some, None, refl, ap, sym, arith}
-use Rattle.std.specs.Prelude.{unwrap_or, ◌≤ℤ◌}
+use Rattle.std.proofs.Common.{◌≡◌, ◌∙◌, ℕ, ℤ, List, Bool, true, false, cond, Some, None, refl, ap, sym, arith}
 use Rattle.std.proofs.lemmas.Int.{ints}
 use Rattle.serde_json.specs.Written.{has_float}
 use Rattle.vr_model.specs.declared.records.Model.{Model}

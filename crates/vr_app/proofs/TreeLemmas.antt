@@ -1,5 +1,5 @@
 -- Trees, and their texts.
-use Rattle.std.proofs.Common.{◌≡◌, ◌≢◌, ◌∙◌, ◌<◌, ◌+◌, ◌++◌, ◌&&◌, ℕ, ℤ, pos, negsuc, suc, List, [], ◌∷◌, Bool, true, false, not, cond, Option, Some, None, refl, ap, sym, length, get_or, drop, drop-cons, add-one, map, String, Global, arith, string_bytes}
+use Rattle.std.proofs.Common.{◌≡◌, ◌≢◌, ◌∙◌, ◌<◌, ◌+◌, ◌++◌, ◌&&◌, ℕ, ℤ, pos, negsuc, suc, List, [], ◌∷◌, Bool, true, false, cond, Option, Some, None, refl, ap, sym, length, get_or, drop, drop-cons, add-one, map, String, Global, arith}
 use Rattle.std.specs.Prelude.{option_and_then, option_map}
 use Rattle.std.proofs.Common.{nat_eq, ◌≤◌, append_assoc, append-nil}
 use Rattle.std.proofs.lemmas.Bool.{eq-eqb}
@@ -9,9 +9,9 @@ use Rattle.serde_json.specs.Find.{get, as_array}
 use Rattle.vr_app.specs.Plain.{items_list, only, only_field, each, flat}
 use Rattle.std.specs.Prelude.{filter}
 use Rattle.std.proofs.lemmas.List.Elements.{filter-append}
-use Rattle.serde_json.specs.Data.{Data, number, unsigned, negative, Items, no_items, item, Members, no_members, member}
+use Rattle.serde_json.specs.Data.{Data}
 use Rattle.serde_json.specs.Find.{of_integer, is_float}
-use Rattle.serde_json.specs.View.{view, items_of, items_view, members_of, members_view}
+use Rattle.serde_json.specs.View.{view, items_of, items_view, members_view}
 use Rattle.serde_json.specs.Events.{members_len}
 use Rattle.serde_json.specs.Written.{has_float, items_have_float}
 use Rattle.vr_app.specs.Solution.{count, route_tree}

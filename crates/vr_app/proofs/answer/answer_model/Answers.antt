@@ -23,7 +23,7 @@ returns c =
     let fits : FitsSigned w64 c.total_cost.result = search rules in
     let sum : to_z w64 (of_z w64 c.total_cost.result) ≡ sum_of c.lists_cost-parts.result = to_z-of_z w64 _ fits ∙ c.total_cost.ensures in
     let text : c.in_ok-answer.answer.text.items ≡ line_of (solution_tree model (untried model lists)) =
-        c.in_ok-answer.ensures.text_is ∙ ap line_of (c.in_ok-tree.ensures ∙ tree_with-untried _ model lists _ parts sum) in record {
+    c.in_ok-answer.ensures.text_is ∙ ap line_of (c.in_ok-tree.ensures ∙ tree_with-untried _ model lists _ parts sum) in record {
       reply = record {
         status_is = ap number_of c.in_ok-answer.ensures.status_is;
         text_is = text ∙ ap (λ ls. line_of (solution_tree model (untried model (unwrap_or ls [])))) (sym first);

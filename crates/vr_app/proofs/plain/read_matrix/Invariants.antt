@@ -1,4 +1,4 @@
-use Rattle.std.proofs.Common.{◌≡◌, ◌++◌, ◌*◌, ℤ, List, length, All, drop}
+use Rattle.std.proofs.Common.{◌≡◌, ◌++◌, ◌*◌, length, All, drop}
 use Rattle.std.specs.Prelude.{option_map}
 use Rattle.serde_json.specs.View.{items_view}
 use Rattle.vr_app.specs.Plain.{IsCost, each, flat, items_list, row_of}

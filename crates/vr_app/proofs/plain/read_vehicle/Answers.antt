@@ -1,8 +1,7 @@
-use Rattle.std.proofs.Common.{◌≡◌, ◌∙◌, ◌<◌, ◌≤◌, sym, ap, subst, w64, pos, ◌-ℤ◌, Some, to_z, of_z, rules, arith, nat_abs, length, ◌*◌, All}
+use Rattle.std.proofs.Common.{◌≡◌, ◌∙◌, ◌<◌, ◌≤◌, sym, ap, subst, w64, pos, ◌-ℤ◌, Some, to_z, of_z, arith, nat_abs, length, ◌*◌}
 use Rattle.std.specs.Prelude.{option_and_then, option_map}
 use Rattle.std.proofs.lemmas.Int.{ints}
 use Rattle.serde_json.specs.View.{view}
-use Rattle.vr_model.specs.declared.records.Model.{Model}
 use Rattle.vr_app.specs.Plain.{IsRead, ends_of, plain_model, plain_model_of}
 use Rattle.vr_app.proofs.PlainLemmas.{IsRead-parts}
 use Rattle.vr_app.proofs.plain.read_vehicle.Goals as goal

@@ -1,4 +1,4 @@
-use Rattle.std.proofs.Common.{◌≡◌, sym, ap, subst, Option, Err}
+use Rattle.std.proofs.Common.{sym, ap, subst, Option, Err}
 use Rattle.vr_model.specs.declared.records.Model.{Model}
 use Rattle.vr_app.specs.Answers.{AnswersReply}
 use Rattle.vr_app.specs.Reply.{reply_to_model}
