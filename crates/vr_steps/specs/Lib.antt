@@ -2,3 +2,4 @@ pub mod Arcs
 pub mod Levels
 pub mod Stops
 pub mod Lines
+pub mod Reached

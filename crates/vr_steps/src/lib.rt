@@ -4,6 +4,7 @@
 mod crossing;
 mod ends;
 mod hops;
+pub mod laws;
 mod levels;
 mod lines;
 mod stops;
