@@ -1,29 +1,14 @@
 -- What a source gives and a sink takes in two calls, one after the other.
-use Rattle.std.proofs.Common.{◌≡◌, ◌∙◌, ◌++◌, ◌+◌, ◌-◌, ◌≤◌, ℕ, arith, List, [], Option, Some, length, take, drop, sym, ap, refl, append_assoc, append-nil}
+use Rattle.std.proofs.Common.{◌≡◌, ◌∙◌, ◌++◌, ◌+◌, ◌-◌, ◌≤◌, ℕ, arith, List, Option, length, take, drop, sym, ap, append_assoc}
 use Rattle.std.proofs.lemmas.List.{take-append-drop, length-take-le, take_all, length-drop}
 use Rattle.std.proofs.Math.Seq.{take-append-add}
 use Rattle.vr_io.specs.Edges.{Gave, Took}
-use Rattle.vr_io.specs.Whole.{GaveAll}
-
-pub Gave-nil : (a : Option (List ℕ)) → Gave a a []
-Gave-nil a = record { told = λ bytes e. (bytes, refl, e) }
 
 pub Gave-append : (a b c : Option (List ℕ)) (x y : List ℕ) → Gave a b x → Gave b c y → Gave a c (x ++ y)
 Gave-append a b c x y h k = record {
   told = λ bytes e. let m = h.told bytes e in let n = k.told m.0 m.2 in
       (n.0, m.1 ∙ ap (λ r. x ++ r) n.1 ∙ sym (append_assoc x y n.0), n.2);
 }
-
--- at the end all was given
-pub Gave-all : (a b c : Option (List ℕ)) (x y : List ℕ) → Gave a b x → Gave b c y → y ≡ []
-    → ((bytes : List ℕ) → b ≡ Some bytes → bytes ≡ []) → GaveAll a c x
-Gave-all a b c x y h k empty ends = record {
-  told = λ bytes e. let m = h.told bytes e in let n = k.told m.0 m.2 in let z : m.0 ≡ [] = ends m.0 m.2 in
-      (m.1 ∙ ap (λ r. x ++ r) z ∙ append-nil x, n.2 ∙ ap Some (sym (n.1 ∙ ap (λ t. t ++ n.0) empty) ∙ z));
-}
-
-pub Took-nil : (a : Option (List ℕ)) → Took a a []
-Took-nil a = record { told = λ after e. (after, e, sym (append-nil after)) }
 
 pub Took-append : (a b c : Option (List ℕ)) (x y : List ℕ) → Took a b x → Took b c y → Took a c (x ++ y)
 Took-append a b c x y h k = record {

@@ -78,7 +78,7 @@ module _ (model : Model) (well : IsWellFormed model) where
     -- a transit is in -2^31..=2^31
     pub transit_in_range : (i j : ℕ) → i < model.nodes → j < model.nodes → IsIn least_transit greatest_transit (transit model d v i j)
     transit_in_range i j low next =
-        let small = well.entries_not_large d (evaluator_number (dimension_at model d) v) dimension in
+        let small = well.entries_not_large d (evaluator_number (dimension_at model d) v) dimension evaluator_low in
         let p = part_in_range (evaluator_of (dimension_at model d) v).matrix of_evaluator.matrix_in_range small i j low next in
         let q = value_in_range (evaluator_of (dimension_at model d) v) of_evaluator i low in
         record { at_least = omega (arith, ints, p.at_least, q.at_least); at_most = omega (arith, ints, p.at_most, q.at_most) }

@@ -16,8 +16,10 @@ pub mod Levels
 pub mod Weights
 pub mod Runs
 pub mod Moves
+pub mod MoveTests
 pub mod Rules
 pub mod Costs
+pub mod AssignmentLaws
 pub mod Choosing
 pub mod Items
 pub mod PathCheapestArc

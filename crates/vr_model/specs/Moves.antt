@@ -57,13 +57,17 @@ abbrev pub comes_before : List ℕ → ℕ → ℕ → Bool
 comes_before [] x y = false
 comes_before (z ∷ zs) x y = cond (z == x) (holds zs y) (comes_before zs x y)
 
--- both nodes of a pair stand in one list, and the pickup comes first
-abbrev pub is_served : List (List ℕ) → Pair → Bool
-is_served lists pair = list_any (λ list. comes_before list pair.pickup pair.delivery) lists
+-- both nodes of pair p stand in one list, and the pickup comes first
+abbrev pub is_pair_served : Model → List (List ℕ) → ℕ → Bool
+is_pair_served model lists p = list_any (λ list. comes_before list (pair_at model p).pickup (pair_at model p).delivery) lists
 
--- both nodes of a pair stand in one list
-abbrev pub is_together : List (List ℕ) → Pair → Bool
-is_together lists pair = list_any (λ list. holds list pair.pickup && holds list pair.delivery) lists
+-- both nodes of pair p stand in one list
+abbrev pub is_pair_together : Model → List (List ℕ) → ℕ → Bool
+is_pair_together model lists p = list_any (λ list. holds list (pair_at model p).pickup && holds list (pair_at model p).delivery) lists
+
+-- neither node of pair p is active
+abbrev pub is_pair_inactive : Model → List (List ℕ) → ℕ → Bool
+is_pair_inactive model lists p = not (is_active lists (pair_at model p).pickup) && not (is_active lists (pair_at model p).delivery)
 
 -- the places of a list
 abbrev pub places : List ℕ → List ℕ
@@ -76,6 +80,18 @@ gaps list = below (suc (length list))
 -- the numbers of the pairs
 abbrev pub pairs : Model → List ℕ
 pairs model = below (length model.pairs)
+
+-- the list has k nodes from place a on
+abbrev pub has_chain : List ℕ → ℕ → ℕ → Bool
+has_chain list a k = nat_le (a + k) (length list)
+
+-- two numbers are not the same
+abbrev pub is_other : ℕ → ℕ → Bool
+is_other x y = not (x == y)
+
+-- one of the two is not 0
+abbrev pub is_some_later : ℕ → ℕ → Bool
+is_some_later a b = not ((a == 0) && (b == 0))
 
 -- the places from a on of list v that an exchange may have in list w: in the same list only those behind a
 abbrev pub places_behind : List (List ℕ) → ℕ → ℕ → ℕ → List ℕ
@@ -92,25 +108,25 @@ moves_in model lists all.TwoOpt =
     map (TwoOpt v a) (from_to (suc a) (length (route lists v)))
 moves_in model lists all.OrOpt =
     each (vehicles lists) λ v. each (places (route lists v)) λ a.
-    each (filter (λ k. nat_le (a + k) (length (route lists v))) (from_to 1 4)) λ k.
-    map (OrOpt v a k) (filter (λ t. not (t == a)) (below (suc (length (route lists v) - k))))
+    each (filter (has_chain (route lists v) a) (from_to 1 4)) λ k.
+    map (OrOpt v a k) (filter (is_other a) (below (suc (length (route lists v) - k))))
 moves_in model lists all.Relocate =
     each (vehicles lists) λ v. each (places (route lists v)) λ a.
-    each (filter (λ w. not (v == w)) (vehicles lists)) λ w. map (Relocate v a w) (gaps (route lists w))
+    each (filter (is_other v) (vehicles lists)) λ w. map (Relocate v a w) (gaps (route lists w))
 moves_in model lists all.Exchange =
     each (vehicles lists) λ v. each (places (route lists v)) λ a.
     each (from_to v (length lists)) λ w. map (Exchange v a w) (places_behind lists v a w)
 moves_in model lists all.Cross =
     each (vehicles lists) λ v. each (gaps (route lists v)) λ a.
-    each (from_to (suc v) (length lists)) λ w. map (Cross v a w) (filter (λ b. not ((a == 0) && (b == 0))) (gaps (route lists w)))
+    each (from_to (suc v) (length lists)) λ w. map (Cross v a w) (filter (is_some_later a) (gaps (route lists w)))
 moves_in model lists all.RelocatePair =
-    each (filter (λ p. is_served lists (pair_at model p)) (pairs model)) λ p.
+    each (filter (is_pair_served model lists) (pairs model)) λ p.
     each (vehicles lists) λ w. let rest = without_pair (pair_at model p) (route lists w) in
     each (gaps rest) λ s. map (RelocatePair p w s) (filter (changes_the_list (pair_at model p) (route lists w) rest s) (from_to s (suc (length rest))))
 moves_in model lists all.PairActive =
-    each (filter (λ p. not (is_active lists (pair_at model p).pickup) && not (is_active lists (pair_at model p).delivery)) (pairs model)) λ p.
+    each (filter (is_pair_inactive model lists) (pairs model)) λ p.
     each (vehicles lists) λ w. each (gaps (route lists w)) λ s. map (PairActive p w s) (from_to s (suc (length (route lists w))))
-moves_in model lists all.PairInactive = map PairInactive (filter (λ p. is_together lists (pair_at model p)) (pairs model))
+moves_in model lists all.PairInactive = map PairInactive (filter (is_pair_together model lists) (pairs model))
 moves_in model lists all.MakeActive = each (inactive model lists) λ u. each (vehicles lists) λ w. map (MakeActive u w) (gaps (route lists w))
 moves_in model lists all.MakeInactive = each (vehicles lists) λ v. map (MakeInactive v) (places (route lists v))
 moves_in model lists all.SwapActive =

@@ -11,7 +11,6 @@ pub record Plan : Type 0 where
   pub breaks : List ℤ
 
 -- the cumul of stop k
--- the cumul of stop k
 abbrev pub cumul : Plan → ℕ → ℤ
 cumul plan k = number_at plan.cumuls k
 

@@ -3,7 +3,7 @@
 use Rattle.std.specs.Prelude.{◌≡◌, ℕ, ◌*◌, ◌<◌, ◌≤◌, ◌⊎◌, Bool, true, false, not, ◌&&◌, IsTrue, List, [], ◌∷◌, map, length, ℤ, pos, negsuc, ◌≤ℤ◌, Option, Some, None}
 use Rattle.std.specs.List.{All, list_any}
 use Rattle.vr_model.specs.Numbers.{horizon, each}
-use Rattle.vr_model.specs.Tables.{is_visit}
+use Rattle.vr_model.specs.Tables.{dimension_at, is_visit}
 use Rattle.vr_model.specs.Routes.{is_same, is_distinct}
 use Rattle.vr_model.specs.ModelRules.{has_negative_cost, has_large_entry, goes_back, cannot_save}
 use Rattle.vr_model.specs.declared.records.Model.{Model}
@@ -211,6 +211,6 @@ pub record IsWellFormed (model : Model) : Type 0 where
   pub no_node_allowed_twice : IsTrue (is_distinct (map (λ row. row.node) model.allowed))
   pub search_in_range : IsSearch model.search
   pub costs_not_negative : (v : ℕ) → v < length model.vehicles → has_negative_cost model v ≡ false
-  pub entries_not_large : (d k : ℕ) → d < length model.dimensions → has_large_entry model d k ≡ false
+  pub entries_not_large : (d k : ℕ) → d < length model.dimensions → k < length (dimension_at model d).evaluators → has_large_entry model d k ≡ false
   pub transits_forward : (d : ℕ) → d < length model.dimensions → goes_back model d ≡ false
   pub can_save : cannot_save model ≡ false

@@ -1,9 +1,11 @@
 //! Laws over the definitions. A call has no code: its contract is the law, and a proof that needs
 //! the law calls it.
 
+ghost use Rattle.vr_model.specs.AssignmentLaws.{ChosenPlansAreThere, OpenMeetsItsLines};
 ghost use Rattle.vr_model.specs.ChoosingLaws.{LeastIsFirst, ScanEnds};
 ghost use Rattle.vr_model.specs.ChosenLaws.{ChosenIsLeast, ChosenWhereFeasible, EndReachedAsTested, LeastCumulMayBePinned, OneChosen, ReachedAsTested, RulesAsTested};
 ghost use Rattle.vr_model.specs.Levels.{CumulWhereLevelsMeet, EndReachedByCrossing, FeasibleWhereLevelsMeet, ReachedAtEnd, ReachedAtStart, ReachedByCrossing};
+ghost use Rattle.vr_model.specs.MoveTests.{MovesAsTested};
 ghost use Rattle.vr_model.specs.Runs.{RunsAsLongAsForm};
 ghost use Rattle.vr_model.specs.SearchLaws.{DescentBoundUnmet, GuidedBoundUnmet};
 ghost use Rattle.vr_model.specs.SoundLines.{LinesAreSound};
@@ -80,6 +82,23 @@ pub fn reached_at_start()
 /// The end is reached at what it allows, where the other breaks fit after.
 pub fn reached_at_end()
     ensures { ReachedAtEnd }
+{}
+
+/// The assignment of lists at their chosen schedules has a plan in each dimension for each vehicle
+/// that is used, and for no other.
+pub fn chosen_plans_are_there()
+    ensures { ChosenPlansAreThere }
+{}
+
+/// Open lists at their chosen schedules meet their lines.
+pub fn open_meets_its_lines()
+    ensures { OpenMeetsItsLines }
+{}
+
+/// A move is in the list of all moves exactly where its numbers meet the condition of its
+/// neighbourhood.
+pub fn moves_as_tested()
+    ensures { MovesAsTested }
 {}
 
 /// A set has as many runs as its normal form is long.

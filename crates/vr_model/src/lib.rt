@@ -21,3 +21,6 @@ pub use search::{Event, Kind, Lambda, Limit};
 pub use sequence::Seq;
 pub use steps::Steps;
 pub use words::Text;
+
+#[cfg(test)]
+mod tests;

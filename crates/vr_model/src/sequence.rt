@@ -6,7 +6,7 @@ use crate::NoMemory;
 use std::alloc::Global;
 use std::marker::Model;
 
-/// A list.
+/// A list over a vector. Contracts see the list of its values.
 #[derive(Drop)]
 pub struct Seq<T> {
     items: Vec<T>,
@@ -21,7 +21,7 @@ impl<T> Model for Seq<T> {
 }
 
 impl<T> Seq<T> {
-    /// The empty list.
+    /// The empty list; it takes no memory.
     pub fn new(alloc: Global) -> Seq<T>
         ensures { result ≡ [] }
     {
@@ -30,7 +30,7 @@ impl<T> Seq<T> {
         }
     }
 
-    /// Puts a value at the end.
+    /// Puts a value at the end. Where memory is wanting the list stays as it was, and the value is dropped.
     pub fn push(&mut self, t: T) -> Result<(), NoMemory>
     where
         T: Drop,
@@ -55,7 +55,7 @@ impl<T> Seq<T> {
         self.items.is_empty()
     }
 
-    /// The value at a place.
+    /// The value at a place, counted from 0.
     pub fn get(&self, k: usize) -> &T
         requires { k < length self.now }
         ensures some { slice_get self.now k ≡ Some result.now }
@@ -64,10 +64,19 @@ impl<T> Seq<T> {
         &self.items[k]
     }
 
-    /// The values.
+    /// The values in order.
     pub fn as_slice(&self) -> &[T]
         ensures { result.now ≡ self.now }
     {
         &self.items
+    }
+}
+
+impl<T> From<Vec<T>> for Seq<T> {
+    ghost from_gives = { λ items seq. seq ≡ items.items };
+
+    /// The same values; nothing is copied.
+    fn from(items: Vec<T>) -> Seq<T> {
+        Seq { items }
     }
 }

@@ -6,7 +6,7 @@ use crate::NoMemory;
 use std::alloc::Global;
 use std::marker::Model;
 
-/// A text.
+/// A text over a string. Contracts see the list of its UTF-8 bytes.
 #[derive(Drop)]
 pub struct Text {
     text: String,
@@ -21,7 +21,7 @@ impl Model for Text {
 }
 
 impl Text {
-    /// A copy of a text.
+    /// A copy of a text. `NoMemory` is for want of memory alone.
     pub fn from_str(alloc: Global, s: &str) -> Result<Text, NoMemory>
         ensures { IfOk result (λ t. t ≡ s.now) }
     {

@@ -1,0 +1,13 @@
+-- The numbers of the statuses.
+use Rattle.std.specs.Prelude.{ℕ}
+use Rattle.vr_app.specs.declared.status.Status.{Status}
+use Rattle.vr_app.specs.declared.status.Status.TheVariants as all
+
+-- the number of a status
+abbrev pub number_of : Status → ℕ
+number_of all.Done = 0
+number_of all.Usage = 1
+number_of all.ReadFault = 2
+number_of all.WriteFault = 3
+number_of all.Refused = 5
+number_of all.NoMemory = 7

@@ -1,0 +1,30 @@
+//! How a run ends.
+
+ghost use Rattle.std.specs.Prelude.{◌≡◌};
+ghost use Rattle.vr_app.specs.Status.{number_of};
+
+/// The status of a run. Its number is what the program ends with.
+#[derive(Clone, Copy)]
+pub(crate) enum Status {
+    /// The answer was written.
+    Done = 0,
+    /// The words are not accepted.
+    Usage = 1,
+    /// The source failed.
+    ReadFault = 2,
+    /// The sink failed.
+    WriteFault = 3,
+    /// The input gives no model.
+    Refused = 5,
+    /// Want of memory.
+    NoMemory = 7,
+}
+
+impl Status {
+    /// The number of the status.
+    pub(crate) fn number(self) -> u8
+        ensures { result ≡ number_of self }
+    {
+        self as u8
+    }
+}

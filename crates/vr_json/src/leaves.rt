@@ -1,0 +1,177 @@
+//! Readers of numbers, booleans, strings and words.
+
+ghost use Rattle.std.specs.Prelude.{◌≡◌, ◌≤◌, ◌<◌, find, map, option_map, IfOk};
+ghost use Rattle.std.specs.Str.{bytes_eq};
+ghost use Rattle.serde_json.specs.View.{view};
+ghost use Rattle.vr_json.specs.Kinds.{below_in as below_found, choice_in as choice_found, count_in as count_found, named};
+
+use crate::kinds::{flag_in, whole_in};
+use crate::{Cause, Place, ReadFail, Reader, settle, text};
+use serde_json::Value;
+use std::alloc::Global;
+use vr_model::Text;
+
+/// A whole number in `lo..=hi`.
+#[derive(Clone, Copy)]
+pub struct Whole {
+    pub lo: i64,
+    pub hi: i64,
+}
+
+impl Reader for Whole {
+    ghost use Rattle.vr_json.specs.Kinds.{whole};
+
+    type Item = i64;
+
+    ghost reads = { λ it earlier path d. whole it.lo it.hi path d };
+
+    fn read(
+        &self,
+        alloc: Global,
+        _earlier: &[i64],
+        value: &Value,
+        place: Place<'_>,
+    ) -> Result<i64, ReadFail> {
+        settle(alloc, whole_in(value, self.lo, self.hi), place)
+    }
+}
+
+/// A count in `lo..=hi`.
+#[derive(Clone, Copy)]
+pub struct Count {
+    pub lo: u32,
+    pub hi: u32,
+}
+
+// A whole number in `lo..=hi`, as a count.
+fn count_in(value: &Value, lo: u32, hi: u32) -> Result<u32, Cause>
+    ensures { result ≡ count_found lo hi (view value.now) }
+{
+    let whole = whole_in(value, i64::from(lo), i64::from(hi))?;
+    Ok(whole as u32)
+}
+
+impl Reader for Count {
+    ghost use Rattle.vr_json.specs.Kinds.{count};
+
+    type Item = u32;
+
+    ghost reads = { λ it earlier path d. count it.lo it.hi path d };
+
+    fn read(
+        &self,
+        alloc: Global,
+        _earlier: &[u32],
+        value: &Value,
+        place: Place<'_>,
+    ) -> Result<u32, ReadFail> {
+        settle(alloc, count_in(value, self.lo, self.hi), place)
+    }
+}
+
+/// The number of one of `count` things, from 0.
+#[derive(Clone, Copy)]
+pub struct Below {
+    pub count: u32,
+}
+
+// A whole number in `0..count`.
+fn below_in(value: &Value, count: u32) -> Result<u32, Cause>
+    ensures { result ≡ below_found count (view value.now) }
+{
+    let whole = whole_in(value, 0, i64::from(count) - 1)?;
+    Ok(whole as u32)
+}
+
+impl Reader for Below {
+    ghost use Rattle.vr_json.specs.Kinds.{below};
+
+    type Item = u32;
+
+    ghost reads = { λ it earlier path d. below it.count path d };
+
+    fn read(
+        &self,
+        alloc: Global,
+        _earlier: &[u32],
+        value: &Value,
+        place: Place<'_>,
+    ) -> Result<u32, ReadFail> {
+        settle(alloc, below_in(value, self.count), place)
+    }
+}
+
+/// A boolean.
+#[derive(Clone, Copy)]
+pub struct Flag;
+
+impl Reader for Flag {
+    ghost use Rattle.vr_json.specs.Kinds.{flag};
+
+    type Item = bool;
+
+    ghost reads = { λ it earlier path d. flag path d };
+
+    fn read(
+        &self,
+        alloc: Global,
+        _earlier: &[bool],
+        value: &Value,
+        place: Place<'_>,
+    ) -> Result<bool, ReadFail> {
+        settle(alloc, flag_in(value), place)
+    }
+}
+
+/// A string of `lo` to `hi` bytes.
+#[derive(Clone, Copy)]
+pub struct Bytes {
+    pub lo: usize,
+    pub hi: usize,
+}
+
+/// A string that is one of some words, as what the word stands for.
+#[derive(Clone, Copy)]
+pub struct Choice<'a, T> {
+    pub words: &'a [(&'a str, T)],
+}
+
+// What the first of some words that is this text stands for.
+fn meaning<T: Copy>(words: &[(&str, T)], text: &str) -> Option<T>
+    ensures { result
+        ≡ option_map (λ w. w.1) (find (λ w. bytes_eq w.0 text.now) (map named words.now)) }
+{
+    for (word, choice) in words {
+        if *word == text {
+            return Some(*choice);
+        }
+    }
+    None
+}
+
+// What the word stands for that the value is.
+fn choice_in<T: Copy>(value: &Value, words: &[(&str, T)]) -> Result<T, Cause>
+    ensures { result ≡ choice_found (map named words.now) (view value.now) }
+{
+    let text = value.as_str().ok_or(Cause::OtherKind)?;
+    meaning(words, text).ok_or(Cause::UnknownWord)
+}
+
+impl<T: Copy + Drop> Reader for Choice<'_, T> {
+    ghost use Rattle.std.specs.Prelude.{map};
+    ghost use Rattle.vr_json.specs.Kinds.{choice, named};
+
+    type Item = T;
+
+    ghost reads = { λ it earlier path d. choice (map named it.words.now) path d };
+
+    fn read(
+        &self,
+        alloc: Global,
+        _earlier: &[T],
+        value: &Value,
+        place: Place<'_>,
+    ) -> Result<T, ReadFail> {
+        settle(alloc, choice_in(value, self.words), place)
+    }
+}

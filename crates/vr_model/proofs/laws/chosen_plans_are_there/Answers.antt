@@ -1,0 +1,5 @@
+use Rattle.vr_model.proofs.Assigned.{chosen_plans_are_there}
+use Rattle.vr_model.proofs.laws.chosen_plans_are_there.Goals as goal
+
+pub returns : goal.returns
+returns c = chosen_plans_are_there

@@ -1,0 +1,6 @@
+pub mod Vehicles
+pub mod StopRows
+pub mod Dimensions
+pub mod Visits
+pub mod Searches
+pub mod Models

@@ -1,0 +1,44 @@
+-- The tables of matrices and vehicles, and the numbers of nodes, matrices, vehicles and visits that other tables name.
+use Rattle.std.specs.Prelude.{ℕ, ◌||◌, ◌==◌, List, [], ◌∷◌, Bool, ℤ, pos, codes, if◌then◌else◌, Result, Ok, Err}
+use Rattle.std.specs.List.{list_any, concat}
+use Rattle.serde_json.specs.Data.{Data}
+use Rattle.vr_json.specs.declared.fault.Cause.TheVariants.{NotAVisit}
+use Rattle.vr_json.specs.Causes.{fault_at}
+use Rattle.vr_json.specs.Reading.{◌>>=◌, ReaderOf, required, optional, known, array}
+use Rattle.vr_json.specs.Kinds.{whole, below, choice}
+use Rattle.vr_model.specs.WellFormed.{greatest_cost, least_value}
+use Rattle.vr_model.specs.declared.records.Matrix.{Matrix}
+use Rattle.vr_model.specs.declared.records.Vehicle.{Vehicle}
+use Rattle.vr_model.specs.declared.records.Policy.{Policy}
+use Rattle.vr_model.specs.declared.records.Policy.TheVariants.{Any, Lifo, Fifo}
+
+-- a matrix: an array of n arrays of n whole numbers
+abbrev pub matrix : ℕ → ReaderOf Matrix
+matrix n path d = do
+  rows ← array n n (λ earlier. array n n (λ so_far. whole least_value greatest_cost)) path d
+  Ok (record { entries = concat rows })
+
+-- what the words of `policy` stand for
+abbrev pub policies : List (List ℕ × Policy)
+policies = (codes "any", Any) ∷ (codes "lifo", Lifo) ∷ (codes "fifo", Fifo) ∷ []
+
+-- a vehicle, in a model of n nodes and so many matrices
+abbrev pub vehicle : ℕ → ℕ → ReaderOf Vehicle
+vehicle n matrices path d = do
+  start ← required (codes "start") (below n) path d
+  final ← required (codes "end") (below n) path d
+  costs ← optional (codes "costs") 0 (below matrices) path d
+  fixed ← optional (codes "fixed") (pos 0) (whole (pos 0) greatest_cost) path d
+  policy ← optional (codes "policy") Any (choice policies) path d
+  others ← known (codes "start" ∷ codes "end" ∷ codes "costs" ∷ codes "fixed" ∷ codes "policy" ∷ []) path d
+  Ok (record { start = start; «end» = final; costs = costs; fixed = fixed; policy = policy })
+
+-- a node is the start or the end of some vehicle
+abbrev pub is_terminal : List Vehicle → ℕ → Bool
+is_terminal vehicles node = list_any (λ v. (v.start == node) || (v.end == node)) vehicles
+
+-- a visit: one of n nodes that no vehicle starts or ends at
+abbrev pub visit : ℕ → List Vehicle → ReaderOf ℕ
+visit n vehicles path d = do
+  node ← below n path d
+  if is_terminal vehicles node then Err (fault_at NotAVisit path) else Ok node

@@ -1,0 +1,11 @@
+pub mod TestLemmas
+pub mod AscendingLemmas
+pub mod LeastLemmas
+pub mod NearestLemmas
+pub mod PlainLemmas
+pub mod FirstLemmas
+pub mod RouteLemmas
+pub mod PathLemmas
+pub mod CostLemmas
+pub mod TotalLemmas
+pub mod SampleLemmas

@@ -1,0 +1,5 @@
+pub mod Plain
+pub mod Nearest
+pub mod Idle
+pub mod Totals
+pub mod Samples
