@@ -14,7 +14,7 @@ use Rattle.vr_model.specs.declared.records.BreakRow.{BreakRow}
 use Rattle.vr_steps.specs.Arcs.{one_arc, Leads, between}
 use Rattle.vr_steps.specs.Levels.{level_at, AreStartLevels, AreEndLevels, AreCrossed, AreCrossedBack}
 use Rattle.vr_steps.specs.Lines.{hop_of}
-use Rattle.vr_steps.specs.Reached.{hop_at, IsAllowedSet, AreReached, AreReachingEnd, ArcAlone, StartIsReached, ReachedBehindArc, EndIsReached, EndReachedBeforeArc, FeasibleWhereShared}
+use Rattle.vr_steps.specs.Reached.{hop_at, IsAllowedSet, AreReached, AreReachingEnd, ArcAlone, StartIsReached, ReachedBehindArc, EndIsReached, EndReachedBeforeArc, FeasibleWhereShared, FeasibleAtEnd}
 
 one_from : {A : Type 0} (xs : List A) (k : ℕ) (d : A) → k < length xs → drop k (take (suc k) xs) ≡ get_or xs k d ∷ []
 one_from [] k d lt = absurd (omega arith)
@@ -183,4 +183,16 @@ pub feasible_where_shared : FeasibleWhereLevelsMeet → FeasibleWhereShared
 feasible_where_shared law line sound k le from behind reached reaching = (
   λ feasible. let meet = (law line sound k le).0 feasible in (meet.0, meet.1, meet.2, (reached meet.0 meet.1 meet.2).1 meet.3, (reaching meet.0 meet.1 meet.2).1 meet.4),
   λ shared. (law line sound k le).1 (shared.0, shared.1, shared.2, (reached shared.0 shared.1 shared.2).0 shared.3, (reaching shared.0 shared.1 shared.2).0 shared.4),
+)
+
+pub feasible_at_end : FeasibleWhereLevelsMeet → ReachedAtEnd → FeasibleAtEnd
+feasible_at_end law end line sound levels reached = (
+  λ feasible.
+  let meet = (law line sound (length line.arcs) (omega arith)).0 feasible in
+  let after = (end line sound meet.0 meet.1 meet.2).0 meet.4 in
+  (meet.0, meet.1, meet.2, (reached meet.0 meet.1 meet.2).1 meet.3, after.1),
+  λ found.
+  let is = (reached found.0 found.1 found.2).0 found.3 in
+  let allowed = reached_allowed line sound (length line.arcs) found.0 found.2 (omega arith) is in
+  (law line sound (length line.arcs) (omega arith)).1 (found.0, found.1, found.2, is, (end line sound found.0 found.1 found.2).1 (allowed, found.4)),
 )

@@ -1,11 +1,11 @@
 -- How levels of sets stand for what a line reaches: the laws of arcs in a line, as statements.
-use Rattle.std.specs.Prelude.{◌≡◌, ℕ, suc, ◌<◌, ◌≤◌, ◌↔◌, Bool, false, IsTrue, List, length, slice_index_or, ℤ}
+use Rattle.std.specs.Prelude.{◌≡◌, ℕ, suc, ◌<◌, ◌≤◌, ◌↔◌, Bool, false, IsTrue, List, length, drop, slice_index_or, ℤ}
 use Rattle.vr_spans.specs.declared.runs.Run.{Run}
 use Rattle.vr_spans.specs.Runs.{has, IsNormal}
 use Rattle.vr_model.specs.Lines.{Line}
 use Rattle.vr_model.specs.Schedules.{IsFeasible, IsReached, ReachesEnd, arc_at, allows}
 use Rattle.vr_model.specs.SoundLines.{IsSound}
-use Rattle.vr_model.specs.Levels.{Crosses}
+use Rattle.vr_model.specs.Levels.{Crosses, FitAfter}
 use Rattle.vr_model.specs.Weights.{runs}
 use Rattle.vr_steps.specs.declared.hops.Hop.{Hop}
 use Rattle.vr_steps.specs.Arcs.{Leads, between}
@@ -59,6 +59,12 @@ abbrev pub FeasibleWhereShared : Type 0
 FeasibleWhereShared = (line : Line) → IsSound line → (k : ℕ) → k ≤ length line.arcs → (from to : List (List Run))
     → AreReached line k from → AreReachingEnd line k to
     → IsFeasible line ↔ ((b : ℕ) × (b ≤ length line.breaks) × (x : ℤ) × IsTrue (has (level_at from b) x) × IsTrue (has (level_at to b) x))
+
+-- a line is feasible exactly where, with some number of breaks taken, a cumul is reached at the last stop after which the
+-- other breaks fit
+abbrev pub FeasibleAtEnd : Type 0
+FeasibleAtEnd = (line : Line) → IsSound line → (levels : List (List Run)) → AreReached line (length line.arcs) levels
+    → IsFeasible line ↔ ((b : ℕ) × (b ≤ length line.breaks) × (x : ℤ) × IsTrue (has (level_at levels b) x) × FitAfter (drop b line.breaks) x)
 
 -- a set of cumuls has as many runs as the definitions count
 abbrev pub RunsAreCounted : Type 0

@@ -1,7 +1,7 @@
 //! Laws of levels: how the sets of this crate stand for what the definitions say a line reaches. A call has no code but
 //! calls of other laws: its contract is the law, and a proof that needs the law calls it.
 
-ghost use Rattle.vr_steps.specs.Reached.{ArcAlone, StartIsReached, ReachedBehindArc, EndIsReached, EndReachedBeforeArc, FeasibleWhereShared, RunsAreCounted};
+ghost use Rattle.vr_steps.specs.Reached.{ArcAlone, StartIsReached, ReachedBehindArc, EndIsReached, EndReachedBeforeArc, FeasibleWhereShared, FeasibleAtEnd, RunsAreCounted};
 
 use vr_model::laws;
 use vr_spans::Run;
@@ -44,6 +44,15 @@ pub fn feasible_where_shared()
     ensures { FeasibleWhereShared }
 {
     laws::feasible_where_levels_meet();
+}
+
+/// A line is feasible exactly where, with some number of breaks taken, a cumul is reached at the last stop after which
+/// the other breaks fit.
+pub fn feasible_at_end()
+    ensures { FeasibleAtEnd }
+{
+    laws::feasible_where_levels_meet();
+    laws::reached_at_end();
 }
 
 /// A set of cumuls has as many runs as the definitions count.
