@@ -1,5 +1,5 @@
 -- How levels of sets stand for what a line reaches: the laws of arcs in a line, as statements.
-use Rattle.std.specs.Prelude.{◌≡◌, ℕ, suc, ◌<◌, ◌≤◌, ◌↔◌, Bool, false, IsTrue, List, length, drop, slice_index_or, ℤ}
+use Rattle.std.specs.Prelude.{◌≡◌, ℕ, suc, ◌<◌, ◌≤◌, ◌↔◌, Bool, false, IsTrue, List, [], length, drop, slice_index_or, ℤ}
 use Rattle.vr_spans.specs.declared.runs.Run.{Run}
 use Rattle.vr_spans.specs.Runs.{has, IsNormal}
 use Rattle.vr_model.specs.Lines.{Line}
@@ -8,9 +8,10 @@ use Rattle.vr_model.specs.SoundLines.{IsSound}
 use Rattle.vr_model.specs.Levels.{Crosses, FitAfter}
 use Rattle.vr_model.specs.Weights.{runs}
 use Rattle.vr_steps.specs.declared.hops.Hop.{Hop}
+use Rattle.vr_steps.specs.declared.lines.Line.{Line as Made}
 use Rattle.vr_steps.specs.Arcs.{Leads, between}
 use Rattle.vr_steps.specs.Levels.{HasNumbers, IsCumuls, level_at, AreStartLevels, AreEndLevels, AreCrossed, AreCrossedBack}
-use Rattle.vr_steps.specs.Lines.{hop_of}
+use Rattle.vr_steps.specs.Lines.{hop_of, IsLineOf, IsSoundLine}
 
 -- arc k of a line
 abbrev pub hop_at : Line → ℕ → Hop
@@ -28,6 +29,17 @@ AreReached line k levels = (b : ℕ) → b ≤ length line.breaks → (x : ℤ) 
 -- the levels have, for each number of breaks taken, the cumuls of stop k from which the end is reached
 abbrev pub AreReachingEnd : Line → ℕ → List (List Run) → Type 0
 AreReachingEnd line k levels = (b : ℕ) → b ≤ length line.breaks → (x : ℤ) → IsTrue (has (level_at levels b) x) ↔ ReachesEnd line k b x
+
+-- what a line as the code holds it gives at each place is that of the line of the definition
+pub record StandsFor (defined : Line) (made : Made) : Type 0 where
+  pub allowed : (k : ℕ) → k < length made.allowed → IsAllowedSet defined k (slice_index_or made.allowed k [])
+  pub hops : (k : ℕ) (d : Hop) → k < length made.hops → slice_index_or made.hops k d ≡ hop_at defined k
+  pub arcs : length defined.arcs ≡ length made.hops
+  pub breaks : defined.breaks ≡ made.breaks
+
+-- a sound line that is that of a definition stands for it at each place
+abbrev pub LinesStandForTheirs : Type 0
+LinesStandForTheirs = (defined : Line) (made : Made) → IsLineOf defined made → IsSoundLine made → StandsFor defined made
 
 -- an arc of a line leads from one cumul to another where its two stops allow them and the arc alone leads there
 abbrev pub ArcAlone : Type 0
