@@ -3,3 +3,4 @@ pub mod Levels
 pub mod Stops
 pub mod Lines
 pub mod Reached
+pub mod Samples

@@ -15,3 +15,6 @@ pub use hops::{Breaks, Hop};
 pub use levels::Levels;
 pub use lines::Line;
 pub use stops::{StopName, allowed_at};
+
+#[cfg(test)]
+mod tests;
