@@ -3,3 +3,4 @@ pub mod Nearest
 pub mod Idle
 pub mod Totals
 pub mod Samples
+pub mod RoutesOpen

@@ -3,8 +3,10 @@
 
 mod cost;
 mod first;
+mod routes_open;
 #[cfg(test)]
 mod tests;
 
 pub use cost::{lists_cost, total_cost};
 pub use first::first_lists;
+pub use routes_open::route_open;

@@ -4,6 +4,7 @@
 mod crossing;
 mod ends;
 mod hops;
+pub mod laws;
 mod levels;
 mod lines;
 mod stops;
@@ -14,3 +15,6 @@ pub use hops::{Breaks, Hop};
 pub use levels::Levels;
 pub use lines::Line;
 pub use stops::{StopName, allowed_at};
+
+#[cfg(test)]
+mod tests;

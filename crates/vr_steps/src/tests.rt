@@ -1,0 +1,65 @@
+//! Crossing an arc on small sets, with ample memory.
+
+ghost use Rattle.std.specs.Prelude.{◌≡◌, ◌<◌, All, IfOk, pos, ◌≤ℤ◌};
+ghost use Rattle.vr_steps.specs.Samples.{IsShort};
+ghost use Rattle.vr_steps.specs.Levels.{IsCumuls};
+
+use crate::{Breaks, Hop, cross, cross_back, end_levels, start_levels};
+use arrayvec::ArrayVec;
+use std::alloc::Global;
+use std::marker::Brand;
+use std::sync::ledger::{Blank, Ledger};
+use std::test::Fail;
+use vr_model::Steps;
+use vr_spans::{NoMemory, Run, Spans};
+
+// The number of runs of a set, and its least and greatest number.
+type Extent = (usize, Option<i64>, Option<i64>);
+
+fn extent(set: &Spans) -> Extent {
+    (set.len(), set.least(), set.greatest())
+}
+
+// The set of these runs, of cumuls up to 100.
+fn cumuls(alloc: Global, runs: &[Run]) -> Result<Spans, NoMemory>
+    requires { All IsShort runs.now }
+    ensures { IfOk result IsCumuls }
+{
+    Spans::from_runs(alloc, runs)
+}
+
+// What an arc of transit 5 and slack 3 leads to from 0..=last, in 0..=4 and 9..=100, and from where it leads there.
+fn cross_both_ways<L: Ledger>(alloc: Global, last: i64, blank: Blank) -> Result<(Extent, Extent), Fail>
+    requires name { blank.name ≡ L.name }
+    requires parts { blank.parts ≡ L.parts }
+    requires some { 0 < blank.parts }
+    requires last { (pos 0 ≤ℤ last) × (last ≤ℤ pos 100) }
+{
+    let here = cumuls(alloc, &[Run { lo: 0, hi: last }])?;
+    let next = cumuls(alloc, &[Run { lo: 0, hi: 4 }, Run { lo: 9, hi: 100 }])?;
+    let hop = Hop {
+        transit: 5,
+        slack: 3,
+        visit: 0,
+    };
+    let breaks = Breaks {
+        rows: ArrayVec::new(),
+    };
+    let mut steps = Steps::<L>::new(blank);
+    let start = start_levels(alloc, &here, &breaks)?;
+    let ahead = cross(alloc, &start, hop, &next, &breaks, &mut steps)?;
+    let end = end_levels(alloc, &next, &breaks)?;
+    let behind = cross_back(alloc, &end, hop, &here, &breaks, &mut steps)?;
+    Ok((extent(ahead.level(0)), extent(behind.level(0))))
+}
+
+#[test]
+fn arcs_are_crossed_both_ways(rt: HostRuntime) -> Result<(), Fail> {
+    let alloc = rt.alloc();
+    let none = (0, None, None);
+    let from_one = cross_both_ways::<Brand>(alloc, 0, Blank::new(1))?;
+    assert_eq!(rt; from_one, (none, none));
+    let from_all = cross_both_ways::<Brand>(alloc, 100, Blank::new(1))?;
+    assert_eq!(rt; from_all, ((1, Some(9), Some(100)), (1, Some(1), Some(95))));
+    Ok(())
+}
