@@ -99,11 +99,10 @@ module _ (stands : LinesStandForTheirs) (made : Line) (sound : IsSoundLine made)
       let s = stands defined made of sound in
       let rows : defined.breaks ≡ [] = s.breaks ∙ none in
       let last : k ≡ length defined.arcs = omega (arith, long, s.arcs) in
-      let there = law defined fine levels (subst (λ i. AreReached defined i levels) last (reached defined of fine)) in
-      (
+      let there = law defined fine levels (subst (λ i. AreReached defined i levels) last (reached defined of fine)) in (
         λ t. let number = number_of least set some is first t in there.1 (0, omega arith, number.0, subst (λ rs. IsTrue (has rs number.0)) (sym level) number.1, subst (λ bs. FitAfter (drop 0 bs) number.0) (sym rows) (fits_none number.0)),
         λ feasible.
-        let found = there.0 feasible in
-        let first_level : found.0 ≡ 0 = omega (arith, found.1, ap length rows) in
-        some_from least set some is empty found.2 (subst (λ rs. IsTrue (has rs found.2)) level (subst (λ b. IsTrue (has (level_at levels b) found.2)) first_level found.3)),
+            let found = there.0 feasible in
+            let first_level : found.0 ≡ 0 = omega (arith, found.1, ap length rows) in
+            some_from least set some is empty found.2 (subst (λ rs. IsTrue (has rs found.2)) level (subst (λ b. IsTrue (has (level_at levels b) found.2)) first_level found.3)),
       )

@@ -81,6 +81,7 @@ module _ (hop : Hop) (level set : List Run) (others : List (List Run)) (cumuls :
     where
       to : IsTrue (has set x) × IsReached first last level x → IsTrue (has set x) × ((a : ℕ) × (a ≤ 0) × (y : ℤ) × IsTrue (has (level_at (level ∷ others) a) y) × Leads hop (between [] a 0) y x)
       to (inside, (y, is, least, greatest)) = (inside, (0, omega arith, y, is, leads hop y x (record { begin = cumuls y is; «end» = limits x inside; least = omega (arith, ints, e, least); greatest = omega (arith, ints, f, greatest) })))
+
       from : IsTrue (has set x) × ((a : ℕ) × (a ≤ 0) × (y : ℤ) × IsTrue (has (level_at (level ∷ others) a) y) × Leads hop (between [] a 0) y x) → IsTrue (has set x) × IsReached first last level x
       from (inside, (zero, le, y, is, way)) = let plain = plainly hop y x way in (inside, (y, is, omega (arith, ints, e, plain.least), omega (arith, ints, f, plain.greatest)))
       from (inside, (suc a, le, y, is, way)) = absurd (omega arith)
@@ -91,6 +92,7 @@ module _ (hop : Hop) (level set : List Run) (others : List (List Run)) (cumuls :
     where
       to : IsTrue (has set x) × IsReached first last level x → IsTrue (has set x) × ((b : ℕ) × (0 ≤ b) × (b ≤ 0) × (z : ℤ) × IsTrue (has (level_at (level ∷ others) b) z) × Leads hop (between [] 0 b) x z)
       to (inside, (z, is, least, greatest)) = (inside, (0, omega arith, omega arith, z, is, leads hop x z (record { begin = limits x inside; «end» = cumuls z is; least = omega (arith, ints, f, greatest); greatest = omega (arith, ints, e, least) })))
+
       from : IsTrue (has set x) × ((b : ℕ) × (0 ≤ b) × (b ≤ 0) × (z : ℤ) × IsTrue (has (level_at (level ∷ others) b) z) × Leads hop (between [] 0 b) x z) → IsTrue (has set x) × IsReached first last level x
       from (inside, (zero, low, le, z, is, way)) = let plain = plainly hop x z way in (inside, (z, is, omega (arith, ints, e, plain.greatest), omega (arith, ints, f, plain.least)))
       from (inside, (suc b, low, le, z, is, way)) = absurd (omega arith)

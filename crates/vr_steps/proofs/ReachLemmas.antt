@@ -84,18 +84,17 @@ arc_alone line sound k a b lt y x = (to, from)
   where
     to : Crosses line k a b y x → IsTrue (allows line k y) × IsTrue (allows line (suc k) x) × Leads (hop_at line k) (between line.breaks a b) y x
     to (plan, rules, begin, end) =
-        let m : KeepsRules no_side (arc_part line k (between line.breaks a b)) plan = subst (λ l. KeepsRules no_side l plan) (part_is line sound k a b lt) rules in
-        (
+        let m : KeepsRules no_side (arc_part line k (between line.breaks a b)) plan = subst (λ l. KeepsRules no_side l plan) (part_is line sound k a b lt) rules in (
           subst (λ n. IsTrue (allows line k n)) begin (m.cumuls_allowed 0 (omega arith)),
           subst (λ n. IsTrue (allows line (suc k) n)) end (m.cumuls_allowed 1 (omega arith)),
           (plan, narrow _ _ _ _ _ plan m, begin, end),
         )
+
     from : IsTrue (allows line k y) × IsTrue (allows line (suc k) x) × Leads (hop_at line k) (between line.breaks a b) y x → Crosses line k a b y x
     from (first, second, way) =
         let plan = way.0 in
         let begin = way.2 in
-        let end = way.3 in
-        (
+        let end = way.3 in (
           plan,
           subst (λ l. KeepsRules no_side l plan) (sym (part_is line sound k a b lt)) (widen _ _ _ _ _ plan (subst (λ n. IsTrue (allows line k n)) (sym begin) first) (subst (λ n. IsTrue (allows line (suc k) n)) (sym end) second) way.1),
           begin,
@@ -148,6 +147,7 @@ reached_behind_arc law line sound k lt set from reached allowed before crossed b
           begin,
           (arc_alone line sound k step.0 b lt y x).1 (reached_allowed line sound k step.0 y (omega arith) begin, (allowed_is line (suc k) set allowed x).0 way.0, step.4),
         )
+
     back_to : IsReached line (suc k) b x → IsTrue (has (level_at reached b) x)
     back_to is =
         let step = (law line sound k b lt few x).0 is in
@@ -172,6 +172,7 @@ end_reached_before_arc law line sound k lt set behind reached allowed after cros
           (arc_alone line sound k a step.0 lt y x).1 ((allowed_is line k set allowed y).0 way.0, reaching_allowed line sound (suc k) step.0 x lt end, step.5),
           end,
         )
+
     back_to : ReachesEnd line k a y → IsTrue (has (level_at reached a) y)
     back_to is =
         let step = (law line sound k a lt few y).0 is in
@@ -188,11 +189,11 @@ feasible_where_shared law line sound k le from behind reached reaching = (
 pub feasible_at_end : FeasibleWhereLevelsMeet → ReachedAtEnd → FeasibleAtEnd
 feasible_at_end law end line sound levels reached = (
   λ feasible.
-  let meet = (law line sound (length line.arcs) (omega arith)).0 feasible in
-  let after = (end line sound meet.0 meet.1 meet.2).0 meet.4 in
-  (meet.0, meet.1, meet.2, (reached meet.0 meet.1 meet.2).1 meet.3, after.1),
+      let meet = (law line sound (length line.arcs) (omega arith)).0 feasible in
+      let after = (end line sound meet.0 meet.1 meet.2).0 meet.4 in
+      (meet.0, meet.1, meet.2, (reached meet.0 meet.1 meet.2).1 meet.3, after.1),
   λ found.
-  let is = (reached found.0 found.1 found.2).0 found.3 in
-  let allowed = reached_allowed line sound (length line.arcs) found.0 found.2 (omega arith) is in
-  (law line sound (length line.arcs) (omega arith)).1 (found.0, found.1, found.2, is, (end line sound found.0 found.1 found.2).1 (allowed, found.4)),
+      let is = (reached found.0 found.1 found.2).0 found.3 in
+      let allowed = reached_allowed line sound (length line.arcs) found.0 found.2 (omega arith) is in
+      (law line sound (length line.arcs) (omega arith)).1 (found.0, found.1, found.2, is, (end line sound found.0 found.1 found.2).1 (allowed, found.4)),
 )
