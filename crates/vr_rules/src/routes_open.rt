@@ -42,7 +42,13 @@ pub fn route_open(alloc: Global, model: &Model, v: u32, list: &[u32]) -> Result<
 }
 
 /// Whether the line of a list has a schedule in one dimension.
-fn is_feasible_in(alloc: Global, model: &Model, d: u32, v: u32, list: &[u32]) -> Result<bool, NoMemory>
+fn is_feasible_in(
+    alloc: Global,
+    model: &Model,
+    d: u32,
+    v: u32,
+    list: &[u32],
+) -> Result<bool, NoMemory>
     requires well_formed { IsWellFormed model.now }
     requires dimension { d < length model.now.dimensions }
     requires vehicle { v < length model.now.vehicles }

@@ -1,5 +1,5 @@
 -- What the shared numbers of stretched runs say of each operation.
-use Rattle.std.proofs.Common.{◌≡◌, Bool, true, false, ◌&&◌, not, List, [], ◌∷◌, map, ℤ, pos, neg_ℤ, ◌+ℤ◌, ◌-ℤ◌, ◌≤ℤ◌, refl, ap, sym, ◌∙◌, Result, OnOk, arith}
+use Rattle.std.proofs.Common.{◌≡◌, Bool, true, false, ◌&&◌, not, List, [], ◌∷◌, map, ℤ, pos, neg_ℤ, ◌-ℤ◌, ◌≤ℤ◌, refl, ap, sym, ◌∙◌, Result, OnOk, arith}
 use Rattle.std.specs.Prelude.{IsTrue, ◌↔◌}
 use Rattle.std.proofs.lemmas.Int.{ints}
 use Rattle.std.proofs.lemmas.Bool.{and_parts, and_from}
@@ -7,7 +7,7 @@ use Rattle.std.proofs.lemmas.Result.{on_ok_weaker}
 use Rattle.vr_spans.specs.declared.runs.Run.{Run}
 use Rattle.vr_spans.specs.Runs.{limit, in_limits, has, IsNormal, StaysWithin, IsReached}
 use Rattle.vr_spans.specs.Build.{stretched}
-use Rattle.vr_spans.proofs.Numbers.{in_limits-from_has, near_limits}
+use Rattle.vr_spans.proofs.Numbers.{in_limits-from_has}
 use Rattle.vr_spans.proofs.Stretched.{has-shifted, IsReached-from_has, has-from_IsReached}
 
 implied : (b c : Bool) → (b ≡ true → c ≡ true) → (b && c) ≡ b

@@ -1,5 +1,5 @@
 -- How levels of sets stand for what a line reaches: the laws of arcs in a line, as statements.
-use Rattle.std.specs.Prelude.{◌≡◌, ℕ, suc, ◌<◌, ◌≤◌, ◌↔◌, Bool, false, IsTrue, List, [], length, drop, slice_index_or, ℤ}
+use Rattle.std.specs.Prelude.{◌≡◌, ℕ, suc, ◌<◌, ◌≤◌, ◌↔◌, false, IsTrue, List, [], length, drop, slice_index_or, ℤ}
 use Rattle.vr_spans.specs.declared.runs.Run.{Run}
 use Rattle.vr_spans.specs.Runs.{has, IsNormal}
 use Rattle.vr_model.specs.Lines.{Line}

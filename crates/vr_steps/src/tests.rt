@@ -29,7 +29,11 @@ fn cumuls(alloc: Global, runs: &[Run]) -> Result<Spans, NoMemory>
 }
 
 // What an arc of transit 5 and slack 3 leads to from 0..=last, in 0..=4 and 9..=100, and from where it leads there.
-fn cross_both_ways<L: Ledger>(alloc: Global, last: i64, blank: Blank) -> Result<(Extent, Extent), Fail>
+fn cross_both_ways<L: Ledger>(
+    alloc: Global,
+    last: i64,
+    blank: Blank,
+) -> Result<(Extent, Extent), Fail>
     requires name { blank.name ≡ L.name }
     requires parts { blank.parts ≡ L.parts }
     requires some { 0 < blank.parts }

@@ -22,10 +22,10 @@ hop_is slack (a ∷ others) (suc k) d lt = hop_is slack others k d (omega arith)
 
 pub returns : goal.returns
 returns c = λ defined made is sound.
-  let long = ap length is.hops ∙ length-map defined.arcs (hop_of defined.slack_max) in
-  record {
-    allowed = λ k lt. record { exact = all_zip_at HasNumbers defined.allowed made.allowed k (λ _. false) [] is.allowed lt; cumuls = sound.cumuls k [] lt };
-    hops = λ k d lt. ap (λ hops. get_or hops k d) is.hops ∙ hop_is defined.slack_max defined.arcs k d (omega (arith, long));
-    arcs = sym long;
-    breaks = sym is.breaks;
-  }
+    let long = ap length is.hops ∙ length-map defined.arcs (hop_of defined.slack_max) in
+    record {
+      allowed = λ k lt. record { exact = all_zip_at HasNumbers defined.allowed made.allowed k (λ _. false) [] is.allowed lt; cumuls = sound.cumuls k [] lt };
+      hops = λ k d lt. ap (λ hops. get_or hops k d) is.hops ∙ hop_is defined.slack_max defined.arcs k d (omega (arith, long));
+      arcs = sym long;
+      breaks = sym is.breaks;
+    }
