@@ -18,7 +18,7 @@ use Rattle.vr_read.specs.Vehicles.{visit}
 use Rattle.vr_read.specs.StopRows.{stop_row, vehicle_breaks}
 
 -- an evaluator, in a model of n nodes and so many matrices
-abbrev pub evaluator : ℕ → ℕ → ReaderOf Evaluator
+unfoldable pub evaluator : ℕ → ℕ → ReaderOf Evaluator
 evaluator n matrices path d = do
   matrix ← maybe (codes "matrix") (below matrices) path d
   values ← optional (codes "values") [] (array n n (λ so_far. whole least_value greatest_value)) path d
@@ -26,18 +26,18 @@ evaluator n matrices path d = do
   Ok (record { matrix = matrix; values = values })
 
 -- a whole number of any size that is not negative; above the horizon it is read as the horizon
-abbrev pub capped : ReaderOf ℤ
+unfoldable pub capped : ReaderOf ℤ
 capped path d = whole (pos 0) (pos (2 ^ 63 - 1)) path d >>= λ z. Ok (int_min z horizon)
 
 -- the name of a dimension, which no earlier one has
-abbrev pub name : List Dimension → ReaderOf (List ℕ)
+unfoldable pub name : List Dimension → ReaderOf (List ℕ)
 name earlier path d = do
   bytes ← text 1 64 path d
   fresh ← refuse_if (list_any (λ dimension. bytes_eq dimension.name bytes) earlier) Repeated path
   Ok bytes
 
 -- a dimension, in a model of n nodes, so many matrices and these vehicles
-abbrev pub dimension : ℕ → ℕ → List Vehicle → List Dimension → ReaderOf Dimension
+unfoldable pub dimension : ℕ → ℕ → List Vehicle → List Dimension → ReaderOf Dimension
 dimension n matrices vehicles earlier path d = do
   bytes ← required (codes "name") (name earlier) path d
   evaluators ← required (codes "evaluators") (array 1 8 (λ so_far. evaluator n matrices)) path d

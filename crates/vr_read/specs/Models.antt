@@ -17,7 +17,7 @@ use Rattle.vr_read.specs.Visits.{group, pair, allowed}
 use Rattle.vr_read.specs.Searches.{search_row, default_search}
 
 -- the table of a model
-abbrev pub model_table : ReaderOf Model
+unfoldable pub model_table : ReaderOf Model
 model_table path d = do
   format ← required (codes "format") (whole (pos 1) (pos 1)) path d
   nodes ← required (codes "nodes") (count 1 1000) path d
@@ -32,12 +32,12 @@ model_table path d = do
   Ok (record { nodes = nodes; matrices = matrices; vehicles = vehicles; dimensions = dimensions; groups = groups; pairs = pairs; allowed = allowed_rows; search = search_values })
 
 -- each of the numbers below n in order: the first fault is the answer
-abbrev pub for_all : List ℕ → (ℕ → Result ⊤ Fault) → Result ⊤ Fault
+unfoldable pub for_all : List ℕ → (ℕ → Result ⊤ Fault) → Result ⊤ Fault
 for_all [] rule = Ok tt
 for_all (k ∷ ks) rule = rule k >>= λ passed. for_all ks rule
 
 -- the rules on the whole model, in order
-abbrev pub rules : List ℕ → Model → Result ⊤ Fault
+unfoldable pub rules : List ℕ → Model → Result ⊤ Fault
 rules path model = do
   costs ← for_all (below (length model.vehicles)) (λ v. refuse_if (has_negative_cost model v) NegativeCost (name_path (item_path (name_path path (codes "vehicles")) v) (codes "costs")))
   entries ← for_all (below (length model.dimensions)) (λ d. for_all (below (length (dimension_at model d).evaluators)) (λ k.
@@ -46,7 +46,7 @@ rules path model = do
   refuse_if (cannot_save model) UnlikeVehicles (name_path (name_path path (codes "search")) (codes "first"))
 
 -- a model
-abbrev pub read_model : ReaderOf Model
+unfoldable pub read_model : ReaderOf Model
 read_model path d = do
   model ← model_table path d
   kept ← rules path model
