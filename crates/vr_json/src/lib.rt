@@ -42,7 +42,7 @@ pub use arrays::{Array, Both, ForEach, copies};
 pub use fault::{Cause, Fault, ReadFail};
 pub use fields::{field, known};
 pub use kinds::{flag, list, text, whole, word};
-pub use leaves::{Below, Bytes, Choice, Count, Flag, Whole};
+pub use leaves::{Below, Choice, Count, Flag, Whole};
 pub use path::Path;
 pub use place::{Place, Step};
 pub use reader::{Reader, maybe, optional, refuse_if, required, settle};

@@ -31,9 +31,12 @@ impl Reader for IntervalTable {
         place: Place<'_>,
     ) -> Result<Interval, ReadFail> {
         let cumul = Whole { lo: 0, hi: HORIZON };
-        let (lo, hi) = Both { entry: cumul }.read(alloc, &[], value, place)?;
-        refuse_if(alloc, hi < lo, Cause::Reversed, place)?;
-        Ok(Interval { lo, hi })
+        let ends = Both { entry: cumul }.read(alloc, &[], value, place)?;
+        refuse_if(alloc, ends.1 < ends.0, Cause::Reversed, place)?;
+        Ok(Interval {
+            lo: ends.0,
+            hi: ends.1,
+        })
     }
 }
 
@@ -106,8 +109,8 @@ impl<K: Reader<Item = u32>> Reader for StopTable<'_, K> {
         let key = required(alloc, value, self.name, &path, &self.key)?;
         refuse_if(alloc, has_row(earlier, key), Cause::Repeated, path.field(self.name))?;
         let window = maybe(alloc, value, "window", &path, &IntervalTable)?;
-        let forbidden = Seq::new(alloc);
-        let forbidden = optional(alloc, value, "forbidden", &path, forbidden, &intervals)?;
+        let none = Seq::new(alloc);
+        let forbidden = optional(alloc, value, "forbidden", &path, none, &intervals)?;
         let soft = maybe(alloc, value, "soft", &path, &SoftTable)?;
         known(alloc, value, &[self.name, "window", "forbidden", "soft"], &path)?;
         Ok(StopRow {
