@@ -1,7 +1,6 @@
 -- The table of the search.
-use Rattle.std.specs.Prelude.{ℕ, ◌==◌, List, [], ◌∷◌, ℤ, pos, codes, Result, Ok}
+use Rattle.std.specs.Prelude.{ℕ, ◌==◌, List, [], ◌∷◌, pos, codes, Ok}
 use Rattle.std.specs.List.{list_any}
-use Rattle.serde_json.specs.Data.{Data}
 use Rattle.vr_json.specs.declared.fault.Cause.TheVariants.{Repeated}
 use Rattle.vr_json.specs.Reading.{◌>>=◌, ReaderOf, optional, known, array, pair, refuse_if}
 use Rattle.vr_json.specs.Kinds.{whole, count, choice}

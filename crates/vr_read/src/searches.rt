@@ -15,7 +15,10 @@ use vr_model::{First, Improve, Neighbourhood, NoMemory, SearchRow, Seq};
 // The words for first solutions.
 const STRATEGIES: [(&str, First); 3] = [
     ("PATH_CHEAPEST_ARC", First::PathCheapestArc),
-    ("PARALLEL_CHEAPEST_INSERTION", First::ParallelCheapestInsertion),
+    (
+        "PARALLEL_CHEAPEST_INSERTION",
+        First::ParallelCheapestInsertion,
+    ),
     ("SAVINGS", First::Savings),
 ];
 
@@ -84,7 +87,12 @@ impl Reader for NeighbourhoodTable {
             words: &NEIGHBOURHOODS,
         };
         let chosen = words.read(alloc, &[], value, place)?;
-        refuse_if(alloc, has_neighbourhood(earlier, chosen), Cause::Repeated, place)?;
+        refuse_if(
+            alloc,
+            has_neighbourhood(earlier, chosen),
+            Cause::Repeated,
+            place,
+        )?;
         Ok(chosen)
     }
 }
@@ -146,7 +154,14 @@ impl Reader for SearchTable {
     ) -> Result<SearchRow, ReadFail> {
         let path = place.path()?;
         let strategy = Choice { words: &STRATEGIES };
-        let first = optional(alloc, value, "first", &path, First::PathCheapestArc, &strategy)?;
+        let first = optional(
+            alloc,
+            value,
+            "first",
+            &path,
+            First::PathCheapestArc,
+            &strategy,
+        )?;
         let improvement = Choice {
             words: &IMPROVEMENTS,
         };
