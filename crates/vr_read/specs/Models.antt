@@ -23,10 +23,10 @@ model_table path d = do
   nodes ← required (codes "nodes") (count 1 1000) path d
   matrices ← required (codes "matrices") (array 1 16 (λ so_far. matrix nodes)) path d
   vehicles ← required (codes "vehicles") (array 1 100 (λ so_far. vehicle nodes (length matrices))) path d
-  dimensions ← optional (codes "dimensions") [] (array 0 4 (dimension nodes (length matrices) vehicles)) path d
+  dimensions ← optional (codes "dimensions") [] (array 0 4 (dimension nodes (length matrices) (length vehicles) vehicles)) path d
   groups ← optional (codes "groups") [] (array 0 1000 (group nodes vehicles)) path d
   pairs ← optional (codes "pairs") [] (array 0 500 (pair nodes vehicles)) path d
-  allowed_rows ← optional (codes "allowed") [] (array 0 1000 (allowed nodes vehicles)) path d
+  allowed_rows ← optional (codes "allowed") [] (array 0 1000 (allowed nodes (length vehicles) vehicles)) path d
   search_values ← optional (codes "search") default_search search_row path d
   others ← known (codes "format" ∷ codes "nodes" ∷ codes "matrices" ∷ codes "vehicles" ∷ codes "dimensions" ∷ codes "groups" ∷ codes "pairs" ∷ codes "allowed" ∷ codes "search" ∷ []) path d
   Ok (record { nodes = nodes; matrices = matrices; vehicles = vehicles; dimensions = dimensions; groups = groups; pairs = pairs; allowed = allowed_rows; search = search_values })
