@@ -4,6 +4,8 @@
 mod dimensions;
 mod groups;
 mod limits;
+mod matrices;
+mod model;
 mod searches;
 mod stop_rows;
 mod vehicles;

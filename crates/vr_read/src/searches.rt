@@ -13,7 +13,7 @@ use vr_json::{
 use vr_model::{First, Improve, Neighbourhood, NoMemory, SearchRow, Seq};
 
 // The neighbourhoods, in the order of their words.
-fn all_neighbourhoods(alloc: Global) -> Result<Seq<Neighbourhood>, NoMemory>
+pub(crate) fn all_neighbourhoods(alloc: Global) -> Result<Seq<Neighbourhood>, NoMemory>
     ensures { IfOk result (λ all. all ≡ all_of_them) }
 {
     let mut all = Seq::new(alloc);
