@@ -4,3 +4,4 @@ pub mod Dimensions
 pub mod Visits
 pub mod Searches
 pub mod Models
+pub mod Backward

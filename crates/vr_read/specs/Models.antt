@@ -42,19 +42,49 @@ model_table path d = do
     dimensions = others.dimensions; groups = others.groups; pairs = others.pairs; allowed = others.allowed; search = others.search;
   })
 
--- each of the numbers below n in order: the first fault is the answer
+-- each of some numbers in order keeps a rule: the first fault is the answer
 unfoldable pub for_all : List ℕ → (ℕ → Result ⊤ Fault) → Result ⊤ Fault
 for_all [] rule = Ok tt
 for_all (k ∷ ks) rule = rule k >>= λ passed. for_all ks rule
 
+-- where the costs of vehicle v stand, also where they are absent
+abbrev pub costs_path : List ℕ → ℕ → List ℕ
+costs_path path v = name_path (item_path (name_path path (codes "vehicles")) v) (codes "costs")
+
+-- where dimension d stands
+abbrev pub dimension_path : List ℕ → ℕ → List ℕ
+dimension_path path d = item_path (name_path path (codes "dimensions")) d
+
+-- where the matrix of evaluator k of dimension d stands
+abbrev pub matrix_path : List ℕ → ℕ → ℕ → List ℕ
+matrix_path path d k = name_path (item_path (name_path (dimension_path path d) (codes "evaluators")) k) (codes "matrix")
+
+-- where the first solution strategy stands
+abbrev pub first_path : List ℕ → List ℕ
+first_path path = name_path (name_path path (codes "search")) (codes "first")
+
+-- no cost matrix of a vehicle has a negative entry
+abbrev pub costs_rule : List ℕ → Model → ℕ → Result ⊤ Fault
+costs_rule path model v = refuse_if (has_negative_cost model v) NegativeCost (costs_path path v)
+
+-- no matrix of an evaluator has an entry that is too large for a dimension
+abbrev pub entries_rule : List ℕ → Model → ℕ → ℕ → Result ⊤ Fault
+entries_rule path model d k = refuse_if (has_large_entry model d k) LargeTransit (matrix_path path d k)
+
+abbrev pub dimension_entries_rule : List ℕ → Model → ℕ → Result ⊤ Fault
+dimension_entries_rule path model d = for_all (below (length (dimension_at model d).evaluators)) (entries_rule path model d)
+
+-- no dimension with breaks or span costs has a negative transit
+abbrev pub transits_rule : List ℕ → Model → ℕ → Result ⊤ Fault
+transits_rule path model d = refuse_if (goes_back model d) NegativeTransit (dimension_path path d)
+
 -- the rules on the whole model, in order
 unfoldable pub rules : List ℕ → Model → Result ⊤ Fault
 rules path model = do
-  costs ← for_all (below (length model.vehicles)) (λ v. refuse_if (has_negative_cost model v) NegativeCost (name_path (item_path (name_path path (codes "vehicles")) v) (codes "costs")))
-  entries ← for_all (below (length model.dimensions)) (λ d. for_all (below (length (dimension_at model d).evaluators)) (λ k.
-      refuse_if (has_large_entry model d k) LargeTransit (name_path (item_path (name_path (item_path (name_path path (codes "dimensions")) d) (codes "evaluators")) k) (codes "matrix"))))
-  transits ← for_all (below (length model.dimensions)) (λ d. refuse_if (goes_back model d) NegativeTransit (item_path (name_path path (codes "dimensions")) d))
-  refuse_if (cannot_save model) UnlikeVehicles (name_path (name_path path (codes "search")) (codes "first"))
+  costs ← for_all (below (length model.vehicles)) (costs_rule path model)
+  entries ← for_all (below (length model.dimensions)) (dimension_entries_rule path model)
+  transits ← for_all (below (length model.dimensions)) (transits_rule path model)
+  refuse_if (cannot_save model) UnlikeVehicles (first_path path)
 
 -- a model
 unfoldable pub read_model : ReaderOf Model
