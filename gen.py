@@ -9,9 +9,10 @@ def nm(t): return t if isinstance(t, str) else t[0]
 def fact(kind, t):
     f = "c.in_%s-%s.ensures" % (kind, nm(t))
     if isinstance(t, str): return f
+    if t[1] == "raw": return t[2] % f
     if t[1] == "default": return "(otherwise _ _ _ _ %s %s)" % (t[2], f)
     return "(asked _ %s %s %s)" % (t[1], t[2], f)
-def gen(path, spec, names, steps, generic=False, rewrite=True, first_auto=0, extra_use="", final="gives (search rules)", skip=()):
+def gen(path, spec, names, steps, generic=False, rewrite=True, first_auto=0, extra_use="", extra="", final="gives (search rules)", skip=()):
     d = "/work/h-json/crates/vr_read/proofs/" + path
     os.makedirs(d, exist_ok=True)
     mod = "Rattle.vr_read.proofs." + path.replace("/", ".")
@@ -30,5 +31,6 @@ def gen(path, spec, names, steps, generic=False, rewrite=True, first_auto=0, ext
         t = nm(t)
         out += "\npub returns-in_err-%s : goal.returns-in_err-%s\nunfolding %s\nreturns-in_err-%s %s = %s\n" % (t, t, " ".join(names), t, arg, pre % body)
     out += "\npub returns : goal.returns\nunfolding %s\nreturns %s = %s\n" % (" ".join(names), arg, pre % chain(None, steps, final, generic))
+    out += extra
     open(d + "/Answers.antt", "w").write(out)
 exec(open(sys.argv[1]).read())

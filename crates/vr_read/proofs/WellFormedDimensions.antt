@@ -14,8 +14,11 @@ use Rattle.vr_model.specs.declared.records.Model.{Model}
 use Rattle.vr_model.specs.declared.records.Dimension.{Dimension}
 use Rattle.vr_model.specs.declared.records.StopRow.{StopRow}
 use Rattle.vr_read.specs.StopRows.{interval, soft, stop_row, break_row, vehicle_breaks}
-use Rattle.vr_read.specs.Dimensions.{evaluator, capped, name, dimension}
-use Rattle.vr_read.proofs.WellFormedParts.{EachEnsures, EachFresh, gives, after, any_value, weaker, whole_ensures, below_ensures, text_ensures, required_ensures, optional_ensures, maybe_ensures, refuse_if_ensures, array_ensures, full_array_ensures, for_each_ensures, pair_ensures, replicated}
+use Rattle.vr_read.specs.declared.dimensions.Transits.{Transits}
+use Rattle.vr_read.specs.declared.dimensions.Bounds.{Bounds}
+use Rattle.vr_read.specs.declared.dimensions.Rows.{Rows}
+use Rattle.vr_read.specs.Dimensions.{evaluator, capped, name, transits, bounds, rows as stop_tables, dimension}
+use Rattle.vr_read.proofs.WellFormedParts.{EachEnsures, EachFresh, IsFull, gives, after, any_value, weaker, whole_ensures, below_ensures, text_ensures, required_ensures, optional_ensures, maybe_ensures, refuse_if_ensures, array_ensures, full_array_ensures, for_each_ensures, pair_ensures, replicated}
 use Rattle.vr_read.proofs.Distinct.{numbered_array_ensures}
 use Rattle.vr_read.proofs.WellFormedVehicles.{visit_ensures}
 
@@ -131,23 +134,62 @@ module _ (model : Model) where
   vehicle_rows : (rows : List StopRow) → AreStopRows 100 (λ v. v < length model.vehicles) rows → AreVehicleRows model rows
   vehicle_rows rows h = record { number_of_rows = h.number_of_rows; each_key_is_vehicle = h.each_key; no_key_twice = h.no_key_twice; each_row = h.each_row }
 
-  pub dimension_ensures : EachFresh (IsDimension model) (λ other read. bytes_eq other.name read.name) (dimension model.nodes (length model.matrices) model.vehicles)
-  unfolding dimension
-  dimension_ensures earlier path d =
+  -- the evaluators that are read, and the number of each vehicle's one
+  record AreTransits (read : Transits) : Type 0 where
+    number_of_evaluators : HasLength 1 8 read.evaluators
+    each_evaluator : All (IsEvaluator model) read.evaluators
+    numbers : IsFull (length model.vehicles) (λ k. k < length read.evaluators) read.vehicle_evaluators
+
+  transits_ensure : EachEnsures AreTransits (transits model.nodes (length model.matrices) (length model.vehicles))
+  unfolding transits
+  transits_ensure path d =
       let vehicles : ℕ = length model.vehicles in
-      after (required_ensures (codes "name") (name_ensures earlier) path d) λ bytes name_ok.
       after (required_ensures (codes "evaluators") (array_ensures 1 8 (λ so_far. evaluator_ensures model)) path d) λ evaluators evaluators_ok.
       after (optional_ensures (codes "vehicle_evaluators") (replicate vehicles 0) (replicated vehicles (λ k. k < length evaluators) 0 (omega (arith, evaluators_ok.0.at_least)))
       (full_array_ensures vehicles (λ so_far. below_ensures (length evaluators))) path d) λ vehicle_evaluators numbers_ok.
+      gives (record { number_of_evaluators = evaluators_ok.0; each_evaluator = evaluators_ok.1; numbers = numbers_ok })
+
+  -- the bounds and visit times that are read
+  record AreBounds (read : Bounds) : Type 0 where
+    slack_max_in_range : IsIn (pos 0) horizon read.slack_max
+    capacities : IsFull (length model.vehicles) (IsIn (pos 0) horizon) read.capacities
+    visit_times : IsFull model.nodes (IsIn (pos 0) greatest_value) read.visit
+
+  bounds_ensure : EachEnsures AreBounds (bounds model.nodes (length model.vehicles))
+  unfolding bounds
+  bounds_ensure path d =
       after (required_ensures (codes "slack_max") capped_ensures path d) λ slack_max slack_ok.
-      after (required_ensures (codes "capacity") (for_each_ensures vehicles (λ so_far. capped_ensures)) path d) λ capacities capacities_ok.
+      after (required_ensures (codes "capacity") (for_each_ensures (length model.vehicles) (λ so_far. capped_ensures)) path d) λ capacities capacities_ok.
       after any_value λ fix_start _.
       after (optional_ensures (codes "visit") (replicate model.nodes (pos 0)) (replicated model.nodes (IsIn (pos 0) greatest_value) (pos 0) (nothing_in_range _))
       (full_array_ensures model.nodes (λ so_far. whole_ensures (pos 0) greatest_value)) path d) λ visit_times times_ok.
+      gives (record { slack_max_in_range = slack_ok; capacities = capacities_ok; visit_times = times_ok })
+
+  -- the rows and breaks that are read
+  record AreStopTables (read : Rows) : Type 0 where
+    rows_of_visits : AreVisitRows model read.nodes
+    rows_of_starts : AreVehicleRows model read.starts
+    rows_of_ends : AreVehicleRows model read.ends
+    breaks : AreRows (λ entry. entry.vehicle) 100 (λ v. v < length model.vehicles) AreBreaks read.breaks
+
+  stop_tables_ensure : EachEnsures AreStopTables (stop_tables model.nodes (length model.vehicles) model.vehicles)
+  unfolding stop_tables
+  stop_tables_ensure path d =
+      let vehicles : ℕ = length model.vehicles in
       after (stop_rows_ensure (λ node. IsTrue (is_visit model node)) (codes "nodes") (codes "node") 1000 _ (visit_ensures model) path d) λ nodes nodes_ok.
       after (stop_rows_ensure (λ v. v < vehicles) (codes "starts") (codes "vehicle") 100 _ (below_ensures vehicles) path d) λ starts starts_ok.
       after (stop_rows_ensure (λ v. v < vehicles) (codes "ends") (codes "vehicle") 100 _ (below_ensures vehicles) path d) λ ends ends_ok.
       after (rows_ensure (λ entry. entry.vehicle) (λ v. v < vehicles) AreBreaks (codes "breaks") 100 _ (vehicle_breaks_ensures vehicles) path d) λ breaks breaks_ok.
+      gives (record { rows_of_visits = visit_rows nodes nodes_ok; rows_of_starts = vehicle_rows starts starts_ok; rows_of_ends = vehicle_rows ends ends_ok; breaks = breaks_ok })
+
+  pub dimension_ensures : EachFresh (IsDimension model) (λ other read. bytes_eq other.name read.name) (dimension model.nodes (length model.matrices) (length model.vehicles) model.vehicles)
+  unfolding dimension
+  dimension_ensures earlier path d =
+      let vehicles : ℕ = length model.vehicles in
+      after (required_ensures (codes "name") (name_ensures earlier) path d) λ bytes name_ok.
+      after (transits_ensure path d) λ by_vehicle transits_ok.
+      after (bounds_ensure path d) λ within bounds_ok.
+      after (stop_tables_ensure path d) λ stops stops_ok.
       after (optional_ensures (codes "span_cost") (replicate vehicles (pos 0)) (replicated vehicles (IsIn (pos 0) greatest_coefficient) (pos 0) (nothing_in_range _))
       (for_each_ensures vehicles (λ so_far. whole_ensures (pos 0) greatest_coefficient)) path d) λ span_costs spans_ok.
       after (optional_ensures (codes "global_span_cost") (pos 0) (nothing_in_range _) (whole_ensures (pos 0) greatest_coefficient) path d) λ global_span_cost global_ok.
@@ -155,22 +197,22 @@ module _ (model : Model) where
       gives (
         record {
           length_of_name = name_ok.0;
-          number_of_evaluators = evaluators_ok.0;
-          each_evaluator = evaluators_ok.1;
-          evaluator_of_each_vehicle = numbers_ok.one_for_each;
-          vehicle_evaluators_in_range = numbers_ok.each_entry;
-          slack_max_in_range = slack_ok;
-          capacity_of_each_vehicle = capacities_ok.one_for_each;
-          capacities_in_range = capacities_ok.each_entry;
-          visit_time_of_each_node = times_ok.one_for_each;
-          visit_times_in_range = times_ok.each_entry;
-          rows_of_visits = visit_rows nodes nodes_ok;
-          rows_of_starts = vehicle_rows starts starts_ok;
-          rows_of_ends = vehicle_rows ends ends_ok;
-          number_of_breaks = breaks_ok.number_of_rows;
-          each_break_of_vehicle = breaks_ok.each_key;
-          breaks_of_no_vehicle_twice = breaks_ok.no_key_twice;
-          each_breaks = breaks_ok.each_row;
+          number_of_evaluators = transits_ok.number_of_evaluators;
+          each_evaluator = transits_ok.each_evaluator;
+          evaluator_of_each_vehicle = transits_ok.numbers.one_for_each;
+          vehicle_evaluators_in_range = transits_ok.numbers.each_entry;
+          slack_max_in_range = bounds_ok.slack_max_in_range;
+          capacity_of_each_vehicle = bounds_ok.capacities.one_for_each;
+          capacities_in_range = bounds_ok.capacities.each_entry;
+          visit_time_of_each_node = bounds_ok.visit_times.one_for_each;
+          visit_times_in_range = bounds_ok.visit_times.each_entry;
+          rows_of_visits = stops_ok.rows_of_visits;
+          rows_of_starts = stops_ok.rows_of_starts;
+          rows_of_ends = stops_ok.rows_of_ends;
+          number_of_breaks = stops_ok.breaks.number_of_rows;
+          each_break_of_vehicle = stops_ok.breaks.each_key;
+          breaks_of_no_vehicle_twice = stops_ok.breaks.no_key_twice;
+          each_breaks = stops_ok.breaks.each_row;
           span_cost_of_each_vehicle = spans_ok.one_for_each;
           span_costs_in_range = spans_ok.each_entry;
           global_span_cost_in_range = global_ok;

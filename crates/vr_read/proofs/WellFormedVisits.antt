@@ -135,7 +135,7 @@ module _ (model : Model) where
       }))
       1 vehicles (record { each_is_vehicle = All-nil (λ v. v < vehicles); no_vehicle_twice = refl })
 
-  allowed_ensures : EachFresh (IsAllowed model) (λ other row. other.node == row.node) (allowed model.nodes model.vehicles)
+  allowed_ensures : EachFresh (IsAllowed model) (λ other row. other.node == row.node) (allowed model.nodes (length model.vehicles) model.vehicles)
   unfolding allowed
   allowed_ensures earlier path d =
       after (required_ensures (codes "node") (visit_ensures model) path d) λ node node_ok.
@@ -144,5 +144,5 @@ module _ (model : Model) where
       after any_value λ others _.
       gives (record { node_is_visit = node_ok; number_of_vehicles = permitted_ok.0; vehicles_in_range = permitted_ok.1.each_is_vehicle; no_vehicle_twice = permitted_ok.1.no_vehicle_twice }, apart)
 
-  pub allowed_rows_ensure : (hi : ℕ) → EachEnsures (λ rows. HasLength 0 hi rows × (All (IsAllowed model) rows × IsTrue (is_distinct (map (λ row. row.node) rows)))) (array 0 hi (allowed model.nodes model.vehicles))
+  pub allowed_rows_ensure : (hi : ℕ) → EachEnsures (λ rows. HasLength 0 hi rows × (All (IsAllowed model) rows × IsTrue (is_distinct (map (λ row. row.node) rows)))) (array 0 hi (allowed model.nodes (length model.vehicles) model.vehicles))
   allowed_rows_ensure hi = numbered_array_ensures (λ row. row.node) 0 hi allowed_ensures

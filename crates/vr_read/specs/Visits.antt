@@ -52,10 +52,10 @@ allowed_vehicle vehicles so_far path d = do
   Ok vehicle
 
 -- the vehicles that a visit allows; no earlier row is of this visit
-unfoldable pub allowed : ℕ → List Vehicle → List Allowed → ReaderOf Allowed
-allowed n vehicles earlier path d = do
+unfoldable pub allowed : ℕ → ℕ → List Vehicle → List Allowed → ReaderOf Allowed
+allowed n fleet vehicles earlier path d = do
   node ← required (codes "node") (visit n vehicles) path d
   fresh ← refuse_if (list_any (λ row. row.node == node) earlier) Repeated (name_path path (codes "node"))
-  permitted ← required (codes "vehicles") (array 1 (length vehicles) (allowed_vehicle (length vehicles))) path d
+  permitted ← required (codes "vehicles") (array 1 fleet (allowed_vehicle fleet)) path d
   others ← known (codes "node" ∷ codes "vehicles" ∷ []) path d
   Ok (record { node = node; vehicles = permitted })
