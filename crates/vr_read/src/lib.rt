@@ -16,6 +16,7 @@ mod vehicles;
 
 pub use dimensions::DimensionTable;
 pub use groups::{AllowedTable, GroupTable, PairTable};
+pub use model::read_model;
 pub use searches::{NeighbourhoodTable, SearchTable};
 pub use stop_rows::{StopTable, VehicleBreaksTable};
 pub use vehicles::{VehicleTable, Visit};

@@ -1,10 +1,13 @@
-//! The table of a model.
+//! The table of a model, and models.
 
+ghost use Rattle.std.specs.Prelude.{IfOk};
 ghost use Rattle.serde_json.specs.View.{view};
 ghost use Rattle.vr_json.specs.Reading.{Answers};
-ghost use Rattle.vr_read.specs.Models.{model_table, parts as parts_of};
+ghost use Rattle.vr_model.specs.WellFormed.{IsWellFormed};
+ghost use Rattle.vr_read.specs.Models.{model_table, parts as parts_of, read_model as read_model_of};
 
 use crate::matrices::MatrixTable;
+use crate::model_rules::keep_rules;
 use crate::searches::default_search;
 use crate::{AllowedTable, DimensionTable, GroupTable, PairTable, SearchTable, VehicleTable, Visit};
 use serde_json::Value;
@@ -77,8 +80,8 @@ fn read_parts(
     })
 }
 
-/// The table of a model, without the rules on the whole model.
-pub fn read_table(alloc: Global, value: &Value, path: &Path) -> Result<Model, ReadFail>
+// The table of a model, without the rules on the whole model.
+fn read_table(alloc: Global, value: &Value, path: &Path) -> Result<Model, ReadFail>
     ensures { Answers result (model_table path.now (view value.now)) }
 {
     let nodes = Count { lo: 1, hi: 1000 };
@@ -121,6 +124,21 @@ pub fn read_table(alloc: Global, value: &Value, path: &Path) -> Result<Model, Re
         allowed: parts.allowed,
         search: parts.search,
     })
+}
+
+/// The model that stands at a path (`RoutingModel` in OR-Tools): its table, and then the rules on the
+/// whole model.
+///
+/// Refused with the first fault in the order of the table: each field in turn, absent or read, and then
+/// a field that the table does not name; and then as the rules say: `NegativeCost`, `LargeTransit`,
+/// `NegativeTransit`, `UnlikeVehicles`. A model that is given is well formed.
+pub fn read_model(alloc: Global, value: &Value, path: &Path) -> Result<Model, ReadFail>
+    ensures found { Answers result (read_model_of path.now (view value.now)) }
+    ensures well_formed { IfOk result IsWellFormed }
+{
+    let model = read_table(alloc, value, path)?;
+    keep_rules(alloc, &model, path)?;
+    Ok(model)
 }
 
 // The fields of a model.
