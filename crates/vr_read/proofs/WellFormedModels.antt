@@ -109,8 +109,14 @@ table_ensures path d =
     after (for_every λ (other : Model). parts_ensure (over nodes matrices vehicles other) path d) λ others others_ok.
     after any_value λ unknown _.
     let read : Model = record {
-      nodes = nodes; matrices = matrices; vehicles = vehicles;
-      dimensions = others.dimensions; groups = others.groups; pairs = others.pairs; allowed = others.allowed; search = others.search;
+      nodes = nodes;
+      matrices = matrices;
+      vehicles = vehicles;
+      dimensions = others.dimensions;
+      groups = others.groups;
+      pairs = others.pairs;
+      allowed = others.allowed;
+      search = others.search;
     } in
     gives (record {
       has_parts = record { number_of_vehicles = (vehicles_ok read).0; each_matrix = matrices_ok.1; each_vehicle = (vehicles_ok read).1; each_dimension = (others_ok read).dimensions.1.0 };

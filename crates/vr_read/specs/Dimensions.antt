@@ -1,8 +1,7 @@
 -- The table of dimensions.
-use Rattle.std.specs.Prelude.{ℕ, ◌^◌, ◌-◌, List, [], ◌∷◌, length, replicate, Bool, false, ℤ, pos, int_lt, if◌then◌else◌, codes, Result, Ok}
+use Rattle.std.specs.Prelude.{ℕ, ◌^◌, ◌-◌, List, [], ◌∷◌, length, replicate, false, ℤ, pos, int_lt, if◌then◌else◌, codes, Ok}
 use Rattle.std.specs.List.{list_any}
 use Rattle.std.specs.Str.{bytes_eq}
-use Rattle.serde_json.specs.Data.{Data}
 use Rattle.vr_json.specs.declared.fault.Cause.TheVariants.{Repeated}
 use Rattle.vr_json.specs.Reading.{◌>>=◌, ReaderOf, required, optional, maybe, known, array, for_each, refuse_if}
 use Rattle.vr_json.specs.Kinds.{whole, below, text, flag}
@@ -75,8 +74,17 @@ dimension n matrices fleet vehicles earlier path d = do
   others ← known (codes "name" ∷ codes "evaluators" ∷ codes "vehicle_evaluators" ∷ codes "slack_max" ∷ codes "capacity" ∷ codes "fix_start" ∷ codes "visit" ∷ codes "nodes"
       ∷ codes "starts" ∷ codes "ends" ∷ codes "breaks" ∷ codes "span_cost" ∷ codes "global_span_cost" ∷ []) path d
   Ok (record {
-    name = bytes; evaluators = by_vehicle.evaluators; vehicle_evaluators = by_vehicle.vehicle_evaluators;
-    slack_max = within.slack_max; capacities = within.capacities; fix_start = within.fix_start; visit = within.visit;
-    nodes = stops.nodes; starts = stops.starts; ends = stops.ends; breaks = stops.breaks;
-    span_costs = span_costs; global_span_cost = global_span_cost;
+    name = bytes;
+    evaluators = by_vehicle.evaluators;
+    vehicle_evaluators = by_vehicle.vehicle_evaluators;
+    slack_max = within.slack_max;
+    capacities = within.capacities;
+    fix_start = within.fix_start;
+    visit = within.visit;
+    nodes = stops.nodes;
+    starts = stops.starts;
+    ends = stops.ends;
+    breaks = stops.breaks;
+    span_costs = span_costs;
+    global_span_cost = global_span_cost;
   })

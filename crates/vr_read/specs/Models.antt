@@ -1,6 +1,5 @@
 -- The reading of a model: its table, and then the rules on the whole model.
-use Rattle.std.specs.Prelude.{ℕ, List, [], ◌∷◌, length, pos, codes, Result, Ok}
-use Rattle.serde_json.specs.Data.{Data}
+use Rattle.std.specs.Prelude.{ℕ, List, [], ◌∷◌, length, pos, codes, Ok}
 use Rattle.vr_json.specs.Reading.{◌>>=◌, ReaderOf, required, optional, known, array}
 use Rattle.vr_json.specs.Kinds.{whole, count}
 use Rattle.vr_model.specs.declared.records.Model.{Model}
@@ -32,8 +31,14 @@ model_table path d = do
   others ← parts nodes (length matrices) (length vehicles) vehicles path d
   unknown ← known (codes "format" ∷ codes "nodes" ∷ codes "matrices" ∷ codes "vehicles" ∷ codes "dimensions" ∷ codes "groups" ∷ codes "pairs" ∷ codes "allowed" ∷ codes "search" ∷ []) path d
   Ok (record {
-    nodes = nodes; matrices = matrices; vehicles = vehicles;
-    dimensions = others.dimensions; groups = others.groups; pairs = others.pairs; allowed = others.allowed; search = others.search;
+    nodes = nodes;
+    matrices = matrices;
+    vehicles = vehicles;
+    dimensions = others.dimensions;
+    groups = others.groups;
+    pairs = others.pairs;
+    allowed = others.allowed;
+    search = others.search;
   })
 
 -- a model

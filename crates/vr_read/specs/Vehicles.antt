@@ -1,7 +1,6 @@
 -- The tables of matrices and vehicles, and the numbers of nodes, matrices, vehicles and visits that other tables name.
-use Rattle.std.specs.Prelude.{ℕ, ◌||◌, ◌==◌, List, [], ◌∷◌, Bool, ℤ, pos, codes, flat_map, Result, Ok}
+use Rattle.std.specs.Prelude.{ℕ, ◌||◌, ◌==◌, List, [], ◌∷◌, Bool, pos, codes, flat_map, Ok}
 use Rattle.std.specs.List.{list_any}
-use Rattle.serde_json.specs.Data.{Data}
 use Rattle.vr_json.specs.declared.fault.Cause.TheVariants.{NotAVisit}
 use Rattle.vr_json.specs.Reading.{◌>>=◌, ReaderOf, required, optional, known, array, refuse_if}
 use Rattle.vr_json.specs.Kinds.{whole, below, choice}

@@ -207,7 +207,12 @@ impl Reader for AllowedTable<'_> {
             entry: AllowedVehicle { fleet: self.fleet },
         };
         let node = required(alloc, value, "node", &path, &self.visit)?;
-        refuse_if(alloc, has_allowed(earlier, node), Cause::Repeated, path.field("node"))?;
+        refuse_if(
+            alloc,
+            has_allowed(earlier, node),
+            Cause::Repeated,
+            path.field("node"),
+        )?;
         let vehicles = required(alloc, value, "vehicles", &path, &permitted)?;
         known(alloc, value, &["node", "vehicles"], &path)?;
         Ok(Allowed { node, vehicles })

@@ -9,7 +9,9 @@ ghost use Rattle.vr_read.specs.Models.{model_table, parts as parts_of, read_mode
 use crate::matrices::MatrixTable;
 use crate::model_rules::keep_rules;
 use crate::searches::default_search;
-use crate::{AllowedTable, DimensionTable, GroupTable, PairTable, SearchTable, VehicleTable, Visit};
+use crate::{
+    AllowedTable, DimensionTable, GroupTable, PairTable, SearchTable, VehicleTable, Visit,
+};
 use serde_json::Value;
 use std::alloc::Global;
 use vr_json::{Array, Count, Path, ReadFail, Whole, known, optional, required};

@@ -107,12 +107,22 @@ impl<K: Reader<Item = u32>> Reader for StopTable<'_, K> {
             entry: IntervalTable,
         };
         let key = required(alloc, value, self.name, &path, &self.key)?;
-        refuse_if(alloc, has_row(earlier, key), Cause::Repeated, path.field(self.name))?;
+        refuse_if(
+            alloc,
+            has_row(earlier, key),
+            Cause::Repeated,
+            path.field(self.name),
+        )?;
         let window = maybe(alloc, value, "window", &path, &IntervalTable)?;
         let none = Seq::new(alloc);
         let forbidden = optional(alloc, value, "forbidden", &path, none, &intervals)?;
         let soft = maybe(alloc, value, "soft", &path, &SoftTable)?;
-        known(alloc, value, &[self.name, "window", "forbidden", "soft"], &path)?;
+        known(
+            alloc,
+            value,
+            &[self.name, "window", "forbidden", "soft"],
+            &path,
+        )?;
         Ok(StopRow {
             key,
             window,

@@ -54,7 +54,12 @@ impl Reader for VehicleTable {
         let fixed = optional(alloc, value, "fixed", &path, 0, &cost)?;
         let policy = Choice { words: &words };
         let policy = optional(alloc, value, "policy", &path, Policy::Any, &policy)?;
-        known(alloc, value, &["start", "end", "costs", "fixed", "policy"], &path)?;
+        known(
+            alloc,
+            value,
+            &["start", "end", "costs", "fixed", "policy"],
+            &path,
+        )?;
         Ok(Vehicle {
             start,
             end,
@@ -96,7 +101,12 @@ impl Reader for Visit<'_> {
         place: Place<'_>,
     ) -> Result<u32, ReadFail> {
         let node = Below { count: self.nodes }.read(alloc, &[], value, place)?;
-        refuse_if(alloc, is_terminal(self.vehicles, node), Cause::NotAVisit, place)?;
+        refuse_if(
+            alloc,
+            is_terminal(self.vehicles, node),
+            Cause::NotAVisit,
+            place,
+        )?;
         Ok(node)
     }
 }

@@ -1,7 +1,6 @@
 use Rattle.std.proofs.Common.{refl}
 use Rattle.serde_json.specs.View.{view}
 use Rattle.vr_json.proofs.Steps.{then, stops, gives}
-use Rattle.vr_json.specs.Reading.{Answers}
 use Rattle.vr_read.specs.Models.{read_model}
 use Rattle.vr_read.proofs.WellFormedModels.{has_parts_answer, well_formed_answer}
 use Rattle.vr_read.proofs.model.read_model.Goals as goal

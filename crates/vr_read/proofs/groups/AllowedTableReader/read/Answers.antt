@@ -1,5 +1,5 @@
-use Rattle.std.proofs.Common.{refl, rules}
-use Rattle.vr_json.proofs.Steps.{then, stops, gives, asked, otherwise}
+use Rattle.std.proofs.Common.{rules}
+use Rattle.vr_json.proofs.Steps.{then, stops, gives, asked}
 use Rattle.vr_read.specs.Visits.{allowed}
 use Rattle.vr_read.proofs.groups.AllowedTableReader.read.Goals as goal
 

@@ -1,5 +1,5 @@
 use Rattle.std.proofs.Common.{refl, rules}
-use Rattle.vr_json.proofs.Steps.{then, stops, gives, asked, otherwise}
+use Rattle.vr_json.proofs.Steps.{then, stops, gives, asked}
 use Rattle.vr_read.specs.Visits.{group_node}
 use Rattle.vr_read.proofs.groups.GroupNodeReader.read.Goals as goal
 

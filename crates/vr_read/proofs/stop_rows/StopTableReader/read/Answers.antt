@@ -1,4 +1,4 @@
-use Rattle.std.proofs.Common.{refl, rules}
+use Rattle.std.proofs.Common.{rules}
 use Rattle.vr_json.proofs.Steps.{then, stops, gives, asked, otherwise}
 use Rattle.vr_read.specs.StopRows.{stop_row}
 use Rattle.vr_read.proofs.stop_rows.StopTableReader.read.Goals as goal

@@ -1,5 +1,5 @@
-use Rattle.std.proofs.Common.{refl, rules}
-use Rattle.vr_json.proofs.Steps.{then, stops, gives, asked, otherwise}
+use Rattle.std.proofs.Common.{rules}
+use Rattle.vr_json.proofs.Steps.{then, stops, gives, asked}
 use Rattle.vr_read.specs.StopRows.{vehicle_breaks}
 use Rattle.vr_read.proofs.stop_rows.VehicleBreaksTableReader.read.Goals as goal
 

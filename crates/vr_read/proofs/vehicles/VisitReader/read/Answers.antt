@@ -1,5 +1,5 @@
 use Rattle.std.proofs.Common.{refl, rules}
-use Rattle.vr_json.proofs.Steps.{then, stops, gives, asked, otherwise}
+use Rattle.vr_json.proofs.Steps.{then, stops, gives, asked}
 use Rattle.vr_read.specs.Vehicles.{visit}
 use Rattle.vr_read.proofs.vehicles.VisitReader.read.Goals as goal
 
