@@ -1,2 +1,4 @@
 pub mod Lists
 pub mod LineFeeds
+pub mod Steps
+pub mod Readings

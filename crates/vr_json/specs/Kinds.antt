@@ -51,23 +51,23 @@ choice_in words d = do
   ok_or (option_map (λ w. w.1) (find (λ w. bytes_eq w.0 s) words)) UnknownWord
 
 -- the same at a path
-abbrev pub whole : ℤ → ℤ → ReaderOf ℤ
+unfoldable pub whole : ℤ → ℤ → ReaderOf ℤ
 whole lo hi path d = at_path path (whole_in lo hi d)
 
-abbrev pub text : ℕ → ℕ → ReaderOf (List ℕ)
+unfoldable pub text : ℕ → ℕ → ReaderOf (List ℕ)
 text lo hi path d = at_path path (text_in lo hi d)
 
-abbrev pub word : List (List ℕ) → ReaderOf ℕ
+unfoldable pub word : List (List ℕ) → ReaderOf ℕ
 word words path d = at_path path (word_in words d)
 
-abbrev pub flag : ReaderOf Bool
+unfoldable pub flag : ReaderOf Bool
 flag path d = at_path path (flag_in d)
 
-abbrev pub count : ℕ → ℕ → ReaderOf ℕ
+unfoldable pub count : ℕ → ℕ → ReaderOf ℕ
 count lo hi path d = at_path path (count_in lo hi d)
 
-abbrev pub below : ℕ → ReaderOf ℕ
+unfoldable pub below : ℕ → ReaderOf ℕ
 below n path d = at_path path (below_in n d)
 
-abbrev pub choice : {A : Type 0} → List (List ℕ × A) → ReaderOf A
+unfoldable pub choice : {A : Type 0} → List (List ℕ × A) → ReaderOf A
 choice words path d = at_path path (choice_in words d)

@@ -14,17 +14,20 @@ use Rattle.vr_json.specs.Causes.{fault_at}
 use Rattle.vr_json.specs.Paths.{name_path, item_path}
 
 -- one step after another: the first error is the answer
+unfoldable pub and_then : {A B E : Type 0} → Result A E → (A → Result B E) → Result B E
+and_then (Ok x) f = f x
+and_then (Err e) f = Err e
+
 infixl 10 ◌>>=◌
 abbrev pub ◌>>=◌ : {A B E : Type 0} → Result A E → (A → Result B E) → Result B E
-Ok x >>= f = f x
-Err e >>= f = Err e
+r >>= f = and_then r f
 
 -- reads a value at a path
 abbrev pub ReaderOf : Type 0 → Type 0
 ReaderOf A = List ℕ → Data → Result A Fault
 
 -- a reading whose cause lies at the value itself
-abbrev pub at_path : {A : Type 0} → List ℕ → Result A Cause → Result A Fault
+unfoldable pub at_path : {A : Type 0} → List ℕ → Result A Cause → Result A Fault
 at_path path (Ok x) = Ok x
 at_path path (Err cause) = Err (fault_at cause path)
 
@@ -45,26 +48,26 @@ Refuses cause path fail = (fault : Fault) → fail ≡ Refused fault → fault �
 -- ---- objects
 
 -- the value of a field, if the object has it; another value than an object is refused
-abbrev pub field : List ℕ → ReaderOf (Option Data)
+unfoldable pub field : List ℕ → ReaderOf (Option Data)
 field key path d = at_path path (ok_or (as_object d) OtherKind) >>= λ members. Ok (get_member key members)
 
-abbrev pub if_present : {A : Type 0} → Result A Fault → (Data → Result A Fault) → Option Data → Result A Fault
+unfoldable pub if_present : {A : Type 0} → Result A Fault → (Data → Result A Fault) → Option Data → Result A Fault
 if_present absent read None = absent
 if_present absent read (Some d) = read d
 
 -- a field that must be there
-abbrev pub required : {A : Type 0} → List ℕ → ReaderOf A → ReaderOf A
+unfoldable pub required : {A : Type 0} → List ℕ → ReaderOf A → ReaderOf A
 required key read path d = field key path d >>= if_present (Err (fault_at Absent (name_path path key))) (read (name_path path key))
 
 -- a field that may be absent, with its value then
-abbrev pub optional : {A : Type 0} → List ℕ → A → ReaderOf A → ReaderOf A
+unfoldable pub optional : {A : Type 0} → List ℕ → A → ReaderOf A → ReaderOf A
 optional key absent read path d = field key path d >>= if_present (Ok absent) (read (name_path path key))
 
-abbrev pub present : {A : Type 0} → Result A Fault → Result (Option A) Fault
+unfoldable pub present : {A : Type 0} → Result A Fault → Result (Option A) Fault
 present reading = reading >>= λ x. Ok (Some x)
 
 -- a field that may be absent, with no value then
-abbrev pub maybe : {A : Type 0} → List ℕ → ReaderOf A → ReaderOf (Option A)
+unfoldable pub maybe : {A : Type 0} → List ℕ → ReaderOf A → ReaderOf (Option A)
 maybe key read path d = field key path d >>= if_present (Ok None) (λ e. present (read (name_path path key) e))
 
 abbrev pub keys_of : Members → List (List ℕ)
@@ -78,11 +81,11 @@ is_named names key = list_any (λ name. bytes_eq name key) names
 abbrev pub unknown_key : List (List ℕ) → Members → Option (List ℕ)
 unknown_key names members = find (λ key. not (is_named names key)) (keys_of members)
 
-abbrev pub if_unknown : List ℕ → Option (List ℕ) → Result ⊤ Fault
+unfoldable pub if_unknown : List ℕ → Option (List ℕ) → Result ⊤ Fault
 if_unknown path None = Ok tt
 if_unknown path (Some key) = Err (fault_at UnknownKey (name_path path key))
 
-abbrev pub known : List (List ℕ) → ReaderOf ⊤
+unfoldable pub known : List (List ℕ) → ReaderOf ⊤
 known names path d = at_path path (ok_or (as_object d) OtherKind) >>= λ members. if_unknown path (unknown_key names members)
 
 -- ---- arrays
@@ -92,33 +95,33 @@ list_of no_items = []
 list_of (item d items) = d ∷ list_of items
 
 -- an array of lo to hi entries
-abbrev pub list : ℕ → ℕ → ReaderOf (List Data)
+unfoldable pub list : ℕ → ℕ → ReaderOf (List Data)
 list lo hi path d = at_path path (ok_or (as_array d) OtherKind)
     >>= λ items. (if nat_le lo (length (list_of items)) && nat_le (length (list_of items)) hi then Ok (list_of items) else Err (fault_at WrongLength path))
 
 -- each entry in order, beside those that were read before it
-abbrev pub entries : {A : Type 0} → (List A → ReaderOf A) → List A → List ℕ → List Data → Result (List A) Fault
+unfoldable pub entries : {A : Type 0} → (List A → ReaderOf A) → List A → List ℕ → List Data → Result (List A) Fault
 entries read earlier path [] = Ok earlier
 entries read earlier path (d ∷ ds) = read earlier (item_path path (length earlier)) d >>= λ x. entries read (earlier ++ x ∷ []) path ds
 
 -- an array of lo to hi such entries
-abbrev pub array : {A : Type 0} → ℕ → ℕ → (List A → ReaderOf A) → ReaderOf (List A)
+unfoldable pub array : {A : Type 0} → ℕ → ℕ → (List A → ReaderOf A) → ReaderOf (List A)
 array lo hi read path d = list lo hi path d >>= entries read [] path
 
 -- an array of two such values
-abbrev pub pair_entries : {A : Type 0} → ReaderOf A → List ℕ → List Data → Result (A × A) Fault
+unfoldable pub pair_entries : {A : Type 0} → ReaderOf A → List ℕ → List Data → Result (A × A) Fault
 pair_entries read path (first ∷ second ∷ []) = read (item_path path 0) first >>= λ x. (read (item_path path 1) second >>= λ y. Ok (x, y))
 pair_entries read path ds = Err (fault_at WrongLength path)
 
-abbrev pub pair : {A : Type 0} → ReaderOf A → ReaderOf (A × A)
+unfoldable pub pair : {A : Type 0} → ReaderOf A → ReaderOf (A × A)
 pair read path d = list 2 2 path d >>= pair_entries read path
 
 -- an array of n values, or one value for all
-abbrev pub for_each : {A : Type 0} → ℕ → (List A → ReaderOf A) → ReaderOf (List A)
+unfoldable pub for_each : {A : Type 0} → ℕ → (List A → ReaderOf A) → ReaderOf (List A)
 for_each n read path d = if is_some (as_array d) then array n n read path d else (read [] path d >>= λ x. Ok (replicate n x))
 
 -- ---- rules
 
 -- nothing, unless a rule is broken
-abbrev pub refuse_if : Bool → Cause → List ℕ → Result ⊤ Fault
+unfoldable pub refuse_if : Bool → Cause → List ℕ → Result ⊤ Fault
 refuse_if broken cause path = if broken then Err (fault_at cause path) else Ok tt

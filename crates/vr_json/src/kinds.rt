@@ -65,7 +65,7 @@ pub fn whole(alloc: Global, value: &Value, lo: i64, hi: i64, path: &Path) -> Res
 /// The entries of an array of `lo` to `hi` entries.
 ///
 /// Refused at `path`: `OtherKind` where it is no array, then `WrongLength`.
-#[tactic(auto, using(crate::proofs::Lists::views))]
+#[tactic(auto, using(crate::proofs::Lists::views), unfolding(crate::specs::Reading::and_then, crate::specs::Reading::at_path, crate::specs::Reading::list))]
 pub fn list<'a>(
     alloc: Global,
     value: &'a Value,

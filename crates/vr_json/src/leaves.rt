@@ -123,12 +123,6 @@ impl Reader for Flag {
     }
 }
 
-/// A string of `lo` to `hi` bytes.
-#[derive(Clone, Copy)]
-pub struct Bytes {
-    pub lo: usize,
-    pub hi: usize,
-}
 
 /// A string that is one of some words, as what the word stands for.
 #[derive(Clone, Copy)]

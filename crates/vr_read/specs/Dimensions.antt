@@ -1,12 +1,8 @@
 -- The table of dimensions.
-use Rattle.std.specs.Prelude.{ℕ, ◌^◌, ◌-◌, List, [], ◌∷◌, length, replicate, Bool, false, ℤ, pos, codes, Option, Some, None, Result, Ok}
-use Rattle.std.specs.Int.{int_min}
+use Rattle.std.specs.Prelude.{ℕ, ◌^◌, ◌-◌, List, [], ◌∷◌, length, replicate, false, ℤ, pos, int_lt, if◌then◌else◌, codes, Ok}
 use Rattle.std.specs.List.{list_any}
 use Rattle.std.specs.Str.{bytes_eq}
-use Rattle.serde_json.specs.Data.{Data}
 use Rattle.vr_json.specs.declared.fault.Cause.TheVariants.{Repeated}
-use Rattle.vr_json.specs.Causes.{fault_at}
-use Rattle.vr_json.specs.Paths.{name_path}
 use Rattle.vr_json.specs.Reading.{◌>>=◌, ReaderOf, required, optional, maybe, known, array, for_each, refuse_if}
 use Rattle.vr_json.specs.Kinds.{whole, below, text, flag}
 use Rattle.vr_model.specs.Numbers.{horizon}
@@ -14,11 +10,14 @@ use Rattle.vr_model.specs.WellFormed.{least_value, greatest_value, greatest_coef
 use Rattle.vr_model.specs.declared.records.Vehicle.{Vehicle}
 use Rattle.vr_model.specs.declared.records.Dimension.{Dimension}
 use Rattle.vr_model.specs.declared.records.Evaluator.{Evaluator}
+use Rattle.vr_read.specs.declared.dimensions.Transits.{Transits}
+use Rattle.vr_read.specs.declared.dimensions.Bounds.{Bounds}
+use Rattle.vr_read.specs.declared.dimensions.Rows.{Rows}
 use Rattle.vr_read.specs.Vehicles.{visit}
 use Rattle.vr_read.specs.StopRows.{stop_row, vehicle_breaks}
 
 -- an evaluator, in a model of n nodes and so many matrices
-abbrev pub evaluator : ℕ → ℕ → ReaderOf Evaluator
+unfoldable pub evaluator : ℕ → ℕ → ReaderOf Evaluator
 evaluator n matrices path d = do
   matrix ← maybe (codes "matrix") (below matrices) path d
   values ← optional (codes "values") [] (array n n (λ so_far. whole least_value greatest_value)) path d
@@ -26,35 +25,66 @@ evaluator n matrices path d = do
   Ok (record { matrix = matrix; values = values })
 
 -- a whole number of any size that is not negative; above the horizon it is read as the horizon
-abbrev pub capped : ReaderOf ℤ
-capped path d = whole (pos 0) (pos (2 ^ 63 - 1)) path d >>= λ z. Ok (int_min z horizon)
+unfoldable pub capped : ReaderOf ℤ
+capped path d = do
+  z ← whole (pos 0) (pos (2 ^ 63 - 1)) path d
+  Ok (if int_lt horizon z then horizon else z)
 
 -- the name of a dimension, which no earlier one has
-abbrev pub name : List Dimension → ReaderOf (List ℕ)
+unfoldable pub name : List Dimension → ReaderOf (List ℕ)
 name earlier path d = do
   bytes ← text 1 64 path d
   fresh ← refuse_if (list_any (λ dimension. bytes_eq dimension.name bytes) earlier) Repeated path
   Ok bytes
 
--- a dimension, in a model of n nodes, so many matrices and these vehicles
-abbrev pub dimension : ℕ → ℕ → List Vehicle → List Dimension → ReaderOf Dimension
-dimension n matrices vehicles earlier path d = do
-  bytes ← required (codes "name") (name earlier) path d
+-- the evaluators of a dimension, and the number of each vehicle's one, in a model of n nodes, so many matrices and so many vehicles
+unfoldable pub transits : ℕ → ℕ → ℕ → ReaderOf Transits
+transits n matrices fleet path d = do
   evaluators ← required (codes "evaluators") (array 1 8 (λ so_far. evaluator n matrices)) path d
-  vehicle_evaluators ← optional (codes "vehicle_evaluators") (replicate (length vehicles) 0) (array (length vehicles) (length vehicles) (λ so_far. below (length evaluators))) path d
+  vehicle_evaluators ← optional (codes "vehicle_evaluators") (replicate fleet 0) (array fleet fleet (λ so_far. below (length evaluators))) path d
+  Ok (record { evaluators = evaluators; vehicle_evaluators = vehicle_evaluators })
+
+-- the bounds of slacks and cumuls, and the visit times
+unfoldable pub bounds : ℕ → ℕ → ReaderOf Bounds
+bounds n fleet path d = do
   slack_max ← required (codes "slack_max") capped path d
-  capacities ← required (codes "capacity") (for_each (length vehicles) (λ so_far. capped)) path d
+  capacities ← required (codes "capacity") (for_each fleet (λ so_far. capped)) path d
   fix_start ← optional (codes "fix_start") false flag path d
   visit_times ← optional (codes "visit") (replicate n (pos 0)) (array n n (λ so_far. whole (pos 0) greatest_value)) path d
+  Ok (record { slack_max = slack_max; capacities = capacities; fix_start = fix_start; visit = visit_times })
+
+-- the rows of stops, and the breaks
+unfoldable pub rows : ℕ → ℕ → List Vehicle → ReaderOf Rows
+rows n fleet vehicles path d = do
   nodes ← optional (codes "nodes") [] (array 0 1000 (stop_row (codes "node") (visit n vehicles))) path d
-  starts ← optional (codes "starts") [] (array 0 100 (stop_row (codes "vehicle") (below (length vehicles)))) path d
-  ends ← optional (codes "ends") [] (array 0 100 (stop_row (codes "vehicle") (below (length vehicles)))) path d
-  breaks ← optional (codes "breaks") [] (array 0 100 (vehicle_breaks (length vehicles))) path d
-  span_costs ← optional (codes "span_cost") (replicate (length vehicles) (pos 0)) (for_each (length vehicles) (λ so_far. whole (pos 0) greatest_coefficient)) path d
+  starts ← optional (codes "starts") [] (array 0 100 (stop_row (codes "vehicle") (below fleet))) path d
+  ends ← optional (codes "ends") [] (array 0 100 (stop_row (codes "vehicle") (below fleet))) path d
+  breaks ← optional (codes "breaks") [] (array 0 100 (vehicle_breaks fleet)) path d
+  Ok (record { nodes = nodes; starts = starts; ends = ends; breaks = breaks })
+
+-- a dimension, in a model of n nodes, so many matrices and so many vehicles, which are these
+unfoldable pub dimension : ℕ → ℕ → ℕ → List Vehicle → List Dimension → ReaderOf Dimension
+dimension n matrices fleet vehicles earlier path d = do
+  bytes ← required (codes "name") (name earlier) path d
+  by_vehicle ← transits n matrices fleet path d
+  within ← bounds n fleet path d
+  stops ← rows n fleet vehicles path d
+  span_costs ← optional (codes "span_cost") (replicate fleet (pos 0)) (for_each fleet (λ so_far. whole (pos 0) greatest_coefficient)) path d
   global_span_cost ← optional (codes "global_span_cost") (pos 0) (whole (pos 0) greatest_coefficient) path d
   others ← known (codes "name" ∷ codes "evaluators" ∷ codes "vehicle_evaluators" ∷ codes "slack_max" ∷ codes "capacity" ∷ codes "fix_start" ∷ codes "visit" ∷ codes "nodes"
       ∷ codes "starts" ∷ codes "ends" ∷ codes "breaks" ∷ codes "span_cost" ∷ codes "global_span_cost" ∷ []) path d
   Ok (record {
-    name = bytes; evaluators = evaluators; vehicle_evaluators = vehicle_evaluators; slack_max = slack_max; capacities = capacities; fix_start = fix_start; visit = visit_times;
-    nodes = nodes; starts = starts; ends = ends; breaks = breaks; span_costs = span_costs; global_span_cost = global_span_cost;
+    name = bytes;
+    evaluators = by_vehicle.evaluators;
+    vehicle_evaluators = by_vehicle.vehicle_evaluators;
+    slack_max = within.slack_max;
+    capacities = within.capacities;
+    fix_start = within.fix_start;
+    visit = within.visit;
+    nodes = stops.nodes;
+    starts = stops.starts;
+    ends = stops.ends;
+    breaks = stops.breaks;
+    span_costs = span_costs;
+    global_span_cost = global_span_cost;
   })

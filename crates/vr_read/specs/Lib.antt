@@ -3,4 +3,8 @@ pub mod StopRows
 pub mod Dimensions
 pub mod Visits
 pub mod Searches
+pub mod Parts
+pub mod Backward
+pub mod Alike
+pub mod Rules
 pub mod Models

@@ -1,52 +1,48 @@
 -- The reading of a model: its table, and then the rules on the whole model.
-use Rattle.std.specs.Prelude.{ℕ, List, [], ◌∷◌, ◌++◌, length, find, Bool, pos, codes, decimal, if◌then◌else◌, Option, Some, None, Result, Ok, Err, ⊤}
-use Rattle.serde_json.specs.Data.{Data}
-use Rattle.vr_json.specs.declared.fault.Cause.TheVariants.{NegativeCost, LargeTransit, NegativeTransit, UnlikeVehicles}
-use Rattle.vr_json.specs.declared.fault.Fault.{Fault}
-use Rattle.vr_json.specs.Causes.{fault_at}
-use Rattle.vr_json.specs.Paths.{name_path, item_path}
-use Rattle.vr_json.specs.Reading.{◌>>=◌, ReaderOf, required, optional, known, array, refuse_if}
+use Rattle.std.specs.Prelude.{ℕ, List, [], ◌∷◌, length, pos, codes, Ok}
+use Rattle.vr_json.specs.Reading.{◌>>=◌, ReaderOf, required, optional, known, array}
 use Rattle.vr_json.specs.Kinds.{whole, count}
-use Rattle.vr_model.specs.Numbers.{below}
-use Rattle.vr_model.specs.Tables.{dimension_at}
-use Rattle.vr_model.specs.ModelRules.{has_negative_cost, has_large_entry, goes_back, cannot_save}
 use Rattle.vr_model.specs.declared.records.Model.{Model}
+use Rattle.vr_model.specs.declared.records.Vehicle.{Vehicle}
+use Rattle.vr_read.specs.declared.model.Parts.{Parts}
 use Rattle.vr_read.specs.Vehicles.{matrix, vehicle}
 use Rattle.vr_read.specs.Dimensions.{dimension}
 use Rattle.vr_read.specs.Visits.{group, pair, allowed}
 use Rattle.vr_read.specs.Searches.{search_row, default_search}
+use Rattle.vr_read.specs.Rules.{rules}
+
+-- the fields of a model from its dimensions on, in a model of n nodes, so many matrices and so many vehicles, which are these
+unfoldable pub parts : ℕ → ℕ → ℕ → List Vehicle → ReaderOf Parts
+parts n matrices fleet vehicles path d = do
+  dimensions ← optional (codes "dimensions") [] (array 0 4 (dimension n matrices fleet vehicles)) path d
+  groups ← optional (codes "groups") [] (array 0 1000 (group n vehicles)) path d
+  pairs ← optional (codes "pairs") [] (array 0 500 (pair n vehicles)) path d
+  allowed_rows ← optional (codes "allowed") [] (array 0 1000 (allowed n fleet vehicles)) path d
+  search_values ← optional (codes "search") default_search search_row path d
+  Ok (record { dimensions = dimensions; groups = groups; pairs = pairs; allowed = allowed_rows; search = search_values })
 
 -- the table of a model
-abbrev pub model_table : ReaderOf Model
+unfoldable pub model_table : ReaderOf Model
 model_table path d = do
   format ← required (codes "format") (whole (pos 1) (pos 1)) path d
   nodes ← required (codes "nodes") (count 1 1000) path d
   matrices ← required (codes "matrices") (array 1 16 (λ so_far. matrix nodes)) path d
   vehicles ← required (codes "vehicles") (array 1 100 (λ so_far. vehicle nodes (length matrices))) path d
-  dimensions ← optional (codes "dimensions") [] (array 0 4 (dimension nodes (length matrices) vehicles)) path d
-  groups ← optional (codes "groups") [] (array 0 1000 (group nodes vehicles)) path d
-  pairs ← optional (codes "pairs") [] (array 0 500 (pair nodes vehicles)) path d
-  allowed_rows ← optional (codes "allowed") [] (array 0 1000 (allowed nodes vehicles)) path d
-  search_values ← optional (codes "search") default_search search_row path d
-  others ← known (codes "format" ∷ codes "nodes" ∷ codes "matrices" ∷ codes "vehicles" ∷ codes "dimensions" ∷ codes "groups" ∷ codes "pairs" ∷ codes "allowed" ∷ codes "search" ∷ []) path d
-  Ok (record { nodes = nodes; matrices = matrices; vehicles = vehicles; dimensions = dimensions; groups = groups; pairs = pairs; allowed = allowed_rows; search = search_values })
-
--- each of the numbers below n in order: the first fault is the answer
-abbrev pub for_all : List ℕ → (ℕ → Result ⊤ Fault) → Result ⊤ Fault
-for_all [] rule = Ok tt
-for_all (k ∷ ks) rule = rule k >>= λ passed. for_all ks rule
-
--- the rules on the whole model, in order
-abbrev pub rules : List ℕ → Model → Result ⊤ Fault
-rules path model = do
-  costs ← for_all (below (length model.vehicles)) (λ v. refuse_if (has_negative_cost model v) NegativeCost (name_path (item_path (name_path path (codes "vehicles")) v) (codes "costs")))
-  entries ← for_all (below (length model.dimensions)) (λ d. for_all (below (length (dimension_at model d).evaluators)) (λ k.
-      refuse_if (has_large_entry model d k) LargeTransit (name_path (item_path (name_path (item_path (name_path path (codes "dimensions")) d) (codes "evaluators")) k) (codes "matrix"))))
-  transits ← for_all (below (length model.dimensions)) (λ d. refuse_if (goes_back model d) NegativeTransit (item_path (name_path path (codes "dimensions")) d))
-  refuse_if (cannot_save model) UnlikeVehicles (name_path (name_path path (codes "search")) (codes "first"))
+  others ← parts nodes (length matrices) (length vehicles) vehicles path d
+  unknown ← known (codes "format" ∷ codes "nodes" ∷ codes "matrices" ∷ codes "vehicles" ∷ codes "dimensions" ∷ codes "groups" ∷ codes "pairs" ∷ codes "allowed" ∷ codes "search" ∷ []) path d
+  Ok (record {
+    nodes = nodes;
+    matrices = matrices;
+    vehicles = vehicles;
+    dimensions = others.dimensions;
+    groups = others.groups;
+    pairs = others.pairs;
+    allowed = others.allowed;
+    search = others.search;
+  })
 
 -- a model
-abbrev pub read_model : ReaderOf Model
+unfoldable pub read_model : ReaderOf Model
 read_model path d = do
   model ← model_table path d
   kept ← rules path model

@@ -1,7 +1,6 @@
 -- The table of the search.
-use Rattle.std.specs.Prelude.{ℕ, ◌==◌, List, [], ◌∷◌, ℤ, pos, codes, Result, Ok}
+use Rattle.std.specs.Prelude.{ℕ, ◌==◌, List, [], ◌∷◌, pos, codes, Ok}
 use Rattle.std.specs.List.{list_any}
-use Rattle.serde_json.specs.Data.{Data}
 use Rattle.vr_json.specs.declared.fault.Cause.TheVariants.{Repeated}
 use Rattle.vr_json.specs.Reading.{◌>>=◌, ReaderOf, optional, known, array, pair, refuse_if}
 use Rattle.vr_json.specs.Kinds.{whole, count, choice}
@@ -34,7 +33,7 @@ abbrev pub all_neighbourhoods : List Neighbourhood
 all_neighbourhoods = TwoOpt ∷ OrOpt ∷ Relocate ∷ Exchange ∷ Cross ∷ RelocatePair ∷ PairActive ∷ PairInactive ∷ MakeActive ∷ MakeInactive ∷ SwapActive ∷ []
 
 -- a neighbourhood, each once
-abbrev pub neighbourhood : List Neighbourhood → ReaderOf Neighbourhood
+unfoldable pub neighbourhood : List Neighbourhood → ReaderOf Neighbourhood
 neighbourhood so_far path d = do
   chosen ← choice neighbourhood_words path d
   fresh ← refuse_if (list_any (λ other. number_of other == number_of chosen) so_far) Repeated path
@@ -45,7 +44,7 @@ abbrev pub default_search : SearchRow
 default_search = record { first = PathCheapestArc; improve = improve.GreedyDescent; tries = 100000; solutions = 1000000000; p = pos 1; q = pos 10; neighbourhoods = all_neighbourhoods }
 
 -- the search
-abbrev pub search_row : ReaderOf SearchRow
+unfoldable pub search_row : ReaderOf SearchRow
 search_row path d = do
   first ← optional (codes "first") PathCheapestArc (choice strategies) path d
   improvement ← optional (codes "improve") improve.GreedyDescent (choice improvements) path d

@@ -1,9 +1,7 @@
 -- The tables of stop rows and of breaks.
-use Rattle.std.specs.Prelude.{ℕ, ◌==◌, List, [], ◌∷◌, ℤ, pos, int_lt, codes, if◌then◌else◌, Option, Result, Ok, Err}
+use Rattle.std.specs.Prelude.{ℕ, ◌==◌, List, [], ◌∷◌, pos, int_lt, codes, Ok}
 use Rattle.std.specs.List.{list_any}
-use Rattle.serde_json.specs.Data.{Data}
 use Rattle.vr_json.specs.declared.fault.Cause.TheVariants.{Repeated, Reversed}
-use Rattle.vr_json.specs.Causes.{fault_at}
 use Rattle.vr_json.specs.Paths.{name_path}
 use Rattle.vr_json.specs.Reading.{◌>>=◌, ReaderOf, required, optional, maybe, known, array, pair, refuse_if}
 use Rattle.vr_json.specs.Kinds.{whole, below}
@@ -16,13 +14,14 @@ use Rattle.vr_model.specs.declared.records.VehicleBreaks.{VehicleBreaks}
 use Rattle.vr_model.specs.declared.records.BreakRow.{BreakRow}
 
 -- an interval: an array of two whole numbers, the lower one first
-abbrev pub interval : ReaderOf Interval
+unfoldable pub interval : ReaderOf Interval
 interval path d = do
   ends ← pair (whole (pos 0) horizon) path d
-  if int_lt ends.1 ends.0 then Err (fault_at Reversed path) else Ok (record { lo = ends.0; hi = ends.1 })
+  ordered ← refuse_if (int_lt ends.1 ends.0) Reversed path
+  Ok (record { lo = ends.0; hi = ends.1 })
 
 -- a soft upper bound
-abbrev pub soft : ReaderOf Soft
+unfoldable pub soft : ReaderOf Soft
 soft path d = do
   bound ← required (codes "bound") (whole (pos 0) horizon) path d
   coefficient ← required (codes "coefficient") (whole (pos 0) greatest_coefficient) path d
@@ -30,7 +29,7 @@ soft path d = do
   Ok (record { bound = bound; coefficient = coefficient })
 
 -- a stop row, whose key stands in no earlier row
-abbrev pub stop_row : List ℕ → ReaderOf ℕ → List StopRow → ReaderOf StopRow
+unfoldable pub stop_row : List ℕ → ReaderOf ℕ → List StopRow → ReaderOf StopRow
 stop_row name read_key earlier path d = do
   key ← required name read_key path d
   fresh ← refuse_if (list_any (λ row. row.key == key) earlier) Repeated (name_path path name)
@@ -41,16 +40,17 @@ stop_row name read_key earlier path d = do
   Ok (record { key = key; window = window; forbidden = forbidden; soft = soft_bound })
 
 -- a break: a start range and a duration
-abbrev pub break_row : ReaderOf BreakRow
+unfoldable pub break_row : ReaderOf BreakRow
 break_row path d = do
   earliest ← required (codes "from") (whole (pos 0) horizon) path d
   latest ← required (codes "to") (whole (pos 0) horizon) path d
   duration ← required (codes "duration") (whole (pos 1) horizon) path d
   others ← known (codes "from" ∷ codes "to" ∷ codes "duration" ∷ []) path d
-  if int_lt latest earliest then Err (fault_at Reversed path) else Ok (record { from = earliest; to = latest; duration = duration })
+  ordered ← refuse_if (int_lt latest earliest) Reversed path
+  Ok (record { from = earliest; to = latest; duration = duration })
 
 -- the breaks of one of so many vehicles, which has no earlier entry
-abbrev pub vehicle_breaks : ℕ → List VehicleBreaks → ReaderOf VehicleBreaks
+unfoldable pub vehicle_breaks : ℕ → List VehicleBreaks → ReaderOf VehicleBreaks
 vehicle_breaks vehicles earlier path d = do
   vehicle ← required (codes "vehicle") (below vehicles) path d
   fresh ← refuse_if (list_any (λ entry. entry.vehicle == vehicle) earlier) Repeated (name_path path (codes "vehicle"))

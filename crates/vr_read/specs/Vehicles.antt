@@ -1,10 +1,8 @@
 -- The tables of matrices and vehicles, and the numbers of nodes, matrices, vehicles and visits that other tables name.
-use Rattle.std.specs.Prelude.{ℕ, ◌||◌, ◌==◌, List, [], ◌∷◌, Bool, ℤ, pos, codes, if◌then◌else◌, Result, Ok, Err}
-use Rattle.std.specs.List.{list_any, concat}
-use Rattle.serde_json.specs.Data.{Data}
+use Rattle.std.specs.Prelude.{ℕ, ◌||◌, ◌==◌, List, [], ◌∷◌, Bool, pos, codes, flat_map, Ok}
+use Rattle.std.specs.List.{list_any}
 use Rattle.vr_json.specs.declared.fault.Cause.TheVariants.{NotAVisit}
-use Rattle.vr_json.specs.Causes.{fault_at}
-use Rattle.vr_json.specs.Reading.{◌>>=◌, ReaderOf, required, optional, known, array}
+use Rattle.vr_json.specs.Reading.{◌>>=◌, ReaderOf, required, optional, known, array, refuse_if}
 use Rattle.vr_json.specs.Kinds.{whole, below, choice}
 use Rattle.vr_model.specs.WellFormed.{greatest_cost, least_value}
 use Rattle.vr_model.specs.declared.records.Matrix.{Matrix}
@@ -13,17 +11,17 @@ use Rattle.vr_model.specs.declared.records.Policy.{Policy}
 use Rattle.vr_model.specs.declared.records.Policy.TheVariants.{Any, Lifo, Fifo}
 
 -- a matrix: an array of n arrays of n whole numbers
-abbrev pub matrix : ℕ → ReaderOf Matrix
+unfoldable pub matrix : ℕ → ReaderOf Matrix
 matrix n path d = do
   rows ← array n n (λ earlier. array n n (λ so_far. whole least_value greatest_cost)) path d
-  Ok (record { entries = concat rows })
+  Ok (record { entries = flat_map (λ row. row) rows })
 
 -- what the words of `policy` stand for
 abbrev pub policies : List (List ℕ × Policy)
 policies = (codes "any", Any) ∷ (codes "lifo", Lifo) ∷ (codes "fifo", Fifo) ∷ []
 
 -- a vehicle, in a model of n nodes and so many matrices
-abbrev pub vehicle : ℕ → ℕ → ReaderOf Vehicle
+unfoldable pub vehicle : ℕ → ℕ → ReaderOf Vehicle
 vehicle n matrices path d = do
   start ← required (codes "start") (below n) path d
   final ← required (codes "end") (below n) path d
@@ -38,7 +36,8 @@ abbrev pub is_terminal : List Vehicle → ℕ → Bool
 is_terminal vehicles node = list_any (λ v. (v.start == node) || (v.end == node)) vehicles
 
 -- a visit: one of n nodes that no vehicle starts or ends at
-abbrev pub visit : ℕ → List Vehicle → ReaderOf ℕ
+unfoldable pub visit : ℕ → List Vehicle → ReaderOf ℕ
 visit n vehicles path d = do
   node ← below n path d
-  if is_terminal vehicles node then Err (fault_at NotAVisit path) else Ok node
+  served ← refuse_if (is_terminal vehicles node) NotAVisit path
+  Ok node

@@ -1,7 +1,6 @@
 -- The tables of groups, pairs and allowed vehicles.
-use Rattle.std.specs.Prelude.{ℕ, ◌||◌, ◌==◌, List, [], ◌∷◌, length, Bool, ℤ, pos, codes, Result, Ok}
+use Rattle.std.specs.Prelude.{ℕ, ◌||◌, ◌==◌, List, [], ◌∷◌, length, Bool, pos, codes, Ok}
 use Rattle.std.specs.List.{list_any}
-use Rattle.serde_json.specs.Data.{Data}
 use Rattle.vr_json.specs.declared.fault.Cause.TheVariants.{Repeated}
 use Rattle.vr_json.specs.Paths.{name_path}
 use Rattle.vr_json.specs.Reading.{◌>>=◌, ReaderOf, required, optional, maybe, known, array, refuse_if}
@@ -15,14 +14,14 @@ use Rattle.vr_model.specs.declared.records.Allowed.{Allowed}
 use Rattle.vr_read.specs.Vehicles.{visit}
 
 -- a node of a group: a visit that stands in no earlier group, and not earlier in this one
-abbrev pub group_node : ℕ → List Vehicle → List Group → List ℕ → ReaderOf ℕ
+unfoldable pub group_node : ℕ → List Vehicle → List Group → List ℕ → ReaderOf ℕ
 group_node n vehicles groups so_far path d = do
   node ← visit n vehicles path d
   fresh ← refuse_if (list_any (λ group. holds group.nodes node) groups || holds so_far node) Repeated path
   Ok node
 
 -- a group
-abbrev pub group : ℕ → List Vehicle → List Group → ReaderOf Group
+unfoldable pub group : ℕ → List Vehicle → List Group → ReaderOf Group
 group n vehicles earlier path d = do
   nodes ← required (codes "nodes") (array 1 1000 (group_node n vehicles earlier)) path d
   penalty ← maybe (codes "penalty") (whole (pos 0) greatest_cost) path d
@@ -35,7 +34,7 @@ abbrev pub is_paired : List Pair → ℕ → Bool
 is_paired pairs node = list_any (λ pair. (pair.pickup == node) || (pair.delivery == node)) pairs
 
 -- a pair: two visits, neither of which stands in an earlier pair or earlier in this one
-abbrev pub pair : ℕ → List Vehicle → List Pair → ReaderOf Pair
+unfoldable pub pair : ℕ → List Vehicle → List Pair → ReaderOf Pair
 pair n vehicles earlier path d = do
   pickup ← required (codes "pickup") (visit n vehicles) path d
   fresh_pickup ← refuse_if (is_paired earlier pickup) Repeated (name_path path (codes "pickup"))
@@ -45,17 +44,17 @@ pair n vehicles earlier path d = do
   Ok (record { pickup = pickup; delivery = delivery })
 
 -- one of so many vehicles, each once
-abbrev pub allowed_vehicle : ℕ → List ℕ → ReaderOf ℕ
+unfoldable pub allowed_vehicle : ℕ → List ℕ → ReaderOf ℕ
 allowed_vehicle vehicles so_far path d = do
   vehicle ← below vehicles path d
   fresh ← refuse_if (holds so_far vehicle) Repeated path
   Ok vehicle
 
 -- the vehicles that a visit allows; no earlier row is of this visit
-abbrev pub allowed : ℕ → List Vehicle → List Allowed → ReaderOf Allowed
-allowed n vehicles earlier path d = do
+unfoldable pub allowed : ℕ → ℕ → List Vehicle → List Allowed → ReaderOf Allowed
+allowed n fleet vehicles earlier path d = do
   node ← required (codes "node") (visit n vehicles) path d
   fresh ← refuse_if (list_any (λ row. row.node == node) earlier) Repeated (name_path path (codes "node"))
-  permitted ← required (codes "vehicles") (array 1 (length vehicles) (allowed_vehicle (length vehicles))) path d
+  permitted ← required (codes "vehicles") (array 1 fleet (allowed_vehicle fleet)) path d
   others ← known (codes "node" ∷ codes "vehicles" ∷ []) path d
   Ok (record { node = node; vehicles = permitted })

@@ -1,0 +1,9 @@
+pub mod Ranges
+pub mod Uses
+pub mod WellFormedParts
+pub mod Distinct
+pub mod WellFormedVehicles
+pub mod WellFormedDimensions
+pub mod WellFormedSearches
+pub mod WellFormedVisits
+pub mod WellFormedModels

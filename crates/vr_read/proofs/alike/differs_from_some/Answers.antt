@@ -1,0 +1,8 @@
+use Rattle.std.proofs.Common.{not, length, sym, ap, ◌∙◌, arith}
+use Rattle.vr_model.specs.ModelRules.{are_alike}
+use Rattle.vr_read.proofs.Ranges.{test_goes_on}
+use Rattle.vr_read.proofs.alike.differs_from_some.Goals as goal
+
+pub loop-w-preserved : goal.loop-w-preserved
+loop-w-preserved c = test_goes_on (λ w. not (are_alike c.args.model.now c.args.v w)) (length c.args.model.now.vehicles) c.loop-w.w c.loop-w.invariant (omega arith)
+    (ap not (sym c.are_alike.ensures ∙ c.if-not-are_alike.false))

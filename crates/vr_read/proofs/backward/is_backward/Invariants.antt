@@ -1,0 +1,8 @@
+use Rattle.std.proofs.Common.{◌≡◌}
+use Rattle.std.specs.List.{list_any}
+use Rattle.vr_model.specs.Numbers.{from_to}
+use Rattle.vr_read.specs.Backward.{is_backward, is_backward_from}
+use Rattle.vr_read.proofs.backward.is_backward.Given as goal
+
+abbrev pub invariant-loop-i : goal.invariant-loop-i
+invariant-loop-i l = list_any (is_backward_from l.model l.evaluator) (from_to l.i l.model.nodes) ≡ is_backward l.model l.evaluator

@@ -1,0 +1,215 @@
+//! Vehicles that are alike.
+
+ghost use Rattle.std.specs.Prelude.{◌≡◌, ◌<◌, Bool, length, option_map};
+ghost use Rattle.std.specs.List.{All, list_all};
+ghost use Rattle.vr_model.specs.ModelRules.{are_alike as are_alike_of, are_alike_in as are_alike_in_of, is_same_option as is_same_option_of, is_same_policy as is_same_policy_of, vehicles_differ as vehicles_differ_of};
+ghost use Rattle.vr_model.specs.Numbers.{are_same_by, is_same_number as is_same_number_of};
+ghost use Rattle.vr_model.specs.Tables.{breaks_of as breaks_of_vehicle, row_of as row_of_key};
+ghost use Rattle.vr_model.specs.WellFormed.{IsDimension};
+ghost use Rattle.vr_read.specs.Alike.{are_alike_in_all as are_alike_in_all_of, differs_from_some as differs_from_some_of};
+ghost use Rattle.vr_read.specs.Parts.{HasParts, HasVehicle};
+
+use vr_model::{BreakRow, Dimension, Interval, Model, Policy, Soft, StopRow, VehicleBreaks};
+
+// Values that are the same or not.
+trait Alike {
+    ghost same: { Self → Self → Bool };
+
+    // Whether two values are the same.
+    fn is_same(&self, other: &Self) -> bool
+        ensures { result ≡ same self.now other.now };
+}
+
+impl Alike for i64 {
+    ghost use Rattle.vr_model.specs.Numbers.{is_same_number};
+
+    ghost same = { is_same_number };
+
+    fn is_same(&self, other: &i64) -> bool {
+        *self <= *other && *other <= *self
+    }
+}
+
+impl Alike for Interval {
+    ghost use Rattle.vr_model.specs.ModelRules.{is_same_interval};
+
+    ghost same = { is_same_interval };
+
+    fn is_same(&self, other: &Interval) -> bool {
+        self.lo.is_same(&other.lo) && self.hi.is_same(&other.hi)
+    }
+}
+
+impl Alike for Soft {
+    ghost use Rattle.vr_model.specs.ModelRules.{is_same_soft};
+
+    ghost same = { is_same_soft };
+
+    fn is_same(&self, other: &Soft) -> bool {
+        self.bound.is_same(&other.bound) && self.coefficient.is_same(&other.coefficient)
+    }
+}
+
+impl Alike for BreakRow {
+    ghost use Rattle.vr_model.specs.ModelRules.{is_same_break};
+
+    ghost same = { is_same_break };
+
+    fn is_same(&self, other: &BreakRow) -> bool {
+        self.from.is_same(&other.from)
+            && self.to.is_same(&other.to)
+            && self.duration.is_same(&other.duration)
+    }
+}
+
+// Stop rows are the same but for their keys.
+impl Alike for StopRow {
+    ghost use Rattle.vr_model.specs.ModelRules.{is_same_row};
+
+    ghost same = { is_same_row };
+
+    fn is_same(&self, other: &StopRow) -> bool {
+        is_same_option(self.window.as_ref(), other.window.as_ref())
+            && are_same(self.forbidden.as_slice(), other.forbidden.as_slice())
+            && is_same_option(self.soft.as_ref(), other.soft.as_ref())
+    }
+}
+
+// Whether two values that may be absent are both absent, or both present and the same.
+fn is_same_option<T: Alike>(one: Option<&T>, other: Option<&T>) -> bool
+    ensures { result ≡ is_same_option_of T.same (option_map (λ x. x.now) one.entry) (option_map (λ x. x.now) other.entry) }
+{
+    match (one, other) {
+        (None, None) => true,
+        (Some(x), Some(y)) => x.is_same(y),
+        _ => false,
+    }
+}
+
+// Whether two lists have the same values in the same order.
+fn are_same<T: Alike>(one: &[T], other: &[T]) -> bool
+    ensures { result ≡ are_same_by T.same one.now other.now }
+{
+    if one.len() != other.len() {
+        return false;
+    }
+    for k in 0..one.len() {
+        if !one[k].is_same(&other[k]) {
+            return false;
+        }
+    }
+    true
+}
+
+// Whether two policies are the same.
+fn is_same_policy(one: Policy, other: Policy) -> bool
+    ensures { result ≡ is_same_policy_of one other }
+{
+    match (one, other) {
+        (Policy::Any, Policy::Any) | (Policy::Lifo, Policy::Lifo) | (Policy::Fifo, Policy::Fifo) =>
+            true,
+        _ => false,
+    }
+}
+
+// The row of a vehicle.
+fn row_of(rows: &[StopRow], vehicle: u32) -> Option<&StopRow>
+    ensures { option_map (λ row. row.now) result ≡ row_of_key rows.now vehicle }
+{
+    rows.iter().find(|row| row.key == vehicle)
+}
+
+// The breaks of a vehicle.
+fn breaks_of(dimension: &Dimension, vehicle: u32) -> &[BreakRow]
+    ensures { result.now ≡ breaks_of_vehicle dimension.now vehicle }
+{
+    match dimension
+        .breaks
+        .as_slice()
+        .iter()
+        .find(|entry| entry.vehicle == vehicle)
+    {
+        None => &[],
+        Some(entry) => entry.rows.as_slice(),
+    }
+}
+
+// Whether two vehicles are alike in a dimension: the same capacity, evaluator, span coefficient,
+// start row, end row and breaks.
+fn are_alike_in(dimension: &Dimension, v: u32, w: u32) -> bool
+    requires one { HasVehicle v dimension.now }
+    requires other { HasVehicle w dimension.now }
+    ensures { result ≡ are_alike_in_of dimension.now v w }
+{
+    let capacities = &dimension.capacities;
+    let evaluators = &dimension.vehicle_evaluators;
+    let span_costs = &dimension.span_costs;
+    let starts = dimension.starts.as_slice();
+    let ends = dimension.ends.as_slice();
+    let (one, other) = (v as usize, w as usize);
+    capacities.get(one).is_same(capacities.get(other))
+        && *evaluators.get(one) == *evaluators.get(other)
+        && span_costs.get(one).is_same(span_costs.get(other))
+        && is_same_option(row_of(starts, v), row_of(starts, w))
+        && is_same_option(row_of(ends, v), row_of(ends, w))
+        && are_same(breaks_of(dimension, v), breaks_of(dimension, w))
+}
+
+// Whether two vehicles are alike in each of some dimensions.
+fn are_alike_in_all(dimensions: &[Dimension], v: u32, w: u32) -> bool
+    requires one { All (HasVehicle v) dimensions.now }
+    requires other { All (HasVehicle w) dimensions.now }
+    ensures { result ≡ are_alike_in_all_of dimensions.now v w }
+{
+    for dimension in dimensions {
+        if !are_alike_in(dimension, v, w) {
+            return false;
+        }
+    }
+    true
+}
+
+// Whether two vehicles are alike: the same start, end, cost matrix, fixed cost and policy, and alike
+// in each dimension.
+fn are_alike(model: &Model, v: u32, w: u32) -> bool
+    requires parts { HasParts model.now }
+    requires one { v < length model.now.vehicles }
+    requires other { w < length model.now.vehicles }
+    ensures { result ≡ are_alike_of model.now v w }
+{
+    let one = model.vehicles.get(v as usize);
+    let other = model.vehicles.get(w as usize);
+    one.start == other.start
+        && one.end == other.end
+        && one.costs == other.costs
+        && one.fixed.is_same(&other.fixed)
+        && is_same_policy(one.policy, other.policy)
+        && are_alike_in_all(model.dimensions.as_slice(), v, w)
+}
+
+// Whether some vehicle is not like vehicle `v`.
+fn differs_from_some(model: &Model, v: u32) -> bool
+    requires parts { HasParts model.now }
+    requires vehicle { v < length model.now.vehicles }
+    ensures { result ≡ differs_from_some_of model.now v }
+{
+    for w in 0..model.vehicles.len() as u32 {
+        if !are_alike(model, v, w) {
+            return true;
+        }
+    }
+    false
+}
+
+/// Whether some two vehicles are not alike.
+pub(crate) fn vehicles_differ(model: &Model) -> bool
+    requires { HasParts model.now }
+    ensures { result ≡ vehicles_differ_of model.now }
+{
+    for v in 0..model.vehicles.len() as u32 {
+        if differs_from_some(model, v) {
+            return true;
+        }
+    }
+    false
+}

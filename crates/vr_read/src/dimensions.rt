@@ -1,0 +1,331 @@
+//! The table of dimensions.
+
+ghost use Rattle.std.specs.Prelude.{◌≡◌};
+ghost use Rattle.std.specs.List.{list_any};
+ghost use Rattle.std.specs.Str.{bytes_eq};
+ghost use Rattle.serde_json.specs.View.{view};
+ghost use Rattle.vr_json.specs.Reading.{Answers};
+ghost use Rattle.vr_read.specs.Dimensions.{bounds as bounds_of, rows as rows_of, transits as transits_of};
+
+use crate::limits::{GREATEST_COEFFICIENT, GREATEST_VALUE, HORIZON, LEAST_VALUE};
+use crate::{StopTable, VehicleBreaksTable, Visit};
+use serde_json::Value;
+use std::alloc::Global;
+use vr_json::{
+    Array, Below, Cause, Flag, ForEach, Path, Place, ReadFail, Reader, Whole, copies, known, maybe,
+    optional, refuse_if, required, text,
+};
+use vr_model::{Dimension, Evaluator, Seq, StopRow, Text, Vehicle, VehicleBreaks};
+
+/// An evaluator, in a model of so many nodes and matrices.
+#[derive(Clone, Copy)]
+pub struct EvaluatorTable {
+    pub nodes: u32,
+    pub matrices: u32,
+}
+
+impl Reader for EvaluatorTable {
+    ghost use Rattle.vr_read.specs.Dimensions.{evaluator};
+
+    type Item = Evaluator;
+
+    ghost reads = { λ it earlier path d. evaluator it.nodes it.matrices path d };
+
+    fn read(
+        &self,
+        alloc: Global,
+        _earlier: &[Evaluator],
+        value: &Value,
+        place: Place<'_>,
+    ) -> Result<Evaluator, ReadFail> {
+        let path = place.path()?;
+        let number = Below {
+            count: self.matrices,
+        };
+        let numbers = Array {
+            lo: self.nodes as usize,
+            hi: self.nodes as usize,
+            entry: Whole {
+                lo: LEAST_VALUE,
+                hi: GREATEST_VALUE,
+            },
+        };
+        let matrix = maybe(alloc, value, "matrix", &path, &number)?;
+        let none = Seq::new(alloc);
+        let values = optional(alloc, value, "values", &path, none, &numbers)?;
+        known(alloc, value, &["matrix", "values"], &path)?;
+        Ok(Evaluator { matrix, values })
+    }
+}
+
+/// A whole number that is not negative; above the horizon it is read as the horizon.
+#[derive(Clone, Copy)]
+pub struct Capped;
+
+impl Reader for Capped {
+    ghost use Rattle.vr_read.specs.Dimensions.{capped};
+
+    type Item = i64;
+
+    ghost reads = { λ it earlier path d. capped path d };
+
+    fn read(
+        &self,
+        alloc: Global,
+        _earlier: &[i64],
+        value: &Value,
+        place: Place<'_>,
+    ) -> Result<i64, ReadFail> {
+        let any = Whole {
+            lo: 0,
+            hi: i64::MAX,
+        };
+        let number = any.read(alloc, &[], value, place)?;
+        Ok(if HORIZON < number { HORIZON } else { number })
+    }
+}
+
+/// The name of a dimension, which no earlier one has.
+#[derive(Clone, Copy)]
+pub struct Name<'a> {
+    pub earlier: &'a [Dimension],
+}
+
+// Whether some dimension has this name.
+fn has_name(dimensions: &[Dimension], name: &Text) -> bool
+    ensures { result ≡ list_any (λ dimension. bytes_eq dimension.name name.now) dimensions.now }
+{
+    dimensions
+        .iter()
+        .any(|dimension| dimension.name.as_str() == name.as_str())
+}
+
+impl Reader for Name<'_> {
+    ghost use Rattle.vr_read.specs.Dimensions.{name};
+
+    type Item = Text;
+
+    ghost reads = { λ it earlier path d. name it.earlier.now path d };
+
+    fn read(
+        &self,
+        alloc: Global,
+        _earlier: &[Text],
+        value: &Value,
+        place: Place<'_>,
+    ) -> Result<Text, ReadFail> {
+        let path = place.path()?;
+        let name = text(alloc, value, 1, 64, &path)?;
+        let broken = has_name(self.earlier, &name);
+        refuse_if(alloc, broken, Cause::Repeated, path.here())?;
+        Ok(name)
+    }
+}
+
+/// The evaluators of a dimension, and the number of each vehicle's one.
+#[derive(Drop)]
+pub struct Transits {
+    pub evaluators: Seq<Evaluator>,
+    pub vehicle_evaluators: Seq<u32>,
+}
+
+/// The bounds of slacks and cumuls, and the visit times.
+#[derive(Drop)]
+pub struct Bounds {
+    pub slack_max: i64,
+    pub capacities: Seq<i64>,
+    pub fix_start: bool,
+    pub visit: Seq<i64>,
+}
+
+/// The rows of stops, and the breaks.
+#[derive(Drop)]
+pub struct Rows {
+    pub nodes: Seq<StopRow>,
+    pub starts: Seq<StopRow>,
+    pub ends: Seq<StopRow>,
+    pub breaks: Seq<VehicleBreaks>,
+}
+
+/// A dimension, in a model of so many nodes, matrices and vehicles.
+#[derive(Clone, Copy)]
+pub struct DimensionTable<'a> {
+    pub nodes: u32,
+    pub matrices: u32,
+    /// The number of `vehicles`.
+    pub fleet: u32,
+    pub vehicles: &'a [Vehicle],
+}
+
+impl DimensionTable<'_> {
+    // The evaluators.
+    fn transits(&self, alloc: Global, value: &Value, path: &Path) -> Result<Transits, ReadFail>
+        ensures { Answers result
+            (transits_of self.now.nodes self.now.matrices self.now.fleet path.now (view value.now)) }
+    {
+        let evaluators = Array {
+            lo: 1,
+            hi: 8,
+            entry: EvaluatorTable {
+                nodes: self.nodes,
+                matrices: self.matrices,
+            },
+        };
+        let evaluators = required(alloc, value, "evaluators", path, &evaluators)?;
+        let count = evaluators.len() as u32;
+        let numbers = Array {
+            lo: self.fleet as usize,
+            hi: self.fleet as usize,
+            entry: Below { count },
+        };
+        let zeros = copies(alloc, 0, self.fleet as usize)?;
+        let name = "vehicle_evaluators";
+        let vehicle_evaluators = optional(alloc, value, name, path, zeros, &numbers)?;
+        Ok(Transits {
+            evaluators,
+            vehicle_evaluators,
+        })
+    }
+
+    // The bounds and visit times.
+    fn bounds(&self, alloc: Global, value: &Value, path: &Path) -> Result<Bounds, ReadFail>
+        ensures { Answers result (bounds_of self.now.nodes self.now.fleet path.now (view value.now)) }
+    {
+        let by_vehicle = ForEach {
+            count: self.fleet as usize,
+            entry: Capped,
+        };
+        let times = Array {
+            lo: self.nodes as usize,
+            hi: self.nodes as usize,
+            entry: Whole {
+                lo: 0,
+                hi: GREATEST_VALUE,
+            },
+        };
+        let slack_max = required(alloc, value, "slack_max", path, &Capped)?;
+        let capacities = required(alloc, value, "capacity", path, &by_vehicle)?;
+        let fix_start = optional(alloc, value, "fix_start", path, false, &Flag)?;
+        let zeros = copies(alloc, 0i64, self.nodes as usize)?;
+        let visit = optional(alloc, value, "visit", path, zeros, &times)?;
+        Ok(Bounds {
+            slack_max,
+            capacities,
+            fix_start,
+            visit,
+        })
+    }
+
+    // The rows of stops, and the breaks.
+    fn rows(&self, alloc: Global, value: &Value, path: &Path) -> Result<Rows, ReadFail>
+        ensures { Answers result
+            (rows_of self.now.nodes self.now.fleet self.now.vehicles.now path.now (view value.now)) }
+    {
+        let of_visits = Array {
+            lo: 0,
+            hi: 1000,
+            entry: StopTable {
+                name: "node",
+                key: Visit {
+                    nodes: self.nodes,
+                    vehicles: self.vehicles,
+                },
+            },
+        };
+        let of_vehicles = Array {
+            lo: 0,
+            hi: 100,
+            entry: StopTable {
+                name: "vehicle",
+                key: Below { count: self.fleet },
+            },
+        };
+        let of_breaks = Array {
+            lo: 0,
+            hi: 100,
+            entry: VehicleBreaksTable {
+                vehicles: self.fleet,
+            },
+        };
+        let no_nodes = Seq::new(alloc);
+        let nodes = optional(alloc, value, "nodes", path, no_nodes, &of_visits)?;
+        let no_starts = Seq::new(alloc);
+        let starts = optional(alloc, value, "starts", path, no_starts, &of_vehicles)?;
+        let no_ends = Seq::new(alloc);
+        let ends = optional(alloc, value, "ends", path, no_ends, &of_vehicles)?;
+        let no_breaks = Seq::new(alloc);
+        let breaks = optional(alloc, value, "breaks", path, no_breaks, &of_breaks)?;
+        Ok(Rows {
+            nodes,
+            starts,
+            ends,
+            breaks,
+        })
+    }
+}
+
+impl Reader for DimensionTable<'_> {
+    ghost use Rattle.vr_read.specs.Dimensions.{dimension};
+
+    type Item = Dimension;
+
+    ghost reads = { λ it earlier path d. dimension it.nodes it.matrices it.fleet it.vehicles.now earlier path d };
+
+    fn read(
+        &self,
+        alloc: Global,
+        earlier: &[Dimension],
+        value: &Value,
+        place: Place<'_>,
+    ) -> Result<Dimension, ReadFail> {
+        let path = place.path()?;
+        let cost = Whole {
+            lo: 0,
+            hi: GREATEST_COEFFICIENT,
+        };
+        let by_vehicle = ForEach {
+            count: self.fleet as usize,
+            entry: cost,
+        };
+        let name = required(alloc, value, "name", &path, &Name { earlier })?;
+        let transits = self.transits(alloc, value, &path)?;
+        let bounds = self.bounds(alloc, value, &path)?;
+        let rows = self.rows(alloc, value, &path)?;
+        let zeros = copies(alloc, 0i64, self.fleet as usize)?;
+        let span_costs = optional(alloc, value, "span_cost", &path, zeros, &by_vehicle)?;
+        let global = optional(alloc, value, "global_span_cost", &path, 0, &cost)?;
+        known(alloc, value, &FIELDS, &path)?;
+        Ok(Dimension {
+            name,
+            evaluators: transits.evaluators,
+            vehicle_evaluators: transits.vehicle_evaluators,
+            slack_max: bounds.slack_max,
+            capacities: bounds.capacities,
+            fix_start: bounds.fix_start,
+            visit: bounds.visit,
+            nodes: rows.nodes,
+            starts: rows.starts,
+            ends: rows.ends,
+            breaks: rows.breaks,
+            span_costs,
+            global_span_cost: global,
+        })
+    }
+}
+
+// The fields of a dimension.
+const FIELDS: [&str; 13] = [
+    "name",
+    "evaluators",
+    "vehicle_evaluators",
+    "slack_max",
+    "capacity",
+    "fix_start",
+    "visit",
+    "nodes",
+    "starts",
+    "ends",
+    "breaks",
+    "span_cost",
+    "global_span_cost",
+];

@@ -1,0 +1,71 @@
+//! The table of matrices.
+
+ghost use Rattle.std.specs.Prelude.{◌≡◌, ◌++◌, flat_map, IfOk, OnOk};
+
+use crate::limits::{GREATEST_COST, LEAST_VALUE};
+use serde_json::Value;
+use std::alloc::Global;
+use vr_json::{Array, Place, ReadFail, Reader, Whole};
+use vr_model::{Matrix, NoMemory, Seq};
+
+// Puts numbers at the end of a list.
+fn append(entries: &mut Seq<i64>, row: &[i64]) -> Result<(), NoMemory>
+    ensures { OnOk result (entries.new ≡ entries.old ++ row.now) }
+{
+    for &entry in row {
+        entries.push(entry)?;
+    }
+    Ok(())
+}
+
+// The numbers of all rows, row by row.
+fn joined(alloc: Global, rows: &[Seq<i64>]) -> Result<Seq<i64>, NoMemory>
+    ensures { IfOk result (λ entries. entries ≡ flat_map (λ row. row) rows.now) }
+{
+    let mut entries = Seq::new(alloc);
+    for row in rows {
+        append(&mut entries, row.as_slice())?;
+    }
+    Ok(entries)
+}
+
+/// A matrix: an array of so many arrays of so many whole numbers.
+#[derive(Clone, Copy)]
+pub struct MatrixTable {
+    pub nodes: u32,
+}
+
+impl Reader for MatrixTable {
+    ghost use Rattle.vr_read.specs.Vehicles.{matrix};
+
+    type Item = Matrix;
+
+    ghost reads = { λ it earlier path d. matrix it.nodes path d };
+
+    fn read(
+        &self,
+        alloc: Global,
+        _earlier: &[Matrix],
+        value: &Value,
+        place: Place<'_>,
+    ) -> Result<Matrix, ReadFail> {
+        let nodes = self.nodes as usize;
+        let entry = Whole {
+            lo: LEAST_VALUE,
+            hi: GREATEST_COST,
+        };
+        let row = Array {
+            lo: nodes,
+            hi: nodes,
+            entry,
+        };
+        let table = Array {
+            lo: nodes,
+            hi: nodes,
+            entry: row,
+        };
+        let rows = table.read(alloc, &[], value, place)?;
+        let entries = joined(alloc, rows.as_slice())?;
+        Ok(Matrix { entries })
+    }
+}

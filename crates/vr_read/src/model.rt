@@ -1,0 +1,157 @@
+//! The table of a model, and models.
+
+ghost use Rattle.std.specs.Prelude.{IfOk};
+ghost use Rattle.serde_json.specs.View.{view};
+ghost use Rattle.vr_json.specs.Reading.{Answers};
+ghost use Rattle.vr_model.specs.WellFormed.{IsWellFormed};
+ghost use Rattle.vr_read.specs.Models.{model_table, parts as parts_of, read_model as read_model_of};
+
+use crate::matrices::MatrixTable;
+use crate::model_rules::keep_rules;
+use crate::searches::default_search;
+use crate::{
+    AllowedTable, DimensionTable, GroupTable, PairTable, SearchTable, VehicleTable, Visit,
+};
+use serde_json::Value;
+use std::alloc::Global;
+use vr_json::{Array, Count, Path, ReadFail, Whole, known, optional, required};
+use vr_model::{Allowed, Dimension, Group, Model, Pair, SearchRow, Seq};
+
+// The fields of a model from its dimensions on.
+#[derive(Drop)]
+pub struct Parts {
+    pub dimensions: Seq<Dimension>,
+    pub groups: Seq<Group>,
+    pub pairs: Seq<Pair>,
+    pub allowed: Seq<Allowed>,
+    pub search: SearchRow,
+}
+
+// The fields of a model from its dimensions on, in a model of so many nodes and matrices and of
+// these vehicles, whose number is `table.fleet`.
+fn read_parts(
+    alloc: Global,
+    value: &Value,
+    path: &Path,
+    table: DimensionTable<'_>,
+) -> Result<Parts, ReadFail>
+    ensures { Answers result
+        (parts_of table.entry.nodes table.entry.matrices table.entry.fleet table.entry.vehicles.now path.now (view value.now)) }
+{
+    let visit = Visit {
+        nodes: table.nodes,
+        vehicles: table.vehicles,
+    };
+    let table = Array {
+        lo: 0,
+        hi: 4,
+        entry: table,
+    };
+    let none = Seq::new(alloc);
+    let dimensions = optional(alloc, value, "dimensions", path, none, &table)?;
+    let fleet = table.entry.fleet;
+    let table = Array {
+        lo: 0,
+        hi: 1000,
+        entry: GroupTable { visit },
+    };
+    let none = Seq::new(alloc);
+    let groups = optional(alloc, value, "groups", path, none, &table)?;
+    let table = Array {
+        lo: 0,
+        hi: 500,
+        entry: PairTable { visit },
+    };
+    let none = Seq::new(alloc);
+    let pairs = optional(alloc, value, "pairs", path, none, &table)?;
+    let table = Array {
+        lo: 0,
+        hi: 1000,
+        entry: AllowedTable { visit, fleet },
+    };
+    let none = Seq::new(alloc);
+    let allowed = optional(alloc, value, "allowed", path, none, &table)?;
+    let usual = default_search(alloc)?;
+    let search = optional(alloc, value, "search", path, usual, &SearchTable)?;
+    Ok(Parts {
+        dimensions,
+        groups,
+        pairs,
+        allowed,
+        search,
+    })
+}
+
+// The table of a model, without the rules on the whole model.
+fn read_table(alloc: Global, value: &Value, path: &Path) -> Result<Model, ReadFail>
+    ensures { Answers result (model_table path.now (view value.now)) }
+{
+    let nodes = Count { lo: 1, hi: 1000 };
+    let one = Whole { lo: 1, hi: 1 };
+    let format = required(alloc, value, "format", path, &one)?;
+    let nodes = required(alloc, value, "nodes", path, &nodes)?;
+    let table = Array {
+        lo: 1,
+        hi: 16,
+        entry: MatrixTable { nodes },
+    };
+    let matrices = required(alloc, value, "matrices", path, &table)?;
+    let count = matrices.len() as u32;
+    let table = Array {
+        lo: 1,
+        hi: 100,
+        entry: VehicleTable {
+            nodes,
+            matrices: count,
+        },
+    };
+    let vehicles = required(alloc, value, "vehicles", path, &table)?;
+    let fleet = vehicles.len() as u32;
+    let all = vehicles.as_slice();
+    let table = DimensionTable {
+        nodes,
+        matrices: count,
+        fleet,
+        vehicles: all,
+    };
+    let parts = read_parts(alloc, value, path, table)?;
+    known(alloc, value, &FIELDS, path)?;
+    Ok(Model {
+        nodes,
+        matrices,
+        vehicles,
+        dimensions: parts.dimensions,
+        groups: parts.groups,
+        pairs: parts.pairs,
+        allowed: parts.allowed,
+        search: parts.search,
+    })
+}
+
+/// The model that stands at a path (`RoutingModel` in OR-Tools): its table, and then the rules on the
+/// whole model.
+///
+/// Refused with the first fault in the order of the table: each field in turn, absent or read, and then
+/// a field that the table does not name; and then as the rules say: `NegativeCost`, `LargeTransit`,
+/// `NegativeTransit`, `UnlikeVehicles`. A model that is given is well formed.
+pub fn read_model(alloc: Global, value: &Value, path: &Path) -> Result<Model, ReadFail>
+    ensures found { Answers result (read_model_of path.now (view value.now)) }
+    ensures well_formed { IfOk result IsWellFormed }
+{
+    let model = read_table(alloc, value, path)?;
+    keep_rules(alloc, &model, path)?;
+    Ok(model)
+}
+
+// The fields of a model.
+const FIELDS: [&str; 9] = [
+    "format",
+    "nodes",
+    "matrices",
+    "vehicles",
+    "dimensions",
+    "groups",
+    "pairs",
+    "allowed",
+    "search",
+];

@@ -1,0 +1,181 @@
+//! The rules on a whole model, asked once its table is read.
+
+ghost use Rattle.std.specs.Prelude.{◌≡◌, ◌<◌, map, length, int_lt, IfOk};
+ghost use Rattle.std.specs.List.{All, list_any};
+ghost use Rattle.vr_json.specs.Paths.{item_path, name_path};
+ghost use Rattle.vr_json.specs.Reading.{Answers, refuse_if as refused_if};
+ghost use Rattle.vr_model.specs.ModelRules.{cannot_save as cannot_save_of, greatest_entry, is_large, is_negative, is_savings as is_savings_of};
+ghost use Rattle.vr_model.specs.WellFormed.{IsDimension, IsEvaluator, IsVehicle, WherePresent};
+ghost use Rattle.vr_model.specs.declared.records.Matrix.{Matrix as MatrixOf};
+ghost use Rattle.vr_read.specs.Parts.{HasParts};
+ghost use Rattle.vr_read.specs.Rules.{costs_rule, dimension_entries_rule, entries_rule, rules, savings_rule, transits_rule};
+
+use crate::alike::vehicles_differ;
+use crate::backward::goes_back;
+use std::alloc::Global;
+use vr_json::{Cause, Path, ReadFail, refuse_if};
+use vr_model::{Dimension, First, Matrix, Model, NoMemory, Seq};
+
+// The greatest entry of a matrix that a dimension uses.
+const GREATEST_ENTRY: i64 = 1 << 30;
+
+/// Refuses a model that breaks a rule on the whole of it: `NegativeCost` at the costs of the first
+/// vehicle whose matrix has a negative entry; then `LargeTransit` at the matrix of the first
+/// evaluator whose matrix has an entry above 2^30; then `NegativeTransit` at the first dimension that
+/// has breaks or span costs and a negative transit of a vehicle between two nodes; then
+/// `UnlikeVehicles` at `search/first` where savings are asked for, though vehicles differ or rows of
+/// allowed vehicles are there. `path` is where the model stands.
+pub(crate) fn keep_rules(alloc: Global, model: &Model, path: &Path) -> Result<(), ReadFail>
+    requires { HasParts model.now }
+    ensures { Answers result (rules path.now model.now) }
+{
+    keep_costs(alloc, model, path)?;
+    keep_entries(alloc, model, path)?;
+    keep_transits(alloc, model, path)?;
+    keep_savings(alloc, model, path)
+}
+
+// Refuses the field of entry `k` of an array where a rule is broken.
+#[tactic(auto, unfolding(vr_json::specs::Reading::refuse_if))]
+fn refuse_field(
+    alloc: Global,
+    broken: bool,
+    cause: Cause,
+    array: &Path,
+    k: usize,
+    name: &str,
+) -> Result<(), ReadFail>
+    ensures { Answers result
+        (refused_if broken cause (name_path (item_path array.now k) name.now)) }
+{
+    if broken {
+        let entry = array.item(k)?;
+        refuse_if(alloc, true, cause, entry.field(name))
+    } else {
+        Ok(())
+    }
+}
+
+// Whether some entry is negative.
+fn has_negative(entries: &[i64]) -> bool
+    ensures { result ≡ list_any is_negative entries.now }
+{
+    entries.iter().any(|entry| *entry < 0)
+}
+
+// For each matrix, whether it has a negative entry.
+fn negative_matrices(alloc: Global, matrices: &[Matrix]) -> Result<Seq<bool>, NoMemory>
+    ensures { IfOk result
+        (λ marks. marks ≡ map (λ (m : MatrixOf). list_any is_negative m.entries) matrices.now) }
+{
+    let mut marks = Seq::new(alloc);
+    for matrix in matrices {
+        marks.push(has_negative(matrix.entries.as_slice()))?;
+    }
+    Ok(marks)
+}
+
+// The cost matrix of each vehicle has no negative entry.
+fn keep_costs(alloc: Global, model: &Model, path: &Path) -> Result<(), ReadFail>
+    requires { All (IsVehicle model.now) model.now.vehicles }
+    ensures { Answers result (costs_rule path.now model.now) }
+{
+    let vehicles = path.name("vehicles")?;
+    let negative = negative_matrices(alloc, model.matrices.as_slice())?;
+    for v in 0..model.vehicles.len() {
+        let broken = *negative.get(model.vehicles.get(v).costs as usize);
+        refuse_field(alloc, broken, Cause::NegativeCost, &vehicles, v, "costs")?;
+    }
+    Ok(())
+}
+
+// Whether the matrix of an evaluator, where it has one, has an entry that is too large.
+fn has_large_entry(model: &Model, matrix: Option<u32>) -> bool
+    requires { WherePresent (λ m. m < length model.now.matrices) matrix }
+    ensures { result ≡ is_large model.now matrix }
+{
+    match matrix {
+        None => false,
+        Some(m) => has_large(model.matrices.get(m as usize).entries.as_slice()),
+    }
+}
+
+// Whether some entry is too large.
+fn has_large(entries: &[i64]) -> bool
+    ensures { result ≡ list_any (int_lt greatest_entry) entries.now }
+{
+    entries.iter().any(|entry| GREATEST_ENTRY < *entry)
+}
+
+// The matrix of each evaluator of a dimension, which stands at `path`, has no entry that is too large.
+fn keep_dimension_entries(
+    alloc: Global,
+    model: &Model,
+    dimension: &Dimension,
+    path: &Path,
+) -> Result<(), ReadFail>
+    requires { All (IsEvaluator model.now) dimension.now.evaluators }
+    ensures { Answers result (dimension_entries_rule path.now model.now dimension.now) }
+{
+    let evaluators = path.name("evaluators")?;
+    for k in 0..dimension.evaluators.len() {
+        let broken = has_large_entry(model, dimension.evaluators.get(k).matrix);
+        refuse_field(alloc, broken, Cause::LargeTransit, &evaluators, k, "matrix")?;
+    }
+    Ok(())
+}
+
+// Nor has that of any evaluator of any dimension.
+fn keep_entries(alloc: Global, model: &Model, path: &Path) -> Result<(), ReadFail>
+    requires { All (IsDimension model.now) model.now.dimensions }
+    ensures { Answers result (entries_rule path.now model.now) }
+{
+    let dimensions = path.name("dimensions")?;
+    for d in 0..model.dimensions.len() {
+        let place = dimensions.item(d)?;
+        keep_dimension_entries(alloc, model, model.dimensions.get(d), &place)?;
+    }
+    Ok(())
+}
+
+// No dimension with breaks or span costs goes back.
+fn keep_transits(alloc: Global, model: &Model, path: &Path) -> Result<(), ReadFail>
+    requires { HasParts model.now }
+    ensures { Answers result (transits_rule path.now model.now) }
+{
+    let dimensions = path.name("dimensions")?;
+    for d in 0..model.dimensions.len() {
+        let broken = goes_back(model, model.dimensions.get(d));
+        refuse_if(alloc, broken, Cause::NegativeTransit, dimensions.entry(d))?;
+    }
+    Ok(())
+}
+
+// Whether the first solution is to be built by savings.
+fn is_savings(first: First) -> bool
+    ensures { result ≡ is_savings_of first }
+{
+    matches!(first, First::Savings)
+}
+
+// Whether savings are asked for, though vehicles differ or rows of allowed vehicles are there.
+fn cannot_save(model: &Model) -> bool
+    requires { HasParts model.now }
+    ensures { result ≡ cannot_save_of model.now }
+{
+    is_savings(model.search.first) && (vehicles_differ(model) || !model.allowed.is_empty())
+}
+
+// Savings are asked for only of vehicles that are alike, with no rows of allowed vehicles.
+fn keep_savings(alloc: Global, model: &Model, path: &Path) -> Result<(), ReadFail>
+    requires { HasParts model.now }
+    ensures { Answers result (savings_rule path.now model.now) }
+{
+    let search = path.name("search")?;
+    refuse_if(
+        alloc,
+        cannot_save(model),
+        Cause::UnlikeVehicles,
+        search.field("first"),
+    )
+}

@@ -1,0 +1,206 @@
+//! The table of the search.
+
+ghost use Rattle.std.specs.Prelude.{◌≡◌, ◌==◌, IfOk};
+ghost use Rattle.std.specs.List.{list_any};
+ghost use Rattle.vr_model.specs.WellFormed.{number_of};
+ghost use Rattle.vr_read.specs.Searches.{all_neighbourhoods as all_of, default_search as default_of};
+
+use serde_json::Value;
+use std::alloc::Global;
+use vr_json::{
+    Array, Both, Cause, Choice, Count, Place, ReadFail, Reader, Whole, known, optional, refuse_if,
+};
+use vr_model::{First, Improve, Neighbourhood, NoMemory, SearchRow, Seq};
+
+// The words for first solutions.
+const STRATEGIES: [(&str, First); 3] = [
+    ("PATH_CHEAPEST_ARC", First::PathCheapestArc),
+    (
+        "PARALLEL_CHEAPEST_INSERTION",
+        First::ParallelCheapestInsertion,
+    ),
+    ("SAVINGS", First::Savings),
+];
+
+// The words for improvements.
+const IMPROVEMENTS: [(&str, Improve); 3] = [
+    ("NONE", Improve::None),
+    ("GREEDY_DESCENT", Improve::GreedyDescent),
+    ("GUIDED_LOCAL_SEARCH", Improve::GuidedLocalSearch),
+];
+
+// The words for neighbourhoods.
+const NEIGHBOURHOODS: [(&str, Neighbourhood); 11] = [
+    ("two_opt", Neighbourhood::TwoOpt),
+    ("or_opt", Neighbourhood::OrOpt),
+    ("relocate", Neighbourhood::Relocate),
+    ("exchange", Neighbourhood::Exchange),
+    ("cross", Neighbourhood::Cross),
+    ("relocate_pair", Neighbourhood::RelocatePair),
+    ("pair_active", Neighbourhood::PairActive),
+    ("pair_inactive", Neighbourhood::PairInactive),
+    ("make_active", Neighbourhood::MakeActive),
+    ("make_inactive", Neighbourhood::MakeInactive),
+    ("swap_active", Neighbourhood::SwapActive),
+];
+
+// How many moves a search tries where a model does not say it.
+const TRIES: u32 = 100_000;
+
+// The greatest number of tries, and of solutions; so many solutions are found where a model does not
+// say how many.
+const MOST: u32 = 1_000_000_000;
+
+/// A neighbourhood, named by a word that stands nowhere earlier in its array.
+#[derive(Clone, Copy)]
+pub struct NeighbourhoodTable;
+
+// Whether two neighbourhoods are the same.
+fn is_same(one: Neighbourhood, other: Neighbourhood) -> bool
+    ensures { result ≡ (number_of one == number_of other) }
+{
+    one as u8 == other as u8
+}
+
+// Whether a neighbourhood is among some.
+fn has_neighbourhood(some: &[Neighbourhood], neighbourhood: Neighbourhood) -> bool
+    ensures { result ≡ list_any (λ other. number_of other == number_of neighbourhood) some.now }
+{
+    some.iter().any(|other| is_same(*other, neighbourhood))
+}
+
+impl Reader for NeighbourhoodTable {
+    ghost use Rattle.vr_read.specs.Searches.{neighbourhood};
+
+    type Item = Neighbourhood;
+
+    ghost reads = { λ it earlier path d. neighbourhood earlier path d };
+
+    fn read(
+        &self,
+        alloc: Global,
+        earlier: &[Neighbourhood],
+        value: &Value,
+        place: Place<'_>,
+    ) -> Result<Neighbourhood, ReadFail> {
+        let words = Choice {
+            words: &NEIGHBOURHOODS,
+        };
+        let chosen = words.read(alloc, &[], value, place)?;
+        refuse_if(
+            alloc,
+            has_neighbourhood(earlier, chosen),
+            Cause::Repeated,
+            place,
+        )?;
+        Ok(chosen)
+    }
+}
+
+// All neighbourhoods, in the order of their words.
+fn all_neighbourhoods(alloc: Global) -> Result<Seq<Neighbourhood>, NoMemory>
+    ensures { IfOk result (λ all. all ≡ all_of) }
+{
+    let all = vec![in alloc;
+        Neighbourhood::TwoOpt,
+        Neighbourhood::OrOpt,
+        Neighbourhood::Relocate,
+        Neighbourhood::Exchange,
+        Neighbourhood::Cross,
+        Neighbourhood::RelocatePair,
+        Neighbourhood::PairActive,
+        Neighbourhood::PairInactive,
+        Neighbourhood::MakeActive,
+        Neighbourhood::MakeInactive,
+        Neighbourhood::SwapActive,
+    ]?;
+    Ok(Seq::from(all))
+}
+
+/// The search where a model says nothing of it: the cheapest arc first, then greedy descent over all
+/// neighbourhoods with at most 100000 tries.
+pub(crate) fn default_search(alloc: Global) -> Result<SearchRow, NoMemory>
+    ensures { IfOk result (λ row. row ≡ default_of) }
+{
+    Ok(SearchRow {
+        first: First::PathCheapestArc,
+        improve: Improve::GreedyDescent,
+        tries: u64::from(TRIES),
+        solutions: u64::from(MOST),
+        p: 1,
+        q: 10,
+        neighbourhoods: all_neighbourhoods(alloc)?,
+    })
+}
+
+/// The search: its strategy for the first solution, its improvement, its limits, the weight of
+/// penalties, and its neighbourhoods.
+#[derive(Clone, Copy)]
+pub struct SearchTable;
+
+impl Reader for SearchTable {
+    ghost use Rattle.vr_read.specs.Searches.{search_row};
+
+    type Item = SearchRow;
+
+    ghost reads = { λ it earlier path d. search_row path d };
+
+    fn read(
+        &self,
+        alloc: Global,
+        _earlier: &[SearchRow],
+        value: &Value,
+        place: Place<'_>,
+    ) -> Result<SearchRow, ReadFail> {
+        let path = place.path()?;
+        let strategy = Choice { words: &STRATEGIES };
+        let first = optional(
+            alloc,
+            value,
+            "first",
+            &path,
+            First::PathCheapestArc,
+            &strategy,
+        )?;
+        let improvement = Choice {
+            words: &IMPROVEMENTS,
+        };
+        let descent = Improve::GreedyDescent;
+        let improve = optional(alloc, value, "improve", &path, descent, &improvement)?;
+        let count = Count { lo: 0, hi: MOST };
+        let tries = optional(alloc, value, "tries", &path, TRIES, &count)?;
+        let count = Count { lo: 1, hi: MOST };
+        let solutions = optional(alloc, value, "solutions", &path, MOST, &count)?;
+        let weight = Both {
+            entry: Whole { lo: 1, hi: 1000 },
+        };
+        let lambda = optional(alloc, value, "lambda", &path, (1, 10), &weight)?;
+        let words = Array {
+            lo: 0,
+            hi: 11,
+            entry: NeighbourhoodTable,
+        };
+        let all = all_neighbourhoods(alloc)?;
+        let neighbourhoods = optional(alloc, value, "neighbourhoods", &path, all, &words)?;
+        known(alloc, value, &FIELDS, &path)?;
+        Ok(SearchRow {
+            first,
+            improve,
+            tries: u64::from(tries),
+            solutions: u64::from(solutions),
+            p: lambda.0,
+            q: lambda.1,
+            neighbourhoods,
+        })
+    }
+}
+
+// The fields of a search.
+const FIELDS: [&str; 6] = [
+    "first",
+    "improve",
+    "tries",
+    "solutions",
+    "lambda",
+    "neighbourhoods",
+];
