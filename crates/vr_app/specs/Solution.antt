@@ -1,5 +1,5 @@
 -- The text of a solution of a model without dimensions.
-use Rattle.std.specs.Prelude.{ℕ, ℤ, List, [], ◌∷◌, codes, map, length}
+use Rattle.std.specs.Prelude.{ℕ, ℤ, List, [], ◌∷◌, codes, map}
 use Rattle.serde_json.specs.Data.{Data, number, string, array, object, unsigned, no_items, no_members, member}
 use Rattle.serde_json.specs.Find.{of_integer}
 use Rattle.serde_json.specs.View.{items_of}

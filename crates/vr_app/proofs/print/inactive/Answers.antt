@@ -1,4 +1,4 @@
-use Rattle.std.proofs.Common.{◌∙◌, ◌++◌, ◌&&◌, ◌∷◌, [], Bool, ℕ, List, ap, sym, cond, not}
+use Rattle.std.proofs.Common.{◌∙◌, ◌++◌, ◌&&◌, ◌∷◌, [], Bool, ℕ, ap, sym, cond, not}
 use Rattle.vr_model.specs.Routes.{is_active}
 use Rattle.vr_model.specs.Tables.{is_visit}
 use Rattle.vr_app.proofs.TreeLemmas.{filter-below_more}
@@ -10,4 +10,4 @@ loop-node-preserved c =
     let visits : ℕ → Bool = is_visit c.args.model.now in
     let n = c.loop-node.node in
     c.in_ok-note_inactive.ensures ∙ ap (λ xs. xs ++ cond (visits n && is_left n) (n ∷ []) []) c.loop-node.invariant
-        ∙ sym (filter-below_more is_left visits n)
+    ∙ sym (filter-below_more is_left visits n)
