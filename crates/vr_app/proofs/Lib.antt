@@ -1,3 +1,4 @@
 pub mod TreeLemmas
-pub mod PlainLemmas
+pub mod InputLemmas
+pub mod CauseLemmas
 pub mod ReplyLemmas

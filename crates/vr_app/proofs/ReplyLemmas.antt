@@ -1,11 +1,15 @@
 -- Replies.
-use Rattle.std.proofs.Common.{◌≡◌, ◌∙◌, ℕ, ℤ, List, Bool, true, false, cond, Some, None, refl, ap, sym, arith}
+use Rattle.std.proofs.Common.{◌≡◌, ◌≤◌, ◌∙◌, ℕ, ℤ, List, Bool, true, false, cond, Some, None, refl, ap, sym, arith}
 use Rattle.std.proofs.lemmas.Int.{ints}
+use Rattle.serde_json.specs.Data.{Data, depth}
+use Rattle.serde_json.specs.Read.{max_depth}
 use Rattle.serde_json.specs.Written.{has_float}
+use Rattle.vr_json.specs.declared.fault.Fault.{Fault}
 use Rattle.vr_model.specs.declared.records.Model.{Model}
 use Rattle.vr_model.specs.declared.records.Parts.{Parts}
 use Rattle.vr_model.specs.FirstSolutions.{build, first_lists}
 use Rattle.vr_model.specs.Costs.{assigned, cost, parts_at, sum_of}
+use Rattle.vr_model.specs.Routes.{inactive, vehicles}
 use Rattle.vr_model.specs.Rules.{is_valid}
 use Rattle.vr_model.specs.declared.records.End.TheVariants as stop
 use Rattle.vr_model.specs.WellFormed.{IsWellFormed}
@@ -13,19 +17,27 @@ use Rattle.vr_app.specs.declared.found.Found.{Found}
 use Rattle.vr_app.specs.Reply.{IsSolution, untried}
 use Rattle.vr_app.specs.Solution.{solution_tree, tree_with}
 use Rattle.vr_app.specs.Texts.{refused_tree, status_tree}
-use Rattle.vr_app.proofs.TreeLemmas.{is_float-whole, no_float_counts, no_float_routes}
+use Rattle.vr_app.proofs.TreeLemmas.{is_float-whole, no_float_counts, no_float_routes, flat_counts, depth_routes}
 
-pub no_float_status : (status : List ℕ) → has_float (status_tree status) ≡ false
+-- a tree that may be printed: no float stands in it, and it is not too deep
+pub record IsPrintable (d : Data) : Type 0 where
+  pub whole : has_float d ≡ false
+  pub nested : depth d ≤ max_depth
+
+pub status-printable : (status : List ℕ) → IsPrintable (status_tree status)
 unfolding status_tree
-no_float_status status = refl
+status-printable status = record { whole = refl; nested = omega arith }
 
-pub no_float_refused : has_float refused_tree ≡ false
+pub refused-printable : (fault : Fault) → IsPrintable (refused_tree fault)
 unfolding refused_tree
-no_float_refused = refl
+refused-printable fault = record { whole = refl; nested = omega arith }
 
-pub no_float_solution : (parts : Parts) (model : Model) (found : Found) → has_float (tree_with parts model found) ≡ false
+pub solution-printable : (parts : Parts) (model : Model) (found : Found) → IsPrintable (tree_with parts model found)
 unfolding tree_with
-no_float_solution parts model found = simp (is_float-whole, no_float_counts, no_float_routes)
+solution-printable parts model found = record {
+  whole = simp (is_float-whole, no_float_counts, no_float_routes);
+  nested = omega (arith, flat_counts (inactive model found.lists), depth_routes model found.lists (vehicles found.lists));
+}
 
 -- the first lists are valid
 first_lists-valid : (model : Model) (lists : List (List ℕ)) → first_lists model ≡ Some lists → is_valid model lists ≡ true

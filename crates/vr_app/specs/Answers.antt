@@ -8,9 +8,9 @@ use Rattle.vr_app.specs.Reply.{Reply}
 -- the answer has this status and this text
 pub record Answers (status : Status) (text : List ℕ) (answer : Answer) : Type 0 where
   pub status_is : answer.status ≡ status
-  pub text_is : answer.text.items ≡ text
+  pub text_is : answer.text ≡ text
 
 -- the answer is this reply
 pub record AnswersReply (reply : Reply) (answer : Answer) : Type 0 where
   pub status_is : number_of answer.status ≡ reply.status
-  pub text_is : answer.text.items ≡ reply.text
+  pub text_is : answer.text ≡ reply.text

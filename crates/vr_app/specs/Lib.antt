@@ -1,7 +1,9 @@
 pub mod Words
 pub mod Status
-pub mod Plain
+pub mod Unbuilt
+pub mod Input
 pub mod Texts
 pub mod Solution
 pub mod Reply
+pub mod Causes
 pub mod Answers

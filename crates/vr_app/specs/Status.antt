@@ -9,5 +9,7 @@ number_of all.Done = 0
 number_of all.Usage = 1
 number_of all.ReadFault = 2
 number_of all.WriteFault = 3
+number_of all.NotJson = 4
 number_of all.Refused = 5
 number_of all.NoMemory = 7
+number_of all.TooLong = 8

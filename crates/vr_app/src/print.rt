@@ -10,8 +10,9 @@ ghost use Rattle.vr_app.specs.Solution.{counts, parts_tree, route_nodes as nodes
 ghost use Rattle.vr_app.specs.Texts.{refused_tree as refused_data, status_tree as status_data};
 
 use crate::found::Found;
-use serde_json::{Map, Value, json, put};
+use serde_json::{Value, json};
 use std::alloc::Global;
+use vr_json::{Fault, Tree};
 use vr_model::{End, Model, NoMemory, Parts, Seq};
 use vr_rules::total_cost;
 
@@ -41,26 +42,27 @@ pub(crate) fn status_tree(alloc: Global, status: &str) -> Result<Value, NoMemory
     Ok(json!(in alloc; {"status": status})?)
 }
 
-/// The tree of the one refusal of an input.
+/// The tree of a refusal.
 #[tactic(auto, unfolding(crate::specs::Texts::refused_tree))]
-pub(crate) fn refused_tree(alloc: Global) -> Result<Value, NoMemory>
-    ensures { IfOk result (λ v. view v ≡ refused_data) }
+pub(crate) fn refused_tree(alloc: Global, fault: &Fault) -> Result<Value, NoMemory>
+    ensures { IfOk result (λ v. view v ≡ refused_data fault.now) }
 {
-    Ok(json!(in alloc; {"code": 30u64, "path": "", "status": "ROUTING_INVALID"})?)
+    let path = fault.path.as_str();
+    Ok(json!(in alloc; {"code": fault.code as u64, "path": path, "status": "ROUTING_INVALID"})?)
 }
 
 // The six parts of a cost.
 fn parts_tree(alloc: Global, parts: &Parts) -> Result<Value, NoMemory>
     ensures { IfOk result (λ v. view v ≡ parts_tree parts.now) }
 {
-    let mut fields = Map::new(alloc);
-    put(&mut fields, alloc, "arcs", Value::from(parts.arcs))?;
-    put(&mut fields, alloc, "fixed", Value::from(parts.fixed))?;
-    put(&mut fields, alloc, "global", Value::from(parts.global))?;
-    put(&mut fields, alloc, "penalty", Value::from(parts.penalty))?;
-    put(&mut fields, alloc, "soft", Value::from(parts.soft))?;
-    put(&mut fields, alloc, "span", Value::from(parts.span))?;
-    Ok(Value::Object(fields))
+    let mut tree = Tree::new(alloc);
+    tree.put("arcs", Value::from(parts.arcs))?;
+    tree.put("fixed", Value::from(parts.fixed))?;
+    tree.put("global", Value::from(parts.global))?;
+    tree.put("penalty", Value::from(parts.penalty))?;
+    tree.put("soft", Value::from(parts.soft))?;
+    tree.put("span", Value::from(parts.span))?;
+    Ok(tree.finish())
 }
 
 // Whether a node stands in a list.
@@ -182,35 +184,15 @@ pub(crate) fn solution_tree(
     let dropped = counts(alloc, &inactive(alloc, model, lists)?)?;
     let parts_of_cost = parts_tree(alloc, parts)?;
     let routes = routes_tree(alloc, model, lists)?;
-    let mut fields = Map::new(alloc);
-    put(&mut fields, alloc, "cost", Value::from(total_cost(parts)))?;
-    put(&mut fields, alloc, "dropped", dropped)?;
-    put(
-        &mut fields,
-        alloc,
-        "first_cost",
-        Value::from(found.first_cost),
-    )?;
-    put(&mut fields, alloc, "parts", parts_of_cost)?;
-    put(&mut fields, alloc, "routes", routes)?;
-    put(
-        &mut fields,
-        alloc,
-        "solutions",
-        Value::from(found.report.solutions),
-    )?;
-    put(
-        &mut fields,
-        alloc,
-        "status",
-        text(alloc, "ROUTING_SUCCESS")?,
-    )?;
-    put(
-        &mut fields,
-        alloc,
-        "stop",
-        text(alloc, word_of(found.report.end))?,
-    )?;
-    put(&mut fields, alloc, "tries", Value::from(found.report.tries))?;
-    Ok(Value::Object(fields))
+    let mut tree = Tree::new(alloc);
+    tree.put("cost", Value::from(total_cost(parts)))?;
+    tree.put("dropped", dropped)?;
+    tree.put("first_cost", Value::from(found.first_cost))?;
+    tree.put("parts", parts_of_cost)?;
+    tree.put("routes", routes)?;
+    tree.put("solutions", Value::from(found.report.solutions))?;
+    tree.put("status", text(alloc, "ROUTING_SUCCESS")?)?;
+    tree.put("stop", text(alloc, word_of(found.report.end))?)?;
+    tree.put("tries", Value::from(found.report.tries))?;
+    Ok(tree.finish())
 }

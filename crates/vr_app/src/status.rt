@@ -14,10 +14,14 @@ pub(crate) enum Status {
     ReadFault = 2,
     /// The sink failed.
     WriteFault = 3,
-    /// The input gives no model.
+    /// The input is no JSON.
+    NotJson = 4,
+    /// The input is refused.
     Refused = 5,
     /// Want of memory.
     NoMemory = 7,
+    /// The input has too many bytes.
+    TooLong = 8,
 }
 
 impl Status {

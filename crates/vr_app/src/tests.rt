@@ -2,16 +2,15 @@
 
 use crate::run;
 use std::alloc::Global;
+use std::fmt::Write;
+use std::process::Abort;
 use std::test::Fail;
 use vr_io::{MemSink, MemSource, PureSink, PureSource, Source};
 
 const THREE_NODES: &str =
     "{\"format\":1,\"nodes\":3,\"matrices\":[[[0,5,9],[5,0,4],[9,4,0]]],\"vehicles\":[{\"start\":0,\"end\":0}]}";
 
-const ONE_NODE: &str =
-    "{\"format\":1,\"nodes\":1,\"matrices\":[[[0]]],\"vehicles\":[{\"start\":0,\"end\":0}]}";
-
-const REFUSED: &str = "{\"code\":30,\"path\":\"\",\"status\":\"ROUTING_INVALID\"}\n";
+const VEHICLES: &str = "[{\"start\":0,\"end\":0}]";
 
 fn words_of(alloc: Global, word: &str) -> Result<Vec<String>, Fail> {
     let mut words = Vec::new(alloc);
@@ -19,44 +18,187 @@ fn words_of(alloc: Global, word: &str) -> Result<Vec<String>, Fail> {
     Ok(words)
 }
 
+// Asserts what the word `first` and an input are answered.
+fn assert_answer(
+    rt: &impl Abort,
+    alloc: Global,
+    input: &str,
+    status: u8,
+    text: &str,
+) -> Result<(), Fail> {
+    let words = words_of(alloc, "first")?;
+    let mut source = PureSource::new(Vec::from_slice(alloc, input.as_bytes())?);
+    let mut sink = PureSink::new(Vec::from_slice(alloc, &[0; 1000])?);
+    assert_eq!(rt;
+        run(alloc, &words, &mut source, &mut sink),
+        status,
+        "{input}"
+    );
+    assert!(rt; sink.bytes() == text.as_bytes(), "{input}");
+    Ok(())
+}
+
+// Asserts that an input is refused with this code at this path.
+fn assert_refused(
+    rt: &impl Abort,
+    alloc: Global,
+    input: &str,
+    code: u8,
+    path: &str,
+) -> Result<(), Fail> {
+    let mut text = String::new(alloc);
+    writeln!(
+        text,
+        "{{\"code\":{code},\"path\":\"{path}\",\"status\":\"ROUTING_INVALID\"}}"
+    )?;
+    assert_answer(rt, alloc, input, 5, &text)
+}
+
 #[test]
-fn answers_are_written(rt: HostRuntime) -> Result<(), Fail> {
+fn solutions_are_written(rt: HostRuntime) -> Result<(), Fail> {
     let alloc = rt.alloc();
-    for (input, status, text) in [
+    for (vehicles, text) in [
         (
-            THREE_NODES,
-            0,
+            VEHICLES,
             "{\"cost\":18,\"dropped\":[],\"first_cost\":18,\"parts\":{\"arcs\":18,\"fixed\":0,\"global\":0,\"penalty\":0,\"soft\":0,\"span\":0},\"routes\":[{\"dimensions\":[],\"nodes\":[0,1,2,0],\"vehicle\":0}],\"solutions\":1,\"status\":\"ROUTING_SUCCESS\",\"stop\":\"first\",\"tries\":0}\n",
         ),
         (
-            ONE_NODE,
-            0,
-            "{\"cost\":0,\"dropped\":[],\"first_cost\":0,\"parts\":{\"arcs\":0,\"fixed\":0,\"global\":0,\"penalty\":0,\"soft\":0,\"span\":0},\"routes\":[{\"dimensions\":[],\"nodes\":[],\"vehicle\":0}],\"solutions\":1,\"status\":\"ROUTING_SUCCESS\",\"stop\":\"first\",\"tries\":0}\n",
+            "[{\"start\":0,\"end\":0,\"fixed\":7}]",
+            "{\"cost\":25,\"dropped\":[],\"first_cost\":25,\"parts\":{\"arcs\":18,\"fixed\":7,\"global\":0,\"penalty\":0,\"soft\":0,\"span\":0},\"routes\":[{\"dimensions\":[],\"nodes\":[0,1,2,0],\"vehicle\":0}],\"solutions\":1,\"status\":\"ROUTING_SUCCESS\",\"stop\":\"first\",\"tries\":0}\n",
         ),
-        ("[]", 5, REFUSED),
-        ("", 5, REFUSED),
+        (
+            "[{\"start\":0,\"end\":0},{\"start\":0,\"end\":0,\"fixed\":5}]",
+            "{\"cost\":18,\"dropped\":[],\"first_cost\":18,\"parts\":{\"arcs\":18,\"fixed\":0,\"global\":0,\"penalty\":0,\"soft\":0,\"span\":0},\"routes\":[{\"dimensions\":[],\"nodes\":[0,1,2,0],\"vehicle\":0},{\"dimensions\":[],\"nodes\":[],\"vehicle\":1}],\"solutions\":1,\"status\":\"ROUTING_SUCCESS\",\"stop\":\"first\",\"tries\":0}\n",
+        ),
+        (
+            "[{\"start\":0,\"end\":1,\"fixed\":7},{\"start\":2,\"end\":0}]",
+            "{\"cost\":0,\"dropped\":[],\"first_cost\":0,\"parts\":{\"arcs\":0,\"fixed\":0,\"global\":0,\"penalty\":0,\"soft\":0,\"span\":0},\"routes\":[{\"dimensions\":[],\"nodes\":[],\"vehicle\":0},{\"dimensions\":[],\"nodes\":[],\"vehicle\":1}],\"solutions\":1,\"status\":\"ROUTING_SUCCESS\",\"stop\":\"first\",\"tries\":0}\n",
+        ),
+    ] {
+        let input = THREE_NODES.replace(alloc, VEHICLES, vehicles)?;
+        assert_answer(&rt, alloc, &input, 0, text)?;
+    }
+    Ok(())
+}
+
+// A text in the model of three nodes stands in place of another.
+#[test]
+fn faults_are_refused(rt: HostRuntime) -> Result<(), Fail> {
+    let alloc = rt.alloc();
+    for (from, to, code, path) in [
+        (THREE_NODES, "null", 11, ""),
+        (THREE_NODES, "[]", 11, ""),
+        ("\"format\":1,", "", 10, "/format"),
+        ("\"format\":1,", "\"colour\":1,", 10, "/format"),
+        ("\"format\":1", "\"format\":3", 14, "/format"),
+        ("\"format\":1", "\"format\":1,\"colour\":1", 13, "/colour"),
+        ("\"nodes\":3", "\"nodes\":1001", 14, "/nodes"),
+        ("[0,5,9]", "[0,5.0,9]", 12, "/matrices/0/0/1"),
+        ("[0,5,9]", "[0,-1,9]", 20, "/vehicles/0/costs"),
+        ("[[[0,5,9],[5,0,4],[9,4,0]]]", "[]", 15, "/matrices"),
+        (
+            "\"format\":1",
+            "\"format\":1,\"groups\":[{\"nodes\":[0]}]",
+            18,
+            "/groups/0/nodes/0",
+        ),
+        (
+            "\"format\":1",
+            "\"format\":1,\"dimensions\":[{\"name\":\"t\",\"evaluators\":[{}],\"slack_max\":0,\"capacity\":9223372036854775808}]",
+            12,
+            "/dimensions/0/capacity",
+        ),
+        (
+            VEHICLES,
+            "[{\"start\":0,\"end\":0,\"fixed\":0},{\"start\":0,\"end\":0,\"fixed\":5}],\"search\":{\"first\":\"SAVINGS\"}",
+            23,
+            "/search/first",
+        ),
+        (
+            VEHICLES,
+            "[{\"start\":0,\"end\":0}],\"search\":{\"first\":\"SAVINGS\"}",
+            30,
+            "/search/first",
+        ),
+    ] {
+        let input = THREE_NODES.replace(alloc, from, to)?;
+        assert_refused(&rt, alloc, &input, code, path)?;
+    }
+    Ok(())
+}
+
+// The parts that are not solved are put into the model one after another, the last one first.
+#[test]
+fn the_first_part_that_is_not_solved_is_told(rt: HostRuntime) -> Result<(), Fail> {
+    let alloc = rt.alloc();
+    let mut input = String::from_str(alloc, THREE_NODES)?;
+    for (from, to, path) in [
+        (
+            "\"format\":1",
+            "\"format\":1,\"search\":{\"first\":\"PARALLEL_CHEAPEST_INSERTION\"}",
+            "/search/first",
+        ),
+        (
+            "\"format\":1",
+            "\"format\":1,\"allowed\":[{\"node\":1,\"vehicles\":[0]}]",
+            "/allowed",
+        ),
+        (
+            "\"format\":1",
+            "\"format\":1,\"pairs\":[{\"pickup\":1,\"delivery\":2}]",
+            "/pairs",
+        ),
+        (
+            "\"format\":1",
+            "\"format\":1,\"groups\":[{\"nodes\":[2]}]",
+            "/groups",
+        ),
+        ("\"end\":0", "\"end\":0,\"policy\":\"fifo\"", "/vehicles"),
+        (
+            "\"format\":1",
+            "\"format\":1,\"dimensions\":[{\"name\":\"t\",\"evaluators\":[{}],\"slack_max\":0,\"capacity\":0}]",
+            "/dimensions",
+        ),
+    ] {
+        input = input.replace(alloc, from, to)?;
+        assert_refused(&rt, alloc, &input, 30, path)?;
+    }
+    Ok(())
+}
+
+#[test]
+fn what_is_no_json_is_told(rt: HostRuntime) -> Result<(), Fail> {
+    let alloc = rt.alloc();
+    for input in ["", " ", "{", "[1e999]"] {
+        assert_answer(&rt, alloc, input, 4, "{\"status\":\"NOT_JSON\"}\n")?;
+    }
+    Ok(())
+}
+
+// 64 MiB of spaces are read, and one more is too many.
+#[test]
+fn the_limit_is_kept(rt: HostRuntime) -> Result<(), Fail> {
+    let alloc = rt.alloc();
+    for (bytes, status, text) in [
+        (67108864, 4, "{\"status\":\"NOT_JSON\"}\n"),
+        (67108865, 8, "{\"status\":\"TOO_LONG\"}\n"),
     ] {
         let words = words_of(alloc, "first")?;
-        let bytes = Vec::from_slice(alloc, input.as_bytes())?;
-        let mut source = PureSource::new(bytes);
-        let mut sink = PureSink::new(Vec::from_slice(alloc, &[0; 1000])?);
-        assert_eq!(rt;
-            run(alloc, &words, &mut source, &mut sink),
-            status,
-            "{input}"
-        );
-        assert!(rt; sink.bytes() == text.as_bytes(), "{input}");
+        let mut source = PureSource::new(Vec::from_elem(alloc, b' ', bytes)?);
+        let mut sink = PureSink::new(Vec::from_slice(alloc, &[0; 100])?);
+        assert_eq!(rt; run(alloc, &words, &mut source, &mut sink), status);
+        assert!(rt; sink.bytes() == text.as_bytes());
     }
     Ok(())
 }
 
 // Faults of the source and the sink, in the first call and later.
 #[test]
-fn faults_are_told(rt: HostRuntime) -> Result<(), Fail> {
+fn failures_are_told(rt: HostRuntime) -> Result<(), Fail> {
     let alloc = rt.alloc();
     for (word, source_fails, sink_fails, status, text) in [
         ("first", 0, 99, 2, ""),
-        ("first", 3, 99, 2, ""),
+        ("first", 1, 99, 2, ""),
         ("first", 99, 0, 3, ""),
         ("first", 99, 1, 3, "{\"cost\""),
         ("last", 0, 99, 1, "{\"status\":\"USAGE\"}\n"),

@@ -1,0 +1,84 @@
+-- What the status of a reply says of the input.
+use Rattle.std.proofs.Common.{◌≡◌, ◌∙◌, ◌<◌, ◌≤◌, ◌↔◌, ℕ, List, Bool, true, false, cond, Option, Some, None, Result, Ok, Err, refl, ap, sym, arith, length}
+use Rattle.std.specs.Prelude.{IsSome, nat_lt}
+use Rattle.std.proofs.lemmas.Bool.Decides.{nat_tests}
+use Rattle.serde_json.specs.Data.{Data}
+use Rattle.vr_json.specs.Trees.{line_of}
+use Rattle.vr_json.specs.declared.fault.Fault.{Fault}
+use Rattle.vr_model.specs.declared.records.Model.{Model}
+use Rattle.vr_app.specs.Causes.{IsModel, IsNotJson, IsRefused, IsTooLong}
+use Rattle.vr_app.specs.Input.{max_input, model_of, value_of}
+use Rattle.vr_app.specs.Reply.{reply, reply_in, reply_to_input, reply_to_model, reply_to_value, too_long}
+use Rattle.vr_app.specs.Texts.{refused_tree}
+use Rattle.vr_app.specs.Words.{mode_of}
+use Rattle.vr_app.specs.declared.words.Mode.{Mode}
+use Rattle.vr_app.proofs.InputLemmas.{reply-short}
+
+-- which inputs have this status
+pub record Tells (bytes : List ℕ) (status : ℕ) : Type 0 where
+  pub too_long : (status ≡ 8) ↔ IsTooLong bytes
+  pub not_json : (status ≡ 4) ↔ IsNotJson bytes
+  pub refused : (status ≡ 5) ↔ ((fault : Fault) × IsRefused bytes fault)
+  pub done : (status ≡ 0) ↔ ((model : Model) × IsModel bytes model)
+
+long-tells : (bytes : List ℕ) → max_input < length bytes → Tells bytes 8
+long-tells bytes long = record {
+  too_long = (λ e. long, λ h. refl);
+  not_json = (λ e. absurd (omega arith), λ h. absurd (omega (arith, h.short)));
+  refused = (λ e. absurd (omega arith), λ h. absurd (omega (arith, h.1.short)));
+  done = (λ e. absurd (omega arith), λ h. absurd (omega (arith, h.1.short)));
+}
+
+no_value-tells : (bytes : List ℕ) → length bytes ≤ max_input → value_of bytes ≡ None → Tells bytes 4
+no_value-tells bytes short none = record {
+  too_long = (λ e. absurd (omega arith), λ h. absurd (omega arith));
+  not_json = (λ e. record { short = short; no_value = none }, λ h. refl);
+  refused = (λ e. absurd (omega arith), λ h. let same = sym none ∙ h.1.is_value in absurd cc);
+  done = (λ e. absurd (omega arith), λ h. let same = sym none ∙ h.1.is_value in absurd cc);
+}
+
+same_model : (bytes : List ℕ) (d e : Data) → value_of bytes ≡ Some d → value_of bytes ≡ Some e → model_of d ≡ model_of e
+same_model bytes d e p q = let same : d ≡ e = let k = sym p ∙ q in cc in ap model_of same
+
+value-tells : (mode : Mode) (bytes : List ℕ) (d : Data) → length bytes ≤ max_input → value_of bytes ≡ Some d
+    → (m : Result Model Fault) → model_of d ≡ m → Tells bytes (reply_to_model mode m).status
+value-tells mode bytes d short some (Err fault) is = record {
+  too_long = (λ e. absurd (omega arith), λ h. absurd (omega arith));
+  not_json = (λ e. absurd (omega arith), λ h. let same = sym some ∙ h.no_value in absurd cc);
+  refused = (λ e. (fault, record { short = short; value = d; is_value = some; is_fault = is }), λ h. refl);
+  done = (λ e. absurd (omega arith), λ h. let both = sym is ∙ same_model bytes d h.1.value some h.1.is_value ∙ h.1.is_model in absurd cc);
+}
+value-tells mode bytes d short some (Ok model) is = record {
+  too_long = (λ e. absurd (omega arith), λ h. absurd (omega arith));
+  not_json = (λ e. absurd (omega arith), λ h. let same = sym some ∙ h.no_value in absurd cc);
+  refused = (λ e. absurd (omega arith), λ h. let both = sym is ∙ same_model bytes d h.1.value some h.1.is_value ∙ h.1.is_fault in absurd cc);
+  done = (λ e. (model, record { short = short; value = d; is_value = some; is_model = is }), λ h. refl);
+}
+
+short-tells : (mode : Mode) (bytes : List ℕ) → length bytes ≤ max_input → (o : Option Data) → value_of bytes ≡ o → Tells bytes (reply_to_value mode o).status
+short-tells mode bytes short None e = no_value-tells bytes short e
+short-tells mode bytes short (Some d) e = value-tells mode bytes d short e (model_of d) refl
+
+pub input-tells : (mode : Mode) (bytes : List ℕ) → Tells bytes (reply_to_input mode bytes).status
+unfolding reply_to_input
+input-tells mode bytes = by (nat_lt max_input (length bytes)) refl
+  where
+    by : (b : Bool) → nat_lt max_input (length bytes) ≡ b → Tells bytes (cond b too_long (reply_to_value mode (value_of bytes))).status
+    by true e = long-tells bytes (grind (arith, nat_tests))
+    by false e = short-tells mode bytes (grind (arith, nat_tests)) (value_of bytes) refl
+
+-- of accepted words
+pub reply-tells : (words : List (List ℕ)) (bytes : List ℕ) → IsSome (mode_of words) → Tells bytes (reply words bytes).status
+reply-tells words bytes h = by (mode_of words) h
+  where
+    by : (o : Option Mode) → IsSome o → Tells bytes (reply_in o bytes).status
+    by None h = absurd cc
+    by (Some mode) h = input-tells mode bytes
+
+-- a refusal tells the fault
+pub reply-refused : (words : List (List ℕ)) (bytes : List ℕ) (fault : Fault) → (reply words bytes).status ≡ 5 → IsRefused bytes fault → (reply words bytes).text ≡ line_of (refused_tree fault)
+reply-refused words bytes fault e r = by (mode_of words) e
+  where
+    by : (o : Option Mode) → (reply_in o bytes).status ≡ 5 → (reply_in o bytes).text ≡ line_of (refused_tree fault)
+    by None e = absurd (omega arith)
+    by (Some mode) e = ap (λ reply. reply.text) (reply-short mode bytes r.short ∙ ap (reply_to_value mode) r.is_value ∙ ap (reply_to_model mode) r.is_fault)
