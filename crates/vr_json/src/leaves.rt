@@ -123,7 +123,6 @@ impl Reader for Flag {
     }
 }
 
-
 /// A string that is one of some words, as what the word stands for.
 #[derive(Clone, Copy)]
 pub struct Choice<'a, T> {

@@ -58,13 +58,6 @@ rules_ensure path model =
     after (for_all_ensures (length model.dimensions) (λ d. refuse_if_ensures (goes_back model d) _ _)) λ transits transits_ok.
     weaker (λ saved saves. record { costs_not_negative = costs_ok; entries_not_large = entries_ok; transits_forward = transits_ok; can_save = saves }) (refuse_if_ensures (cannot_save model) _ _)
 
--- past the evaluators of a dimension there is no matrix
-entries_not_large : (model : Model) → KeepsModelRules model → (d k : ℕ) → d < length model.dimensions → has_large_entry model d k ≡ false
-entries_not_large model kept d k low = elim (cases_lt k (length (dimension_at model d).evaluators)) [
-  | inl here ↦ kept.entries_not_large d low k here
-  | inr past ↦ ap (λ evaluator. is_large model evaluator.matrix) (get_or_past (dimension_at model d).evaluators k no_evaluator past)
-]
-
 -- ---- the table
 
 -- a model of these nodes, matrices and vehicles, and of other rows
@@ -140,7 +133,7 @@ table_ensures path d =
         no_node_allowed_twice = (others_ok read).allowed_rows.1.1;
         search_in_range = (others_ok read).search_in_range;
         costs_not_negative = kept.costs_not_negative;
-        entries_not_large = entries_not_large read kept;
+        entries_not_large = λ d k low here. kept.entries_not_large d low k here;
         transits_forward = kept.transits_forward;
         can_save = kept.can_save;
       };

@@ -19,7 +19,7 @@ for_all (k ∷ ks) rule = rule k >>= λ passed. for_all ks rule
 abbrev pub cost_rule : List ℕ → Model → ℕ → Result ⊤ Fault
 cost_rule path model v = refuse_if (has_negative_cost model v) NegativeCost (name_path (item_path (name_path path (codes "vehicles")) v) (codes "costs"))
 
--- nor has that of any vehicle
+-- no vehicle's cost matrix has a negative entry: the first vehicle in order that breaks it is the fault
 abbrev pub costs_rule : List ℕ → Model → Result ⊤ Fault
 costs_rule path model = for_all (below (length model.vehicles)) (cost_rule path model)
 
@@ -27,15 +27,15 @@ costs_rule path model = for_all (below (length model.vehicles)) (cost_rule path 
 abbrev pub entry_rule : List ℕ → Model → Dimension → ℕ → Result ⊤ Fault
 entry_rule path model dimension k = refuse_if (is_large model (evaluator_at dimension k).matrix) LargeTransit (name_path (item_path (name_path path (codes "evaluators")) k) (codes "matrix"))
 
--- nor has that of any evaluator of the dimension
+-- no evaluator of a dimension has such a matrix, whether a vehicle uses it or not
 abbrev pub dimension_entries_rule : List ℕ → Model → Dimension → Result ⊤ Fault
 dimension_entries_rule path model dimension = for_all (below (length dimension.evaluators)) (entry_rule path model dimension)
 
--- nor has that of any evaluator of dimension d
+-- the same of dimension d, at its place in the model
 abbrev pub entries_rule_at : List ℕ → Model → ℕ → Result ⊤ Fault
 entries_rule_at path model d = dimension_entries_rule (item_path (name_path path (codes "dimensions")) d) model (dimension_at model d)
 
--- nor of any dimension
+-- no dimension has an evaluator with such a matrix
 abbrev pub entries_rule : List ℕ → Model → Result ⊤ Fault
 entries_rule path model = for_all (below (length model.dimensions)) (entries_rule_at path model)
 
@@ -43,7 +43,7 @@ entries_rule path model = for_all (below (length model.dimensions)) (entries_rul
 abbrev pub transit_rule : List ℕ → Model → ℕ → Result ⊤ Fault
 transit_rule path model d = refuse_if (goes_back model d) NegativeTransit (item_path (name_path path (codes "dimensions")) d)
 
--- nor does any dimension
+-- no dimension goes back where it has breaks or span costs
 abbrev pub transits_rule : List ℕ → Model → Result ⊤ Fault
 transits_rule path model = for_all (below (length model.dimensions)) (transit_rule path model)
 

@@ -10,6 +10,8 @@ mod limits;
 mod matrices;
 mod model;
 mod model_rules;
+#[cfg(test)]
+mod rule_tests;
 mod searches;
 mod stop_rows;
 mod vehicles;

@@ -125,7 +125,7 @@ fn keep_dimension_entries(
     Ok(())
 }
 
-// Nor has that of any evaluator of any dimension.
+// The matrix of each evaluator of each dimension has no entry that is too large.
 fn keep_entries(alloc: Global, model: &Model, path: &Path) -> Result<(), ReadFail>
     requires { All (IsDimension model.now) model.now.dimensions }
     ensures { Answers result (entries_rule path.now model.now) }
