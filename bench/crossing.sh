@@ -69,19 +69,19 @@ impl From<io::Error> for Stop {
     }
 }
 
-const STOPS: usize = 32;
+/// How many arcs a round crosses.
+const ARCS: usize = 64;
 
 /// The set of these runs of cumuls.
-fn set_of(alloc: Global, runs: &[Run]) -> Result<Spans, NoMemory>
+fn set_of(alloc: Global, runs: &[Run]) -> Result<Spans, vr_spans::NoMemory>
     requires { All IsShort runs.now }
     ensures { IfOk result IsCumuls }
 {
-    let set = Spans::from_runs(alloc, runs).map_err(|_| NoMemory)?;
-    Ok(set)
+    Spans::from_runs(alloc, runs)
 }
 
 /// A set of `count` runs, 1, 2 or 4, each of which leaves one number out.
-fn cumuls(alloc: Global, count: usize) -> Result<Spans, NoMemory>
+fn cumuls(alloc: Global, count: usize) -> Result<Spans, vr_spans::NoMemory>
     ensures { IfOk result IsCumuls }
 {
     let first = Run { lo: 0, hi: 8 };
@@ -97,19 +97,9 @@ fn cumuls(alloc: Global, count: usize) -> Result<Spans, NoMemory>
     set_of(alloc, &[first, second, third, fourth])
 }
 
-fn stops(alloc: Global, count: usize) -> Result<Vec<Spans>, NoMemory>
-    ensures { IfOk result (λ sets. All IsCumuls sets.items) }
-{
-    let mut sets = Vec::new(alloc);
-    for _ in 0..STOPS {
-        sets.push(cumuls(alloc, count)?)?;
-    }
-    Ok(sets)
-}
-
 #[inline(never)]
 fn cross_all<L: Ledger>(
-    stops: &[Spans],
+    next: &Spans,
     hop: Hop,
     breaks: &Breaks,
     steps: &mut Steps<L>,
@@ -118,11 +108,11 @@ fn cross_all<L: Ledger>(
 ) -> Result<(), NoMemory>
     requires no_breaks { breaks.now ≡ [] }
     requires hop { IsSoundHop hop }
-    requires stops { All IsCumuls stops.now }
+    requires next { IsCumuls next.now }
     requires a { AreLevels breaks.now a.old }
     ensures { OnOk result (AreLevels breaks.now a.new) }
 {
-    for next in stops {
+    'arcs: for _ in 0..ARCS / 2 {
         cross_into(a, hop, next, breaks, steps, b)?;
         cross_into(b, hop, next, breaks, steps, a)?;
     }
@@ -130,8 +120,8 @@ fn cross_all<L: Ledger>(
 }
 
 #[inline(never)]
-fn meet_all(stops: &[Spans], a: &mut Spans, b: &mut Spans) -> Result<(), vr_spans::NoMemory> {
-    for next in stops {
+fn meet_all(next: &Spans, a: &mut Spans, b: &mut Spans) -> Result<(), vr_spans::NoMemory> {
+    for _ in 0..ARCS / 2 {
         a.meet_into(next, b)?;
         b.meet_into(next, a)?;
     }
@@ -150,7 +140,7 @@ fn time_cross<R: Runtime, L: Ledger>(rt: &R, alloc: Global, count: usize, rounds
     requires parts { blank.parts ≡ L.parts }
     requires some { 0 < blank.parts }
 {
-    let stops = stops(alloc, count)?;
+    let next = cumuls(alloc, count)?;
     let breaks = Breaks {
         rows: ArrayVec::new(),
     };
@@ -162,11 +152,11 @@ fn time_cross<R: Runtime, L: Ledger>(rt: &R, alloc: Global, count: usize, rounds
     let start = Instant::now(rt)?;
     for round in 0..rounds {
         let hop = Hop {
-            transit: i64::from(round % 2),
-            slack: 1,
+            transit: 0,
+            slack: i64::from(round % 2),
             visit: 0,
         };
-        cross_all(&stops, hop, &breaks, &mut steps, &mut a, &mut b)?;
+        cross_all(&next, hop, &breaks, &mut steps, &mut a, &mut b)?;
         sum = sum.wrapping_add(a.level(0).greatest().unwrap_or(0));
     }
     let nanos = start.elapsed(rt)?.as_nanos();
@@ -175,13 +165,13 @@ fn time_cross<R: Runtime, L: Ledger>(rt: &R, alloc: Global, count: usize, rounds
 }
 
 fn time_meet<R: Runtime>(rt: &R, alloc: Global, count: usize, rounds: u32) -> Result<(), Stop> {
-    let stops = stops(alloc, count)?;
+    let next = cumuls(alloc, count)?;
     let mut a = cumuls(alloc, count)?;
     let mut b = Spans::new(alloc);
     let mut sum: i64 = 0;
     let start = Instant::now(rt)?;
     for _ in 0..rounds {
-        meet_all(&stops, &mut a, &mut b)?;
+        meet_all(&next, &mut a, &mut b)?;
         sum = sum.wrapping_add(a.greatest().unwrap_or(0));
     }
     let nanos = start.elapsed(rt)?.as_nanos();
@@ -209,11 +199,26 @@ END
 mkdir -p "$work/proved/crates/crossing/proofs/set_of" "$work/proved/crates/crossing/proofs/main"
 sed 's/Rattle.vr_steps.proofs.tests.cumuls.Goals/Rattle.crossing.proofs.set_of.Goals/' \
     "$top/crates/vr_steps/proofs/tests/cumuls/Answers.antt" > "$work/proved/crates/crossing/proofs/set_of/Answers.antt"
+mkdir -p "$work/proved/crates/crossing/proofs/cross_all" "$work/proved/crates/crossing/proofs/time_cross"
+cat > "$work/proved/crates/crossing/proofs/cross_all/Invariants.antt" <<'END'
+use Rattle.vr_steps.specs.Levels.{AreLevels}
+use Rattle.crossing.proofs.cross_all.Given as goal
+
+abbrev pub invariant-arcs : goal.invariant-arcs
+invariant-arcs g l = AreLevels l.breaks l.a
+END
+cat > "$work/proved/crates/crossing/proofs/time_cross/Invariants.antt" <<'END'
+use Rattle.vr_steps.specs.Levels.{AreLevels}
+use Rattle.crossing.proofs.time_cross.Given as goal
+
+abbrev pub invariant-loop-round : goal.invariant-loop-round
+invariant-loop-round g l = AreLevels l.breaks l.a
+END
 cat > "$work/proved/crates/crossing/proofs/main/Invariants.antt" <<'END'
 use Rattle.crossing.proofs.main.Given as goal
 
 abbrev pub ghosts-time_cross : goal.ghosts-time_cross
-ghosts-time_cross g a = record { name = a.blank.name; parts = a.blank.parts }
+ghosts-time_cross a = record { name = a.blank.name; parts = a.blank.parts }
 END
 
 cat > "$work/rust/Cargo.toml" <<'END'
@@ -373,26 +378,26 @@ const RUNS: [Run; 4] = [
 ];
 
 #[inline(never)]
-fn reach_all(stops: &[Spans], first: i64, last: i64, a: &mut Spans, b: &mut Spans) {
-    for next in stops {
+fn reach_all(next: &Spans, first: i64, last: i64, a: &mut Spans, b: &mut Spans) {
+    for _ in 0..32 {
         b.reach(a.as_slice(), first, last, next.as_slice());
         a.reach(b.as_slice(), first, last, next.as_slice());
     }
 }
 
 fn time(name: &str, crosses: bool, count: usize, rounds: u32) {
-    let stops: Vec<Spans> = (0..32).map(|_| Spans::of(&RUNS[..count])).collect();
+    let next = Spans::of(&RUNS[..count]);
     let mut a = Spans::of(&RUNS[..count]);
     let mut b = Spans::new();
     let mut sum = 0_i64;
     let start = Instant::now();
     for round in 0..rounds {
         let (first, last) = if crosses {
-            (i64::from(round % 2), i64::from(round % 2) + 1)
+            (0, i64::from(round % 2))
         } else {
             (0, 0)
         };
-        reach_all(&stops, first, last, &mut a, &mut b);
+        reach_all(&next, first, last, &mut a, &mut b);
         sum = sum.wrapping_add(a.as_slice().last().map_or(0, |run| run.hi));
     }
     let tenths = start.elapsed().as_nanos() * 10 / (u128::from(rounds) * 64).max(1);

@@ -95,7 +95,7 @@ impl Spans {
     }
 
     /// Makes this the set of the numbers of `run`, which may have none.
-    #[inline]
+    #[inline(always)]
     pub(crate) fn put(&mut self, run: Run) -> Result<(), NoMemory>
         requires { IsWithin run }
         ensures exact { OnOk result ((x : ℤ) → has self.new x ≡ in_run run x) }

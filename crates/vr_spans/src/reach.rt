@@ -98,7 +98,7 @@ impl Spans {
     }
 
     /// Makes this the set of the numbers that the runs of `from`, stretched by `first` and `last`, share with those of `within`.
-    #[inline]
+    #[inline(always)]
     fn reach(&mut self, from: &[Run], first: i64, last: i64, within: &[Run]) -> Result<(), NoMemory>
         requires from { IsNormal from.now }
         requires within { IsNormal within.now }

@@ -59,7 +59,7 @@ pub fn cross_into<L: Ledger>(
     let _ = breaks;
     count_runs(&from.first, steps);
     let (least, greatest) = (hop.transit, hop.transit + hop.slack);
-    out.more.clear();
+    empty(&mut out.more);
     if from
         .first
         .reach_into(least, greatest, next, &mut out.first)
@@ -119,7 +119,7 @@ pub fn cross_back_into<L: Ledger>(
     let _ = breaks;
     count_runs(&to.first, steps);
     let (least, greatest) = (-hop.transit - hop.slack, -hop.transit);
-    out.more.clear();
+    empty(&mut out.more);
     if to
         .first
         .reach_into(least, greatest, here, &mut out.first)
@@ -128,6 +128,25 @@ pub fn cross_back_into<L: Ledger>(
         return Err(NoMemory);
     }
     Ok(())
+}
+
+/// Takes the sets out of a list, which mostly has none.
+#[inline]
+fn empty(sets: &mut Vec<Spans>)
+    ensures { sets.new.items ≡ [] }
+{
+    if !sets.is_empty() {
+        drop_all(sets);
+    }
+}
+
+/// Takes the sets out of a list that has some.
+#[cold]
+#[inline(never)]
+fn drop_all(sets: &mut Vec<Spans>)
+    ensures { sets.new.items ≡ [] }
+{
+    sets.clear();
 }
 
 /// Counts a step for each run of a set.
