@@ -6,7 +6,7 @@ ghost use Rattle.vr_json.specs.Reading.{Answers};
 ghost use Rattle.vr_app.specs.Input.{IsReady, model_of, value_of};
 ghost use Rattle.vr_app.specs.Unbuilt.{fault_of};
 
-use crate::unbuilt::{Unbuilt, first_unbuilt};
+use crate::unbuilt::{NOT_SOLVED, Unbuilt, first_unbuilt};
 use serde_json::Value;
 use std::alloc::Global;
 use vr_json::{Fault, Path, ReadFail};
@@ -29,7 +29,7 @@ fn fault_of(alloc: Global, part: Unbuilt) -> Result<Fault, NoMemory>
     ensures { IfOk result (λ fault. fault ≡ fault_of part) }
 {
     Ok(Fault {
-        code: 30,
+        code: NOT_SOLVED,
         path: Text::from_str(alloc, part.path())?,
     })
 }

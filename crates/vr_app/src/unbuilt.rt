@@ -7,6 +7,9 @@ ghost use Rattle.vr_app.specs.Unbuilt.{first_unbuilt, has_order, path_of, strate
 
 use vr_model::{First, Model, Policy, Vehicle};
 
+/// The number of the refusal of a part that is not solved yet.
+pub(crate) const NOT_SOLVED: u8 = 30;
+
 /// A part of a model that is not solved yet.
 #[derive(Clone, Copy)]
 pub(crate) enum Unbuilt {
