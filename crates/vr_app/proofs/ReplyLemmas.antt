@@ -7,12 +7,12 @@ use Rattle.serde_json.specs.Written.{has_float}
 use Rattle.vr_json.specs.declared.fault.Fault.{Fault}
 use Rattle.vr_model.specs.declared.records.Model.{Model}
 use Rattle.vr_model.specs.declared.records.Parts.{Parts}
-use Rattle.vr_model.specs.FirstSolutions.{build, first_lists}
-use Rattle.vr_model.specs.Costs.{assigned, cost, parts_at, sum_of}
-use Rattle.vr_model.specs.Routes.{inactive, vehicles}
-use Rattle.vr_model.specs.Rules.{is_valid}
+use Rattle.vr_model.specs.first.FirstSolutions.{build, first_lists}
+use Rattle.vr_model.specs.routes.Costs.{assigned, cost, parts_at, sum_of}
+use Rattle.vr_model.specs.routes.Routes.{inactive, vehicles}
+use Rattle.vr_model.specs.routes.Rules.{is_valid}
 use Rattle.vr_model.specs.declared.records.End.TheVariants as stop
-use Rattle.vr_model.specs.WellFormed.{IsWellFormed}
+use Rattle.vr_model.specs.tables.WellFormed.{IsWellFormed}
 use Rattle.vr_app.specs.declared.found.Found.{Found}
 use Rattle.vr_app.specs.Reply.{IsSolution, untried}
 use Rattle.vr_app.specs.Solution.{solution_tree, tree_with}

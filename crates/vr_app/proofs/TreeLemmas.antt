@@ -7,7 +7,7 @@ use Rattle.serde_json.specs.Data.{depth, items_depth}
 use Rattle.serde_json.specs.Find.{of_integer, is_float}
 use Rattle.serde_json.specs.View.{items_of}
 use Rattle.serde_json.specs.Written.{has_float, items_have_float}
-use Rattle.vr_model.specs.Numbers.{below}
+use Rattle.vr_model.specs.tables.Numbers.{below}
 use Rattle.vr_model.specs.declared.records.Model.{Model}
 use Rattle.vr_rules.proofs.CostLemmas.{below-more}
 use Rattle.vr_app.specs.Solution.{count, route_tree}

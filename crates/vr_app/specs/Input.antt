@@ -5,7 +5,7 @@ use Rattle.serde_json.specs.Data.{Data}
 use Rattle.serde_json.specs.Read.{read}
 use Rattle.vr_json.specs.Reading.{◌>>=◌}
 use Rattle.vr_json.specs.declared.fault.Fault.{Fault}
-use Rattle.vr_model.specs.WellFormed.{IsWellFormed}
+use Rattle.vr_model.specs.tables.WellFormed.{IsWellFormed}
 use Rattle.vr_model.specs.declared.records.Model.{Model}
 use Rattle.vr_read.specs.Models.{read_model}
 use Rattle.vr_rules.specs.Plain.{IsPlain}

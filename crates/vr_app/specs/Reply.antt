@@ -5,9 +5,9 @@ use Rattle.vr_json.specs.declared.fault.Fault.{Fault}
 use Rattle.vr_json.specs.Trees.{line_of}
 use Rattle.vr_model.specs.declared.records.Model.{Model}
 use Rattle.vr_model.specs.declared.records.End.TheVariants as stop
-use Rattle.vr_model.specs.Costs.{cost}
-use Rattle.vr_model.specs.Rules.{is_valid}
-use Rattle.vr_model.specs.FirstSolutions.{first_lists}
+use Rattle.vr_model.specs.routes.Costs.{cost}
+use Rattle.vr_model.specs.routes.Rules.{is_valid}
+use Rattle.vr_model.specs.first.FirstSolutions.{first_lists}
 use Rattle.vr_io.specs.Edges.{Took}
 use Rattle.vr_app.specs.Words.{mode_of}
 use Rattle.vr_app.specs.Input.{max_input, value_of, model_of}

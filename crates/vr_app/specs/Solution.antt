@@ -3,8 +3,8 @@ use Rattle.std.specs.Prelude.{ℕ, ℤ, List, [], ◌∷◌, codes, map}
 use Rattle.serde_json.specs.Data.{Data, number, string, array, object, unsigned, no_items, no_members, member}
 use Rattle.serde_json.specs.Find.{of_integer}
 use Rattle.serde_json.specs.View.{items_of}
-use Rattle.vr_model.specs.Routes.{route, vehicles, stops, inactive}
-use Rattle.vr_model.specs.Costs.{assigned, parts_at, sum_of}
+use Rattle.vr_model.specs.routes.Routes.{route, vehicles, stops, inactive}
+use Rattle.vr_model.specs.routes.Costs.{assigned, parts_at, sum_of}
 use Rattle.vr_model.specs.declared.records.Model.{Model}
 use Rattle.vr_model.specs.declared.records.Parts.{Parts}
 use Rattle.vr_model.specs.declared.records.End.{End}

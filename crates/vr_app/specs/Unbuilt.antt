@@ -2,7 +2,7 @@
 use Rattle.std.specs.Prelude.{ℕ, ◌==◌, List, codes, Bool, not, length, if◌then◌else◌, Option, Some, None}
 use Rattle.std.specs.List.{list_any}
 use Rattle.vr_json.specs.declared.fault.Fault.{Fault}
-use Rattle.vr_model.specs.ModelRules.{is_same_policy}
+use Rattle.vr_model.specs.tables.ModelRules.{is_same_policy}
 use Rattle.vr_model.specs.declared.records.Model.{Model}
 use Rattle.vr_model.specs.declared.records.Vehicle.{Vehicle}
 use Rattle.vr_model.specs.declared.records.Policy.TheVariants.{Any}

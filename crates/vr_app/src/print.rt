@@ -3,8 +3,8 @@
 ghost use Rattle.std.specs.Prelude.{◌≡◌, ◌<◌, ◌≤◌, ◌++◌, ◌∷◌, ◌&&◌, [], cond, not, length, IfOk, OnOk};
 ghost use Rattle.serde_json.specs.Data.{string};
 ghost use Rattle.serde_json.specs.View.{view, items_of};
-ghost use Rattle.vr_model.specs.Routes.{holds, is_active, inactive, route};
-ghost use Rattle.vr_model.specs.Tables.{is_visit};
+ghost use Rattle.vr_model.specs.routes.Routes.{holds, is_active, inactive, route};
+ghost use Rattle.vr_model.specs.tables.Tables.{is_visit};
 ghost use Rattle.vr_rules.specs.Totals.{HasTotal};
 ghost use Rattle.vr_app.specs.Solution.{counts, parts_tree, route_nodes as nodes_of_route, route_tree, routes_tree, tree_with, word_of};
 ghost use Rattle.vr_app.specs.Texts.{refused_tree as refused_data, status_tree as status_data};

@@ -1,14 +1,14 @@
 //! Laws over the definitions. A call has no code: its contract is the law, and a proof that needs
 //! the law calls it.
 
-ghost use Rattle.vr_model.specs.AssignmentLaws.{ChosenPlansAreThere, OpenMeetsItsLines};
-ghost use Rattle.vr_model.specs.ChoosingLaws.{LeastIsFirst, ScanEnds};
-ghost use Rattle.vr_model.specs.ChosenLaws.{ChosenIsLeast, ChosenWhereFeasible, EndReachedAsTested, LeastCumulMayBePinned, OneChosen, ReachedAsTested, RulesAsTested};
-ghost use Rattle.vr_model.specs.Levels.{CumulWhereLevelsMeet, EndReachedByCrossing, FeasibleWhereLevelsMeet, ReachedAtEnd, ReachedAtStart, ReachedByCrossing};
-ghost use Rattle.vr_model.specs.MoveTests.{MovesAsTested};
-ghost use Rattle.vr_model.specs.Runs.{RunsAsLongAsForm};
-ghost use Rattle.vr_model.specs.SearchLaws.{DescentBoundUnmet, GuidedBoundUnmet};
-ghost use Rattle.vr_model.specs.SoundLines.{LinesAreSound};
+ghost use Rattle.vr_model.specs.routes.AssignmentLaws.{ChosenPlansAreThere, OpenMeetsItsLines};
+ghost use Rattle.vr_model.specs.search.ChoosingLaws.{LeastIsFirst, ScanEnds};
+ghost use Rattle.vr_model.specs.schedules.ChosenLaws.{ChosenIsLeast, ChosenWhereFeasible, EndReachedAsTested, LeastCumulMayBePinned, OneChosen, ReachedAsTested, RulesAsTested};
+ghost use Rattle.vr_model.specs.schedules.Levels.{CumulWhereLevelsMeet, EndReachedByCrossing, FeasibleWhereLevelsMeet, ReachedAtEnd, ReachedAtStart, ReachedByCrossing};
+ghost use Rattle.vr_model.specs.moves.MoveTests.{MovesAsTested};
+ghost use Rattle.vr_model.specs.schedules.Runs.{RunsAsLongAsForm};
+ghost use Rattle.vr_model.specs.search.SearchLaws.{DescentBoundUnmet, GuidedBoundUnmet};
+ghost use Rattle.vr_model.specs.schedules.SoundLines.{LinesAreSound};
 
 /// The rules of a schedule hold exactly where their tests pass.
 pub fn rules_as_tested()

@@ -1,9 +1,9 @@
 //! What a model says of nodes and arcs.
 
 ghost use Rattle.std.specs.Prelude.{◌≡◌, ◌<◌, ◌^◌, ◌⊎◌, length, pos, neg_ℤ, ◌≤ℤ◌};
-ghost use Rattle.vr_model.specs.Numbers.{number_at};
-ghost use Rattle.vr_model.specs.Tables.{arc_cost, entry, is_terminal, is_visit, matrix_part, transit};
-ghost use Rattle.vr_model.specs.WellFormed.{IsWellFormed, WherePresent};
+ghost use Rattle.vr_model.specs.tables.Numbers.{number_at};
+ghost use Rattle.vr_model.specs.tables.Tables.{arc_cost, entry, is_terminal, is_visit, matrix_part, transit};
+ghost use Rattle.vr_model.specs.tables.WellFormed.{IsWellFormed, WherePresent};
 
 use crate::{Model, Seq};
 

@@ -9,8 +9,8 @@ use Rattle.std.proofs.lemmas.List.Folds.{list_any-append}
 use Rattle.std.proofs.lemmas.List.Elements.{All-nil, All-push}
 use Rattle.vr_json.specs.Reading.{ReaderOf, array}
 use Rattle.vr_json.proofs.Lists.{list_any-map}
-use Rattle.vr_model.specs.WellFormed.{HasLength, are_distinct_names}
-use Rattle.vr_model.specs.Routes.{is_same, is_distinct, holds}
+use Rattle.vr_model.specs.tables.WellFormed.{HasLength, are_distinct_names}
+use Rattle.vr_model.specs.routes.Routes.{is_same, is_distinct, holds}
 use Rattle.vr_read.proofs.WellFormedParts.{EachEnsures, EachFresh, weaker, array_keeps}
 
 pub list_any-flat_map : {A B : Type 0} (p : B → Bool) (f : A → List B) (xs : List A) → list_any p (flat_map f xs) ≡ list_any (λ x. list_any p (f x)) xs

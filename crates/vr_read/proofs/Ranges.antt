@@ -7,7 +7,7 @@ use Rattle.vr_json.specs.declared.fault.Fault.{Fault}
 use Rattle.vr_json.specs.declared.fault.ReadFail.{ReadFail}
 use Rattle.vr_json.specs.Reading.{Answers, and_then}
 use Rattle.vr_json.proofs.Steps.{stops, gives}
-use Rattle.vr_model.specs.Numbers.{below, from_to}
+use Rattle.vr_model.specs.tables.Numbers.{below, from_to}
 use Rattle.vr_read.specs.Rules.{for_all}
 
 -- the first of the numbers that are left

@@ -5,8 +5,8 @@ use Rattle.std.specs.List.{All, list_any}
 use Rattle.std.proofs.lemmas.Bool.{and_from, and_parts, eq-eqb, eqb-true}
 use Rattle.std.proofs.lemmas.List.{get_or_default}
 use Rattle.std.proofs.lemmas.List.Folds.{list_any_at, Any-from_list_any}
-use Rattle.vr_model.specs.Numbers.{below}
-use Rattle.vr_model.specs.Testing.{any_place, range_list_any}
+use Rattle.vr_model.specs.tables.Numbers.{below}
+use Rattle.vr_model.specs.deciding.Testing.{any_place, range_list_any}
 
 -- two tests that pass together are the same
 pub same_tests : (a b : Bool) → (a ≡ true → b ≡ true) → (b ≡ true → a ≡ true) → a ≡ b

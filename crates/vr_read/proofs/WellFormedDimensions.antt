@@ -6,10 +6,10 @@ use Rattle.std.specs.Str.{bytes_eq}
 use Rattle.std.proofs.lemmas.Int.{ints, clamps}
 use Rattle.std.proofs.lemmas.List.Elements.{All-nil}
 use Rattle.vr_json.specs.Reading.{ReaderOf, optional, array}
-use Rattle.vr_model.specs.Numbers.{horizon}
-use Rattle.vr_model.specs.Routes.{is_distinct}
-use Rattle.vr_model.specs.Tables.{is_visit}
-use Rattle.vr_model.specs.WellFormed.{HasLength, IsIn, IsInterval, IsSoft, IsStopRow, IsBreak, AreBreaks, AreVisitRows, AreVehicleRows, IsEvaluator, IsDimension, least_value, greatest_value, greatest_coefficient}
+use Rattle.vr_model.specs.tables.Numbers.{horizon}
+use Rattle.vr_model.specs.routes.Routes.{is_distinct}
+use Rattle.vr_model.specs.tables.Tables.{is_visit}
+use Rattle.vr_model.specs.tables.WellFormed.{HasLength, IsIn, IsInterval, IsSoft, IsStopRow, IsBreak, AreBreaks, AreVisitRows, AreVehicleRows, IsEvaluator, IsDimension, least_value, greatest_value, greatest_coefficient}
 use Rattle.vr_model.specs.declared.records.Model.{Model}
 use Rattle.vr_model.specs.declared.records.Dimension.{Dimension}
 use Rattle.vr_model.specs.declared.records.StopRow.{StopRow}

@@ -9,11 +9,11 @@ use Rattle.serde_json.specs.Data.{Data}
 use Rattle.vr_json.specs.declared.fault.Fault.{Fault}
 use Rattle.vr_json.specs.declared.fault.ReadFail.{ReadFail}
 use Rattle.vr_json.specs.Reading.{Answers}
-use Rattle.vr_model.specs.Numbers.{below}
-use Rattle.vr_model.specs.Routes.{is_distinct}
-use Rattle.vr_model.specs.Tables.{dimension_at, no_evaluator}
-use Rattle.vr_model.specs.ModelRules.{has_negative_cost, has_large_entry, is_large, goes_back, cannot_save}
-use Rattle.vr_model.specs.WellFormed.{HasLength, IsDimension, IsAllowed, IsSearch, IsWellFormed, are_distinct_names}
+use Rattle.vr_model.specs.tables.Numbers.{below}
+use Rattle.vr_model.specs.routes.Routes.{is_distinct}
+use Rattle.vr_model.specs.tables.Tables.{dimension_at, no_evaluator}
+use Rattle.vr_model.specs.tables.ModelRules.{has_negative_cost, has_large_entry, is_large, goes_back, cannot_save}
+use Rattle.vr_model.specs.tables.WellFormed.{HasLength, IsDimension, IsAllowed, IsSearch, IsWellFormed, are_distinct_names}
 use Rattle.vr_model.specs.declared.records.Model.{Model}
 use Rattle.vr_model.specs.declared.records.Matrix.{Matrix}
 use Rattle.vr_model.specs.declared.records.Vehicle.{Vehicle}

@@ -13,8 +13,8 @@ use Rattle.vr_json.specs.declared.fault.Fault.{Fault}
 use Rattle.vr_json.specs.declared.fault.ReadFail.{ReadFail}
 use Rattle.vr_json.specs.Reading.{ReaderOf, Answers, and_then, at_path, if_present, required, optional, present, maybe, list_of, list, entries, array, pair_entries, pair, for_each, refuse_if}
 use Rattle.vr_json.specs.Kinds.{whole_in, whole, text_in, text, count, below}
-use Rattle.vr_model.specs.WellFormed.{HasLength, IsIn, WherePresent}
-use Rattle.vr_model.specs.Testing.{within_is}
+use Rattle.vr_model.specs.tables.WellFormed.{HasLength, IsIn, WherePresent}
+use Rattle.vr_model.specs.deciding.Testing.{within_is}
 
 -- where a reading gives a value, P holds of it
 pub record Ensures {A E : Type 0} (P : A → Type 0) (reading : Result A E) : Type 0 where

@@ -3,8 +3,8 @@ use Rattle.std.proofs.Common.{ℕ, ◌≤◌, ◌==◌, List, length, map, refl,
 use Rattle.std.specs.Prelude.{pos, codes, IsTrue}
 use Rattle.std.specs.List.{list_any}
 use Rattle.std.proofs.lemmas.Int.{ints}
-use Rattle.vr_model.specs.Routes.{is_distinct}
-use Rattle.vr_model.specs.WellFormed.{IsIn, IsSearch, number_of}
+use Rattle.vr_model.specs.routes.Routes.{is_distinct}
+use Rattle.vr_model.specs.tables.WellFormed.{IsIn, IsSearch, number_of}
 use Rattle.vr_model.specs.declared.neighbours.Neighbourhood.{Neighbourhood}
 use Rattle.vr_read.specs.Searches.{neighbourhood, all_neighbourhoods, default_search, search_row}
 use Rattle.vr_read.proofs.WellFormedParts.{EachEnsures, EachFresh, gives, after, any_value, weaker, whole_ensures, count_ensures, optional_ensures, refuse_if_ensures, pair_ensures}

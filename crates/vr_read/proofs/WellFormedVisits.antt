@@ -9,10 +9,10 @@ use Rattle.std.proofs.lemmas.List.Elements.{All-nil, All-push}
 use Rattle.std.proofs.lemmas.List.{append-nil}
 use Rattle.std.proofs.Math.Bool.{or-false}
 use Rattle.vr_json.specs.Reading.{array}
-use Rattle.vr_model.specs.Numbers.{each}
-use Rattle.vr_model.specs.Routes.{is_distinct, holds}
-use Rattle.vr_model.specs.Tables.{is_visit}
-use Rattle.vr_model.specs.WellFormed.{HasLength, IsGroup, IsPair, IsAllowed, nodes_of, greatest_cost}
+use Rattle.vr_model.specs.tables.Numbers.{each}
+use Rattle.vr_model.specs.routes.Routes.{is_distinct, holds}
+use Rattle.vr_model.specs.tables.Tables.{is_visit}
+use Rattle.vr_model.specs.tables.WellFormed.{HasLength, IsGroup, IsPair, IsAllowed, nodes_of, greatest_cost}
 use Rattle.vr_model.specs.declared.records.Model.{Model}
 use Rattle.vr_model.specs.declared.records.Group.{Group}
 use Rattle.vr_model.specs.declared.records.Pair.{Pair}

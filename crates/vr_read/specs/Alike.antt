@@ -1,8 +1,8 @@
 -- Vehicles that are alike, vehicle by vehicle: the form in which the code compares them.
 use Rattle.std.specs.Prelude.{ℕ, Bool, not, List, length}
 use Rattle.std.specs.List.{list_all, list_any}
-use Rattle.vr_model.specs.Numbers.{below}
-use Rattle.vr_model.specs.ModelRules.{are_alike, are_alike_in}
+use Rattle.vr_model.specs.tables.Numbers.{below}
+use Rattle.vr_model.specs.tables.ModelRules.{are_alike, are_alike_in}
 use Rattle.vr_model.specs.declared.records.Model.{Model}
 use Rattle.vr_model.specs.declared.records.Dimension.{Dimension}
 

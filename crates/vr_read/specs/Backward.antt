@@ -1,9 +1,9 @@
 -- Negative transits by evaluator, and not by vehicle: the form in which the code looks for them.
 use Rattle.std.specs.Prelude.{ℕ, Bool, not, ◌&&◌, ◌||◌, ◌==◌, length}
 use Rattle.std.specs.List.{list_any}
-use Rattle.vr_model.specs.Numbers.{below}
-use Rattle.vr_model.specs.Tables.{evaluated, evaluator_of}
-use Rattle.vr_model.specs.ModelRules.{is_negative, evaluator_at, has_breaks, has_span_costs}
+use Rattle.vr_model.specs.tables.Numbers.{below}
+use Rattle.vr_model.specs.tables.Tables.{evaluated, evaluator_of}
+use Rattle.vr_model.specs.tables.ModelRules.{is_negative, evaluator_at, has_breaks, has_span_costs}
 use Rattle.vr_model.specs.declared.records.Model.{Model}
 use Rattle.vr_model.specs.declared.records.Dimension.{Dimension}
 use Rattle.vr_model.specs.declared.records.Evaluator.{Evaluator}

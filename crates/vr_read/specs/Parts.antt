@@ -1,7 +1,7 @@
 -- The parts of a model, as its table gives them: what the rules on the whole model may take for granted.
 use Rattle.std.specs.Prelude.{ℕ, ◌<◌, length}
 use Rattle.std.specs.List.{All}
-use Rattle.vr_model.specs.WellFormed.{HasLength, IsMatrix, IsVehicle, IsDimension}
+use Rattle.vr_model.specs.tables.WellFormed.{HasLength, IsMatrix, IsVehicle, IsDimension}
 use Rattle.vr_model.specs.declared.records.Model.{Model}
 use Rattle.vr_model.specs.declared.records.Dimension.{Dimension}
 

@@ -4,9 +4,9 @@ use Rattle.vr_json.specs.declared.fault.Cause.TheVariants.{NegativeCost, LargeTr
 use Rattle.vr_json.specs.declared.fault.Fault.{Fault}
 use Rattle.vr_json.specs.Paths.{name_path, item_path}
 use Rattle.vr_json.specs.Reading.{◌>>=◌, refuse_if}
-use Rattle.vr_model.specs.Numbers.{below}
-use Rattle.vr_model.specs.Tables.{dimension_at}
-use Rattle.vr_model.specs.ModelRules.{has_negative_cost, is_large, evaluator_at, goes_back, cannot_save}
+use Rattle.vr_model.specs.tables.Numbers.{below}
+use Rattle.vr_model.specs.tables.Tables.{dimension_at}
+use Rattle.vr_model.specs.tables.ModelRules.{has_negative_cost, is_large, evaluator_at, goes_back, cannot_save}
 use Rattle.vr_model.specs.declared.records.Model.{Model}
 use Rattle.vr_model.specs.declared.records.Dimension.{Dimension}
 

@@ -4,7 +4,7 @@ use Rattle.std.specs.List.{list_any}
 use Rattle.vr_json.specs.declared.fault.Cause.TheVariants.{Repeated}
 use Rattle.vr_json.specs.Reading.{◌>>=◌, ReaderOf, optional, known, array, pair, refuse_if}
 use Rattle.vr_json.specs.Kinds.{whole, count, choice}
-use Rattle.vr_model.specs.WellFormed.{number_of}
+use Rattle.vr_model.specs.tables.WellFormed.{number_of}
 use Rattle.vr_model.specs.declared.records.SearchRow.{SearchRow}
 use Rattle.vr_model.specs.declared.records.First.{First}
 use Rattle.vr_model.specs.declared.records.First.TheVariants.{PathCheapestArc, ParallelCheapestInsertion, Savings}

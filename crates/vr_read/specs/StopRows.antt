@@ -5,8 +5,8 @@ use Rattle.vr_json.specs.declared.fault.Cause.TheVariants.{Repeated, Reversed}
 use Rattle.vr_json.specs.Paths.{name_path}
 use Rattle.vr_json.specs.Reading.{◌>>=◌, ReaderOf, required, optional, maybe, known, array, pair, refuse_if}
 use Rattle.vr_json.specs.Kinds.{whole, below}
-use Rattle.vr_model.specs.Numbers.{horizon}
-use Rattle.vr_model.specs.WellFormed.{greatest_coefficient}
+use Rattle.vr_model.specs.tables.Numbers.{horizon}
+use Rattle.vr_model.specs.tables.WellFormed.{greatest_coefficient}
 use Rattle.vr_model.specs.declared.records.StopRow.{StopRow}
 use Rattle.vr_model.specs.declared.records.Interval.{Interval}
 use Rattle.vr_model.specs.declared.records.Soft.{Soft}

@@ -2,10 +2,10 @@
 
 ghost use Rattle.std.specs.Prelude.{◌≡◌, ◌<◌, Bool, length, option_map};
 ghost use Rattle.std.specs.List.{All, list_all};
-ghost use Rattle.vr_model.specs.ModelRules.{are_alike as are_alike_of, are_alike_in as are_alike_in_of, is_same_option as is_same_option_of, is_same_policy as is_same_policy_of, vehicles_differ as vehicles_differ_of};
-ghost use Rattle.vr_model.specs.Numbers.{are_same_by, is_same_number as is_same_number_of};
-ghost use Rattle.vr_model.specs.Tables.{breaks_of as breaks_of_vehicle, row_of as row_of_key};
-ghost use Rattle.vr_model.specs.WellFormed.{IsDimension};
+ghost use Rattle.vr_model.specs.tables.ModelRules.{are_alike as are_alike_of, are_alike_in as are_alike_in_of, is_same_option as is_same_option_of, is_same_policy as is_same_policy_of, vehicles_differ as vehicles_differ_of};
+ghost use Rattle.vr_model.specs.tables.Numbers.{are_same_by, is_same_number as is_same_number_of};
+ghost use Rattle.vr_model.specs.tables.Tables.{breaks_of as breaks_of_vehicle, row_of as row_of_key};
+ghost use Rattle.vr_model.specs.tables.WellFormed.{IsDimension};
 ghost use Rattle.vr_read.specs.Alike.{are_alike_in_all as are_alike_in_all_of, differs_from_some as differs_from_some_of};
 ghost use Rattle.vr_read.specs.Parts.{HasParts, HasVehicle};
 
@@ -21,7 +21,7 @@ trait Alike {
 }
 
 impl Alike for i64 {
-    ghost use Rattle.vr_model.specs.Numbers.{is_same_number};
+    ghost use Rattle.vr_model.specs.tables.Numbers.{is_same_number};
 
     ghost same = { is_same_number };
 
@@ -31,7 +31,7 @@ impl Alike for i64 {
 }
 
 impl Alike for Interval {
-    ghost use Rattle.vr_model.specs.ModelRules.{is_same_interval};
+    ghost use Rattle.vr_model.specs.tables.ModelRules.{is_same_interval};
 
     ghost same = { is_same_interval };
 
@@ -41,7 +41,7 @@ impl Alike for Interval {
 }
 
 impl Alike for Soft {
-    ghost use Rattle.vr_model.specs.ModelRules.{is_same_soft};
+    ghost use Rattle.vr_model.specs.tables.ModelRules.{is_same_soft};
 
     ghost same = { is_same_soft };
 
@@ -51,7 +51,7 @@ impl Alike for Soft {
 }
 
 impl Alike for BreakRow {
-    ghost use Rattle.vr_model.specs.ModelRules.{is_same_break};
+    ghost use Rattle.vr_model.specs.tables.ModelRules.{is_same_break};
 
     ghost same = { is_same_break };
 
@@ -64,7 +64,7 @@ impl Alike for BreakRow {
 
 // Stop rows are the same but for their keys.
 impl Alike for StopRow {
-    ghost use Rattle.vr_model.specs.ModelRules.{is_same_row};
+    ghost use Rattle.vr_model.specs.tables.ModelRules.{is_same_row};
 
     ghost same = { is_same_row };
 

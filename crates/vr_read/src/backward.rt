@@ -2,10 +2,10 @@
 
 ghost use Rattle.std.specs.Prelude.{◌≡◌, ◌<◌, ◌==◌, ◌⊎◌, length, not, pos};
 ghost use Rattle.std.specs.List.{All, list_any};
-ghost use Rattle.vr_model.specs.ModelRules.{has_breaks as has_breaks_of, has_span_costs as has_span_costs_of};
-ghost use Rattle.vr_model.specs.Numbers.{is_same_number, number_at};
-ghost use Rattle.vr_model.specs.Tables.{evaluated as evaluated_of, matrix_part as matrix_part_of};
-ghost use Rattle.vr_model.specs.WellFormed.{IsDimension, IsEvaluator, IsIn, IsMatrix, WherePresent, least_value, greatest_cost, greatest_value};
+ghost use Rattle.vr_model.specs.tables.ModelRules.{has_breaks as has_breaks_of, has_span_costs as has_span_costs_of};
+ghost use Rattle.vr_model.specs.tables.Numbers.{is_same_number, number_at};
+ghost use Rattle.vr_model.specs.tables.Tables.{evaluated as evaluated_of, matrix_part as matrix_part_of};
+ghost use Rattle.vr_model.specs.tables.WellFormed.{IsDimension, IsEvaluator, IsIn, IsMatrix, WherePresent, least_value, greatest_cost, greatest_value};
 ghost use Rattle.vr_read.specs.Parts.{HasParts};
 ghost use Rattle.vr_read.specs.Backward.{is_backward_dimension, has_backward_vehicle as has_backward_vehicle_of, is_backward as is_backward_of, is_backward_arc as is_backward_arc_of, is_backward_from as is_backward_from_of, is_used_backward as is_used_backward_of};
 

@@ -2,7 +2,7 @@
 
 ghost use Rattle.std.specs.Prelude.{◌≡◌, ◌||◌, ◌==◌};
 ghost use Rattle.std.specs.List.{list_any};
-ghost use Rattle.vr_model.specs.Routes.{holds};
+ghost use Rattle.vr_model.specs.routes.Routes.{holds};
 ghost use Rattle.vr_read.specs.Visits.{is_paired as is_paired_of};
 
 use crate::Visit;

@@ -3,7 +3,7 @@
 
 ghost use Rattle.std.specs.Prelude.{◌≡◌, ℕ, List, Ok};
 ghost use Rattle.serde_json.specs.Data.{Data};
-ghost use Rattle.vr_model.specs.WellFormed.{IsWellFormed};
+ghost use Rattle.vr_model.specs.tables.WellFormed.{IsWellFormed};
 ghost use Rattle.vr_model.specs.declared.records.Model.{Model};
 ghost use Rattle.vr_read.specs.Models.{read_model};
 

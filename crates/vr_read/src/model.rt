@@ -3,7 +3,7 @@
 ghost use Rattle.std.specs.Prelude.{IfOk};
 ghost use Rattle.serde_json.specs.View.{view};
 ghost use Rattle.vr_json.specs.Reading.{Answers};
-ghost use Rattle.vr_model.specs.WellFormed.{IsWellFormed};
+ghost use Rattle.vr_model.specs.tables.WellFormed.{IsWellFormed};
 ghost use Rattle.vr_read.specs.Models.{model_table, parts as parts_of, read_model as read_model_of};
 
 use crate::matrices::MatrixTable;

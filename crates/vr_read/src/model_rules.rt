@@ -4,8 +4,8 @@ ghost use Rattle.std.specs.Prelude.{◌≡◌, ◌<◌, map, length, int_lt, IfO
 ghost use Rattle.std.specs.List.{All, list_any};
 ghost use Rattle.vr_json.specs.Paths.{item_path, name_path};
 ghost use Rattle.vr_json.specs.Reading.{Answers, refuse_if as refused_if};
-ghost use Rattle.vr_model.specs.ModelRules.{cannot_save as cannot_save_of, greatest_entry, is_large, is_negative, is_savings as is_savings_of};
-ghost use Rattle.vr_model.specs.WellFormed.{IsDimension, IsEvaluator, IsVehicle, WherePresent};
+ghost use Rattle.vr_model.specs.tables.ModelRules.{cannot_save as cannot_save_of, greatest_entry, is_large, is_negative, is_savings as is_savings_of};
+ghost use Rattle.vr_model.specs.tables.WellFormed.{IsDimension, IsEvaluator, IsVehicle, WherePresent};
 ghost use Rattle.vr_model.specs.declared.records.Matrix.{Matrix as MatrixOf};
 ghost use Rattle.vr_read.specs.Parts.{HasParts};
 ghost use Rattle.vr_read.specs.Rules.{costs_rule, dimension_entries_rule, entries_rule, rules, savings_rule, transits_rule};

@@ -2,7 +2,7 @@
 
 ghost use Rattle.std.specs.Prelude.{◌≡◌, ◌==◌, IfOk};
 ghost use Rattle.std.specs.List.{list_any};
-ghost use Rattle.vr_model.specs.WellFormed.{number_of};
+ghost use Rattle.vr_model.specs.tables.WellFormed.{number_of};
 ghost use Rattle.vr_read.specs.Searches.{all_neighbourhoods as all_of, default_search as default_of};
 
 use serde_json::Value;

@@ -2,13 +2,13 @@
 
 ghost use Rattle.std.specs.Prelude.{◌≡◌, ℕ, ◌<◌, ◌↔◌, [], IsTrue, IfOk, length};
 ghost use Rattle.std.specs.List.{list_all};
-ghost use Rattle.vr_model.specs.Tables.{is_visit, dimension_at, breaks_of};
-ghost use Rattle.vr_model.specs.Routes.{is_distinct};
-ghost use Rattle.vr_model.specs.Lines.{Line as Defined, line};
-ghost use Rattle.vr_model.specs.Schedules.{IsFeasible};
-ghost use Rattle.vr_model.specs.Choices.{is_feasible};
-ghost use Rattle.vr_model.specs.SoundLines.{IsSound};
-ghost use Rattle.vr_model.specs.WellFormed.{IsWellFormed};
+ghost use Rattle.vr_model.specs.tables.Tables.{is_visit, dimension_at, breaks_of};
+ghost use Rattle.vr_model.specs.routes.Routes.{is_distinct};
+ghost use Rattle.vr_model.specs.schedules.Lines.{Line as Defined, line};
+ghost use Rattle.vr_model.specs.schedules.Schedules.{IsFeasible};
+ghost use Rattle.vr_model.specs.schedules.Choices.{is_feasible};
+ghost use Rattle.vr_model.specs.schedules.SoundLines.{IsSound};
+ghost use Rattle.vr_model.specs.tables.WellFormed.{IsWellFormed};
 ghost use Rattle.vr_steps.specs.Lines.{IsLineOf, IsSoundLine};
 ghost use Rattle.vr_rules.specs.RoutesOpen.{is_feasible_in_all};
 

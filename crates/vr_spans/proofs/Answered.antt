@@ -5,10 +5,10 @@ use Rattle.std.proofs.lemmas.Int.{ints}
 use Rattle.std.proofs.lemmas.Bool.{and_parts, and_from}
 use Rattle.std.proofs.lemmas.Result.{on_ok_weaker}
 use Rattle.vr_spans.specs.declared.runs.Run.{Run}
-use Rattle.vr_spans.specs.Runs.{limit, in_limits, has, IsNormal, StaysWithin, IsReached}
+use Rattle.vr_spans.specs.Runs.{limit, in_limits, has, IsNormal, StaysWithin, IsStretched}
 use Rattle.vr_spans.specs.Build.{stretched}
 use Rattle.vr_spans.proofs.Numbers.{in_limits-from_has}
-use Rattle.vr_spans.proofs.Stretched.{has-shifted, IsReached-from_has, has-from_IsReached}
+use Rattle.vr_spans.proofs.Stretched.{has-shifted, IsStretched-from_has, has-from_IsStretched}
 
 implied : (b c : Bool) → (b ≡ true → c ≡ true) → (b && c) ≡ b
 implied true c h = h refl
@@ -26,25 +26,25 @@ module _ {T E : Type 0} (r : Result T E) (out from : List Run) where
   pub met : (within : List Run) → OnOk r ((x : ℤ) → has out x ≡ (has (map (stretched (pos 0) (pos 0)) from) x && has within x)) → OnOk r ((x : ℤ) → has out x ≡ (has from x && has within x))
   met within h = on_ok_weaker r (λ is x. is x ∙ ap (λ b. b && has within x) (has-kept from x)) h
 
-  pub reached : (first last : ℤ) (within : List Run) → first ≤ℤ last → IsNormal from → OnOk r ((x : ℤ) → has out x ≡ (has (map (stretched first last) from) x && has within x)) → OnOk r ((x : ℤ) → IsTrue (has out x) ↔ (IsTrue (has within x) × IsReached first last from x))
+  pub reached : (first last : ℤ) (within : List Run) → first ≤ℤ last → IsNormal from → OnOk r ((x : ℤ) → has out x ≡ (has (map (stretched first last) from) x && has within x)) → OnOk r ((x : ℤ) → IsTrue (has out x) ↔ (IsTrue (has within x) × IsStretched first last from x))
   reached first last within le normal h = on_ok_weaker r both h
     where
-      both : ((x : ℤ) → has out x ≡ (has (map (stretched first last) from) x && has within x)) → (x : ℤ) → IsTrue (has out x) ↔ (IsTrue (has within x) × IsReached first last from x)
+      both : ((x : ℤ) → has out x ≡ (has (map (stretched first last) from) x && has within x)) → (x : ℤ) → IsTrue (has out x) ↔ (IsTrue (has within x) × IsStretched first last from x)
       both is x = (
-        λ t. let parts = and_parts _ _ (sym (is x) ∙ t) in (parts.1, IsReached-from_has _ first last from x le normal parts.0),
-        λ p. is x ∙ and_from _ _ (has-from_IsReached first last from x p.1) p.0,
+        λ t. let parts = and_parts _ _ (sym (is x) ∙ t) in (parts.1, IsStretched-from_has _ first last from x le normal parts.0),
+        λ p. is x ∙ and_from _ _ (has-from_IsStretched first last from x p.1) p.0,
       )
 
   -- where all moved numbers stay within the limits, these leave none out
   module _ (first last : ℤ) (le : first ≤ℤ last) (normal : IsNormal from) (stays : StaysWithin first last from) where
     no_limit : (x : ℤ) → (has (map (stretched first last) from) x && has every x) ≡ has (map (stretched first last) from) x
     no_limit x = implied _ _ (λ is.
-        let way = IsReached-from_has _ first last from x le normal is in
+        let way = IsStretched-from_has _ first last from x le normal is in
         let near = stays way.0 way.1 in
         grind (arith, ints, way, near))
 
-    pub grown : OnOk r ((x : ℤ) → has out x ≡ (has (map (stretched first last) from) x && has every x)) → OnOk r ((x : ℤ) → IsTrue (has out x) ↔ IsReached first last from x)
-    grown h = on_ok_weaker r (λ is x. (λ t. IsReached-from_has _ first last from x le normal (sym (is x ∙ no_limit x) ∙ t), λ p. (is x ∙ no_limit x) ∙ has-from_IsReached first last from x p)) h
+    pub grown : OnOk r ((x : ℤ) → has out x ≡ (has (map (stretched first last) from) x && has every x)) → OnOk r ((x : ℤ) → IsTrue (has out x) ↔ IsStretched first last from x)
+    grown h = on_ok_weaker r (λ is x. (λ t. IsStretched-from_has _ first last from x le normal (sym (is x ∙ no_limit x) ∙ t), λ p. (is x ∙ no_limit x) ∙ has-from_IsStretched first last from x p)) h
 
   pub shifted : (by : ℤ) → IsNormal from → StaysWithin by by from → OnOk r ((x : ℤ) → has out x ≡ (has (map (stretched by by) from) x && has every x)) → OnOk r ((x : ℤ) → has out x ≡ has from (x -ℤ by))
   shifted by normal stays h = on_ok_weaker r (λ is x. is x ∙ no_limit by by (omega (arith, ints)) normal stays x ∙ has-shifted by from x) h

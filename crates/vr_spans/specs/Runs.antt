@@ -43,8 +43,8 @@ abbrev pub StaysWithin : ℤ → ℤ → List Run → Type 0
 StaysWithin first last rs = (x : ℤ) → has rs x ≡ true → (neg_ℤ limit ≤ℤ (x +ℤ first)) × ((x +ℤ last) ≤ℤ limit)
 
 -- x is a number of the set plus one of the numbers from first to last
-abbrev pub IsReached : ℤ → ℤ → List Run → ℤ → Type 0
-IsReached first last rs x = (y : ℤ) × (has rs y ≡ true) × ((y +ℤ first) ≤ℤ x) × (x ≤ℤ (y +ℤ last))
+abbrev pub IsStretched : ℤ → ℤ → List Run → ℤ → Type 0
+IsStretched first last rs x = (y : ℤ) × (has rs y ≡ true) × ((y +ℤ first) ≤ℤ x) × (x ≤ℤ (y +ℤ last))
 
 -- x is a number of the set, and no other is below it
 pub record IsLeast (rs : List Run) (x : ℤ) : Type 0 where

@@ -1,7 +1,7 @@
 //! The numbers that a set leads to within another: meets, shifts, and ways of a length between two bounds.
 
 ghost use Rattle.std.specs.Prelude.{◌≡◌, ◌↔◌, ◌&&◌, map, IsTrue, IfOk, OnOk, ℤ, pos, neg_ℤ, ◌-ℤ◌, ◌≤ℤ◌};
-ghost use Rattle.vr_spans.specs.Runs.{has, IsNormal, IsReached, StaysWithin, farthest};
+ghost use Rattle.vr_spans.specs.Runs.{has, IsNormal, IsStretched, StaysWithin, farthest};
 ghost use Rattle.vr_spans.specs.Build.{stretched, StaysNear};
 
 use crate::{LIMIT, NoMemory, Run, Spans};
@@ -58,7 +58,7 @@ impl Spans {
     pub fn grow(&self, by: i64) -> Result<Spans, NoMemory>
         requires rises { pos 0 ≤ℤ by }
         requires within { StaysWithin (pos 0) by self.now }
-        ensures exact { IfOk result (λ grown. (x : ℤ) → IsTrue (has grown x) ↔ IsReached (pos 0) by self.now x) }
+        ensures exact { IfOk result (λ grown. (x : ℤ) → IsTrue (has grown x) ↔ IsStretched (pos 0) by self.now x) }
         ensures normal { IfOk result (λ grown. IsNormal grown) }
     {
         let mut grown = self.fresh();
@@ -70,7 +70,7 @@ impl Spans {
     pub fn grow_into(&self, by: i64, out: &mut Spans) -> Result<(), NoMemory>
         requires rises { pos 0 ≤ℤ by }
         requires within { StaysWithin (pos 0) by self.now }
-        ensures exact { OnOk result ((x : ℤ) → IsTrue (has out.new x) ↔ IsReached (pos 0) by self.now x) }
+        ensures exact { OnOk result ((x : ℤ) → IsTrue (has out.new x) ↔ IsStretched (pos 0) by self.now x) }
         ensures normal { IsNormal out.new }
     {
         out.reach(self.runs.as_slice(), 0, by, &ALL)
@@ -91,7 +91,7 @@ impl Spans {
         requires from { neg_ℤ farthest ≤ℤ first }
         requires to { last ≤ℤ farthest }
         ensures exact { OnOk result ((x : ℤ) →
-            IsTrue (has out.new x) ↔ (IsTrue (has within.now x) × IsReached first last self.now x)) }
+            IsTrue (has out.new x) ↔ (IsTrue (has within.now x) × IsStretched first last self.now x)) }
         ensures normal { IsNormal out.new }
     {
         out.reach(self.runs.as_slice(), first, last, within.runs.as_slice())

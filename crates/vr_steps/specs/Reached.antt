@@ -2,11 +2,11 @@
 use Rattle.std.specs.Prelude.{◌≡◌, ℕ, suc, ◌<◌, ◌≤◌, ◌↔◌, false, IsTrue, List, [], length, drop, slice_index_or, ℤ}
 use Rattle.vr_spans.specs.declared.runs.Run.{Run}
 use Rattle.vr_spans.specs.Runs.{has, IsNormal}
-use Rattle.vr_model.specs.Lines.{Line}
-use Rattle.vr_model.specs.Schedules.{IsFeasible, IsReached, ReachesEnd, arc_at, allows}
-use Rattle.vr_model.specs.SoundLines.{IsSound}
-use Rattle.vr_model.specs.Levels.{Crosses, FitAfter}
-use Rattle.vr_model.specs.Weights.{runs}
+use Rattle.vr_model.specs.schedules.Lines.{Line}
+use Rattle.vr_model.specs.schedules.Schedules.{IsFeasible, IsReached, ReachesEnd, arc_at, allows}
+use Rattle.vr_model.specs.schedules.SoundLines.{IsSound}
+use Rattle.vr_model.specs.schedules.Levels.{Crosses, FitAfter}
+use Rattle.vr_model.specs.schedules.Weights.{runs}
 use Rattle.vr_steps.specs.declared.hops.Hop.{Hop}
 use Rattle.vr_steps.specs.declared.lines.Line.{Line as Made}
 use Rattle.vr_steps.specs.Arcs.{Leads, between}

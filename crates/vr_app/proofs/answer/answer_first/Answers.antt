@@ -2,8 +2,8 @@ use Rattle.std.proofs.Common.{◌≡◌, ◌∙◌, sym, ap, subst, [], Some, w6
 use Rattle.std.specs.Prelude.{FitsSigned, unwrap_or}
 use Rattle.std.proofs.lemmas.Int.{to_z-of_z}
 use Rattle.vr_json.specs.Trees.{line_of}
-use Rattle.vr_model.specs.Costs.{assigned, parts_at, sum_of}
-use Rattle.vr_model.specs.FirstSolutions.{first_lists}
+use Rattle.vr_model.specs.routes.Costs.{assigned, parts_at, sum_of}
+use Rattle.vr_model.specs.first.FirstSolutions.{first_lists}
 use Rattle.vr_app.specs.Reply.{untried}
 use Rattle.vr_app.specs.Solution.{solution_tree}
 use Rattle.vr_app.specs.Status.{number_of}

@@ -1,6 +1,6 @@
 use Rattle.std.proofs.Common.{◌∙◌, ◌++◌, ◌&&◌, ◌∷◌, [], Bool, ℕ, ap, sym, cond, not}
-use Rattle.vr_model.specs.Routes.{is_active}
-use Rattle.vr_model.specs.Tables.{is_visit}
+use Rattle.vr_model.specs.routes.Routes.{is_active}
+use Rattle.vr_model.specs.tables.Tables.{is_visit}
 use Rattle.vr_app.proofs.TreeLemmas.{filter-below_more}
 use Rattle.vr_app.proofs.print.inactive.Goals as goal
 

@@ -1,6 +1,6 @@
 use Rattle.std.proofs.Common.{◌≡◌, map}
 use Rattle.serde_json.specs.View.{view}
-use Rattle.vr_model.specs.Numbers.{below}
+use Rattle.vr_model.specs.tables.Numbers.{below}
 use Rattle.vr_app.specs.Solution.{route_tree}
 use Rattle.vr_app.proofs.print.routes_tree.Given as goal
 

@@ -1,4 +1,4 @@
-use Rattle.vr_model.proofs.ChoiceLaws.{chosen_is_least}
+use Rattle.vr_model.proofs.schedules.ChoiceLaws.{chosen_is_least}
 use Rattle.vr_model.proofs.laws.chosen_is_least.Goals as goal
 
 pub returns : goal.returns

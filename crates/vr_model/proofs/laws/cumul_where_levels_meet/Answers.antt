@@ -1,4 +1,4 @@
-use Rattle.vr_model.proofs.Joining.{cumul_where_levels_meet}
+use Rattle.vr_model.proofs.schedules.Joining.{cumul_where_levels_meet}
 use Rattle.vr_model.proofs.laws.cumul_where_levels_meet.Goals as goal
 
 pub returns : goal.returns

@@ -1,4 +1,4 @@
-use Rattle.vr_model.proofs.SearchBounds.{descent_bound_unmet}
+use Rattle.vr_model.proofs.searches.SearchBounds.{descent_bound_unmet}
 use Rattle.vr_model.proofs.laws.descent_bound_unmet.Goals as goal
 
 pub returns : goal.returns

@@ -1,4 +1,4 @@
-use Rattle.vr_model.proofs.SearchBounds.{guided_bound_unmet}
+use Rattle.vr_model.proofs.searches.SearchBounds.{guided_bound_unmet}
 use Rattle.vr_model.proofs.laws.guided_bound_unmet.Goals as goal
 
 pub returns : goal.returns

@@ -1,4 +1,4 @@
-use Rattle.vr_model.proofs.Narrowing.{least_cumul_may_be_pinned}
+use Rattle.vr_model.proofs.schedules.Narrowing.{least_cumul_may_be_pinned}
 use Rattle.vr_model.proofs.laws.least_cumul_may_be_pinned.Goals as goal
 
 pub returns : goal.returns

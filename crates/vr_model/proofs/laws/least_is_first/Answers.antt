@@ -1,4 +1,4 @@
-use Rattle.vr_model.proofs.LeastChoice.{least_is_first}
+use Rattle.vr_model.proofs.first.LeastChoice.{least_is_first}
 use Rattle.vr_model.proofs.laws.least_is_first.Goals as goal
 
 pub returns : goal.returns

@@ -1,4 +1,4 @@
-use Rattle.vr_model.proofs.MoveMembers.{moves_as_tested}
+use Rattle.vr_model.proofs.moves.MoveMembers.{moves_as_tested}
 use Rattle.vr_model.proofs.laws.moves_as_tested.Goals as goal
 
 pub returns : goal.returns

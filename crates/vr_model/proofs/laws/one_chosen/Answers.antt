@@ -1,4 +1,4 @@
-use Rattle.vr_model.proofs.ChoiceLaws.{one_chosen}
+use Rattle.vr_model.proofs.schedules.ChoiceLaws.{one_chosen}
 use Rattle.vr_model.proofs.laws.one_chosen.Goals as goal
 
 pub returns : goal.returns

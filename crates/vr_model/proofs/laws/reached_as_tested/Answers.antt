@@ -1,4 +1,4 @@
-use Rattle.vr_model.proofs.ChoiceLaws.{reached_as_tested}
+use Rattle.vr_model.proofs.schedules.ChoiceLaws.{reached_as_tested}
 use Rattle.vr_model.proofs.laws.reached_as_tested.Goals as goal
 
 pub returns : goal.returns

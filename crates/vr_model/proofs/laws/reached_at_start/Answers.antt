@@ -1,4 +1,4 @@
-use Rattle.vr_model.proofs.LevelEnds.{reached_at_start}
+use Rattle.vr_model.proofs.schedules.LevelEnds.{reached_at_start}
 use Rattle.vr_model.proofs.laws.reached_at_start.Goals as goal
 
 pub returns : goal.returns

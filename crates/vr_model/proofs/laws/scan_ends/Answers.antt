@@ -1,4 +1,4 @@
-use Rattle.vr_model.proofs.ScanEnding.{scan_ends}
+use Rattle.vr_model.proofs.searches.ScanEnding.{scan_ends}
 use Rattle.vr_model.proofs.laws.scan_ends.Goals as goal
 
 pub returns : goal.returns

@@ -1,5 +1,5 @@
 use Rattle.std.proofs.Common.{◌≡◌, drop}
-use Rattle.vr_model.specs.Numbers.{are_same_by}
+use Rattle.vr_model.specs.tables.Numbers.{are_same_by}
 use Rattle.vr_read.proofs.alike.are_same.Given as goal
 
 abbrev pub invariant-loop-k : goal.invariant-loop-k

@@ -1,7 +1,7 @@
 use Rattle.std.proofs.Common.{◌≡◌, length, not}
 use Rattle.std.specs.List.{list_any}
-use Rattle.vr_model.specs.Numbers.{from_to}
-use Rattle.vr_model.specs.ModelRules.{are_alike}
+use Rattle.vr_model.specs.tables.Numbers.{from_to}
+use Rattle.vr_model.specs.tables.ModelRules.{are_alike}
 use Rattle.vr_read.specs.Alike.{differs_from_some}
 use Rattle.vr_read.proofs.alike.differs_from_some.Given as goal
 

@@ -1,7 +1,7 @@
 use Rattle.std.proofs.Common.{◌≡◌, length}
 use Rattle.std.specs.List.{list_any}
-use Rattle.vr_model.specs.Numbers.{from_to}
-use Rattle.vr_model.specs.ModelRules.{vehicles_differ}
+use Rattle.vr_model.specs.tables.Numbers.{from_to}
+use Rattle.vr_model.specs.tables.ModelRules.{vehicles_differ}
 use Rattle.vr_read.specs.Alike.{differs_from_some}
 use Rattle.vr_read.proofs.alike.vehicles_differ.Given as goal
 

@@ -1,8 +1,8 @@
 use Rattle.std.proofs.Common.{◌≡◌, length, sym, ◌∙◌, arith}
 use Rattle.std.specs.List.{list_any}
-use Rattle.vr_model.specs.Numbers.{below}
-use Rattle.vr_model.specs.ModelRules.{evaluator_at}
-use Rattle.vr_model.specs.WellFormed.{IsDimension}
+use Rattle.vr_model.specs.tables.Numbers.{below}
+use Rattle.vr_model.specs.tables.ModelRules.{evaluator_at}
+use Rattle.vr_model.specs.tables.WellFormed.{IsDimension}
 use Rattle.vr_model.specs.declared.records.Model.{Model}
 use Rattle.vr_model.specs.declared.records.Dimension.{Dimension}
 use Rattle.vr_read.specs.Backward.{is_backward, is_used_backward, has_backward_vehicle}

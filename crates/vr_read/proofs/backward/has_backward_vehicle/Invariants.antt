@@ -1,6 +1,6 @@
 use Rattle.std.proofs.Common.{◌≡◌, length}
 use Rattle.std.specs.List.{list_any}
-use Rattle.vr_model.specs.Numbers.{below, from_to}
+use Rattle.vr_model.specs.tables.Numbers.{below, from_to}
 use Rattle.vr_read.specs.Backward.{is_used_backward}
 use Rattle.vr_read.proofs.backward.has_backward_vehicle.Given as goal
 

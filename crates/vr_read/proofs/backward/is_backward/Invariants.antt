@@ -1,6 +1,6 @@
 use Rattle.std.proofs.Common.{◌≡◌}
 use Rattle.std.specs.List.{list_any}
-use Rattle.vr_model.specs.Numbers.{from_to}
+use Rattle.vr_model.specs.tables.Numbers.{from_to}
 use Rattle.vr_read.specs.Backward.{is_backward, is_backward_from}
 use Rattle.vr_read.proofs.backward.is_backward.Given as goal
 

@@ -2,10 +2,10 @@ use Rattle.std.proofs.Common.{◌≡◌, ℕ, ◌+◌, ◌*◌, ◌<◌, List, l
 use Rattle.std.specs.Prelude.{pos, slice_index_or}
 use Rattle.std.specs.List.{All}
 use Rattle.std.proofs.lemmas.Int.{ints}
-use Rattle.vr_model.specs.Tables.{no_matrix}
-use Rattle.vr_model.specs.WellFormed.{IsMatrix, WherePresent}
+use Rattle.vr_model.specs.tables.Tables.{no_matrix}
+use Rattle.vr_model.specs.tables.WellFormed.{IsMatrix, WherePresent}
 use Rattle.vr_model.specs.declared.records.Matrix.{Matrix}
-use Rattle.vr_model.proofs.Bounds.{place_low}
+use Rattle.vr_model.proofs.tables.Bounds.{place_low}
 use Rattle.vr_read.proofs.backward.matrix_part.Goals as goal
 
 -- the matrix of an evaluator is one of the model

@@ -4,8 +4,8 @@ use Rattle.std.specs.List.{list_any}
 use Rattle.std.proofs.Math.ListN.{get_or-map}
 use Rattle.vr_json.specs.Paths.{name_path, item_path}
 use Rattle.vr_json.proofs.Steps.{asked}
-use Rattle.vr_model.specs.ModelRules.{is_negative, has_negative_cost}
-use Rattle.vr_model.specs.Tables.{no_matrix, matrix_at, no_vehicle, vehicle_at}
+use Rattle.vr_model.specs.tables.ModelRules.{is_negative, has_negative_cost}
+use Rattle.vr_model.specs.tables.Tables.{no_matrix, matrix_at, no_vehicle, vehicle_at}
 use Rattle.vr_model.specs.declared.records.Model.{Model}
 use Rattle.vr_model.specs.declared.records.Vehicle.{Vehicle}
 use Rattle.vr_read.specs.Rules.{cost_rule}

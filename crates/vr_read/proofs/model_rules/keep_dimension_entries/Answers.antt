@@ -2,8 +2,8 @@ use Rattle.std.proofs.Common.{length, sym, ap, ◌∙◌, arith}
 use Rattle.std.specs.Prelude.{codes}
 use Rattle.vr_json.specs.Paths.{name_path, item_path}
 use Rattle.vr_json.proofs.Steps.{asked}
-use Rattle.vr_model.specs.ModelRules.{is_large}
-use Rattle.vr_model.specs.Tables.{no_evaluator}
+use Rattle.vr_model.specs.tables.ModelRules.{is_large}
+use Rattle.vr_model.specs.tables.Tables.{no_evaluator}
 use Rattle.vr_read.specs.Rules.{entry_rule}
 use Rattle.vr_read.proofs.Ranges.{rule_passes, rule_stops, rule_ends}
 use Rattle.vr_read.proofs.model_rules.keep_dimension_entries.Goals as goal

@@ -1,5 +1,5 @@
 use Rattle.std.proofs.Common.{◌≡◌, length}
-use Rattle.vr_model.specs.Numbers.{from_to}
+use Rattle.vr_model.specs.tables.Numbers.{from_to}
 use Rattle.vr_read.specs.Rules.{for_all, entry_rule, dimension_entries_rule}
 use Rattle.vr_read.proofs.model_rules.keep_dimension_entries.Given as goal
 

@@ -3,7 +3,7 @@ use Rattle.std.specs.Prelude.{⊤}
 use Rattle.vr_json.specs.Paths.{item_path}
 use Rattle.vr_json.specs.Reading.{Answers}
 use Rattle.vr_json.specs.declared.fault.ReadFail.{ReadFail}
-use Rattle.vr_model.specs.Tables.{no_dimension}
+use Rattle.vr_model.specs.tables.Tables.{no_dimension}
 use Rattle.vr_model.specs.declared.records.Model.{Model}
 use Rattle.vr_model.specs.declared.records.Dimension.{Dimension}
 use Rattle.vr_read.specs.Rules.{dimension_entries_rule, entries_rule_at}

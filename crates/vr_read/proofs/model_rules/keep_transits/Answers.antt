@@ -1,7 +1,7 @@
 use Rattle.std.proofs.Common.{length, sym, ap, ◌∙◌, arith}
 use Rattle.vr_json.specs.Paths.{item_path}
 use Rattle.vr_json.proofs.Steps.{asked}
-use Rattle.vr_model.specs.Tables.{no_dimension}
+use Rattle.vr_model.specs.tables.Tables.{no_dimension}
 use Rattle.vr_read.specs.Backward.{is_backward_dimension}
 use Rattle.vr_read.specs.Rules.{transit_rule}
 use Rattle.vr_read.proofs.Ranges.{rule_passes, rule_stops, rule_ends}

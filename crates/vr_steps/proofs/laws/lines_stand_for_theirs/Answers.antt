@@ -1,8 +1,8 @@
 use Rattle.std.proofs.Common.{◌≡◌, ℕ, zero, suc, ◌<◌, List, [], ◌∷◌, length, get_or, map, ℤ, false, refl, sym, ap, ◌∙◌, arith}
 use Rattle.std.specs.List.{AllZip}
 use Rattle.std.proofs.lemmas.List.{length-map}
-use Rattle.vr_model.specs.Lines.{Arc}
-use Rattle.vr_model.specs.Schedules.{no_arc}
+use Rattle.vr_model.specs.schedules.Lines.{Arc}
+use Rattle.vr_model.specs.schedules.Schedules.{no_arc}
 use Rattle.vr_steps.specs.declared.hops.Hop.{Hop}
 use Rattle.vr_steps.specs.Levels.{HasNumbers}
 use Rattle.vr_steps.specs.Lines.{hop_of}

@@ -1,6 +1,6 @@
 use Rattle.std.proofs.Common.{◌≡◌, rules, ap, sym, ◌∙◌}
-use Rattle.vr_model.specs.Tables.{no_vehicle, entry, arc_cost}
-use Rattle.vr_model.proofs.Bounds.{arc_cost_in_range}
+use Rattle.vr_model.specs.tables.Tables.{no_vehicle, entry, arc_cost}
+use Rattle.vr_model.proofs.tables.Bounds.{arc_cost_in_range}
 use Rattle.vr_model.proofs.records.Model.arc_cost.Goals as goal
 
 pub returns-clause-not_negative : goal.returns-clause-not_negative

@@ -1,6 +1,6 @@
 use Rattle.std.proofs.Common.{◌+◌, ◌*◌, ◌<◌, length, subst}
-use Rattle.vr_model.specs.Tables.{no_matrix}
-use Rattle.vr_model.proofs.Bounds.{entry_low}
+use Rattle.vr_model.specs.tables.Tables.{no_matrix}
+use Rattle.vr_model.proofs.tables.Bounds.{entry_low}
 use Rattle.vr_model.proofs.records.Model.entry.Goals as goal
 
 pub get-requires-2 : goal.get-requires-2

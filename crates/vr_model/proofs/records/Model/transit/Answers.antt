@@ -1,9 +1,9 @@
 use Rattle.std.proofs.Common.{◌≡◌, ap, ap₂, sym, ◌∙◌, arith}
 use Rattle.std.specs.Prelude.{◌+ℤ◌, slice_index_or}
 use Rattle.std.proofs.lemmas.Int.{ints}
-use Rattle.vr_model.specs.Tables.{no_dimension, no_evaluator, evaluated, evaluator_of, dimension_at, transit}
-use Rattle.vr_model.specs.WellFormed.{IsIn}
-use Rattle.vr_model.proofs.Bounds.{least_transit, greatest_transit, transit_in_range}
+use Rattle.vr_model.specs.tables.Tables.{no_dimension, no_evaluator, evaluated, evaluator_of, dimension_at, transit}
+use Rattle.vr_model.specs.tables.WellFormed.{IsIn}
+use Rattle.vr_model.proofs.tables.Bounds.{least_transit, greatest_transit, transit_in_range}
 use Rattle.vr_model.proofs.records.Model.transit.Goals as goal
 
 -- the evaluator that the code takes is that of the vehicle

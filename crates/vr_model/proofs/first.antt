@@ -1,0 +1,3 @@
+-- Lemmas on the choice of the least.
+pub mod LexOrder
+pub mod LeastChoice

@@ -1,0 +1,2 @@
+-- Lemmas on moves.
+pub mod MoveMembers

@@ -1,0 +1,2 @@
+-- The assignment of lists.
+pub mod Assigned

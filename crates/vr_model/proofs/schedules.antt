@@ -1,0 +1,11 @@
+-- Lemmas on lines and schedules. Read first LineParts, then Halves and Joining, Crossing and CrossingBack.
+pub mod LineParts
+pub mod Halves
+pub mod Joining
+pub mod Crossing
+pub mod CrossingBack
+pub mod LevelEnds
+pub mod ChoiceLaws
+pub mod Narrowing
+pub mod LinesSound
+pub mod RunCounts

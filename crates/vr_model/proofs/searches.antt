@@ -1,0 +1,3 @@
+-- Lemmas on scans and searches.
+pub mod ScanEnding
+pub mod SearchBounds
