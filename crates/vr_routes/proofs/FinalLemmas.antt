@@ -1,0 +1,52 @@
+-- Lists in which no node stands twice, and single lists of them.
+use Rattle.std.proofs.Common.{◌≡◌, ◌≢◌, ◌∙◌, ℕ, zero, suc, ◌<◌, ◌≤◌, List, [], ◌∷◌, length, refl, sym, ap, subst, arith, true}
+use Rattle.std.specs.Prelude.{All, slice_index, slice_index_or, slice_set}
+use Rattle.std.proofs.lemmas.Bool.Decides.{Decides-eqb}
+use Rattle.std.proofs.lemmas.List.{get_or_default}
+use Rattle.std.proofs.lemmas.Map.Made.{IsDistinct-from_AllPairs}
+use Rattle.std.proofs.lemmas.Map.Steps.{length-le_from_distinct_below}
+use Rattle.vr_model.specs.routes.Routes.{route, holds}
+use Rattle.vr_routes.specs.Seats.{IsSeat, IsOnce, HaveNodes}
+use Rattle.vr_routes.proofs.SeatLemmas.{place_of_held, active_at}
+use Rattle.vr_routes.proofs.TourLemmas.{set_twice}
+use Rattle.vr_routes.proofs.OnceLemmas.{times_set, few_times, once_of_times}
+
+module _ (n : ℕ) (lists : List (List ℕ)) (once : IsOnce lists) (have : HaveNodes n lists) (v : ℕ) (low : v < length lists) (list : List ℕ) (same : route lists v ≡ list) where
+  seat : (k : ℕ) → k < length list → IsSeat lists (slice_index list k) v k
+  seat k k_low = record { vehicle = low; place = subst (λ l. k < length l) (sym same) k_low; found = ap (λ l. slice_index l k) same }
+
+  below : (k : ℕ) → k < length list → slice_index list k < n
+  below k k_low = let s = seat k k_low in have (slice_index list k) (active_at lists (slice_index list k) v k low s.place s.found)
+
+  pub list_below : All (λ node. node < n) list
+  list_below k d k_low = subst (λ x. x < n) (get_or_default list k 0 d k_low) (below k k_low)
+
+  apart : (i j d : ℕ) → i < j → j < length list → slice_index_or list i d ≢ slice_index_or list j d
+  apart i j d order j_low e =
+      let i_low : i < length list = omega (arith, order, j_low) in
+      let to : slice_index list i ≡ slice_index list j = get_or_default list i 0 d i_low ∙ e ∙ get_or_default list j d 0 j_low in
+      let k = (once (slice_index list j) v i v j (subst (λ x. IsSeat lists x v i) to (seat i i_low)) (seat j j_low)).1 in
+      omega (arith, order, k)
+
+  pub list_fits : length list ≤ n
+  list_fits = length-le_from_distinct_below list n (IsDistinct-from_AllPairs Decides-eqb list apart) found
+    where
+      found : (q : ℕ) → holds list q ≡ true → q < n
+      found q h = let p = place_of_held list q h in subst (λ x. x < n) p.2 (below p.0 p.1)
+
+set_commute : {A : Type 0} (xs : List A) (i j : ℕ) (x y : A) → i ≢ j → slice_set (slice_set xs i x) j y ≡ slice_set (slice_set xs j y) i x
+set_commute [] i j x y apart = refl
+set_commute (z ∷ zs) zero zero x y apart = absurd (apart refl)
+set_commute (z ∷ zs) zero (suc j) x y apart = refl
+set_commute (z ∷ zs) (suc i) zero x y apart = refl
+set_commute (z ∷ zs) (suc i) (suc j) x y apart = ap (λ l. z ∷ l) (set_commute zs i j x y (λ e. apart (ap suc e)))
+
+pub once_without : (lists : List (List ℕ)) (w : ℕ) → w < length lists → IsOnce lists → IsOnce (slice_set lists w [])
+once_without lists w low once = once_of_times (slice_set lists w []) (λ x. let whole = times_set x lists w [] low in let few = few_times x lists (once x) in omega (arith, whole, few))
+
+-- two lists, of which one is emptied first
+pub emptied : (lists : List (List ℕ)) (v w : ℕ) (nodes others : List ℕ) → v ≢ w → slice_set (slice_set (slice_set lists v nodes) w others) w [] ≡ slice_set (slice_set lists w []) v nodes
+emptied lists v w nodes others apart = set_twice (slice_set lists v nodes) w others [] ∙ set_commute lists v w nodes [] apart
+
+pub written_in_turn : (lists : List (List ℕ)) (v w : ℕ) (nodes others : List ℕ) → v ≢ w → slice_set (slice_set (slice_set lists w []) v nodes) w others ≡ slice_set (slice_set lists v nodes) w others
+written_in_turn lists v w nodes others apart = ap (λ l. slice_set l w others) (sym (set_commute lists v w nodes [] apart)) ∙ set_twice (slice_set lists v nodes) w [] others

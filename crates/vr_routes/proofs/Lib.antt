@@ -1,0 +1,16 @@
+pub mod SeatLemmas
+pub mod TourLemmas
+pub mod PieceLemmas
+pub mod ChangeLemmas
+pub mod NestLemmas
+pub mod OnceLemmas
+pub mod CountLemmas
+pub mod FinalLemmas
+pub mod CommitLemmas
+pub mod PairLemmas
+pub mod FactLemmas
+pub mod WithoutLemmas
+pub mod ListsLemmas
+pub mod ElsewhereLemmas
+pub mod RestLemmas
+pub mod PartLemmas

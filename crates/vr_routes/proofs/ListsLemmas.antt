@@ -1,0 +1,150 @@
+-- Lists that are lists of a model.
+use Rattle.std.proofs.Common.{◌⊎◌, ◌≡◌, ◌∙◌, ℕ, ◌+◌, ◌<◌, ◌≤◌, Bool, true, false, not, List, [], ◌∷◌, ◌++◌, length, take, refl, sym, ap, subst, inl, inr, arith, length-set}
+use Rattle.std.specs.Prelude.{IsTrue, ◌==◌, slice_index, slice_set}
+use Rattle.std.specs.List.{list_all, concat}
+use Rattle.std.proofs.lemmas.Bool.{cases_lt}
+use Rattle.std.proofs.lemmas.Bool.Decides.{eqb_tells}
+use Rattle.std.proofs.lemmas.List.{length-append, get_or-append-add}
+use Rattle.std.proofs.Math.Seq.{take-append-add}
+use Rattle.vr_model.specs.deciding.Testing.{clash, fails, fails_not, or_cases, or_left, or_right, and_left, and_right, and_both, eq_of_test, test_of_eq}
+use Rattle.vr_model.specs.routes.Routes.{route, holds, is_active, is_distinct, are_lists}
+use Rattle.vr_model.specs.tables.Tables.{is_visit}
+use Rattle.vr_model.specs.declared.records.Model.{Model}
+use Rattle.vr_routes.specs.Seats.{IsSeat, IsOnce}
+use Rattle.vr_routes.specs.Tours.{HaveVisits}
+use Rattle.vr_routes.proofs.SeatLemmas.{place_of_held, held_at, seat_of_active, active_at, route_set_same, route_set_other}
+use Rattle.vr_routes.proofs.OnceLemmas.{times, times_in, times_append, here_or_later, one_place, at_least_one, few_times, once_of_times, next_inactive, times_of_seat, one_seat_of}
+
+-- ---- lists joined
+
+joined_times : (x : ℕ) (lists : List (List ℕ)) → times x (concat lists) ≡ times_in x lists
+joined_times x [] = refl
+joined_times x (l ∷ ls) = let a = times_append x l (concat ls) in let r = joined_times x ls in omega (arith, a, r)
+
+held_times : (x : ℕ) (xs : List ℕ) → IsTrue (holds xs x) → 1 ≤ times x xs
+held_times x xs h = let p = place_of_held xs x h in at_least_one x xs p.0 p.1 p.2
+
+times_held : (x : ℕ) (xs : List ℕ) → 1 ≤ times x xs → IsTrue (holds xs x)
+times_held x xs h = let p = one_place x xs h in held_at xs x p.0 p.1 p.2
+
+-- no number stands twice where each stands once at most
+distinct_of_times : (xs : List ℕ) → ((x : ℕ) → times x xs ≤ 1) → IsTrue (is_distinct xs)
+distinct_of_times [] few = refl
+distinct_of_times (y ∷ ys) few = and_both (not (holds ys y)) _ (ap not (fails (holds ys y) (λ h.
+    let later = held_times y ys h in
+    let here = at_least_one y (y ∷ []) 0 (omega arith) refl in
+    let all = few y in
+    omega (arith, later, here, all)))) (distinct_of_times ys (λ x. let all = few x in omega (arith, all)))
+
+times_of_distinct : (xs : List ℕ) → IsTrue (is_distinct xs) → (x : ℕ) → times x xs ≤ 1
+times_of_distinct [] h x = omega arith
+times_of_distinct (y ∷ ys) h x =
+    let rest = times_of_distinct ys (and_right (not (holds ys y)) _ h) x in
+    elim (here_or_later x y) [
+      | inl same ↦ elim (cases_lt 0 (times x ys)) [
+        | inl some ↦ absurd (clash (holds ys y) (subst (λ z. IsTrue (holds ys z)) same.0 (times_held x ys some)) (fails_not (holds ys y) (and_left (not (holds ys y)) _ h)))
+        | inr free ↦ (let one = same.1 in omega (arith, one, free))
+      ]
+      | inr other ↦ omega (arith, rest, other)
+    ]
+
+-- a test that all numbers of a list pass
+all_held : (p : ℕ → Bool) (xs : List ℕ) → IsTrue (list_all p xs) → (x : ℕ) → IsTrue (holds xs x) → IsTrue (p x)
+all_held p [] h x held = absurd (clash false held refl)
+all_held p (y ∷ ys) h x held = elim (or_cases (x == y) _ held) [
+  | inl here ↦ subst (λ z. IsTrue (p z)) (sym (eq_of_test x y here)) (and_left (p y) _ h)
+  | inr later ↦ all_held p ys (and_right (p y) _ h) x later
+]
+
+all_of_held : (p : ℕ → Bool) (xs : List ℕ) → ((x : ℕ) → IsTrue (holds xs x) → IsTrue (p x)) → IsTrue (list_all p xs)
+all_of_held p [] each = refl
+all_of_held p (y ∷ ys) each = and_both (p y) _ (each y (or_left (y == y) _ (test_of_eq y y refl))) (all_of_held p ys (λ x held. each x (or_right (x == y) _ held)))
+
+active_joined : (lists : List (List ℕ)) (x : ℕ) → IsTrue (is_active lists x) → IsTrue (holds (concat lists) x)
+active_joined lists x active =
+    let s = seat_of_active lists x active in
+    times_held x (concat lists) (let one = times_of lists s.0 s.1 s.2 in let same = joined_times x lists in omega (arith, one, same))
+  where
+    times_of : (lists : List (List ℕ)) (v k : ℕ) → IsSeat lists x v k → 1 ≤ times_in x lists
+    times_of lists v k s = times_of_seat lists x v k s
+
+joined_active : (lists : List (List ℕ)) (x : ℕ) → IsTrue (holds (concat lists) x) → IsTrue (is_active lists x)
+joined_active lists x held =
+    let one = held_times x (concat lists) held in
+    let same = joined_times x lists in
+    let s = one_seat_of x lists (omega (arith, one, same)) in
+    active_at lists x s.0 s.1 s.2.vehicle s.2.place s.2.found
+
+-- ---- lists of a model
+
+pub are_lists_of : (model : Model) (lists : List (List ℕ)) → length lists ≡ length model.vehicles → HaveVisits model lists → IsOnce lists → are_lists model lists ≡ true
+are_lists_of model lists many visits once =
+    and_both (length lists == length model.vehicles) _ (test_of_eq (length lists) (length model.vehicles) many)
+    (and_both (list_all (is_visit model) (concat lists)) _ (all_of_held (is_visit model) (concat lists) (λ x held. visits x (joined_active lists x held)))
+    (distinct_of_times (concat lists) (λ x. let few = few_times x lists (once x) in let same = joined_times x lists in omega (arith, few, same))))
+
+pub many_of : (model : Model) (lists : List (List ℕ)) → IsTrue (are_lists model lists) → length lists ≡ length model.vehicles
+many_of model lists h = eq_of_test (length lists) (length model.vehicles) (and_left (length lists == length model.vehicles) _ h)
+
+pub visits_of : (model : Model) (lists : List (List ℕ)) → IsTrue (are_lists model lists) → HaveVisits model lists
+visits_of model lists h x active =
+    all_held (is_visit model) (concat lists) (and_left (list_all (is_visit model) (concat lists)) _ (and_right (length lists == length model.vehicles) _ h)) x (active_joined lists x active)
+
+pub once_of : (model : Model) (lists : List (List ℕ)) → IsTrue (are_lists model lists) → IsOnce lists
+once_of model lists h = once_of_times lists (λ x.
+    let few = times_of_distinct (concat lists) (and_right (list_all (is_visit model) (concat lists)) _ (and_right (length lists == length model.vehicles) _ h)) x in
+    let same = joined_times x lists in
+    omega (arith, few, same))
+
+-- ---- lists of which some stand already
+
+-- lists of which some are empty and the others those of the whole
+pub part_seat : (whole part : List (List ℕ)) → length part ≡ length whole → ((w : ℕ) → (route part w ≡ route whole w) ⊎ (route part w ≡ [])) → (x w k : ℕ) → IsSeat part x w k → IsSeat whole x w k
+part_seat whole part many some x w k s = elim (some w) [
+  | inl same ↦ record {
+    vehicle = (let low = s.vehicle in omega (arith, low, many));
+    place = subst (λ l. k < length l) same s.place;
+    found = ap (λ l. slice_index l k) (sym same) ∙ s.found;
+  }
+  | inr empty ↦ absurd (let place = s.place in let none : length (route part w) ≡ 0 = ap length empty in omega (arith, place, none))
+]
+
+pub part_once : (whole part : List (List ℕ)) → length part ≡ length whole → ((w : ℕ) → (route part w ≡ route whole w) ⊎ (route part w ≡ [])) → IsOnce whole → IsOnce part
+part_once whole part many some once x v k w j a b = once x v k w j (part_seat whole part many some x v k a) (part_seat whole part many some x w j b)
+
+pub part_visits : (model : Model) (whole part : List (List ℕ)) → length part ≡ length whole → ((w : ℕ) → (route part w ≡ route whole w) ⊎ (route part w ≡ [])) → HaveVisits model whole → HaveVisits model part
+part_visits model whole part many some visits x active =
+    let s = seat_of_active part x active in
+    let there = part_seat whole part many some x s.0 s.1 s.2 in
+    visits x (active_at whole x s.0 s.1 there.vehicle there.place there.found)
+
+-- the list of the next vehicle is put behind the lists before it
+pub next_part : (whole now : List (List ℕ)) (v : ℕ) → length now ≡ length whole → v < length whole → ((w : ℕ) → w < v → route now w ≡ route whole w) → ((w : ℕ) → v ≤ w → route now w ≡ [])
+    → (w : ℕ) → (route (slice_set now v (route now v ++ route whole v)) w ≡ route whole w) ⊎ (route (slice_set now v (route now v ++ route whole v)) w ≡ [])
+next_part whole now v many low done left w = elim (eqb_tells w v) [
+  | inl same ↦ inl (ap (route (slice_set now v (route now v ++ route whole v))) same.1 ∙ route_set_same now v (route now v ++ route whole v) (omega (arith, low, many))
+      ∙ ap (λ l. l ++ route whole v) (left v (omega arith)) ∙ ap (route whole) (sym same.1))
+  | inr other ↦ elim (cases_lt w v) [
+    | inl before ↦ inl (route_set_other now v w (route now v ++ route whole v) other.1 ∙ done w before)
+    | inr from ↦ inr (route_set_other now v w (route now v ++ route whole v) other.1 ∙ left w from)
+  ]
+]
+
+-- a node of a list that is put behind another one stands nowhere before it is put
+pub next_free : (old now : List (List ℕ)) (v i : ℕ) (list : List ℕ) → v < length old → now ≡ slice_set old v (route old v ++ take i list) → i < length list
+    → IsOnce (slice_set old v (route old v ++ list)) → is_active now (slice_index list i) ≡ false
+next_free old now v i list low e i_low once =
+    let front : List ℕ = route old v in
+    ap (is_active now) (sym (get_or-append-add front list i 0))
+    ∙ next_inactive old now v (length front + i) (front ++ list) low (e ∙ ap (slice_set old v) (sym (take-append-add front list i))) (omega (arith, i_low, length-append front list)) once
+
+-- and it is a visit, where all are
+pub next_visit : (model : Model) (old : List (List ℕ)) (v i : ℕ) (list : List ℕ) → v < length old → i < length list
+    → HaveVisits model (slice_set old v (route old v ++ list)) → IsTrue (is_visit model (slice_index list i))
+next_visit model old v i list low i_low visits =
+    let front : List ℕ = route old v in
+    let row = route_set_same old v (front ++ list) low in
+    visits (slice_index list i) (active_at (slice_set old v (front ++ list)) (slice_index list i) v (length front + i)
+    (omega (arith, low, length-set old v (front ++ list)))
+    (subst (λ l. length front + i < length l) (sym row) (omega (arith, i_low, length-append front list)))
+    (ap (λ l. slice_index l (length front + i)) row ∙ get_or-append-add front list i 0))

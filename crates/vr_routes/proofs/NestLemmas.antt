@@ -1,0 +1,101 @@
+-- Ranges of numbers, and the lists made of them.
+use Rattle.std.proofs.Common.{◌≡◌, ◌∙◌, ℕ, zero, suc, ◌+◌, ◌-◌, ◌<◌, ◌≤◌, Bool, true, false, cond, List, [], ◌∷◌, ◌++◌, map, length, refl, ap, arith}
+use Rattle.std.specs.Prelude.{filter, slice_index}
+use Rattle.std.specs.List.{range_with_len}
+use Rattle.vr_model.specs.tables.Numbers.{below, from_to, each}
+use Rattle.vr_routes.specs.Nests.{run_of, joined_of}
+
+pub from_to_step : (a b : ℕ) → a < b → from_to a b ≡ a ∷ from_to (a + 1) b
+from_to_step a b low = let e : b - a ≡ suc (b - (a + 1)) = omega (arith, low) in ap (range_with_len a) e
+
+pub from_to_done : (a b : ℕ) → b ≤ a → from_to a b ≡ []
+from_to_done a b low = let e : b - a ≡ 0 = omega (arith, low) in ap (range_with_len a) e
+
+module _ {A : Type 0} (passes : ℕ → Bool) where
+  pub run_takes : (f : ℕ → A) (a b : ℕ) → a < b → passes a ≡ true → run_of passes f a b ≡ f a ∷ run_of passes f (a + 1) b
+  run_takes f a b low there =
+      ap (λ l. map f (filter passes l)) (from_to_step a b low)
+      ∙ ap (λ t. map f (cond t (a ∷ filter passes (from_to (a + 1) b)) (filter passes (from_to (a + 1) b)))) there
+
+  pub run_skips : (f : ℕ → A) (a b : ℕ) → a < b → passes a ≡ false → run_of passes f a b ≡ run_of passes f (a + 1) b
+  run_skips f a b low other =
+      ap (λ l. map f (filter passes l)) (from_to_step a b low)
+      ∙ ap (λ t. map f (cond t (a ∷ filter passes (from_to (a + 1) b)) (filter passes (from_to (a + 1) b)))) other
+
+  pub run_ends : (f : ℕ → A) (a b : ℕ) → b ≤ a → run_of passes f a b ≡ []
+  run_ends f a b past = ap (λ l. map f (filter passes l)) (from_to_done a b past)
+
+  pub joined_goes_on : (f : ℕ → List A) (a b : ℕ) → a < b → joined_of passes f a b ≡ cond (passes a) (f a) [] ++ joined_of passes f (a + 1) b
+  joined_goes_on f a b low = ap (λ l. each (filter passes l) f) (from_to_step a b low) ∙ by (passes a)
+    where
+      by : (t : Bool) → each (cond t (a ∷ filter passes (from_to (a + 1) b)) (filter passes (from_to (a + 1) b))) f ≡ cond t (f a) [] ++ joined_of passes f (a + 1) b
+      by true = refl
+      by false = refl
+
+  pub joined_ends : (f : ℕ → List A) (a b : ℕ) → b ≤ a → joined_of passes f a b ≡ []
+  joined_ends f a b past = ap (λ l. each (filter passes l) f) (from_to_done a b past)
+
+-- ---- ranges of which all numbers pass
+
+filter_all : (xs : List ℕ) → filter (λ k. true) xs ≡ xs
+filter_all [] = refl
+filter_all (x ∷ xs) = ap (λ l. x ∷ l) (filter_all xs)
+
+from_zero : (n : ℕ) → from_to 0 n ≡ below n
+from_zero n = let e : n - 0 ≡ n = omega arith in ap (range_with_len 0) e
+
+pub run_all : {A : Type 0} (f : ℕ → A) (a b : ℕ) → run_of (λ k. true) f a b ≡ map f (from_to a b)
+run_all f a b = ap (map f) (filter_all (from_to a b))
+
+pub run_below : {A : Type 0} (passes : ℕ → Bool) (f : ℕ → A) (n : ℕ) → run_of passes f 0 n ≡ map f (filter passes (below n))
+run_below passes f n = ap (λ l. map f (filter passes l)) (from_zero n)
+
+pub run_all_below : {A : Type 0} (f : ℕ → A) (n : ℕ) → run_of (λ k. true) f 0 n ≡ map f (below n)
+run_all_below f n = run_all f 0 n ∙ ap (map f) (from_zero n)
+
+pub joined_all : {A : Type 0} (f : ℕ → List A) (a b : ℕ) → joined_of (λ k. true) f a b ≡ each (from_to a b) f
+joined_all f a b = ap (λ l. each l f) (filter_all (from_to a b))
+
+pub joined_below : {A : Type 0} (passes : ℕ → Bool) (f : ℕ → List A) (n : ℕ) → joined_of passes f 0 n ≡ each (filter passes (below n)) f
+joined_below passes f n = ap (λ l. each (filter passes l) f) (from_zero n)
+
+pub joined_all_below : {A : Type 0} (f : ℕ → List A) (n : ℕ) → joined_of (λ k. true) f 0 n ≡ each (below n) f
+joined_all_below f n = joined_all f 0 n ∙ ap (λ l. each l f) (from_zero n)
+
+-- ---- the places of a list
+
+each_later : {A : Type 0} (g : ℕ → List A) (a n : ℕ) → each (range_with_len (suc a) n) g ≡ each (range_with_len a n) (λ k. g (suc k))
+each_later g a zero = refl
+each_later g a (suc n) = ap (λ l. g (suc a) ++ l) (ap (λ b. each (range_with_len b n) g) (let e : suc a + 1 ≡ suc (a + 1) = omega arith in e) ∙ each_later g (a + 1) n)
+
+pub each_places : {A : Type 0} (f : ℕ → List A) (xs : List ℕ) → each (below (length xs)) (λ k. f (slice_index xs k)) ≡ each xs f
+each_places f [] = refl
+each_places f (x ∷ xs) = ap (λ l. f x ++ l) (ap (λ b. each (range_with_len b (length xs)) (λ k. f (slice_index (x ∷ xs) k))) (let e : 0 + 1 ≡ 1 = omega arith in e) ∙ each_later (λ k. f (slice_index (x ∷ xs) k)) 0 (length xs) ∙ each_places f xs)
+
+map_later : {A : Type 0} (g : ℕ → A) (a n : ℕ) → map g (range_with_len (suc a) n) ≡ map (λ k. g (suc k)) (range_with_len a n)
+map_later g a zero = refl
+map_later g a (suc n) = ap (λ l. g (suc a) ∷ l) (ap (λ b. map g (range_with_len b n)) (let e : suc a + 1 ≡ suc (a + 1) = omega arith in e) ∙ map_later g (a + 1) n)
+
+pub map_places : {A : Type 0} (f : ℕ → A) (xs : List ℕ) → map (λ k. f (slice_index xs k)) (below (length xs)) ≡ map f xs
+map_places f [] = refl
+map_places f (x ∷ xs) = ap (λ l. f x ∷ l) (ap (λ b. map (λ k. f (slice_index (x ∷ xs) k)) (range_with_len b (length xs))) (let e : 0 + 1 ≡ 1 = omega arith in e) ∙ map_later (λ k. f (slice_index (x ∷ xs) k)) 0 (length xs) ∙ map_places f xs)
+
+-- ---- tests and lists that agree on a range
+
+filter_same_from : (p q : ℕ → Bool) (a n : ℕ) → ((k : ℕ) → a ≤ k → k < a + n → p k ≡ q k) → filter p (range_with_len a n) ≡ filter q (range_with_len a n)
+filter_same_from p q a zero same = refl
+filter_same_from p q a (suc n) same =
+    ap (λ t. cond t (a ∷ filter p (range_with_len (a + 1) n)) (filter p (range_with_len (a + 1) n))) (same a (omega arith) (omega arith))
+    ∙ ap (λ l. cond (q a) (a ∷ l) l) (filter_same_from p q (a + 1) n (λ k low high. same k (omega (arith, low)) (omega (arith, high))))
+
+pub filter_same : (p q : ℕ → Bool) (a b : ℕ) → ((k : ℕ) → a ≤ k → k < b → p k ≡ q k) → filter p (from_to a b) ≡ filter q (from_to a b)
+filter_same p q a b same = filter_same_from p q a (b - a) (λ k low high. same k low (omega (arith, low, high)))
+
+each_same_from : {A : Type 0} (f g : ℕ → List A) (a n : ℕ) → ((k : ℕ) → k < a + n → f k ≡ g k) → each (range_with_len a n) f ≡ each (range_with_len a n) g
+each_same_from f g a zero same = refl
+each_same_from f g a (suc n) same =
+    ap (λ l. l ++ each (range_with_len (a + 1) n) f) (same a (omega arith))
+    ∙ ap (λ l. g a ++ l) (each_same_from f g (a + 1) n (λ k high. same k (omega (arith, high))))
+
+pub each_same : {A : Type 0} (f g : ℕ → List A) (n : ℕ) → ((k : ℕ) → k < n → f k ≡ g k) → each (below n) f ≡ each (below n) g
+each_same f g n same = each_same_from f g 0 n (λ k high. same k (omega (arith, high)))

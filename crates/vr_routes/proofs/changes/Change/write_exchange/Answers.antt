@@ -1,0 +1,36 @@
+use Rattle.std.proofs.Common.{◌≡◌, ◌∙◌, ℕ, List, ap}
+use Rattle.std.specs.Prelude.{slice_set, slice_index}
+use Rattle.vr_model.specs.routes.Routes.{route}
+use Rattle.vr_model.specs.declared.neighbours.Move.TheVariants.{Exchange}
+use Rattle.vr_routes.proofs.FactLemmas.{of_exchange}
+use Rattle.vr_routes.proofs.ChangeLemmas.{one_part, two_parts, exchanged_within, exchanged_between}
+use Rattle.vr_routes.proofs.changes.Change.write_exchange.Goals as goal
+
+pub returns-then-v-w : goal.returns-then-v-w
+returns-then-v-w c =
+    let lists : List (List ℕ) = c.args.routes.now.lists in
+    let v = c.args.v in
+    let w = c.args.w in
+    let a = c.args.a in
+    let b = c.args.b in
+    let x : ℕ = slice_index (route lists v) a in
+    let same : v ≡ w = c.if-v-w.true in
+    let low = (of_exchange c.args.model.now c.args.routes.now.lists c.args.v c.args.a c.args.w c.args.b c.requires.is_one).vehicle in
+    one_part c.args.model.now lists (Exchange v a w b) _ v _ low c.swap_within.ensures
+    (ap (λ u. slice_set lists v (slice_set (slice_set (route lists v) a (slice_index (route lists u) b)) b x)) same
+    ∙ exchanged_within lists v w a b (slice_index (route lists w) b) x same low)
+
+pub returns : goal.returns
+returns c =
+    let lists : List (List ℕ) = c.args.routes.now.lists in
+    let v = c.args.v in
+    let w = c.args.w in
+    let a = c.args.a in
+    let b = c.args.b in
+    let test = of_exchange c.args.model.now c.args.routes.now.lists c.args.v c.args.a c.args.w c.args.b c.requires.is_one in
+    let y : ℕ = slice_index (route lists w) b in
+    let x : ℕ = slice_index (route lists v) a in
+    two_parts c.args.model.now lists (Exchange v a w b) _ _ v w _ _ test.vehicle test.other c.if-v-w.false c.put_at.ensures c.put_at-2.ensures
+    (ap (λ z. slice_set (slice_set lists v (slice_set (route lists v) a z)) w (slice_set (route lists w) b c.node_at-2.result)) c.node_at.ensures
+    ∙ ap (λ z. slice_set (slice_set lists v (slice_set (route lists v) a y)) w (slice_set (route lists w) b z)) c.node_at-2.ensures
+    ∙ exchanged_between lists v w b x (slice_set (route lists v) a y) c.if-v-w.false)

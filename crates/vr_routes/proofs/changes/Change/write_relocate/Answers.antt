@@ -1,0 +1,16 @@
+use Rattle.std.proofs.Common.{ap}
+use Rattle.std.specs.Prelude.{insert, remove}
+use Rattle.vr_model.specs.routes.Routes.{route}
+use Rattle.vr_model.specs.moves.Moves.{with_route}
+use Rattle.vr_model.specs.declared.neighbours.Move.TheVariants.{Relocate}
+use Rattle.vr_routes.proofs.FactLemmas.{of_relocate}
+use Rattle.vr_routes.proofs.ChangeLemmas.{two_parts}
+use Rattle.vr_routes.proofs.changes.Change.write_relocate.Goals as goal
+
+pub returns : goal.returns
+returns c =
+    let lists = c.args.routes.now.lists in
+    let test = of_relocate c.args.model.now c.args.routes.now.lists c.args.v c.args.a c.args.w c.args.t c.requires.is_one in
+    two_parts c.args.model.now lists (Relocate c.args.v c.args.a c.args.w c.args.t) _ _ c.args.v c.args.w _ _
+    test.vehicle test.other test.apart c.take_out.ensures c.put_in.ensures
+    (ap (λ node. with_route (with_route lists c.args.v (remove (route lists c.args.v) c.args.a)) c.args.w (insert (route lists c.args.w) c.args.t node)) c.node_at.ensures)

@@ -1,0 +1,17 @@
+use Rattle.std.proofs.Common.{◌∙◌, ◌++◌, [], ℕ, List, subst, ap, arith}
+use Rattle.std.specs.Prelude.{slice_range}
+use Rattle.vr_model.specs.routes.Routes.{route}
+use Rattle.vr_routes.specs.Changes.{IsAfter}
+use Rattle.vr_routes.proofs.PieceLemmas.{ends_joined}
+use Rattle.vr_routes.proofs.kinds.join_ends.Goals as goal
+
+pub returns : goal.returns
+returns c =
+    let lists : List (List ℕ) = c.args.routes.now.lists in
+    let list : List ℕ = route lists c.args.v in
+    let n = c.len-n.ensures.value in
+    let low = c.requires in
+    let s0 = c.begin.ensures.after lists in
+    let s1 = c.chain.ensures.after lists c.args.v [] low.other low.front s0 in
+    let s2 = c.chain-2.ensures.after lists c.args.v (slice_range (route lists c.args.w) 0 c.args.b) low.vehicle (omega (arith, n)) s1 in
+    subst (IsAfter lists c.chain-2.new.self c.args.v) (ap (λ m. slice_range (route lists c.args.w) 0 c.args.b ++ slice_range list c.args.a m) n ∙ ends_joined list (route lists c.args.w) c.args.a c.args.b) s2

@@ -1,0 +1,37 @@
+-- What a part of a change is.
+use Rattle.std.specs.Prelude.{◌≡◌, ◌≢◌, ◌<◌, ℕ, true, List, length, All}
+use Rattle.std.specs.List.{AllPairs}
+use Rattle.vr_model.specs.moves.Moves.{apply}
+use Rattle.vr_model.specs.declared.records.Model.{Model}
+use Rattle.vr_model.specs.declared.neighbours.Move.{Move}
+use Rattle.vr_model.specs.tables.Tables.{visits}
+use Rattle.vr_model.specs.moves.MoveTests.{is_move}
+use Rattle.vr_model.specs.tables.WellFormed.{IsWellFormed}
+use Rattle.vr_routes.specs.Tours.{Tours}
+use Rattle.vr_routes.specs.Pieces.{ListAfter, joined, changed, IsWithin}
+
+-- the pieces of the part, each within its list, are joined to the list of v
+pub record IsAfter (lists : List (List ℕ)) (part : ListAfter) (v : ℕ) (list : List ℕ) : Type 0 where
+  pub vehicle_is : part.vehicle ≡ v
+  pub list_is : joined lists part.pieces ≡ list
+  pub each_within : All (IsWithin lists) part.pieces
+
+-- the parts are of vehicles of the lists, two of them of two, and their pieces lie within the lists
+pub record AreParts (lists : List (List ℕ)) (parts : List ListAfter) : Type 0 where
+  pub each_vehicle : All (λ part. part.vehicle < length lists) parts
+  pub each_within : All (λ part. All (IsWithin lists) part.pieces) parts
+  pub apart : AllPairs (λ p q. p.vehicle ≢ q.vehicle) parts
+
+-- a change of lists is the one that a move of theirs makes
+pub record IsChange (model : Model) (lists : List (List ℕ)) (mv : Move) (parts : List ListAfter) : Type 0 where
+  pub parts_are : AreParts lists parts
+  pub lists_are : changed lists parts ≡ apply model lists mv
+
+-- a change was made on routes: some move of their lists makes it
+pub record IsMadeOn (tours : Tours) (parts : List ListAfter) : Type 0 where
+  pub model : Model
+  pub mv : Move
+  pub well_formed : IsWellFormed model
+  pub visits_are : visits model ≡ tours.visits
+  pub is_one : is_move model tours.lists mv ≡ true
+  pub makes : IsChange model tours.lists mv parts

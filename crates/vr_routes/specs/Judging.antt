@@ -1,0 +1,27 @@
+-- What a judge has to answer, and what it holds.
+use Rattle.std.specs.Prelude.{◌≡◌, ℕ, cond, List, IsTrue, ◌-ℤ◌}
+use Rattle.vr_model.specs.tables.Tables.{visits}
+use Rattle.vr_model.specs.moves.Moves.{apply}
+use Rattle.vr_model.specs.routes.Rules.{is_valid}
+use Rattle.vr_model.specs.routes.Costs.{cost}
+use Rattle.vr_model.specs.declared.records.Model.{Model}
+use Rattle.vr_model.specs.declared.neighbours.Move.{Move}
+use Rattle.vr_routes.specs.Tours.{Tours}
+use Rattle.vr_routes.specs.declared.judging.Verdict.{Verdict}
+use Rattle.vr_routes.specs.declared.judging.Verdict.TheVariants.{Refused, Difference}
+
+-- routes hold the lists that a judge has committed, and they are valid lists of its model
+pub record HoldSame (model : Model) (committed : List (List ℕ)) (routes : Tours) : Type 0 where
+  pub same : committed ≡ routes.lists
+  pub of_model : routes.visits ≡ visits model
+  pub valid : IsTrue (is_valid model routes.lists)
+
+-- a move is refused where the lists after it are not valid; else it makes this difference in cost
+abbrev pub verdict_of : Model → List (List ℕ) → Move → Verdict
+verdict_of model lists mv =
+    let after = apply model lists mv in
+    cond (is_valid model after) (Difference (cost model after -ℤ cost model lists)) Refused
+
+-- the routes after a move
+abbrev pub moved : Model → Tours → Move → Tours
+moved model routes mv = record { visits = routes.visits; lists = apply model routes.lists mv }

@@ -1,0 +1,45 @@
+-- Lists after a change, as pieces of the lists before it.
+use Rattle.std.specs.Prelude.{ℕ, ◌<◌, ◌≤◌, cond, List, [], ◌∷◌, length, reverse, slice_range, slice_index_or}
+use Rattle.vr_model.specs.tables.Numbers.{each}
+use Rattle.vr_model.specs.routes.Routes.{route}
+use Rattle.vr_model.specs.moves.Moves.{with_route}
+use Rattle.vr_routes.specs.declared.pieces.Piece.{Piece}
+use Rattle.vr_routes.specs.declared.pieces.Piece.TheVariants.{Chain, Node}
+
+-- the pieces of the list of a vehicle
+pub record ListAfter : Type 0 where
+  pub vehicle : ℕ
+  pub pieces : List Piece
+
+-- the nodes of a piece of these lists
+abbrev pub nodes_of : List (List ℕ) → Piece → List ℕ
+nodes_of lists (Chain v from to reversed) =
+    let chain = slice_range (route lists v) from to in
+    cond reversed (reverse chain) chain
+nodes_of lists (Node node) = node ∷ []
+
+-- the nodes of pieces, joined
+abbrev pub joined : List (List ℕ) → List Piece → List ℕ
+joined lists pieces = each pieces (nodes_of lists)
+
+-- a chain lies within its list
+abbrev pub IsWithin : List (List ℕ) → Piece → Type 0
+IsWithin lists (Chain v from to reversed) = (v < length lists) × (from ≤ to) × (to ≤ length (route lists v))
+IsWithin lists (Node node) = Unit {0}
+
+-- lists, with those of the parts in the place of the old ones, where each piece is one of old
+abbrev pub with_parts : List (List ℕ) → List ListAfter → List (List ℕ) → List (List ℕ)
+with_parts old [] lists = lists
+with_parts old (part ∷ parts) lists = with_parts old parts (with_route lists part.vehicle (joined old part.pieces))
+
+-- the lists after a change of these parts
+abbrev pub changed : List (List ℕ) → List ListAfter → List (List ℕ)
+changed lists parts = with_parts lists parts lists
+
+-- the part that is read where a change has none of a number
+abbrev pub no_part : ListAfter
+no_part = record { vehicle = 0; pieces = [] }
+
+-- part k of a change
+abbrev pub part_at : List ListAfter → ℕ → ListAfter
+part_at parts k = slice_index_or parts k no_part

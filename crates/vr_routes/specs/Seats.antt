@@ -1,0 +1,33 @@
+-- Where each node of lists stands.
+use Rattle.std.specs.Prelude.{◌≡◌, ℕ, ◌<◌, List, length, slice_index, slice_index_or, IsTrue, Option, Some, None}
+use Rattle.vr_model.specs.routes.Routes.{route, is_active}
+use Rattle.vr_routes.specs.declared.seats.Seat.{Seat}
+
+-- lists, and how many nodes may stand in them
+pub record Seated : Type 0 where
+  pub lists : List (List ℕ)
+  pub nodes : ℕ
+
+-- a node stands at place k of the list of v
+pub record IsSeat (lists : List (List ℕ)) (node v k : ℕ) : Type 0 where
+  pub vehicle : v < length lists
+  pub place : k < length (route lists v)
+  pub found : slice_index (route lists v) k ≡ node
+
+-- what is kept of a node, none of a node that is not kept
+abbrev pub seat_at : List (Option Seat) → ℕ → Option Seat
+seat_at seats node = slice_index_or seats node None
+
+-- each node of the lists has its seat, and each seat its node
+pub record IsSeated (lists : List (List ℕ)) (seats : List (Option Seat)) : Type 0 where
+  pub told : (v k : ℕ) → v < length lists → k < length (route lists v)
+      → seat_at seats (slice_index (route lists v) k) ≡ Some (record { vehicle = v; place = k })
+  pub there : (node : ℕ) (seat : Seat) → seat_at seats node ≡ Some seat → IsSeat lists node seat.vehicle seat.place
+
+-- no node stands at two places
+abbrev pub IsOnce : List (List ℕ) → Type 0
+IsOnce lists = (node v k w j : ℕ) → IsSeat lists node v k → IsSeat lists node w j → (v ≡ w) × (k ≡ j)
+
+-- each node of the lists is below n
+abbrev pub HaveNodes : ℕ → List (List ℕ) → Type 0
+HaveNodes n lists = (node : ℕ) → IsTrue (is_active lists node) → node < n

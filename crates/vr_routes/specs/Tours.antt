@@ -1,0 +1,31 @@
+-- What is seen of routes.
+use Rattle.std.specs.Prelude.{◌≡◌, ℕ, ◌<◌, ◌≤◌, List, length, filter, not, IsTrue, All}
+use Rattle.vr_model.specs.tables.Tables.{is_visit}
+use Rattle.vr_model.specs.routes.Routes.{route, holds, is_active}
+use Rattle.vr_routes.specs.Seats.{Seated}
+use Rattle.vr_model.specs.declared.records.Model.{Model}
+
+-- lists of visits, one for each vehicle, and the visits that may stand in them, ascending
+pub record Tours : Type 0 where
+  pub visits : List ℕ
+  pub lists : List (List ℕ)
+
+-- the visits that stand in no list, ascending
+abbrev pub idle : List ℕ → List (List ℕ) → List ℕ
+idle visits lists = filter (λ node. not (is_active lists node)) visits
+
+-- what holds of all routes: few vehicles and nodes, all entries visits, and what is kept of the inactive ones
+pub record AreKept (visits seating : Seated) (inactive : List ℕ) : Type 0 where
+  pub one_list : length visits.lists ≡ 1
+  pub same_nodes : visits.nodes ≡ seating.nodes
+  pub few_nodes : seating.nodes ≤ 1000
+  pub few_vehicles : length seating.lists ≤ 100
+  pub few_visits : length (route visits.lists 0) ≤ 1000
+  pub each_visit_is_node : All (λ node. node < seating.nodes) (route visits.lists 0)
+  pub each_entry_is_visit : (node : ℕ)
+      → IsTrue (is_active seating.lists node) → IsTrue (holds (route visits.lists 0) node)
+  pub inactive_ones : inactive ≡ idle (route visits.lists 0) seating.lists
+
+-- each entry of the lists is a visit
+abbrev pub HaveVisits : Model → List (List ℕ) → Type 0
+HaveVisits model lists = (node : ℕ) → IsTrue (is_active lists node) → IsTrue (is_visit model node)

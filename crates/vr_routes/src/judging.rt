@@ -1,0 +1,68 @@
+//! The trait of what judges moves.
+
+ghost use Rattle.std.specs.Prelude.{◌≡◌, ◌+◌, ◌≤◌, ℕ, List, IsTrue, IfOk, OnOk, OnErr};
+ghost use Rattle.vr_model.specs.moves.Moves.{apply};
+ghost use Rattle.vr_model.specs.moves.MoveTests.{is_move};
+ghost use Rattle.vr_model.specs.routes.Rules.{is_valid};
+ghost use Rattle.vr_model.specs.tables.WellFormed.{IsWellFormed};
+ghost use Rattle.vr_model.specs.declared.neighbours.Move.{Move as Step};
+ghost use Rattle.vr_model.specs.declared.records.Model.{Model as RoutingModel};
+ghost use Rattle.vr_routes.specs.Judging.{HoldSame, moved, verdict_of};
+
+use crate::Routes;
+use std::sync::ledger::Ledger;
+use vr_model::{Move, NoMemory, Steps};
+
+/// What a judge says of a move.
+#[derive(Clone, Copy)]
+pub enum Verdict {
+    /// The lists after the move are not valid.
+    Refused,
+    /// The cost of the lists after the move, less that of the lists before.
+    Difference(i64),
+}
+
+/// Judges moves of the lists that it has committed.
+pub trait Judge {
+    /// The model, which no call changes.
+    ghost model: { Self → RoutingModel };
+
+    /// The lists that the judge has committed.
+    ghost committed: { Self → List (List ℕ) };
+
+    /// A number that rises by at most one where a move is judged.
+    ghost asked: { Self → ℕ };
+
+    /// How many steps it takes at most to judge a move of the committed lists.
+    ghost weight: { Self → Step → ℕ };
+
+    /// Judges a move of the lists. The committed lists stay, whatever the answer.
+    fn judge<L: Ledger>(
+        &mut self,
+        routes: &Routes,
+        mv: Move,
+        steps: &mut Steps<L>,
+    ) -> Result<Verdict, NoMemory>
+        requires well_formed { IsWellFormed (model self.old) }
+        requires holds { HoldSame (model self.old) (committed self.old) routes.now }
+        requires mv { IsTrue (is_move (model self.old) routes.now.lists mv) }
+        ensures verdict { IfOk result (λ verdict. verdict ≡ verdict_of (model self.old) routes.now.lists mv) }
+        ensures model { model self.new ≡ model self.old }
+        ensures committed { committed self.new ≡ committed self.old }
+        ensures asked { asked self.new ≤ asked self.old + 1 }
+        ensures steps { steps.new ≤ steps.old + weight self.old mv };
+
+    /// Makes a move after which the lists are valid: routes and judge then both hold the lists after it. Where memory
+    /// is wanting, both are as before.
+    fn commit(&mut self, routes: &mut Routes, mv: Move) -> Result<(), NoMemory>
+        requires well_formed { IsWellFormed (model self.old) }
+        requires holds { HoldSame (model self.old) (committed self.old) routes.old }
+        requires mv { IsTrue (is_move (model self.old) routes.old.lists mv) }
+        requires valid { IsTrue (is_valid (model self.old) (apply (model self.old) routes.old.lists mv)) }
+        ensures routes { OnOk result (routes.new ≡ moved (model self.old) routes.old mv) }
+        ensures committed { OnOk result (committed self.new ≡ routes.new.lists) }
+        ensures routes_stay { OnErr result (routes.new ≡ routes.old) }
+        ensures committed_stay { OnErr result (committed self.new ≡ committed self.old) }
+        ensures model { model self.new ≡ model self.old }
+        ensures asked { asked self.new ≡ asked self.old };
+}

@@ -1,0 +1,28 @@
+//! Lists of visits with look-ups, what a move changes in them, and the change made in place.
+#![tactic(auto)]
+
+mod changes;
+mod filling;
+mod indices;
+mod judging;
+mod kinds;
+pub mod nests;
+mod pairs;
+mod pieces;
+mod routes;
+mod rows;
+mod seats;
+mod tests_of_moves;
+
+pub use changes::Change;
+pub use indices::Indices;
+pub use judging::{Judge, Verdict};
+pub use pairs::{
+    PairPlaces, is_elsewhere, is_pair_inactive, is_pair_served, is_pair_together, pair_places,
+    rest_len,
+};
+pub use pieces::Piece;
+pub use routes::Routes;
+pub use rows::Row;
+pub use seats::Seat;
+pub use tests_of_moves::pair_served;

@@ -1,0 +1,106 @@
+//! How the two nodes of a pair stand.
+
+ghost use Rattle.std.specs.Prelude.{◌≡◌, ◌<◌, ◌≤◌, false, length, MatchOption};
+ghost use Rattle.vr_model.specs.routes.Routes.{route};
+ghost use Rattle.vr_model.specs.moves.Moves.{is_pair_inactive, is_pair_together, is_pair_served, without_pair};
+ghost use Rattle.vr_model.specs.declared.records.Pair.{Pair as Paired};
+ghost use Rattle.vr_routes.specs.Pairs.{are_together, ArePlaces, is_elsewhere};
+
+use crate::routes::Routes;
+use vr_model::{Model, Pair};
+
+/// Where the nodes of a pair stand that stand in one list.
+#[derive(Clone, Copy, Debug, PartialEq, Eq)]
+pub struct PairPlaces {
+    pub vehicle: u32,
+    pub pickup: u32,
+    pub delivery: u32,
+}
+
+/// Where the nodes of a pair stand, `None` where they do not stand in one list.
+#[inline]
+pub fn pair_places(routes: &Routes, pair: Pair) -> Option<PairPlaces>
+    ensures { MatchOption result (are_together routes.now.lists pair.pickup pair.delivery ≡ false)
+        (λ at. ArePlaces routes.now.lists pair at.vehicle at.pickup at.delivery) }
+{
+    routes.know_once();
+    match routes.seat(pair.pickup) {
+        None => None,
+        Some(first) => match routes.seat(pair.delivery) {
+            None => None,
+            Some(second) => {
+                if first.vehicle != second.vehicle {
+                    return None;
+                }
+                Some(PairPlaces {
+                    vehicle: first.vehicle,
+                    pickup: first.place,
+                    delivery: second.place,
+                })
+            }
+        },
+    }
+}
+
+/// Whether neither node of a pair is active.
+#[inline]
+pub fn is_pair_inactive(model: &Model, routes: &Routes, p: u32) -> bool
+    requires pair { p < length model.now.pairs }
+    ensures { result ≡ is_pair_inactive model.now routes.now.lists p }
+{
+    let pair = model.pairs.get(p as usize);
+    !routes.is_active(pair.pickup) && !routes.is_active(pair.delivery)
+}
+
+/// Whether both nodes of a pair stand in one list.
+#[inline]
+pub fn is_pair_together(model: &Model, routes: &Routes, p: u32) -> bool
+    requires pair { p < length model.now.pairs }
+    ensures { result ≡ is_pair_together model.now routes.now.lists p }
+{
+    match pair_places(routes, *model.pairs.get(p as usize)) {
+        None => false,
+        Some(_at) => true,
+    }
+}
+
+/// Whether both nodes of a pair stand in one list, the pickup first.
+#[inline]
+pub fn is_pair_served(model: &Model, routes: &Routes, p: u32) -> bool
+    requires pair { p < length model.now.pairs }
+    ensures { result ≡ is_pair_served model.now routes.now.lists p }
+{
+    routes.know_once();
+    match pair_places(routes, *model.pairs.get(p as usize)) {
+        None => false,
+        Some(at) => at.pickup < at.delivery,
+    }
+}
+
+/// How many nodes the list of `w` has without those of a pair that is served.
+#[inline]
+pub fn rest_len(routes: &Routes, at: PairPlaces, w: u32) -> u32
+    requires vehicle { w < length routes.now.lists }
+    requires order { at.pickup < at.delivery }
+    requires place { at.delivery < length (route routes.now.lists at.vehicle) }
+    ensures rest { (pair : Paired) → ArePlaces routes.now.lists pair at.vehicle at.pickup at.delivery
+        → result ≡ length (without_pair pair (route routes.now.lists w)) }
+    ensures few { result ≤ 1000 }
+{
+    routes.know_once();
+    let n = routes.len(w);
+    if w == at.vehicle {
+        return n - 2;
+    }
+    n
+}
+
+/// Whether a pair with its pickup before place `s` of the rest of `w`, and its delivery before place `t`, stands
+/// elsewhere than now.
+#[inline]
+pub fn is_elsewhere(at: PairPlaces, w: u32, s: u32, t: u32) -> bool
+    requires order { at.pickup < at.delivery }
+    ensures { result ≡ is_elsewhere at.vehicle at.pickup at.delivery w s t }
+{
+    !(w == at.vehicle && (s == at.pickup && t == at.delivery - 1))
+}

@@ -1,0 +1,256 @@
+//! Lists with the place of each node beside them.
+
+ghost use Rattle.std.specs.Prelude.{◌≡◌, ℕ, ◌≢◌, ◌<◌, ◌≤◌, false, All, [], ◌∷◌, ◌++◌, length, slice_index, replicate};
+ghost use Rattle.std.specs.Prelude.{MatchOption, IfOk};
+ghost use Rattle.vr_model.specs.routes.Routes.{route, is_active};
+ghost use Rattle.vr_model.specs.moves.Moves.{with_route};
+ghost use Rattle.vr_routes.specs.Seats.{HaveNodes, IsSeat, IsOnce};
+
+use crate::rows::Row;
+use std::alloc::Global;
+use std::marker::Model;
+use vr_model::NoMemory;
+
+/// Where a node stands.
+#[derive(Clone, Copy, Debug, PartialEq, Eq)]
+pub struct Seat {
+    pub vehicle: u32,
+    pub place: u32,
+}
+
+/// A list of nodes for each vehicle, with no node twice, and the seat of each node.
+#[derive(Drop)]
+pub struct Seating {
+    rows: Vec<Row>,
+    seats: Vec<Option<Seat>>,
+}
+
+impl Model for Seating {
+    ghost use Rattle.std.specs.Prelude.{length};
+    ghost use Rattle.vr_routes.specs.Seats.{Seated, IsSeated};
+
+    ghost Value = { Seated };
+
+    ghost view = { λ s. record { lists = s.rows.items; nodes = length s.seats.items } };
+
+    ghost invariant = { λ s. IsSeated s.rows.items s.seats.items };
+}
+
+impl Seating {
+    /// Empty lists for `vehicles` vehicles over the numbers below `nodes`.
+    pub fn empty(alloc: Global, vehicles: usize, nodes: usize) -> Result<Seating, NoMemory>
+        ensures lists { IfOk result (λ s. s.lists ≡ replicate vehicles []) }
+        ensures nodes { IfOk result (λ s. s.nodes ≡ nodes) }
+    {
+        let mut rows = Vec::new(alloc);
+        for _v in 0..vehicles {
+            rows.push(Row::new())?;
+        }
+        let mut seats = Vec::new(alloc);
+        for _node in 0..nodes {
+            seats.push(None)?;
+        }
+        Ok(Seating { rows, seats })
+    }
+
+    /// The same lists.
+    pub fn copy(&self, alloc: Global) -> Result<Seating, NoMemory>
+        ensures { IfOk result (λ s. s ≡ self.now) }
+    {
+        let rows = copy_rows(alloc, &self.rows)?;
+        let seats = copy_seats(alloc, &self.seats)?;
+        Ok(Seating { rows, seats })
+    }
+
+    /// Where a node stands.
+    #[inline]
+    pub fn seat(&self, node: u32) -> Option<Seat>
+        requires node { node < self.now.nodes }
+        ensures { MatchOption result (is_active self.now.lists node ≡ false)
+            (λ seat. IsSeat self.now.lists node seat.vehicle seat.place) }
+    {
+        self.seats[node as usize]
+    }
+
+    /// Whether a node stands in some list.
+    #[inline]
+    pub fn is_active(&self, node: u32) -> bool
+        requires node { node < self.now.nodes }
+        ensures { result ≡ is_active self.now.lists node }
+    {
+        self.seat(node).is_some()
+    }
+
+    /// How many lists there are.
+    #[inline]
+    pub fn vehicles(&self) -> usize
+        ensures { result ≡ length self.now.lists }
+    {
+        self.rows.len()
+    }
+
+    /// How many numbers may stand in the lists.
+    #[inline]
+    pub fn nodes(&self) -> usize
+        ensures { result ≡ self.now.nodes }
+    {
+        self.seats.len()
+    }
+
+    /// How many nodes the list of a vehicle has.
+    #[inline]
+    pub fn len(&self, v: u32) -> usize
+        requires vehicle { v < length self.now.lists }
+        ensures value { result ≡ length (route self.now.lists v) }
+        ensures fits { result ≤ 1000 }
+    {
+        self.rows[v as usize].len()
+    }
+
+    /// The node at a place.
+    #[inline]
+    pub fn node_at(&self, v: u32, place: u32) -> u32
+        requires vehicle { v < length self.now.lists }
+        requires place { place < length (route self.now.lists v) }
+        ensures { result ≡ slice_index (route self.now.lists v) place }
+    {
+        self.rows[v as usize].get(place as usize)
+    }
+
+    /// Puts a node that stands nowhere at the end of a list.
+    pub fn put(&mut self, v: u32, node: u32)
+        requires vehicle { v < length self.old.lists }
+        requires node { node < self.old.nodes }
+        requires few { self.old.nodes ≤ 1000 }
+        requires inactive { is_active self.old.lists node ≡ false }
+        ensures lists { self.new.lists ≡ with_route self.old.lists v (route self.old.lists v ++ node ∷ []) }
+        ensures nodes { self.new.nodes ≡ self.old.nodes }
+    {
+        let row = &mut self.rows[v as usize];
+        let place = row.len() as u32;
+        row.push(node);
+        self.seats[node as usize] = Some(Seat { vehicle: v, place });
+    }
+
+    /// Takes the last node of a list out.
+    pub fn take_last(&mut self, v: u32) -> Option<u32>
+        requires vehicle { v < length self.old.lists }
+        ensures taken { MatchOption result
+            ((route self.old.lists v ≡ []) × (self.new.lists ≡ self.old.lists))
+            (λ node. (rest : _) × (route self.old.lists v ≡ rest ++ node ∷ [])
+            × (self.new.lists ≡ with_route self.old.lists v rest)) }
+        ensures nodes { self.new.nodes ≡ self.old.nodes }
+    {
+        let node = self.rows[v as usize].pop()?;
+        self.seats[node as usize] = None;
+        Some(node)
+    }
+
+    /// Takes all nodes of a list out.
+    pub fn clear(&mut self, v: u32)
+        requires vehicle { v < length self.old.lists }
+        ensures lists { self.new.lists ≡ with_route self.old.lists v [] }
+        ensures nodes { self.new.nodes ≡ self.old.nodes }
+    {
+        while let Some(_node) = self.take_last(v) {}
+    }
+
+    /// The list of a vehicle.
+    #[inline]
+    pub fn list(&self, v: u32) -> &[u32]
+        requires vehicle { v < length self.now.lists }
+        ensures value { result.now ≡ route self.now.lists v }
+        ensures few { length result.now ≤ 1000 }
+    {
+        self.rows[v as usize].as_slice()
+    }
+
+    /// Gives a vehicle another list, with which no node stands twice.
+    pub fn set_list(&mut self, v: u32, nodes: &[u32])
+        requires vehicle { v < length self.old.lists }
+        requires nodes { All (λ node. node < self.old.nodes) nodes.now }
+        requires few { self.old.nodes ≤ 1000 }
+        requires once { IsOnce (with_route self.old.lists v nodes.now) }
+        ensures lists { self.new.lists ≡ with_route self.old.lists v nodes.now }
+        ensures nodes { self.new.nodes ≡ self.old.nodes }
+    {
+        self.clear(v);
+        for &node in nodes {
+            self.put(v, node);
+        }
+    }
+
+    /// Gives two vehicles other lists, with which no node stands twice.
+    pub fn set_two(&mut self, v: u32, nodes: &[u32], w: u32, others: &[u32])
+        requires vehicle { v < length self.old.lists }
+        requires other { w < length self.old.lists }
+        requires apart { v ≢ w }
+        requires nodes { All (λ node. node < self.old.nodes) nodes.now }
+        requires others { All (λ node. node < self.old.nodes) others.now }
+        requires few { self.old.nodes ≤ 1000 }
+        requires once { IsOnce (with_route (with_route self.old.lists v nodes.now) w others.now) }
+        ensures lists { self.new.lists ≡ with_route (with_route self.old.lists v nodes.now) w others.now }
+        ensures nodes { self.new.nodes ≡ self.old.nodes }
+    {
+        self.clear(w);
+        self.set_list(v, nodes);
+        self.set_list(w, others);
+    }
+
+    /// Gives each vehicle the list that it has in `other`.
+    pub fn assign(&mut self, other: &Seating)
+        requires many { length self.old.lists ≡ length other.now.lists }
+        requires few { self.old.nodes ≤ 1000 }
+        requires few_vehicles { length self.old.lists ≤ 100 }
+        requires nodes { HaveNodes self.old.nodes other.now.lists }
+        ensures lists { self.new.lists ≡ other.now.lists }
+        ensures nodes { self.new.nodes ≡ self.old.nodes }
+    {
+        other.know_once();
+        self.clear_all();
+        for v in 0..other.vehicles() {
+            self.set_list(v as u32, other.list(v as u32));
+        }
+    }
+
+    // Takes all nodes out.
+    fn clear_all(&mut self)
+        requires few_vehicles { length self.old.lists ≤ 100 }
+        ensures lists { (v : ℕ) → route self.new.lists v ≡ [] }
+        ensures many { length self.new.lists ≡ length self.old.lists }
+        ensures nodes { self.new.nodes ≡ self.old.nodes }
+    {
+        for v in 0..self.vehicles() {
+            self.clear(v as u32);
+        }
+    }
+
+    /// No node stands at two places.
+    pub fn know_once(&self)
+        ensures { IsOnce self.now.lists }
+    {
+        let _rows = &self.rows;
+    }
+}
+
+// The same rows.
+fn copy_rows(alloc: Global, rows: &[Row]) -> Result<Vec<Row>, NoMemory>
+    ensures { IfOk result (λ copied. copied.items ≡ rows.now) }
+{
+    let mut copied = Vec::new(alloc);
+    for row in rows {
+        copied.push(row.copy())?;
+    }
+    Ok(copied)
+}
+
+// The same seats.
+fn copy_seats(alloc: Global, seats: &[Option<Seat>]) -> Result<Vec<Option<Seat>>, NoMemory>
+    ensures { IfOk result (λ copied. copied.items ≡ seats.now) }
+{
+    let mut copied = Vec::new(alloc);
+    for &seat in seats {
+        copied.push(seat)?;
+    }
+    Ok(copied)
+}
