@@ -5,7 +5,7 @@ use Rattle.std.proofs.lemmas.Int.{ints}
 use Rattle.std.proofs.lemmas.Bool.{and_parts, and_from}
 use Rattle.std.proofs.lemmas.Result.{on_ok_weaker}
 use Rattle.vr_spans.specs.declared.runs.Run.{Run}
-use Rattle.vr_spans.specs.Runs.{limit, in_limits, has, IsNormal, StaysWithin, IsStretched}
+use Rattle.vr_spans.specs.Runs.{limit, in_limits, in_run, has, IsNormal, StaysWithin, IsStretched}
 use Rattle.vr_spans.specs.Build.{stretched}
 use Rattle.vr_spans.proofs.Numbers.{in_limits-from_has}
 use Rattle.vr_spans.proofs.Stretched.{has-shifted, IsStretched-from_has, has-from_IsStretched}
@@ -25,6 +25,9 @@ module _ {T E : Type 0} (r : Result T E) (out from : List Run) where
 
   pub met : (within : List Run) → OnOk r ((x : ℤ) → has out x ≡ (has (map (stretched (pos 0) (pos 0)) from) x && has within x)) → OnOk r ((x : ℤ) → has out x ≡ (has from x && has within x))
   met within h = on_ok_weaker r (λ is x. is x ∙ ap (λ b. b && has within x) (has-kept from x)) h
+
+  pub clipped : (bounds : Run) → OnOk r ((x : ℤ) → has out x ≡ (has (map (stretched (pos 0) (pos 0)) from) x && has (bounds ∷ []) x)) → OnOk r ((x : ℤ) → has out x ≡ (has from x && in_run bounds x))
+  clipped bounds h = on_ok_weaker r (λ is x. is x ∙ grind (arith, has-kept from x)) h
 
   pub reached : (first last : ℤ) (within : List Run) → first ≤ℤ last → IsNormal from → OnOk r ((x : ℤ) → has out x ≡ (has (map (stretched first last) from) x && has within x)) → OnOk r ((x : ℤ) → IsTrue (has out x) ↔ (IsTrue (has within x) × IsStretched first last from x))
   reached first last within le normal h = on_ok_weaker r both h

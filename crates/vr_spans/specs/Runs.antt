@@ -71,3 +71,13 @@ pub record IsCount (test : ℤ → Bool) (n : ℕ) : Type 0 where
 -- x is in the set, and the number below it is not: a run of neighbours begins at x
 abbrev pub begins : List Run → ℤ → Bool
 begins rs x = has rs x && not (has rs (x -ℤ pos 1))
+
+-- some number is in both sets
+abbrev pub ShareANumber : List Run → List Run → Type 0
+ShareANumber xs ys = (x : ℤ) × (has xs x ≡ true) × (has ys x ≡ true)
+
+-- x is in both sets, and no lesser number is
+pub record IsLeastShared (xs ys : List Run) (x : ℤ) : Type 0 where
+  pub first : has xs x ≡ true
+  pub second : has ys x ≡ true
+  pub least : (y : ℤ) → has xs y ≡ true → has ys y ≡ true → x ≤ℤ y

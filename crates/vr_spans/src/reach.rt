@@ -1,7 +1,7 @@
 //! The numbers that a set leads to within another: meets, shifts, and ways of a length between two bounds.
 
 ghost use Rattle.std.specs.Prelude.{◌≡◌, ◌↔◌, ◌&&◌, map, IsTrue, IfOk, OnOk, ℤ, pos, neg_ℤ, ◌-ℤ◌, ◌≤ℤ◌};
-ghost use Rattle.vr_spans.specs.Runs.{has, IsNormal, IsStretched, StaysWithin, farthest};
+ghost use Rattle.vr_spans.specs.Runs.{has, in_run, IsNormal, IsRun, IsStretched, StaysWithin, farthest};
 ghost use Rattle.vr_spans.specs.Build.{stretched, StaysNear};
 
 use crate::{LIMIT, NoMemory, Run, Spans};
@@ -32,6 +32,16 @@ impl Spans {
         ensures normal { IsNormal out.new }
     {
         out.reach(self.runs.as_slice(), 0, 0, other.runs.as_slice())
+    }
+
+    /// Writes the numbers of this set that lie in a run over `out`.
+    #[inline]
+    pub fn clip_into(&self, bounds: Run, out: &mut Spans) -> Result<(), NoMemory>
+        requires { IsRun bounds }
+        ensures exact { OnOk result ((x : ℤ) → has out.new x ≡ (has self.now x && in_run bounds x)) }
+        ensures normal { IsNormal out.new }
+    {
+        out.reach(self.runs.as_slice(), 0, 0, &[bounds])
     }
 
     /// The set with every number moved by `by`; no number may leave `-LIMIT..=LIMIT`.
