@@ -36,6 +36,7 @@ pub record StandsFor (defined : Line) (made : Made) : Type 0 where
   pub hops : (k : ℕ) (d : Hop) → k < length made.hops → slice_index_or made.hops k d ≡ hop_at defined k
   pub arcs : length defined.arcs ≡ length made.hops
   pub breaks : defined.breaks ≡ made.breaks
+  pub sound : IsSound defined
 
 -- a sound line that is that of a definition stands for it at each place
 abbrev pub LinesStandForTheirs : Type 0

@@ -1,13 +1,17 @@
 //! Crossing an arc, forwards and backwards.
 
-ghost use Rattle.std.specs.Prelude.{◌≡◌, ◌+◌, ◌≤◌, [], length, IfOk, OnOk};
+ghost use Rattle.std.specs.Prelude.{◌≡◌, ◌+◌, ◌*◌, ◌<◌, ◌≤◌, ℕ, suc, [], All, length, IfOk, OnOk};
+ghost use Rattle.vr_model.specs.tables.WellFormed.{IsBreak};
+ghost use Rattle.vr_spans.specs.Runs.{IsNormal};
 ghost use Rattle.vr_steps.specs.Arcs.{IsSoundHop};
-ghost use Rattle.vr_steps.specs.Levels.{IsCumuls, AreLevels, AreCrossed, AreCrossedBack, forward_steps, backward_steps};
+ghost use Rattle.vr_steps.specs.Levels.{IsCumuls, AreLevels, AreCrossed, AreCrossedBack, forward_steps, backward_steps, level_at};
+ghost use Rattle.vr_steps.specs.Passages.{AreArrivals, AreDepartures};
 
+use crate::passages::Room;
 use crate::{Breaks, Hop, Levels};
 use std::alloc::Global;
 use std::sync::ledger::Ledger;
-use vr_model::{NoMemory, Steps};
+use vr_model::{BreakRow, NoMemory, Steps};
 use vr_spans::Spans;
 
 /// The levels behind an arc: with `b` breaks taken, the cumuls in `next` to which the arc leads from a cumul of some level
@@ -23,7 +27,8 @@ pub fn cross<L: Ledger>(
     breaks: &Breaks,
     steps: &mut Steps<L>,
 ) -> Result<Levels, NoMemory>
-    requires no_breaks { breaks.now ≡ [] }
+    requires breaks { All IsBreak breaks.now }
+    requires few { length breaks.now ≤ 8 }
     requires from { AreLevels breaks.now from.now }
     requires hop { IsSoundHop hop }
     requires next { IsCumuls next.now }
@@ -31,6 +36,8 @@ pub fn cross<L: Ledger>(
     ensures levels { IfOk result (AreLevels breaks.now) }
     ensures count { OnOk result (steps.new ≡ steps.old + forward_steps from.now) }
     ensures at_most { steps.new ≤ steps.old + forward_steps from.now }
+    // so that the definitions count their runs too
+    ensures normal { All IsNormal from.now }
 {
     let mut out = Levels::new(alloc);
     cross_into(from, hop, next, breaks, steps, &mut out)?;
@@ -47,7 +54,8 @@ pub fn cross_into<L: Ledger>(
     steps: &mut Steps<L>,
     out: &mut Levels,
 ) -> Result<(), NoMemory>
-    requires no_breaks { breaks.now ≡ [] }
+    requires breaks { All IsBreak breaks.now }
+    requires few { length breaks.now ≤ 8 }
     requires from { AreLevels breaks.now from.now }
     requires hop { IsSoundHop hop }
     requires next { IsCumuls next.now }
@@ -55,8 +63,12 @@ pub fn cross_into<L: Ledger>(
     ensures levels { OnOk result (AreLevels breaks.now out.new) }
     ensures count { OnOk result (steps.new ≡ steps.old + forward_steps from.now) }
     ensures at_most { steps.new ≤ steps.old + forward_steps from.now }
+    // so that the definitions count their runs too
+    ensures normal { All IsNormal from.now }
 {
-    let _ = breaks;
+    if !breaks.rows.is_empty() {
+        return cross_over(from, hop, next, breaks, steps, out);
+    }
     count_runs(&from.first, steps);
     let (least, greatest) = (hop.transit, hop.transit + hop.slack);
     empty(&mut out.more);
@@ -83,7 +95,8 @@ pub fn cross_back<L: Ledger>(
     breaks: &Breaks,
     steps: &mut Steps<L>,
 ) -> Result<Levels, NoMemory>
-    requires no_breaks { breaks.now ≡ [] }
+    requires breaks { All IsBreak breaks.now }
+    requires few { length breaks.now ≤ 8 }
     requires to { AreLevels breaks.now to.now }
     requires hop { IsSoundHop hop }
     requires here { IsCumuls here.now }
@@ -107,7 +120,8 @@ pub fn cross_back_into<L: Ledger>(
     steps: &mut Steps<L>,
     out: &mut Levels,
 ) -> Result<(), NoMemory>
-    requires no_breaks { breaks.now ≡ [] }
+    requires breaks { All IsBreak breaks.now }
+    requires few { length breaks.now ≤ 8 }
     requires to { AreLevels breaks.now to.now }
     requires hop { IsSoundHop hop }
     requires here { IsCumuls here.now }
@@ -116,7 +130,9 @@ pub fn cross_back_into<L: Ledger>(
     ensures count { OnOk result (steps.new ≡ steps.old + backward_steps to.now) }
     ensures at_most { steps.new ≤ steps.old + backward_steps to.now }
 {
-    let _ = breaks;
+    if !breaks.rows.is_empty() {
+        return cross_back_over(to, hop, here, breaks, steps, out);
+    }
     count_runs(&to.first, steps);
     let (least, greatest) = (-hop.transit - hop.slack, -hop.transit);
     empty(&mut out.more);
@@ -126,6 +142,185 @@ pub fn cross_back_into<L: Ledger>(
         .is_err()
     {
         return Err(NoMemory);
+    }
+    Ok(())
+}
+
+/// As `cross_into`, where there are breaks.
+#[cold]
+#[inline(never)]
+fn cross_over<L: Ledger>(
+    from: &Levels,
+    hop: Hop,
+    next: &Spans,
+    breaks: &Breaks,
+    steps: &mut Steps<L>,
+    out: &mut Levels,
+) -> Result<(), NoMemory>
+    requires breaks { All IsBreak breaks.now }
+    requires few { length breaks.now ≤ 8 }
+    requires from { AreLevels breaks.now from.now }
+    requires hop { IsSoundHop hop }
+    requires next { IsCumuls next.now }
+    ensures exact { OnOk result (AreCrossed from.now hop next.now breaks.now out.new) }
+    ensures levels { OnOk result (AreLevels breaks.now out.new) }
+    ensures count { steps.new ≡ steps.old + forward_steps from.now }
+    ensures normal { All IsNormal from.now }
+{
+    count_forward(from, steps);
+    let rows = breaks.rows.as_slice();
+    let mut room = Room::beside(next);
+    if out.fit(rows.len()).is_err() {
+        return Err(NoMemory);
+    }
+    if write_arrivals(from, hop, next, rows, 0, &mut out.first, &mut room).is_err() {
+        return Err(NoMemory);
+    }
+    if write_further_arrivals(from, hop, next, rows, &mut out.more, &mut room).is_err() {
+        return Err(NoMemory);
+    }
+    Ok(())
+}
+
+/// As `cross_back_into`, where there are breaks.
+#[cold]
+#[inline(never)]
+fn cross_back_over<L: Ledger>(
+    to: &Levels,
+    hop: Hop,
+    here: &Spans,
+    breaks: &Breaks,
+    steps: &mut Steps<L>,
+    out: &mut Levels,
+) -> Result<(), NoMemory>
+    requires breaks { All IsBreak breaks.now }
+    requires few { length breaks.now ≤ 8 }
+    requires to { AreLevels breaks.now to.now }
+    requires hop { IsSoundHop hop }
+    requires here { IsCumuls here.now }
+    ensures exact { OnOk result (AreCrossedBack to.now hop here.now breaks.now out.new) }
+    ensures levels { OnOk result (AreLevels breaks.now out.new) }
+    ensures count { steps.new ≡ steps.old + backward_steps to.now }
+{
+    count_backward(to, steps);
+    let rows = breaks.rows.as_slice();
+    let mut room = Room::beside(here);
+    if out.fit(rows.len()).is_err() {
+        return Err(NoMemory);
+    }
+    if write_departures(to, hop, here, rows, 0, &mut out.first, &mut room).is_err() {
+        return Err(NoMemory);
+    }
+    if write_further_departures(to, hop, here, rows, &mut out.more, &mut room).is_err() {
+        return Err(NoMemory);
+    }
+    Ok(())
+}
+
+/// Writes the cumuls of `next` over `set` to which the arc leads with `b` breaks taken behind it.
+fn write_arrivals(
+    from: &Levels,
+    hop: Hop,
+    next: &Spans,
+    rows: &[BreakRow],
+    b: usize,
+    set: &mut Spans,
+    room: &mut Room,
+) -> Result<(), vr_spans::NoMemory>
+    requires taken { b ≤ length rows.now }
+    requires rows { All IsBreak rows.now }
+    requires few { length rows.now ≤ 8 }
+    requires from { AreLevels rows.now from.now }
+    requires hop { IsSoundHop hop }
+    requires next { IsCumuls next.now }
+    ensures { OnOk result (AreArrivals from.now hop next.now rows.now 0 b set.new) }
+{
+    from.level(b)
+        .reach_into(hop.transit, hop.transit + hop.slack, next, set)?;
+    let mut a = b;
+    'fewer: while a > 0 {
+        a -= 1;
+        room.add_arrivals(from.level(a), hop, &rows[a..b], next, set)?;
+    }
+    Ok(())
+}
+
+/// Writes the cumuls of `here` over `set` from which the arc leads with `a` breaks taken before it.
+fn write_departures(
+    to: &Levels,
+    hop: Hop,
+    here: &Spans,
+    rows: &[BreakRow],
+    a: usize,
+    set: &mut Spans,
+    room: &mut Room,
+) -> Result<(), vr_spans::NoMemory>
+    requires taken { a ≤ length rows.now }
+    requires rows { All IsBreak rows.now }
+    requires few { length rows.now ≤ 8 }
+    requires to { AreLevels rows.now to.now }
+    requires hop { IsSoundHop hop }
+    requires here { IsCumuls here.now }
+    ensures { OnOk result (AreDepartures to.now hop here.now rows.now a (length rows.now) set.new) }
+{
+    to.level(a)
+        .reach_into(-hop.transit - hop.slack, -hop.transit, here, set)?;
+    let mut b = a;
+    'further: while b < rows.len() {
+        b += 1;
+        room.add_departures(to.level(b), hop, &rows[a..b], here, set)?;
+    }
+    Ok(())
+}
+
+/// Writes the sets of one break taken and more over `sets`, behind an arc.
+fn write_further_arrivals(
+    from: &Levels,
+    hop: Hop,
+    next: &Spans,
+    rows: &[BreakRow],
+    sets: &mut Vec<Spans>,
+    room: &mut Room,
+) -> Result<(), vr_spans::NoMemory>
+    requires rows { All IsBreak rows.now }
+    requires few { length rows.now ≤ 8 }
+    requires from { AreLevels rows.now from.now }
+    requires hop { IsSoundHop hop }
+    requires next { IsCumuls next.now }
+    requires long { length sets.old.items ≡ length rows.now }
+    ensures each { OnOk result ((k : ℕ) → k < length rows.now → AreArrivals from.now hop next.now rows.now 0 (suc k) (level_at sets.new.items k)) }
+    ensures long { OnOk result (length sets.new.items ≡ length rows.now) }
+{
+    let mut k = 0;
+    'levels: while k < rows.len() {
+        write_arrivals(from, hop, next, rows, k + 1, &mut sets[k], room)?;
+        k += 1;
+    }
+    Ok(())
+}
+
+/// Writes the sets of one break taken and more over `sets`, before an arc.
+fn write_further_departures(
+    to: &Levels,
+    hop: Hop,
+    here: &Spans,
+    rows: &[BreakRow],
+    sets: &mut Vec<Spans>,
+    room: &mut Room,
+) -> Result<(), vr_spans::NoMemory>
+    requires rows { All IsBreak rows.now }
+    requires few { length rows.now ≤ 8 }
+    requires to { AreLevels rows.now to.now }
+    requires hop { IsSoundHop hop }
+    requires here { IsCumuls here.now }
+    requires long { length sets.old.items ≡ length rows.now }
+    ensures each { OnOk result ((k : ℕ) → k < length rows.now → AreDepartures to.now hop here.now rows.now (suc k) (length rows.now) (level_at sets.new.items k)) }
+    ensures long { OnOk result (length sets.new.items ≡ length rows.now) }
+{
+    let mut k = 0;
+    'levels: while k < rows.len() {
+        write_departures(to, hop, here, rows, k + 1, &mut sets[k], room)?;
+        k += 1;
     }
     Ok(())
 }
@@ -152,9 +347,45 @@ fn drop_all(sets: &mut Vec<Spans>)
 /// Counts a step for each run of a set.
 #[inline]
 fn count_runs<L: Ledger>(set: &Spans, steps: &mut Steps<L>)
-    ensures { steps.new ≡ steps.old + length set.now }
+    ensures count { steps.new ≡ steps.old + length set.now }
+    ensures normal { IsNormal set.now }
 {
     'runs: for _ in 0..set.len() {
         steps.tick();
+    }
+}
+
+/// Counts the steps of crossing from levels.
+fn count_forward<L: Ledger>(from: &Levels, steps: &mut Steps<L>)
+    ensures count { steps.new ≡ steps.old + forward_steps from.now }
+    ensures normal { All IsNormal from.now }
+{
+    let further = from.more.as_slice();
+    count_times(&from.first, further.len() + 1, steps);
+    'levels: for k in 0..further.len() {
+        count_times(&further[k], further.len() - k, steps);
+    }
+}
+
+/// Counts the steps of crossing back to levels.
+fn count_backward<L: Ledger>(to: &Levels, steps: &mut Steps<L>)
+    ensures { steps.new ≡ steps.old + backward_steps to.now }
+{
+    let further = to.more.as_slice();
+    count_times(&to.first, 1, steps);
+    'levels: for k in 0..further.len() {
+        count_times(&further[k], k + 2, steps);
+    }
+}
+
+/// Counts some steps for each run of a set.
+fn count_times<L: Ledger>(set: &Spans, times: usize, steps: &mut Steps<L>)
+    ensures count { steps.new ≡ steps.old + length set.now * times }
+    ensures normal { IsNormal set.now }
+{
+    'runs: for _ in 0..set.len() {
+        'steps: for _ in 0..times {
+            steps.tick();
+        }
     }
 }

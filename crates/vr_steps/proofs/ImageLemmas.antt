@@ -1,0 +1,224 @@
+-- The images of sets over passages, and how they add up to levels.
+use Rattle.std.proofs.Common.{◌≡◌, ℕ, zero, suc, ◌+◌, ◌-◌, ◌<◌, ◌≤◌, ◌^◌, true, false, Bool, ◌&&◌, ◌||◌, ◌⊎◌, inl, inr, Option, Some, None, List, [], ◌∷◌, length, get_or, take, drop, All, ℤ, pos, neg_ℤ, ◌+ℤ◌, ◌-ℤ◌, ◌≤ℤ◌, refl, sym, subst, ap, ◌∙◌, arith}
+use Rattle.std.specs.Prelude.{IsTrue, IsSome, IsNone, IfSome, ◌↔◌}
+use Rattle.std.proofs.lemmas.Int.{ints, clamps}
+use Rattle.std.proofs.lemmas.Bool.{and_parts, and_from, or_cases, or_left, or_right, cases_lt}
+use Rattle.std.proofs.lemmas.List.{drop-take, drop_all, length-take}
+use Rattle.vr_model.specs.tables.Numbers.{horizon, within}
+use Rattle.vr_model.specs.deciding.Testing.{within_is}
+use Rattle.vr_model.specs.tables.WellFormed.{IsBreak}
+use Rattle.vr_model.specs.declared.records.BreakRow.{BreakRow}
+use Rattle.vr_spans.specs.declared.runs.Run.{Run}
+use Rattle.vr_spans.specs.Runs.{has, in_run, IsStretched}
+use Rattle.vr_steps.specs.declared.hops.Hop.{Hop}
+use Rattle.vr_steps.specs.declared.chains.Chain.{Chain}
+use Rattle.vr_steps.specs.declared.passages.Passage.{Passage}
+use Rattle.vr_steps.specs.Arcs.{IsSoundHop, Leads, between}
+use Rattle.vr_steps.specs.Chains.{CanBegin, IsChainOf}
+use Rattle.vr_steps.specs.Levels.{IsCumuls, level_at}
+use Rattle.vr_steps.specs.Passages.{Passes, IsPassage, LeadsNowhere, IsOver, HasWay, ArrivesAt, DepartsAt, AreArrivals, AreDepartures}
+use Rattle.vr_steps.proofs.PassageLemmas.{passage, closed}
+
+-- the answer of a passage over a chain
+module _ (hop : Hop) (rows : List BreakRow) (chain : Chain) (sound : IsSoundHop hop) (valid : All IsBreak rows) (some : 0 < length rows) (of : IsChainOf rows chain) where
+  pub passage_some : CanBegin rows → (r : Option Passage) → (IsSome r ↔ HasWay hop chain) → IfSome r (IsOver hop chain) → IfSome r (IsPassage hop rows)
+  passage_some can None way is = tt
+  passage_some can (Some p) way is = passage hop rows chain sound valid some of can (way.0 refl) p is
+
+  pub passage_none : (r : Option Passage) → (IsSome r ↔ HasWay hop chain) → IsNone r → LeadsNowhere hop rows
+  passage_none None way none = closed hop rows chain sound valid some of (λ w. absurd (let e = way.1 w in cc))
+  passage_none (Some p) way none = absurd (cc)
+
+in_run_parts : (r : Run) (x : ℤ) → in_run r x ≡ true → (r.lo ≤ℤ x) × (x ≤ℤ r.hi)
+in_run_parts r x is = (grind (arith, ints, is), grind (arith, ints, is))
+
+in_run_from : (r : Run) (x : ℤ) → r.lo ≤ℤ x → x ≤ℤ r.hi → in_run r x ≡ true
+in_run_from r x low high = grind (arith, ints, low, high)
+
+-- the cumuls up to one, and from one on
+abbrev pub upto : ℤ → Run
+upto last = record { lo = pos 0; hi = last }
+
+abbrev pub onward : ℤ → Run
+onward first = record { lo = first; hi = horizon }
+
+-- the runs to which sets are clipped for a passage
+module _ (p : Passage) (begin_run end_run : Run) (until_is : begin_run ≡ upto p.until) (from_is : end_run ≡ onward p.from) where
+  below : (y : ℤ) → in_run begin_run y ≡ true → y ≤ℤ p.until
+  below y there = (in_run_parts (upto p.until) y (subst (λ r. in_run r y ≡ true) until_is there)).1
+
+  above : (x : ℤ) → in_run end_run x ≡ true → p.from ≤ℤ x
+  above x there = (in_run_parts (onward p.from) x (subst (λ r. in_run r x ≡ true) from_is there)).0
+
+  earlier : (y : ℤ) → pos 0 ≤ℤ y → y ≤ℤ p.until → in_run begin_run y ≡ true
+  earlier y low high = subst (λ r. in_run r y ≡ true) (sym until_is) (in_run_from (upto p.until) y low high)
+
+  later : (x : ℤ) → p.from ≤ℤ x → x ≤ℤ horizon → in_run end_run x ≡ true
+  later x low high = subst (λ r. in_run r x ≡ true) (sym from_is) (in_run_from (onward p.from) x low high)
+
+module _ (hop : Hop) (rows : List BreakRow) (p : Passage) (is : IsPassage hop rows p) (begin_run end_run : Run) (until_is : begin_run ≡ upto p.until) (from_is : end_run ≡ onward p.from) (from next left right image old whole : List Run) (begins : IsCumuls from) (ends : IsCumuls next) where
+  pub arrivals : ((x : ℤ) → has left x ≡ (has from x && in_run begin_run x)) → ((x : ℤ) → has right x ≡ (has next x && in_run end_run x))
+      → (least greatest : ℤ) → least ≡ p.least → greatest ≡ p.greatest
+      → ((x : ℤ) → IsTrue (has image x) ↔ (IsTrue (has right x) × IsStretched least greatest left x)) → ((x : ℤ) → has whole x ≡ (has old x || has image x))
+      → (x : ℤ) → IsTrue (has whole x) ↔ (IsTrue (has old x) ⊎ ArrivesAt from hop rows next x)
+  arrivals lefts rights least greatest least_is greatest_is images wholes x = (to, back_to)
+    where
+      arrived : IsTrue (has image x) → ArrivesAt from hop rows next x
+      arrived there =
+          let both = (images x).0 there in
+          let right_parts = and_parts (has next x) (in_run end_run x) (sym (rights x) ∙ both.0) in
+          let y = both.1.0 in
+          let left_parts = and_parts (has from y) (in_run begin_run y) (sym (lefts y) ∙ both.1.1) in (
+            right_parts.0,
+            (
+              y,
+              left_parts.0,
+              (is.exact y x).1 (
+                begins y left_parts.0,
+                ends x right_parts.0,
+                record {
+                  until = below p begin_run end_run until_is from_is y left_parts.1;
+                  from = above p begin_run end_run until_is from_is x right_parts.1;
+                  least = omega (arith, ints, least_is, both.1.2);
+                  greatest = omega (arith, ints, greatest_is, both.1.3);
+                },
+              ),
+            ),
+          )
+
+      image_of : ArrivesAt from hop rows next x → IsTrue (has image x)
+      image_of (there, (y, here, way)) =
+          let asked = (is.exact y x).0 way in
+          let first = within_is (pos 0) horizon y asked.0 in
+          let last = within_is (pos 0) horizon x asked.1 in
+          let m = asked.2 in
+          (images x).1 (
+            rights x ∙ and_from _ _ there (later p begin_run end_run until_is from_is x m.from last.1),
+            (y, lefts y ∙ and_from _ _ here (earlier p begin_run end_run until_is from_is y first.0 m.until), omega (arith, ints, least_is, m.least), omega (arith, ints, greatest_is, m.greatest)),
+          )
+
+      to : IsTrue (has whole x) → IsTrue (has old x) ⊎ ArrivesAt from hop rows next x
+      to there = elim (or_cases (has old x) (has image x) (sym (wholes x) ∙ there)) [ inl kept ↦ inl kept | inr new ↦ inr (arrived new) ]
+
+      back_to : IsTrue (has old x) ⊎ ArrivesAt from hop rows next x → IsTrue (has whole x)
+      back_to (inl kept) = wholes x ∙ or_left (has old x) (has image x) kept
+      back_to (inr new) = wholes x ∙ or_right (has old x) (has image x) (image_of new)
+
+module _ (hop : Hop) (rows : List BreakRow) (p : Passage) (is : IsPassage hop rows p) (begin_run end_run : Run) (until_is : begin_run ≡ upto p.until) (from_is : end_run ≡ onward p.from) (behind here left right image old whole : List Run) (ends : IsCumuls behind) (begins : IsCumuls here) where
+  pub departures : ((x : ℤ) → has left x ≡ (has behind x && in_run end_run x)) → ((y : ℤ) → has right y ≡ (has here y && in_run begin_run y))
+      → (first last : ℤ) → first ≡ neg_ℤ p.greatest → last ≡ neg_ℤ p.least
+      → ((y : ℤ) → IsTrue (has image y) ↔ (IsTrue (has right y) × IsStretched first last left y)) → ((y : ℤ) → has whole y ≡ (has old y || has image y))
+      → (y : ℤ) → IsTrue (has whole y) ↔ (IsTrue (has old y) ⊎ DepartsAt behind hop rows here y)
+  departures lefts rights first last first_is last_is images wholes y = (to, back_to)
+    where
+      departed : IsTrue (has image y) → DepartsAt behind hop rows here y
+      departed there =
+          let both = (images y).0 there in
+          let right_parts = and_parts (has here y) (in_run begin_run y) (sym (rights y) ∙ both.0) in
+          let x = both.1.0 in
+          let left_parts = and_parts (has behind x) (in_run end_run x) (sym (lefts x) ∙ both.1.1) in (
+            right_parts.0,
+            (
+              x,
+              left_parts.0,
+              (is.exact y x).1 (
+                begins y right_parts.0,
+                ends x left_parts.0,
+                record {
+                  until = below p begin_run end_run until_is from_is y right_parts.1;
+                  from = above p begin_run end_run until_is from_is x left_parts.1;
+                  least = omega (arith, ints, last_is, both.1.3);
+                  greatest = omega (arith, ints, first_is, both.1.2);
+                },
+              ),
+            ),
+          )
+
+      image_of : DepartsAt behind hop rows here y → IsTrue (has image y)
+      image_of (there, (x, far_end, way)) =
+          let asked = (is.exact y x).0 way in
+          let low = within_is (pos 0) horizon y asked.0 in
+          let high = within_is (pos 0) horizon x asked.1 in
+          let m = asked.2 in
+          (images y).1 (
+            rights y ∙ and_from _ _ there (earlier p begin_run end_run until_is from_is y low.0 m.until),
+            (x, lefts x ∙ and_from _ _ far_end (later p begin_run end_run until_is from_is x m.from high.1), omega (arith, ints, first_is, m.greatest), omega (arith, ints, last_is, m.least)),
+          )
+
+      to : IsTrue (has whole y) → IsTrue (has old y) ⊎ DepartsAt behind hop rows here y
+      to there = elim (or_cases (has old y) (has image y) (sym (wholes y) ∙ there)) [ inl kept ↦ inl kept | inr new ↦ inr (departed new) ]
+
+      back_to : IsTrue (has old y) ⊎ DepartsAt behind hop rows here y → IsTrue (has whole y)
+      back_to (inl kept) = wholes y ∙ or_left (has old y) (has image y) kept
+      back_to (inr new) = wholes y ∙ or_right (has old y) (has image y) (image_of new)
+
+-- where nothing comes in, the old is the whole
+pub nothing_more : {P : Type 0} (old : Bool) → (P → ⊥) → IsTrue old ↔ (IsTrue old ⊎ P)
+nothing_more {P} old none = (λ kept. inl kept, kept_of)
+  where
+    kept_of : IsTrue old ⊎ P → IsTrue old
+    kept_of (inl kept) = kept
+    kept_of (inr new) = absurd (none new)
+
+-- the breaks between, as a slice
+pub slice_between : (rows : List BreakRow) (a b : ℕ) → a ≤ b → take (b - a) (drop a rows) ≡ between rows a b
+slice_between rows a b le = sym (drop-take a (b - a) rows) ∙ ap (λ n. drop a (take n rows)) (omega arith)
+
+pub none_between : (rows : List BreakRow) (b : ℕ) → between rows b b ≡ []
+none_between rows b = drop_all b (take b rows) (let n = length-take b rows in omega (arith, n))
+
+-- the levels behind an arc, level by level
+module _ (from : List (List Run)) (hop : Hop) (next : List Run) (rows : List BreakRow) (b : ℕ) where
+  -- no break inside
+  pub first_arrivals : (set : List Run) → ((x : ℤ) → IsTrue (has set x) ↔ (IsTrue (has next x) × ((y : ℤ) × IsTrue (has (level_at from b) y) × Leads hop [] y x))) → AreArrivals from hop next rows b b set
+  first_arrivals set is x = (to, back_to)
+    where
+      to : IsTrue (has set x) → IsTrue (has next x) × ((a : ℕ) × (b ≤ a) × (a ≤ b) × (y : ℤ) × IsTrue (has (level_at from a) y) × Leads hop (between rows a b) y x)
+      to there = let m = (is x).0 there in (m.0, (b, omega arith, omega arith, m.1.0, m.1.1, subst (λ rs. Leads hop rs m.1.0 x) (sym (none_between rows b)) m.1.2))
+
+      back_to : IsTrue (has next x) × ((a : ℕ) × (b ≤ a) × (a ≤ b) × (y : ℤ) × IsTrue (has (level_at from a) y) × Leads hop (between rows a b) y x) → IsTrue (has set x)
+      back_to (inside, (a, low, high, y, there, way)) =
+          let e : a ≡ b = omega (arith, low, high) in
+          (is x).1 (inside, (y, subst (λ n. IsTrue (has (level_at from n) y)) e there, subst (λ rs. Leads hop rs y x) (ap (λ n. between rows n b) e ∙ none_between rows b) way))
+
+  -- one number of breaks more
+  pub more_arrivals : (k : ℕ) (old set : List Run) → suc k ≤ b → AreArrivals from hop next rows (suc k) b old
+      → ((x : ℤ) → IsTrue (has set x) ↔ (IsTrue (has old x) ⊎ ArrivesAt (level_at from k) hop (between rows k b) next x)) → AreArrivals from hop next rows k b set
+  more_arrivals k old set le are is x = (λ there. to ((is x).0 there), λ m. (is x).1 (back_to m))
+    where
+      to : IsTrue (has old x) ⊎ ArrivesAt (level_at from k) hop (between rows k b) next x → IsTrue (has next x) × ((a : ℕ) × (k ≤ a) × (a ≤ b) × (y : ℤ) × IsTrue (has (level_at from a) y) × Leads hop (between rows a b) y x)
+      to (inl kept) = let m = (are x).0 kept in (m.0, (m.1.0, let l = m.1.1 in omega (arith, l), m.1.2, m.1.3, m.1.4, m.1.5))
+      to (inr (inside, (y, there, way))) = (inside, (k, omega arith, omega (arith, le), y, there, way))
+
+      back_to : IsTrue (has next x) × ((a : ℕ) × (k ≤ a) × (a ≤ b) × (y : ℤ) × IsTrue (has (level_at from a) y) × Leads hop (between rows a b) y x) → IsTrue (has old x) ⊎ ArrivesAt (level_at from k) hop (between rows k b) next x
+      back_to (inside, (a, low, high, y, there, way)) = elim (cases_lt k a) [
+        | inl later ↦ inl ((are x).1 (inside, (a, omega (arith, later), high, y, there, way)))
+        | inr first ↦ (let e : a ≡ k = omega (arith, low, first) in inr (inside, (y, subst (λ n. IsTrue (has (level_at from n) y)) e there, subst (λ n. Leads hop (between rows n b) y x) e way)))
+      ]
+
+-- the levels before an arc, level by level
+module _ (behind : List (List Run)) (hop : Hop) (here : List Run) (rows : List BreakRow) (a : ℕ) where
+  pub first_departures : (set : List Run) → ((y : ℤ) → IsTrue (has set y) ↔ (IsTrue (has here y) × ((x : ℤ) × IsTrue (has (level_at behind a) x) × Leads hop [] y x))) → AreDepartures behind hop here rows a a set
+  first_departures set is y = (to, back_to)
+    where
+      to : IsTrue (has set y) → IsTrue (has here y) × ((b : ℕ) × (a ≤ b) × (b ≤ a) × (x : ℤ) × IsTrue (has (level_at behind b) x) × Leads hop (between rows a b) y x)
+      to there = let m = (is y).0 there in (m.0, (a, omega arith, omega arith, m.1.0, m.1.1, subst (λ rs. Leads hop rs y m.1.0) (sym (none_between rows a)) m.1.2))
+
+      back_to : IsTrue (has here y) × ((b : ℕ) × (a ≤ b) × (b ≤ a) × (x : ℤ) × IsTrue (has (level_at behind b) x) × Leads hop (between rows a b) y x) → IsTrue (has set y)
+      back_to (inside, (b, low, high, x, there, way)) =
+          let e : b ≡ a = omega (arith, low, high) in
+          (is y).1 (inside, (x, subst (λ n. IsTrue (has (level_at behind n) x)) e there, subst (λ rs. Leads hop rs y x) (ap (λ n. between rows a n) e ∙ none_between rows a) way))
+
+  pub more_departures : (k : ℕ) (old set : List Run) → a ≤ k → AreDepartures behind hop here rows a k old
+      → ((y : ℤ) → IsTrue (has set y) ↔ (IsTrue (has old y) ⊎ DepartsAt (level_at behind (suc k)) hop (between rows a (suc k)) here y)) → AreDepartures behind hop here rows a (suc k) set
+  more_departures k old set le are is y = (λ there. to ((is y).0 there), λ m. (is y).1 (back_to m))
+    where
+      to : IsTrue (has old y) ⊎ DepartsAt (level_at behind (suc k)) hop (between rows a (suc k)) here y → IsTrue (has here y) × ((b : ℕ) × (a ≤ b) × (b ≤ suc k) × (x : ℤ) × IsTrue (has (level_at behind b) x) × Leads hop (between rows a b) y x)
+      to (inl kept) = let m = (are y).0 kept in (m.0, (m.1.0, m.1.1, let l = m.1.2 in omega (arith, l), m.1.3, m.1.4, m.1.5))
+      to (inr (inside, (x, there, way))) = (inside, (suc k, omega (arith, le), omega arith, x, there, way))
+
+      back_to : IsTrue (has here y) × ((b : ℕ) × (a ≤ b) × (b ≤ suc k) × (x : ℤ) × IsTrue (has (level_at behind b) x) × Leads hop (between rows a b) y x) → IsTrue (has old y) ⊎ DepartsAt (level_at behind (suc k)) hop (between rows a (suc k)) here y
+      back_to (inside, (b, low, high, x, there, way)) = elim (cases_lt k b) [
+        | inl later ↦ (let e : b ≡ suc k = omega (arith, high, later) in inr (inside, (x, subst (λ n. IsTrue (has (level_at behind n) x)) e there, subst (λ n. Leads hop (between rows a n) y x) e way)))
+        | inr first ↦ inl ((are y).1 (inside, (b, low, omega (arith, first), x, there, way)))
+      ]

@@ -1,0 +1,175 @@
+//! What an arc with breaks inside asks of cumuls, and the sets that it leads to.
+
+ghost use Rattle.std.specs.Prelude.{◌≡◌, ◌<◌, ◌≤◌, ◌↔◌, ◌⊎◌, ℤ, pos, All, IsTrue, IsNone, IsSome, IfSome, OnOk, length};
+ghost use Rattle.vr_model.specs.tables.Numbers.{horizon};
+ghost use Rattle.vr_model.specs.tables.WellFormed.{IsBreak};
+ghost use Rattle.vr_spans.specs.Runs.{has};
+ghost use Rattle.vr_steps.specs.Arcs.{IsSoundHop};
+ghost use Rattle.vr_steps.specs.Chains.{IsSmall};
+ghost use Rattle.vr_steps.specs.Levels.{IsCumuls};
+ghost use Rattle.vr_steps.specs.Passages.{ArrivesAt, DepartsAt, HasWay, IsOver, IsPassage, LeadsNowhere};
+
+use crate::chains::Chain;
+use crate::{HORIZON, Hop};
+use std::mem;
+use vr_model::BreakRow;
+use vr_spans::{NoMemory, Run, Spans};
+
+/// What an arc with certain breaks inside asks of the cumul `y` at its begin and the cumul `x` at its end:
+/// `y <= until`, `from <= x`, and `y + least <= x <= y + greatest`.
+#[derive(Clone, Copy, Debug, PartialEq, Eq)]
+pub struct Passage {
+    pub least: i64,
+    pub greatest: i64,
+    pub until: i64,
+    pub from: i64,
+}
+
+impl Passage {
+    /// The passage over these breaks, of which there is one at least; `None` where the arc leads nowhere with them inside.
+    pub(crate) fn of(hop: Hop, rows: &[BreakRow]) -> Option<Passage>
+        requires some { 0 < length rows.now }
+        requires few { length rows.now ≤ 8 }
+        requires rows { All IsBreak rows.now }
+        requires hop { IsSoundHop hop }
+        ensures some { IfSome result (IsPassage hop rows.now) }
+        ensures none { IsNone result → LeadsNowhere hop rows.now }
+    {
+        let chain = Chain::of(rows)?;
+        Passage::over(hop, chain)
+    }
+
+    /// The passage over the breaks of a chain.
+    fn over(hop: Hop, chain: Chain) -> Option<Passage>
+        requires hop { IsSoundHop hop }
+        requires small { IsSmall chain }
+        ensures some { IsSome result ↔ HasWay hop chain }
+        ensures value { IfSome result (IsOver hop chain) }
+    {
+        let least = chain.total + hop.visit.max(hop.transit);
+        let greatest = hop.transit + hop.slack;
+        if least > greatest {
+            return None;
+        }
+        if hop.visit > chain.latest {
+            return None;
+        }
+        if chain.first_end > HORIZON {
+            return None;
+        }
+        Some(Passage {
+            least,
+            greatest,
+            until: HORIZON.min(chain.latest - hop.visit),
+            from: chain.first_end.max(0),
+        })
+    }
+}
+
+/// Sets that are written over while an arc with breaks is crossed.
+#[derive(Drop)]
+pub(crate) struct Room {
+    left: Spans,
+    right: Spans,
+    image: Spans,
+    whole: Spans,
+}
+
+impl Room {
+    /// Empty sets, with the allocator of this one. They take no memory.
+    pub(crate) fn beside(set: &Spans) -> Room {
+        Room {
+            left: set.fresh(),
+            right: set.fresh(),
+            image: set.fresh(),
+            whole: set.fresh(),
+        }
+    }
+
+    /// Adds those cumuls of `next` to `set` to which the arc leads from `from` with these breaks inside.
+    pub(crate) fn add_arrivals(
+        &mut self,
+        from: &Spans,
+        hop: Hop,
+        rows: &[BreakRow],
+        next: &Spans,
+        set: &mut Spans,
+    ) -> Result<(), NoMemory>
+        requires some { 0 < length rows.now }
+        requires few { length rows.now ≤ 8 }
+        requires rows { All IsBreak rows.now }
+        requires hop { IsSoundHop hop }
+        requires from { IsCumuls from.now }
+        requires next { IsCumuls next.now }
+        ensures { OnOk result ((x : ℤ) →
+            IsTrue (has set.new x) ↔ (IsTrue (has set.old x) ⊎ ArrivesAt from.now hop rows.now next.now x)) }
+    {
+        let _ = &self.left;
+        let Some(passage) = Passage::of(hop, rows) else {
+            return Ok(());
+        };
+        from.clip_into(upto(passage.until), &mut self.left)?;
+        next.clip_into(onward(passage.from), &mut self.right)?;
+        self.left.reach_into(
+            passage.least,
+            passage.greatest,
+            &self.right,
+            &mut self.image,
+        )?;
+        set.union_into(&self.image, &mut self.whole)?;
+        mem::swap(set, &mut self.whole);
+        Ok(())
+    }
+
+    /// Adds those cumuls of `here` to `set` from which the arc leads to `to` with these breaks inside.
+    pub(crate) fn add_departures(
+        &mut self,
+        to: &Spans,
+        hop: Hop,
+        rows: &[BreakRow],
+        here: &Spans,
+        set: &mut Spans,
+    ) -> Result<(), NoMemory>
+        requires some { 0 < length rows.now }
+        requires few { length rows.now ≤ 8 }
+        requires rows { All IsBreak rows.now }
+        requires hop { IsSoundHop hop }
+        requires to { IsCumuls to.now }
+        requires here { IsCumuls here.now }
+        ensures { OnOk result ((y : ℤ) →
+            IsTrue (has set.new y) ↔ (IsTrue (has set.old y) ⊎ DepartsAt to.now hop rows.now here.now y)) }
+    {
+        let _ = &self.left;
+        let Some(passage) = Passage::of(hop, rows) else {
+            return Ok(());
+        };
+        to.clip_into(onward(passage.from), &mut self.left)?;
+        here.clip_into(upto(passage.until), &mut self.right)?;
+        self.left.reach_into(
+            -passage.greatest,
+            -passage.least,
+            &self.right,
+            &mut self.image,
+        )?;
+        set.union_into(&self.image, &mut self.whole)?;
+        mem::swap(set, &mut self.whole);
+        Ok(())
+    }
+}
+
+/// The cumuls up to one of them.
+fn upto(last: i64) -> Run
+    ensures { result ≡ record { lo = pos 0; hi = last } }
+{
+    Run { lo: 0, hi: last }
+}
+
+/// The cumuls from one of them on.
+fn onward(first: i64) -> Run
+    ensures { result ≡ record { lo = first; hi = horizon } }
+{
+    Run {
+        lo: first,
+        hi: HORIZON,
+    }
+}
