@@ -1,5 +1,6 @@
 -- What a source gives and a sink takes in one call, and the causes of failure.
-use Rattle.std.specs.Prelude.{◌≡◌, ◌⊎◌, ◌↔◌, ◌<◌, ◌^◌, ◌+◌, ◌-◌, ◌++◌, ℕ, List, [], Option, Some, min}
+use Rattle.std.specs.Prelude.{◌≡◌, ◌⊎◌, ◌↔◌, ◌<◌, ◌≤◌, ◌^◌, ◌+◌, ◌-◌, ◌++◌, ℕ, List, [], Option, Some, min, length, take}
+use Rattle.std.specs.Io.KnownBytes.{Appends}
 
 -- the count of faults rose in a call, or stands at the last value of its counter
 abbrev pub Rose : ℕ → ℕ → Type 0
@@ -20,3 +21,7 @@ pub record EndsAtEnd (old : Option (List ℕ)) (room given : ℕ) : Type 0 where
 -- where the sink tells what it took, it told it before, and took these bytes since
 pub record Took (old new : Option (List ℕ)) (piece : List ℕ) : Type 0 where
   pub told : (after : List ℕ) → new ≡ Some after → (before : List ℕ) × (old ≡ Some before) × (after ≡ before ++ piece)
+
+-- the bytes that a writer is known to hold grew by a front of this piece, which may be empty
+abbrev pub AppendsFront : Option (List ℕ) → Option (List ℕ) → List ℕ → Type 0
+AppendsFront old new piece = (k : ℕ) × (k ≤ length piece) × Appends old new (take k piece)

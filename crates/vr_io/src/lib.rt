@@ -20,5 +20,5 @@ pub use edges::{Failed, Sink, Source};
 pub use memory::NoMemory;
 pub use pure::{PureSink, PureSource};
 pub use scripted::{MemSink, MemSource};
-pub use standard::{StdSink, StdSource};
+pub use standard::{StdDevice, StdSink, StdSource};
 pub use whole::{ReadError, WriteFault, read_all, write_all};

@@ -38,7 +38,7 @@ impl Source for PureSource {
 
     ghost faults = { λ _. 0 };
 
-    /// As the trait says; `exact` says how many bytes come and which are left.
+    /// As the trait says. As many bytes come as there are and as `buf` has room for, which `number` says.
     fn read(&mut self, buf: &mut [u8]) -> Result<usize, Failed>
         ensures bound { IfOk result (λ n. n ≤ length buf.new) }
         ensures gives { IfOk result (λ n. Gave (Some self.old) (Some self.new) (take n buf.new)) }

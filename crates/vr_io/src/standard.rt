@@ -1,111 +1,97 @@
 //! Standard input and output, or any other reader and writer of std, as a source and a sink. What std's readers and
 //! writers give is trusted: these tell no bytes.
 
-ghost use Rattle.std.specs.Prelude.{◌≡◌, ◌≤◌, ◌<◌, [], None, Ok, IfOk, is_err, length, take, if◌then◌else◌};
-ghost use Rattle.std.specs.Io.KnownBytes.{Consumes, IsAtEnd, Appends};
-ghost use Rattle.vr_io.specs.Edges.{risen};
+ghost use Rattle.std.specs.Prelude.{◌≡◌, ◌≤◌, ◌<◌, [], None, Ok, IfOk, OnErr, is_err, length, take, if◌then◌else◌};
+ghost use Rattle.std.specs.Io.KnownBytes.{Keeps, Consumes, IsAtEnd, Appends};
+ghost use Rattle.vr_io.specs.Edges.{risen, AppendsFront};
 
 use crate::{Failed, Sink, Source};
 use std::io::{Read, Write};
 use std::marker::Model;
 
-/// A reader of std as a source. It tells no bytes. Contracts see it as the reader and the number of its errors,
-/// which stands still at 2^64 - 1.
+/// A reader of std as a source: each error of the reader is a fault.
+pub type StdSource<R> = StdDevice<R>;
+
+/// A writer of std as a sink, which is flushed after each write: each error of the writer or of its flush is a fault.
+pub type StdSink<W> = StdDevice<W>;
+
+/// A reader or a writer of std. It tells no bytes. Contracts see it as the reader or writer and the number of its
+/// errors, which stands still at 2^64 - 1.
 #[derive(Drop)]
-pub struct StdSource<R> {
-    reader: R,
+pub struct StdDevice<D> {
+    device: D,
     errors: u64,
 }
 
-impl<R> Model for StdSource<R> {
+impl<D> Model for StdDevice<D> {
     ghost use Rattle.std.specs.Prelude.{ℕ};
 
-    ghost Value = { R × ℕ };
+    ghost Value = { D × ℕ };
 
-    ghost view = { λ s. (s.reader, s.errors) };
+    ghost view = { λ s. (s.device, s.errors) };
 }
 
-impl<R: Read> StdSource<R> {
-    /// A source over this reader, with no error so far.
-    pub fn new(reader: R) -> Self
-        ensures { result ≡ (reader, 0) }
+impl<D> StdDevice<D> {
+    /// A source or a sink over this reader or writer, with no error so far.
+    pub fn new(device: D) -> Self
+        ensures { result ≡ (device, 0) }
     {
-        StdSource { reader, errors: 0 }
+        StdDevice { device, errors: 0 }
+    }
+
+    // One more error.
+    fn failed(&mut self) -> Failed
+        ensures counts { self.new ≡ (self.old.0, risen self.old.1) }
+        ensures grows { self.old.1 ≤ self.new.1 }
+    {
+        self.errors = self.errors.saturating_add(1);
+        Failed
     }
 }
 
-impl<R: Read> Source for StdSource<R> {
+impl<R: Read> Source for StdDevice<R> {
     ghost left = { λ _. None };
 
     ghost faults = { λ s. s.1 };
 
-    /// As the trait says. Each error of the reader is a fault.
+    /// As the trait says. Each error of the reader is a fault, and takes no byte that the reader is known to have.
     fn read(&mut self, buf: &mut [u8]) -> Result<usize, Failed>
         ensures bound { IfOk result (λ n. n ≤ length buf.new) }
         ensures gives { IfOk result (λ n. Consumes (R.remaining self.old.0) (R.remaining self.new.0) (take n buf.new)) }
         ensures ends { IfOk result (λ n. n ≡ 0 → 0 < length buf.new → IsAtEnd (R.remaining self.new.0)) }
+        ensures keeps { OnErr result (Keeps (R.remaining self.old.0) (R.remaining self.new.0)) }
         ensures grows { self.old.1 ≤ self.new.1 }
         ensures counts { self.new.1 ≡ (if is_err result then risen self.old.1 else self.old.1) }
     {
-        match self.reader.read(buf) {
+        match self.device.read(buf) {
             Ok(n) => Ok(n),
-            Err(_) => {
-                self.errors = self.errors.saturating_add(1);
-                Err(Failed)
-            }
+            Err(_) => Err(self.failed()),
         }
     }
 }
 
-/// A writer of std as a sink, which is flushed after each write. It tells no bytes. Contracts see it as the writer
-/// and the number of its errors, which stands still at 2^64 - 1.
-#[derive(Drop)]
-pub struct StdSink<W> {
-    writer: W,
-    errors: u64,
-}
-
-impl<W> Model for StdSink<W> {
-    ghost use Rattle.std.specs.Prelude.{ℕ};
-
-    ghost Value = { W × ℕ };
-
-    ghost view = { λ s. (s.writer, s.errors) };
-}
-
-impl<W: Write> StdSink<W> {
-    /// A sink over this writer, with no error so far.
-    pub fn new(writer: W) -> Self
-        ensures { result ≡ (writer, 0) }
-    {
-        StdSink { writer, errors: 0 }
-    }
-}
-
-impl<W: Write> Sink for StdSink<W> {
+impl<W: Write> Sink for StdDevice<W> {
     ghost written = { λ _. None };
 
     ghost faults = { λ s. s.1 };
 
     /// As the trait says. Each error of the writer or of its flush is a fault, and so are zero bytes taken of a piece
-    /// that is not empty.
+    /// that is not empty. In a fault a front of the piece may have been taken: a flush that fails comes after it.
     fn write(&mut self, piece: &[u8]) -> Result<usize, Failed>
         ensures bound { IfOk result (λ n. n ≤ length piece.now) }
         ensures some { IfOk result (λ n. 0 < length piece.now → 0 < n) }
         ensures empty { piece.now ≡ [] → result ≡ Ok 0 }
         ensures takes { IfOk result (λ n. Appends (W.contents self.old.0) (W.contents self.new.0) (take n piece.now)) }
+        ensures front { OnErr result (AppendsFront (W.contents self.old.0) (W.contents self.new.0) piece.now) }
         ensures grows { self.old.1 ≤ self.new.1 }
         ensures counts { self.new.1 ≡ (if is_err result then risen self.old.1 else self.old.1) }
     {
         if piece.is_empty() {
             return Ok(0);
         }
-        match self.writer.write(piece) {
-            Ok(n) if n > 0 && self.writer.flush().is_ok() => Ok(n),
-            _ => {
-                self.errors = self.errors.saturating_add(1);
-                Err(Failed)
-            }
+        match self.device.write(piece) {
+            Ok(n) if n > 0 && self.device.flush().is_ok() => Ok(n),
+            _ => Err(self.failed()),
         }
     }
 }
