@@ -1,0 +1,12 @@
+use Rattle.std.proofs.Common.{◌∙◌, ℕ, length}
+use Rattle.std.specs.Prelude.{slice_index}
+use Rattle.vr_model.specs.declared.neighbours.Move.{Move}
+use Rattle.vr_model.specs.declared.neighbours.Move.TheVariants.{SwapActive}
+use Rattle.vr_routes.proofs.NestLemmas.{run_all_below, map_places}
+use Rattle.vr_moves_active.proofs.swap_active_moves.PlacesFamily.open.Goals as goal
+
+pub returns-clause-rest : goal.returns-clause-rest
+returns-clause-rest c =
+    let s = c.args.self.now in
+    let at : ℕ → Move = λ k. SwapActive s.v c.args.k (slice_index s.idle.now k) in
+    rw c.new.ensures (run_all_below at (length s.idle.now) ∙ map_places (SwapActive s.v c.args.k) s.idle.now)

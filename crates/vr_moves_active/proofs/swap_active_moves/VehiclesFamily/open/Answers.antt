@@ -1,0 +1,12 @@
+use Rattle.std.proofs.Common.{◌∙◌, ℕ, List, map, ap}
+use Rattle.vr_model.specs.tables.Numbers.{below, each}
+use Rattle.vr_model.specs.declared.neighbours.Move.{Move}
+use Rattle.vr_model.specs.declared.neighbours.Move.TheVariants.{SwapActive}
+use Rattle.vr_routes.proofs.NestLemmas.{joined_all_below}
+use Rattle.vr_moves_active.proofs.swap_active_moves.VehiclesFamily.open.Goals as goal
+
+pub returns-clause-rest : goal.returns-clause-rest
+returns-clause-rest c =
+    let s = c.args.self.now in
+    let at : ℕ → List Move = λ a. map (SwapActive c.args.k a) s.idle.now in
+    rw c.new.ensures (joined_all_below at c.len.result ∙ ap (λ n. each (below n) at) c.len.ensures.value)

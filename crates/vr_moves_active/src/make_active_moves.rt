@@ -1,0 +1,152 @@
+//! Inactive visits that are put in.
+
+ghost use Rattle.std.specs.Prelude.{◌≡◌, ⊤, ℕ, ◌≤◌, suc, true, length, slice_index, map};
+ghost use Rattle.std.specs.Iterator.{YieldsFirst, item_count};
+ghost use Rattle.vr_model.specs.tables.Numbers.{each};
+ghost use Rattle.vr_model.specs.tables.Tables.{visits};
+ghost use Rattle.vr_model.specs.routes.Routes.{route, vehicles};
+ghost use Rattle.vr_model.specs.moves.Moves.{gaps, moves_in};
+ghost use Rattle.vr_model.specs.declared.records.Model.{Model as Defined};
+ghost use Rattle.vr_model.specs.declared.neighbours.Move.TheVariants.{MakeActive};
+ghost use Rattle.vr_model.specs.declared.neighbours.Neighbourhood.TheVariants.{MakeActive as MakeActiveKind};
+
+use std::marker::Model;
+use vr_model::Move;
+use vr_routes::Routes;
+use vr_routes::nests::{Each, Family, Listed, Numbered, Run};
+
+// The places of `w` before which `u` may be put.
+#[derive(Drop)]
+struct Gaps {
+    u: u32,
+    w: u32,
+}
+
+impl Numbered for Gaps {
+    ghost is_sound = { λ s. ⊤ };
+
+    ghost count = { λ s. 4294967296 };
+
+    ghost passes = { λ s k. true };
+
+    ghost move_at = { λ s k. MakeActive s.u s.w k };
+
+    #[inline]
+    fn has(&self, _k: u32) -> bool {
+        true
+    }
+
+    #[inline]
+    fn make(&self, k: u32) -> Move {
+        Move::MakeActive {
+            u: self.u,
+            w: self.w,
+            t: k,
+        }
+    }
+}
+
+// The vehicles to which `u` may be added.
+#[derive(Drop)]
+struct Targets<'a> {
+    routes: &'a Routes,
+    u: u32,
+}
+
+impl<'a> Family for Targets<'a> {
+    type Inner = Run<Gaps>;
+
+    ghost is_sound = { λ s. ⊤ };
+
+    ghost count = { λ s. length s.routes.now.lists };
+
+    ghost passes = { λ s k. true };
+
+    ghost moves = { λ s k. map (MakeActive s.u k) (gaps (route s.routes.now.lists k)) };
+
+    #[inline]
+    fn open(&self, k: u32) -> Option<Run<Gaps>> {
+        Some(Run::new(Gaps { u: self.u, w: k }, 0, self.routes.len(k) + 1))
+    }
+}
+
+// The inactive visits.
+#[derive(Drop)]
+struct Nodes<'a> {
+    routes: &'a Routes,
+    idle: &'a [u32],
+    vehicles: u32,
+}
+
+impl<'a> Family for Nodes<'a> {
+    type Inner = Each<Targets<'a>>;
+
+    ghost is_sound = { λ s. s.vehicles ≡ length s.routes.now.lists };
+
+    ghost count = { λ s. length s.idle.now };
+
+    ghost passes = { λ s k. true };
+
+    ghost moves = { λ s k. each (vehicles s.routes.now.lists) λ w.
+        map (MakeActive (slice_index s.idle.now k) w) (gaps (route s.routes.now.lists w)) };
+
+    #[inline]
+    fn open(&self, k: u32) -> Option<Each<Targets<'a>>> {
+        let targets = Targets {
+            routes: self.routes,
+            u: self.idle[k as usize],
+        };
+        Some(Each::new(targets, 0, self.vehicles))
+    }
+}
+
+/// The moves that put an inactive visit into a list (OR-Tools' `MakeActive`), in lexicographic order of their numbers.
+/// Contracts see the list of those that are left.
+#[derive(Drop)]
+pub struct MakeActiveMoves<'a> {
+    left: Each<Nodes<'a>>,
+}
+
+impl<'a> Model for MakeActiveMoves<'a> {
+    ghost use Rattle.std.specs.Prelude.{List};
+    ghost use Rattle.vr_model.specs.declared.neighbours.Move.{Move as Moved};
+
+    ghost Value = { List Moved };
+
+    ghost view = { λ s. ⟦<Each<Nodes<'static>> as Listed>⟧.rest s.left };
+
+    ghost invariant = { λ s. ⟦<Each<Nodes<'static>> as Listed>⟧.is_sound s.left };
+}
+
+impl<'a> Iterator for MakeActiveMoves<'a> {
+    type Item = Move;
+
+    ghost next_gives = { YieldsFirst (λ moves. moves) };
+
+    ghost remaining = { item_count (λ moves. moves) };
+
+    #[inline]
+    fn next(&mut self) -> Option<Move> {
+        self.left.step()
+    }
+}
+
+/// The moves that put an inactive visit into a list (OR-Tools' `MakeActive`), in lexicographic order of their numbers.
+pub fn make_active<'a>(routes: &'a Routes) -> MakeActiveMoves<'a>
+    ensures { (model : Defined) → routes.now.visits ≡ visits model
+        → result ≡ moves_in model routes.now.lists MakeActiveKind }
+{
+    let vehicles = routes.vehicles();
+    let idle = routes.inactive();
+    MakeActiveMoves {
+        left: Each::new(
+            Nodes {
+                routes,
+                idle,
+                vehicles,
+            },
+            0,
+            idle.len() as u32,
+        ),
+    }
+}

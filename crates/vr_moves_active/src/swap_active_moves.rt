@@ -1,0 +1,149 @@
+//! Inactive visits that take the place of nodes.
+
+ghost use Rattle.std.specs.Prelude.{◌≡◌, ⊤, ℕ, ◌≤◌, true, length, slice_index, map};
+ghost use Rattle.std.specs.Iterator.{YieldsFirst, item_count};
+ghost use Rattle.vr_model.specs.tables.Numbers.{each};
+ghost use Rattle.vr_model.specs.tables.Tables.{visits};
+ghost use Rattle.vr_model.specs.routes.Routes.{route};
+ghost use Rattle.vr_model.specs.moves.Moves.{places, moves_in};
+ghost use Rattle.vr_model.specs.declared.records.Model.{Model as Defined};
+ghost use Rattle.vr_model.specs.declared.neighbours.Move.TheVariants.{SwapActive};
+ghost use Rattle.vr_model.specs.declared.neighbours.Neighbourhood.TheVariants.{SwapActive as SwapActiveKind};
+
+use std::marker::Model;
+use vr_model::Move;
+use vr_routes::Routes;
+use vr_routes::nests::{Each, Family, Listed, Numbered, Run};
+
+// The inactive visits that may take the place of the node at place `a` of `v`.
+#[derive(Drop)]
+struct Newcomers<'a> {
+    v: u32,
+    a: u32,
+    idle: &'a [u32],
+}
+
+impl<'a> Numbered for Newcomers<'a> {
+    ghost is_sound = { λ s. ⊤ };
+
+    ghost count = { λ s. length s.idle.now };
+
+    ghost passes = { λ s k. true };
+
+    ghost move_at = { λ s k. SwapActive s.v s.a (slice_index s.idle.now k) };
+
+    #[inline]
+    fn has(&self, _k: u32) -> bool {
+        true
+    }
+
+    #[inline]
+    fn make(&self, k: u32) -> Move {
+        Move::SwapActive {
+            v: self.v,
+            a: self.a,
+            u: self.idle[k as usize],
+        }
+    }
+}
+
+// The places of `v`.
+#[derive(Drop)]
+struct Places<'a> {
+    v: u32,
+    idle: &'a [u32],
+}
+
+impl<'a> Family for Places<'a> {
+    type Inner = Run<Newcomers<'a>>;
+
+    ghost is_sound = { λ s. length s.idle.now ≤ 1000 };
+
+    ghost count = { λ s. 4294967296 };
+
+    ghost passes = { λ s k. true };
+
+    ghost moves = { λ s k. map (SwapActive s.v k) s.idle.now };
+
+    #[inline]
+    fn open(&self, k: u32) -> Option<Run<Newcomers<'a>>> {
+        let newcomers = Newcomers {
+            v: self.v,
+            a: k,
+            idle: self.idle,
+        };
+        Some(Run::new(newcomers, 0, self.idle.len() as u32))
+    }
+}
+
+// The vehicles.
+#[derive(Drop)]
+struct Vehicles<'a> {
+    routes: &'a Routes,
+    idle: &'a [u32],
+}
+
+impl<'a> Family for Vehicles<'a> {
+    type Inner = Each<Places<'a>>;
+
+    ghost is_sound = { λ s. length s.idle.now ≤ 1000 };
+
+    ghost count = { λ s. length s.routes.now.lists };
+
+    ghost passes = { λ s k. true };
+
+    ghost moves = { λ s k. each (places (route s.routes.now.lists k)) λ a. map (SwapActive k a) s.idle.now };
+
+    #[inline]
+    fn open(&self, k: u32) -> Option<Each<Places<'a>>> {
+        let places = Places {
+            v: k,
+            idle: self.idle,
+        };
+        Some(Each::new(places, 0, self.routes.len(k)))
+    }
+}
+
+/// The moves that let an inactive visit take the place of a node (OR-Tools' `SwapActive`), in lexicographic order of
+/// their numbers. Contracts see the list of those that are left.
+#[derive(Drop)]
+pub struct SwapActiveMoves<'a> {
+    left: Each<Vehicles<'a>>,
+}
+
+impl<'a> Model for SwapActiveMoves<'a> {
+    ghost use Rattle.std.specs.Prelude.{List};
+    ghost use Rattle.vr_model.specs.declared.neighbours.Move.{Move as Moved};
+
+    ghost Value = { List Moved };
+
+    ghost view = { λ s. ⟦<Each<Vehicles<'static>> as Listed>⟧.rest s.left };
+
+    ghost invariant = { λ s. ⟦<Each<Vehicles<'static>> as Listed>⟧.is_sound s.left };
+}
+
+impl<'a> Iterator for SwapActiveMoves<'a> {
+    type Item = Move;
+
+    ghost next_gives = { YieldsFirst (λ moves. moves) };
+
+    ghost remaining = { item_count (λ moves. moves) };
+
+    #[inline]
+    fn next(&mut self) -> Option<Move> {
+        self.left.step()
+    }
+}
+
+/// The moves that let an inactive visit take the place of a node (OR-Tools' `SwapActive`), in lexicographic order of
+/// their numbers.
+pub fn swap_active<'a>(routes: &'a Routes) -> SwapActiveMoves<'a>
+    ensures { (model : Defined) → routes.now.visits ≡ visits model
+        → result ≡ moves_in model routes.now.lists SwapActiveKind }
+{
+    let vehicles = routes.vehicles();
+    let idle = routes.inactive();
+    SwapActiveMoves {
+        left: Each::new(Vehicles { routes, idle }, 0, vehicles),
+    }
+}

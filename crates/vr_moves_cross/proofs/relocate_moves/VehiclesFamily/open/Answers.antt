@@ -1,0 +1,15 @@
+use Rattle.std.proofs.Common.{◌∙◌, ℕ, List, map, ap}
+use Rattle.std.specs.Prelude.{filter}
+use Rattle.vr_model.specs.tables.Numbers.{below, each}
+use Rattle.vr_model.specs.routes.Routes.{route, vehicles}
+use Rattle.vr_model.specs.moves.Moves.{gaps, is_other}
+use Rattle.vr_model.specs.declared.neighbours.Move.{Move}
+use Rattle.vr_model.specs.declared.neighbours.Move.TheVariants.{Relocate}
+use Rattle.vr_routes.proofs.NestLemmas.{joined_all_below}
+use Rattle.vr_moves_cross.proofs.relocate_moves.VehiclesFamily.open.Goals as goal
+
+pub returns-clause-rest : goal.returns-clause-rest
+returns-clause-rest c =
+    let lists : List (List ℕ) = c.args.self.now.routes.now.lists in
+    let at : ℕ → List Move = λ a. each (filter (is_other c.args.k) (vehicles lists)) (λ w. map (Relocate c.args.k a w) (gaps (route lists w))) in
+    rw c.new.ensures (joined_all_below at c.len.result ∙ ap (λ n. each (below n) at) c.len.ensures.value)

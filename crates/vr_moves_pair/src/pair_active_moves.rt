@@ -1,0 +1,188 @@
+//! Inactive pairs that are put in.
+
+ghost use Rattle.std.specs.Prelude.{◌≡◌, ⊤, ℕ, ◌≤◌, suc, true, length, map};
+ghost use Rattle.std.specs.Iterator.{YieldsFirst, item_count};
+ghost use Rattle.vr_model.specs.tables.Numbers.{each, from_to};
+ghost use Rattle.vr_model.specs.routes.Routes.{route, vehicles};
+ghost use Rattle.vr_model.specs.moves.Moves.{gaps, is_pair_inactive, moves_in};
+ghost use Rattle.vr_model.specs.tables.WellFormed.{IsWellFormed};
+ghost use Rattle.vr_model.specs.declared.neighbours.Move.TheVariants.{PairActive};
+ghost use Rattle.vr_model.specs.declared.neighbours.Neighbourhood.TheVariants.{PairActive as PairActiveKind};
+
+use std::marker::Model;
+use vr_model::{Model as RoutingModel, Move};
+use vr_routes::nests::{Each, Family, Listed, Numbered, Run};
+use vr_routes::{Routes, is_pair_inactive};
+
+// The places of `w` before which the delivery may be put, where the pickup is put before place `s`.
+#[derive(Drop)]
+struct Deliveries {
+    p: u32,
+    w: u32,
+    s: u32,
+}
+
+impl Numbered for Deliveries {
+    ghost is_sound = { λ s. ⊤ };
+
+    ghost count = { λ s. 4294967296 };
+
+    ghost passes = { λ s k. true };
+
+    ghost move_at = { λ m t. PairActive m.p m.w m.s t };
+
+    #[inline]
+    fn has(&self, _k: u32) -> bool {
+        true
+    }
+
+    #[inline]
+    fn make(&self, k: u32) -> Move {
+        Move::PairActive {
+            p: self.p,
+            w: self.w,
+            s: self.s,
+            t: k,
+        }
+    }
+}
+
+// The places of `w`, which has `n`, before which the pickup may be put.
+#[derive(Drop)]
+struct Pickups {
+    p: u32,
+    w: u32,
+    n: u32,
+}
+
+impl Family for Pickups {
+    type Inner = Run<Deliveries>;
+
+    ghost is_sound = { λ s. s.n ≤ 1000 };
+
+    ghost count = { λ s. suc s.n };
+
+    ghost passes = { λ s k. true };
+
+    ghost moves = { λ s k. map (PairActive s.p s.w k) (from_to k (suc s.n)) };
+
+    #[inline]
+    fn open(&self, k: u32) -> Option<Run<Deliveries>> {
+        let deliveries = Deliveries {
+            p: self.p,
+            w: self.w,
+            s: k,
+        };
+        Some(Run::new(deliveries, k, self.n + 1))
+    }
+}
+
+// The vehicles to which pair `p` may be added.
+#[derive(Drop)]
+struct Targets<'a> {
+    routes: &'a Routes,
+    p: u32,
+}
+
+impl<'a> Family for Targets<'a> {
+    type Inner = Each<Pickups>;
+
+    ghost is_sound = { λ s. ⊤ };
+
+    ghost count = { λ s. length s.routes.now.lists };
+
+    ghost passes = { λ s k. true };
+
+    ghost moves = { λ s k. each (gaps (route s.routes.now.lists k)) λ i.
+        map (PairActive s.p k i) (from_to i (suc (length (route s.routes.now.lists k)))) };
+
+    #[inline]
+    fn open(&self, k: u32) -> Option<Each<Pickups>> {
+        let n = self.routes.len(k);
+        Some(Each::new(Pickups { p: self.p, w: k, n }, 0, n + 1))
+    }
+}
+
+// The pairs of which neither node is active.
+#[derive(Drop)]
+struct Pairs<'a> {
+    model: &'a RoutingModel,
+    routes: &'a Routes,
+    vehicles: u32,
+}
+
+impl<'a> Family for Pairs<'a> {
+    type Inner = Each<Targets<'a>>;
+
+    ghost is_sound = { λ s. s.vehicles ≡ length s.routes.now.lists };
+
+    ghost count = { λ s. length s.model.now.pairs };
+
+    ghost passes = { λ s k. is_pair_inactive s.model.now s.routes.now.lists k };
+
+    ghost moves = { λ s k. each (vehicles s.routes.now.lists) λ w. each (gaps (route s.routes.now.lists w)) λ i.
+        map (PairActive k w i) (from_to i (suc (length (route s.routes.now.lists w)))) };
+
+    #[inline]
+    fn open(&self, k: u32) -> Option<Each<Targets<'a>>> {
+        if !is_pair_inactive(self.model, self.routes, k) {
+            return None;
+        }
+        let targets = Targets {
+            routes: self.routes,
+            p: k,
+        };
+        Some(Each::new(targets, 0, self.vehicles))
+    }
+}
+
+/// The moves that put an inactive pair into a list (this project's own), in lexicographic order of their numbers.
+/// Contracts see the list of those that are left.
+#[derive(Drop)]
+pub struct PairActiveMoves<'a> {
+    left: Each<Pairs<'a>>,
+}
+
+impl<'a> Model for PairActiveMoves<'a> {
+    ghost use Rattle.std.specs.Prelude.{List};
+    ghost use Rattle.vr_model.specs.declared.neighbours.Move.{Move as Moved};
+
+    ghost Value = { List Moved };
+
+    ghost view = { λ s. ⟦<Each<Pairs<'static>> as Listed>⟧.rest s.left };
+
+    ghost invariant = { λ s. ⟦<Each<Pairs<'static>> as Listed>⟧.is_sound s.left };
+}
+
+impl<'a> Iterator for PairActiveMoves<'a> {
+    type Item = Move;
+
+    ghost next_gives = { YieldsFirst (λ moves. moves) };
+
+    ghost remaining = { item_count (λ moves. moves) };
+
+    #[inline]
+    fn next(&mut self) -> Option<Move> {
+        self.left.step()
+    }
+}
+
+/// The moves that put an inactive pair into a list (this project's own), in lexicographic order of their numbers.
+pub fn pair_active<'a>(model: &'a RoutingModel, routes: &'a Routes) -> PairActiveMoves<'a>
+    requires well_formed { IsWellFormed model.now }
+    ensures { result ≡ moves_in model.now routes.now.lists PairActiveKind }
+{
+    let vehicles = routes.vehicles();
+    let count = model.pairs.len() as u32;
+    PairActiveMoves {
+        left: Each::new(
+            Pairs {
+                model,
+                routes,
+                vehicles,
+            },
+            0,
+            count,
+        ),
+    }
+}

@@ -1,0 +1,82 @@
+//! Pairs that are taken out.
+
+ghost use Rattle.std.specs.Prelude.{◌≡◌, ⊤, ℕ, length};
+ghost use Rattle.std.specs.Iterator.{YieldsFirst, item_count};
+ghost use Rattle.vr_model.specs.moves.Moves.{is_pair_together, moves_in};
+ghost use Rattle.vr_model.specs.tables.WellFormed.{IsWellFormed};
+ghost use Rattle.vr_model.specs.declared.neighbours.Move.TheVariants.{PairInactive};
+ghost use Rattle.vr_model.specs.declared.neighbours.Neighbourhood.TheVariants.{PairInactive as PairInactiveKind};
+
+use std::marker::Model;
+use vr_model::{Model as RoutingModel, Move};
+use vr_routes::nests::{Listed, Numbered, Run};
+use vr_routes::{Routes, is_pair_together};
+
+// The pairs whose nodes stand in one list.
+#[derive(Drop)]
+struct Pairs<'a> {
+    model: &'a RoutingModel,
+    routes: &'a Routes,
+}
+
+impl<'a> Numbered for Pairs<'a> {
+    ghost is_sound = { λ s. ⊤ };
+
+    ghost count = { λ s. length s.model.now.pairs };
+
+    ghost passes = { λ s k. is_pair_together s.model.now s.routes.now.lists k };
+
+    ghost move_at = { λ s k. PairInactive k };
+
+    #[inline]
+    fn has(&self, k: u32) -> bool {
+        is_pair_together(self.model, self.routes, k)
+    }
+
+    #[inline]
+    fn make(&self, k: u32) -> Move {
+        Move::PairInactive { p: k }
+    }
+}
+
+/// The moves that take a pair out (this project's own), in lexicographic order of their numbers. Contracts see the list
+/// of those that are left.
+#[derive(Drop)]
+pub struct PairInactiveMoves<'a> {
+    left: Run<Pairs<'a>>,
+}
+
+impl<'a> Model for PairInactiveMoves<'a> {
+    ghost use Rattle.std.specs.Prelude.{List};
+    ghost use Rattle.vr_model.specs.declared.neighbours.Move.{Move as Moved};
+
+    ghost Value = { List Moved };
+
+    ghost view = { λ s. ⟦<Run<Pairs<'static>> as Listed>⟧.rest s.left };
+
+    ghost invariant = { λ s. ⟦<Run<Pairs<'static>> as Listed>⟧.is_sound s.left };
+}
+
+impl<'a> Iterator for PairInactiveMoves<'a> {
+    type Item = Move;
+
+    ghost next_gives = { YieldsFirst (λ moves. moves) };
+
+    ghost remaining = { item_count (λ moves. moves) };
+
+    #[inline]
+    fn next(&mut self) -> Option<Move> {
+        self.left.step()
+    }
+}
+
+/// The moves that take a pair out (this project's own), in lexicographic order of their numbers.
+pub fn pair_inactive<'a>(model: &'a RoutingModel, routes: &'a Routes) -> PairInactiveMoves<'a>
+    requires well_formed { IsWellFormed model.now }
+    ensures { result ≡ moves_in model.now routes.now.lists PairInactiveKind }
+{
+    let count = model.pairs.len() as u32;
+    PairInactiveMoves {
+        left: Run::new(Pairs { model, routes }, 0, count),
+    }
+}

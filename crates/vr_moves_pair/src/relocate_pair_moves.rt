@@ -1,0 +1,209 @@
+//! Served pairs that are put elsewhere.
+
+ghost use Rattle.std.specs.Prelude.{◌≡◌, ⊤, ℕ, ◌<◌, ◌≤◌, suc, true, length, map, filter};
+ghost use Rattle.std.specs.Iterator.{YieldsFirst, item_count};
+ghost use Rattle.vr_model.specs.tables.Numbers.{each, from_to};
+ghost use Rattle.vr_model.specs.routes.Routes.{route, vehicles};
+ghost use Rattle.vr_model.specs.tables.Tables.{pair_at};
+ghost use Rattle.vr_model.specs.moves.Moves.{changes_the_list, gaps, is_pair_served, moves_in, without_pair};
+ghost use Rattle.vr_model.specs.tables.WellFormed.{IsWellFormed};
+ghost use Rattle.vr_model.specs.declared.neighbours.Move.TheVariants.{RelocatePair};
+ghost use Rattle.vr_model.specs.declared.neighbours.Neighbourhood.TheVariants.{RelocatePair as RelocatePairKind};
+ghost use Rattle.vr_routes.specs.Pairs.{ArePlaces, is_elsewhere};
+ghost use Rattle.vr_moves_pair.specs.Putting.{puts_into};
+
+use std::marker::Model;
+use vr_model::{Model as RoutingModel, Move};
+use vr_routes::nests::{Each, Family, Listed, Numbered, Run};
+use vr_routes::{PairPlaces, Routes, is_elsewhere, pair_served, rest_len};
+
+// The places of the rest of `w` before which the delivery may be put, where the pickup is put before place `s`. The
+// place where it stands is none of them.
+#[derive(Drop)]
+struct Deliveries {
+    p: u32,
+    w: u32,
+    s: u32,
+    at: PairPlaces,
+}
+
+impl Numbered for Deliveries {
+    ghost is_sound = { λ m. m.at.pickup < m.at.delivery };
+
+    ghost count = { λ m. 4294967296 };
+
+    ghost passes = { λ m t. is_elsewhere m.at.vehicle m.at.pickup m.at.delivery m.w m.s t };
+
+    ghost move_at = { λ m t. RelocatePair m.p m.w m.s t };
+
+    #[inline]
+    fn has(&self, k: u32) -> bool {
+        is_elsewhere(self.at, self.w, self.s, k)
+    }
+
+    #[inline]
+    fn make(&self, k: u32) -> Move {
+        Move::RelocatePair {
+            p: self.p,
+            w: self.w,
+            s: self.s,
+            t: k,
+        }
+    }
+}
+
+// The places of the rest of `w`, which has `n`, before which the pickup may be put.
+#[derive(Drop)]
+struct Pickups {
+    p: u32,
+    w: u32,
+    n: u32,
+    at: PairPlaces,
+}
+
+impl Family for Pickups {
+    type Inner = Run<Deliveries>;
+
+    ghost is_sound = { λ m. (m.n ≤ 1000) × (m.at.pickup < m.at.delivery) };
+
+    ghost count = { λ m. suc m.n };
+
+    ghost passes = { λ m s. true };
+
+    ghost moves = { λ m s. map (RelocatePair m.p m.w s)
+        (filter (λ t. is_elsewhere m.at.vehicle m.at.pickup m.at.delivery m.w s t) (from_to s (suc m.n))) };
+
+    #[inline]
+    fn open(&self, k: u32) -> Option<Run<Deliveries>> {
+        let deliveries = Deliveries {
+            p: self.p,
+            w: self.w,
+            s: k,
+            at: self.at,
+        };
+        Some(Run::new(deliveries, k, self.n + 1))
+    }
+}
+
+// The vehicles to which pair `p` may be moved.
+#[derive(Drop)]
+struct Targets<'a> {
+    model: &'a RoutingModel,
+    routes: &'a Routes,
+    p: u32,
+    at: PairPlaces,
+}
+
+impl<'a> Family for Targets<'a> {
+    type Inner = Each<Pickups>;
+
+    ghost is_sound = { λ m. (m.at.pickup < m.at.delivery)
+        × ArePlaces m.routes.now.lists (pair_at m.model.now m.p) m.at.vehicle m.at.pickup m.at.delivery };
+
+    ghost count = { λ m. length m.routes.now.lists };
+
+    ghost passes = { λ m w. true };
+
+    ghost moves = { λ m w. puts_into (pair_at m.model.now m.p) m.p w (route m.routes.now.lists w) };
+
+    #[inline]
+    fn open(&self, k: u32) -> Option<Each<Pickups>> {
+        self.routes.know_once();
+        let n = rest_len(self.routes, self.at, k);
+        let pickups = Pickups {
+            p: self.p,
+            w: k,
+            n,
+            at: self.at,
+        };
+        Some(Each::new(pickups, 0, n + 1))
+    }
+}
+
+// The pairs that are served.
+#[derive(Drop)]
+struct Pairs<'a> {
+    model: &'a RoutingModel,
+    routes: &'a Routes,
+    vehicles: u32,
+}
+
+impl<'a> Family for Pairs<'a> {
+    type Inner = Each<Targets<'a>>;
+
+    ghost is_sound = { λ m. m.vehicles ≡ length m.routes.now.lists };
+
+    ghost count = { λ m. length m.model.now.pairs };
+
+    ghost passes = { λ m p. is_pair_served m.model.now m.routes.now.lists p };
+
+    ghost moves = { λ m p. each (vehicles m.routes.now.lists) λ w.
+        puts_into (pair_at m.model.now p) p w (route m.routes.now.lists w) };
+
+    #[inline]
+    fn open(&self, k: u32) -> Option<Each<Targets<'a>>> {
+        match pair_served(self.model, self.routes, k) {
+            None => None,
+            Some(at) => {
+                let targets = Targets {
+                    model: self.model,
+                    routes: self.routes,
+                    p: k,
+                    at,
+                };
+                Some(Each::new(targets, 0, self.vehicles))
+            }
+        }
+    }
+}
+
+/// The moves that put a served pair elsewhere (this project's own), in lexicographic order of their numbers. Contracts
+/// see the list of those that are left.
+#[derive(Drop)]
+pub struct RelocatePairMoves<'a> {
+    left: Each<Pairs<'a>>,
+}
+
+impl<'a> Model for RelocatePairMoves<'a> {
+    ghost use Rattle.std.specs.Prelude.{List};
+    ghost use Rattle.vr_model.specs.declared.neighbours.Move.{Move as Moved};
+
+    ghost Value = { List Moved };
+
+    ghost view = { λ s. ⟦<Each<Pairs<'static>> as Listed>⟧.rest s.left };
+
+    ghost invariant = { λ s. ⟦<Each<Pairs<'static>> as Listed>⟧.is_sound s.left };
+}
+
+impl<'a> Iterator for RelocatePairMoves<'a> {
+    type Item = Move;
+
+    ghost next_gives = { YieldsFirst (λ moves. moves) };
+
+    ghost remaining = { item_count (λ moves. moves) };
+
+    #[inline]
+    fn next(&mut self) -> Option<Move> {
+        self.left.step()
+    }
+}
+
+/// The moves that put a served pair elsewhere (this project's own), in lexicographic order of their numbers.
+pub fn relocate_pair<'a>(model: &'a RoutingModel, routes: &'a Routes) -> RelocatePairMoves<'a>
+    requires well_formed { IsWellFormed model.now }
+    ensures { result ≡ moves_in model.now routes.now.lists RelocatePairKind }
+{
+    let vehicles = routes.vehicles();
+    let count = model.pairs.len() as u32;
+    RelocatePairMoves {
+        left: Each::new(
+            Pairs {
+                model,
+                routes,
+                vehicles,
+            },
+            0,
+            count,
+        ),
+    }
+}

@@ -1,0 +1,179 @@
+//! Chains that are moved within a list.
+
+ghost use Rattle.std.specs.Prelude.{◌≡◌, ⊤, ℕ, ◌+◌, ◌-◌, ◌≤◌, nat_le, suc, true, length, map, filter};
+ghost use Rattle.std.specs.Iterator.{YieldsFirst, item_count};
+ghost use Rattle.vr_model.specs.tables.Numbers.{below, each, from_to};
+ghost use Rattle.vr_model.specs.routes.Routes.{route};
+ghost use Rattle.vr_model.specs.moves.Moves.{places, is_other, has_chain, moves_in};
+ghost use Rattle.vr_model.specs.declared.records.Model.{Model as Defined};
+ghost use Rattle.vr_model.specs.declared.neighbours.Move.TheVariants.{OrOpt};
+ghost use Rattle.vr_model.specs.declared.neighbours.Neighbourhood.TheVariants.{OrOpt as OrOptKind};
+
+use std::marker::Model;
+use vr_model::Move;
+use vr_routes::Routes;
+use vr_routes::nests::{Each, Family, Listed, Numbered, Run};
+
+// The places before which the `k` nodes of `v` from place `a` on may be put.
+#[derive(Drop)]
+struct Gaps {
+    v: u32,
+    a: u32,
+    k: u32,
+}
+
+impl Numbered for Gaps {
+    ghost is_sound = { λ s. ⊤ };
+
+    ghost count = { λ s. 4294967296 };
+
+    ghost passes = { λ s k. is_other s.a k };
+
+    ghost move_at = { λ s t. OrOpt s.v s.a s.k t };
+
+    #[inline]
+    fn has(&self, k: u32) -> bool {
+        self.a != k
+    }
+
+    #[inline]
+    fn make(&self, k: u32) -> Move {
+        Move::OrOpt {
+            v: self.v,
+            a: self.a,
+            k: self.k,
+            t: k,
+        }
+    }
+}
+
+// How many nodes of `v`, which has `n`, may be moved from place `a` on.
+#[derive(Drop)]
+struct Chains {
+    v: u32,
+    a: u32,
+    n: u32,
+}
+
+impl Family for Chains {
+    type Inner = Run<Gaps>;
+
+    ghost is_sound = { λ s. s.n ≤ 1000 };
+
+    ghost count = { λ s. 4 };
+
+    ghost passes = { λ s k. nat_le (s.a + k) s.n };
+
+    ghost moves = { λ s k. map (OrOpt s.v s.a k) (filter (is_other s.a) (below (suc (s.n - k)))) };
+
+    #[inline]
+    fn open(&self, k: u32) -> Option<Run<Gaps>> {
+        if self.a as u64 + k as u64 > self.n as u64 {
+            return None;
+        }
+        let gaps = Gaps {
+            v: self.v,
+            a: self.a,
+            k,
+        };
+        Some(Run::new(gaps, 0, self.n - k + 1))
+    }
+}
+
+// The places of `v`, which has `n`, where a chain begins.
+#[derive(Drop)]
+struct Begins {
+    v: u32,
+    n: u32,
+}
+
+impl Family for Begins {
+    type Inner = Each<Chains>;
+
+    ghost is_sound = { λ s. s.n ≤ 1000 };
+
+    ghost count = { λ s. s.n };
+
+    ghost passes = { λ s k. true };
+
+    ghost moves = { λ s k. each (filter (λ j. nat_le (k + j) s.n) (from_to 1 4)) λ j.
+        map (OrOpt s.v k j) (filter (is_other k) (below (suc (s.n - j)))) };
+
+    #[inline]
+    fn open(&self, k: u32) -> Option<Each<Chains>> {
+        let chains = Chains {
+            v: self.v,
+            a: k,
+            n: self.n,
+        };
+        Some(Each::new(chains, 1, 4))
+    }
+}
+
+// The vehicles.
+#[derive(Drop)]
+struct Vehicles<'a> {
+    routes: &'a Routes,
+}
+
+impl<'a> Family for Vehicles<'a> {
+    type Inner = Each<Begins>;
+
+    ghost is_sound = { λ s. ⊤ };
+
+    ghost count = { λ s. length s.routes.now.lists };
+
+    ghost passes = { λ s k. true };
+
+    ghost moves = { λ s k. each (places (route s.routes.now.lists k)) λ a.
+        each (filter (has_chain (route s.routes.now.lists k) a) (from_to 1 4)) λ j.
+        map (OrOpt k a j) (filter (is_other a) (below (suc (length (route s.routes.now.lists k) - j)))) };
+
+    #[inline]
+    fn open(&self, k: u32) -> Option<Each<Begins>> {
+        let n = self.routes.len(k);
+        Some(Each::new(Begins { v: k, n }, 0, n))
+    }
+}
+
+/// The moves that put up to three nodes elsewhere in their list (OR-Tools' `OrOpt`), in lexicographic order of their
+/// numbers. Contracts see the list of those that are left.
+#[derive(Drop)]
+pub struct OrOptMoves<'a> {
+    left: Each<Vehicles<'a>>,
+}
+
+impl<'a> Model for OrOptMoves<'a> {
+    ghost use Rattle.std.specs.Prelude.{List};
+    ghost use Rattle.vr_model.specs.declared.neighbours.Move.{Move as Moved};
+
+    ghost Value = { List Moved };
+
+    ghost view = { λ s. ⟦<Each<Vehicles<'static>> as Listed>⟧.rest s.left };
+
+    ghost invariant = { λ s. ⟦<Each<Vehicles<'static>> as Listed>⟧.is_sound s.left };
+}
+
+impl<'a> Iterator for OrOptMoves<'a> {
+    type Item = Move;
+
+    ghost next_gives = { YieldsFirst (λ moves. moves) };
+
+    ghost remaining = { item_count (λ moves. moves) };
+
+    #[inline]
+    fn next(&mut self) -> Option<Move> {
+        self.left.step()
+    }
+}
+
+/// The moves that put up to three nodes elsewhere in their list (OR-Tools' `OrOpt`), in lexicographic order of their
+/// numbers.
+pub fn or_opt<'a>(routes: &'a Routes) -> OrOptMoves<'a>
+    ensures { (model : Defined) → result ≡ moves_in model routes.now.lists OrOptKind }
+{
+    let vehicles = routes.vehicles();
+    OrOptMoves {
+        left: Each::new(Vehicles { routes }, 0, vehicles),
+    }
+}
