@@ -1,2 +1,4 @@
--- The assignment of lists.
+-- Lemmas on lists and routes, and the assignment of lists.
+pub mod Lists
+pub mod PathCosts
 pub mod Assigned

@@ -5,6 +5,7 @@ pub mod Joining
 pub mod Crossing
 pub mod CrossingBack
 pub mod LevelEnds
+pub mod OneChosen
 pub mod ChoiceLaws
 pub mod Narrowing
 pub mod LinesSound

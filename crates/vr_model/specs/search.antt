@@ -1,5 +1,6 @@
 -- The searches that improve a solution.
--- Read first Scans, then Outcomes (where a search stands, how it ends), Descents, GuidedSearches. The others state laws.
+-- Read first Scans, then Outcomes (where a search stands, how it ends), Descents, GuidedSearches. The others state
+-- laws.
 pub mod Scans
 pub mod Outcomes
 pub mod Descents

@@ -3,8 +3,10 @@
 
 ghost use Rattle.vr_model.specs.routes.AssignmentLaws.{ChosenPlansAreThere, OpenMeetsItsLines};
 ghost use Rattle.vr_model.specs.search.ChoosingLaws.{LeastIsFirst, ScanEnds};
-ghost use Rattle.vr_model.specs.schedules.ChosenLaws.{ChosenIsLeast, ChosenWhereFeasible, EndReachedAsTested, LeastCumulMayBePinned, OneChosen, ReachedAsTested, RulesAsTested};
-ghost use Rattle.vr_model.specs.schedules.Levels.{CumulWhereLevelsMeet, EndReachedByCrossing, FeasibleWhereLevelsMeet, ReachedAtEnd, ReachedAtStart, ReachedByCrossing};
+ghost use Rattle.vr_model.specs.schedules.ChosenLaws.{ChosenIsLeast, ChosenWhereFeasible, EndReachedAsTested};
+ghost use Rattle.vr_model.specs.schedules.ChosenLaws.{LeastCumulMayBePinned, OneChosen, ReachedAsTested, RulesAsTested};
+ghost use Rattle.vr_model.specs.schedules.Levels.{CumulWhereLevelsMeet, EndReachedByCrossing, FeasibleWhereLevelsMeet};
+ghost use Rattle.vr_model.specs.schedules.Levels.{ReachedAtEnd, ReachedAtStart, ReachedByCrossing};
 ghost use Rattle.vr_model.specs.moves.MoveTests.{MovesAsTested};
 ghost use Rattle.vr_model.specs.schedules.Runs.{RunsAsLongAsForm};
 ghost use Rattle.vr_model.specs.search.SearchLaws.{DescentBoundUnmet, GuidedBoundUnmet};

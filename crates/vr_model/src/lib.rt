@@ -2,6 +2,7 @@
 #![tactic(auto)]
 
 pub mod laws;
+pub mod limits;
 mod lookups;
 mod memory;
 mod neighbours;

@@ -1,11 +1,109 @@
-//! What a model says of nodes and arcs.
+//! What a model and its rows say of nodes, arcs and vehicles. Each look-up stands at the smallest
+//! record that answers it.
 
-ghost use Rattle.std.specs.Prelude.{◌≡◌, ◌<◌, ◌^◌, ◌⊎◌, length, pos, neg_ℤ, ◌≤ℤ◌};
+ghost use Rattle.std.specs.Prelude.{◌≡◌, ◌<◌, ◌^◌, ◌*◌, ◌+◌, ◌==◌, ◌||◌, ◌⊎◌, length, pos, neg_ℤ, ◌≤ℤ◌, find, Some};
+ghost use Rattle.std.specs.List.{All};
+ghost use Rattle.std.specs.Option.{option_copied, option_map};
 ghost use Rattle.vr_model.specs.tables.Numbers.{number_at};
-ghost use Rattle.vr_model.specs.tables.Tables.{arc_cost, entry, is_terminal, is_visit, matrix_part, transit};
-ghost use Rattle.vr_model.specs.tables.WellFormed.{IsWellFormed, WherePresent};
+ghost use Rattle.vr_model.specs.tables.Tables.{arc_cost, breaks_of as breaks_of_vehicle, evaluated};
+ghost use Rattle.vr_model.specs.tables.Tables.{evaluator_of as evaluator_of_vehicle, is_terminal, is_visit};
+ghost use Rattle.vr_model.specs.tables.Tables.{matrix_part, row_of, transit};
+ghost use Rattle.vr_model.specs.tables.WellFormed.{IsEvaluator, IsIn, IsMatrix, IsStopRow, IsWellFormed, WherePresent};
+ghost use Rattle.vr_model.specs.tables.WellFormed.{least_value, greatest_cost, greatest_value};
+ghost use Rattle.vr_model.specs.routes.Rules.{allows_vehicle as allows_vehicle_of};
 
-use crate::{Model, Seq};
+use crate::{Allowed, BreakRow, Dimension, Evaluator, Matrix, Model, Seq, StopRow, Vehicle};
+
+impl Matrix {
+    /// The entry in row `i` and column `j` of a matrix of `n` rows and columns.
+    pub fn entry(&self, n: u32, i: u32, j: u32) -> i64
+        requires square { length self.now.entries ≡ n * n }
+        requires row { i < n }
+        requires column { j < n }
+        ensures { result ≡ number_at self.now.entries (i * n + j) }
+    {
+        *self.entries.get(i as usize * n as usize + j as usize)
+    }
+}
+
+impl Evaluator {
+    /// The value of a node, 0 where there are no values.
+    pub fn value(&self, node: u32) -> i64
+        requires { (length self.now.values ≡ 0) ⊎ (node < length self.now.values) }
+        ensures { result ≡ number_at self.now.values node }
+    {
+        if self.values.is_empty() {
+            0
+        } else {
+            *self.values.get(node as usize)
+        }
+    }
+
+    /// What it gives from node `i` to node `j` of a model, in `-2^31..=2^40 + 2^30`: the entry of its
+    /// matrix and the value of node `i`, each 0 where it is absent.
+    pub fn transit(&self, model: &Model, i: u32, j: u32) -> i64
+        requires evaluator { IsEvaluator model.now self.now }
+        requires matrices { All (IsMatrix model.now.nodes) model.now.matrices }
+        requires origin { i < model.now.nodes }
+        requires target { j < model.now.nodes }
+        ensures { result ≡ evaluated model.now self.now i j }
+    {
+        model.matrix_part(self.matrix, i, j) + self.value_in_range(model, i)
+    }
+
+    /// The value of a node, in its range.
+    fn value_in_range(&self, model: &Model, node: u32) -> i64
+        requires evaluator { IsEvaluator model.now self.now }
+        requires node { node < model.now.nodes }
+        ensures value { result ≡ number_at self.now.values node }
+        ensures in_range { IsIn least_value greatest_value result }
+    {
+        self.value(node)
+    }
+}
+
+impl StopRow {
+    /// The row of a key, the first of several: of a visit by its node, of a start or an end by its
+    /// vehicle.
+    pub fn of_key(rows: &Seq<StopRow>, key: u32) -> Option<&StopRow>
+        ensures value { option_copied result ≡ row_of rows.now key }
+        ensures valid { All IsStopRow rows.now → WherePresent IsStopRow (option_copied result) }
+    {
+        rows.iter().find(|row| row.key == key)
+    }
+}
+
+impl Dimension {
+    /// The evaluator of vehicle `v` (`RoutingDimension::transit_evaluator` in OR-Tools).
+    pub fn evaluator_of(&self, v: u32) -> &Evaluator
+        requires vehicle { v < length self.now.vehicle_evaluators }
+        requires numbers { All (λ k. k < length self.now.evaluators) self.now.vehicle_evaluators }
+        ensures { result.now ≡ evaluator_of_vehicle self.now v }
+    {
+        let number = *self.vehicle_evaluators.get(v as usize);
+        self.evaluators.get(number as usize)
+    }
+
+    /// The breaks of vehicle `v`, in the order in which they are taken; none where it has no entry
+    /// (`RoutingDimension::GetBreakIntervalsOfVehicle` in OR-Tools).
+    pub fn breaks_of(&self, v: u32) -> &[BreakRow]
+        ensures { result.now ≡ breaks_of_vehicle self.now v }
+    {
+        match self.breaks.iter().find(|entry| entry.vehicle == v) {
+            Some(entry) => entry.rows.as_slice(),
+            None => &[],
+        }
+    }
+}
+
+impl Vehicle {
+    /// Whether it starts or ends at a node.
+    pub fn starts_or_ends_at(&self, node: u32) -> bool
+        ensures { result ≡ ((self.now.start == node) || (self.now.end == node)) }
+    {
+        self.start == node || self.end == node
+    }
+}
 
 impl Model {
     /// The cost of the arc from node `i` to node `j` for vehicle `v`, in `0..=2^40`
@@ -19,7 +117,8 @@ impl Model {
         ensures not_negative { pos 0 ≤ℤ result }
         ensures bound { result ≤ℤ pos (2 ^ 40) }
     {
-        self.entry(self.vehicles.get(v as usize).costs, i, j)
+        let costs = self.vehicles.get(v as usize).costs;
+        self.matrix_part(Some(costs), i, j)
     }
 
     /// The transit of vehicle `v` from node `i` to node `j` in dimension `d`, in `-2^31..=2^31`: the
@@ -36,38 +135,40 @@ impl Model {
         ensures greatest { result ≤ℤ pos (2 ^ 31) }
     {
         let dimension = self.dimensions.get(d as usize);
-        let number = *dimension.vehicle_evaluators.get(v as usize);
-        let evaluator = dimension.evaluators.get(number as usize);
-        self.matrix_part(evaluator.matrix, i, j) + value_of(&evaluator.values, i)
+        dimension.evaluator_of(v).transit(self, i, j)
     }
 
-    /// An entry of the matrix of an evaluator, 0 where it has none.
+    /// An entry of the matrix of a number, 0 where there is no number.
     fn matrix_part(&self, matrix: Option<u32>, i: u32, j: u32) -> i64
-        requires well_formed { IsWellFormed self.now }
+        requires matrices { All (IsMatrix self.now.nodes) self.now.matrices }
         requires matrix { WherePresent (λ m. m < length self.now.matrices) matrix }
         requires origin { i < self.now.nodes }
         requires target { j < self.now.nodes }
-        ensures { result ≡ matrix_part self.now matrix i j }
+        ensures value { result ≡ matrix_part self.now matrix i j }
+        ensures in_range { IsIn least_value greatest_cost result }
     {
         match matrix {
-            Some(matrix) => self.entry(matrix, i, j),
+            Some(m) => self.matrices.get(m as usize).entry(self.nodes, i, j),
             None => 0,
         }
     }
 
-    /// An entry of a matrix.
-    fn entry(&self, matrix: u32, i: u32, j: u32) -> i64
-        requires well_formed { IsWellFormed self.now }
-        requires matrix { matrix < length self.now.matrices }
-        requires origin { i < self.now.nodes }
-        requires target { j < self.now.nodes }
-        ensures { result ≡ entry self.now matrix i j }
+    /// Whether vehicle `v` may visit a node: where the node has a row of allowed vehicles, those of the
+    /// row alone.
+    pub fn allows_vehicle(&self, v: u32, node: u32) -> bool
+        ensures { result ≡ allows_vehicle_of self.now v node }
     {
-        *self
-            .matrices
-            .get(matrix as usize)
-            .entries
-            .get(i as usize * self.nodes as usize + j as usize)
+        match self.allowed_row(node) {
+            Some(row) => row.vehicles.as_slice().contains(&v),
+            None => true,
+        }
+    }
+
+    /// The row of allowed vehicles of a node, the first of several.
+    fn allowed_row(&self, node: u32) -> Option<&Allowed>
+        ensures { option_map (λ row. row.now) result ≡ find (λ row. row.node == node) self.now.allowed }
+    {
+        self.allowed.iter().find(|row| row.node == node)
     }
 
     /// Whether some vehicle starts or ends at a node.
@@ -75,9 +176,8 @@ impl Model {
         ensures { result ≡ is_terminal self.now node }
     {
         self.vehicles
-            .as_slice()
             .iter()
-            .any(|vehicle| vehicle.start == node || vehicle.end == node)
+            .any(|vehicle| vehicle.starts_or_ends_at(node))
     }
 
     /// Whether a node is a visit: below the number of nodes, and no vehicle's start or end.
@@ -85,17 +185,5 @@ impl Model {
         ensures { result ≡ is_visit self.now node }
     {
         node < self.nodes && !self.is_terminal(node)
-    }
-}
-
-/// The value of a node, 0 where an evaluator has no values.
-fn value_of(values: &Seq<i64>, node: u32) -> i64
-    requires { (length values.now ≡ 0) ⊎ (node < length values.now) }
-    ensures { result ≡ number_at values.now node }
-{
-    if values.is_empty() {
-        0
-    } else {
-        *values.get(node as usize)
     }
 }

@@ -5,7 +5,7 @@ use Rattle.std.specs.List.{All}
 use Rattle.vr_model.specs.tables.Numbers.{is_lex_less}
 use Rattle.vr_model.specs.first.Choosing.{better, least_by}
 use Rattle.vr_model.specs.search.ChoosingLaws.{IsFirstLeast, LeastIsFirst}
-use Rattle.vr_model.specs.deciding.Testing.{clash, fails}
+use Rattle.vr_model.proofs.tables.Tests.{clash, fails}
 use Rattle.vr_model.proofs.first.LexOrder.{less_self, less_trans, less_split}
 
 module _ {A : Type 0} (key : A → List ℤ) where

@@ -355,7 +355,7 @@ module _ (model : Model) (lists : List (List ℕ)) where
   is_one (MakeInactive v a) = one_make_inactive v a
   is_one (SwapActive v a u) = one_swap_active v a u
 
-in_all : (neighbourhood : Neighbourhood) → In all_neighbourhoods neighbourhood
+pub in_all : (neighbourhood : Neighbourhood) → In all_neighbourhoods neighbourhood
 in_all all.TwoOpt = inl refl
 in_all all.OrOpt = inr (inl refl)
 in_all all.Relocate = inr (inr (inl refl))

@@ -11,7 +11,8 @@ use Rattle.vr_model.specs.schedules.Choices.{chosen, is_feasible}
 use Rattle.vr_model.specs.routes.Rules.{is_route_open, fits_group, is_open}
 use Rattle.vr_model.specs.routes.Costs.{no_plan, chosen_plans, assigned}
 use Rattle.vr_model.specs.routes.AssignmentLaws.{ChosenPlansAreThere, OpenMeetsItsLines}
-use Rattle.vr_model.specs.deciding.Testing.{clash, and_left, list_all_range}
+use Rattle.vr_model.specs.deciding.Testing.{and_left, list_all_range}
+use Rattle.vr_model.proofs.tables.Tests.{clash}
 use Rattle.vr_model.specs.declared.records.Model.{Model}
 use Rattle.vr_model.proofs.schedules.ChoiceLaws.{chosen_is}
 

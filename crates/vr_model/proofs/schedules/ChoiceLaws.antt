@@ -4,7 +4,8 @@ use Rattle.std.specs.Prelude.{ℤ, IsTrue, is_some}
 use Rattle.vr_model.specs.tables.Numbers.{is_same_number}
 use Rattle.vr_model.specs.schedules.Lines.{Line}
 use Rattle.vr_model.specs.schedules.Schedules.{Plan, before_only, after_only, IsChosen, IsFeasible, IsReached, ReachesEnd, front, back, cumul}
-use Rattle.vr_model.specs.deciding.ChosenSchedule.{IsLeastPlan, NoPlan, find_plan, find_chosen, chosen_same}
+use Rattle.vr_model.specs.deciding.ChosenSchedule.{IsLeastPlan, NoPlan, find_plan, find_chosen}
+use Rattle.vr_model.proofs.schedules.OneChosen.{chosen_same}
 use Rattle.vr_model.specs.schedules.Choices.{found_plan, chosen, is_feasible, was_found, is_reached, reaches_end}
 use Rattle.vr_model.specs.deciding.ScheduleTests.{keeps_rules-sound, keeps_rules-complete}
 use Rattle.vr_model.specs.schedules.ChosenLaws.{RulesAsTested, OneChosen, ChosenIsLeast, ChosenWhereFeasible, ReachedAsTested, EndReachedAsTested}
@@ -33,13 +34,6 @@ feasible_true line f = go (find_chosen line)
     go : (c : ((p : Plan) × IsChosen line p) ⊎ ¬ IsFeasible line) → is_some (found_plan line c) ≡ true
     go (inl r) = refl
     go (inr none) = absurd (none f)
-
-pub feasible_false : (line : Line) → ¬ IsFeasible line → is_feasible line ≡ false
-feasible_false line n = go (find_chosen line)
-  where
-    go : (c : ((p : Plan) × IsChosen line p) ⊎ ¬ IsFeasible line) → is_some (found_plan line c) ≡ false
-    go (inl r) = absurd (n (r.0, r.1.schedule))
-    go (inr none) = refl
 
 pub feasible_is : (line : Line) → is_feasible line ≡ true → IsFeasible line
 feasible_is line e = go (find_chosen line) e

@@ -13,7 +13,8 @@ use Rattle.vr_model.specs.tables.WellFormed.{IsBreak, AreBreaks, IsDimension, Is
 use Rattle.vr_model.specs.schedules.Lines.{line, line_arc, stop_allows}
 use Rattle.vr_model.specs.schedules.Schedules.{no_arc, no_break, arc_at}
 use Rattle.vr_model.specs.schedules.SoundLines.{IsSound, LinesAreSound}
-use Rattle.vr_model.specs.deciding.Testing.{clash, fails, fails_not, and_left, and_right, and_both, or_left, or_right, eq_of_test, test_of_eq, range_list_any}
+use Rattle.vr_model.specs.deciding.Testing.{and_left, and_right, and_both, or_left, or_right, eq_of_test, test_of_eq, range_list_any}
+use Rattle.vr_model.proofs.tables.Tests.{clash, fails, fails_not}
 use Rattle.vr_model.specs.declared.records.Model.{Model}
 use Rattle.vr_model.specs.declared.records.Dimension.{Dimension}
 use Rattle.vr_model.specs.declared.records.VehicleBreaks.{VehicleBreaks}

@@ -80,7 +80,7 @@ module _ (line : Line) (k : ℕ) (x : ℤ) (there : k < length line.allowed) whe
       ]
 
 -- lists that agree below place k, and of which the first is less there
-lex_less_at : (k : ℕ) (xs ys : List ℤ) → ((i : ℕ) → i < k → number_at xs i ≡ number_at ys i) → k < length xs → k < length ys → number_at xs k <ℤ number_at ys k → IsTrue (is_lex_le xs ys)
+pub lex_less_at : (k : ℕ) (xs ys : List ℤ) → ((i : ℕ) → i < k → number_at xs i ≡ number_at ys i) → k < length xs → k < length ys → number_at xs k <ℤ number_at ys k → IsTrue (is_lex_le xs ys)
 lex_less_at k [] ys same hx hy less = absurd (omega (arith, hx))
 lex_less_at k (x ∷ xs) [] same hx hy less = absurd (omega (arith, hy))
 lex_less_at zero (x ∷ xs) (y ∷ ys) same hx hy less = or_left (int_lt x y) _ (lt_test x y less)

@@ -6,7 +6,7 @@ use Rattle.std.proofs.Math.Nat.{mul-le-mul_right}
 use Rattle.std.proofs.lemmas.Int.{ints}
 use Rattle.std.proofs.lemmas.List.Folds.{list_any_at}
 use Rattle.vr_model.specs.tables.Numbers.{number_at}
-use Rattle.vr_model.specs.deciding.Testing.{clash, fails}
+use Rattle.vr_model.proofs.tables.Tests.{clash, fails}
 use Rattle.vr_model.specs.declared.records.Model.{Model}
 use Rattle.vr_model.specs.declared.records.Evaluator.{Evaluator}
 use Rattle.vr_model.specs.tables.Tables.{no_matrix, no_vehicle, no_dimension, no_evaluator, matrix_at, entry, vehicle_at, dimension_at, evaluator_number, evaluator_of, matrix_part, arc_cost, transit}

@@ -5,7 +5,8 @@ use Rattle.std.proofs.lemmas.Int.{ints}
 use Rattle.vr_model.specs.tables.Numbers.{number_at, within, horizon, is_lex_le, is_same_number}
 use Rattle.vr_model.specs.schedules.Lines.{Line, line}
 use Rattle.vr_model.specs.schedules.Schedules.{Plan, both_sides, IsSchedule, cumul, slack, break_start, is_before, is_after, is_inside, break_time}
-use Rattle.vr_model.specs.deciding.Testing.{eq_of_tests, clash, fails_not, and_left, and_right, le_of_test, test_of_le, within_is, test_of_within}
+use Rattle.vr_model.specs.deciding.Testing.{eq_of_tests, and_left, and_right, le_of_test, test_of_le, within_is, test_of_within}
+use Rattle.vr_model.proofs.tables.Tests.{clash, fails_not}
 use Rattle.vr_model.specs.deciding.ScheduleTests.{keeps_rules-sound}
 use Rattle.vr_model.specs.schedules.Choices.{chosen}
 use Rattle.vr_model.specs.routes.Costs.{cost, sum_of, parts_at, no_plan}

@@ -1,5 +1,6 @@
 -- Of the lists of numbers in a box that pass a test, the least in lexicographic order.
-use Rattle.std.proofs.Common.{◌≡◌, ℕ, zero, suc, Bool, true, false, List, [], ◌∷◌, refl, sym, subst, inl, inr, arith, ◌⊎◌}
+use Rattle.std.proofs.Common.{◌≡◌, ℕ, zero, suc, Bool, true, false, List, [], ◌∷◌, refl, sym, subst, inl, inr, arith}
+use Rattle.std.proofs.Common.{◌⊎◌}
 use Rattle.std.specs.Prelude.{ℤ, pos, ◌+ℤ◌, ◌≤ℤ◌, ◌<ℤ◌, int_le, int_lt, IsTrue}
 use Rattle.std.proofs.lemmas.Int.{ints}
 use Rattle.vr_model.specs.tables.Numbers.{is_lex_le}
@@ -36,15 +37,27 @@ split_first : (x y : ℤ) → x ≤ℤ y → (x ≡ y) ⊎ (x <ℤ y)
 split_first x y h = Prim.grind (arith, ints)
 
 -- a box with one side more: its first entry is lo, or it lies in the box that begins one later
-later : (lo : ℤ) (n : ℕ) (box : List (ℤ × ℕ)) (y : ℤ) (ys : List ℤ) → InBox ((lo, suc n) ∷ box) (y ∷ ys) → lo <ℤ y → InBox ((lo +ℤ pos 1, n) ∷ box) (y ∷ ys)
+later : (lo : ℤ) (n : ℕ) (box : List (ℤ × ℕ)) (y : ℤ) (ys : List ℤ) → InBox ((lo, suc n) ∷ box) (y ∷ ys) → lo <ℤ y
+    → InBox ((lo +ℤ pos 1, n) ∷ box) (y ∷ ys)
 later lo n box y ys h more = ((omega (arith, ints, more), omega (arith, ints, h.0.1)), h.1)
 
-earlier : (lo : ℤ) (n : ℕ) (box : List (ℤ × ℕ)) (xs : List ℤ) → InBox ((lo +ℤ pos 1, n) ∷ box) xs → InBox ((lo, suc n) ∷ box) xs
+earlier : (lo : ℤ) (n : ℕ) (box : List (ℤ × ℕ)) (xs : List ℤ) → InBox ((lo +ℤ pos 1, n) ∷ box) xs
+    → InBox ((lo, suc n) ∷ box) xs
 earlier lo n box [] h = h
 earlier lo n box (x ∷ xs) h = ((omega (arith, ints, h.0.0), omega (arith, ints, h.0.1)), h.1)
 
-one_more : (box : List (ℤ × ℕ)) (lo : ℤ) (n : ℕ) (test : List ℤ → Bool) → Found box (λ xs. test (lo ∷ xs)) → Found ((lo +ℤ pos 1, n) ∷ box) test → Found ((lo, suc n) ∷ box) test
-one_more box lo n test (inl r) rest = inl (lo ∷ r.0, record { inside = ((omega (arith, ints), omega (arith, ints)), r.1.inside); passes = r.1.passes; least = least })
+one_more : (box : List (ℤ × ℕ)) (lo : ℤ) (n : ℕ) (test : List ℤ → Bool) → Found box (λ xs. test (lo ∷ xs))
+    → Found ((lo +ℤ pos 1, n) ∷ box) test → Found ((lo, suc n) ∷ box) test
+one_more box lo n test (inl r) rest =
+    inl (
+      lo ∷ r.0,
+      record {
+        inside =
+            ((omega (arith, ints), omega (arith, ints)), r.1.inside);
+        passes = r.1.passes;
+        least = least;
+      },
+    )
   where
     least : (ys : List ℤ) → InBox ((lo, suc n) ∷ box) ys → IsTrue (test ys) → IsTrue (is_lex_le (lo ∷ r.0) ys)
     least [] h t = absurd h
@@ -52,7 +65,8 @@ one_more box lo n test (inl r) rest = inl (lo ∷ r.0, record { inside = ((omega
       | inl e ↦ lex_same lo y r.0 ys e (r.1.least ys h.1 (subst (λ z. IsTrue (test (z ∷ ys))) (sym e) t))
       | inr more ↦ lex_first lo y r.0 ys more
     ]
-one_more box lo n test (inr none) (inl r) = inl (r.0, record { inside = earlier lo n box r.0 r.1.inside; passes = r.1.passes; least = least })
+one_more box lo n test (inr none) (inl r) =
+    inl (r.0, record { inside = earlier lo n box r.0 r.1.inside; passes = r.1.passes; least = least })
   where
     least : (ys : List ℤ) → InBox ((lo, suc n) ∷ box) ys → IsTrue (test ys) → IsTrue (is_lex_le r.0 ys)
     least [] h t = absurd h
@@ -73,9 +87,11 @@ no_entry : (lo : ℤ) (box : List (ℤ × ℕ)) (ys : List ℤ) → InBox ((lo, 
 no_entry lo box [] h = h
 no_entry lo box (y ∷ ys) h = omega (arith, ints, h.0.0, h.0.1)
 
-side_found : (box : List (ℤ × ℕ)) → ((test : List ℤ → Bool) → Found box test) → (n : ℕ) (lo : ℤ) (test : List ℤ → Bool) → Found ((lo, n) ∷ box) test
+side_found : (box : List (ℤ × ℕ)) → ((test : List ℤ → Bool) → Found box test) → (n : ℕ) (lo : ℤ) (test : List ℤ → Bool)
+    → Found ((lo, n) ∷ box) test
 side_found box sub zero lo test = inr (λ ys h t. no_entry lo box ys h)
-side_found box sub (suc n) lo test = one_more box lo n test (sub (λ xs. test (lo ∷ xs))) (side_found box sub n (lo +ℤ pos 1) test)
+side_found box sub (suc n) lo test =
+    one_more box lo n test (sub (λ xs. test (lo ∷ xs))) (side_found box sub n (lo +ℤ pos 1) test)
 
 empty_found : (test : List ℤ → Bool) (b : Bool) → test [] ≡ b → Found [] test
 empty_found test true e = inl ([], record { inside = tt; passes = e; least = λ ys h t. refl })

@@ -1,27 +1,32 @@
 -- Each line has a chosen schedule or is not feasible, and it has no two.
-use Rattle.std.proofs.Common.{◌≡◌, ℕ, zero, suc, ◌+◌, ◌<◌, Bool, true, ◌&&◌, List, [], ◌∷◌, ◌++◌, length, take, drop, refl, sym, ◌∙◌, ap, ap₂, subst, inl, inr, arith, ◌⊎◌}
-use Rattle.std.specs.Prelude.{ℤ, pos, negsuc, ◌+ℤ◌, ◌-ℤ◌, ◌≤ℤ◌, ◌<ℤ◌, map, IsTrue, slice_index_or, int_le, int_lt, ◌||◌}
+use Rattle.std.proofs.Common.{◌≡◌, ℕ, zero, suc, ◌+◌, ◌<◌, Bool, true, ◌&&◌, List, [], ◌∷◌, ◌++◌, length, take, drop}
+use Rattle.std.proofs.Common.{refl, sym, ◌∙◌, ap, subst, inl, inr, arith, ◌⊎◌}
+use Rattle.std.specs.Prelude.{ℤ, pos, negsuc, ◌+ℤ◌, ◌-ℤ◌, ◌≤ℤ◌, ◌<ℤ◌, map, IsTrue, slice_index_or}
 use Rattle.std.specs.List.{range_with_len}
 use Rattle.std.proofs.lemmas.Int.{ints}
-use Rattle.std.proofs.lemmas.List.{take_at, drop_at, take-append-drop, ext_get_or, length-map, length-append}
+use Rattle.std.proofs.lemmas.List.{take_at, drop_at, take-append-drop, ext_get_or, length-map}
 use Rattle.vr_model.specs.tables.Numbers.{number_at, below, within, horizon, is_lex_le}
 use Rattle.vr_model.specs.schedules.Lines.{Line}
-use Rattle.vr_model.specs.schedules.Schedules.{no_break, Plan, Sides, both_sides, KeepsRules, IsFeasible, IsChosen, is_no_later, cumul, arc_at}
+use Rattle.vr_model.specs.schedules.Schedules.{no_break, Plan, Sides, both_sides, KeepsRules, IsFeasible, IsChosen}
+use Rattle.vr_model.specs.schedules.Schedules.{is_no_later, cumul, arc_at}
 use Rattle.vr_model.specs.declared.records.BreakRow.{BreakRow}
-use Rattle.vr_model.specs.deciding.Testing.{and_left, and_right, and_both, or_cases, within_is, le_of_test}
+use Rattle.vr_model.specs.deciding.Testing.{and_left, and_right, and_both, within_is}
 use Rattle.vr_model.specs.deciding.ScheduleTests.{keeps_rules, keeps_rules-sound, keeps_rules-complete}
 use Rattle.vr_model.specs.deciding.Boxes.{InBox, Found, least_in_box}
 
 -- the slacks that cumuls leave
 abbrev slacks_of : Line → List ℤ → List ℤ
-slacks_of line cumuls = map (λ k. (number_at cumuls (suc k) -ℤ number_at cumuls k) -ℤ (arc_at line k).transit) (below (length line.arcs))
+slacks_of line cumuls =
+    map (λ k. (number_at cumuls (suc k) -ℤ number_at cumuls k) -ℤ (arc_at line k).transit) (below (length line.arcs))
 
 -- the plan of a list of cumuls and break starts
-abbrev plan_of : Line → List ℤ → Plan
-plan_of line key = let cumuls = take (length line.allowed) key in record { cumuls = cumuls; slacks = slacks_of line cumuls; breaks = drop (length line.allowed) key }
+abbrev pub plan_of : Line → List ℤ → Plan
+plan_of line key =
+    let cumuls = take (length line.allowed) key in
+    record { cumuls = cumuls; slacks = slacks_of line cumuls; breaks = drop (length line.allowed) key }
 
 -- the list by which plans are compared
-abbrev key_of : Plan → List ℤ
+abbrev pub key_of : Plan → List ℤ
 key_of plan = plan.cumuls ++ plan.breaks
 
 map_range : (f : ℕ → ℤ) (a n k : ℕ) → k < n → number_at (map f (range_with_len a n)) k ≡ f (a + k)
@@ -36,17 +41,24 @@ length_range a (suc n) = ap suc (length_range (a + 1) n)
 length_slacks : (line : Line) (cumuls : List ℤ) → length (slacks_of line cumuls) ≡ length line.arcs
 length_slacks line cumuls = length-map (below (length line.arcs)) _ ∙ length_range 0 (length line.arcs)
 
-slacks_determined : (sides : Sides) (line : Line) (plan : Plan) → KeepsRules sides line plan → slacks_of line plan.cumuls ≡ plan.slacks
+slacks_determined : (sides : Sides) (line : Line) (plan : Plan) → KeepsRules sides line plan
+    → slacks_of line plan.cumuls ≡ plan.slacks
 slacks_determined sides line plan s = ext_get_or (pos 0) _ _ (length_slacks line plan.cumuls ∙ sym s.slack_of_each_arc)
     (λ k low. let lt : k < length line.arcs = subst (λ n. k < n) (length_slacks line plan.cumuls) low in
-    map_range (λ k. (number_at plan.cumuls (suc k) -ℤ number_at plan.cumuls k) -ℤ (arc_at line k).transit) 0 (length line.arcs) k lt
-    ∙ (ap (λ k. (number_at plan.cumuls (suc k) -ℤ number_at plan.cumuls k) -ℤ (arc_at line k).transit) (omega arith) ∙ sym (s.slacks_left k lt)))
+    map_range (λ k. (number_at plan.cumuls (suc k) -ℤ number_at plan.cumuls k) -ℤ (arc_at line k).transit) 0
+    (length line.arcs) k lt
+    ∙ (ap (λ k. (number_at plan.cumuls (suc k) -ℤ number_at plan.cumuls k) -ℤ (arc_at line k).transit) (omega arith)
+    ∙ sym (s.slacks_left k lt)))
 
-plan_of-key : (sides : Sides) (line : Line) (plan : Plan) → KeepsRules sides line plan → plan_of line (key_of plan) ≡ plan
+pub plan_of-key : (sides : Sides) (line : Line) (plan : Plan) → KeepsRules sides line plan
+    → plan_of line (key_of plan) ≡ plan
 plan_of-key sides line plan s =
-    let c : take (length line.allowed) (key_of plan) ≡ plan.cumuls = take_at plan.cumuls plan.breaks _ s.cumul_of_each_stop in
-    let z : drop (length line.allowed) (key_of plan) ≡ plan.breaks = drop_at plan.cumuls plan.breaks _ s.cumul_of_each_stop in
-    let l : slacks_of line (take (length line.allowed) (key_of plan)) ≡ plan.slacks = ap (slacks_of line) c ∙ slacks_determined sides line plan s in
+    let c : take (length line.allowed)
+    (key_of plan) ≡ plan.cumuls = take_at plan.cumuls plan.breaks _ s.cumul_of_each_stop in
+    let z : drop (length line.allowed)
+    (key_of plan) ≡ plan.breaks = drop_at plan.cumuls plan.breaks _ s.cumul_of_each_stop in
+    let l : slacks_of line (take (length line.allowed) (key_of plan)) ≡ plan.slacks = ap (slacks_of line) c
+    ∙ slacks_determined sides line plan s in
     λ i. record { cumuls = c i; slacks = l i; breaks = z i }
 
 key-plan_of : (line : Line) (key : List ℤ) → key_of (plan_of line key) ≡ key
@@ -76,42 +88,55 @@ cumul_side test = (pos 0, count (horizon -ℤ pos 0))
 abbrev box_of : Line → List (ℤ × ℕ)
 box_of line = map cumul_side line.allowed ++ map side line.breaks
 
-joined : (first second : List (ℤ × ℕ)) (xs ys : List ℤ) → InBox first xs → InBox second ys → InBox (first ++ second) (xs ++ ys)
+joined : (first second : List (ℤ × ℕ)) (xs ys : List ℤ) → InBox first xs → InBox second ys
+    → InBox (first ++ second) (xs ++ ys)
 joined [] second [] ys h g = g
 joined [] second (x ∷ xs) ys h g = absurd h
 joined (s ∷ first) second [] ys h g = absurd h
 joined (s ∷ first) second (x ∷ xs) ys h g = (h.0, joined first second xs ys h.1 g)
 
-cumuls_in_box : (tests : List (ℤ → Bool)) (cs : List ℤ) → length cs ≡ length tests → ((k : ℕ) → k < length tests → IsTrue (within (pos 0) horizon (number_at cs k))) → InBox (map cumul_side tests) cs
+cumuls_in_box : (tests : List (ℤ → Bool)) (cs : List ℤ) → length cs ≡ length tests
+    → ((k : ℕ) → k < length tests → IsTrue (within (pos 0) horizon (number_at cs k))) → InBox (map cumul_side tests) cs
 cumuls_in_box [] [] e h = tt
 cumuls_in_box [] (c ∷ cs) e h = absurd (omega (arith, e))
 cumuls_in_box (t ∷ tests) [] e h = absurd (omega (arith, e))
 cumuls_in_box (t ∷ tests) (c ∷ cs) e h =
-    let b = within_is (pos 0) horizon c (h 0 (omega arith)) in
-    ((b.0, count_reaches (pos 0) horizon c b.0 b.1), cumuls_in_box tests cs (omega (arith, e)) (λ k low. h (suc k) (omega arith)))
+    let b = within_is (pos 0) horizon c (h 0 (omega arith)) in (
+      (b.0, count_reaches (pos 0) horizon c b.0 b.1),
+      cumuls_in_box tests cs (omega (arith, e))
+          (λ k low. h (suc k) (omega arith)),
+    )
 
 starts_in_box : (rows : List BreakRow) (zs : List ℤ) → length zs ≡ length rows
-    → ((i : ℕ) → i < length rows → ((slice_index_or rows i no_break).from ≤ℤ number_at zs i) × (number_at zs i ≤ℤ (slice_index_or rows i no_break).to))
+    → ((i : ℕ) → i < length rows → ((slice_index_or rows i no_break).from ≤ℤ number_at zs i)
+    × (number_at zs i ≤ℤ (slice_index_or rows i no_break).to))
     → InBox (map side rows) zs
 starts_in_box [] [] e h = tt
 starts_in_box [] (z ∷ zs) e h = absurd (omega (arith, e))
 starts_in_box (r ∷ rows) [] e h = absurd (omega (arith, e))
 starts_in_box (r ∷ rows) (z ∷ zs) e h =
-    let b = h 0 (omega arith) in
-    ((b.0, count_reaches r.from r.to z b.0 b.1), starts_in_box rows zs (omega (arith, e)) (λ k low. h (suc k) (omega arith)))
+    let b = h 0 (omega arith) in (
+      (b.0, count_reaches r.from r.to z b.0 b.1),
+      starts_in_box rows zs (omega (arith, e))
+          (λ k low. h (suc k) (omega arith)),
+    )
 
-key_in_box : (sides : Sides) (line : Line) (plan : Plan) → KeepsRules sides line plan → InBox (box_of line) (key_of plan)
+key_in_box : (sides : Sides) (line : Line) (plan : Plan) → KeepsRules sides line plan
+    → InBox (box_of line) (key_of plan)
 key_in_box sides line plan s = joined (map cumul_side line.allowed) (map side line.breaks) plan.cumuls plan.breaks
-    (cumuls_in_box line.allowed plan.cumuls s.cumul_of_each_stop (λ k low. and_left (within (pos 0) horizon (cumul plan k)) _ (s.cumuls_allowed k low)))
+    (cumuls_in_box line.allowed plan.cumuls s.cumul_of_each_stop
+    (λ k low. and_left (within (pos 0) horizon (cumul plan k)) _ (s.cumuls_allowed k low)))
     (starts_in_box line.breaks plan.breaks s.start_of_each_break s.breaks_in_range)
 
 -- the plan of a list keeps the rules and passes a further test
 abbrev key_test : Sides → (Plan → Bool) → Line → List ℤ → Bool
 key_test sides more line key = keeps_rules sides line (plan_of line key) && more (plan_of line key)
 
-key_passes : (sides : Sides) (more : Plan → Bool) (line : Line) (plan : Plan) → KeepsRules sides line plan → IsTrue (more plan) → IsTrue (key_test sides more line (key_of plan))
+key_passes : (sides : Sides) (more : Plan → Bool) (line : Line) (plan : Plan) → KeepsRules sides line plan
+    → IsTrue (more plan) → IsTrue (key_test sides more line (key_of plan))
 key_passes sides more line plan s m =
-    subst (λ p. IsTrue (keeps_rules sides line p && more p)) (sym (plan_of-key sides line plan s)) (and_both (keeps_rules sides line plan) (more plan) (keeps_rules-complete sides line plan s) m)
+    subst (λ p. IsTrue (keeps_rules sides line p && more p)) (sym (plan_of-key sides line plan s))
+    (and_both (keeps_rules sides line plan) (more plan) (keeps_rules-complete sides line plan s) m)
 
 -- the least plan that keeps the rules and passes a further test
 pub record IsLeastPlan (sides : Sides) (more : Plan → Bool) (line : Line) (plan : Plan) : Type 0 where
@@ -123,20 +148,25 @@ pub record IsLeastPlan (sides : Sides) (more : Plan → Bool) (line : Line) (pla
 abbrev pub NoPlan : Sides → (Plan → Bool) → Line → Type 0
 NoPlan sides more line = (other : Plan) → KeepsRules sides line other → IsTrue (more other) → ⊥
 
-plan_from : (sides : Sides) (more : Plan → Bool) (line : Line) → Found (box_of line) (key_test sides more line) → ((plan : Plan) × IsLeastPlan sides more line plan) ⊎ NoPlan sides more line
+plan_from : (sides : Sides) (more : Plan → Bool) (line : Line) → Found (box_of line) (key_test sides more line)
+    → ((plan : Plan) × IsLeastPlan sides more line plan) ⊎ NoPlan sides more line
 plan_from sides more line (inl r) = inl (
   plan_of line r.0,
   record {
-    keeps = keeps_rules-sound sides line (plan_of line r.0) (and_left (keeps_rules sides line (plan_of line r.0)) _ r.1.passes);
+    keeps = keeps_rules-sound sides line (plan_of line r.0)
+        (and_left (keeps_rules sides line (plan_of line r.0)) _ r.1.passes);
     passes = and_right (keeps_rules sides line (plan_of line r.0)) _ r.1.passes;
-    least = λ other s m. subst (λ key. IsTrue (is_lex_le key (key_of other))) (sym (key-plan_of line r.0)) (r.1.least (key_of other) (key_in_box sides line other s) (key_passes sides more line other s m));
+    least = λ other s m. subst (λ key. IsTrue (is_lex_le key (key_of other))) (sym (key-plan_of line r.0))
+        (r.1.least (key_of other) (key_in_box sides line other s) (key_passes sides more line other s m));
   },
 )
-plan_from sides more line (inr none) = inr (λ other s m. none (key_of other) (key_in_box sides line other s) (key_passes sides more line other s m))
+plan_from sides more line (inr none) =
+    inr (λ other s m. none (key_of other) (key_in_box sides line other s) (key_passes sides more line other s m))
 
 -- the least plan that keeps the rules and passes a further test, or that there is none: the plans that keep the rules
 -- lie in a finite box, which is searched
-pub find_plan : (sides : Sides) (more : Plan → Bool) (line : Line) → ((plan : Plan) × IsLeastPlan sides more line plan) ⊎ NoPlan sides more line
+pub find_plan : (sides : Sides) (more : Plan → Bool) (line : Line) → ((plan : Plan) × IsLeastPlan sides more line plan)
+    ⊎ NoPlan sides more line
 find_plan sides more line = plan_from sides more line (least_in_box (box_of line) (key_test sides more line))
 
 -- a line has a chosen schedule, or no schedule
@@ -145,33 +175,3 @@ find_chosen line = elim (find_plan both_sides (λ plan. true) line) [
   | inl r ↦ inl (r.0, record { schedule = r.1.keeps; least = λ other s. r.1.least other s refl })
   | inr none ↦ inr (λ f. none f.0 f.1 refl)
 ]
-
--- a list that comes no later than another of its length, and the other no later than it, is the other
-lex_both : (xs ys : List ℤ) → length xs ≡ length ys → IsTrue (is_lex_le xs ys) → IsTrue (is_lex_le ys xs) → xs ≡ ys
-lex_both [] [] e h g = refl
-lex_both [] (y ∷ ys) e h g = absurd (omega (arith, e))
-lex_both (x ∷ xs) [] e h g = absurd (omega (arith, e))
-lex_both (x ∷ xs) (y ∷ ys) e h g =
-    let r = first_entries x y (is_lex_le xs ys) (is_lex_le ys xs) h g in
-    let t : xs ≡ ys = lex_both xs ys (omega (arith, e)) r.1 r.2 in λ i. r.0 i ∷ t i
-  where
-    first_entries : (x y : ℤ) (b c : Bool) → IsTrue (int_lt x y || (int_le x y && b)) → IsTrue (int_lt y x || (int_le y x && c)) → (x ≡ y) × IsTrue b × IsTrue c
-    first_entries x y b c h g = elim (or_cases (int_lt x y) _ h) [
-      | inl l ↦ elim (or_cases (int_lt y x) _ g) [ inl m ↦ absurd (clash l m) | inr m ↦ absurd (clash_le x y l (and_left (int_le y x) c m)) ]
-      | inr l ↦ elim (or_cases (int_lt y x) _ g) [ inl m ↦ absurd (clash_le y x m (and_left (int_le x y) b l)) | inr m ↦ (same (and_left (int_le x y) b l) (and_left (int_le y x) c m), and_right (int_le x y) b l, and_right (int_le y x) c m) ]
-    ]
-      where
-        clash : IsTrue (int_lt x y) → IsTrue (int_lt y x) → ⊥
-        clash h g = Prim.grind (arith, ints)
-
-        clash_le : (u v : ℤ) → IsTrue (int_lt u v) → IsTrue (int_le v u) → ⊥
-        clash_le u v h g = Prim.grind (arith, ints)
-
-        same : IsTrue (int_le x y) → IsTrue (int_le y x) → x ≡ y
-        same h g = let a = le_of_test x y h in let b = le_of_test y x g in omega (arith, ints, a, b)
-
--- there is only one chosen schedule
-pub chosen_same : (line : Line) (p q : Plan) → IsChosen line p → IsChosen line q → p ≡ q
-chosen_same line p q cp cq =
-    let e : key_of p ≡ key_of q = lex_both (key_of p) (key_of q) (length-append p.cumuls p.breaks ∙ (ap₂ (λ m n. m + n) (cp.schedule.cumul_of_each_stop ∙ sym cq.schedule.cumul_of_each_stop) (cp.schedule.start_of_each_break ∙ sym cq.schedule.start_of_each_break) ∙ sym (length-append q.cumuls q.breaks))) (cp.least q cq.schedule) (cq.least p cp.schedule) in
-    sym (plan_of-key both_sides line p cp.schedule) ∙ (ap (plan_of line) e ∙ plan_of-key both_sides line q cq.schedule)

@@ -4,8 +4,12 @@ use Rattle.std.specs.Prelude.{pos, ◌-ℤ◌, int_le, ◌||◌, ◌==◌, IsTru
 use Rattle.std.specs.List.{list_all, list_any}
 use Rattle.vr_model.specs.tables.Numbers.{below, within, is_same_number}
 use Rattle.vr_model.specs.schedules.Lines.{Line}
-use Rattle.vr_model.specs.schedules.Schedules.{Plan, Sides, KeepsRules, cumul, slack, allows, arc_at, break_at, break_start, break_end, is_before, is_after, is_inside, break_time}
-use Rattle.vr_model.specs.deciding.Testing.{all_pass, each_passes, or_cases, list_all_range, list_all_places, le_of_test, any_place, eq_of_tests, eq_of_test, within_is, test_of_le, test_of_within, test_of_eq, tests_of_eq, range_list_all, places_list_all, range_list_any, all_passed, or_left, or_right}
+use Rattle.vr_model.specs.schedules.Schedules.{Plan, Sides, KeepsRules, cumul, slack, allows, arc_at, break_at}
+use Rattle.vr_model.specs.schedules.Schedules.{break_start, break_end, is_before, is_after, is_inside, break_time}
+use Rattle.vr_model.specs.deciding.Testing.{all_pass, each_passes, or_cases, list_all_range, list_all_places}
+use Rattle.vr_model.specs.deciding.Testing.{le_of_test, any_place, eq_of_tests, eq_of_test, within_is, test_of_le}
+use Rattle.vr_model.specs.deciding.Testing.{test_of_within, test_of_eq, tests_of_eq, range_list_all, places_list_all}
+use Rattle.vr_model.specs.deciding.Testing.{range_list_any, all_passed, or_left, or_right}
 
 -- the slack of arc k is what its cumuls leave over its transit
 abbrev pub slack_is : Line → Plan → ℕ → Bool
@@ -13,7 +17,9 @@ slack_is line plan k = is_same_number (slack plan k) ((cumul plan (suc k) -ℤ c
 
 -- break i stands before the first stop, after the last one, or inside an arc
 abbrev pub is_placed : Sides → Line → Plan → ℕ → Bool
-is_placed sides line plan i = (sides.may_precede && is_before line plan i) || ((sides.may_follow && is_after line plan i) || list_any (is_inside line plan i) (below (length line.arcs)))
+is_placed sides line plan i =
+    (sides.may_precede && is_before line plan i)
+    || ((sides.may_follow && is_after line plan i) || list_any (is_inside line plan i) (below (length line.arcs)))
 
 -- the rules of a schedule, each as a test, in the order in which the record has them
 abbrev pub rule_tests : Sides → Line → Plan → List Bool
@@ -24,7 +30,8 @@ rule_tests sides line plan =
     ∷ list_all (λ k. allows line k (cumul plan k)) (below (length line.allowed))
     ∷ list_all (slack_is line plan) (below (length line.arcs))
     ∷ list_all (λ k. within (pos 0) line.slack_max (slack plan k)) (below (length line.arcs))
-    ∷ list_all (λ i. within (break_at line i).from (break_at line i).to (break_start plan i)) (below (length line.breaks))
+    ∷ list_all (λ i. within (break_at line i).from (break_at line i).to (break_start plan i))
+    (below (length line.breaks))
     ∷ list_all (λ i. int_le (break_end line plan i) (break_start plan (suc i))) (below (length line.breaks - 1))
     ∷ list_all (is_placed sides line plan) (below (length line.breaks))
     ∷ list_all (λ k. int_le (break_time line plan k) (slack plan k)) (below (length line.arcs))
@@ -35,7 +42,8 @@ abbrev pub keeps_rules : Sides → Line → Plan → Bool
 keeps_rules sides line plan = all_pass (rule_tests sides line plan)
 
 -- the tests show the rules
-pub keeps_rules-sound : (sides : Sides) (line : Line) (plan : Plan) → IsTrue (keeps_rules sides line plan) → KeepsRules sides line plan
+pub keeps_rules-sound : (sides : Sides) (line : Line) (plan : Plan) → IsTrue (keeps_rules sides line plan)
+    → KeepsRules sides line plan
 keeps_rules-sound sides line plan h =
     let t = each_passes (rule_tests sides line plan) h in
     record {
@@ -44,24 +52,35 @@ keeps_rules-sound sides line plan h =
       start_of_each_break = eq_of_test _ _ t.1.1.0;
       cumuls_allowed = list_all_places line.allowed (λ k. allows line k (cumul plan k)) t.1.1.1.0;
       slacks_left = λ k low. eq_of_tests _ _ (list_all_places line.arcs (slack_is line plan) t.1.1.1.1.0 k low);
-      slacks_bounded = λ k low. within_is _ _ _ (list_all_places line.arcs (λ k. within (pos 0) line.slack_max (slack plan k)) t.1.1.1.1.1.0 k low);
-      breaks_in_range = λ i low. within_is _ _ _ (list_all_places line.breaks (λ i. within (break_at line i).from (break_at line i).to (break_start plan i)) t.1.1.1.1.1.1.0 i low);
-      breaks_in_order = λ i low. le_of_test _ _ (list_all_range (λ i. int_le (break_end line plan i) (break_start plan (suc i))) 0 (length line.breaks - 1) t.1.1.1.1.1.1.1.0 i (omega arith) (omega (arith, low)));
-      breaks_placed = λ i low. placed i (list_all_places line.breaks (is_placed sides line plan) t.1.1.1.1.1.1.1.1.0 i low);
-      slacks_carry_breaks = λ k low. le_of_test _ _ (list_all_places line.arcs (λ k. int_le (break_time line plan k) (slack plan k)) t.1.1.1.1.1.1.1.1.1.0 k low);
+      slacks_bounded = λ k low. within_is _ _ _
+          (list_all_places line.arcs (λ k. within (pos 0) line.slack_max (slack plan k)) t.1.1.1.1.1.0 k low);
+      breaks_in_range = λ i low. within_is _ _ _
+          (list_all_places line.breaks
+          (λ i. within (break_at line i).from (break_at line i).to (break_start plan i)) t.1.1.1.1.1.1.0 i low);
+      breaks_in_order = λ i low. le_of_test _ _
+          (list_all_range (λ i. int_le (break_end line plan i) (break_start plan (suc i))) 0
+          (length line.breaks - 1) t.1.1.1.1.1.1.1.0 i (omega arith) (omega (arith, low)));
+      breaks_placed =
+          λ i low. placed i (list_all_places line.breaks (is_placed sides line plan) t.1.1.1.1.1.1.1.1.0 i low);
+      slacks_carry_breaks = λ k low. le_of_test _ _
+          (list_all_places line.arcs (λ k. int_le (break_time line plan k) (slack plan k)) t.1.1.1.1.1.1.1.1.1.0 k low);
     }
   where
-    placed : (i : ℕ) → IsTrue (is_placed sides line plan i) → IsTrue (sides.may_precede && is_before line plan i) ⊎ IsTrue (sides.may_follow && is_after line plan i) ⊎ (k : ℕ) × (k < length line.arcs) × IsTrue (is_inside line plan i k)
+    placed : (i : ℕ) → IsTrue (is_placed sides line plan i) → IsTrue (sides.may_precede && is_before line plan i)
+        ⊎ IsTrue (sides.may_follow && is_after line plan i) ⊎ (k : ℕ) × (k < length line.arcs)
+        × IsTrue (is_inside line plan i k)
     placed i t = elim (or_cases (sides.may_precede && is_before line plan i) _ t) [
       | inl first ↦ inl first
       | inr rest ↦ elim (or_cases (sides.may_follow && is_after line plan i) _ rest) [
         | inl last ↦ inr (inl last)
-        | inr some ↦ (let r = any_place (is_inside line plan i) 0 (length line.arcs) some in inr (inr (r.0, omega (arith, r.2), r.3)))
+        | inr some ↦ (let r = any_place (is_inside line plan i) 0 (length line.arcs) some in inr
+            (inr (r.0, omega (arith, r.2), r.3)))
       ]
     ]
 
 -- the rules show the tests
-pub keeps_rules-complete : (sides : Sides) (line : Line) (plan : Plan) → KeepsRules sides line plan → IsTrue (keeps_rules sides line plan)
+pub keeps_rules-complete : (sides : Sides) (line : Line) (plan : Plan) → KeepsRules sides line plan
+    → IsTrue (keeps_rules sides line plan)
 keeps_rules-complete sides line plan r = all_passed (rule_tests sides line plan) (
   test_of_eq _ _ r.cumul_of_each_stop,
   (
@@ -73,15 +92,19 @@ keeps_rules-complete sides line plan r = all_passed (rule_tests sides line plan)
         (
           places_list_all line.arcs (slack_is line plan) (λ k low. tests_of_eq _ _ (r.slacks_left k low)),
           (
-            places_list_all line.arcs (λ k. within (pos 0) line.slack_max (slack plan k)) (λ k low. test_of_within _ _ _ (r.slacks_bounded k low).0 (r.slacks_bounded k low).1),
+            places_list_all line.arcs (λ k. within (pos 0) line.slack_max (slack plan k))
+                (λ k low. test_of_within _ _ _ (r.slacks_bounded k low).0 (r.slacks_bounded k low).1),
             (
-              places_list_all line.breaks (λ i. within (break_at line i).from (break_at line i).to (break_start plan i)) (λ i low. test_of_within _ _ _ (r.breaks_in_range i low).0 (r.breaks_in_range i low).1),
+              places_list_all line.breaks (λ i. within (break_at line i).from (break_at line i).to (break_start plan i))
+                  (λ i low. test_of_within _ _ _ (r.breaks_in_range i low).0 (r.breaks_in_range i low).1),
               (
-                range_list_all (λ i. int_le (break_end line plan i) (break_start plan (suc i))) 0 (length line.breaks - 1) (λ i low high. test_of_le _ _ (r.breaks_in_order i (omega (arith, high)))),
+                range_list_all (λ i. int_le (break_end line plan i) (break_start plan (suc i))) 0
+                    (length line.breaks - 1) (λ i low high. test_of_le _ _ (r.breaks_in_order i (omega (arith, high)))),
                 (
                   places_list_all line.breaks (is_placed sides line plan) (λ i low. placed i (r.breaks_placed i low)),
                   (
-                    places_list_all line.arcs (λ k. int_le (break_time line plan k) (slack plan k)) (λ k low. test_of_le _ _ (r.slacks_carry_breaks k low)),
+                    places_list_all line.arcs (λ k. int_le (break_time line plan k) (slack plan k))
+                        (λ k low. test_of_le _ _ (r.slacks_carry_breaks k low)),
                     tt,
                   ),
                 ),
@@ -94,7 +117,13 @@ keeps_rules-complete sides line plan r = all_passed (rule_tests sides line plan)
   ),
 )
   where
-    placed : (i : ℕ) → IsTrue (sides.may_precede && is_before line plan i) ⊎ IsTrue (sides.may_follow && is_after line plan i) ⊎ (k : ℕ) × (k < length line.arcs) × IsTrue (is_inside line plan i k) → IsTrue (is_placed sides line plan i)
+    placed : (i : ℕ) → IsTrue (sides.may_precede && is_before line plan i)
+        ⊎ IsTrue (sides.may_follow && is_after line plan i) ⊎ (k : ℕ) × (k < length line.arcs)
+        × IsTrue (is_inside line plan i k) → IsTrue (is_placed sides line plan i)
     placed i (inl first) = or_left (sides.may_precede && is_before line plan i) _ first
-    placed i (inr (inl last)) = or_right (sides.may_precede && is_before line plan i) _ (or_left (sides.may_follow && is_after line plan i) _ last)
-    placed i (inr (inr r)) = or_right (sides.may_precede && is_before line plan i) _ (or_right (sides.may_follow && is_after line plan i) _ (range_list_any (is_inside line plan i) 0 (length line.arcs) r.0 (omega arith) (omega (arith, r.1)) r.2))
+    placed i (inr (inl last)) =
+        or_right (sides.may_precede
+        && is_before line plan i) _ (or_left (sides.may_follow && is_after line plan i) _ last)
+    placed i (inr (inr r)) = or_right (sides.may_precede && is_before line plan i) _
+        (or_right (sides.may_follow && is_after line plan i) _
+        (range_list_any (is_inside line plan i) 0 (length line.arcs) r.0 (omega arith) (omega (arith, r.1)) r.2))

@@ -1,24 +1,11 @@
 -- Tests that compute, and the facts that they show.
-use Rattle.std.proofs.Common.{◌≡◌, ℕ, zero, suc, ◌+◌, ◌<◌, ◌≤◌, Bool, true, false, not, ◌&&◌, List, [], ◌∷◌, length, refl, subst, inl, inr, arith, ◌⊎◌}
+use Rattle.std.proofs.Common.{◌≡◌, ℕ, zero, suc, ◌+◌, ◌<◌, ◌≤◌, Bool, true, false, ◌&&◌, List, [], ◌∷◌, length}
+use Rattle.std.proofs.Common.{refl, subst, inl, inr, arith, ◌⊎◌}
 use Rattle.std.specs.Prelude.{ℤ, ◌≤ℤ◌, int_le, ◌||◌, IsTrue, EachIndex, ◌==◌}
 use Rattle.std.specs.List.{list_all, list_any, range_with_len}
 use Rattle.std.proofs.lemmas.Int.{ints}
 use Rattle.std.proofs.lemmas.Bool.{cases_lt}
 use Rattle.vr_model.specs.tables.Numbers.{below, within}
-
--- a test does not both pass and fail
-pub clash : (b : Bool) → b ≡ true → b ≡ false → ⊥
-clash b t f = Prim.cc
-
--- a test that cannot pass fails
-pub fails : (b : Bool) → (IsTrue b → ⊥) → b ≡ false
-fails true h = absurd (h refl)
-fails false h = refl
-
--- a test fails where its opposite passes
-pub fails_not : (b : Bool) → IsTrue (not b) → b ≡ false
-fails_not true h = absurd (clash false h refl)
-fails_not false h = refl
 
 pub and_left : (a b : Bool) → IsTrue (a && b) → IsTrue a
 and_left true b h = refl
@@ -45,7 +32,8 @@ or_right true b h = refl
 or_right false b h = h
 
 -- a test that passes on a range passes at each number of it
-pub list_all_range : (p : ℕ → Bool) (a n : ℕ) → IsTrue (list_all p (range_with_len a n)) → (k : ℕ) → a ≤ k → k < a + n → IsTrue (p k)
+pub list_all_range : (p : ℕ → Bool) (a n : ℕ) → IsTrue (list_all p (range_with_len a n)) → (k : ℕ) → a ≤ k → k < a + n
+    → IsTrue (p k)
 list_all_range p a zero h k low high = absurd (omega arith)
 list_all_range p a (suc n) h k low high =
     elim (cases_lt a k) [
@@ -54,7 +42,8 @@ list_all_range p a (suc n) h k low high =
     ]
 
 -- a test that passes at each place of a list
-pub list_all_places : {A : Type 0} (xs : List A) (p : ℕ → Bool) → IsTrue (list_all p (below (length xs))) → EachIndex xs (λ k. IsTrue (p k))
+pub list_all_places : {A : Type 0} (xs : List A) (p : ℕ → Bool) → IsTrue (list_all p (below (length xs)))
+    → EachIndex xs (λ k. IsTrue (p k))
 list_all_places xs p h k below_length = list_all_range p 0 (length xs) h k (omega arith) (omega arith)
 
 pub le_of_test : (x y : ℤ) → IsTrue (int_le x y) → x ≤ℤ y
@@ -67,7 +56,8 @@ pub eq_of_tests : (x y : ℤ) → IsTrue (within x x y) → x ≡ y
 eq_of_tests x y h = let b = within_is x x y h in omega (arith, ints, b.0, b.1)
 
 -- a test that passes somewhere on a range passes at some number of it
-pub any_place : (p : ℕ → Bool) (a n : ℕ) → IsTrue (list_any p (range_with_len a n)) → (k : ℕ) × (a ≤ k) × (k < a + n) × IsTrue (p k)
+pub any_place : (p : ℕ → Bool) (a n : ℕ) → IsTrue (list_any p (range_with_len a n)) → (k : ℕ) × (a ≤ k) × (k < a + n)
+    × IsTrue (p k)
 any_place p a zero h = absurd (let f : false ≡ true → ⊥ = λ e. Prim.cc in f h)
 any_place p a (suc n) h = elim (or_cases (p a) _ h) [
   | inl here ↦ (a, omega arith, omega arith, here)
@@ -103,14 +93,19 @@ test_of_eq m n h = Prim.grind arith
 pub tests_of_eq : (x y : ℤ) → x ≡ y → IsTrue (within x x y)
 tests_of_eq x y e = test_of_within x x y (omega (arith, ints)) (omega (arith, ints))
 
-pub range_list_all : (p : ℕ → Bool) (a n : ℕ) → ((k : ℕ) → a ≤ k → k < a + n → IsTrue (p k)) → IsTrue (list_all p (range_with_len a n))
+pub range_list_all : (p : ℕ → Bool) (a n : ℕ) → ((k : ℕ) → a ≤ k → k < a + n → IsTrue (p k))
+    → IsTrue (list_all p (range_with_len a n))
 range_list_all p a zero h = refl
-range_list_all p a (suc n) h = and_both (p a) _ (h a (omega arith) (omega arith)) (range_list_all p (a + 1) n (λ k low high. h k (omega arith) (omega arith)))
+range_list_all p a (suc n) h =
+    and_both (p a) _ (h a (omega arith) (omega arith))
+    (range_list_all p (a + 1) n (λ k low high. h k (omega arith) (omega arith)))
 
-pub places_list_all : {A : Type 0} (xs : List A) (p : ℕ → Bool) → EachIndex xs (λ k. IsTrue (p k)) → IsTrue (list_all p (below (length xs)))
+pub places_list_all : {A : Type 0} (xs : List A) (p : ℕ → Bool) → EachIndex xs (λ k. IsTrue (p k))
+    → IsTrue (list_all p (below (length xs)))
 places_list_all xs p h = range_list_all p 0 (length xs) (λ k low high. h k (omega arith))
 
-pub range_list_any : (p : ℕ → Bool) (a n k : ℕ) → a ≤ k → k < a + n → IsTrue (p k) → IsTrue (list_any p (range_with_len a n))
+pub range_list_any : (p : ℕ → Bool) (a n k : ℕ) → a ≤ k → k < a + n → IsTrue (p k)
+    → IsTrue (list_any p (range_with_len a n))
 range_list_any p a zero k low high h = absurd (omega arith)
 range_list_any p a (suc n) k low high h = elim (cases_lt a k) [
   | inl later ↦ or_right (p a) _ (range_list_any p (a + 1) n k (omega arith) (omega arith) h)

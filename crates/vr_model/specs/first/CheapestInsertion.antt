@@ -1,5 +1,6 @@
 -- The first solution by parallel cheapest insertion: the cheapest insertion of any item into any list is made first.
-use Rattle.std.specs.Prelude.{ℕ, zero, suc, List, [], ◌∷◌, map, length, filter, insert, slice_index, ℤ, pos, ◌-ℤ◌, Option, Some, None}
+use Rattle.std.specs.Prelude.{ℕ, zero, suc, List, [], ◌∷◌, map, length, filter, insert, slice_index, ℤ, pos, ◌-ℤ◌}
+use Rattle.std.specs.Prelude.{Option, Some, None}
 use Rattle.vr_model.specs.tables.Numbers.{from_to, each}
 use Rattle.vr_model.specs.routes.Routes.{route, route_cost, vehicles}
 use Rattle.vr_model.specs.moves.Moves.{with_route, with_pair, gaps}
@@ -16,12 +17,14 @@ pub record Insertion : Type 0 where
 
 -- a list after an insertion
 abbrev pub inserted_in : List ℕ → List ℕ → List ℕ → List ℕ
-inserted_in list (pickup ∷ delivery ∷ []) (s ∷ t ∷ []) = with_pair (record { pickup = pickup; delivery = delivery }) s t list
+inserted_in list (pickup ∷ delivery ∷ []) (s ∷ t ∷ []) =
+    with_pair (record { pickup = pickup; delivery = delivery }) s t list
 inserted_in list item places = insert list (slice_index places 0) (first_node item)
 
 -- the lists after an insertion
 abbrev pub inserted : List (List ℕ) → Insertion → List (List ℕ)
-inserted lists insertion = with_route lists insertion.vehicle (inserted_in (route lists insertion.vehicle) insertion.item insertion.places)
+inserted lists insertion =
+    with_route lists insertion.vehicle (inserted_in (route lists insertion.vehicle) insertion.item insertion.places)
 
 -- the places of an item in a list
 abbrev pub places_for : List ℕ → List ℕ → List (List ℕ)
@@ -41,16 +44,20 @@ increase model lists insertion = let v = insertion.vehicle in
 -- insertions are taken by class, then by increase, then by the number of the item, the vehicle and the places
 abbrev pub insertion_key : Model → List (List ℕ) → Insertion → List ℤ
 insertion_key model lists insertion =
-    pos (class model insertion.item) ∷ increase model lists insertion ∷ pos (first_node insertion.item) ∷ pos insertion.vehicle ∷ map pos insertion.places
+    pos (class model insertion.item) ∷ increase model lists insertion ∷ pos (first_node insertion.item)
+    ∷ pos insertion.vehicle ∷ map pos insertion.places
 
 -- the insertion to make, if any may be made
 abbrev pub next_inserted : Model → List (List ℕ) → Option Insertion
-next_inserted model lists = least_by (insertion_key model lists) (filter (λ insertion. is_open model (inserted lists insertion)) (insertions model lists))
+next_inserted model lists =
+    let open_ones = filter (λ insertion. is_open model (inserted lists insertion)) (insertions model lists) in
+    least_by (insertion_key model lists) open_ones
 
 -- items are inserted as long as one may be, at most so many
 abbrev pub rebuilt : Model → ℕ → List (List ℕ) → List (List ℕ)
 rebuilt model zero lists = lists
-rebuilt model (suc more) lists = elim (next_inserted model lists) [ None ↦ lists | Some insertion ↦ rebuilt model more (inserted lists insertion) ]
+rebuilt model (suc more) lists =
+    elim (next_inserted model lists) [ None ↦ lists | Some insertion ↦ rebuilt model more (inserted lists insertion) ]
 
 -- items are inserted into empty lists; no more can be inserted than there are
 abbrev pub parallel_cheapest_insertion : Model → List (List ℕ)

@@ -1,5 +1,6 @@
 -- Items, which the constructions place: a visit in no pair, or a pair.
-use Rattle.std.specs.Prelude.{ℕ, ◌-◌, Bool, true, false, cond, not, ◌&&◌, ◌||◌, ◌==◌, List, [], ◌∷◌, length, filter, find, replicate, slice_index, Option, Some, None, fold, min, ℤ}
+use Rattle.std.specs.Prelude.{ℕ, ◌-◌, Bool, true, false, cond, not, ◌&&◌, ◌||◌, ◌==◌, List, [], ◌∷◌, length, filter}
+use Rattle.std.specs.Prelude.{find, replicate, slice_index, Option, Some, None, fold, min, ℤ}
 use Rattle.std.specs.List.{list_any}
 use Rattle.vr_model.specs.tables.Numbers.{each}
 use Rattle.vr_model.specs.tables.Tables.{visits}

@@ -19,17 +19,21 @@ tail_node model lists v = cond (is_empty (route lists v)) (vehicle_at model v).s
 
 -- items are taken by class, then by the cost of the arc to their first node, then by number
 abbrev pub append_key : Model → List (List ℕ) → ℕ → List ℕ → List ℤ
-append_key model lists v item = pos (class model item) ∷ arc_cost model v (tail_node model lists v) (first_node item) ∷ pos (first_node item) ∷ []
+append_key model lists v item =
+    pos (class model item) ∷ arc_cost model v (tail_node model lists v) (first_node item) ∷ pos (first_node item) ∷ []
 
 -- the unplaced item to append to the list of vehicle v, if any may be appended
 abbrev pub next_appended : Model → List (List ℕ) → ℕ → Option (List ℕ)
-next_appended model lists v = least_by (append_key model lists v) (filter (λ item. is_open model (appended lists v item)) (unplaced model lists))
+next_appended model lists v =
+    least_by (append_key model lists v) (filter (λ item. is_open model (appended lists v item)) (unplaced model lists))
 
 -- items are appended to the list of vehicle v as long as one may be, at most so many
 abbrev pub filled : Model → ℕ → ℕ → List (List ℕ) → List (List ℕ)
 filled model v zero lists = lists
-filled model v (suc more) lists = elim (next_appended model lists v) [ None ↦ lists | Some item ↦ filled model v more (appended lists v item) ]
+filled model v (suc more) lists =
+    elim (next_appended model lists v) [ None ↦ lists | Some item ↦ filled model v more (appended lists v item) ]
 
 -- the lists of each vehicle in turn are filled; no more items can be appended than there are
 abbrev pub path_cheapest_arc : Model → List (List ℕ)
-path_cheapest_arc model = fold (λ lists v. filled model v (length (items model)) lists) (empty_lists model) (below (length model.vehicles))
+path_cheapest_arc model =
+    fold (λ lists v. filled model v (length (items model)) lists) (empty_lists model) (below (length model.vehicles))

@@ -1,6 +1,7 @@
 -- The first solution by savings: each item begins as a route of its own, and routes are joined where that saves most.
 -- All vehicles are alike, so routes are judged as lists of vehicle 0.
-use Rattle.std.specs.Prelude.{ℕ, zero, suc, Bool, true, false, cond, not, ◌&&◌, ◌||◌, ◌==◌, nat_lt, List, [], ◌∷◌, ◌++◌, map, length, filter, take, ℤ, pos, ◌+ℤ◌, ◌-ℤ◌, neg_ℤ, int_lt, Some, None}
+use Rattle.std.specs.Prelude.{ℕ, zero, suc, Bool, true, false, cond, not, ◌&&◌, ◌||◌, ◌==◌, nat_lt, List, [], ◌∷◌, ◌++◌}
+use Rattle.std.specs.Prelude.{map, length, filter, take, ℤ, pos, ◌+ℤ◌, ◌-ℤ◌, neg_ℤ, int_lt, Some, None}
 use Rattle.std.specs.List.{list_all}
 use Rattle.vr_model.specs.tables.Numbers.{from_to, each}
 use Rattle.vr_model.specs.tables.Tables.{vehicle_at, arc_cost, visits}
@@ -20,7 +21,8 @@ may_begin model routes item = is_route_open model 0 item && list_all (fits_group
 -- each item in turn becomes a route where it may, behind the routes so far; the others are left out
 abbrev pub single_routes : Model → List (List ℕ) → List (List ℕ) → List (List ℕ)
 single_routes model routes [] = routes
-single_routes model routes (item ∷ rest) = single_routes model (cond (may_begin model routes item) (routes ++ item ∷ []) routes) rest
+single_routes model routes (item ∷ rest) =
+    single_routes model (cond (may_begin model routes item) (routes ++ item ∷ []) routes) rest
 
 -- two routes to be joined, the one behind the other
 pub record Join : Type 0 where
@@ -33,7 +35,9 @@ joined_route join = join.front ++ join.back
 
 -- what a join saves: the arcs to the end and from the start, less the arc between the two routes
 abbrev pub saving : Model → Join → ℤ
-saving model join = (arc_cost model 0 (last_node join.front) (vehicle_at model 0).end +ℤ arc_cost model 0 (vehicle_at model 0).start (first_node join.back))
+saving model join =
+    (arc_cost model 0 (last_node join.front) (vehicle_at model 0).end
+    +ℤ arc_cost model 0 (vehicle_at model 0).start (first_node join.back))
     -ℤ arc_cost model 0 (last_node join.front) (first_node join.back)
 
 -- two distinct routes whose joined route is open
@@ -42,7 +46,8 @@ may_join model join = not (first_node join.front == first_node join.back) && is_
 
 -- the joins that may be made
 abbrev pub joins : Model → List (List ℕ) → List Join
-joins model routes = filter (may_join model) (each routes λ front. map (λ back. record { front = front; back = back }) routes)
+joins model routes =
+    filter (may_join model) (each routes λ front. map (λ back. record { front = front; back = back }) routes)
 
 -- the greatest saving comes first, then the least last node in front, then the least first node behind
 abbrev pub join_key : Model → Join → List ℤ
@@ -73,7 +78,9 @@ merged model (suc more) routes = elim (least_by (join_key model) (joins model ro
 
 -- the routes by least class, and then by first node
 abbrev pub ranked : Model → List (List ℕ) → List (List ℕ)
-ranked model routes = each (from_to 0 3) λ c. each (visits model) λ node. filter (λ list. (class model list == c) && (first_node list == node)) routes
+ranked model routes =
+    each (from_to 0 3) λ c. each (visits model) λ node. filter (λ list. (class model list == c)
+    && (first_node list == node)) routes
 
 -- the first routes become the lists of the vehicles in turn; each join leaves one route less, so no more joins can be
 -- made than there are routes

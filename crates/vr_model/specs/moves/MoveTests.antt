@@ -3,10 +3,13 @@ use Rattle.std.specs.Prelude.{ℕ, ◌-◌, Bool, not, ◌&&◌, ◌||◌, ◌==
 use Rattle.std.specs.List.{Contains}
 use Rattle.vr_model.specs.tables.Tables.{pair_at, is_visit}
 use Rattle.vr_model.specs.routes.Routes.{route, is_active}
-use Rattle.vr_model.specs.moves.Moves.{without_pair, is_pair_served, is_pair_together, is_pair_inactive, has_chain, is_other, has_some_front, changes_the_list, all_neighbourhoods, moves_over}
+use Rattle.vr_model.specs.moves.Moves.{without_pair, is_pair_served, is_pair_together, is_pair_inactive, has_chain}
+use Rattle.vr_model.specs.moves.Moves.{is_other, has_some_front, changes_the_list, all_neighbourhoods, moves_over}
 use Rattle.vr_model.specs.declared.records.Model.{Model}
 use Rattle.vr_model.specs.declared.neighbours.Move.{Move}
-use Rattle.vr_model.specs.declared.neighbours.Move.TheVariants.{TwoOpt, OrOpt, Relocate, Exchange, Cross, RelocatePair, PairActive, PairInactive, MakeActive, MakeInactive, SwapActive}
+use Rattle.vr_model.specs.declared.neighbours.Move.TheVariants.{TwoOpt, OrOpt, Relocate, Exchange, Cross, RelocatePair}
+use Rattle.vr_model.specs.declared.neighbours.Move.TheVariants.{PairActive, PairInactive, MakeActive, MakeInactive}
+use Rattle.vr_model.specs.declared.neighbours.Move.TheVariants.{SwapActive}
 
 -- v is a vehicle of the lists
 abbrev pub is_vehicle : List (List ℕ) → ℕ → Bool
@@ -32,13 +35,21 @@ may_put_pair model lists p w n s t = nat_lt p (length model.pairs) && (is_vehicl
 abbrev pub is_move : Model → List (List ℕ) → Move → Bool
 is_move model lists (TwoOpt v a b) = is_vehicle lists v && (nat_lt a b && is_place lists v b)
 is_move model lists (OrOpt v a k t) = is_vehicle lists v
-    && ((nat_le 1 k && nat_le k 3) && (has_chain (route lists v) a k && (nat_le t (length (route lists v) - k) && is_other a t)))
-is_move model lists (Relocate v a w t) = is_vehicle lists v && (is_vehicle lists w && (is_other v w && (is_place lists v a && is_gap lists w t)))
-is_move model lists (Exchange v a w b) = is_vehicle lists v && (is_vehicle lists w && (is_place lists v a && (is_place lists w b && (nat_lt v w || ((v == w) && nat_lt a b)))))
-is_move model lists (Cross v a w b) = is_vehicle lists w && (nat_lt v w && (is_gap lists v a && (is_gap lists w b && has_some_front a b)))
+    && ((nat_le 1 k && nat_le k 3)
+    && (has_chain (route lists v) a k && (nat_le t (length (route lists v) - k) && is_other a t)))
+is_move model lists (Relocate v a w t) =
+    is_vehicle lists v && (is_vehicle lists w && (is_other v w && (is_place lists v a && is_gap lists w t)))
+is_move model lists (Exchange v a w b) =
+    is_vehicle lists v
+    && (is_vehicle lists w && (is_place lists v a && (is_place lists w b && (nat_lt v w || ((v == w) && nat_lt a b)))))
+is_move model lists (Cross v a w b) =
+    is_vehicle lists w && (nat_lt v w && (is_gap lists v a && (is_gap lists w b && has_some_front a b)))
 is_move model lists (RelocatePair p w s t) = let rest = without_pair (pair_at model p) (route lists w) in
-    is_pair_served model lists p && (may_put_pair model lists p w (length rest) s t && changes_the_list (pair_at model p) (route lists w) rest s t)
-is_move model lists (PairActive p w s t) = is_pair_inactive model lists p && may_put_pair model lists p w (length (route lists w)) s t
+    is_pair_served model lists p
+    && (may_put_pair model lists p w (length rest) s t
+    && changes_the_list (pair_at model p) (route lists w) rest s t)
+is_move model lists (PairActive p w s t) =
+    is_pair_inactive model lists p && may_put_pair model lists p w (length (route lists w)) s t
 is_move model lists (PairInactive p) = nat_lt p (length model.pairs) && is_pair_together model lists p
 is_move model lists (MakeActive u w t) = is_inactive model lists u && (is_vehicle lists w && is_gap lists w t)
 is_move model lists (MakeInactive v a) = is_vehicle lists v && is_place lists v a
@@ -46,4 +57,6 @@ is_move model lists (SwapActive v a u) = is_vehicle lists v && (is_place lists v
 
 -- the test passes exactly at the moves of all neighbourhoods
 abbrev pub MovesAsTested : Type 0
-MovesAsTested = (model : Model) (lists : List (List ℕ)) (mv : Move) → Contains (moves_over model all_neighbourhoods lists) mv ↔ IsTrue (is_move model lists mv)
+MovesAsTested =
+    (model : Model) (lists : List (List ℕ)) (mv : Move) → Contains (moves_over model all_neighbourhoods lists) mv
+    ↔ IsTrue (is_move model lists mv)

@@ -1,5 +1,7 @@
 -- Moves from lists to neighbouring lists: what the lists are after one, and the list of all moves of given lists.
-use Rattle.std.specs.Prelude.{ℕ, suc, ◌+◌, ◌-◌, Bool, false, cond, not, ◌&&◌, ◌||◌, ◌==◌, nat_le, List, [], ◌∷◌, ◌++◌, map, reverse, length, take, drop, filter, insert, remove, slice_index, slice_range, slice_set}
+use Rattle.std.specs.Prelude.{ℕ, suc, ◌+◌, ◌-◌, Bool, false, cond, not, ◌&&◌, ◌||◌, ◌==◌, nat_le, List, [], ◌∷◌, ◌++◌}
+use Rattle.std.specs.Prelude.{map, reverse, length, take, drop, filter, insert, remove, slice_index, slice_range}
+use Rattle.std.specs.Prelude.{slice_set}
 use Rattle.std.specs.List.{list_any}
 use Rattle.vr_model.specs.tables.Numbers.{below, from_to, each}
 use Rattle.vr_model.specs.tables.Tables.{pair_at}
@@ -7,7 +9,9 @@ use Rattle.vr_model.specs.routes.Routes.{route, holds, is_same, vehicles, is_act
 use Rattle.vr_model.specs.declared.records.Model.{Model}
 use Rattle.vr_model.specs.declared.records.Pair.{Pair}
 use Rattle.vr_model.specs.declared.neighbours.Move.{Move}
-use Rattle.vr_model.specs.declared.neighbours.Move.TheVariants.{TwoOpt, OrOpt, Relocate, Exchange, Cross, RelocatePair, PairActive, PairInactive, MakeActive, MakeInactive, SwapActive}
+use Rattle.vr_model.specs.declared.neighbours.Move.TheVariants.{TwoOpt, OrOpt, Relocate, Exchange, Cross, RelocatePair}
+use Rattle.vr_model.specs.declared.neighbours.Move.TheVariants.{PairActive, PairInactive, MakeActive, MakeInactive}
+use Rattle.vr_model.specs.declared.neighbours.Move.TheVariants.{SwapActive}
 use Rattle.vr_model.specs.declared.neighbours.Neighbourhood.{Neighbourhood}
 use Rattle.vr_model.specs.declared.neighbours.Neighbourhood.TheVariants as all
 
@@ -25,7 +29,8 @@ reversed_between list a b = take a list ++ (reverse (slice_range list a b) ++ dr
 
 -- the k nodes from place a on are taken out together, and put before place t of the rest
 abbrev pub chain_moved : List ℕ → ℕ → ℕ → ℕ → List ℕ
-chain_moved list a k t = let rest = take a list ++ drop (a + k) list in take t rest ++ (slice_range list a (a + k) ++ drop t rest)
+chain_moved list a k t =
+    let rest = take a list ++ drop (a + k) list in take t rest ++ (slice_range list a (a + k) ++ drop t rest)
 
 -- the list without the nodes of a pair
 abbrev pub without_pair : Pair → List ℕ → List ℕ
@@ -39,13 +44,17 @@ with_pair pair s t list = take s list ++ (pair.pickup ∷ (slice_range list s t 
 abbrev pub apply : Model → List (List ℕ) → Move → List (List ℕ)
 apply model lists (TwoOpt v a b) = with_route lists v (reversed_between (route lists v) a (suc b))
 apply model lists (OrOpt v a k t) = with_route lists v (chain_moved (route lists v) a k t)
-apply model lists (Relocate v a w t) = with_route (with_route lists v (remove (route lists v) a)) w (insert (route lists w) t (node_at (route lists v) a))
+apply model lists (Relocate v a w t) =
+    with_route (with_route lists v (remove (route lists v) a)) w (insert (route lists w) t (node_at (route lists v) a))
 apply model lists (Exchange v a w b) =
     let first = with_route lists v (slice_set (route lists v) a (node_at (route lists w) b)) in
     with_route first w (slice_set (route first w) b (node_at (route lists v) a))
 apply model lists (Cross v a w b) =
-    with_route (with_route lists v (take b (route lists w) ++ drop a (route lists v))) w (take a (route lists v) ++ drop b (route lists w))
-apply model lists (RelocatePair p w s t) = let rest = map (without_pair (pair_at model p)) lists in with_route rest w (with_pair (pair_at model p) s t (route rest w))
+    with_route (with_route lists v (take b (route lists w) ++ drop a (route lists v))) w (take a (route lists v)
+    ++ drop b (route lists w))
+apply model lists (RelocatePair p w s t) =
+    let rest = map (without_pair (pair_at model p)) lists in
+    with_route rest w (with_pair (pair_at model p) s t (route rest w))
 apply model lists (PairActive p w s t) = with_route lists w (with_pair (pair_at model p) s t (route lists w))
 apply model lists (PairInactive p) = map (without_pair (pair_at model p)) lists
 apply model lists (MakeActive u w t) = with_route lists w (insert (route lists w) t u)
@@ -59,15 +68,18 @@ comes_before (z ∷ zs) x y = cond (z == x) (holds zs y) (comes_before zs x y)
 
 -- both nodes of pair p stand in one list, and the pickup comes first
 abbrev pub is_pair_served : Model → List (List ℕ) → ℕ → Bool
-is_pair_served model lists p = list_any (λ list. comes_before list (pair_at model p).pickup (pair_at model p).delivery) lists
+is_pair_served model lists p =
+    list_any (λ list. comes_before list (pair_at model p).pickup (pair_at model p).delivery) lists
 
 -- both nodes of pair p stand in one list
 abbrev pub is_pair_together : Model → List (List ℕ) → ℕ → Bool
-is_pair_together model lists p = list_any (λ list. holds list (pair_at model p).pickup && holds list (pair_at model p).delivery) lists
+is_pair_together model lists p =
+    list_any (λ list. holds list (pair_at model p).pickup && holds list (pair_at model p).delivery) lists
 
 -- neither node of pair p is active
 abbrev pub is_pair_inactive : Model → List (List ℕ) → ℕ → Bool
-is_pair_inactive model lists p = not (is_active lists (pair_at model p).pickup) && not (is_active lists (pair_at model p).delivery)
+is_pair_inactive model lists p =
+    not (is_active lists (pair_at model p).pickup) && not (is_active lists (pair_at model p).delivery)
 
 -- the places of a list
 abbrev pub places : List ℕ → List ℕ
@@ -89,13 +101,18 @@ has_chain list a k = nat_le (a + k) (length list)
 abbrev pub is_other : ℕ → ℕ → Bool
 is_other x y = not (x == y)
 
--- one of the two is not 0
+-- some visit stands before place a of one list or before place b of another: a cross of two empty fronts changes
+-- nothing
 abbrev pub has_some_front : ℕ → ℕ → Bool
 has_some_front a b = not ((a == 0) && (b == 0))
 
 -- the places from a on of list v that an exchange may have in list w: in the same list only those behind a
 abbrev pub places_behind : List (List ℕ) → ℕ → ℕ → ℕ → List ℕ
 places_behind lists v a w = from_to (cond (v == w) (suc a) 0) (length (route lists w))
+
+-- the places before which the delivery of a pair can be put, where its pickup is put before place s
+abbrev pub gaps_from : List ℕ → ℕ → List ℕ
+gaps_from list s = from_to s (suc (length list))
 
 -- the pair is not where it would be put
 abbrev pub changes_the_list : Pair → List ℕ → List ℕ → ℕ → ℕ → Bool
@@ -122,19 +139,22 @@ moves_in model lists all.Cross =
 moves_in model lists all.RelocatePair =
     each (filter (is_pair_served model lists) (pairs model)) λ p.
     each (vehicles lists) λ w. let rest = without_pair (pair_at model p) (route lists w) in
-    each (gaps rest) λ s. map (RelocatePair p w s) (filter (changes_the_list (pair_at model p) (route lists w) rest s) (from_to s (suc (length rest))))
+    each (gaps rest) λ s. map (RelocatePair p w s)
+    (filter (changes_the_list (pair_at model p) (route lists w) rest s) (gaps_from rest s))
 moves_in model lists all.PairActive =
     each (filter (is_pair_inactive model lists) (pairs model)) λ p.
-    each (vehicles lists) λ w. each (gaps (route lists w)) λ s. map (PairActive p w s) (from_to s (suc (length (route lists w))))
+    each (vehicles lists) λ w. each (gaps (route lists w)) λ s. map (PairActive p w s) (gaps_from (route lists w) s)
 moves_in model lists all.PairInactive = map PairInactive (filter (is_pair_together model lists) (pairs model))
-moves_in model lists all.MakeActive = each (inactive model lists) λ u. each (vehicles lists) λ w. map (MakeActive u w) (gaps (route lists w))
+moves_in model lists all.MakeActive =
+    each (inactive model lists) λ u. each (vehicles lists) λ w. map (MakeActive u w) (gaps (route lists w))
 moves_in model lists all.MakeInactive = each (vehicles lists) λ v. map (MakeInactive v) (places (route lists v))
 moves_in model lists all.SwapActive =
     each (vehicles lists) λ v. each (places (route lists v)) λ a. map (SwapActive v a) (inactive model lists)
 
 -- all neighbourhoods, in the order in which a model has them that names none
 abbrev pub all_neighbourhoods : List Neighbourhood
-all_neighbourhoods = all.TwoOpt ∷ all.OrOpt ∷ all.Relocate ∷ all.Exchange ∷ all.Cross ∷ all.RelocatePair ∷ all.PairActive
+all_neighbourhoods =
+    all.TwoOpt ∷ all.OrOpt ∷ all.Relocate ∷ all.Exchange ∷ all.Cross ∷ all.RelocatePair ∷ all.PairActive
     ∷ all.PairInactive ∷ all.MakeActive ∷ all.MakeInactive ∷ all.SwapActive ∷ []
 
 -- the moves of given neighbourhoods, joined in the order in which they are given

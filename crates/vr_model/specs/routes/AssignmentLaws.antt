@@ -11,11 +11,13 @@ use Rattle.vr_model.specs.declared.records.Model.{Model}
 pub record HasPlans (model : Model) (assignment : Assignment) : Type 0 where
   pub of_each_vehicle : length assignment.plans ≡ length assignment.lists
   pub in_each_dimension : (v : ℕ) → v < length assignment.lists
-      → length (slice_index_or assignment.plans v []) ≡ cond (is_empty (route assignment.lists v)) 0 (length model.dimensions)
+      → length (slice_index_or assignment.plans v [])
+      ≡ cond (is_empty (route assignment.lists v)) 0 (length model.dimensions)
 
 -- each plan of an assignment is a schedule of its line
 abbrev pub MeetsItsLines : Model → Assignment → Type 0
-MeetsItsLines model assignment = (d v : ℕ) → d < length model.dimensions → v < length assignment.lists → is_empty (route assignment.lists v) ≡ false
+MeetsItsLines model assignment =
+    (d v : ℕ) → d < length model.dimensions → v < length assignment.lists → is_empty (route assignment.lists v) ≡ false
     → IsSchedule (line model d v (route assignment.lists v)) (plan_at assignment d v)
 
 -- the plans that are chosen for lists are as many as an assignment has
@@ -24,4 +26,5 @@ ChosenPlansAreThere = (model : Model) (lists : List (List ℕ)) → HasPlans mod
 
 -- open lists at their chosen schedules meet their lines
 abbrev pub OpenMeetsItsLines : Type 0
-OpenMeetsItsLines = (model : Model) (lists : List (List ℕ)) → IsTrue (is_open model lists) → MeetsItsLines model (assigned model lists)
+OpenMeetsItsLines =
+    (model : Model) (lists : List (List ℕ)) → IsTrue (is_open model lists) → MeetsItsLines model (assigned model lists)

@@ -1,5 +1,6 @@
 -- The six parts of the cost of an assignment, and the cost of lists at their chosen schedules.
-use Rattle.std.specs.Prelude.{ℕ, suc, List, [], ◌∷◌, map, length, slice_index_or, ℤ, pos, ◌-ℤ◌, ◌*ℤ◌, Option, Some, None, unwrap_or, fold}
+use Rattle.std.specs.Prelude.{ℕ, suc, List, [], ◌∷◌, map, length, slice_index_or, ℤ, pos, ◌-ℤ◌, ◌*ℤ◌, Option, Some}
+use Rattle.std.specs.Prelude.{None, unwrap_or, fold}
 use Rattle.std.specs.List.{zip}
 use Rattle.std.specs.Int.{int_max, int_min}
 use Rattle.vr_model.specs.tables.Numbers.{number_at, total, total_by, below}
@@ -54,11 +55,15 @@ fixed_part model lists = total_by (λ v. (vehicle_at model v).fixed) (used_vehic
 
 -- from the least start to the greatest end of the used vehicles in dimension d, 0 where none is used
 abbrev pub global_span : Assignment → ℕ → ℤ
-global_span assignment d = let used = used_vehicles assignment.lists in greatest (map (end_at assignment d) used) -ℤ least (map (start_at assignment d) used)
+global_span assignment d =
+    let used = used_vehicles assignment.lists in
+    greatest (map (end_at assignment d) used) -ℤ least (map (start_at assignment d) used)
 
 -- for each dimension, its coefficient times the global span
 abbrev pub global_part : Model → Assignment → ℤ
-global_part model assignment = total_by (λ d. (dimension_at model d).global_span_cost *ℤ global_span assignment d) (below (length model.dimensions))
+global_part model assignment =
+    total_by (λ d. (dimension_at model d).global_span_cost *ℤ global_span assignment d)
+    (below (length model.dimensions))
 
 -- what a group costs with this many active nodes: nothing without a penalty
 abbrev pub penalty_for : Option ℤ → ℕ → ℕ → ℤ
@@ -81,7 +86,8 @@ row_cost (Some row) x = soft_cost row.soft x
 
 -- a sum over the used vehicles and the dimensions
 abbrev pub over_plans : Model → Assignment → (ℕ → ℕ → ℤ) → ℤ
-over_plans model assignment f = total_by (λ v. total_by (λ d. f d v) (below (length model.dimensions))) (used_vehicles assignment.lists)
+over_plans model assignment f =
+    total_by (λ v. total_by (λ d. f d v) (below (length model.dimensions))) (used_vehicles assignment.lists)
 
 -- what the cumuls of vehicle v cost in dimension d by the rows of its stops
 abbrev pub soft_costs : Model → Assignment → ℕ → ℕ → ℤ
@@ -115,11 +121,13 @@ sum_of parts = total (parts.arcs ∷ parts.fixed ∷ parts.global ∷ parts.pena
 -- the plans that are chosen for the list of vehicle v, one in each dimension; none where the list is empty
 abbrev pub chosen_plans : Model → ℕ → List ℕ → List Plan
 chosen_plans model v [] = []
-chosen_plans model v (x ∷ xs) = map (λ d. unwrap_or (chosen (line model d v (x ∷ xs))) no_plan) (below (length model.dimensions))
+chosen_plans model v (x ∷ xs) =
+    map (λ d. unwrap_or (chosen (line model d v (x ∷ xs))) no_plan) (below (length model.dimensions))
 
 -- the assignment of lists at their chosen schedules
 abbrev pub assigned : Model → List (List ℕ) → Assignment
-assigned model lists = record { lists = lists; plans = map (λ v. chosen_plans model v (route lists v)) (vehicles lists) }
+assigned model lists =
+    record { lists = lists; plans = map (λ v. chosen_plans model v (route lists v)) (vehicles lists) }
 
 -- the cost of lists: the sum of the parts at their chosen schedules
 unfoldable pub cost : Model → List (List ℕ) → ℤ

@@ -1,5 +1,6 @@
 -- Lists of visits, one for each vehicle: the routes without their starts and ends.
-use Rattle.std.specs.Prelude.{ℕ, Bool, true, false, not, ◌&&◌, ◌==◌, List, [], ◌∷◌, ◌++◌, length, filter, slice_index_or, ℤ}
+use Rattle.std.specs.Prelude.{ℕ, Bool, true, false, not, ◌&&◌, ◌==◌, List, [], ◌∷◌, ◌++◌, length, filter}
+use Rattle.std.specs.Prelude.{slice_index_or, ℤ}
 use Rattle.std.specs.List.{list_all, list_any, concat}
 use Rattle.vr_model.specs.tables.Numbers.{total_by, below, each, are_same_by}
 use Rattle.vr_model.specs.tables.Tables.{vehicle_at, arc_cost, is_visit, visits}

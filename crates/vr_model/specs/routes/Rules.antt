@@ -1,5 +1,6 @@
 -- Which lists are open, and which are valid.
-use Rattle.std.specs.Prelude.{ℕ, Bool, true, not, ◌&&◌, ◌||◌, ◌==◌, nat_lt, nat_le, List, length, filter, find, count_by, Option, Some, None, ℤ}
+use Rattle.std.specs.Prelude.{ℕ, Bool, true, not, ◌&&◌, ◌||◌, ◌==◌, nat_lt, nat_le, List, length, filter, find}
+use Rattle.std.specs.Prelude.{count_by, Option, Some, None, ℤ}
 use Rattle.std.specs.List.{list_all, list_any, position_or_len}
 use Rattle.vr_model.specs.tables.Numbers.{below}
 use Rattle.vr_model.specs.tables.Tables.{vehicle_at, visits}
@@ -16,7 +17,8 @@ use Rattle.vr_model.specs.declared.records.Policy.TheVariants.{Any, Lifo, Fifo}
 
 -- where a node of the pair stands in the list, both do, the pickup first
 abbrev pub serves_pair : List ℕ → Pair → Bool
-serves_pair list pair = not (holds list pair.pickup || holds list pair.delivery) || comes_before list pair.pickup pair.delivery
+serves_pair list pair =
+    not (holds list pair.pickup || holds list pair.delivery) || comes_before list pair.pickup pair.delivery
 
 -- the place of a node in a list, the length of the list where it is absent
 abbrev pub place_of : List ℕ → ℕ → ℕ
@@ -27,9 +29,12 @@ place_of list node = position_or_len (λ x. x == node) list
 abbrev pub policy_allows : Policy → List ℕ → Pair → Pair → Bool
 policy_allows Any list x y = true
 policy_allows Lifo list x y =
-    not (nat_lt (place_of list x.pickup) (place_of list y.pickup) && nat_lt (place_of list y.pickup) (place_of list x.delivery))
+    not (nat_lt (place_of list x.pickup) (place_of list y.pickup)
+    && nat_lt (place_of list y.pickup) (place_of list x.delivery))
     || nat_lt (place_of list y.delivery) (place_of list x.delivery)
-policy_allows Fifo list x y = not (nat_lt (place_of list x.pickup) (place_of list y.pickup)) || nat_lt (place_of list x.delivery) (place_of list y.delivery)
+policy_allows Fifo list x y =
+    not (nat_lt (place_of list x.pickup) (place_of list y.pickup))
+    || nat_lt (place_of list x.delivery) (place_of list y.delivery)
 
 -- the pairs with their pickup in the list
 abbrev pub pairs_in : Model → List ℕ → List Pair
@@ -37,7 +42,9 @@ pairs_in model list = filter (λ pair. holds list pair.pickup) model.pairs
 
 -- the policy holds of every two pairs of the list
 abbrev pub keeps_policy : Model → ℕ → List ℕ → Bool
-keeps_policy model v list = list_all (λ x. list_all (λ y. policy_allows (vehicle_at model v).policy list x y) (pairs_in model list)) (pairs_in model list)
+keeps_policy model v list =
+    let pairs = pairs_in model list in
+    list_all (λ x. list_all (λ y. policy_allows (vehicle_at model v).policy list x y) pairs) pairs
 
 -- the row of a visit allows vehicle v; without a row each vehicle is allowed
 abbrev pub row_allows_vehicle : Option Allowed → ℕ → Bool

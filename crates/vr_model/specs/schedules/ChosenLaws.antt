@@ -2,13 +2,16 @@
 use Rattle.std.specs.Prelude.{◌≡◌, ℕ, ◌<◌, ◌↔◌, false, ◌&&◌, IsTrue, ℤ, ◌≤ℤ◌, Some, length, set, slice_index_or}
 use Rattle.vr_model.specs.tables.Numbers.{is_same_number}
 use Rattle.vr_model.specs.schedules.Lines.{Line}
-use Rattle.vr_model.specs.schedules.Schedules.{Plan, Sides, KeepsRules, IsSchedule, IsFeasible, IsChosen, IsReached, ReachesEnd, cumul}
+use Rattle.vr_model.specs.schedules.Schedules.{Plan, Sides, KeepsRules, IsSchedule, IsFeasible, IsChosen, IsReached}
+use Rattle.vr_model.specs.schedules.Schedules.{ReachesEnd, cumul}
 use Rattle.vr_model.specs.deciding.ScheduleTests.{keeps_rules}
 use Rattle.vr_model.specs.schedules.Choices.{chosen, is_feasible, is_reached, reaches_end}
 
 -- the rules of a schedule hold exactly where their tests pass
 abbrev pub RulesAsTested : Type 0
-RulesAsTested = (where_else : Sides) (line : Line) (plan : Plan) → IsTrue (keeps_rules where_else line plan) ↔ KeepsRules where_else line plan
+RulesAsTested =
+    (where_else : Sides) (line : Line) (plan : Plan) → IsTrue (keeps_rules where_else line plan)
+    ↔ KeepsRules where_else line plan
 
 -- no two schedules of a line are chosen
 abbrev pub OneChosen : Type 0
@@ -31,14 +34,20 @@ EndReachedAsTested = (line : Line) (k b : ℕ) (x : ℤ) → IsTrue (reaches_end
 
 -- the line whose stop k allows x alone
 abbrev pub pinned : Line → ℕ → ℤ → Line
-pinned line k x = record line { allowed = set line.allowed k (λ y. slice_index_or line.allowed k (λ _. false) y && is_same_number x y) }
+pinned line k x =
+    record line {
+      allowed = set line.allowed k (λ y. slice_index_or line.allowed k (λ _. false) y
+          && is_same_number x y);
+    }
 
 -- the schedules of a line have the same cumuls at the stops before k
 abbrev pub IsSettledBefore : Line → ℕ → Type 0
-IsSettledBefore line k = (plan other : Plan) → IsSchedule line plan → IsSchedule line other → (i : ℕ) → i < k → cumul plan i ≡ cumul other i
+IsSettledBefore line k =
+    (plan other : Plan) → IsSchedule line plan → IsSchedule line other → (i : ℕ) → i < k → cumul plan i ≡ cumul other i
 
 -- where the cumuls before stop k are settled, the least cumul of stop k may be put in: what is chosen then is chosen of
 -- the line too
 abbrev pub LeastCumulMayBePinned : Type 0
 LeastCumulMayBePinned = (line : Line) (k : ℕ) (x : ℤ) → k < length line.allowed → IsSettledBefore line k
-    → ((other : Plan) → IsSchedule line other → x ≤ℤ cumul other k) → (plan : Plan) → IsChosen (pinned line k x) plan → IsChosen line plan
+    → ((other : Plan) → IsSchedule line other → x ≤ℤ cumul other k) → (plan : Plan) → IsChosen (pinned line k x) plan
+    → IsChosen line plan

@@ -1,9 +1,11 @@
 -- The laws of reach sets, as statements: the levels of a line are, for each stop and each number of breaks taken, the
 -- cumuls that are reached there.
-use Rattle.std.specs.Prelude.{◌≡◌, ℕ, suc, ◌<◌, ◌≤◌, ◌↔◌, IsTrue, List, length, take, drop, ℤ, ◌+ℤ◌, ◌≤ℤ◌, EachIndex, slice_index_or}
+use Rattle.std.specs.Prelude.{◌≡◌, ℕ, suc, ◌<◌, ◌≤◌, ◌↔◌, IsTrue, List, length, take, drop, ℤ, ◌+ℤ◌, ◌≤ℤ◌, EachIndex}
+use Rattle.std.specs.Prelude.{slice_index_or}
 use Rattle.vr_model.specs.tables.Numbers.{number_at}
 use Rattle.vr_model.specs.schedules.Lines.{Line}
-use Rattle.vr_model.specs.schedules.Schedules.{Plan, no_side, KeepsRules, IsFeasible, IsSchedule, IsReached, ReachesEnd, front, back, cumul, allows, no_break}
+use Rattle.vr_model.specs.schedules.Schedules.{Plan, no_side, KeepsRules, IsFeasible, IsSchedule, IsReached, ReachesEnd}
+use Rattle.vr_model.specs.schedules.Schedules.{front, back, cumul, allows, no_break}
 use Rattle.vr_model.specs.schedules.SoundLines.{IsSound}
 use Rattle.vr_model.specs.declared.records.BreakRow.{BreakRow}
 
@@ -13,7 +15,8 @@ LevelsMeet line k = (b : ℕ) × (b ≤ length line.breaks) × (x : ℤ) × IsRe
 
 -- at each stop, a line is feasible exactly where its levels meet
 abbrev pub FeasibleWhereLevelsMeet : Type 0
-FeasibleWhereLevelsMeet = (line : Line) → IsSound line → (k : ℕ) → k ≤ length line.arcs → IsFeasible line ↔ LevelsMeet line k
+FeasibleWhereLevelsMeet =
+    (line : Line) → IsSound line → (k : ℕ) → k ≤ length line.arcs → IsFeasible line ↔ LevelsMeet line k
 
 -- some schedule has the cumul x at stop k
 abbrev pub HasCumul : Line → ℕ → ℤ → Type 0
@@ -25,32 +28,41 @@ LevelsMeetAt line k x = (b : ℕ) × (b ≤ length line.breaks) × IsReached lin
 
 -- a schedule has the cumul x at a stop exactly where the levels of the stop meet at x
 abbrev pub CumulWhereLevelsMeet : Type 0
-CumulWhereLevelsMeet = (line : Line) → IsSound line → (k : ℕ) → k ≤ length line.arcs → (x : ℤ) → HasCumul line k x ↔ LevelsMeetAt line k x
+CumulWhereLevelsMeet =
+    (line : Line) → IsSound line → (k : ℕ) → k ≤ length line.arcs → (x : ℤ) → HasCumul line k x ↔ LevelsMeetAt line k x
 
 -- arc k leads from the cumul y to the cumul x, with the breaks from number a on, below number b, inside it
 abbrev pub Crosses : Line → ℕ → ℕ → ℕ → ℤ → ℤ → Type 0
-Crosses line k a b y x = (plan : Plan) × KeepsRules no_side (back (front line (suc k) b) k a) plan × (cumul plan 0 ≡ y) × (cumul plan 1 ≡ x)
+Crosses line k a b y x =
+    (plan : Plan) × KeepsRules no_side (back (front line (suc k) b) k a) plan × (cumul plan 0 ≡ y) × (cumul plan 1 ≡ x)
 
 -- what is reached at the next stop is what arc k leads to from a cumul that is reached with some of the breaks
 abbrev pub ReachedByCrossing : Type 0
-ReachedByCrossing = (line : Line) → IsSound line → (k b : ℕ) → suc k ≤ length line.arcs → b ≤ length line.breaks → (x : ℤ)
+ReachedByCrossing =
+    (line : Line) → IsSound line → (k b : ℕ) → suc k ≤ length line.arcs → b ≤ length line.breaks → (x : ℤ)
     → IsReached line (suc k) b x ↔ (a : ℕ) × (a ≤ b) × (y : ℤ) × IsReached line k a y × Crosses line k a b y x
 
 -- the end is reached from what arc k leads from, to a cumul of the next stop from which the end is reached with the
 -- breaks that are left
 abbrev pub EndReachedByCrossing : Type 0
-EndReachedByCrossing = (line : Line) → IsSound line → (k a : ℕ) → suc k ≤ length line.arcs → a ≤ length line.breaks → (y : ℤ)
-    → ReachesEnd line k a y ↔ (b : ℕ) × (a ≤ b) × (b ≤ length line.breaks) × (x : ℤ) × Crosses line k a b y x × ReachesEnd line (suc k) b x
+EndReachedByCrossing =
+    (line : Line) → IsSound line → (k a : ℕ) → suc k ≤ length line.arcs → a ≤ length line.breaks → (y : ℤ)
+    → ReachesEnd line k a y ↔ (b : ℕ) × (a ≤ b) × (b ≤ length line.breaks) × (x : ℤ) × Crosses line k a b y x
+    × ReachesEnd line (suc k) b x
 
 -- break starts in range and in order
 pub record AreStarts (rows : List BreakRow) (starts : List ℤ) : Type 0 where
   pub one_of_each : length starts ≡ length rows
-  pub in_range : EachIndex rows (λ i. ((slice_index_or rows i no_break).from ≤ℤ number_at starts i) × (number_at starts i ≤ℤ (slice_index_or rows i no_break).to))
-  pub in_order : (i : ℕ) → suc i < length rows → (number_at starts i +ℤ (slice_index_or rows i no_break).duration) ≤ℤ number_at starts (suc i)
+  pub in_range : EachIndex rows (λ i. ((slice_index_or rows i no_break).from ≤ℤ number_at starts i)
+      × (number_at starts i ≤ℤ (slice_index_or rows i no_break).to))
+  pub in_order : (i : ℕ) → suc i < length rows
+      → (number_at starts i +ℤ (slice_index_or rows i no_break).duration) ≤ℤ number_at starts (suc i)
 
 -- all the breaks can be taken before x
 abbrev pub FitBefore : List BreakRow → ℤ → Type 0
-FitBefore rows x = (starts : List ℤ) × AreStarts rows starts × EachIndex rows (λ i. (number_at starts i +ℤ (slice_index_or rows i no_break).duration) ≤ℤ x)
+FitBefore rows x =
+    (starts : List ℤ) × AreStarts rows starts
+    × EachIndex rows (λ i. (number_at starts i +ℤ (slice_index_or rows i no_break).duration) ≤ℤ x)
 
 -- all the breaks can be taken after x
 abbrev pub FitAfter : List BreakRow → ℤ → Type 0
@@ -64,4 +76,5 @@ ReachedAtStart = (line : Line) → IsSound line → (b : ℕ) → b ≤ length l
 -- the end is reached at what the last stop allows, where the breaks after the first b can be taken after
 abbrev pub ReachedAtEnd : Type 0
 ReachedAtEnd = (line : Line) → IsSound line → (b : ℕ) → b ≤ length line.breaks → (x : ℤ)
-    → ReachesEnd line (length line.arcs) b x ↔ IsTrue (allows line (length line.arcs) x) × FitAfter (drop b line.breaks) x
+    → ReachesEnd line (length line.arcs) b x ↔ IsTrue (allows line (length line.arcs) x)
+    × FitAfter (drop b line.breaks) x

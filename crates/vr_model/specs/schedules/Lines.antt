@@ -30,7 +30,8 @@ in_window (Some window) x = within window.lo window.hi x
 -- the row of a stop lets x be its cumul: x is in its window and in none of its forbidden intervals
 abbrev pub row_allows : Option StopRow → ℤ → Bool
 row_allows None x = true
-row_allows (Some row) x = in_window row.window x && list_all (λ interval. not (within interval.lo interval.hi x)) row.forbidden
+row_allows (Some row) x =
+    in_window row.window x && list_all (λ interval. not (within interval.lo interval.hi x)) row.forbidden
 
 -- a stop allows x: x is in 0..=capacity, and the row of the stop lets it
 abbrev pub stop_allows : ℤ → Option StopRow → ℤ → Bool
@@ -38,15 +39,20 @@ stop_allows capacity row x = within (pos 0) capacity x && row_allows row x
 
 -- the same at a start, which is 0 where the dimension fixes it
 abbrev pub start_allows : Dimension → ℤ → Option StopRow → ℤ → Bool
-start_allows dimension capacity row x = stop_allows capacity row x && (not dimension.fix_start || is_same_number x (pos 0))
+start_allows dimension capacity row x =
+    stop_allows capacity row x && (not dimension.fix_start || is_same_number x (pos 0))
 
 -- the rows of the stops of vehicle v with a list: of its start, of the visits, and of its end
 abbrev pub stop_rows : Dimension → ℕ → List ℕ → List (Option StopRow)
-stop_rows dimension v list = row_of dimension.starts v ∷ (map (row_of dimension.nodes) list ++ row_of dimension.ends v ∷ [])
+stop_rows dimension v list =
+    row_of dimension.starts v ∷ (map (row_of dimension.nodes) list ++ row_of dimension.ends v ∷ [])
 
 -- what an arc of vehicle v asks in dimension d: its transit, and the visit time of the node where it begins
 abbrev pub line_arc : Model → ℕ → ℕ → UsedArc → Arc
-line_arc model d v arc = record { transit = transit model d v arc.origin arc.target; visit = number_at (dimension_at model d).visit arc.origin }
+line_arc model d v arc = record {
+  transit = transit model d v arc.origin arc.target;
+  visit = number_at (dimension_at model d).visit arc.origin;
+}
 
 -- the line of vehicle v with a list in dimension d
 abbrev pub line : Model → ℕ → ℕ → List ℕ → Line

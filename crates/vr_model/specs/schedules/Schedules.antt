@@ -1,5 +1,6 @@
 -- Schedules of a line, the sets that propagation reaches, and the chosen schedule.
-use Rattle.std.specs.Prelude.{◌≡◌, ℕ, suc, ◌<◌, Bool, true, false, cond, ◌&&◌, ◌⊎◌, IsTrue, List, ◌++◌, length, take, drop, ℤ, pos, ◌+ℤ◌, ◌-ℤ◌, ◌≤ℤ◌, int_le, slice_index_or, EachIndex}
+use Rattle.std.specs.Prelude.{◌≡◌, ℕ, suc, ◌<◌, Bool, true, false, cond, ◌&&◌, ◌⊎◌, IsTrue, List, ◌++◌, length, take}
+use Rattle.std.specs.Prelude.{drop, ℤ, pos, ◌+ℤ◌, ◌-ℤ◌, ◌≤ℤ◌, int_le, slice_index_or, EachIndex}
 use Rattle.vr_model.specs.tables.Numbers.{number_at, total_by, below, within, horizon, is_lex_le}
 use Rattle.vr_model.specs.schedules.Lines.{Arc, Line}
 use Rattle.vr_model.specs.declared.records.BreakRow.{BreakRow}
@@ -55,11 +56,14 @@ is_after line plan i = int_le (cumul plan (length line.arcs)) (break_start plan 
 
 -- break i lies inside arc k: after the visit at its start, and before the cumul at its end
 abbrev pub is_inside : Line → Plan → ℕ → ℕ → Bool
-is_inside line plan i k = int_le (cumul plan k +ℤ (arc_at line k).visit) (break_start plan i) && int_le (break_end line plan i) (cumul plan (suc k))
+is_inside line plan i k =
+    int_le (cumul plan k +ℤ (arc_at line k).visit) (break_start plan i)
+    && int_le (break_end line plan i) (cumul plan (suc k))
 
 -- the durations of the breaks inside arc k, added up
 abbrev pub break_time : Line → Plan → ℕ → ℤ
-break_time line plan k = total_by (λ i. cond (is_inside line plan i k) (break_at line i).duration (pos 0)) (below (length line.breaks))
+break_time line plan k =
+    total_by (λ i. cond (is_inside line plan i k) (break_at line i).duration (pos 0)) (below (length line.breaks))
 
 -- where breaks may stand beside the arcs: before the first stop, and after the last one
 pub record Sides : Type 0 where
@@ -90,11 +94,14 @@ pub record KeepsRules (where_else : Sides) (line : Line) (plan : Plan) : Type 0 
   pub slack_of_each_arc : length plan.slacks ≡ length line.arcs
   pub start_of_each_break : length plan.breaks ≡ length line.breaks
   pub cumuls_allowed : EachIndex line.allowed (λ k. IsTrue (allows line k (cumul plan k)))
-  pub slacks_left : EachIndex line.arcs (λ k. slack plan k ≡ (cumul plan (suc k) -ℤ cumul plan k) -ℤ (arc_at line k).transit)
+  pub slacks_left : EachIndex line.arcs (λ k. slack plan k
+      ≡ (cumul plan (suc k) -ℤ cumul plan k) -ℤ (arc_at line k).transit)
   pub slacks_bounded : EachIndex line.arcs (λ k. (pos 0 ≤ℤ slack plan k) × (slack plan k ≤ℤ line.slack_max))
-  pub breaks_in_range : EachIndex line.breaks (λ i. ((break_at line i).from ≤ℤ break_start plan i) × (break_start plan i ≤ℤ (break_at line i).to))
+  pub breaks_in_range : EachIndex line.breaks (λ i. ((break_at line i).from ≤ℤ break_start plan i)
+      × (break_start plan i ≤ℤ (break_at line i).to))
   pub breaks_in_order : (i : ℕ) → suc i < length line.breaks → break_end line plan i ≤ℤ break_start plan (suc i)
-  pub breaks_placed : EachIndex line.breaks (λ i. IsTrue (where_else.may_precede && is_before line plan i) ⊎ IsTrue (where_else.may_follow && is_after line plan i)
+  pub breaks_placed : EachIndex line.breaks (λ i. IsTrue (where_else.may_precede && is_before line plan i)
+      ⊎ IsTrue (where_else.may_follow && is_after line plan i)
       ⊎ (k : ℕ) × (k < length line.arcs) × IsTrue (is_inside line plan i k))
   pub slacks_carry_breaks : EachIndex line.arcs (λ k. break_time line plan k ≤ℤ slack plan k)
 
@@ -108,11 +115,21 @@ IsFeasible line = (plan : Plan) × IsSchedule line plan
 
 -- the stops of a line up to k, with its first b breaks
 abbrev pub front : Line → ℕ → ℕ → Line
-front line k b = record { allowed = take (suc k) line.allowed; arcs = take k line.arcs; slack_max = line.slack_max; breaks = take b line.breaks }
+front line k b = record {
+  allowed = take (suc k) line.allowed;
+  arcs = take k line.arcs;
+  slack_max = line.slack_max;
+  breaks = take b line.breaks;
+}
 
 -- the stops of a line from k on, with the breaks after the first b
 abbrev pub back : Line → ℕ → ℕ → Line
-back line k b = record { allowed = drop k line.allowed; arcs = drop k line.arcs; slack_max = line.slack_max; breaks = drop b line.breaks }
+back line k b = record {
+  allowed = drop k line.allowed;
+  arcs = drop k line.arcs;
+  slack_max = line.slack_max;
+  breaks = drop b line.breaks;
+}
 
 -- stop k is reached at x with the first b breaks taken: some plan of the stops up to k has the cumul x there, and
 -- each of these breaks ends before the first stop or stands inside an arc before stop k

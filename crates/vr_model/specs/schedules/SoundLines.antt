@@ -8,7 +8,8 @@ use Rattle.vr_model.specs.schedules.Lines.{Line, line}
 use Rattle.vr_model.specs.schedules.Schedules.{arc_at, break_at}
 use Rattle.vr_model.specs.declared.records.Model.{Model}
 
--- one stop more than arcs; visit times that are not negative; breaks of at least 1; and no negative transit where there are breaks
+-- one stop more than arcs; visit times that are not negative; breaks of at least 1; and no negative transit where there
+-- are breaks
 pub record IsSound (line : Line) : Type 0 where
   pub stops : length line.allowed ≡ suc (length line.arcs)
   pub visits : EachIndex line.arcs (λ k. pos 0 ≤ℤ (arc_at line k).visit)
@@ -17,5 +18,7 @@ pub record IsSound (line : Line) : Type 0 where
 
 -- the line of a well-formed model with a list of distinct visits that is not empty is sound
 abbrev pub LinesAreSound : Type 0
-LinesAreSound = (model : Model) → IsWellFormed model → (d v : ℕ) → d < length model.dimensions → v < length model.vehicles
-    → (list : List ℕ) → is_empty list ≡ false → IsTrue (list_all (is_visit model) list) → IsTrue (is_distinct list) → IsSound (line model d v list)
+LinesAreSound =
+    (model : Model) → IsWellFormed model → (d v : ℕ) → d < length model.dimensions → v < length model.vehicles
+    → (list : List ℕ) → is_empty list ≡ false → IsTrue (list_all (is_visit model) list) → IsTrue (is_distinct list)
+    → IsSound (line model d v list)

@@ -1,6 +1,7 @@
 -- The weight of changed lists: how many images of runs a walk takes, in each changed list, from where it leaves the old
 -- list to where it meets it again.
-use Rattle.std.specs.Prelude.{ℕ, zero, suc, ◌+◌, ◌-◌, ◌*◌, Bool, cond, not, ◌&&◌, ◌||◌, ◌==◌, List, length, reverse, ℤ, pos, ◌-ℤ◌, sum_by, nat_abs}
+use Rattle.std.specs.Prelude.{ℕ, zero, suc, ◌+◌, ◌-◌, ◌*◌, Bool, cond, not, ◌&&◌, ◌||◌, ◌==◌, List, length, reverse, ℤ}
+use Rattle.std.specs.Prelude.{pos, ◌-ℤ◌, sum_by, nat_abs}
 use Rattle.std.specs.List.{common_prefix_len}
 use Rattle.vr_model.specs.tables.Numbers.{below, from_to, horizon}
 use Rattle.vr_model.specs.routes.Routes.{route, vehicles, is_empty, is_same}
@@ -40,7 +41,8 @@ walk_weight line a e =
     sum_by (λ k. over_breaks line λ b. runs (is_reached line k b) * (length line.breaks - b + 1)) (from_to a e)
     + over_breaks line (λ b. runs (is_reached line e b) + runs (reaches_end line e b))
 
--- the weight of one list after a change: nothing where it is empty or as before; else of the walk from the last stop that
+-- the weight of one list after a change: nothing where it is empty or as before; else of the walk from the last stop
+-- that
 -- both lists share at the front to the first that both share at the back
 abbrev pub list_weight : Model → ℕ → ℕ → List ℕ → List ℕ → ℕ
 list_weight model d v old new = cond (is_empty new || is_same old new) 0

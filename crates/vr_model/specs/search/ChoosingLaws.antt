@@ -1,5 +1,6 @@
 -- What the choice of a least entry and the scan of a list of moves mean, as statements.
-use Rattle.std.specs.Prelude.{◌≡◌, ℕ, suc, ◌<◌, ◌≤◌, ◌⊎◌, ◌-◌, Bool, true, false, List, [], length, ℤ, slice_index_or, MatchOption}
+use Rattle.std.specs.Prelude.{◌≡◌, ℕ, suc, ◌<◌, ◌≤◌, ◌⊎◌, ◌-◌, Bool, true, false, List, [], length, ℤ, slice_index_or}
+use Rattle.std.specs.Prelude.{MatchOption}
 use Rattle.std.specs.List.{All}
 use Rattle.vr_model.specs.tables.Numbers.{is_lex_less}
 use Rattle.vr_model.specs.first.Choosing.{least_by}
@@ -36,7 +37,9 @@ NoneAcceptable ms acceptable = All (λ mv. acceptable mv ≡ false) ms
 abbrev pub EndsAs : List Move → (Move → Bool) → ℕ → Scan → Type 0
 EndsAs ms acceptable rest (Accepted k mv) = IsFirstAcceptable ms acceptable k mv × (k ≤ rest)
 EndsAs ms acceptable rest (Complete n) = NoneAcceptable ms acceptable × (n ≡ length ms) × (n ≤ rest)
-EndsAs ms acceptable rest Cut = ((k : ℕ) × (mv : Move) × IsFirstAcceptable ms acceptable k mv × (rest < k)) ⊎ (NoneAcceptable ms acceptable × (rest < length ms))
+EndsAs ms acceptable rest Cut =
+    ((k : ℕ) × (mv : Move) × IsFirstAcceptable ms acceptable k mv × (rest < k))
+    ⊎ (NoneAcceptable ms acceptable × (rest < length ms))
 
 -- each scan ends so
 abbrev pub ScanEnds : Type 0

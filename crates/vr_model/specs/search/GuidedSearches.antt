@@ -1,6 +1,7 @@
 -- Guided local search: at a local optimum the arcs of the greatest worth get penalties, and the descent goes on by
 -- the cost with the penalised arcs added.
-use Rattle.std.specs.Prelude.{ℕ, zero, suc, ◌-◌, Bool, true, false, cond, not, ◌&&◌, ◌||◌, ◌==◌, List, ℤ, pos, ◌+ℤ◌, ◌*ℤ◌, int_lt, int_le}
+use Rattle.std.specs.Prelude.{ℕ, zero, suc, ◌-◌, Bool, true, false, cond, not, ◌&&◌, ◌||◌, ◌==◌, List, ℤ, pos, ◌+ℤ◌}
+use Rattle.std.specs.Prelude.{◌*ℤ◌, int_lt, int_le}
 use Rattle.std.specs.List.{list_all, list_any}
 use Rattle.vr_model.specs.tables.Numbers.{total_by}
 use Rattle.vr_model.specs.routes.Routes.{UsedArc, used_arcs, cost_of_arc}
@@ -9,7 +10,8 @@ use Rattle.vr_model.specs.routes.Rules.{is_valid}
 use Rattle.vr_model.specs.routes.Costs.{cost}
 use Rattle.vr_model.specs.search.Scans.{Scan, scan}
 use Rattle.vr_model.specs.search.Scans.Scan.{Accepted, Complete, Cut}
-use Rattle.vr_model.specs.search.Outcomes.{SearchState, Outcome, tried, accepted, ended, event_at, with_event, from_first}
+use Rattle.vr_model.specs.search.Outcomes.{SearchState, Outcome, tried, accepted, ended, event_at, with_event}
+use Rattle.vr_model.specs.search.Outcomes.{from_first}
 use Rattle.vr_model.specs.declared.records.Model.{Model}
 use Rattle.vr_model.specs.declared.records.End.TheVariants.{Optimum, Tries, Solutions}
 use Rattle.vr_model.specs.declared.search.Limit.{Limit}
@@ -31,7 +33,8 @@ penalty_of penalties arc = penalties arc.origin arc.target
 
 -- the costs of the used arcs, each times its penalty, added up
 abbrev pub penalised : Model → Penalties → List (List ℕ) → ℤ
-penalised model penalties lists = total_by (λ arc. pos (penalty_of penalties arc) *ℤ cost_of_arc model arc) (used_arcs model lists)
+penalised model penalties lists =
+    total_by (λ arc. pos (penalty_of penalties arc) *ℤ cost_of_arc model arc) (used_arcs model lists)
 
 -- the augmented cost of lists: q times the cost and p times the penalised arc costs
 unfoldable pub augmented : Model → Lambda → Penalties → List (List ℕ) → ℤ
@@ -45,20 +48,24 @@ improves_augmented model lambda penalties lists mv = let after = apply model lis
 -- an arc is worth no more than another: its cost over one more than its penalty, compared by cross products
 abbrev pub is_worth_no_more : Model → Penalties → UsedArc → UsedArc → Bool
 is_worth_no_more model penalties arc other =
-    int_le (cost_of_arc model arc *ℤ pos (suc (penalty_of penalties other))) (cost_of_arc model other *ℤ pos (suc (penalty_of penalties arc)))
+    int_le (cost_of_arc model arc *ℤ pos (suc (penalty_of penalties other)))
+    (cost_of_arc model other *ℤ pos (suc (penalty_of penalties arc)))
 
 -- no used arc is worth more
 abbrev pub is_worth_most : Model → Penalties → List (List ℕ) → UsedArc → Bool
-is_worth_most model penalties lists arc = list_all (λ other. is_worth_no_more model penalties other arc) (used_arcs model lists)
+is_worth_most model penalties lists arc =
+    list_all (λ other. is_worth_no_more model penalties other arc) (used_arcs model lists)
 
 -- a used arc of the greatest worth leads from one node to another
 abbrev pub is_raised : Model → Penalties → List (List ℕ) → ℕ → ℕ → Bool
 is_raised model penalties lists origin target =
-    list_any (λ arc. ((arc.origin == origin) && (arc.target == target)) && is_worth_most model penalties lists arc) (used_arcs model lists)
+    list_any (λ arc. ((arc.origin == origin) && (arc.target == target))
+    && is_worth_most model penalties lists arc) (used_arcs model lists)
 
 -- the penalties after a round: one more on each used arc of the greatest worth
 abbrev pub raised : Model → Penalties → List (List ℕ) → Penalties
-raised model penalties lists origin target = cond (is_raised model penalties lists origin target) (suc (penalties origin target)) (penalties origin target)
+raised model penalties lists origin target =
+    cond (is_raised model penalties lists origin target) (suc (penalties origin target)) (penalties origin target)
 
 -- some used arc has a cost above 0
 abbrev pub has_costly_arc : Model → List (List ℕ) → Bool
@@ -70,10 +77,12 @@ is_at_end model state n = (n == 0) || not (has_costly_arc model state.lists)
 
 -- how guided local search goes on after a scan: from the accepted move, with raised penalties, or it ends
 abbrev pub guided_on : Model → Limit → (Penalties → SearchState → Outcome) → Penalties → SearchState → Scan → Outcome
-guided_on model limit again penalties state (Accepted n mv) = let next = accepted model state n mv in with_event (event_at model next kind.Move) (again penalties next)
+guided_on model limit again penalties state (Accepted n mv) =
+    let next = accepted model state n mv in with_event (event_at model next kind.Move) (again penalties next)
 guided_on model limit again penalties state (Complete n) = elim (is_at_end model state n) [
   | true ↦ ended (tried state n) Optimum
-  | false ↦ with_event (event_at model (tried state n) kind.Round) (again (raised model penalties state.lists) (tried state n))
+  | false ↦ with_event (event_at model (tried state n) kind.Round)
+      (again (raised model penalties state.lists) (tried state n))
 ]
 guided_on model limit again penalties state Cut = ended (tried state (limit.tries - state.used)) Tries
 
@@ -84,7 +93,8 @@ guided_from model limit lambda zero penalties state = ended state Tries
 guided_from model limit lambda (suc scans) penalties state = elim (state.found == limit.solutions) [
   | true ↦ ended state Solutions
   | false ↦ guided_on model limit (guided_from model limit lambda scans) penalties state
-      (scan (moves model state.lists) (improves_augmented model lambda penalties state.lists) (limit.tries - state.used))
+      (scan (moves model state.lists) (improves_augmented model lambda penalties state.lists)
+      (limit.tries - state.used))
 ]
 
 -- guided local search from lists

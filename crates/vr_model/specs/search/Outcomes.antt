@@ -43,7 +43,12 @@ accepted model state n mv = let after = apply model state.lists mv in
 
 -- a search that ends here, with no event more
 abbrev pub ended : SearchState → End → Outcome
-ended state stop = record { last = state.lists; best = state.best; report = record { tries = state.used; solutions = state.found; «end» = stop }; events = [] }
+ended state stop = record {
+  last = state.lists;
+  best = state.best;
+  report = record { tries = state.used; solutions = state.found; «end» = stop };
+  events = [];
+}
 
 -- the event of this kind where a search stands
 abbrev pub event_at : Model → SearchState → Kind → Event

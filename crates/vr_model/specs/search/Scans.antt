@@ -12,7 +12,9 @@ pub data Scan : Type 0 where
 -- the scan of the moves behind the first `place` ones, of which none was acceptable
 abbrev pub scan_from : ℕ → (Move → Bool) → ℕ → List Move → Scan
 scan_from place acceptable rest [] = cond (nat_lt rest place) Cut (Complete place)
-scan_from place acceptable rest (m ∷ ms) = cond (acceptable m) (cond (nat_le (suc place) rest) (Accepted (suc place) m) Cut) (scan_from (suc place) acceptable rest ms)
+scan_from place acceptable rest (m ∷ ms) =
+    cond (acceptable m) (cond (nat_le (suc place) rest) (Accepted (suc place) m) Cut)
+    (scan_from (suc place) acceptable rest ms)
 
 -- the scan of a list of moves of which at most `rest` may be tried
 abbrev pub scan : List Move → (Move → Bool) → ℕ → Scan

@@ -1,9 +1,12 @@
 -- The rules on a whole model, as tests that find what breaks them. Reading refuses a model that breaks one.
-use Rattle.std.specs.Prelude.{ℕ, Bool, true, false, not, ◌&&◌, ◌||◌, ◌==◌, length, ℤ, pos, int_lt, Option, Some, None, slice_index_or}
+use Rattle.std.specs.Prelude.{ℕ, Bool, true, false, not, ◌&&◌, ◌||◌, ◌==◌, length, ℤ, pos, int_lt, Option, Some, None}
+use Rattle.std.specs.Prelude.{slice_index_or}
 use Rattle.std.specs.List.{list_all, list_any}
 use Rattle.vr_model.specs.tables.Numbers.{below, number_at, is_same_number, are_same_by}
-use Rattle.vr_model.specs.tables.Tables.{matrix_at, vehicle_at, dimension_at, transit, evaluator_number, no_evaluator, row_of, breaks_of}
+use Rattle.vr_model.specs.tables.Tables.{matrix_at, vehicle_at, dimension_at, transit, evaluator_number, no_evaluator}
+use Rattle.vr_model.specs.tables.Tables.{row_of, breaks_of}
 use Rattle.vr_model.specs.routes.Routes.{is_empty}
+use Rattle.vr_model.specs.declared.limits.TheConstants.{GREATEST_VALUE}
 use Rattle.vr_model.specs.declared.records.Model.{Model}
 use Rattle.vr_model.specs.declared.records.Dimension.{Dimension}
 use Rattle.vr_model.specs.declared.records.Evaluator.{Evaluator}
@@ -28,7 +31,7 @@ has_negative_cost model v = list_any is_negative (matrix_at model (vehicle_at mo
 
 -- the greatest entry of a matrix that a dimension uses, 2 ^ 30
 abbrev pub greatest_entry : ℤ
-greatest_entry = pos 1073741824
+greatest_entry = GREATEST_VALUE
 
 -- evaluator k of a dimension
 abbrev pub evaluator_at : Dimension → ℕ → Evaluator
@@ -54,13 +57,17 @@ abbrev pub has_span_costs : Dimension → Bool
 has_span_costs dimension = list_any (λ coefficient. not (is_same_number coefficient (pos 0))) dimension.span_costs
     || not (is_same_number dimension.global_span_cost (pos 0))
 
--- some vehicle has a negative transit in dimension d between two distinct nodes, whether or not a route can have that arc
+-- some vehicle has a negative transit in dimension d between two distinct nodes, whether or not a route can have that
+-- arc
 abbrev pub has_negative_transit : Model → ℕ → Bool
-has_negative_transit model d = list_any (λ v. list_any (λ i. list_any (λ j. not (i == j) && is_negative (transit model d v i j)) (below model.nodes)) (below model.nodes)) (below (length model.vehicles))
+has_negative_transit model d =
+    list_any (λ v. list_any (λ i. list_any (λ j. not (i == j)
+    && is_negative (transit model d v i j)) (below model.nodes)) (below model.nodes)) (below (length model.vehicles))
 
 -- dimension d has breaks or span costs, and a negative transit
 abbrev pub goes_back : Model → ℕ → Bool
-goes_back model d = (has_breaks (dimension_at model d) || has_span_costs (dimension_at model d)) && has_negative_transit model d
+goes_back model d =
+    (has_breaks (dimension_at model d) || has_span_costs (dimension_at model d)) && has_negative_transit model d
 
 -- ---- vehicles
 
@@ -90,9 +97,11 @@ is_same_row row other = is_same_option is_same_interval row.window other.window
     && is_same_option is_same_soft row.soft other.soft)
 
 abbrev pub is_same_break : BreakRow → BreakRow → Bool
-is_same_break row other = is_same_number row.from other.from && (is_same_number row.to other.to && is_same_number row.duration other.duration)
+is_same_break row other =
+    is_same_number row.from other.from && (is_same_number row.to other.to && is_same_number row.duration other.duration)
 
--- vehicles v and w are alike in a dimension: the same capacity, evaluator number, span coefficient, start row, end row and breaks
+-- vehicles v and w are alike in a dimension: the same capacity, evaluator number, span coefficient, start row, end row
+-- and breaks
 abbrev pub are_alike_in : Dimension → ℕ → ℕ → Bool
 are_alike_in dimension v w = is_same_number (number_at dimension.capacities v) (number_at dimension.capacities w)
     && ((evaluator_number dimension v == evaluator_number dimension w)
@@ -101,7 +110,8 @@ are_alike_in dimension v w = is_same_number (number_at dimension.capacities v) (
     && (is_same_option is_same_row (row_of dimension.ends v) (row_of dimension.ends w)
     && are_same_by is_same_break (breaks_of dimension v) (breaks_of dimension w)))))
 
--- vehicles v and w are alike: the same start, end, cost matrix number, fixed cost and policy, and alike in each dimension
+-- vehicles v and w are alike: the same start, end, cost matrix number, fixed cost and policy, and alike in each
+-- dimension
 abbrev pub are_alike : Model → ℕ → ℕ → Bool
 are_alike model v w = let one = vehicle_at model v in let other = vehicle_at model w in
     (one.start == other.start)
@@ -113,7 +123,9 @@ are_alike model v w = let one = vehicle_at model v in let other = vehicle_at mod
 
 -- some two vehicles are not alike
 abbrev pub vehicles_differ : Model → Bool
-vehicles_differ model = list_any (λ v. list_any (λ w. not (are_alike model v w)) (below (length model.vehicles))) (below (length model.vehicles))
+vehicles_differ model =
+    let all = below (length model.vehicles) in
+    list_any (λ v. list_any (λ w. not (are_alike model v w)) all) all
 
 -- the first solution is to be built by savings
 abbrev pub is_savings : First → Bool

@@ -1,6 +1,7 @@
 -- The rows of a model, by their numbers. A number that no row has gives an empty row, so that each
 -- definition answers for each number; of a well-formed model no definition asks for such a number.
-use Rattle.std.specs.Prelude.{ℕ, ◌+◌, ◌*◌, Bool, false, ◌&&◌, ◌||◌, not, ◌==◌, nat_lt, List, [], ℤ, pos, ◌+ℤ◌, Option, Some, None, find, filter, slice_index_or, option_map, unwrap_or}
+use Rattle.std.specs.Prelude.{ℕ, ◌+◌, ◌*◌, Bool, false, ◌&&◌, ◌||◌, not, ◌==◌, nat_lt, List, [], ℤ, pos, ◌+ℤ◌, Option}
+use Rattle.std.specs.Prelude.{Some, None, find, filter, slice_index_or, option_map, unwrap_or}
 use Rattle.std.specs.List.{list_any}
 use Rattle.vr_model.specs.tables.Numbers.{number_at, below}
 use Rattle.vr_model.specs.declared.records.Model.{Model}
@@ -32,7 +33,21 @@ abbrev pub vehicle_at : Model → ℕ → Vehicle
 vehicle_at model v = slice_index_or model.vehicles v no_vehicle
 
 abbrev pub no_dimension : Dimension
-no_dimension = record { name = []; evaluators = []; vehicle_evaluators = []; slack_max = pos 0; capacities = []; fix_start = false; visit = []; nodes = []; starts = []; ends = []; breaks = []; span_costs = []; global_span_cost = pos 0 }
+no_dimension = record {
+  name = [];
+  evaluators = [];
+  vehicle_evaluators = [];
+  slack_max = pos 0;
+  capacities = [];
+  fix_start = false;
+  visit = [];
+  nodes = [];
+  starts = [];
+  ends = [];
+  breaks = [];
+  span_costs = [];
+  global_span_cost = pos 0;
+}
 
 -- the dimension of a number
 abbrev pub dimension_at : Model → ℕ → Dimension
@@ -88,4 +103,5 @@ row_of rows key = find (λ row. row.key == key) rows
 
 -- the breaks of vehicle v, in order
 abbrev pub breaks_of : Dimension → ℕ → List BreakRow
-breaks_of dimension v = unwrap_or (option_map (λ entry. entry.rows) (find (λ entry. entry.vehicle == v) dimension.breaks)) []
+breaks_of dimension v =
+    unwrap_or (option_map (λ entry. entry.rows) (find (λ entry. entry.vehicle == v) dimension.breaks)) []

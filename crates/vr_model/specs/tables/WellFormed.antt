@@ -1,11 +1,18 @@
--- Well-formed models: those that reading gives. Each range, length and distinctness is said once, each node that must be
+-- Well-formed models: those that reading gives. Each range, length and distinctness is said once, each node that must
+-- be
 -- a visit is one, and no rule on the whole model is broken.
-use Rattle.std.specs.Prelude.{◌≡◌, ℕ, ◌*◌, ◌<◌, ◌≤◌, ◌⊎◌, Bool, true, false, not, ◌&&◌, IsTrue, List, [], ◌∷◌, map, length, ℤ, pos, negsuc, ◌≤ℤ◌, Option, Some, None}
+use Rattle.std.specs.Prelude.{◌≡◌, ℕ, ◌*◌, ◌<◌, ◌≤◌, ◌⊎◌, Bool, true, false, not, ◌&&◌, IsTrue, List, [], ◌∷◌, map}
+use Rattle.std.specs.Prelude.{length, ℤ, pos, ◌≤ℤ◌, Option, Some, None}
 use Rattle.std.specs.List.{All, list_any}
 use Rattle.vr_model.specs.tables.Numbers.{horizon, each}
 use Rattle.vr_model.specs.tables.Tables.{dimension_at, is_visit}
 use Rattle.vr_model.specs.routes.Routes.{is_same, is_distinct}
 use Rattle.vr_model.specs.tables.ModelRules.{has_negative_cost, has_large_entry, goes_back, cannot_save}
+use Rattle.vr_model.specs.declared.limits.TheConstants.{GREATEST_COST, LEAST_VALUE, GREATEST_VALUE}
+use Rattle.vr_model.specs.declared.limits.TheConstants.{GREATEST_COEFFICIENT, GREATEST_LAMBDA, MOST_TRIES, MOST_NODES}
+use Rattle.vr_model.specs.declared.limits.TheConstants.{MOST_VEHICLES, MOST_MATRICES, MOST_DIMENSIONS, MOST_EVALUATORS}
+use Rattle.vr_model.specs.declared.limits.TheConstants.{MOST_BREAKS, MOST_FORBIDDEN, MOST_GROUPS, MOST_PAIRS}
+use Rattle.vr_model.specs.declared.limits.TheConstants.{MOST_NAME_BYTES, MOST_NEIGHBOURHOODS}
 use Rattle.vr_model.specs.declared.records.Model.{Model}
 use Rattle.vr_model.specs.declared.records.Matrix.{Matrix}
 use Rattle.vr_model.specs.declared.records.Vehicle.{Vehicle}
@@ -40,19 +47,19 @@ WherePresent P (Some x) = P x
 
 -- the greatest entry of a matrix, fixed cost and penalty, 2 ^ 40
 abbrev pub greatest_cost : ℤ
-greatest_cost = pos 1099511627776
+greatest_cost = GREATEST_COST
 
 -- the least entry of a matrix and value of a node, -(2 ^ 30)
 abbrev pub least_value : ℤ
-least_value = negsuc 1073741823
+least_value = LEAST_VALUE
 
 -- the greatest value and visit time of a node, 2 ^ 30
 abbrev pub greatest_value : ℤ
-greatest_value = pos 1073741824
+greatest_value = GREATEST_VALUE
 
 -- the greatest coefficient
 abbrev pub greatest_coefficient : ℤ
-greatest_coefficient = pos 10000
+greatest_coefficient = GREATEST_COEFFICIENT
 
 -- a matrix of n rows of n entries each
 pub record IsMatrix (n : ℕ) (matrix : Matrix) : Type 0 where
@@ -86,7 +93,7 @@ pub record IsSoft (soft : Soft) : Type 0 where
 -- a row of a stop, but for its key
 pub record IsStopRow (row : StopRow) : Type 0 where
   pub window_is_interval : WherePresent IsInterval row.window
-  pub number_of_forbidden : length row.forbidden ≤ 16
+  pub number_of_forbidden : length row.forbidden ≤ MOST_FORBIDDEN
   pub each_forbidden_is_interval : All IsInterval row.forbidden
   pub soft_in_range : WherePresent IsSoft row.soft
 
@@ -99,27 +106,27 @@ pub record IsBreak (row : BreakRow) : Type 0 where
 
 -- the breaks of a vehicle
 pub record AreBreaks (entry : VehicleBreaks) : Type 0 where
-  pub number_of_rows : HasLength 1 8 entry.rows
+  pub number_of_rows : HasLength 1 MOST_BREAKS entry.rows
   pub each_row : All IsBreak entry.rows
 
 -- rows of visits: each key a visit, no key twice
 pub record AreVisitRows (model : Model) (rows : List StopRow) : Type 0 where
-  pub number_of_rows : length rows ≤ 1000
+  pub number_of_rows : length rows ≤ MOST_NODES
   pub each_key_is_visit : All (λ row. IsTrue (is_visit model row.key)) rows
   pub no_key_twice : IsTrue (is_distinct (map (λ row. row.key) rows))
   pub each_row : All IsStopRow rows
 
 -- rows of starts or of ends: each key a vehicle, no key twice
 pub record AreVehicleRows (model : Model) (rows : List StopRow) : Type 0 where
-  pub number_of_rows : length rows ≤ 100
+  pub number_of_rows : length rows ≤ MOST_VEHICLES
   pub each_key_is_vehicle : All (λ row. row.key < length model.vehicles) rows
   pub no_key_twice : IsTrue (is_distinct (map (λ row. row.key) rows))
   pub each_row : All IsStopRow rows
 
 -- a dimension of a model; the lists by vehicle and by node are full, also where the model file leaves them out
 pub record IsDimension (model : Model) (dimension : Dimension) : Type 0 where
-  pub length_of_name : HasLength 1 64 dimension.name
-  pub number_of_evaluators : HasLength 1 8 dimension.evaluators
+  pub length_of_name : HasLength 1 MOST_NAME_BYTES dimension.name
+  pub number_of_evaluators : HasLength 1 MOST_EVALUATORS dimension.evaluators
   pub each_evaluator : All (IsEvaluator model) dimension.evaluators
   pub evaluator_of_each_vehicle : length dimension.vehicle_evaluators ≡ length model.vehicles
   pub vehicle_evaluators_in_range : All (λ k. k < length dimension.evaluators) dimension.vehicle_evaluators
@@ -131,7 +138,7 @@ pub record IsDimension (model : Model) (dimension : Dimension) : Type 0 where
   pub rows_of_visits : AreVisitRows model dimension.nodes
   pub rows_of_starts : AreVehicleRows model dimension.starts
   pub rows_of_ends : AreVehicleRows model dimension.ends
-  pub number_of_breaks : length dimension.breaks ≤ 100
+  pub number_of_breaks : length dimension.breaks ≤ MOST_VEHICLES
   pub each_break_of_vehicle : All (λ entry. entry.vehicle < length model.vehicles) dimension.breaks
   pub breaks_of_no_vehicle_twice : IsTrue (is_distinct (map (λ entry. entry.vehicle) dimension.breaks))
   pub each_breaks : All AreBreaks dimension.breaks
@@ -141,7 +148,7 @@ pub record IsDimension (model : Model) (dimension : Dimension) : Type 0 where
 
 -- a group of visits
 pub record IsGroup (model : Model) (group : Group) : Type 0 where
-  pub number_of_nodes : HasLength 1 1000 group.nodes
+  pub number_of_nodes : HasLength 1 MOST_NODES group.nodes
   pub each_node_is_visit : All (λ node. IsTrue (is_visit model node)) group.nodes
   pub penalty_in_range : WherePresent (IsIn (pos 0) greatest_cost) group.penalty
   pub max_in_range : (1 ≤ group.max) × (group.max ≤ length group.nodes)
@@ -174,11 +181,11 @@ number_of all.SwapActive = 10
 
 -- what a search may be told
 pub record IsSearch (search : SearchRow) : Type 0 where
-  pub tries_in_range : search.tries ≤ 1000000000
-  pub solutions_in_range : (1 ≤ search.solutions) × (search.solutions ≤ 1000000000)
-  pub p_in_range : IsIn (pos 1) (pos 1000) search.p
-  pub q_in_range : IsIn (pos 1) (pos 1000) search.q
-  pub number_of_neighbourhoods : length search.neighbourhoods ≤ 11
+  pub tries_in_range : search.tries ≤ MOST_TRIES
+  pub solutions_in_range : (1 ≤ search.solutions) × (search.solutions ≤ MOST_TRIES)
+  pub p_in_range : IsIn (pos 1) GREATEST_LAMBDA search.p
+  pub q_in_range : IsIn (pos 1) GREATEST_LAMBDA search.q
+  pub number_of_neighbourhoods : length search.neighbourhoods ≤ MOST_NEIGHBOURHOODS
   pub no_neighbourhood_twice : IsTrue (is_distinct (map number_of search.neighbourhoods))
 
 -- the nodes of a pair
@@ -192,25 +199,26 @@ are_distinct_names (name ∷ names) = not (list_any (is_same name) names) && are
 
 -- a well-formed model
 pub record IsWellFormed (model : Model) : Type 0 where
-  pub number_of_nodes : (1 ≤ model.nodes) × (model.nodes ≤ 1000)
-  pub number_of_matrices : HasLength 1 16 model.matrices
+  pub number_of_nodes : (1 ≤ model.nodes) × (model.nodes ≤ MOST_NODES)
+  pub number_of_matrices : HasLength 1 MOST_MATRICES model.matrices
   pub each_matrix : All (IsMatrix model.nodes) model.matrices
-  pub number_of_vehicles : HasLength 1 100 model.vehicles
+  pub number_of_vehicles : HasLength 1 MOST_VEHICLES model.vehicles
   pub each_vehicle : All (IsVehicle model) model.vehicles
-  pub number_of_dimensions : length model.dimensions ≤ 4
+  pub number_of_dimensions : length model.dimensions ≤ MOST_DIMENSIONS
   pub each_dimension : All (IsDimension model) model.dimensions
   pub no_name_twice : IsTrue (are_distinct_names (map (λ dimension. dimension.name) model.dimensions))
-  pub number_of_groups : length model.groups ≤ 1000
+  pub number_of_groups : length model.groups ≤ MOST_GROUPS
   pub each_group : All (IsGroup model) model.groups
   pub no_node_in_groups_twice : IsTrue (is_distinct (each model.groups (λ group. group.nodes)))
-  pub number_of_pairs : length model.pairs ≤ 500
+  pub number_of_pairs : length model.pairs ≤ MOST_PAIRS
   pub each_pair : All (IsPair model) model.pairs
   pub no_node_in_pairs_twice : IsTrue (is_distinct (each model.pairs nodes_of))
-  pub number_of_allowed : length model.allowed ≤ 1000
+  pub number_of_allowed : length model.allowed ≤ MOST_NODES
   pub each_allowed : All (IsAllowed model) model.allowed
   pub no_node_allowed_twice : IsTrue (is_distinct (map (λ row. row.node) model.allowed))
   pub search_in_range : IsSearch model.search
   pub costs_not_negative : (v : ℕ) → v < length model.vehicles → has_negative_cost model v ≡ false
-  pub entries_not_large : (d k : ℕ) → d < length model.dimensions → k < length (dimension_at model d).evaluators → has_large_entry model d k ≡ false
+  pub entries_not_large : (d k : ℕ) → d < length model.dimensions → k < length (dimension_at model d).evaluators
+      → has_large_entry model d k ≡ false
   pub transits_forward : (d : ℕ) → d < length model.dimensions → goes_back model d ≡ false
   pub can_save : cannot_save model ≡ false
