@@ -1,0 +1,101 @@
+//! Forward and backward levels of each stop of a line.
+
+ghost use Rattle.std.specs.Prelude.{◌≡◌, ◌<◌, ◌↔◌, [], IsTrue, IfOk, OnOk, length, slice_get, slice_index_or, Some};
+ghost use Rattle.vr_model.specs.schedules.Lines.{Line as Defined};
+ghost use Rattle.vr_model.specs.schedules.Schedules.{IsFeasible};
+ghost use Rattle.vr_steps.specs.Lines.{IsLineOf, IsSoundLine};
+ghost use Rattle.vr_steps.specs.declared.lines.Line.{Line as Made};
+ghost use Rattle.vr_reach.specs.Rows.{AreRows};
+
+use crate::shared::share_at_first;
+use crate::sweeps::{fit, sweep_back, sweep_on};
+use std::alloc::Global;
+use std::marker::{Brand, Model};
+use std::sync::ledger::{Blank, Ledger};
+use vr_model::{NoMemory, Steps};
+use vr_steps::{Levels, Line};
+
+/// The forward and backward levels of each stop of a line: with `b` breaks taken, the cumuls that are reached at the stop,
+/// and those from which the end is reached with the other breaks taken.
+///
+/// Rows may be built anew in place: where the line has no more stops than before and no set has more runs, no memory is
+/// taken.
+#[derive(Drop)]
+pub struct Rows {
+    ahead: Vec<Levels>,
+    behind: Vec<Levels>,
+}
+
+impl Model for Rows {
+    ghost use Rattle.vr_reach.specs.Rows.{BothWays};
+
+    ghost Value = { BothWays };
+
+    ghost view = { λ r. record { forward = r.ahead.items; backward = r.behind.items } };
+}
+
+impl Rows {
+    /// No rows: a place for those of a line. It takes no memory.
+    pub fn new(alloc: Global) -> Rows
+        ensures { result ≡ record { forward = []; backward = [] } }
+    {
+        Rows {
+            ahead: Vec::new(alloc),
+            behind: Vec::new(alloc),
+        }
+    }
+
+    /// The rows of a line.
+    pub fn build(alloc: Global, line: &Line) -> Result<Rows, NoMemory>
+        requires { IsSoundLine line.now }
+        ensures { IfOk result (AreRows line.now) }
+    {
+        let mut rows = Rows::new(alloc);
+        rows.rebuild(alloc, line)?;
+        Ok(rows)
+    }
+
+    /// Writes the rows of a line over these. After `NoMemory` nothing is said of them.
+    pub fn rebuild(&mut self, alloc: Global, line: &Line) -> Result<(), NoMemory>
+        requires { IsSoundLine line.now }
+        ensures { OnOk result (AreRows line.now self.new) }
+    {
+        fit(alloc, &mut self.ahead, line.allowed.len())?;
+        fit(alloc, &mut self.behind, line.allowed.len())?;
+        sweep_on::<Brand>(line, &mut self.ahead, Blank::new(1))?;
+        sweep_back::<Brand>(line, &mut self.behind, Blank::new(1))?;
+        Ok(())
+    }
+
+    /// The number of stops. It takes no memory.
+    pub fn stops(&self) -> usize
+        ensures { result ≡ length self.now.forward }
+    {
+        self.ahead.len()
+    }
+
+    /// Whether the line has a schedule. It takes no memory.
+    pub fn feasible(&self) -> bool
+        ensures { (line : Made) → AreRows line self.now → (defined : Defined) → IsLineOf defined line → IsTrue result ↔ IsFeasible defined }
+    {
+        vr_steps::laws::feasible_where_shared();
+        vr_steps::laws::lines_stand_for_theirs();
+        share_at_first(&self.ahead, &self.behind)
+    }
+
+    /// The levels that are reached at stop `k`. It takes no memory.
+    pub fn forward(&self, k: usize) -> &Levels
+        requires { k < length self.now.forward }
+        ensures { slice_index_or self.now.forward k [] ≡ result.now }
+    {
+        &self.ahead[k]
+    }
+
+    /// The levels of stop `k` from which the end is reached. It takes no memory.
+    pub fn backward(&self, k: usize) -> &Levels
+        requires { k < length self.now.backward }
+        ensures { slice_index_or self.now.backward k [] ≡ result.now }
+    {
+        &self.behind[k]
+    }
+}

@@ -1,0 +1,187 @@
+//! A walk along a changed line, from a stop that it shares with a line whose rows are known.
+
+ghost use Rattle.std.specs.Prelude.{◌≡◌, ◌+◌, ◌<◌, ◌≤◌, ◌↔◌, ℕ, [], ◌∷◌, All, IsTrue, IfOk, OnOk, OnErr, length};
+ghost use Rattle.vr_model.specs.schedules.Lines.{Line as Defined};
+ghost use Rattle.vr_model.specs.schedules.Schedules.{IsFeasible};
+ghost use Rattle.vr_model.specs.tables.WellFormed.{IsBreak};
+ghost use Rattle.vr_spans.specs.Runs.{IsNormal};
+ghost use Rattle.vr_steps.specs.Arcs.{IsSoundHop};
+ghost use Rattle.vr_steps.specs.Levels.{IsCumuls, AreLevels, AreStartLevels, AreCrossed, forward_steps};
+ghost use Rattle.vr_reach.specs.Rows.{row_at};
+ghost use Rattle.vr_reach.specs.Walks.{EndsAt, Meets, runs_in};
+
+use crate::Rows;
+use crate::shared::share;
+use std::alloc::Global;
+use std::marker::Model;
+use std::mem;
+use std::sync::ledger::Ledger;
+use vr_model::{NoMemory, Steps};
+use vr_spans::Spans;
+use vr_steps::{Breaks, Hop, Levels, can_end, cross_into, start_levels};
+
+/// What is reached at a stop of a line, moved from stop to stop. Contracts see the levels at the stop where it stands.
+///
+/// A walk takes memory only where a set has more than four runs, or where there are breaks.
+#[derive(Drop)]
+pub struct Walk {
+    here: Levels,
+    next: Levels,
+}
+
+impl Model for Walk {
+    ghost use Rattle.std.specs.Prelude.{List};
+    ghost use Rattle.vr_spans.specs.declared.runs.Run.{Run};
+
+    ghost Value = { List (List Run) };
+
+    ghost view = { λ w. w.here };
+}
+
+impl Walk {
+    /// A walk that stands nowhere. It takes no memory.
+    pub fn new(alloc: Global) -> Walk
+        ensures { result ≡ [] ∷ [] }
+    {
+        Walk {
+            here: Levels::new(alloc),
+            next: Levels::new(alloc),
+        }
+    }
+
+    /// Stands at a stop of a line with its forward levels.
+    pub fn open(alloc: Global, rows: &Rows, stop: usize) -> Result<Walk, NoMemory>
+        requires stop { stop < length rows.now.forward }
+        ensures { IfOk result (λ walk. walk ≡ row_at rows.now.forward stop) }
+    {
+        let here = rows.forward(stop).copy(alloc)?;
+        Ok(Walk {
+            here,
+            next: Levels::new(alloc),
+        })
+    }
+
+    /// Stands at a start that allows these cumuls.
+    pub fn fresh(alloc: Global, start: &Spans, breaks: &Breaks) -> Result<Walk, NoMemory>
+        requires breaks { All IsBreak breaks.now }
+        requires few { length breaks.now ≤ 8 }
+        requires start { IsCumuls start.now }
+        ensures exact { IfOk result (AreStartLevels start.now breaks.now) }
+        ensures levels { IfOk result (AreLevels breaks.now) }
+    {
+        let here = start_levels(alloc, start, breaks)?;
+        Ok(Walk {
+            here,
+            next: Levels::new(alloc),
+        })
+    }
+
+    /// Whether the line at whose last stop the walk stands has a schedule: whether, with some number of breaks taken, the
+    /// others can be taken after some cumul. It takes no memory.
+    pub fn ends(&self, breaks: &Breaks) -> bool
+        requires breaks { All IsBreak breaks.now }
+        requires few { length breaks.now ≤ 8 }
+        requires here { AreLevels breaks.now self.now }
+        ensures { (line : Defined) → EndsAt line breaks.now self.now → IsTrue result ↔ IsFeasible line }
+    {
+        vr_steps::laws::feasible_at_end();
+        can_end(&self.here, breaks)
+    }
+
+    /// Stands behind an arc that leads from a stop with these levels: `rows.forward(k)` where a changed line leaves a
+    /// known one at stop `k`.
+    pub fn leave<L: Ledger>(
+        &mut self,
+        from: &Levels,
+        hop: Hop,
+        next: &Spans,
+        breaks: &Breaks,
+        steps: &mut Steps<L>,
+    ) -> Result<(), NoMemory>
+        requires breaks { All IsBreak breaks.now }
+        requires few { length breaks.now ≤ 8 }
+        requires from { AreLevels breaks.now from.now }
+        requires hop { IsSoundHop hop }
+        requires next { IsCumuls next.now }
+        ensures exact { OnOk result (AreCrossed from.now hop next.now breaks.now self.new) }
+        ensures levels { OnOk result (AreLevels breaks.now self.new) }
+        ensures count { OnOk result (steps.new ≡ steps.old + forward_steps from.now) }
+        ensures at_most { steps.new ≤ steps.old + forward_steps from.now }
+        ensures normal { All IsNormal from.now }
+        ensures kept { OnErr result (self.new ≡ self.old) }
+    {
+        cross_into(from, hop, next, breaks, steps, &mut self.next)?;
+        mem::swap(&mut self.here, &mut self.next);
+        Ok(())
+    }
+
+    /// Goes on behind an arc. After `NoMemory` the walk stands where it stood.
+    pub fn step<L: Ledger>(
+        &mut self,
+        hop: Hop,
+        next: &Spans,
+        breaks: &Breaks,
+        steps: &mut Steps<L>,
+    ) -> Result<(), NoMemory>
+        requires breaks { All IsBreak breaks.now }
+        requires few { length breaks.now ≤ 8 }
+        requires here { AreLevels breaks.now self.old }
+        requires hop { IsSoundHop hop }
+        requires next { IsCumuls next.now }
+        ensures exact { OnOk result (AreCrossed self.old hop next.now breaks.now self.new) }
+        ensures levels { OnOk result (AreLevels breaks.now self.new) }
+        ensures count { OnOk result (steps.new ≡ steps.old + forward_steps self.old) }
+        ensures at_most { steps.new ≤ steps.old + forward_steps self.old }
+        ensures normal { All IsNormal self.old }
+        ensures kept { OnErr result (self.new ≡ self.old) }
+    {
+        cross_into(&self.here, hop, next, breaks, steps, &mut self.next)?;
+        mem::swap(&mut self.here, &mut self.next);
+        Ok(())
+    }
+
+    /// Whether the line on which the walk stands has a schedule, where from this stop on it is the line of the rows from
+    /// `stop` on. It takes no memory, and counts a step for each run of both levels.
+    pub fn joins<L: Ledger>(&self, rows: &Rows, stop: usize, steps: &mut Steps<L>) -> bool
+        requires stop { stop < length rows.now.backward }
+        ensures exact { (line : Defined) (k : ℕ) → Meets line k self.now (row_at rows.now.backward stop) → IsTrue result ↔ IsFeasible line }
+        ensures count { steps.new ≡ steps.old + (runs_in self.now + runs_in (row_at rows.now.backward stop)) }
+    {
+        let joined = self.meets(rows.backward(stop), steps);
+        joined
+    }
+
+    /// Whether the line on which the walk stands has a schedule, where these are the levels from which its end is reached
+    /// at this stop. It takes no memory, and counts a step for each run of both levels.
+    pub fn meets<L: Ledger>(&self, behind: &Levels, steps: &mut Steps<L>) -> bool
+        ensures exact { (line : Defined) (k : ℕ) → Meets line k self.now behind.now → IsTrue result ↔ IsFeasible line }
+        ensures count { steps.new ≡ steps.old + (runs_in self.now + runs_in behind.now) }
+        ensures normal { All IsNormal self.now }
+        ensures normal_behind { All IsNormal behind.now }
+    {
+        vr_steps::laws::feasible_where_shared();
+        count_runs(&self.here, steps);
+        count_runs(behind, steps);
+        share(&self.here, behind)
+    }
+}
+
+/// Counts a step for each run of levels.
+fn count_runs<L: Ledger>(levels: &Levels, steps: &mut Steps<L>)
+    ensures count { steps.new ≡ steps.old + runs_in levels.now }
+    ensures normal { All IsNormal levels.now }
+{
+    for b in 0..levels.len() {
+        count_set(levels.level(b), steps);
+    }
+}
+
+/// Counts a step for each run of a set.
+fn count_set<L: Ledger>(set: &Spans, steps: &mut Steps<L>)
+    ensures count { steps.new ≡ steps.old + length set.now }
+    ensures normal { IsNormal set.now }
+{
+    'runs: for _ in 0..set.len() {
+        steps.tick();
+    }
+}
