@@ -1,0 +1,131 @@
+//! The cumuls of the chosen schedule, stop by stop.
+
+ghost use Rattle.std.specs.Prelude.{◌≡◌, ◌<◌, [], pos, false, IfOk, IfSome, IsNone, OnOk};
+ghost use Rattle.vr_model.specs.tables.Numbers.{horizon};
+ghost use Rattle.vr_model.specs.tables.WellFormed.{IsIn};
+ghost use Rattle.vr_steps.specs.Levels.{AreLevels, IsCumuls};
+ghost use Rattle.vr_reach.specs.Rows.{AreRows};
+ghost use Rattle.vr_plan.specs.Settled.{IsOnly, IsSettled, HaveChosenCumuls, IsUnfeasible, Goes};
+
+use std::alloc::Global;
+use std::mem;
+use std::sync::ledger::{Blank, Ledger};
+use vr_model::{NoMemory, Seq, Steps};
+use vr_reach::{Rows, least_shared};
+use vr_spans::{Run, Spans};
+use vr_steps::{Levels, Line, cross_into, start_levels_into};
+
+/// Sets that are written over while cumuls are settled.
+#[derive(Drop)]
+struct Room {
+    only: Spans,
+    here: Levels,
+    next: Levels,
+}
+
+/// The cumuls of the chosen schedule of a line, over its rows; `None` exactly where the line has no schedule.
+pub(crate) fn settled_cumuls<L: Ledger>(
+    alloc: Global,
+    line: &Line,
+    rows: &Rows,
+    blank: Blank,
+) -> Result<Option<Seq<i64>>, NoMemory>
+    requires name { blank.name ≡ L.name }
+    requires parts { blank.parts ≡ L.parts }
+    requires some { 0 < blank.parts }
+    requires rows { AreRows line.now rows.now }
+    ensures some { IfOk result (λ found. IfSome found (HaveChosenCumuls line.now)) }
+    ensures none { IfOk result (λ found. IsNone found → IsUnfeasible line.now) }
+{
+    let mut room = Room {
+        only: Spans::new(alloc),
+        here: Levels::new(alloc),
+        next: Levels::new(alloc),
+    };
+    let mut cumuls = Seq::new(alloc);
+    let goes = settle::<L>(line, rows, &mut room, &mut cumuls, blank)?;
+    Ok(goes.then_some(cumuls))
+}
+
+/// Settles the cumul of the start: the least that schedules have there. Answers whether there is a schedule.
+fn begin(
+    line: &Line,
+    rows: &Rows,
+    only: &mut Spans,
+    here: &mut Levels,
+    cumuls: &mut Seq<i64>,
+) -> Result<bool, NoMemory>
+    requires rows { AreRows line.now rows.now }
+    requires none { cumuls.old ≡ [] }
+    ensures settled { IfOk result (Goes (IsSettled line.now 0 cumuls.new here.new)) }
+    ensures levels { IfOk result (Goes (AreLevels line.now.breaks here.new)) }
+    ensures stops { IfOk result (λ goes. goes ≡ false → IsUnfeasible line.now) }
+{
+    vr_steps::laws::lines_stand_for_theirs();
+    vr_steps::laws::start_is_reached();
+    vr_model::laws::cumul_where_levels_meet();
+    vr_model::laws::least_cumul_may_be_pinned();
+    let Some(first) = least_shared(rows.forward(0), rows.backward(0)) else {
+        return Ok(false);
+    };
+    keep(line.allowed.get(0), first, only)?;
+    start_levels_into(only, &line.breaks, here)?;
+    cumuls.push(first)?;
+    Ok(true)
+}
+
+/// Settles the cumul of each stop, one after another: the least that schedules with the cumuls before it have there.
+/// Answers whether there is a schedule.
+fn settle<L: Ledger>(
+    line: &Line,
+    rows: &Rows,
+    room: &mut Room,
+    cumuls: &mut Seq<i64>,
+    blank: Blank,
+) -> Result<bool, NoMemory>
+    requires name { blank.name ≡ L.name }
+    requires parts { blank.parts ≡ L.parts }
+    requires some { 0 < blank.parts }
+    requires rows { AreRows line.now rows.now }
+    requires none { cumuls.old ≡ [] }
+    ensures settled { IfOk result (Goes (HaveChosenCumuls line.now cumuls.new)) }
+    ensures stops { IfOk result (λ goes. goes ≡ false → IsUnfeasible line.now) }
+{
+    vr_steps::laws::lines_stand_for_theirs();
+    vr_steps::laws::reached_behind_arc();
+    vr_model::laws::cumul_where_levels_meet();
+    vr_model::laws::least_cumul_may_be_pinned();
+    vr_model::laws::chosen_where_feasible();
+    vr_model::laws::chosen_is_least();
+    let mut steps = Steps::<L>::new(blank);
+    let Room { only, here, next } = room;
+    if !begin(line, rows, only, here, cumuls)? {
+        return Ok(false);
+    }
+    for k in 0..line.hops.len() {
+        let hop = *line.hops.get(k);
+        let allowed = line.allowed.get(k + 1);
+        cross_into(here, hop, allowed, &line.breaks, &mut steps, next)?;
+        let Some(least) = least_shared(next, rows.backward(k + 1)) else {
+            return Ok(false);
+        };
+        keep(allowed, least, only)?;
+        cross_into(here, hop, only, &line.breaks, &mut steps, next)?;
+        mem::swap(here, next);
+        cumuls.push(least)?;
+    }
+    Ok(true)
+}
+
+/// Writes those of the allowed cumuls that are `x` over `only`.
+pub(crate) fn keep(allowed: &Spans, x: i64, only: &mut Spans) -> Result<(), NoMemory>
+    requires cumul { IsIn (pos 0) horizon x }
+    requires allowed { IsCumuls allowed.now }
+    ensures exact { OnOk result (IsOnly allowed.now x only.new) }
+    ensures cumuls { OnOk result (IsCumuls only.new) }
+{
+    if allowed.clip_into(Run { lo: x, hi: x }, only).is_err() {
+        return Err(NoMemory);
+    }
+    Ok(())
+}

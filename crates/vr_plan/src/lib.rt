@@ -1,0 +1,11 @@
+//! The chosen schedule of a line.
+#![tactic(auto)]
+
+mod cumuls;
+mod narrow;
+mod plans;
+mod schedules;
+mod starts;
+
+pub use plans::Plan;
+pub use schedules::{chosen_cumuls, schedule, schedule_over};

@@ -1,0 +1,84 @@
+//! Lines whose cumuls and break starts are put in.
+
+ghost use Rattle.std.specs.Prelude.{◌≡◌, ◌<◌, ◌≤◌, All, IfOk, length, set, slice_index_or};
+ghost use Rattle.vr_model.specs.schedules.Schedules.{no_break};
+ghost use Rattle.vr_steps.specs.Levels.{IsCumuls};
+ghost use Rattle.vr_steps.specs.Lines.{IsSoundLine};
+ghost use Rattle.vr_plan.specs.Narrow.{AreOnly};
+ghost use Rattle.vr_plan.specs.Settled.{HaveChosenCumuls};
+
+use crate::cumuls::keep;
+use arrayvec::ArrayVec;
+use std::alloc::Global;
+use vr_model::{BreakRow, NoMemory, Seq};
+use vr_spans::Spans;
+use vr_steps::{Breaks, Hop, Line};
+
+/// The line whose stops allow these cumuls alone.
+pub(crate) fn with_cumuls(alloc: Global, line: &Line, cumuls: &[i64]) -> Result<Line, NoMemory>
+    requires sound { IsSoundLine line.now }
+    requires cumuls { HaveChosenCumuls line.now cumuls.now }
+    ensures allowed { IfOk result (λ narrow. AreOnly line.now.allowed cumuls.now narrow.allowed) }
+    ensures hops { IfOk result (λ narrow. narrow.hops ≡ line.now.hops) }
+    ensures breaks { IfOk result (λ narrow. narrow.breaks ≡ line.now.breaks) }
+    ensures sound { IfOk result IsSoundLine }
+{
+    Ok(Line {
+        allowed: only_sets(alloc, line, cumuls)?,
+        hops: same_hops(alloc, line.hops.as_slice())?,
+        breaks: same_breaks(&line.breaks),
+    })
+}
+
+/// Of each stop, the cumul that is put in.
+fn only_sets(alloc: Global, line: &Line, cumuls: &[i64]) -> Result<Seq<Spans>, NoMemory>
+    requires sound { IsSoundLine line.now }
+    requires cumuls { HaveChosenCumuls line.now cumuls.now }
+    ensures exact { IfOk result (AreOnly line.now.allowed cumuls.now) }
+    ensures cumuls { IfOk result (All IsCumuls) }
+{
+    let mut sets = Seq::new(alloc);
+    for k in 0..line.allowed.len() {
+        let mut only = Spans::new(alloc);
+        keep(line.allowed.get(k), cumuls[k], &mut only)?;
+        sets.push(only)?;
+    }
+    Ok(sets)
+}
+
+/// The same arcs.
+fn same_hops(alloc: Global, hops: &[Hop]) -> Result<Seq<Hop>, NoMemory>
+    ensures { IfOk result (λ same. same ≡ hops.now) }
+{
+    let mut same = Seq::new(alloc);
+    for hop in hops {
+        same.push(*hop)?;
+    }
+    Ok(same)
+}
+
+/// The same breaks.
+fn same_breaks(breaks: &Breaks) -> Breaks
+    requires { length breaks.now ≤ 8 }
+    ensures { result ≡ breaks.now }
+{
+    Breaks {
+        rows: ArrayVec::try_from(breaks.rows.as_slice()).unwrap(),
+    }
+}
+
+/// Puts a row in the place of break `i`.
+pub(crate) fn put_row(breaks: &mut Breaks, i: usize, row: BreakRow)
+    requires { i < length breaks.old }
+    ensures { breaks.new ≡ set breaks.old i row }
+{
+    breaks.rows[i] = row;
+}
+
+/// Break `i`.
+pub(crate) fn row_at(breaks: &Breaks, i: usize) -> BreakRow
+    requires { i < length breaks.now }
+    ensures { result ≡ slice_index_or breaks.now i no_break }
+{
+    breaks.rows[i]
+}

@@ -1,0 +1,34 @@
+//! Schedules.
+
+ghost use Rattle.std.specs.Prelude.{◌≡◌, ◌<◌, ℕ, suc, ℤ, pos, ◌-ℤ◌, All, IfOk, length, slice_index_or};
+ghost use Rattle.vr_model.specs.tables.Numbers.{horizon, number_at};
+ghost use Rattle.vr_model.specs.tables.WellFormed.{IsIn};
+ghost use Rattle.vr_steps.specs.Arcs.{IsSoundHop};
+ghost use Rattle.vr_plan.specs.Plans.{AreSlacks};
+
+use std::alloc::Global;
+use vr_model::{NoMemory, Seq};
+use vr_steps::Hop;
+
+/// A schedule of a line: the cumul of each stop, the slack of each arc, and the start of each break
+/// (`RoutingDimension::CumulVar`, `RoutingDimension::SlackVar` and the break intervals in OR-Tools).
+#[derive(Drop)]
+pub struct Plan {
+    pub cumuls: Seq<i64>,
+    pub slacks: Seq<i64>,
+    pub breaks: Seq<i64>,
+}
+
+/// The slacks that cumuls leave on arcs.
+pub(crate) fn slacks_left(alloc: Global, hops: &[Hop], cumuls: &[i64]) -> Result<Seq<i64>, NoMemory>
+    requires stops { length cumuls.now ≡ suc (length hops.now) }
+    requires range { All (IsIn (pos 0) horizon) cumuls.now }
+    requires hops { All IsSoundHop hops.now }
+    ensures { IfOk result (AreSlacks hops.now cumuls.now) }
+{
+    let mut slacks = Seq::new(alloc);
+    for k in 0..hops.len() {
+        slacks.push(cumuls[k + 1] - cumuls[k] - hops[k].transit)?;
+    }
+    Ok(slacks)
+}

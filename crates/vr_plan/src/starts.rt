@@ -1,0 +1,221 @@
+//! The break starts of the chosen schedule, break by break.
+
+ghost use Rattle.std.specs.Prelude.{◌≡◌, ◌<◌, ◌^◌, ◌↔◌, suc, pos, false, [], ◌+ℤ◌, ◌≤ℤ◌, All, IsTrue, IfOk, IfSome, IsNone, OnOk, length, slice_index_or};
+ghost use Rattle.vr_model.specs.tables.Numbers.{horizon};
+ghost use Rattle.vr_model.specs.tables.WellFormed.{IsIn};
+ghost use Rattle.vr_reach.specs.Shared.{lesser_of};
+ghost use Rattle.vr_steps.specs.Arcs.{IsSoundHop};
+ghost use Rattle.vr_model.specs.schedules.Lines.{Line as Defined};
+ghost use Rattle.vr_model.specs.schedules.Schedules.{IsFeasible, no_break};
+ghost use Rattle.vr_steps.specs.Lines.{IsLineOf, IsSoundLine};
+ghost use Rattle.vr_plan.specs.Narrow.{row_pinned, place_begin, first_at, IsTried, IsLeastTried, IsStartOf, with_start};
+ghost use Rattle.vr_plan.specs.Starts.{HaveCumuls, HaveStarts, HaveChosenStarts};
+ghost use Rattle.vr_plan.specs.Settled.{Goes, HaveChosenCumuls, IsUnfeasible};
+
+use crate::narrow::{put_row, row_at, with_cumuls};
+use std::alloc::Global;
+use vr_model::{BreakRow, NoMemory, Seq};
+use vr_reach::Rows;
+use vr_steps::{Hop, Line};
+
+/// Whether the line has a schedule whose break `i` starts at `first`, which is in its range.
+fn can_start(
+    alloc: Global,
+    line: &mut Line,
+    rows: &mut Rows,
+    i: usize,
+    first: i64,
+) -> Result<bool, NoMemory>
+    requires sound { IsSoundLine line.old }
+    requires place { i < length line.old.breaks }
+    requires from { (slice_index_or line.old.breaks i no_break).from ≤ℤ first }
+    requires to { first ≤ℤ (slice_index_or line.old.breaks i no_break).to }
+    ensures exact { IfOk result (λ can. (defined : Defined) → IsLineOf defined line.old → IsTrue can ↔ IsFeasible (row_pinned defined i first)) }
+    ensures same { OnOk result (line.new ≡ line.old) }
+{
+    let row = row_at(&line.breaks, i);
+    put_row(
+        &mut line.breaks,
+        i,
+        BreakRow {
+            from: first,
+            to: first,
+            duration: row.duration,
+        },
+    );
+    rows.rebuild(alloc, line)?;
+    put_row(&mut line.breaks, i, row);
+    Ok(rows.feasible())
+}
+
+/// The start that is tried, where it is not above `to` and the line has a schedule whose break `i` starts there.
+fn try_start(
+    alloc: Global,
+    line: &mut Line,
+    rows: &mut Rows,
+    i: usize,
+    to: i64,
+    first: i64,
+) -> Result<Option<i64>, NoMemory>
+    requires sound { IsSoundLine line.old }
+    requires place { i < length line.old.breaks }
+    requires from { (slice_index_or line.old.breaks i no_break).from ≤ℤ first }
+    requires to { to ≡ (slice_index_or line.old.breaks i no_break).to }
+    ensures exact { IfOk result (λ found. (defined : Defined) → IsLineOf defined line.old → IsTried defined i to first found) }
+    ensures range { IfOk result (λ found. IfSome found (IsStartOf (slice_index_or line.old.breaks i no_break))) }
+    ensures same { OnOk result (line.new ≡ line.old) }
+{
+    if first > to {
+        let _ = &line.breaks;
+        return Ok(None);
+    }
+    if !can_start(alloc, line, rows, i, first)? {
+        return Ok(None);
+    }
+    Ok(Some(first))
+}
+
+/// Where a place of a break begins: before the first stop, inside an arc, or after the last stop.
+fn place_begin(hops: &[Hop], cumuls: &[i64], place: usize) -> i64
+    requires stops { length cumuls.now ≡ suc (length hops.now) }
+    requires range { All (IsIn (pos 0) horizon) cumuls.now }
+    requires hops { All IsSoundHop hops.now }
+    ensures value { result ≡ place_begin hops.now cumuls.now place }
+    ensures range { IsIn (pos 0) (pos (2 ^ 40)) result }
+{
+    let Some(k) = place.checked_sub(1) else {
+        return 0;
+    };
+    if k < hops.len() {
+        return cumuls[k] + hops[k].visit;
+    }
+    cumuls[hops.len()]
+}
+
+/// The least start that schedules of the line have for break `i`, which may not start before `ready`.
+fn least_start(
+    alloc: Global,
+    line: &mut Line,
+    rows: &mut Rows,
+    cumuls: &[i64],
+    i: usize,
+    ready: i64,
+) -> Result<Option<i64>, NoMemory>
+    requires sound { IsSoundLine line.old }
+    requires stops { length cumuls.now ≡ suc (length line.old.hops) }
+    requires range { All (IsIn (pos 0) horizon) cumuls.now }
+    requires place { i < length line.old.breaks }
+    requires ready { IsIn (pos 0) (pos (2 ^ 40)) ready }
+    ensures exact { IfOk result (λ best. (defined : Defined) → IsLineOf defined line.old →
+        IsLeastTried defined i (slice_index_or line.old.breaks i no_break).to
+        (first_at line.old.hops cumuls.now (slice_index_or line.old.breaks i no_break) ready) (suc (length cumuls.now)) best) }
+    ensures range { IfOk result (λ best. IfSome best (IsStartOf (slice_index_or line.old.breaks i no_break))) }
+    ensures same { OnOk result (line.new ≡ line.old) }
+{
+    let row = row_at(&line.breaks, i);
+    let mut best = None;
+    for place in 0..cumuls.len() + 1 {
+        let begin = place_begin(line.hops.as_slice(), cumuls, place);
+        let first = row.from.max(ready).max(begin);
+        best = lesser(best, try_start(alloc, line, rows, i, row.to, first)?);
+    }
+    Ok(best)
+}
+
+/// The lesser of two numbers that may be there.
+fn lesser(first: Option<i64>, second: Option<i64>) -> Option<i64>
+    ensures { result ≡ lesser_of first second }
+{
+    let (Some(x), Some(y)) = (first, second) else {
+        return first.or(second);
+    };
+    Some(x.min(y))
+}
+
+/// Lets break `i` start at `first` alone; answers when it is over.
+fn fix_start(line: &mut Line, i: usize, first: i64) -> i64
+    requires sound { IsSoundLine line.old }
+    requires place { i < length line.old.breaks }
+    requires start { IsStartOf (slice_index_or line.old.breaks i no_break) first }
+    ensures line { line.new ≡ with_start line.old i first }
+    ensures over { result ≡ first +ℤ (slice_index_or line.old.breaks i no_break).duration }
+{
+    let row = row_at(&line.breaks, i);
+    put_row(
+        &mut line.breaks,
+        i,
+        BreakRow {
+            from: first,
+            to: first,
+            duration: row.duration,
+        },
+    );
+    first + row.duration
+}
+
+/// Settles the start of each break of a line whose schedules have these cumuls, one after another: the least that schedules
+/// with the starts before have there. Answers whether there is a schedule.
+fn settle_starts(
+    alloc: Global,
+    line: &mut Line,
+    rows: &mut Rows,
+    cumuls: &[i64],
+    starts: &mut Seq<i64>,
+) -> Result<bool, NoMemory>
+    requires sound { IsSoundLine line.old }
+    requires stops { length cumuls.now ≡ suc (length line.old.hops) }
+    requires range { All (IsIn (pos 0) horizon) cumuls.now }
+    requires settled { HaveCumuls line.old cumuls.now }
+    requires none { starts.old ≡ [] }
+    ensures settled { IfOk result (Goes (HaveStarts line.old starts.new)) }
+    ensures stops { IfOk result (λ goes. goes ≡ false → IsUnfeasible line.old) }
+{
+    vr_steps::laws::lines_stand_for_theirs();
+    vr_model::laws::chosen_where_feasible();
+    vr_model::laws::chosen_is_least();
+    let mut ready = 0;
+    for i in 0..line.breaks.rows.len() {
+        let Some(first) = least_start(alloc, line, rows, cumuls, i, ready)? else {
+            return Ok(false);
+        };
+        ready = fix_start(line, i, first);
+        starts.push(first)?;
+    }
+    Ok(true)
+}
+
+/// The break starts of the chosen schedule of a line, which has these cumuls; `None` only where the line has no schedule.
+pub(crate) fn chosen_starts(
+    alloc: Global,
+    line: &Line,
+    cumuls: &[i64],
+) -> Result<Option<Seq<i64>>, NoMemory>
+    requires sound { IsSoundLine line.now }
+    requires cumuls { HaveChosenCumuls line.now cumuls.now }
+    ensures some { IfOk result (λ found. IfSome found (HaveChosenStarts line.now)) }
+    ensures none { IfOk result (λ found. IsNone found → IsUnfeasible line.now) }
+{
+    if line.breaks.rows.is_empty() {
+        return Ok(Some(Seq::new(alloc)));
+    }
+    vr_steps::laws::lines_stand_for_theirs();
+    vr_model::laws::one_chosen();
+    let mut narrow = with_cumuls(alloc, line, cumuls)?;
+    let starts = starts_of(alloc, &mut narrow, cumuls)?;
+    Ok(starts)
+}
+
+/// The break starts of the chosen schedule of a line whose schedules have these cumuls; `None` only where it has none.
+fn starts_of(alloc: Global, line: &mut Line, cumuls: &[i64]) -> Result<Option<Seq<i64>>, NoMemory>
+    requires sound { IsSoundLine line.old }
+    requires stops { length cumuls.now ≡ suc (length line.old.hops) }
+    requires range { All (IsIn (pos 0) horizon) cumuls.now }
+    requires settled { HaveCumuls line.old cumuls.now }
+    ensures some { IfOk result (λ found. IfSome found (HaveStarts line.old)) }
+    ensures none { IfOk result (λ found. IsNone found → IsUnfeasible line.old) }
+{
+    let mut rows = Rows::new(alloc);
+    let mut starts = Seq::new(alloc);
+    let goes = settle_starts(alloc, line, &mut rows, cumuls, &mut starts)?;
+    Ok(goes.then_some(starts))
+}
