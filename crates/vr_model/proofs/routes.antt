@@ -2,3 +2,6 @@
 pub mod Lists
 pub mod PathCosts
 pub mod Assigned
+pub mod Bounded
+pub mod CostBounds
+pub mod CostFits

@@ -2,6 +2,7 @@
 //! the law calls it.
 
 ghost use Rattle.vr_model.specs.routes.AssignmentLaws.{ChosenPlansAreThere, OpenMeetsItsLines};
+ghost use Rattle.vr_model.specs.routes.CostLaws.{CostsAreBounded};
 ghost use Rattle.vr_model.specs.search.ChoosingLaws.{LeastIsFirst, ScanEnds};
 ghost use Rattle.vr_model.specs.schedules.ChosenLaws.{ChosenIsLeast, ChosenWhereFeasible, EndReachedAsTested};
 ghost use Rattle.vr_model.specs.schedules.ChosenLaws.{LeastCumulMayBePinned, OneChosen, ReachedAsTested, RulesAsTested};
@@ -95,6 +96,12 @@ pub fn chosen_plans_are_there()
 /// Open lists at their chosen schedules meet their lines.
 pub fn open_meets_its_lines()
     ensures { OpenMeetsItsLines }
+{}
+
+/// Of valid lists of a well-formed model no part of the cost is negative, each has its bound, and the
+/// cost is in `0..=2^63 - 1`.
+pub fn costs_are_bounded()
+    ensures { CostsAreBounded }
 {}
 
 /// A move is in the list of all moves exactly where its numbers meet the condition of its

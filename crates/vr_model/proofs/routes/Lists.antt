@@ -89,6 +89,14 @@ route-visits model lists v h = list_all-route (is_visit model) lists v (and_left
 pub route-distinct : (model : Model) (lists : List (List ℕ)) (v : ℕ) → are_lists model lists ≡ true → is_distinct (route lists v) ≡ true
 route-distinct model lists v h = is_distinct-route lists v (and_right (list_all (is_visit model) (concat lists)) _ (and_right (length lists == length model.vehicles) _ h))
 
+-- all lists together have no more entries than there are nodes
+pub visits-few : (model : Model) (lists : List (List ℕ)) → are_lists model lists ≡ true → length (concat lists) ≤ model.nodes
+visits-few model lists h =
+    let rest = and_right (length lists == length model.vehicles) _ h in
+    let below = All-weaker (λ node. is_visit model node ≡ true) (λ node. node < model.nodes) (visit_below model) (concat lists) (all-from_list_all (is_visit model) (concat lists) (and_left (list_all (is_visit model) (concat lists)) _ rest)) in
+    length-le_from_distinct_below (concat lists) model.nodes (IsDistinct-from_is_distinct (concat lists) (and_right (list_all (is_visit model) (concat lists)) _ rest))
+    (λ q a. All-contains (λ node. node < model.nodes) (concat lists) q below (Contains-from_any (λ x y e. eqb-true x y e) q (concat lists) a))
+
 -- a visit of a list is a node
 pub visit_at : (model : Model) (list : List ℕ) (k d : ℕ) → IsTrue (list_all (is_visit model) list) → k < length list → slice_index_or list k d < model.nodes
 visit_at model list k d h low = visit_below model (slice_index_or list k d) (all-from_list_all (is_visit model) list h k d low)

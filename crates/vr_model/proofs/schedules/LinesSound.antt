@@ -1,6 +1,6 @@
 -- The line of a well-formed model is sound.
 use Rattle.std.proofs.Common.{◌≡◌, ℕ, zero, suc, ◌+◌, ◌<◌, Bool, true, false, ◌&&◌, not, List, [], ◌∷◌, ◌++◌, length, map, Option, Some, None, refl, sym, ◌∙◌, ap, subst, arith, cond}
-use Rattle.std.specs.Prelude.{ℤ, pos, ◌≤ℤ◌, ◌==◌, ◌||◌, nat_lt, IsTrue, slice_index_or, find, option_map, unwrap_or}
+use Rattle.std.specs.Prelude.{ℤ, pos, ◌≤ℤ◌, ◌==◌, ◌||◌, nat_lt, IsTrue, slice_index_or, find, option_map, unwrap_or, EachIndex}
 use Rattle.std.specs.List.{All, list_all, list_any}
 use Rattle.std.proofs.lemmas.Int.{ints}
 use Rattle.std.proofs.lemmas.List.{get_or-map, length-map, length-append}
@@ -69,14 +69,14 @@ module _ (model : Model) where
     from_start start start_low start_ends (x ∷ xs) some visits distinct (suc k) d low =
         from_visit x xs (and_left (is_visit model x) _ visits) (and_right (is_visit model x) _ visits) (fails_not (holds xs x) (and_left (not (holds xs x)) _ distinct)) (and_right (not (holds xs x)) _ distinct) k d (omega (arith, low))
 
-length_arcs : (v node : ℕ) (nodes : List ℕ) → length (arcs_from v node nodes) ≡ length nodes
+pub length_arcs : (v node : ℕ) (nodes : List ℕ) → length (arcs_from v node nodes) ≡ length nodes
 length_arcs v node [] = refl
 length_arcs v node (next ∷ rest) = ap suc (length_arcs v next rest)
 
 -- ---- breaks
 
 -- what holds of each entry holds of the one that is found
-found_is : {A : Type 0} (P : A → Type 0) (test : A → Bool) (xs : List A) → All P xs → WherePresent P (find test xs)
+pub found_is : {A : Type 0} (P : A → Type 0) (test : A → Bool) (xs : List A) → All P xs → WherePresent P (find test xs)
 found_is P test [] h = tt
 found_is P test (x ∷ xs) h = go (test x) (found_is P test xs (λ k d low. h (suc k) d (omega (arith, low))))
   where
@@ -119,10 +119,10 @@ module _ (model : Model) (well : IsWellFormed model) (d v : ℕ) (dimension : d 
   of_dimension : IsDimension model (dimension_at model d)
   of_dimension = well.each_dimension d no_dimension dimension
 
-  -- in a dimension with breaks no transit between distinct nodes is negative
-  transit_forward : has_breaks (dimension_at model d) ≡ true → (i j : ℕ) → i < model.nodes → j < model.nodes → (i == j) ≡ false → pos 0 ≤ℤ transit model d v i j
-  transit_forward breaks i j low next apart =
-      let none : has_negative_transit model d ≡ false = fails (has_negative_transit model d) (λ t. clash (goes_back model d) (and_both (has_breaks (dimension_at model d) || has_span_costs (dimension_at model d)) _ (or_left (has_breaks (dimension_at model d)) _ breaks) t) (well.transits_forward d dimension)) in
+  -- in a dimension with breaks or span costs no transit between distinct nodes is negative
+  transit_forward : (has_breaks (dimension_at model d) || has_span_costs (dimension_at model d)) ≡ true → (i j : ℕ) → i < model.nodes → j < model.nodes → (i == j) ≡ false → pos 0 ≤ℤ transit model d v i j
+  transit_forward asked i j low next apart =
+      let none : has_negative_transit model d ≡ false = fails (has_negative_transit model d) (λ t. clash (goes_back model d) (and_both (has_breaks (dimension_at model d) || has_span_costs (dimension_at model d)) _ asked t) (well.transits_forward d dimension)) in
       let at_arc = none_below (λ j. not (i == j) && is_negative (transit model d v i j)) model.nodes j
       (none_below (λ i. list_any (λ j. not (i == j) && is_negative (transit model d v i j)) (below model.nodes)) model.nodes i
       (none_below (λ v. list_any (λ i. list_any (λ j. not (i == j) && is_negative (transit model d v i j)) (below model.nodes)) (below model.nodes)) (length model.vehicles) v none vehicle) low) next in
@@ -145,7 +145,7 @@ module _ (model : Model) (well : IsWellFormed model) (d v : ℕ) (dimension : d 
     each_arc = from_start model v (vehicle_at model v).end (well.each_vehicle v no_vehicle vehicle).end_in_range ends_there
         (vehicle_at model v).start (well.each_vehicle v no_vehicle vehicle).start_in_range starts_there list some visits distinct
 
-    arcs_long : length (line model d v list).arcs ≡ length list + 1
+    pub arcs_long : length (line model d v list).arcs ≡ length list + 1
     arcs_long = length-map (arcs_between model v list) _ ∙ (length_arcs v (vehicle_at model v).start (list ++ (vehicle_at model v).end ∷ []) ∙ length-append list ((vehicle_at model v).end ∷ []))
 
     taken : (k : ℕ) → k < length (line model d v list).arcs → IsTaken model (slice_index_or (arcs_between model v list) k no_used_arc)
@@ -153,6 +153,11 @@ module _ (model : Model) (well : IsWellFormed model) (d v : ℕ) (dimension : d 
 
     arc_is : (k : ℕ) → k < length (line model d v list).arcs → arc_at (line model d v list) k ≡ line_arc model d v (slice_index_or (arcs_between model v list) k no_used_arc)
     arc_is k low = get_or-map (line_arc model d v) (arcs_between model v list) k no_used_arc no_arc (subst (λ n. k < n) (length-map (arcs_between model v list) _) low)
+
+    -- and so no arc of the line has a negative transit
+    pub line_forward : (has_breaks (dimension_at model d) || has_span_costs (dimension_at model d)) ≡ true → EachIndex (line model d v list).arcs (λ k. pos 0 ≤ℤ (arc_at (line model d v list) k).transit)
+    line_forward asked k low = subst (λ arc. pos 0 ≤ℤ arc.transit) (sym (arc_is k low))
+        (transit_forward asked _ _ (taken k low).origin_low (taken k low).target_low (taken k low).apart)
 
     pub line_sound : IsSound (line model d v list)
     line_sound = record {
@@ -162,8 +167,7 @@ module _ (model : Model) (well : IsWellFormed model) (d v : ℕ) (dimension : d 
       visits = λ k low. subst (λ arc. pos 0 ≤ℤ arc.visit) (sym (arc_is k low))
           (of_dimension.visit_times_in_range _ (pos 0) (subst (λ n. (slice_index_or (arcs_between model v list) k no_used_arc).origin < n) (sym of_dimension.visit_time_of_each_node) (taken k low).origin_low)).at_least;
       durations = λ i low. (each_break (dimension_at model d) v of_dimension.each_breaks i no_break low).duration_in_range.at_least;
-      forward = λ breaks k low. subst (λ arc. pos 0 ≤ℤ arc.transit) (sym (arc_is k low))
-          (transit_forward (some_break (dimension_at model d) v breaks) _ _ (taken k low).origin_low (taken k low).target_low (taken k low).apart);
+      forward = λ breaks. line_forward (or_left (has_breaks (dimension_at model d)) _ (some_break (dimension_at model d) v breaks));
     }
 
 pub lines_are_sound : LinesAreSound
