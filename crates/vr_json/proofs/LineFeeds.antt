@@ -1,15 +1,15 @@
 -- A line feed behind a text changes nothing of what JSON reads in it.
-use Rattle.std.proofs.Common.{◌≡◌, ℕ, zero, suc, ◌+◌, ◌-◌, ◌≤◌, List, [], ◌∷◌, ◌++◌, Bool, true, false, cond, ◌&&◌, ◌||◌, ◌==◌, nat_eq, nat_lt, length, length-append, take, drop, Option, Some, None, option_map, refl, sym, ap, ap₂, ◌∙◌, arith}
+use Rattle.std.proofs.Common.{◌≡◌, ℕ, suc, ◌+◌, ◌-◌, ◌≤◌, List, [], ◌∷◌, ◌++◌, Bool, true, false, cond, ◌&&◌, ◌||◌, ◌==◌, nat_eq, nat_lt, length, length-append, take, drop, Option, Some, None, option_map, refl, ap, ap₂, ◌∙◌, arith}
 use Rattle.std.specs.Prelude.{option_and_then}
 use Rattle.std.specs.List.{prefix_len, starts_with}
 use Rattle.std.specs.Cmp.Lexicographic.{pointwise}
-use Rattle.std.specs.Char.{is_ascii_digit, is_digit, digit_value, encode_utf8}
+use Rattle.std.specs.Char.{is_ascii_digit, is_digit, encode_utf8}
 use Rattle.std.proofs.lemmas.List.{drop-append-le, take-append-le}
 use Rattle.json.specs.Ascii as ascii
 use Rattle.json.specs.Token.{Token, number, boolean, null, bad}
 use Rattle.json.specs.Text.{Within, plain, after_backslash, after_u, after_high, content, code_unit, short_escape, prepend, is_high_surrogate, is_low_surrogate, surrogate_pair}
-use Rattle.json.specs.Word.{head, ends_word, after_digits, after_minus, after_sign, after_whole, after_fraction, after_exponent, after_number, number_before, literal, word}
-use Rattle.json.specs.Lex.{Lexeme, Class, quote, backslash, operator, space, other, class, Mode, between, in_word, in_string, in_escape, token, string_token, operator_lexeme, lex_byte, lex, punctuate, fresh, tokens}
+use Rattle.json.specs.Word.{ends_word, after_digits, after_minus, after_sign, after_whole, after_fraction, after_exponent, after_number, number_before, literal, word}
+use Rattle.json.specs.Lex.{Lexeme, Class, quote, backslash, operator, space, other, class, Mode, between, in_word, in_string, in_escape, token, string_token, operator_lexeme, lex_byte, lex, punctuate, fresh}
 use Rattle.json.specs.Json as json
 use Rattle.serde_json.specs.Read.{read, of_json, max_depth}
 

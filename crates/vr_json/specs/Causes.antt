@@ -1,7 +1,7 @@
 -- The causes of a refusal, and the fault of one at a path.
 use Rattle.std.specs.Prelude.{ℕ, List}
 use Rattle.vr_json.specs.declared.fault.Cause.{Cause}
-use Rattle.vr_json.specs.declared.fault.Cause.TheVariants.{Absent, OtherKind, NotWhole, UnknownKey, OutOfRange, WrongLength, Repeated, UnknownWord, NotAVisit, Reversed, NegativeCost, LargeTransit, NegativeTransit, UnlikeVehicles}
+use Rattle.vr_json.specs.declared.fault.Cause.TheVariants.{Absent, OtherKind, NotWhole, UnknownKey, OutOfRange, WrongLength, Repeated, UnknownWord, NotAVisit, Reversed, NegativeCost, LargeTransit, NegativeTransit, UnlikeVehicles, NotBuilt}
 use Rattle.vr_json.specs.declared.fault.Fault.{Fault}
 
 -- the number of a cause in the texts of the program
@@ -20,6 +20,7 @@ code_of NegativeCost = 20
 code_of LargeTransit = 21
 code_of NegativeTransit = 22
 code_of UnlikeVehicles = 23
+code_of NotBuilt = 30
 
 -- the fault of a cause at a path
 abbrev pub fault_at : Cause → List ℕ → Fault

@@ -1,5 +1,5 @@
 -- Paths, as bytes.
-use Rattle.std.specs.Prelude.{ℕ, List, [], ◌∷◌, ◌++◌, decimal}
+use Rattle.std.specs.Prelude.{ℕ, List, ◌∷◌, ◌++◌, decimal}
 
 -- the path of a field: `/` and its key, as it stands
 abbrev pub name_path : List ℕ → List ℕ → List ℕ

@@ -109,12 +109,12 @@ unfoldable pub array : {A : Type 0} → ℕ → ℕ → (List A → ReaderOf A) 
 array lo hi read path d = list lo hi path d >>= entries read [] path
 
 -- an array of two such values
-unfoldable pub pair_entries : {A : Type 0} → ReaderOf A → List ℕ → List Data → Result (A × A) Fault
-pair_entries read path (first ∷ second ∷ []) = read (item_path path 0) first >>= λ x. (read (item_path path 1) second >>= λ y. Ok (x, y))
-pair_entries read path ds = Err (fault_at WrongLength path)
+unfoldable pub first_two : {A : Type 0} → ReaderOf A → List ℕ → List Data → Result (A × A) Fault
+first_two read path (first ∷ second ∷ []) = read (item_path path 0) first >>= λ x. (read (item_path path 1) second >>= λ y. Ok (x, y))
+first_two read path ds = Err (fault_at WrongLength path)
 
-unfoldable pub pair : {A : Type 0} → ReaderOf A → ReaderOf (A × A)
-pair read path d = list 2 2 path d >>= pair_entries read path
+unfoldable pub two_entries : {A : Type 0} → ReaderOf A → ReaderOf (A × A)
+two_entries read path d = list 2 2 path d >>= first_two read path
 
 -- an array of n values, or one value for all
 unfoldable pub for_each : {A : Type 0} → ℕ → (List A → ReaderOf A) → ReaderOf (List A)

@@ -59,17 +59,17 @@ fn entries<R: Reader>(
 
 /// An array of two entries.
 #[derive(Drop)]
-pub struct Both<R> {
+pub struct TwoEntries<R> {
     pub entry: R,
 }
 
-impl<R: Reader> Reader for Both<R> {
+impl<R: Reader> Reader for TwoEntries<R> {
     ghost use Rattle.std.specs.Prelude.{[]};
-    ghost use Rattle.vr_json.specs.Reading.{pair};
+    ghost use Rattle.vr_json.specs.Reading.{two_entries};
 
     type Item = (R::Item, R::Item);
 
-    ghost reads = { λ it earlier path d. pair (R.reads it.entry []) path d };
+    ghost reads = { λ it earlier path d. two_entries (R.reads it.entry []) path d };
 
     fn read(
         &self,

@@ -3,7 +3,7 @@
 ghost use Rattle.std.specs.Prelude.{◌≡◌, map, option_map, string_bytes};
 ghost use Rattle.serde_json.specs.View.{members_view, view};
 ghost use Rattle.vr_json.specs.Reading as reading;
-ghost use Rattle.vr_json.specs.Reading.{Answers, is_named as is_named_of, seen, unknown_key};
+ghost use Rattle.vr_json.specs.Reading.{Answers, seen, unknown_key};
 
 use crate::fault::refusal;
 use crate::{Cause, Path, ReadFail};
@@ -30,7 +30,7 @@ pub fn field<'a>(
 
 // Whether a key is one of the names.
 fn is_named(names: &[&str], key: &str) -> bool
-    ensures { result ≡ is_named_of (map (λ name. name.now) names.now) key.now }
+    ensures { result ≡ reading.is_named (map (λ name. name.now) names.now) key.now }
 {
     names.iter().any(|name| *name == key)
 }

@@ -3,8 +3,9 @@
 ghost use Rattle.std.specs.Prelude.{◌≡◌, ◌≤ℤ◌, ◌<◌, length, map, position, IfOk, IfSome};
 ghost use Rattle.std.specs.Str.{bytes_eq};
 ghost use Rattle.serde_json.specs.View.{view};
-ghost use Rattle.vr_json.specs.Kinds.{whole as whole_of, whole_in as whole_found, text as text_of, word as word_of, word_in as word_found, flag as flag_of, flag_in as flag_found};
-ghost use Rattle.vr_json.specs.Reading.{Answers, list as list_of, seen};
+ghost use Rattle.vr_json.specs.Kinds as kinds;
+ghost use Rattle.vr_json.specs.Reading as reading;
+ghost use Rattle.vr_json.specs.Reading.{Answers, seen};
 
 use crate::fault::refusal;
 use crate::reader::settle;
@@ -15,7 +16,7 @@ use vr_model::Text;
 
 // A whole number in `lo..=hi`.
 pub(crate) fn whole_in(value: &Value, lo: i64, hi: i64) -> Result<i64, Cause>
-    ensures { result ≡ whole_found lo hi (view value.now) }
+    ensures { result ≡ kinds.whole_in lo hi (view value.now) }
 {
     let number = value.as_number().ok_or(Cause::OtherKind)?;
     let whole = number.as_i64().ok_or(Cause::NotWhole)?;
@@ -36,7 +37,7 @@ fn place_of(words: &[&str], text: &str) -> Option<usize>
 
 // The number of the first of some words that the value is.
 pub(crate) fn word_in(value: &Value, words: &[&str]) -> Result<usize, Cause>
-    ensures found { result ≡ word_found (map (λ w. w.now) words.now) (view value.now) }
+    ensures found { result ≡ kinds.word_in (map (λ w. w.now) words.now) (view value.now) }
     ensures within { IfOk result (λ k. k < length words.now) }
 {
     let text = value.as_str().ok_or(Cause::OtherKind)?;
@@ -45,7 +46,7 @@ pub(crate) fn word_in(value: &Value, words: &[&str]) -> Result<usize, Cause>
 
 // A boolean.
 pub(crate) fn flag_in(value: &Value) -> Result<bool, Cause>
-    ensures { result ≡ flag_found (view value.now) }
+    ensures { result ≡ kinds.flag_in (view value.now) }
 {
     value.as_bool().ok_or(Cause::OtherKind)
 }
@@ -55,7 +56,7 @@ pub(crate) fn flag_in(value: &Value) -> Result<bool, Cause>
 /// Refused at `path`: `OtherKind` where it is no number, `NotWhole` where it is no `i64` (as `5.0`,
 /// `-0` or a number from 2^63 on), `OutOfRange` outside the range; the first of these is the answer.
 pub fn whole(alloc: Global, value: &Value, lo: i64, hi: i64, path: &Path) -> Result<i64, ReadFail>
-    ensures found { Answers result (whole_of lo hi path.now (view value.now)) }
+    ensures found { Answers result (kinds.whole lo hi path.now (view value.now)) }
     ensures low { IfOk result (λ z. lo ≤ℤ z) }
     ensures high { IfOk result (λ z. z ≤ℤ hi) }
 {
@@ -73,7 +74,7 @@ pub fn list<'a>(
     hi: usize,
     path: &Path,
 ) -> Result<&'a [Value], ReadFail>
-    ensures { Answers (seen (λ s. map view s.now) result) (list_of lo hi path.now (view value.now)) }
+    ensures { Answers (seen (λ s. map view s.now) result) (reading.list lo hi path.now (view value.now)) }
 {
     match value.as_array() {
         None => Err(refusal(alloc, Cause::OtherKind, path.here())),
@@ -97,7 +98,7 @@ pub fn text(
     hi: usize,
     path: &Path,
 ) -> Result<Text, ReadFail>
-    ensures { Answers result (text_of lo hi path.now (view value.now)) }
+    ensures { Answers result (kinds.text lo hi path.now (view value.now)) }
 {
     match value.as_str() {
         None => Err(refusal(alloc, Cause::OtherKind, path.here())),
@@ -113,7 +114,7 @@ pub fn text(
 
 /// A boolean. Refused at `path`, as `OtherKind`, where it is none.
 pub fn flag(alloc: Global, value: &Value, path: &Path) -> Result<bool, ReadFail>
-    ensures { Answers result (flag_of path.now (view value.now)) }
+    ensures { Answers result (kinds.flag path.now (view value.now)) }
 {
     settle(alloc, flag_in(value), path.here())
 }
@@ -122,7 +123,7 @@ pub fn flag(alloc: Global, value: &Value, path: &Path) -> Result<bool, ReadFail>
 ///
 /// Refused at `path`: `OtherKind` where it is no string, then `UnknownWord` where it is no such word.
 pub fn word(alloc: Global, value: &Value, words: &[&str], path: &Path) -> Result<usize, ReadFail>
-    ensures found { Answers result (word_of (map (λ w. w.now) words.now) path.now (view value.now)) }
+    ensures found { Answers result (kinds.word (map (λ w. w.now) words.now) path.now (view value.now)) }
     ensures within { IfOk result (λ k. k < length words.now) }
 {
     settle(alloc, word_in(value, words), path.here())

@@ -3,7 +3,8 @@
 ghost use Rattle.std.specs.Prelude.{◌≡◌, ◌≤◌, ◌<◌, find, map, option_map, IfOk};
 ghost use Rattle.std.specs.Str.{bytes_eq};
 ghost use Rattle.serde_json.specs.View.{view};
-ghost use Rattle.vr_json.specs.Kinds.{below_in as below_found, choice_in as choice_found, count_in as count_found, named};
+ghost use Rattle.vr_json.specs.Kinds as kinds;
+ghost use Rattle.vr_json.specs.Kinds.{named};
 
 use crate::kinds::{flag_in, whole_in};
 use crate::{Cause, Place, ReadFail, Reader, settle, text};
@@ -45,7 +46,7 @@ pub struct Count {
 
 // A whole number in `lo..=hi`, as a count.
 fn count_in(value: &Value, lo: u32, hi: u32) -> Result<u32, Cause>
-    ensures { result ≡ count_found lo hi (view value.now) }
+    ensures { result ≡ kinds.count_in lo hi (view value.now) }
 {
     let whole = whole_in(value, i64::from(lo), i64::from(hi))?;
     Ok(whole as u32)
@@ -77,7 +78,7 @@ pub struct Below {
 
 // A whole number in `0..count`.
 fn below_in(value: &Value, count: u32) -> Result<u32, Cause>
-    ensures { result ≡ below_found count (view value.now) }
+    ensures { result ≡ kinds.below_in count (view value.now) }
 {
     let whole = whole_in(value, 0, i64::from(count) - 1)?;
     Ok(whole as u32)
@@ -144,7 +145,7 @@ fn meaning<T: Copy>(words: &[(&str, T)], text: &str) -> Option<T>
 
 // What the word stands for that the value is.
 fn choice_in<T: Copy>(value: &Value, words: &[(&str, T)]) -> Result<T, Cause>
-    ensures { result ≡ choice_found (map named words.now) (view value.now) }
+    ensures { result ≡ kinds.choice_in (map named words.now) (view value.now) }
 {
     let text = value.as_str().ok_or(Cause::OtherKind)?;
     meaning(words, text).ok_or(Cause::UnknownWord)

@@ -32,61 +32,93 @@ impl Reader for Digit {
     }
 }
 
-// Whether a reading is refused with this code at this path, or for the code 0 gives a value.
-fn answers<T: Drop>(read: Result<T, ReadFail>, code: u8, path: &str) -> bool {
-    match read {
-        Ok(_) => code == 0,
-        Err(ReadFail::Refused(fault)) => fault.code == code && fault.path.as_str() == path,
-        Err(ReadFail::NoMemory) => false,
+// Whether a call is refused with this code at this path.
+fn is_refused(fail: &ReadFail, code: u8, path: &str) -> bool {
+    match fail {
+        ReadFail::Refused(fault) => fault.code == code && fault.path.as_str() == path,
+        ReadFail::NoMemory => false,
+    }
+}
+
+// Whether a call gives this value, or is refused with this code at the path `/a`.
+fn is<T: PartialEq + Drop>(read: Result<T, ReadFail>, want: Result<T, u8>) -> bool {
+    match (read, want) {
+        (Ok(found), Ok(wanted)) => found == wanted,
+        (Err(fail), Err(code)) => is_refused(&fail, code, "/a"),
+        _ => false,
     }
 }
 
 #[test]
-fn reads_each_kind(rt: HostRuntime) -> Result<(), Fail> {
+fn reads_numbers_words_and_flags(rt: HostRuntime) -> Result<(), Fail> {
     let alloc = rt.alloc();
     let path = Path::root(alloc).name("a").map_err(|_| "memory")?;
     let words = ["any", "lifo"];
-    for (source, of_whole, of_text, of_word, of_flag, of_list) in [
-        ("7", 0, 11, 11, 11, 11),
-        ("-1", 14, 11, 11, 11, 11),
-        ("10", 14, 11, 11, 11, 11),
-        ("5.0", 12, 11, 11, 11, 11),
-        ("9223372036854775808", 12, 11, 11, 11, 11),
-        ("-0", 12, 11, 11, 11, 11),
-        ("null", 11, 11, 11, 11, 11),
-        ("true", 11, 11, 11, 0, 11),
-        ("\"lifo\"", 11, 0, 0, 11, 11),
-        ("\"lif\"", 11, 0, 17, 11, 11),
-        ("\"\"", 11, 15, 17, 11, 11),
-        ("\"lifos\"", 11, 15, 17, 11, 11),
-        ("[]", 11, 11, 11, 11, 15),
-        ("[1]", 11, 11, 11, 11, 0),
-        ("[1,2,3]", 11, 11, 11, 11, 15),
-        ("{}", 11, 11, 11, 11, 11),
+    for (source, number, place, truth) in [
+        ("7", Ok(7), Err(11), Err(11)),
+        ("-1", Err(14), Err(11), Err(11)),
+        ("9", Ok(9), Err(11), Err(11)),
+        ("10", Err(14), Err(11), Err(11)),
+        ("5.0", Err(12), Err(11), Err(11)),
+        ("9223372036854775808", Err(12), Err(11), Err(11)),
+        ("-0", Err(12), Err(11), Err(11)),
+        ("null", Err(11), Err(11), Err(11)),
+        ("true", Err(11), Err(11), Ok(true)),
+        ("\"lifo\"", Err(11), Ok(1), Err(11)),
+        ("\"lif\"", Err(11), Err(17), Err(11)),
+        ("[1]", Err(11), Err(11), Err(11)),
     ] {
         let value = Value::from_str(alloc, source).map_err(|_| "no JSON")?;
-        assert!(rt;
-            answers(whole(alloc, &value, 0, 9, &path), of_whole, "/a"),
-            "{source}"
-        );
-        assert!(rt;
-            answers(text(alloc, &value, 1, 4, &path), of_text, "/a"),
-            "{source}"
-        );
-        assert!(rt;
-            answers(word(alloc, &value, &words, &path), of_word, "/a"),
-            "{source}"
-        );
-        assert!(rt;
-            answers(flag(alloc, &value, &path), of_flag, "/a"),
-            "{source}"
-        );
-        assert!(rt;
-            answers(list(alloc, &value, 1, 2, &path), of_list, "/a"),
-            "{source}"
-        );
+        assert!(rt; is(whole(alloc, &value, 0, 9, &path), number), "{source}");
+        assert!(rt; is(word(alloc, &value, &words, &path), place), "{source}");
+        assert!(rt; is(flag(alloc, &value, &path), truth), "{source}");
     }
     Ok(())
+}
+
+// The text of one to four bytes that a value is.
+fn text_of(alloc: Global, value: &Value, want: Result<&str, u8>, path: &Path) -> bool {
+    match (text(alloc, value, 1, 4, path), want) {
+        (Ok(found), Ok(wanted)) => found.as_str() == wanted,
+        (Err(fail), Err(code)) => is_refused(&fail, code, "/a"),
+        _ => false,
+    }
+}
+
+// The number of the one or two entries of the array that a value is.
+fn length_of(alloc: Global, value: &Value, path: &Path) -> Result<usize, ReadFail> {
+    let values = list(alloc, value, 1, 2, path)?;
+    Ok(values.len())
+}
+
+#[test]
+fn reads_texts_and_lists(rt: HostRuntime) -> Result<(), Fail> {
+    let alloc = rt.alloc();
+    let path = Path::root(alloc).name("a").map_err(|_| "memory")?;
+    for (source, bytes, entries) in [
+        ("\"lifo\"", Ok("lifo"), Err(11)),
+        ("\"lifos\"", Err(15), Err(11)),
+        ("\"\"", Err(15), Err(11)),
+        ("7", Err(11), Err(11)),
+        ("[]", Err(11), Err(15)),
+        ("[1]", Err(11), Ok(1)),
+        ("[1,2]", Err(11), Ok(2)),
+        ("[1,2,3]", Err(11), Err(15)),
+    ] {
+        let value = Value::from_str(alloc, source).map_err(|_| "no JSON")?;
+        assert!(rt; text_of(alloc, &value, bytes, &path), "{source}");
+        assert!(rt; is(length_of(alloc, &value, &path), entries), "{source}");
+    }
+    Ok(())
+}
+
+// Whether digits were read so, or refused with this code at this path.
+fn are(read: Result<Seq<i64>, ReadFail>, want: Result<&[i64], (u8, &str)>) -> bool {
+    match (read, want) {
+        (Ok(found), Ok(wanted)) => found.as_slice() == wanted,
+        (Err(fail), Err((code, path))) => is_refused(&fail, code, path),
+        _ => false,
+    }
 }
 
 #[test]
@@ -98,25 +130,44 @@ fn reads_fields_and_entries(rt: HostRuntime) -> Result<(), Fail> {
         hi: 3,
         entry: Digit,
     };
-    for (source, of_required, required_at, of_optional, of_known, known_at) in [
-        ("{\"b\":[1,2]}", 0, "", 0, 0, ""),
-        ("{\"b\":[1,10,-1]}", 14, "/b/1", 14, 0, ""),
-        ("{\"b\":[]}", 15, "/b", 15, 0, ""),
-        ("{\"b\":null}", 11, "/b", 11, 0, ""),
-        ("{\"z\":0,\"\":1,\"a\\/b\":2}", 10, "/b", 0, 13, "/"),
-        ("{\"z\":0,\"b\":[9],\"a\\/\\\"\":2}", 0, "", 0, 13, "/a/\""),
-        ("[]", 11, "", 11, 11, ""),
+    let none: &[i64] = &[];
+    for (source, of_required, of_optional) in [
+        (
+            "{\"b\":[1,2]}",
+            Ok([1, 2].as_slice()),
+            Ok([1, 2].as_slice()),
+        ),
+        ("{\"b\":[1,10,-1]}", Err((14, "/b/1")), Err((14, "/b/1"))),
+        ("{\"b\":[]}", Err((15, "/b")), Err((15, "/b"))),
+        ("{\"b\":null}", Err((11, "/b")), Err((11, "/b"))),
+        ("{\"z\":0}", Err((10, "/b")), Ok(none)),
+        ("[]", Err((11, "")), Err((11, ""))),
     ] {
         let value = Value::from_str(alloc, source).map_err(|_| "no JSON")?;
         let read = required(alloc, &value, "b", &root, &digits);
-        assert!(rt; answers(read, of_required, required_at), "{source}");
+        assert!(rt; are(read, of_required), "{source}");
         let read = optional(alloc, &value, "b", &root, Seq::new(alloc), &digits);
-        assert!(rt; answers(read, of_optional, required_at), "{source}");
-        assert!(rt;
-            answers(known(alloc, &value, &["b"], &root), of_known, known_at),
-            "{source}"
-        );
+        assert!(rt; are(read, of_optional), "{source}");
     }
+    Ok(())
+}
+
+#[test]
+fn refuses_the_first_unknown_key(rt: HostRuntime) -> Result<(), Fail> {
+    let alloc = rt.alloc();
+    let root = Path::root(alloc);
+    for (source, want) in [
+        ("{\"z\":0,\"\":1,\"a\\/b\":2}", "/"),
+        ("{\"z\":0,\"b\":[9],\"a\\/\\\"\":2}", "/a/\""),
+    ] {
+        let value = Value::from_str(alloc, source).map_err(|_| "no JSON")?;
+        match known(alloc, &value, &["b"], &root) {
+            Ok(()) => assert!(rt; false, "{source}"),
+            Err(fail) => assert!(rt; is_refused(&fail, 13, want), "{source}"),
+        }
+    }
+    let value = Value::from_str(alloc, "{\"b\":0}").map_err(|_| "no JSON")?;
+    assert!(rt; known(alloc, &value, &["b"], &root).is_ok());
     Ok(())
 }
 

@@ -11,7 +11,7 @@ use Rattle.vr_json.specs.Reading.{ReaderOf, array}
 use Rattle.vr_json.proofs.Lists.{list_any-map}
 use Rattle.vr_model.specs.tables.WellFormed.{HasLength, are_distinct_names}
 use Rattle.vr_model.specs.routes.Routes.{is_same, is_distinct, holds}
-use Rattle.vr_read.proofs.WellFormedParts.{EachEnsures, EachFresh, weaker, array_keeps}
+use Rattle.vr_json.proofs.Readings.{EachEnsures, EachFresh, weaker, array_keeps}
 
 pub list_any-flat_map : {A B : Type 0} (p : B → Bool) (f : A → List B) (xs : List A) → list_any p (flat_map f xs) ≡ list_any (λ x. list_any p (f x)) xs
 list_any-flat_map p f [] = refl

@@ -1,6 +1,5 @@
 pub mod Ranges
 pub mod Uses
-pub mod WellFormedParts
 pub mod Distinct
 pub mod WellFormedVehicles
 pub mod WellFormedDimensions

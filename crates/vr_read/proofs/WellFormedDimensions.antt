@@ -18,7 +18,7 @@ use Rattle.vr_read.specs.declared.dimensions.Transits.{Transits}
 use Rattle.vr_read.specs.declared.dimensions.Bounds.{Bounds}
 use Rattle.vr_read.specs.declared.dimensions.Rows.{Rows}
 use Rattle.vr_read.specs.Dimensions.{evaluator, capped, name, transits, bounds, rows as stop_tables, dimension}
-use Rattle.vr_read.proofs.WellFormedParts.{EachEnsures, EachFresh, IsFull, gives, after, any_value, weaker, whole_ensures, below_ensures, text_ensures, required_ensures, optional_ensures, maybe_ensures, refuse_if_ensures, array_ensures, full_array_ensures, for_each_ensures, pair_ensures, replicated}
+use Rattle.vr_json.proofs.Readings.{EachEnsures, EachFresh, IsFull, gives, after, any_value, weaker, whole_ensures, below_ensures, text_ensures, required_ensures, optional_ensures, maybe_ensures, refuse_if_ensures, array_ensures, full_array_ensures, for_each_ensures, two_entries_ensure, replicated}
 use Rattle.vr_read.proofs.Distinct.{numbered_array_ensures}
 use Rattle.vr_read.proofs.WellFormedVehicles.{visit_ensures}
 
@@ -30,7 +30,7 @@ in_order x y h = grind (arith, ints)
 interval_ensures : EachEnsures IsInterval interval
 unfolding interval
 interval_ensures path d =
-    after (pair_ensures (whole_ensures (pos 0) horizon) path d) λ ends in_range.
+    after (two_entries_ensure (whole_ensures (pos 0) horizon) path d) λ ends in_range.
     after (refuse_if_ensures (int_lt ends.1 ends.0) _ _) λ ordered kept.
     gives (record { lo_in_range = in_range.0.at_least; in_order = in_order _ _ kept; hi_in_range = in_range.1.at_most })
 

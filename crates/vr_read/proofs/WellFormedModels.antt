@@ -22,7 +22,7 @@ use Rattle.vr_read.specs.declared.model.Parts.{Parts}
 use Rattle.vr_read.specs.Parts.{HasParts}
 use Rattle.vr_read.specs.Rules.{for_all, rules}
 use Rattle.vr_read.specs.Models.{parts, model_table, read_model}
-use Rattle.vr_read.proofs.WellFormedParts.{Ensures, EachEnsures, gives, after, any_value, weaker, for_every, answered, count_ensures, required_ensures, optional_ensures, refuse_if_ensures, array_ensures}
+use Rattle.vr_json.proofs.Readings.{Ensures, EachEnsures, gives, after, any_value, weaker, for_every, answered, count_ensures, required_ensures, optional_ensures, refuse_if_ensures, array_ensures}
 use Rattle.vr_read.proofs.Distinct.{named_array_ensures}
 use Rattle.vr_read.proofs.WellFormedVehicles.{matrix_ensures, vehicle_ensures}
 use Rattle.vr_read.proofs.WellFormedDimensions.{dimension_ensures}

@@ -9,7 +9,7 @@ use Rattle.vr_model.specs.tables.Tables.{is_visit}
 use Rattle.vr_model.specs.tables.WellFormed.{IsMatrix, IsVehicle, least_value, greatest_cost}
 use Rattle.vr_model.specs.declared.records.Model.{Model}
 use Rattle.vr_read.specs.Vehicles.{matrix, vehicle, is_terminal, visit}
-use Rattle.vr_read.proofs.WellFormedParts.{EachEnsures, IsFull, gives, after, any_value, whole_ensures, below_ensures, required_ensures, optional_ensures, refuse_if_ensures, full_array_ensures}
+use Rattle.vr_json.proofs.Readings.{EachEnsures, IsFull, gives, after, any_value, whole_ensures, below_ensures, required_ensures, optional_ensures, refuse_if_ensures, full_array_ensures}
 
 -- rows of n entries each, one behind another
 length-rows : (n : ℕ) (P : ℤ → Type 0) (rows : List (List ℤ)) → All (IsFull n P) rows → length (flat_map (λ row. row) rows) ≡ length rows * n

@@ -18,7 +18,7 @@ use Rattle.vr_model.specs.declared.records.Group.{Group}
 use Rattle.vr_model.specs.declared.records.Pair.{Pair}
 use Rattle.vr_read.specs.Vehicles.{visit}
 use Rattle.vr_read.specs.Visits.{group_node, group, is_paired, pair, allowed_vehicle, allowed}
-use Rattle.vr_read.proofs.WellFormedParts.{EachEnsures, EachFresh, gives, after, any_value, whole_ensures, count_ensures, below_ensures, required_ensures, optional_ensures, maybe_ensures, refuse_if_ensures, array_keeps}
+use Rattle.vr_json.proofs.Readings.{EachEnsures, EachFresh, gives, after, any_value, whole_ensures, count_ensures, below_ensures, required_ensures, optional_ensures, maybe_ensures, refuse_if_ensures, array_keeps}
 use Rattle.vr_read.proofs.Distinct.{is_distinct_push, numbered_array_ensures, list_any-flat_map, list_any_same, eqb_turned}
 use Rattle.vr_read.proofs.WellFormedVehicles.{visit_ensures}
 

@@ -2,7 +2,7 @@
 use Rattle.std.specs.Prelude.{ℕ, ◌==◌, List, [], ◌∷◌, pos, codes, Ok}
 use Rattle.std.specs.List.{list_any}
 use Rattle.vr_json.specs.declared.fault.Cause.TheVariants.{Repeated}
-use Rattle.vr_json.specs.Reading.{◌>>=◌, ReaderOf, optional, known, array, pair, refuse_if}
+use Rattle.vr_json.specs.Reading.{◌>>=◌, ReaderOf, optional, known, array, two_entries, refuse_if}
 use Rattle.vr_json.specs.Kinds.{whole, count, choice}
 use Rattle.vr_model.specs.tables.WellFormed.{number_of}
 use Rattle.vr_model.specs.declared.records.SearchRow.{SearchRow}
@@ -50,7 +50,7 @@ search_row path d = do
   improvement ← optional (codes "improve") improve.GreedyDescent (choice improvements) path d
   tries ← optional (codes "tries") 100000 (count 0 1000000000) path d
   solutions ← optional (codes "solutions") 1000000000 (count 1 1000000000) path d
-  lambda ← optional (codes "lambda") (pos 1, pos 10) (pair (whole (pos 1) (pos 1000))) path d
+  lambda ← optional (codes "lambda") (pos 1, pos 10) (two_entries (whole (pos 1) (pos 1000))) path d
   neighbourhoods ← optional (codes "neighbourhoods") all_neighbourhoods (array 0 11 neighbourhood) path d
   others ← known (codes "first" ∷ codes "improve" ∷ codes "tries" ∷ codes "solutions" ∷ codes "lambda" ∷ codes "neighbourhoods" ∷ []) path d
   Ok (record { first = first; improve = improvement; tries = tries; solutions = solutions; p = lambda.0; q = lambda.1; neighbourhoods = neighbourhoods })

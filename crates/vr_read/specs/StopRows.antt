@@ -3,7 +3,7 @@ use Rattle.std.specs.Prelude.{ℕ, ◌==◌, List, [], ◌∷◌, pos, int_lt, c
 use Rattle.std.specs.List.{list_any}
 use Rattle.vr_json.specs.declared.fault.Cause.TheVariants.{Repeated, Reversed}
 use Rattle.vr_json.specs.Paths.{name_path}
-use Rattle.vr_json.specs.Reading.{◌>>=◌, ReaderOf, required, optional, maybe, known, array, pair, refuse_if}
+use Rattle.vr_json.specs.Reading.{◌>>=◌, ReaderOf, required, optional, maybe, known, array, two_entries, refuse_if}
 use Rattle.vr_json.specs.Kinds.{whole, below}
 use Rattle.vr_model.specs.tables.Numbers.{horizon}
 use Rattle.vr_model.specs.tables.WellFormed.{greatest_coefficient}
@@ -16,7 +16,7 @@ use Rattle.vr_model.specs.declared.records.BreakRow.{BreakRow}
 -- an interval: an array of two whole numbers, the lower one first
 unfoldable pub interval : ReaderOf Interval
 interval path d = do
-  ends ← pair (whole (pos 0) horizon) path d
+  ends ← two_entries (whole (pos 0) horizon) path d
   ordered ← refuse_if (int_lt ends.1 ends.0) Reversed path
   Ok (record { lo = ends.0; hi = ends.1 })
 

@@ -8,7 +8,7 @@ ghost use Rattle.vr_read.specs.Searches.{all_neighbourhoods as all_of, default_s
 use serde_json::Value;
 use std::alloc::Global;
 use vr_json::{
-    Array, Both, Cause, Choice, Count, Place, ReadFail, Reader, Whole, known, optional, refuse_if,
+    Array, TwoEntries, Cause, Choice, Count, Place, ReadFail, Reader, Whole, known, optional, refuse_if,
 };
 use vr_model::{First, Improve, Neighbourhood, NoMemory, SearchRow, Seq};
 
@@ -171,7 +171,7 @@ impl Reader for SearchTable {
         let tries = optional(alloc, value, "tries", &path, TRIES, &count)?;
         let count = Count { lo: 1, hi: MOST };
         let solutions = optional(alloc, value, "solutions", &path, MOST, &count)?;
-        let weight = Both {
+        let weight = TwoEntries {
             entry: Whole { lo: 1, hi: 1000 },
         };
         let lambda = optional(alloc, value, "lambda", &path, (1, 10), &weight)?;

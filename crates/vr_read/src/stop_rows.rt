@@ -7,7 +7,7 @@ use crate::limits::{GREATEST_COEFFICIENT, HORIZON};
 use serde_json::Value;
 use std::alloc::Global;
 use vr_json::{
-    Array, Below, Both, Cause, Place, ReadFail, Reader, Whole, known, maybe, optional, refuse_if,
+    Array, Below, TwoEntries, Cause, Place, ReadFail, Reader, Whole, known, maybe, optional, refuse_if,
     required,
 };
 use vr_model::{BreakRow, Interval, Seq, Soft, StopRow, VehicleBreaks};
@@ -31,7 +31,7 @@ impl Reader for IntervalTable {
         place: Place<'_>,
     ) -> Result<Interval, ReadFail> {
         let cumul = Whole { lo: 0, hi: HORIZON };
-        let ends = Both { entry: cumul }.read(alloc, &[], value, place)?;
+        let ends = TwoEntries { entry: cumul }.read(alloc, &[], value, place)?;
         refuse_if(alloc, ends.1 < ends.0, Cause::Reversed, place)?;
         Ok(Interval {
             lo: ends.0,

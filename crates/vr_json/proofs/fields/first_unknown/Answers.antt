@@ -1,4 +1,4 @@
-use Rattle.std.proofs.Common.{ℕ, List, not, length, string_bytes, map, option_map, find, String, Global, Bor, sym, ap, ◌∙◌, rules, tests}
+use Rattle.std.proofs.Common.{ℕ, List, not, length, string_bytes, map, option_map, find, String, Global, Bor, ap, ◌∙◌, rules, tests}
 use Rattle.std.specs.Map.Iter.{deref, TakesFirst}
 use Rattle.std.proofs.lemmas.Iterator.Consumers.{YieldsList-from_shown}
 use Rattle.std.proofs.lemmas.Iterator.Search.{find_from_yields_List}

@@ -1,4 +1,4 @@
-use Rattle.std.proofs.Common.{option_map, sym, ap, ◌∙◌, arith}
+use Rattle.std.proofs.Common.{option_map, sym, ap, ◌∙◌}
 use Rattle.std.specs.Str.{bytes_eq}
 use Rattle.vr_json.specs.Kinds.{named}
 use Rattle.vr_json.proofs.Lists.{found_here, passed_over, none_left}

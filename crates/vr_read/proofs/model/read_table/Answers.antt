@@ -2,7 +2,7 @@ use Rattle.std.proofs.Common.{rules}
 use Rattle.vr_json.proofs.Steps.{then, stops, gives}
 use Rattle.vr_read.specs.Models.{model_table}
 use Rattle.std.proofs.Common.{arith}
-use Rattle.vr_json.proofs.Readings.{required_array-within}
+use Rattle.vr_json.proofs.Readings.{field_length}
 use Rattle.vr_read.proofs.model.read_table.Goals as goal
 
 pub returns-in_err-format : goal.returns-in_err-format
@@ -34,7 +34,7 @@ unfolding model_table
 returns c = then _ c.in_ok-format.ensures (then _ c.in_ok-nodes.ensures (then _ c.in_ok-matrices.ensures (then _ (rw c.len-count.ensures at c.in_ok-vehicles.ensures) (then _ (rw (c.len-count.ensures, c.len-fleet.ensures, c.as_slice-all.ensures) at c.in_ok-parts.ensures) (then _ c.in_ok-known.ensures (gives (search rules)))))))
 
 pub overflow_cast-count : goal.overflow_cast-count
-overflow_cast-count c = let within = required_array-within _ 1 16 _ _ _ _ c.in_ok-matrices.ensures.value in omega (arith, within.1, c.len-count.ensures)
+overflow_cast-count c = let within = field_length _ 1 16 _ _ _ _ c.in_ok-matrices.ensures in omega (arith, within.at_most, c.len-count.ensures)
 
 pub overflow_cast-fleet : goal.overflow_cast-fleet
-overflow_cast-fleet c = let within = required_array-within _ 1 100 _ _ _ _ c.in_ok-vehicles.ensures.value in omega (arith, within.1, c.len-fleet.ensures)
+overflow_cast-fleet c = let within = field_length _ 1 100 _ _ _ _ c.in_ok-vehicles.ensures in omega (arith, within.at_most, c.len-fleet.ensures)

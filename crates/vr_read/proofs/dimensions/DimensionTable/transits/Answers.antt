@@ -2,7 +2,7 @@ use Rattle.std.proofs.Common.{rules}
 use Rattle.vr_json.proofs.Steps.{then, stops, gives, otherwise}
 use Rattle.vr_read.specs.Dimensions.{transits}
 use Rattle.std.proofs.Common.{arith}
-use Rattle.vr_json.proofs.Readings.{required_array-within}
+use Rattle.vr_json.proofs.Readings.{field_length}
 use Rattle.vr_read.proofs.dimensions.DimensionTable.transits.Goals as goal
 
 pub returns-in_err-evaluators : goal.returns-in_err-evaluators
@@ -18,4 +18,4 @@ unfolding transits
 returns c = then _ c.in_ok-evaluators.ensures (then _ (otherwise _ _ _ _ c.in_ok-zeros.ensures (rw c.len-count.ensures at c.in_ok-vehicle_evaluators.ensures)) (gives (search rules)))
 
 pub overflow_cast-count : goal.overflow_cast-count
-overflow_cast-count c = let within = required_array-within _ 1 8 _ _ _ _ c.in_ok-evaluators.ensures.value in omega (arith, within.1, c.len-count.ensures)
+overflow_cast-count c = let within = field_length _ 1 8 _ _ _ _ c.in_ok-evaluators.ensures in omega (arith, within.at_most, c.len-count.ensures)
