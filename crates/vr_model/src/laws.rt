@@ -9,6 +9,7 @@ ghost use Rattle.vr_model.specs.schedules.ChosenLaws.{LeastCumulMayBePinned, One
 ghost use Rattle.vr_model.specs.schedules.Levels.{CumulWhereLevelsMeet, EndReachedByCrossing, FeasibleWhereLevelsMeet};
 ghost use Rattle.vr_model.specs.schedules.Levels.{ReachedAtEnd, ReachedAtStart, ReachedByCrossing};
 ghost use Rattle.vr_model.specs.moves.MoveTests.{MovesAsTested};
+ghost use Rattle.vr_model.specs.moves.MoveLaws.{MovesChangeLists, MovesKeepLists};
 ghost use Rattle.vr_model.specs.schedules.Runs.{RunsAsLongAsForm};
 ghost use Rattle.vr_model.specs.search.SearchLaws.{DescentBoundUnmet, GuidedBoundUnmet};
 ghost use Rattle.vr_model.specs.schedules.SoundLines.{LinesAreSound};
@@ -108,6 +109,16 @@ pub fn costs_are_bounded()
 /// neighbourhood.
 pub fn moves_as_tested()
     ensures { MovesAsTested }
+{}
+
+/// No move leaves lists of the model as they are.
+pub fn moves_change_lists()
+    ensures { MovesChangeLists }
+{}
+
+/// The lists after a move are lists of the model, so no visit stands twice in them.
+pub fn moves_keep_lists()
+    ensures { MovesKeepLists }
 {}
 
 /// A set has as many runs as its normal form is long.

@@ -15,7 +15,7 @@ use Rattle.vr_model.specs.routes.Routes.{route, is_empty, is_distinct, are_lists
 use Rattle.vr_model.specs.routes.Rules.{fits_group, active_in, is_open, is_route_open, is_valid}
 use Rattle.vr_model.specs.routes.Costs.{assigned, plan_at, start_at, end_at, greatest, least, arcs_part, fixed_part, global_span, global_part, penalty_for, penalty_part, soft_cost, row_cost, over_plans, soft_costs, soft_part, span_part}
 use Rattle.vr_model.specs.schedules.Lines.{line, stop_rows}
-use Rattle.vr_model.specs.schedules.Schedules.{Plan, IsSchedule, cumul}
+use Rattle.vr_model.specs.schedules.Schedules.{IsSchedule, cumul}
 use Rattle.vr_model.specs.deciding.Testing.{and_left, and_right, or_left, or_right, within_is, eq_of_tests}
 use Rattle.vr_model.specs.declared.records.Model.{Model}
 use Rattle.vr_model.specs.declared.records.Group.{Group}
@@ -144,9 +144,6 @@ module _ (model : Model) (well : IsWellFormed model) (lists : List (List ℕ)) (
   -- ---- plans
 
   module _ (d v : ℕ) (dimension : d < length model.dimensions) (known : v < length lists) (used : is_empty (route lists v) ≡ false) where
-    plan : Plan
-    plan = plan_at (assigned model lists) d v
-
     of_dimension : IsDimension model (dimension_at model d)
     of_dimension = well.each_dimension d no_dimension dimension
 
@@ -179,15 +176,6 @@ module _ (model : Model) (well : IsWellFormed model) (lists : List (List ℕ)) (
     pub softs-up_to : IsUpTo ((length (route lists v) + 2) * (10000 * 68719476736)) (soft_costs model (assigned model lists) d v)
     softs-up_to = subst (λ n. IsUpTo (n * (10000 * 68719476736)) (soft_costs model (assigned model lists) d v)) rows_many (zip-up_to (stop_rows (dimension_at model d) v (route lists v)) (plan_at (assigned model lists) d v).cumuls rows high)
       where
-        list : List ℕ
-        list = route lists v
-
-        visit_row : ℕ → Option StopRow
-        visit_row = row_of (dimension_at model d).nodes
-
-        end_row : Option StopRow
-        end_row = row_of (dimension_at model d).ends v
-
         rows_many : length (stop_rows (dimension_at model d) v (route lists v)) ≡ length (route lists v) + 2
         rows_many =
             let m = length-map (route lists v) (row_of (dimension_at model d).nodes) in
@@ -260,7 +248,6 @@ module _ (model : Model) (well : IsWellFormed model) (lists : List (List ℕ)) (
     where
       each : (v : ℕ) → v < length lists → IsUpTo ((length (route lists v) + 2) * (4 * (10000 * 68719476736))) (cond (is_empty (route lists v)) (pos 0) (sum_range (λ d. soft_costs model (assigned model lists) d v) 0 (length model.dimensions)))
       each v known = up_to-cond _ (is_empty (route lists v)) _ λ used.
-          let c = (length (route lists v) + 2) * (10000 * 68719476736) in
           let m = mul-le-mul_right ((length (route lists v) + 2) * (10000 * 68719476736)) well.number_of_dimensions in
           up_to-more _ (range-up_to (λ d. soft_costs model (assigned model lists) d v) ((length (route lists v) + 2) * (10000 * 68719476736)) (length model.dimensions) (λ d low. softs-up_to d v low known used)) (omega (arith, m))
 
