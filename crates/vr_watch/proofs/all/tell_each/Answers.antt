@@ -1,6 +1,6 @@
 use Rattle.std.proofs.Common.{◌∷◌}
 use Rattle.vr_watch.proofs.MapLemmas.{map-take_step, drop_step, map-take_end, map_in_part}
-use Rattle.vr_watch.proofs.Refusals.{on_err}
+use Rattle.vr_model.proofs.tables.Refusals.{on_err}
 use Rattle.vr_watch.proofs.all.tell_each.Goals as goal
 
 pub loop-watcher-preserved : goal.loop-watcher-preserved
