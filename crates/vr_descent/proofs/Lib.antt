@@ -1,0 +1,6 @@
+pub mod ScanLemmas
+pub mod EndLemmas
+pub mod GoingOn
+pub mod DescentLemmas
+pub mod ListingLemmas
+pub mod AnswerLemmas

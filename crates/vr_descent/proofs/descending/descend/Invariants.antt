@@ -1,0 +1,25 @@
+use Rattle.std.proofs.Common.{◌≡◌, ◌≤◌, ◌+◌, ◌-◌}
+use Rattle.std.specs.Prelude.{◌≤ℤ◌}
+use Rattle.vr_model.specs.routes.Costs.{cost}
+use Rattle.vr_model.specs.search.Descents.{descent}
+use Rattle.vr_routes.specs.Judging.{HoldSame}
+use Rattle.vr_descent.proofs.GoingOn.{Goes}
+use Rattle.vr_descent.proofs.DescentLemmas.{from_here}
+use Rattle.vr_descent.proofs.descending.descend.Given as goal
+
+-- the whole descent is the descent from here, behind what was told
+abbrev pub invariant-scans : goal.invariant-scans
+invariant-scans g l = record {
+  model : g.J.Judge.model l.judge ≡ l.model;
+  holds : HoldSame l.model (g.J.Judge.committed l.judge) l.routes;
+  costs : l.at.cost ≡ cost l.model l.routes.lists;
+  no_dearer : cost l.model l.routes.lists ≤ℤ cost l.model l.fn.routes.lists;
+  used : l.at.used ≤ l.limit.tries;
+  some : 1 ≤ l.at.found;
+  found : l.at.found ≤ l.limit.solutions;
+  asked : g.J.Judge.asked l.judge ≤ g.J.Judge.asked l.fn.judge + l.at.used;
+  goes : Goes (λ w. (goal.Watch-dyn g (w.vtable, w.value)).after w.value) (descent l.model l.fn.routes.lists l.limit) (from_here l.model l.limit l.routes.lists l.at.used l.at.found) l.fn.watch.items l.watch.items;
+}
+
+abbrev pub decreases-scans : goal.decreases-scans
+decreases-scans g l = l.limit.tries - l.at.used

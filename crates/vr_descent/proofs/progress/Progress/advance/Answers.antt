@@ -1,0 +1,199 @@
+use Rattle.std.proofs.Common.{◌≡◌, ◌∙◌, ◌+◌, ◌-◌, [], ◌∷◌, sym, ap, subst, arith, w64, to_z, of_z}
+use Rattle.std.proofs.lemmas.Int.{ints}
+use Rattle.std.specs.Prelude.{IsTrue}
+use Rattle.vr_model.specs.routes.Costs.{cost}
+use Rattle.vr_model.specs.moves.Moves.{apply}
+use Rattle.vr_model.specs.moves.MoveTests.{is_move}
+use Rattle.vr_model.specs.routes.Rules.{is_valid}
+use Rattle.vr_model.specs.tables.WellFormed.{IsWellFormed}
+use Rattle.vr_routes.specs.Judging.{HoldSame}
+use Rattle.vr_routes.specs.Judging.{moved}
+use Rattle.vr_watch.specs.Told.{Told, ToldInPart}
+use Rattle.vr_model.proofs.routes.CostFits.{costs_are_bounded}
+use Rattle.vr_model.proofs.tables.Refusals.{on_err}
+use Rattle.vr_watch.proofs.ToldLemmas.{none_behind, told_nothing}
+use Rattle.vr_model.specs.routes.CostLaws.{HasBoundedCost}
+use Rattle.vr_descent.specs.Scanned.{cost_change, tries_of}
+use Rattle.vr_descent.specs.Searching.{after_move, events_after, move_event, progress_after, routes_after}
+use Rattle.vr_descent.proofs.EndLemmas.{accepted_at, completed, was_cut}
+use Rattle.vr_descent.proofs.progress.Progress.advance.Goals as goal
+
+pub returns-in_err-ended-clause-told_in_part : goal.returns-in_err-ended-clause-told_in_part
+returns-in_err-ended-clause-told_in_part g c =
+    on_err c.from_residual.result (none_behind (λ w. (goal.Watch-dyn g (w.vtable, w.value)).after w.value) _ _ [] _ (told_nothing _ _))
+
+pub returns-in_err-ended-clause-judge_model : goal.returns-in_err-ended-clause-judge_model
+returns-in_err-ended-clause-judge_model g c =
+    c.in_err-ended.ensures.model ∙ c.requires.judge_model
+
+pub returns-in_err-ended-clause-holds : goal.returns-in_err-ended-clause-holds
+returns-in_err-ended-clause-holds g c =
+    subst (λ x. HoldSame c.args.model.now x c.args.routes.now) (sym c.in_err-ended.ensures.committed) c.requires.holds
+
+pub returns-in_err-ended-clause-asked_at_most : goal.returns-in_err-ended-clause-asked_at_most
+returns-in_err-ended-clause-asked_at_most g c =
+    on_err c.from_residual.result (omega (arith, c.in_err-ended.ensures.asked_at_most, c.requires.used))
+
+pub take-requires-clause-well_formed : goal.take-requires-clause-well_formed
+take-requires-clause-well_formed g c =
+    let same : g.J.Judge.model c.scan.new.judge ≡ c.args.model.now = c.in_ok-ended.ensures.model ∙ c.requires.judge_model in
+    subst IsWellFormed (sym same) c.requires.well_formed
+
+pub take-requires-clause-holds : goal.take-requires-clause-holds
+take-requires-clause-holds g c =
+    let same : g.J.Judge.model c.scan.new.judge ≡ c.args.model.now = c.in_ok-ended.ensures.model ∙ c.requires.judge_model in
+    subst (λ k. HoldSame k (g.J.Judge.committed c.scan.new.judge) c.args.routes.now) (sym same) (subst (λ x. HoldSame c.args.model.now x c.args.routes.now) (sym c.in_ok-ended.ensures.committed) c.requires.holds)
+
+pub take-requires-clause-mv : goal.take-requires-clause-mv
+take-requires-clause-mv g c =
+    let same : g.J.Judge.model c.scan.new.judge ≡ c.args.model.now = c.in_ok-ended.ensures.model ∙ c.requires.judge_model in
+    let at = accepted_at c.args.model.now (g.A.Accept.takes c.args.accept.now) c.args.routes.now.lists (c.args.limit.tries - c.args.self.now.used) c.in-Accepted.place c.in-Accepted.mv c.in-Accepted.difference (sym c.in-Accepted.is ∙ c.in_ok-ended.ensures.ends) in
+    subst (λ k. IsTrue (is_move k c.args.routes.now.lists c.in-Accepted.mv)) (sym same) at.is_one
+
+pub take-requires-clause-valid : goal.take-requires-clause-valid
+take-requires-clause-valid g c =
+    let same : g.J.Judge.model c.scan.new.judge ≡ c.args.model.now = c.in_ok-ended.ensures.model ∙ c.requires.judge_model in
+    let at = accepted_at c.args.model.now (g.A.Accept.takes c.args.accept.now) c.args.routes.now.lists (c.args.limit.tries - c.args.self.now.used) c.in-Accepted.place c.in-Accepted.mv c.in-Accepted.difference (sym c.in-Accepted.is ∙ c.in_ok-ended.ensures.ends) in
+    subst (λ k. IsTrue (is_valid k (apply k c.args.routes.now.lists c.in-Accepted.mv))) (sym same) at.valid
+
+pub take-requires-clause-fits : goal.take-requires-clause-fits
+take-requires-clause-fits g c =
+    let same : g.J.Judge.model c.scan.new.judge ≡ c.args.model.now = c.in_ok-ended.ensures.model ∙ c.requires.judge_model in
+    let at = accepted_at c.args.model.now (g.A.Accept.takes c.args.accept.now) c.args.routes.now.lists (c.args.limit.tries - c.args.self.now.used) c.in-Accepted.place c.in-Accepted.mv c.in-Accepted.difference (sym c.in-Accepted.is ∙ c.in_ok-ended.ensures.ends) in
+    subst (λ k. HasBoundedCost k (apply k c.args.routes.now.lists c.in-Accepted.mv)) (sym same) (costs_are_bounded c.args.model.now c.requires.well_formed _ at.valid)
+
+pub take-requires-clause-cost : goal.take-requires-clause-cost
+take-requires-clause-cost g c =
+    let same : g.J.Judge.model c.scan.new.judge ≡ c.args.model.now = c.in_ok-ended.ensures.model ∙ c.requires.judge_model in
+    c.requires.cost ∙ ap (λ k. cost k c.args.routes.now.lists) (sym same)
+
+pub take-requires-clause-difference : goal.take-requires-clause-difference
+take-requires-clause-difference g c =
+    let same : g.J.Judge.model c.scan.new.judge ≡ c.args.model.now = c.in_ok-ended.ensures.model ∙ c.requires.judge_model in
+    let at = accepted_at c.args.model.now (g.A.Accept.takes c.args.accept.now) c.args.routes.now.lists (c.args.limit.tries - c.args.self.now.used) c.in-Accepted.place c.in-Accepted.mv c.in-Accepted.difference (sym c.in-Accepted.is ∙ c.in_ok-ended.ensures.ends) in
+    let after = costs_are_bounded c.args.model.now c.requires.well_formed (apply c.args.model.now c.args.routes.now.lists c.in-Accepted.mv) at.valid in
+    let before = costs_are_bounded c.args.model.now c.requires.well_formed c.args.routes.now.lists c.requires.holds.valid in
+    let changes = at.changes in
+    let fits : to_z w64 (of_z w64 c.in-Accepted.difference) ≡ c.in-Accepted.difference = omega (arith, ints, changes, after.least, after.greatest, before.least, before.greatest) in
+    fits ∙ (changes ∙ ap (λ k. cost_change k c.args.routes.now.lists c.in-Accepted.mv) (sym same))
+
+pub take-requires-clause-tries : goal.take-requires-clause-tries
+take-requires-clause-tries g c =
+    let at = accepted_at c.args.model.now (g.A.Accept.takes c.args.accept.now) c.args.routes.now.lists (c.args.limit.tries - c.args.self.now.used) c.in-Accepted.place c.in-Accepted.mv c.in-Accepted.difference (sym c.in-Accepted.is ∙ c.in_ok-ended.ensures.ends) in
+    omega (arith, at.within, c.requires.tries, c.requires.used)
+
+pub returns-in_err-take-in-Accepted-clause-judge_model : goal.returns-in_err-take-in-Accepted-clause-judge_model
+returns-in_err-take-in-Accepted-clause-judge_model g c =
+    let same : g.J.Judge.model c.scan.new.judge ≡ c.args.model.now = c.in_ok-ended.ensures.model ∙ c.requires.judge_model in
+    c.in_err-take-in-Accepted.ensures.model ∙ same
+
+pub returns-in_err-take-in-Accepted-clause-holds : goal.returns-in_err-take-in-Accepted-clause-holds
+returns-in_err-take-in-Accepted-clause-holds g c =
+    let same : g.J.Judge.model c.scan.new.judge ≡ c.args.model.now = c.in_ok-ended.ensures.model ∙ c.requires.judge_model in
+    subst (λ k. HoldSame k (g.J.Judge.committed c.take.new.judge) c.take.new.routes) same c.in_err-take-in-Accepted.ensures.holds
+
+pub returns-in_err-take-in-Accepted-clause-told_in_part : goal.returns-in_err-take-in-Accepted-clause-told_in_part
+returns-in_err-take-in-Accepted-clause-told_in_part g c =
+    let same : g.J.Judge.model c.scan.new.judge ≡ c.args.model.now = c.in_ok-ended.ensures.model ∙ c.requires.judge_model in
+    let at = accepted_at c.args.model.now (g.A.Accept.takes c.args.accept.now) c.args.routes.now.lists (c.args.limit.tries - c.args.self.now.used) c.in-Accepted.place c.in-Accepted.mv c.in-Accepted.difference (sym c.in-Accepted.is ∙ c.in_ok-ended.ensures.ends) in
+    on_err c.from_residual-in_err-take-in-Accepted.result (subst (λ es. ToldInPart (λ w. (goal.Watch-dyn g (w.vtable, w.value)).after w.value) c.args.watch.now.items c.take.new.watch.items es)
+    (ap (λ k. move_event k c.args.routes.now.lists c.in-Accepted.mv (c.args.self.now.used + c.in-Accepted.place) ∷ []) same ∙ ap (events_after c.args.model.now c.args.routes.now.lists c.args.self.now.used) (sym at.scanned)) c.in_err-take-in-Accepted.ensures.told_in_part)
+
+pub returns-in_err-take-in-Accepted-clause-asked_at_most : goal.returns-in_err-take-in-Accepted-clause-asked_at_most
+returns-in_err-take-in-Accepted-clause-asked_at_most g c =
+    let at = accepted_at c.args.model.now (g.A.Accept.takes c.args.accept.now) c.args.routes.now.lists (c.args.limit.tries - c.args.self.now.used) c.in-Accepted.place c.in-Accepted.mv c.in-Accepted.difference (sym c.in-Accepted.is ∙ c.in_ok-ended.ensures.ends) in
+    on_err c.from_residual-in_err-take-in-Accepted.result (omega (arith, at.within, c.requires.used, c.in_err-take-in-Accepted.ensures.asked, c.in_ok-ended.ensures.asked, ap (tries_of (c.args.limit.tries - c.args.self.now.used)) c.in-Accepted.is))
+
+pub returns-in_ok-take-in-Accepted-clause-judge_model : goal.returns-in_ok-take-in-Accepted-clause-judge_model
+returns-in_ok-take-in-Accepted-clause-judge_model g c =
+    let same : g.J.Judge.model c.scan.new.judge ≡ c.args.model.now = c.in_ok-ended.ensures.model ∙ c.requires.judge_model in
+    c.in_ok-take-in-Accepted.ensures.model ∙ same
+
+pub returns-in_ok-take-in-Accepted-clause-holds : goal.returns-in_ok-take-in-Accepted-clause-holds
+returns-in_ok-take-in-Accepted-clause-holds g c =
+    let same : g.J.Judge.model c.scan.new.judge ≡ c.args.model.now = c.in_ok-ended.ensures.model ∙ c.requires.judge_model in
+    subst (λ k. HoldSame k (g.J.Judge.committed c.take.new.judge) c.take.new.routes) same c.in_ok-take-in-Accepted.ensures.holds
+
+pub returns-in_ok-take-in-Accepted-clause-told : goal.returns-in_ok-take-in-Accepted-clause-told
+returns-in_ok-take-in-Accepted-clause-told g c =
+    let same : g.J.Judge.model c.scan.new.judge ≡ c.args.model.now = c.in_ok-ended.ensures.model ∙ c.requires.judge_model in
+    let at = accepted_at c.args.model.now (g.A.Accept.takes c.args.accept.now) c.args.routes.now.lists (c.args.limit.tries - c.args.self.now.used) c.in-Accepted.place c.in-Accepted.mv c.in-Accepted.difference (sym c.in-Accepted.is ∙ c.in_ok-ended.ensures.ends) in
+    subst (λ es. Told (λ w. (goal.Watch-dyn g (w.vtable, w.value)).after w.value) c.args.watch.now.items c.take.new.watch.items es)
+    (ap (λ k. move_event k c.args.routes.now.lists c.in-Accepted.mv (c.args.self.now.used + c.in-Accepted.place) ∷ []) same ∙ ap (events_after c.args.model.now c.args.routes.now.lists c.args.self.now.used) (sym at.scanned)) c.in_ok-take-in-Accepted.ensures.told
+
+pub returns-in_ok-take-in-Accepted-clause-progress : goal.returns-in_ok-take-in-Accepted-clause-progress
+returns-in_ok-take-in-Accepted-clause-progress g c =
+    let same : g.J.Judge.model c.scan.new.judge ≡ c.args.model.now = c.in_ok-ended.ensures.model ∙ c.requires.judge_model in
+    let at = accepted_at c.args.model.now (g.A.Accept.takes c.args.accept.now) c.args.routes.now.lists (c.args.limit.tries - c.args.self.now.used) c.in-Accepted.place c.in-Accepted.mv c.in-Accepted.difference (sym c.in-Accepted.is ∙ c.in_ok-ended.ensures.ends) in
+    c.in_ok-take-in-Accepted.ensures.progress ∙ (ap (λ k. after_move k c.args.routes.now.lists c.in-Accepted.mv c.in-Accepted.place c.args.self.now) same ∙ ap (progress_after c.args.model.now c.args.limit c.args.routes.now.lists c.args.self.now) (sym at.scanned))
+
+pub returns-in_ok-take-in-Accepted-clause-routes : goal.returns-in_ok-take-in-Accepted-clause-routes
+returns-in_ok-take-in-Accepted-clause-routes g c =
+    let same : g.J.Judge.model c.scan.new.judge ≡ c.args.model.now = c.in_ok-ended.ensures.model ∙ c.requires.judge_model in
+    let at = accepted_at c.args.model.now (g.A.Accept.takes c.args.accept.now) c.args.routes.now.lists (c.args.limit.tries - c.args.self.now.used) c.in-Accepted.place c.in-Accepted.mv c.in-Accepted.difference (sym c.in-Accepted.is ∙ c.in_ok-ended.ensures.ends) in
+    c.in_ok-take-in-Accepted.ensures.routes ∙ (ap (λ k. moved k c.args.routes.now c.in-Accepted.mv) same ∙ ap (routes_after c.args.model.now c.args.routes.now) (sym at.scanned))
+
+pub returns-in_ok-take-in-Accepted-clause-asked : goal.returns-in_ok-take-in-Accepted-clause-asked
+returns-in_ok-take-in-Accepted-clause-asked g c =
+    omega (arith, c.in_ok-take-in-Accepted.ensures.asked, ap (λ p. p.used) c.in_ok-take-in-Accepted.ensures.progress, c.in_ok-ended.ensures.asked, ap (tries_of (c.args.limit.tries - c.args.self.now.used)) c.in-Accepted.is)
+
+pub overflow_add-self : goal.overflow_add-self
+overflow_add-self g c =
+    let done = completed c.args.model.now (g.A.Accept.takes c.args.accept.now) c.args.routes.now.lists (c.args.limit.tries - c.args.self.now.used) c.in-Complete.length (sym c.in-Complete.is ∙ c.in_ok-ended.ensures.ends) in
+    omega (arith, done.1, c.requires.tries, c.requires.used)
+
+pub returns-in-Complete-clause-progress : goal.returns-in-Complete-clause-progress
+returns-in-Complete-clause-progress g c =
+    let done = completed c.args.model.now (g.A.Accept.takes c.args.accept.now) c.args.routes.now.lists (c.args.limit.tries - c.args.self.now.used) c.in-Complete.length (sym c.in-Complete.is ∙ c.in_ok-ended.ensures.ends) in
+    ap (progress_after c.args.model.now c.args.limit c.args.routes.now.lists c.args.self.now) (sym done.0)
+
+pub returns-in-Complete-clause-routes : goal.returns-in-Complete-clause-routes
+returns-in-Complete-clause-routes g c =
+    let done = completed c.args.model.now (g.A.Accept.takes c.args.accept.now) c.args.routes.now.lists (c.args.limit.tries - c.args.self.now.used) c.in-Complete.length (sym c.in-Complete.is ∙ c.in_ok-ended.ensures.ends) in
+    ap (routes_after c.args.model.now c.args.routes.now) (sym done.0)
+
+pub returns-in-Complete-clause-told : goal.returns-in-Complete-clause-told
+returns-in-Complete-clause-told g c =
+    let done = completed c.args.model.now (g.A.Accept.takes c.args.accept.now) c.args.routes.now.lists (c.args.limit.tries - c.args.self.now.used) c.in-Complete.length (sym c.in-Complete.is ∙ c.in_ok-ended.ensures.ends) in
+    subst (λ es. Told (λ w. (goal.Watch-dyn g (w.vtable, w.value)).after w.value) c.args.watch.now.items c.args.watch.now.items es) (ap (events_after c.args.model.now c.args.routes.now.lists c.args.self.now.used) (sym done.0)) (told_nothing _ _)
+
+pub returns-in-Complete-clause-asked : goal.returns-in-Complete-clause-asked
+returns-in-Complete-clause-asked g c =
+    omega (arith, c.requires.used, c.in_ok-ended.ensures.asked, ap (tries_of (c.args.limit.tries - c.args.self.now.used)) c.in-Complete.is)
+
+pub returns-in-Complete-clause-judge_model : goal.returns-in-Complete-clause-judge_model
+returns-in-Complete-clause-judge_model g c =
+    let same : g.J.Judge.model c.scan.new.judge ≡ c.args.model.now = c.in_ok-ended.ensures.model ∙ c.requires.judge_model in
+    same
+
+pub returns-in-Complete-clause-holds : goal.returns-in-Complete-clause-holds
+returns-in-Complete-clause-holds g c =
+    subst (λ x. HoldSame c.args.model.now x c.args.routes.now) (sym c.in_ok-ended.ensures.committed) c.requires.holds
+
+pub returns-in-Cut-clause-progress : goal.returns-in-Cut-clause-progress
+returns-in-Cut-clause-progress g c =
+    let cut = was_cut c.args.model.now (g.A.Accept.takes c.args.accept.now) c.args.routes.now.lists (c.args.limit.tries - c.args.self.now.used) (sym c.in-Cut.is ∙ c.in_ok-ended.ensures.ends) in
+    ap (progress_after c.args.model.now c.args.limit c.args.routes.now.lists c.args.self.now) (sym cut)
+
+pub returns-in-Cut-clause-routes : goal.returns-in-Cut-clause-routes
+returns-in-Cut-clause-routes g c =
+    let cut = was_cut c.args.model.now (g.A.Accept.takes c.args.accept.now) c.args.routes.now.lists (c.args.limit.tries - c.args.self.now.used) (sym c.in-Cut.is ∙ c.in_ok-ended.ensures.ends) in
+    ap (routes_after c.args.model.now c.args.routes.now) (sym cut)
+
+pub returns-in-Cut-clause-told : goal.returns-in-Cut-clause-told
+returns-in-Cut-clause-told g c =
+    let cut = was_cut c.args.model.now (g.A.Accept.takes c.args.accept.now) c.args.routes.now.lists (c.args.limit.tries - c.args.self.now.used) (sym c.in-Cut.is ∙ c.in_ok-ended.ensures.ends) in
+    subst (λ es. Told (λ w. (goal.Watch-dyn g (w.vtable, w.value)).after w.value) c.args.watch.now.items c.args.watch.now.items es) (ap (events_after c.args.model.now c.args.routes.now.lists c.args.self.now.used) (sym cut)) (told_nothing _ _)
+
+pub returns-in-Cut-clause-asked : goal.returns-in-Cut-clause-asked
+returns-in-Cut-clause-asked g c =
+    omega (arith, c.requires.used, c.in_ok-ended.ensures.asked, ap (tries_of (c.args.limit.tries - c.args.self.now.used)) c.in-Cut.is)
+
+pub returns-in-Cut-clause-judge_model : goal.returns-in-Cut-clause-judge_model
+returns-in-Cut-clause-judge_model g c =
+    let same : g.J.Judge.model c.scan.new.judge ≡ c.args.model.now = c.in_ok-ended.ensures.model ∙ c.requires.judge_model in
+    same
+
+pub returns-in-Cut-clause-holds : goal.returns-in-Cut-clause-holds
+returns-in-Cut-clause-holds g c =
+    subst (λ x. HoldSame c.args.model.now x c.args.routes.now) (sym c.in_ok-ended.ensures.committed) c.requires.holds

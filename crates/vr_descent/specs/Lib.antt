@@ -1,0 +1,4 @@
+pub mod Listing
+pub mod Answering
+pub mod Scanned
+pub mod Searching

@@ -1,0 +1,36 @@
+-- What a scan answers.
+use Rattle.std.specs.Prelude.{ℕ, Bool, ◌&&◌, cond, List, ℤ, ◌-ℤ◌, Option, Some, None}
+use Rattle.vr_model.specs.moves.Moves.{apply}
+use Rattle.vr_model.specs.routes.Rules.{is_valid}
+use Rattle.vr_model.specs.routes.Costs.{cost}
+use Rattle.vr_model.specs.search.Scans.{Scan}
+use Rattle.vr_model.specs.search.Scans.Scan.{Accepted as accepted, Complete as complete, Cut as cut}
+use Rattle.vr_model.specs.declared.records.Model.{Model}
+use Rattle.vr_model.specs.declared.neighbours.Move.{Move}
+use Rattle.vr_descent.specs.declared.scanning.ScanEnd.{ScanEnd}
+use Rattle.vr_descent.specs.declared.scanning.ScanEnd.TheVariants.{Accepted, Complete, Cut}
+
+-- what a move makes of the cost of lists
+abbrev pub cost_change : Model → List (List ℕ) → Move → ℤ
+cost_change model lists mv = cost model (apply model lists mv) -ℤ cost model lists
+
+-- a move is acceptable where the lists after it are valid, and it is taken with the difference that it makes in cost
+abbrev pub is_acceptable : Model → (List (List ℕ) → Move → ℤ → Bool) → List (List ℕ) → Move → Bool
+is_acceptable model takes lists mv =
+    is_valid model (apply model lists mv) && takes lists mv (cost_change model lists mv)
+
+-- the difference of a move that is acceptable, none of another
+abbrev pub taken : Model → (List (List ℕ) → Move → ℤ → Bool) → List (List ℕ) → Move → Option ℤ
+taken model takes lists mv = cond (is_acceptable model takes lists mv) (Some (cost_change model lists mv)) None
+
+-- the end of a scan, with the difference of the move that was accepted
+abbrev pub scan_end : Model → List (List ℕ) → Scan → ScanEnd
+scan_end model lists (accepted place mv) = Accepted place mv (cost_change model lists mv)
+scan_end model lists (complete n) = Complete n
+scan_end model lists cut = Cut
+
+-- how many moves were tried in a scan that could try `rest` moves
+abbrev pub tries_of : ℕ → ScanEnd → ℕ
+tries_of rest (Accepted place mv change) = place
+tries_of rest (Complete n) = n
+tries_of rest Cut = rest

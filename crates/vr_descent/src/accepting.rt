@@ -1,0 +1,33 @@
+//! The trait of what a search accepts.
+
+ghost use Rattle.std.specs.Prelude.{◌≡◌, ℕ, ℤ, Bool, List, IsTrue};
+ghost use Rattle.vr_descent.specs.Scanned.{cost_change};
+ghost use Rattle.vr_model.specs.moves.Moves.{apply};
+ghost use Rattle.vr_model.specs.moves.MoveTests.{is_move};
+ghost use Rattle.vr_model.specs.routes.Rules.{is_valid};
+ghost use Rattle.vr_model.specs.tables.Tables.{visits};
+ghost use Rattle.vr_model.specs.tables.WellFormed.{IsWellFormed};
+ghost use Rattle.vr_model.specs.declared.neighbours.Move.{Move as Step};
+ghost use Rattle.vr_model.specs.declared.records.Model.{Model as RoutingModel};
+
+use vr_model::Move;
+use vr_routes::Routes;
+
+/// Says which moves a search takes. It means a model, and a test on lists, a move of theirs and the difference that the
+/// move makes in cost.
+pub trait Accept {
+    ghost model: { Self → RoutingModel };
+
+    /// Whether a move of lists is taken that makes this difference in cost.
+    ghost takes: { Self → List (List ℕ) → Step → ℤ → Bool };
+
+    /// Whether the move is taken. Takes no memory.
+    fn accepts(&self, routes: &Routes, mv: Move, difference: i64) -> bool
+        requires well_formed { IsWellFormed (model self.now) }
+        requires of_model { routes.now.visits ≡ visits (model self.now) }
+        requires valid { IsTrue (is_valid (model self.now) routes.now.lists) }
+        requires mv { IsTrue (is_move (model self.now) routes.now.lists mv) }
+        requires after { IsTrue (is_valid (model self.now) (apply (model self.now) routes.now.lists mv)) }
+        requires difference { difference ≡ cost_change (model self.now) routes.now.lists mv }
+        ensures { result ≡ takes self.now routes.now.lists mv difference };
+}

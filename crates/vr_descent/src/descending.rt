@@ -1,0 +1,92 @@
+//! Greedy descent.
+
+ghost use Rattle.std.specs.Prelude.{◌≡◌, ◌+◌, ◌≤◌, ◌≤ℤ◌, int_lt, pos, IfOk, OnOk, OnErr};
+ghost use Rattle.vr_model.specs.routes.Costs.{cost};
+ghost use Rattle.vr_model.specs.search.Descents.{descent};
+ghost use Rattle.vr_model.specs.tables.WellFormed.{IsWellFormed};
+ghost use Rattle.vr_routes.specs.Judging.{HoldSame};
+ghost use Rattle.vr_watch.specs.Told.{Told, ToldInPart};
+
+use crate::{Accept, Progress, ScanEnd};
+use std::sync::ledger::Ledger;
+use vr_model::{End, Kind, Limit, Model, Move, NoMemory, Report, Steps};
+use vr_routes::{Judge, Routes};
+use vr_watch::{Watch, note_all};
+
+// Takes each move that makes the cost less.
+#[derive(Clone, Copy)]
+struct Cheaper<'m> {
+    model: &'m Model,
+}
+
+impl<'m> Accept for Cheaper<'m> {
+    ghost model = { λ s. s.model.now };
+
+    ghost takes = { λ s lists mv difference. int_lt difference (pos 0) };
+
+    fn accepts(&self, _routes: &Routes, _mv: Move, difference: i64) -> bool {
+        difference < 0
+    }
+}
+
+/// Takes the first move that makes the cost less, again and again (`GREEDY_DESCENT` in OR-Tools), and tells the
+/// watchers of the first solution and of each move. Routes and judge then hold the last lists, which are the best.
+/// `limit` allows up to 10^9 tries and from 1 to 10^9 solutions.
+///
+/// The report's end is `Optimum` where no move of the last lists makes the cost less, `Tries` where the tries ran out
+/// before that was known, and `Solutions` where as many solutions were found as the limit allows.
+///
+/// The only refusal is want of memory. Routes and judge then hold the same valid lists, the judge was asked about no
+/// more moves than the limit has tries, and the watchers have been told the events up to there: of the event in hand,
+/// the first few. Memory is taken by the judge and the watchers alone.
+pub fn descend<J: Judge, L: Ledger>(
+    model: &Model,
+    judge: &mut J,
+    routes: &mut Routes,
+    first_cost: i64,
+    limit: Limit,
+    watch: &mut Vec<Box<dyn Watch>>,
+    steps: &mut Steps<L>,
+) -> Result<Report, NoMemory>
+    requires well_formed { IsWellFormed model.now }
+    requires judge_model { J.model judge.old ≡ model.now }
+    requires holds { HoldSame model.now (J.committed judge.old) routes.old }
+    requires first_cost { first_cost ≡ cost model.now routes.old.lists }
+    requires tries { limit.tries ≤ 1000000000 }
+    requires one_solution { 1 ≤ limit.solutions }
+    requires solutions { limit.solutions ≤ 1000000000 }
+    ensures report { IfOk result (λ report. report ≡ (descent model.now routes.old.lists limit).report) }
+    ensures last { OnOk result (routes.new.lists ≡ (descent model.now routes.old.lists limit).last) }
+    ensures best { OnOk result (routes.new.lists ≡ (descent model.now routes.old.lists limit).best) }
+    ensures told { OnOk result (Told (λ w later. after w later) watch.old.items watch.new.items
+        (descent model.now routes.old.lists limit).events) }
+    ensures asked { IfOk result (λ report. J.asked judge.new ≤ J.asked judge.old + report.tries) }
+
+    ensures no_more_tries { IfOk result (λ report. report.tries ≤ limit.tries) }
+    ensures some_solution { IfOk result (λ report. 1 ≤ report.solutions) }
+    ensures no_more_solutions { IfOk result (λ report. report.solutions ≤ limit.solutions) }
+    ensures no_dearer { OnOk result (cost model.now routes.new.lists ≤ℤ cost model.now routes.old.lists) }
+
+    ensures judge_model { J.model judge.new ≡ model.now }
+    ensures holds { HoldSame model.now (J.committed judge.new) routes.new }
+    ensures told_in_part { OnErr result (ToldInPart (λ w later. after w later) watch.old.items watch.new.items
+        (descent model.now routes.old.lists limit).events) }
+    ensures asked_at_most { OnErr result (J.asked judge.new ≤ J.asked judge.old + limit.tries) }
+{
+    let cheaper = Cheaper { model };
+    let mut at = Progress {
+        used: 0,
+        found: 1,
+        cost: first_cost,
+    };
+    note_all(watch, at.event(Kind::First))?;
+    'scans: while at.found != limit.solutions {
+        let ended = at.advance(model, judge, routes, &cheaper, limit, watch, steps)?;
+        match ended {
+            ScanEnd::Accepted { .. } => {}
+            ScanEnd::Complete { .. } => return Ok(at.report(End::Optimum)),
+            ScanEnd::Cut => return Ok(at.report(End::Tries)),
+        }
+    }
+    Ok(at.report(End::Solutions))
+}

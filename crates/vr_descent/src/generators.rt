@@ -1,0 +1,79 @@
+//! The moves of one neighbourhood, whichever it is.
+
+ghost use Rattle.std.specs.Prelude.{◌≡◌};
+ghost use Rattle.std.specs.Iterator.{YieldsFirst};
+ghost use Rattle.vr_descent.specs.Listing.{left_in};
+ghost use Rattle.vr_model.specs.moves.Moves.{moves_in};
+ghost use Rattle.vr_model.specs.tables.Tables.{visits};
+ghost use Rattle.vr_model.specs.tables.WellFormed.{IsWellFormed};
+
+use vr_model::{Model, Move, Neighbourhood};
+use vr_moves_active::{
+    MakeActiveMoves, MakeInactiveMoves, SwapActiveMoves, make_active, make_inactive, swap_active,
+};
+use vr_moves_cross::{CrossMoves, ExchangeMoves, RelocateMoves, cross_chains, exchange, relocate};
+use vr_moves_pair::{
+    PairActiveMoves, PairInactiveMoves, RelocatePairMoves, pair_active, pair_inactive,
+    relocate_pair,
+};
+use vr_moves_route::{OrOptMoves, TwoOptMoves, or_opt, two_opt};
+use vr_routes::Routes;
+
+/// The moves of one neighbourhood that are left to try.
+#[derive(Drop)]
+pub enum Generator<'a> {
+    TwoOpt(TwoOptMoves<'a>),
+    OrOpt(OrOptMoves<'a>),
+    Relocate(RelocateMoves<'a>),
+    Exchange(ExchangeMoves<'a>),
+    Cross(CrossMoves<'a>),
+    RelocatePair(RelocatePairMoves<'a>),
+    PairActive(PairActiveMoves<'a>),
+    PairInactive(PairInactiveMoves<'a>),
+    MakeActive(MakeActiveMoves<'a>),
+    MakeInactive(MakeInactiveMoves<'a>),
+    SwapActive(SwapActiveMoves<'a>),
+}
+
+impl<'a> Generator<'a> {
+    /// All moves of a neighbourhood, of the lists of routes.
+    pub fn open(neighbourhood: Neighbourhood, model: &'a Model, routes: &'a Routes) -> Generator<'a>
+        requires well_formed { IsWellFormed model.now }
+        requires of_model { routes.now.visits ≡ visits model.now }
+        ensures { left_in result ≡ moves_in model.now routes.now.lists neighbourhood }
+    {
+        match neighbourhood {
+            Neighbourhood::TwoOpt => Generator::TwoOpt(two_opt(routes)),
+            Neighbourhood::OrOpt => Generator::OrOpt(or_opt(routes)),
+            Neighbourhood::Relocate => Generator::Relocate(relocate(routes)),
+            Neighbourhood::Exchange => Generator::Exchange(exchange(routes)),
+            Neighbourhood::Cross => Generator::Cross(cross_chains(routes)),
+            Neighbourhood::RelocatePair => Generator::RelocatePair(relocate_pair(model, routes)),
+            Neighbourhood::PairActive => Generator::PairActive(pair_active(model, routes)),
+            Neighbourhood::PairInactive => Generator::PairInactive(pair_inactive(model, routes)),
+            Neighbourhood::MakeActive => Generator::MakeActive(make_active(routes)),
+            Neighbourhood::MakeInactive => Generator::MakeInactive(make_inactive(routes)),
+            Neighbourhood::SwapActive => Generator::SwapActive(swap_active(routes)),
+        }
+    }
+
+    /// Takes the first of the moves that are left, if there is one. Takes no memory.
+    #[inline]
+    pub fn step(&mut self) -> Option<Move>
+        ensures { YieldsFirst left_in self.old result self.new }
+    {
+        match self {
+            Generator::TwoOpt(moves) => moves.next(),
+            Generator::OrOpt(moves) => moves.next(),
+            Generator::Relocate(moves) => moves.next(),
+            Generator::Exchange(moves) => moves.next(),
+            Generator::Cross(moves) => moves.next(),
+            Generator::RelocatePair(moves) => moves.next(),
+            Generator::PairActive(moves) => moves.next(),
+            Generator::PairInactive(moves) => moves.next(),
+            Generator::MakeActive(moves) => moves.next(),
+            Generator::MakeInactive(moves) => moves.next(),
+            Generator::SwapActive(moves) => moves.next(),
+        }
+    }
+}

@@ -1,0 +1,103 @@
+//! The moves of the neighbourhoods of a model, in order.
+
+ghost use Rattle.std.specs.Prelude.{◌≡◌};
+ghost use Rattle.std.specs.Iterator.{YieldsFirst};
+ghost use Rattle.vr_descent.specs.Listing.{left_of};
+ghost use Rattle.vr_model.specs.moves.Moves.{moves, moves_in};
+ghost use Rattle.vr_model.specs.tables.Tables.{visits};
+ghost use Rattle.vr_model.specs.tables.WellFormed.{IsWellFormed};
+
+use crate::generators::Generator;
+use std::marker::Model;
+use vr_model::{Model as RoutingModel, Move, Neighbourhood};
+use vr_routes::Routes;
+
+/// The moves of lists that are left to try. Contracts see their list.
+#[derive(Drop)]
+pub struct MoveList<'a> {
+    model: &'a RoutingModel,
+    routes: &'a Routes,
+    // the neighbourhood in hand, and those behind it
+    current: Option<Generator<'a>>,
+    behind: &'a [Neighbourhood],
+}
+
+impl<'a> Model for MoveList<'a> {
+    ghost use Rattle.std.specs.Prelude.{◌≡◌, ◌++◌, List};
+    ghost use Rattle.vr_descent.specs.Listing.{left_of};
+    ghost use Rattle.vr_model.specs.moves.Moves.{moves_over};
+    ghost use Rattle.vr_model.specs.tables.Tables.{visits};
+    ghost use Rattle.vr_model.specs.tables.WellFormed.{IsWellFormed};
+    ghost use Rattle.vr_model.specs.declared.neighbours.Move.{Move as Step};
+
+    ghost Value = { List Step };
+
+    ghost view = { λ list. left_of list.current ++ moves_over list.model.now list.behind.now list.routes.now.lists };
+
+    ghost invariant = { λ list. IsWellFormed list.model.now × (list.routes.now.visits ≡ visits list.model.now) };
+}
+
+/// The moves of the neighbourhoods of a model, of the lists of routes: those of the first neighbourhood, then those of
+/// the second, and so on. Takes no memory.
+pub fn moves<'a>(model: &'a RoutingModel, routes: &'a Routes) -> MoveList<'a>
+    requires well_formed { IsWellFormed model.now }
+    requires of_model { routes.now.visits ≡ visits model.now }
+    ensures { result ≡ moves model.now routes.now.lists }
+{
+    MoveList {
+        model,
+        routes,
+        current: None,
+        behind: model.search.neighbourhoods.as_slice(),
+    }
+}
+
+impl<'a> Iterator for MoveList<'a> {
+    type Item = Move;
+
+    ghost use Rattle.std.specs.Iterator.{YieldsFirst, item_count};
+
+    ghost next_gives = { YieldsFirst (λ list. list) };
+
+    ghost remaining = { item_count (λ list. list) };
+
+    fn next(&mut self) -> Option<Move> {
+        loop {
+            if let Some(mv) = step_in(&mut self.current) {
+                return Some(mv);
+            }
+            match self.behind.split_first() {
+                Some((first, others)) => {
+                    open_in(&mut self.current, *first, self.model, self.routes);
+                    self.behind = others;
+                }
+                None => return None,
+            }
+        }
+    }
+}
+
+// Takes the first of the moves that are left of a neighbourhood, where there is one in hand.
+#[inline]
+fn step_in(current: &mut Option<Generator>) -> Option<Move>
+    ensures { YieldsFirst left_of current.old result current.new }
+{
+    match current {
+        Some(current) => current.step(),
+        None => None,
+    }
+}
+
+// Takes a neighbourhood in hand.
+fn open_in<'a>(
+    current: &mut Option<Generator<'a>>,
+    neighbourhood: Neighbourhood,
+    model: &'a RoutingModel,
+    routes: &'a Routes,
+)
+    requires well_formed { IsWellFormed model.now }
+    requires of_model { routes.now.visits ≡ visits model.now }
+    ensures { left_of current.new ≡ moves_in model.now routes.now.lists neighbourhood }
+{
+    *current = Some(Generator::open(neighbourhood, model, routes));
+}

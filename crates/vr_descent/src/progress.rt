@@ -1,0 +1,151 @@
+//! Where a search stands.
+
+ghost use Rattle.std.specs.Prelude.{◌≡◌, ◌+◌, ◌≤◌, ◌<◌, ◌^◌, [], ◌∷◌, IsTrue, IfOk, OnOk, OnErr};
+ghost use Rattle.vr_descent.specs.Scanned.{cost_change, scan_end};
+ghost use Rattle.vr_descent.specs.Searching.{after_move, event_of, events_after, move_event};
+ghost use Rattle.vr_descent.specs.Searching.{progress_after, routes_after, scan_of};
+ghost use Rattle.vr_model.specs.routes.CostLaws.{HasBoundedCost};
+ghost use Rattle.vr_model.specs.routes.Costs.{cost};
+ghost use Rattle.vr_model.specs.moves.Moves.{apply};
+ghost use Rattle.vr_model.specs.moves.MoveTests.{is_move};
+ghost use Rattle.vr_model.specs.routes.Rules.{is_valid};
+ghost use Rattle.vr_model.specs.tables.WellFormed.{IsWellFormed};
+ghost use Rattle.vr_routes.specs.Judging.{HoldSame, moved};
+ghost use Rattle.vr_watch.specs.Told.{Told, ToldInPart};
+
+use crate::{Accept, ScanEnd, scan};
+use std::sync::ledger::Ledger;
+use vr_model::{End, Event, Kind, Limit, Model, Move, NoMemory, Report, Steps};
+use vr_routes::{Judge, Routes};
+use vr_watch::{Watch, note_all};
+
+/// Where a search stands: the tries used, the solutions found, and the cost of the lists.
+#[derive(Clone, Copy)]
+pub struct Progress {
+    pub used: u64,
+    pub found: u64,
+    pub cost: i64,
+}
+
+impl Progress {
+    /// One scan: the first acceptable move is made and told to the watchers; the tries are counted.
+    ///
+    /// The only refusal is want of memory. Routes and judge then hold the same valid lists, and of the event in hand
+    /// some watchers at the front were told.
+    pub fn advance<J: Judge, A: Accept, L: Ledger>(
+        &mut self,
+        model: &Model,
+        judge: &mut J,
+        routes: &mut Routes,
+        accept: &A,
+        limit: Limit,
+        watch: &mut Vec<Box<dyn Watch>>,
+        steps: &mut Steps<L>,
+    ) -> Result<ScanEnd, NoMemory>
+        requires well_formed { IsWellFormed model.now }
+        requires judge_model { J.model judge.old ≡ model.now }
+        requires accept_model { A.model accept.now ≡ model.now }
+        requires holds { HoldSame model.now (J.committed judge.old) routes.old }
+        requires cost { self.old.cost ≡ cost model.now routes.old.lists }
+        requires tries { limit.tries ≤ 1000000000 }
+        requires used { self.old.used ≤ limit.tries }
+        requires found { self.old.found ≤ 1000000000 }
+        ensures ends { IfOk result (λ ended. ended ≡ scan_end model.now routes.old.lists
+            (scan_of model.now (A.takes accept.now) limit routes.old.lists self.old.used)) }
+        ensures progress { OnOk result (self.new ≡ progress_after model.now limit routes.old.lists self.old
+            (scan_of model.now (A.takes accept.now) limit routes.old.lists self.old.used)) }
+        ensures routes { OnOk result (routes.new ≡ routes_after model.now routes.old
+            (scan_of model.now (A.takes accept.now) limit routes.old.lists self.old.used)) }
+        ensures told { OnOk result (Told (λ w later. after w later) watch.old.items watch.new.items
+            (events_after model.now routes.old.lists self.old.used
+            (scan_of model.now (A.takes accept.now) limit routes.old.lists self.old.used))) }
+        ensures asked { OnOk result (J.asked judge.new + self.old.used ≤ J.asked judge.old + self.new.used) }
+
+        ensures judge_model { J.model judge.new ≡ model.now }
+        ensures holds { HoldSame model.now (J.committed judge.new) routes.new }
+        ensures told_in_part { OnErr result (ToldInPart (λ w later. after w later) watch.old.items watch.new.items
+            (events_after model.now routes.old.lists self.old.used
+            (scan_of model.now (A.takes accept.now) limit routes.old.lists self.old.used))) }
+        ensures asked_at_most { OnErr result (J.asked judge.new + self.old.used ≤ J.asked judge.old + limit.tries) }
+    {
+        let ended = scan(model, judge, routes, accept, limit.tries - self.used, steps)?;
+        match ended {
+            ScanEnd::Accepted {
+                place,
+                mv,
+                difference,
+            } => {
+                self.take(judge, routes, watch, place, mv, difference)?;
+                Ok(ended)
+            }
+            ScanEnd::Complete { length } => {
+                self.used += length;
+                Ok(ended)
+            }
+            ScanEnd::Cut => {
+                self.used = limit.tries;
+                Ok(ended)
+            }
+        }
+    }
+
+    // Makes an accepted move at a place of a scan, and tells the watchers. Where memory is wanting, routes and judge
+    // hold the same lists all the same.
+    fn take<J: Judge>(
+        &mut self,
+        judge: &mut J,
+        routes: &mut Routes,
+        watch: &mut Vec<Box<dyn Watch>>,
+        place: u64,
+        mv: Move,
+        difference: i64,
+    ) -> Result<(), NoMemory>
+        requires well_formed { IsWellFormed (J.model judge.old) }
+        requires holds { HoldSame (J.model judge.old) (J.committed judge.old) routes.old }
+        requires mv { IsTrue (is_move (J.model judge.old) routes.old.lists mv) }
+        requires valid { IsTrue (is_valid (J.model judge.old) (apply (J.model judge.old) routes.old.lists mv)) }
+        requires fits { HasBoundedCost (J.model judge.old) (apply (J.model judge.old) routes.old.lists mv) }
+        requires cost { self.old.cost ≡ cost (J.model judge.old) routes.old.lists }
+        requires difference { difference ≡ cost_change (J.model judge.old) routes.old.lists mv }
+        requires tries { self.old.used + place < 2 ^ 64 }
+        requires found { self.old.found + 1 < 2 ^ 64 }
+        ensures progress { OnOk result (self.new ≡ after_move (J.model judge.old) routes.old.lists mv place self.old) }
+        ensures routes { OnOk result (routes.new ≡ moved (J.model judge.old) routes.old mv) }
+        ensures holds { HoldSame (J.model judge.old) (J.committed judge.new) routes.new }
+        ensures model { J.model judge.new ≡ J.model judge.old }
+        ensures asked { J.asked judge.new ≡ J.asked judge.old }
+        ensures told { OnOk result (Told (λ w later. after w later) watch.old.items watch.new.items
+            (move_event (J.model judge.old) routes.old.lists mv (self.old.used + place) ∷ [])) }
+        ensures told_in_part { OnErr result (ToldInPart (λ w later. after w later) watch.old.items watch.new.items
+            (move_event (J.model judge.old) routes.old.lists mv (self.old.used + place) ∷ [])) }
+    {
+        judge.commit(routes, mv)?;
+        self.used += place;
+        self.found += 1;
+        self.cost += difference;
+        note_all(watch, self.event(Kind::Move))?;
+        Ok(())
+    }
+
+    /// The event of a kind where the search stands.
+    pub fn event(&self, kind: Kind) -> Event
+        ensures { result ≡ event_of self.now kind }
+    {
+        Event {
+            tries: self.used,
+            kind,
+            cost: self.cost,
+        }
+    }
+
+    /// The report of a search that ends here.
+    pub fn report(&self, end: End) -> Report
+        ensures { result ≡ record { tries = self.now.used; solutions = self.now.found; «end» = end } }
+    {
+        Report {
+            tries: self.used,
+            solutions: self.found,
+            end,
+        }
+    }
+}

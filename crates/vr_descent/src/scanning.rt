@@ -1,0 +1,105 @@
+//! The scan of a list of moves for the first that is acceptable.
+
+ghost use Rattle.std.specs.Prelude.{◌≡◌, ◌+◌, ◌≤◌, IsTrue, IfOk, OnErr};
+ghost use Rattle.vr_descent.specs.Scanned.{is_acceptable, scan_end, taken, tries_of};
+ghost use Rattle.vr_model.specs.moves.Moves.{moves};
+ghost use Rattle.vr_model.specs.moves.MoveTests.{is_move};
+ghost use Rattle.vr_model.specs.search.Scans.{scan};
+ghost use Rattle.vr_model.specs.tables.WellFormed.{IsWellFormed};
+ghost use Rattle.vr_routes.specs.Judging.{HoldSame};
+
+use crate::{Accept, moves};
+use std::sync::ledger::Ledger;
+use vr_model::{Model, Move, NoMemory, Steps};
+use vr_routes::{Judge, Routes, Verdict};
+
+/// How a scan of a list of moves ends.
+#[derive(Clone, Copy)]
+pub enum ScanEnd {
+    /// The first acceptable move stands at this place of the list, counted from 1.
+    Accepted {
+        place: u64,
+        mv: Move,
+        difference: i64,
+    },
+    /// No move of the list is acceptable; it is so long.
+    Complete {
+        length: u64,
+    },
+    /// The tries ran out.
+    Cut,
+}
+
+/// Tries the moves of the model's neighbourhoods in order, at most `rest` of them, up to the first that is acceptable:
+/// the lists after it are valid, and `accept` takes it. Each try is one step of the list of moves and one question to
+/// the judge.
+///
+/// The only refusal is want of memory, which is taken by the judge alone; the judge still holds the same lists then.
+pub fn scan<J: Judge, A: Accept, L: Ledger>(
+    model: &Model,
+    judge: &mut J,
+    routes: &Routes,
+    accept: &A,
+    rest: u64,
+    steps: &mut Steps<L>,
+) -> Result<ScanEnd, NoMemory>
+    requires well_formed { IsWellFormed model.now }
+    requires judge_model { J.model judge.old ≡ model.now }
+    requires accept_model { A.model accept.now ≡ model.now }
+    requires holds { HoldSame model.now (J.committed judge.old) routes.now }
+    ensures ends { IfOk result (λ ended. ended ≡ scan_end model.now routes.now.lists
+        (scan (moves model.now routes.now.lists)
+        (is_acceptable model.now (A.takes accept.now) routes.now.lists) rest)) }
+    ensures model { J.model judge.new ≡ J.model judge.old }
+    ensures committed { J.committed judge.new ≡ J.committed judge.old }
+    ensures asked { IfOk result (λ ended. J.asked judge.new ≤ J.asked judge.old + tries_of rest ended) }
+    ensures asked_at_most { OnErr result (J.asked judge.new ≤ J.asked judge.old + rest) }
+{
+    let mut list = moves(model, routes);
+    let mut place = 0;
+    while let Some(mv) = list.next() {
+        if place == rest {
+            return Ok(ScanEnd::Cut);
+        }
+        place += 1;
+        if let Some(difference) = try_move(judge, routes, accept, mv, steps)? {
+            return Ok(ScanEnd::Accepted {
+                place,
+                mv,
+                difference,
+            });
+        }
+    }
+    Ok(ScanEnd::Complete { length: place })
+}
+
+// Asks the judge about a move: the difference that it makes, where it is acceptable.
+#[inline]
+fn try_move<J: Judge, A: Accept, L: Ledger>(
+    judge: &mut J,
+    routes: &Routes,
+    accept: &A,
+    mv: Move,
+    steps: &mut Steps<L>,
+) -> Result<Option<i64>, NoMemory>
+    requires well_formed { IsWellFormed (J.model judge.old) }
+    requires accept_model { A.model accept.now ≡ J.model judge.old }
+    requires holds { HoldSame (J.model judge.old) (J.committed judge.old) routes.now }
+    requires mv { IsTrue (is_move (J.model judge.old) routes.now.lists mv) }
+    ensures answer { IfOk result (λ answer. answer
+        ≡ taken (J.model judge.old) (A.takes accept.now) routes.now.lists mv) }
+    ensures model { J.model judge.new ≡ J.model judge.old }
+    ensures committed { J.committed judge.new ≡ J.committed judge.old }
+    ensures asked { J.asked judge.new ≤ J.asked judge.old + 1 }
+{
+    match judge.judge(routes, mv, steps)? {
+        Verdict::Refused => Ok(None),
+        Verdict::Difference(difference) => {
+            if accept.accepts(routes, mv, difference) {
+                Ok(Some(difference))
+            } else {
+                Ok(None)
+            }
+        }
+    }
+}
