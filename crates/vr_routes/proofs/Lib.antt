@@ -14,3 +14,4 @@ pub mod ListsLemmas
 pub mod ElsewhereLemmas
 pub mod RestLemmas
 pub mod PartLemmas
+pub mod IdleLemmas

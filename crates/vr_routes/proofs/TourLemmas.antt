@@ -2,6 +2,8 @@
 use Rattle.std.proofs.Common.{◌⊎◌, inl, inr, length-set, ◌≡◌, ◌∙◌, ℕ, zero, suc, ◌+◌, ◌<◌, ◌≤◌, Bool, true, false, List, [], ◌∷◌, ◌++◌, length, refl, sym, ap, subst, arith, replicate, append_assoc, cond, add-one}
 use Rattle.std.specs.Prelude.{◌==◌, nat_lt, slice_index, IsTrue, All, slice_set, filter}
 use Rattle.std.proofs.lemmas.List.Elements.{All-filter, filter_passes}
+use Rattle.std.specs.List.Sorted.{IsStrictlyIncreasing}
+use Rattle.std.proofs.lemmas.List.Kept.{IsStrictlyIncreasing-filter}
 use Rattle.std.proofs.lemmas.List.Sums.{length-filter, count_by-le-length}
 use Rattle.std.proofs.lemmas.List.FromFn.{length-range_with_len, get_or-range_with_len}
 use Rattle.std.proofs.lemmas.List.{get_or_append_left, get_or_push, length-append}
@@ -36,6 +38,14 @@ written_again old now next v list rest e f low =
 pub visits_below : (model : Model) → All (λ node. node < model.nodes) (visits model)
 visits_below model = All-filter (is_visit model) (λ node. node < model.nodes) (below model.nodes)
     (λ k d low. let n = length-range_with_len 0 model.nodes in let here : k < model.nodes = omega (arith, low, n) in let e = get_or-range_with_len 0 model.nodes k d here in omega (arith, e, here))
+
+range_ascends : (a n : ℕ) → IsStrictlyIncreasing (range_with_len a n)
+range_ascends a n k low =
+    let here : k + 1 < n = omega (arith, low, length-range_with_len a n) in
+    omega (arith, get_or-range_with_len a n k 0 (omega (arith, here)), get_or-range_with_len a n (k + 1) 0 here)
+
+pub visits_ascend : (model : Model) → IsStrictlyIncreasing (visits model)
+visits_ascend model = IsStrictlyIncreasing-filter (is_visit model) (below model.nodes) (range_ascends 0 model.nodes)
 
 pub few_visits : (model : Model) → length (visits model) ≤ model.nodes
 few_visits model = omega (arith, length-filter (is_visit model) (below model.nodes), count_by-le-length (is_visit model) (below model.nodes), length-range_with_len 0 model.nodes)

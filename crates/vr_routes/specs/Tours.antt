@@ -1,5 +1,6 @@
 -- What is seen of routes.
 use Rattle.std.specs.Prelude.{◌≡◌, ℕ, ◌<◌, ◌≤◌, List, length, filter, not, IsTrue, All}
+use Rattle.std.specs.List.Sorted.{IsStrictlyIncreasing}
 use Rattle.vr_model.specs.tables.Tables.{is_visit}
 use Rattle.vr_model.specs.routes.Routes.{route, holds, is_active}
 use Rattle.vr_routes.specs.Seats.{Seated}
@@ -14,13 +15,15 @@ pub record Tours : Type 0 where
 abbrev pub idle : List ℕ → List (List ℕ) → List ℕ
 idle visits lists = filter (λ node. not (is_active lists node)) visits
 
--- what holds of all routes: few vehicles and nodes, all entries visits, and what is kept of the inactive ones
+-- what holds of all routes: few vehicles and nodes, visits that ascend, all entries visits, and what is kept of the
+-- inactive ones
 pub record AreKept (visits seating : Seated) (inactive : List ℕ) : Type 0 where
   pub one_list : length visits.lists ≡ 1
   pub same_nodes : visits.nodes ≡ seating.nodes
   pub few_nodes : seating.nodes ≤ 1000
   pub few_vehicles : length seating.lists ≤ 100
   pub few_visits : length (route visits.lists 0) ≤ 1000
+  pub visits_ascend : IsStrictlyIncreasing (route visits.lists 0)
   pub each_visit_is_node : All (λ node. node < seating.nodes) (route visits.lists 0)
   pub each_entry_is_visit : (node : ℕ)
       → IsTrue (is_active seating.lists node) → IsTrue (holds (route visits.lists 0) node)

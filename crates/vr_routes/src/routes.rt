@@ -3,6 +3,7 @@
 ghost use Rattle.std.specs.Prelude.{◌≡◌, ℕ, ◌+◌, ◌<◌, ◌≤◌, ◌&&◌, not, nat_le, true, false, IsTrue, All};
 ghost use Rattle.std.specs.Prelude.{[], ◌∷◌, ◌++◌, filter, find, length, slice_index, replicate};
 ghost use Rattle.std.specs.Prelude.{MatchOption, IfOk, IfSome, IfNone};
+ghost use Rattle.std.specs.List.Sorted.{IsStrictlyIncreasing};
 ghost use Rattle.vr_model.specs.routes.Routes.{are_lists, route, holds, is_active};
 ghost use Rattle.vr_model.specs.moves.Moves.{with_route};
 ghost use Rattle.vr_model.specs.tables.Numbers.{below};
@@ -246,11 +247,7 @@ impl Routes {
     pub fn inactive_from(&self, node: u32) -> Option<u32>
         ensures { result ≡ find (λ x. nat_le node x) (idle self.now.visits self.now.lists) }
     {
-        self.inactive
-            .as_slice()
-            .iter()
-            .copied()
-            .find(|&x| node <= x)
+        first_from(self.inactive.as_slice(), node)
     }
 
     /// The same routes.
@@ -434,6 +431,18 @@ fn seat_list(model: &RoutingModel, list: &[u32], v: u32, seating: &mut Seating) 
         seating.put(v, node);
     }
     true
+}
+
+// The first of ascending nodes that is not below `node`.
+fn first_from(nodes: &[u32], node: u32) -> Option<u32>
+    requires ascending { IsStrictlyIncreasing nodes.now }
+    ensures { result ≡ find (λ x. nat_le node x) nodes.now }
+{
+    let place = nodes.partition_point(|&x| x < node);
+    if place < nodes.len() {
+        return Some(nodes[place]);
+    }
+    None
 }
 
 // Writes the visits that stand in no list.

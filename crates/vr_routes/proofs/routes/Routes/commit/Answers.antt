@@ -40,6 +40,7 @@ invariant_of-self c =
       few_nodes = subst (λ n. n ≤ 1000) nodes i.few_nodes;
       few_vehicles = (let few = i.few_vehicles in omega (arith, many, few));
       few_visits = i.few_visits;
+      visits_ascend = i.visits_ascend;
       each_visit_is_node = subst (λ n. All (λ node. node < n) tours.visits) nodes i.each_visit_is_node;
       each_entry_is_visit = λ node active. entry_after tours parts made once i.each_entry_is_visit node (subst (λ l. IsTrue (is_active l node)) lists active);
       inactive_ones = c.write_idle.ensures ∙ ap (λ l. idle l c.rebuild.new.seating.lists) c.list.ensures.value;

@@ -1,10 +1,11 @@
 use Rattle.std.proofs.Common.{◌≡◌, ◌∙◌, ◌<◌, [], ℕ, List, length, sym, ap, subst, arith, replicate, true}
 use Rattle.std.specs.Prelude.{All, IsTrue}
+use Rattle.std.specs.List.Sorted.{IsStrictlyIncreasing}
 use Rattle.vr_model.specs.tables.Tables.{visits}
 use Rattle.vr_model.specs.deciding.Testing.{clash}
 use Rattle.vr_model.specs.routes.Routes.{route, holds}
 use Rattle.vr_routes.specs.Tours.{idle}
-use Rattle.vr_routes.proofs.TourLemmas.{visits_below, few_visits, visit_held, length_of_empty}
+use Rattle.vr_routes.proofs.TourLemmas.{visits_below, visits_ascend, few_visits, visit_held, length_of_empty}
 use Rattle.vr_routes.proofs.TourLemmas.{seen}
 use Rattle.vr_model.specs.routes.Routes.{are_lists}
 use Rattle.vr_model.specs.deciding.Testing.{fails}
@@ -40,6 +41,7 @@ invariant_of-result c =
       few_nodes = omega (arith, nodes, there);
       few_vehicles = (let many = ap length (c.in_ok-seating.ensures.lists ∙ ap (λ n. replicate n []) c.len.ensures) ∙ length_of_empty (length m.vehicles) in let kept = c.seat_lists.ensures.many in omega (arith, many, kept, fleet));
       few_visits = omega (arith, few, nodes, v);
+      visits_ascend = subst IsStrictlyIncreasing (sym (seen c.in_ok-visits.ensures.lists)) (visits_ascend c.args.model.now);
       each_visit_is_node = subst (λ l. All (λ node. node < c.seat_lists.new.seating.nodes) l) (sym (seen c.in_ok-visits.ensures.lists))
           (subst (λ n. All (λ node. node < n) (visits m)) (sym there) (visits_below m));
       each_entry_is_visit = λ node active. subst (λ l. IsTrue (holds l node)) (sym (seen c.in_ok-visits.ensures.lists)) (visit_held m node (c.seat_lists.ensures.visits passed node active));
