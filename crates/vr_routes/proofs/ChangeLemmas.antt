@@ -2,8 +2,8 @@
 use Rattle.std.proofs.Common.{◌≡◌, ◌≢◌, ◌∙◌, ℕ, zero, suc, ◌<◌, List, [], ◌∷◌, length, sym, ap, subst, arith}
 use Rattle.std.specs.Prelude.{All, slice_set}
 use Rattle.std.specs.List.{AllPairs}
+use Rattle.vr_model.proofs.routes.Lists.{route_set_other, route_set_same}
 use Rattle.vr_model.specs.routes.Routes.{route}
-use Rattle.vr_routes.proofs.SeatLemmas.{route_set_same, route_set_other}
 use Rattle.vr_routes.proofs.TourLemmas.{set_twice}
 use Rattle.vr_model.specs.moves.Moves.{apply, with_route}
 use Rattle.vr_model.specs.declared.records.Model.{Model}

@@ -5,9 +5,11 @@ use Rattle.std.proofs.lemmas.List.{get_or-set_other}
 use Rattle.std.proofs.Math.Dec.{eqb}
 use Rattle.std.proofs.lemmas.Bool.Decides.{eqb_tells}
 use Rattle.std.proofs.lemmas.List.Folds.{drop_split}
+use Rattle.vr_model.proofs.routes.Lists.{held_at, route_set_other, route_set_same}
 use Rattle.vr_model.specs.routes.Routes.{route, holds, is_distinct, is_active}
 use Rattle.vr_model.specs.tables.Tables.{is_visit, pair_at}
-use Rattle.vr_model.specs.deciding.Testing.{clash, and_left, and_right, fails_not}
+use Rattle.vr_model.specs.deciding.Testing.{and_left, and_right}
+use Rattle.vr_model.proofs.tables.Tests.{clash, fails_not, nat_of_test}
 use Rattle.vr_model.specs.moves.Moves.{apply, reversed_between, chain_moved, with_pair, without_pair, is_pair_inactive, is_pair_served}
 use Rattle.vr_model.specs.tables.Numbers.{each}
 use Rattle.vr_model.specs.tables.WellFormed.{IsWellFormed, nodes_of}
@@ -19,7 +21,6 @@ use Rattle.vr_model.specs.declared.neighbours.Move.TheVariants.{TwoOpt, OrOpt, R
 use Rattle.std.proofs.lemmas.List.{length-map}
 use Rattle.vr_routes.specs.Pairs.{ArePlaces}
 use Rattle.vr_routes.proofs.WithoutLemmas.{pickup_out, delivery_out}
-use Rattle.vr_routes.proofs.SeatLemmas.{route_set_same, route_set_other, held_at}
 use Rattle.vr_routes.proofs.OnceLemmas.{times, times_in, hit, times_append, times_split, times_reverse, times_set, here_or_later, inactive_times}
 
 -- ---- lists of the same nodes
@@ -224,9 +225,6 @@ module _ (model : Model) (lists : List (List ℕ)) where
   pair_of_test : (p : ℕ) → IsTrue (nat_lt p (length model.pairs)) → p < length model.pairs
   pair_of_test p h = Prim.grind arith
 
-  order_of_test : (s t : ℕ) → IsTrue (nat_le s t) → s ≤ t
-  order_of_test s t h = Prim.grind arith
-
   place_of_test : (v a : ℕ) → IsTrue (is_place lists v a) → a < length (route lists v)
   place_of_test v a h = Prim.grind arith
 
@@ -299,7 +297,7 @@ module _ (model : Model) (lists : List (List ℕ)) where
       let pair = pair_at model p in
       let low_p : p < length model.pairs = pair_of_test p (and_left (nat_lt p (length model.pairs)) _ rest) in
       let low : w < length lists = vehicle_of_test w (and_left (is_vehicle lists w) _ (and_right (nat_lt p (length model.pairs)) _ rest)) in
-      let order : s ≤ t = order_of_test s t (and_left (nat_le s t) _ (and_right (is_vehicle lists w) _ (and_right (nat_lt p (length model.pairs)) _ rest))) in
+      let order : s ≤ t = nat_of_test s t (and_left (nat_le s t) _ (and_right (is_vehicle lists w) _ (and_right (nat_lt p (length model.pairs)) _ rest))) in
       let none_x = inactive_times lists pair.pickup (fails_not (is_active lists pair.pickup) (and_left (not (is_active lists pair.pickup)) _ free)) in
       let none_y = inactive_times lists pair.delivery (fails_not (is_active lists pair.delivery) (and_right (not (is_active lists pair.pickup)) _ free)) in
       put_in_pair well p lists w s t low_p low order none_x none_y x (omega arith)
@@ -310,7 +308,7 @@ module _ (model : Model) (lists : List (List ℕ)) where
       let numbers = and_left (may_put_pair model lists p w (length (without_pair pair (route lists w))) s t) _ rest in
       let low_p : p < length model.pairs = pair_of_test p (and_left (nat_lt p (length model.pairs)) _ numbers) in
       let low : w < length lists = vehicle_of_test w (and_left (is_vehicle lists w) _ (and_right (nat_lt p (length model.pairs)) _ numbers)) in
-      let order : s ≤ t = order_of_test s t (and_left (nat_le s t) _ (and_right (is_vehicle lists w) _ (and_right (nat_lt p (length model.pairs)) _ numbers))) in
+      let order : s ≤ t = nat_of_test s t (and_left (nat_le s t) _ (and_right (is_vehicle lists w) _ (and_right (nat_lt p (length model.pairs)) _ numbers))) in
       let out : List (List ℕ) = map (without_pair pair) lists in
       let fewer = fewer_without pair lists x in
       put_in_pair well p out w s t low_p (omega (arith, low, length-map lists (without_pair pair))) order (none_left pair lists pair.pickup (pickup_out pair)) (none_left pair lists pair.delivery (delivery_out pair)) x fewer

@@ -5,7 +5,9 @@ use Rattle.std.proofs.lemmas.Bool.{cases_lt}
 use Rattle.std.proofs.lemmas.Bool.Decides.{eqb_tells}
 use Rattle.std.proofs.lemmas.List.{length-take-le, length-append, length-drop}
 use Rattle.std.proofs.Math.Seq.{get_or-append_seam, take-append_seam, drop-append_seam}
-use Rattle.vr_model.specs.deciding.Testing.{clash, fails, or_cases, or_left, or_right, and_left, and_right, and_both, eq_of_test, test_of_eq}
+use Rattle.vr_model.proofs.routes.Lists.{held_at, place_of_held, route_set_other, route_set_same}
+use Rattle.vr_model.specs.deciding.Testing.{or_cases, or_left, or_right, and_left, and_right, and_both, eq_of_test, test_of_eq}
+use Rattle.vr_model.proofs.tables.Tests.{clash, fails, same_tests, test_of_lt}
 use Rattle.vr_model.specs.routes.Routes.{route, holds, is_same}
 use Rattle.vr_model.specs.moves.Moves.{without_pair, with_pair, changes_the_list, comes_before}
 use Rattle.vr_model.specs.moves.MoveTests.{is_vehicle, may_put_pair}
@@ -13,7 +15,6 @@ use Rattle.vr_model.specs.declared.records.Model.{Model}
 use Rattle.vr_model.specs.declared.records.Pair.{Pair}
 use Rattle.vr_routes.specs.Seats.{IsSeat, IsOnce}
 use Rattle.vr_routes.specs.Pairs.{are_together, are_in_order, ArePlaces, IsGap, without_two, is_elsewhere}
-use Rattle.vr_routes.proofs.SeatLemmas.{place_of_held, held_at, route_set_same, route_set_other}
 use Rattle.vr_routes.proofs.TourLemmas.{set_twice}
 use Rattle.vr_routes.proofs.OnceLemmas.{times, times_set, few_times, at_least_one}
 use Rattle.vr_routes.proofs.PairLemmas.{together_at}
@@ -68,9 +69,6 @@ order_at (l ∷ ls) x y (suc v) k j order a b = or_right (comes_before l x y) _ 
 pub apart_not_served : (lists : List (List ℕ)) (x y : ℕ) → are_together lists x y ≡ false → are_in_order lists x y ≡ false
 apart_not_served lists x y apart = fails (are_in_order lists x y) (λ h. let s = order_seats lists x y h in clash (are_together lists x y) (together_at lists x y s.0 s.1 s.2 s.4 s.5) apart)
 
-pub is_before : (k j : ℕ) → k < j → nat_lt k j ≡ true
-is_before k j low = Prim.grind arith
-
 pub is_behind : (k j : ℕ) → j ≤ k → nat_lt k j ≡ false
 is_behind k j low = Prim.grind arith
 
@@ -85,7 +83,7 @@ not_served false lists x y e = refl
 
 pub served_tells : (lists : List (List ℕ)) (x y v k j : ℕ) → IsOnce lists → IsSeat lists x v k → IsSeat lists y v j → are_in_order lists x y ≡ nat_lt k j
 served_tells lists x y v k j once a b = elim (cases_lt k j) [
-  | inl before ↦ order_at lists x y v k j before a b ∙ sym (is_before k j before)
+  | inl before ↦ order_at lists x y v k j before a b ∙ sym (test_of_lt k j before)
   | inr behind ↦ fails (are_in_order lists x y) (λ h.
       let s = order_seats lists x y h in
       let same_k = (once x v k s.0 s.1 a s.4).1 in
@@ -106,10 +104,6 @@ same_of_test (x ∷ xs) (y ∷ ys) h =
 test_of_same : (xs : List ℕ) → IsTrue (is_same xs xs)
 test_of_same [] = refl
 test_of_same (x ∷ xs) = and_both (x == x) _ (test_of_eq x x refl) (test_of_same xs)
-
-same_tests : (a b : Bool) → (IsTrue a → IsTrue b) → (IsTrue b → IsTrue a) → a ≡ b
-same_tests true b to back = sym (to refl)
-same_tests false b to back = sym (fails b (λ h. clash false (back h) refl))
 
 -- ---- lists with a pair
 

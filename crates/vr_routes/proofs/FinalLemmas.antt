@@ -5,9 +5,10 @@ use Rattle.std.proofs.lemmas.Bool.Decides.{Decides-eqb}
 use Rattle.std.proofs.lemmas.List.{get_or_default}
 use Rattle.std.proofs.lemmas.Map.Made.{IsDistinct-from_AllPairs}
 use Rattle.std.proofs.lemmas.Map.Steps.{length-le_from_distinct_below}
+use Rattle.vr_model.proofs.routes.Lists.{place_of_held}
 use Rattle.vr_model.specs.routes.Routes.{route, holds}
 use Rattle.vr_routes.specs.Seats.{IsSeat, IsOnce, HaveNodes}
-use Rattle.vr_routes.proofs.SeatLemmas.{place_of_held, active_at}
+use Rattle.vr_routes.proofs.SeatLemmas.{active_at}
 use Rattle.vr_routes.proofs.TourLemmas.{set_twice}
 use Rattle.vr_routes.proofs.OnceLemmas.{times_set, few_times, once_of_times}
 

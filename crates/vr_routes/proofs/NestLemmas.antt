@@ -2,14 +2,12 @@
 use Rattle.std.proofs.Common.{◌≡◌, ◌∙◌, ℕ, zero, suc, ◌+◌, ◌-◌, ◌<◌, ◌≤◌, Bool, true, false, cond, List, [], ◌∷◌, ◌++◌, map, length, refl, ap, arith}
 use Rattle.std.specs.Prelude.{filter, slice_index}
 use Rattle.std.specs.List.{range_with_len}
+use Rattle.vr_model.proofs.tables.Ranges.{all_left, none_left}
 use Rattle.vr_model.specs.tables.Numbers.{below, from_to, each}
 use Rattle.vr_routes.specs.Nests.{run_of, joined_of}
 
 pub from_to_step : (a b : ℕ) → a < b → from_to a b ≡ a ∷ from_to (a + 1) b
 from_to_step a b low = let e : b - a ≡ suc (b - (a + 1)) = omega (arith, low) in ap (range_with_len a) e
-
-pub from_to_done : (a b : ℕ) → b ≤ a → from_to a b ≡ []
-from_to_done a b low = let e : b - a ≡ 0 = omega (arith, low) in ap (range_with_len a) e
 
 module _ {A : Type 0} (passes : ℕ → Bool) where
   pub run_takes : (f : ℕ → A) (a b : ℕ) → a < b → passes a ≡ true → run_of passes f a b ≡ f a ∷ run_of passes f (a + 1) b
@@ -23,7 +21,7 @@ module _ {A : Type 0} (passes : ℕ → Bool) where
       ∙ ap (λ t. map f (cond t (a ∷ filter passes (from_to (a + 1) b)) (filter passes (from_to (a + 1) b)))) other
 
   pub run_ends : (f : ℕ → A) (a b : ℕ) → b ≤ a → run_of passes f a b ≡ []
-  run_ends f a b past = ap (λ l. map f (filter passes l)) (from_to_done a b past)
+  run_ends f a b past = ap (λ l. map f (filter passes l)) (none_left a b past)
 
   pub joined_goes_on : (f : ℕ → List A) (a b : ℕ) → a < b → joined_of passes f a b ≡ cond (passes a) (f a) [] ++ joined_of passes f (a + 1) b
   joined_goes_on f a b low = ap (λ l. each (filter passes l) f) (from_to_step a b low) ∙ by (passes a)
@@ -33,7 +31,7 @@ module _ {A : Type 0} (passes : ℕ → Bool) where
       by false = refl
 
   pub joined_ends : (f : ℕ → List A) (a b : ℕ) → b ≤ a → joined_of passes f a b ≡ []
-  joined_ends f a b past = ap (λ l. each (filter passes l) f) (from_to_done a b past)
+  joined_ends f a b past = ap (λ l. each (filter passes l) f) (none_left a b past)
 
 -- ---- ranges of which all numbers pass
 
@@ -41,26 +39,23 @@ filter_all : (xs : List ℕ) → filter (λ k. true) xs ≡ xs
 filter_all [] = refl
 filter_all (x ∷ xs) = ap (λ l. x ∷ l) (filter_all xs)
 
-from_zero : (n : ℕ) → from_to 0 n ≡ below n
-from_zero n = let e : n - 0 ≡ n = omega arith in ap (range_with_len 0) e
-
 pub run_all : {A : Type 0} (f : ℕ → A) (a b : ℕ) → run_of (λ k. true) f a b ≡ map f (from_to a b)
 run_all f a b = ap (map f) (filter_all (from_to a b))
 
 pub run_below : {A : Type 0} (passes : ℕ → Bool) (f : ℕ → A) (n : ℕ) → run_of passes f 0 n ≡ map f (filter passes (below n))
-run_below passes f n = ap (λ l. map f (filter passes l)) (from_zero n)
+run_below passes f n = ap (λ l. map f (filter passes l)) (all_left n)
 
 pub run_all_below : {A : Type 0} (f : ℕ → A) (n : ℕ) → run_of (λ k. true) f 0 n ≡ map f (below n)
-run_all_below f n = run_all f 0 n ∙ ap (map f) (from_zero n)
+run_all_below f n = run_all f 0 n ∙ ap (map f) (all_left n)
 
 pub joined_all : {A : Type 0} (f : ℕ → List A) (a b : ℕ) → joined_of (λ k. true) f a b ≡ each (from_to a b) f
 joined_all f a b = ap (λ l. each l f) (filter_all (from_to a b))
 
 pub joined_below : {A : Type 0} (passes : ℕ → Bool) (f : ℕ → List A) (n : ℕ) → joined_of passes f 0 n ≡ each (filter passes (below n)) f
-joined_below passes f n = ap (λ l. each (filter passes l) f) (from_zero n)
+joined_below passes f n = ap (λ l. each (filter passes l) f) (all_left n)
 
 pub joined_all_below : {A : Type 0} (f : ℕ → List A) (n : ℕ) → joined_of (λ k. true) f 0 n ≡ each (below n) f
-joined_all_below f n = joined_all f 0 n ∙ ap (λ l. each l f) (from_zero n)
+joined_all_below f n = joined_all f 0 n ∙ ap (λ l. each l f) (all_left n)
 
 -- ---- the places of a list
 

@@ -5,10 +5,11 @@ use Rattle.std.proofs.lemmas.Bool.{cases_lt}
 use Rattle.std.proofs.lemmas.Bool.Decides.{eqb_tells}
 use Rattle.std.proofs.lemmas.List.{take-append-drop, reverse-append}
 use Rattle.std.proofs.lemmas.Grind.{take_at_read}
-use Rattle.vr_model.specs.deciding.Testing.{clash, fails}
+use Rattle.vr_model.proofs.routes.Lists.{route_set_other, route_set_same}
+use Rattle.vr_model.proofs.tables.Tests.{clash, fails}
 use Rattle.vr_model.specs.routes.Routes.{route, is_active}
 use Rattle.vr_routes.specs.Seats.{IsSeat, IsOnce}
-use Rattle.vr_routes.proofs.SeatLemmas.{route_set_same, route_set_other, seat_of_active, active_at}
+use Rattle.vr_routes.proofs.SeatLemmas.{seat_of_active, active_at}
 use Rattle.vr_routes.proofs.TourLemmas.{set_twice}
 
 abbrev pub hit : ℕ → ℕ → ℕ

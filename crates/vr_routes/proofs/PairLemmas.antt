@@ -2,11 +2,13 @@
 use Rattle.std.proofs.Common.{◌≡◌, ◌∙◌, ℕ, zero, suc, false, ◌&&◌, List, [], ◌∷◌, refl, sym, subst, inl, inr, arith}
 use Rattle.std.specs.Prelude.{IsTrue, ◌==◌}
 use Rattle.std.proofs.lemmas.Bool.Decides.{eqb_tells}
-use Rattle.vr_model.specs.deciding.Testing.{clash, fails, or_cases, or_left, or_right, and_left, and_right, and_both}
+use Rattle.vr_model.proofs.routes.Lists.{held_at, place_of_held}
+use Rattle.vr_model.specs.deciding.Testing.{or_cases, or_left, or_right, and_left, and_right, and_both}
+use Rattle.vr_model.proofs.tables.Tests.{clash, fails}
 use Rattle.vr_model.specs.routes.Routes.{holds, is_active}
 use Rattle.vr_routes.specs.Seats.{IsSeat, IsOnce}
 use Rattle.vr_routes.specs.Pairs.{are_together}
-use Rattle.vr_routes.proofs.SeatLemmas.{place_of_held, held_at, active_at}
+use Rattle.vr_routes.proofs.SeatLemmas.{active_at}
 
 -- where two nodes stand that stand in one list
 both_seats : (lists : List (List ℕ)) (x y : ℕ) → IsTrue (are_together lists x y) → (v : ℕ) × (k : ℕ) × (j : ℕ) × IsSeat lists x v k × IsSeat lists y v j

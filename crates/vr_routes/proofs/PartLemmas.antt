@@ -3,10 +3,10 @@ use Rattle.std.proofs.Common.{◌≡◌, ◌≢◌, ◌∙◌, ◌⊎◌, inl, i
 use Rattle.std.specs.Prelude.{All, slice_set}
 use Rattle.std.specs.List.{AllPairs}
 use Rattle.std.proofs.lemmas.Bool.Decides.{eqb_tells}
+use Rattle.vr_model.proofs.routes.Lists.{route_set_other, route_set_same}
 use Rattle.vr_model.specs.routes.Routes.{route}
 use Rattle.vr_routes.specs.Pieces.{ListAfter, joined, with_parts, changed, no_part, part_at}
 use Rattle.vr_routes.specs.Changes.{AreParts}
-use Rattle.vr_routes.proofs.SeatLemmas.{route_set_same, route_set_other}
 
 pub first_part : (f s : ListAfter) (t : Bool) → part_at (f ∷ cond t (s ∷ []) []) 0 ≡ f
 first_part f s t = refl

@@ -6,24 +6,14 @@ use Rattle.std.proofs.lemmas.Bool.Decides.{eqb_tells, Decides-eqb}
 use Rattle.std.proofs.lemmas.List.{get_or-set_other, get_or-set_same, get_or_append_left, get_or_push, get_or_past, length-append, get_or_default}
 use Rattle.std.proofs.lemmas.Map.Made.{IsDistinct-from_AllPairs}
 use Rattle.std.proofs.lemmas.Map.Steps.{length-le_from_distinct_below}
-use Rattle.vr_model.specs.deciding.Testing.{clash, fails, or_cases, or_left, or_right, eq_of_test, test_of_eq}
+use Rattle.vr_model.proofs.routes.Lists.{held_at, place_of_held, route_set_other, route_set_same}
+use Rattle.vr_model.specs.deciding.Testing.{or_cases, or_left, or_right, eq_of_test}
+use Rattle.vr_model.proofs.tables.Tests.{clash, fails}
 use Rattle.vr_model.specs.routes.Routes.{route, holds, is_active}
 use Rattle.vr_routes.specs.declared.seats.Seat.{Seat}
 use Rattle.vr_routes.specs.Seats.{IsSeat, IsSeated, seat_at}
 
 -- ---- lists
-
-pub place_of_held : (xs : List ℕ) (x : ℕ) → IsTrue (holds xs x) → (k : ℕ) × (k < length xs) × (slice_index xs k ≡ x)
-place_of_held [] x h = absurd (clash false h refl)
-place_of_held (y ∷ ys) x h = elim (or_cases (x == y) _ h) [
-  | inl here ↦ (0, omega arith, sym (eq_of_test x y here))
-  | inr later ↦ (let r = place_of_held ys x later in (suc r.0, omega (arith, r.1), r.2))
-]
-
-pub held_at : (xs : List ℕ) (x k : ℕ) → k < length xs → slice_index xs k ≡ x → IsTrue (holds xs x)
-held_at [] x k low e = absurd (omega (arith, low))
-held_at (y ∷ ys) x zero low e = or_left (x == y) _ (test_of_eq x y (sym e))
-held_at (y ∷ ys) x (suc k) low e = or_right (x == y) _ (held_at ys x k (omega (arith, low)) e)
 
 pub seat_of_active : (lists : List (List ℕ)) (x : ℕ) → IsTrue (is_active lists x) → (v : ℕ) × (k : ℕ) × IsSeat lists x v k
 seat_of_active [] x h = absurd (clash false h refl)
@@ -36,12 +26,6 @@ pub active_at : (lists : List (List ℕ)) (x v k : ℕ) → v < length lists →
 active_at [] x v k low within e = absurd (omega (arith, low))
 active_at (l ∷ ls) x zero k low within e = or_left (holds l x) _ (held_at l x k within e)
 active_at (l ∷ ls) x (suc v) k low within e = or_right (holds l x) _ (active_at ls x v k (omega (arith, low)) within e)
-
-pub route_set_same : (lists : List (List ℕ)) (v : ℕ) (list : List ℕ) → v < length lists → route (slice_set lists v list) v ≡ list
-route_set_same lists v list low = get_or-set_same lists v list [] low
-
-pub route_set_other : (lists : List (List ℕ)) (v w : ℕ) (list : List ℕ) → w ≢ v → route (slice_set lists v list) w ≡ route lists w
-route_set_other lists v w list other = get_or-set_other lists v w list [] other
 
 -- ---- seats
 

@@ -9,8 +9,10 @@ use Rattle.std.proofs.lemmas.List.FromFn.{length-range_with_len, get_or-range_wi
 use Rattle.std.proofs.lemmas.List.{get_or_append_left, get_or_push, length-append}
 use Rattle.std.proofs.lemmas.Bool.{cases_lt}
 use Rattle.std.proofs.lemmas.Bool.Decides.{eqb_tells}
+use Rattle.vr_model.proofs.routes.Lists.{place_of_held, route_set_other, route_set_same}
 use Rattle.vr_model.proofs.tables.Members.{In, to_filter, to_below}
-use Rattle.vr_model.specs.deciding.Testing.{clash, fails, or_cases, and_left, or_left, or_right, test_of_eq}
+use Rattle.vr_model.specs.deciding.Testing.{or_cases, and_left, or_left, or_right, test_of_eq}
+use Rattle.vr_model.proofs.tables.Tests.{clash, fails, same_tests}
 use Rattle.vr_routes.specs.Seats.{IsSeat}
 use Rattle.vr_model.specs.tables.Numbers.{below}
 use Rattle.std.specs.List.{range_with_len}
@@ -18,7 +20,7 @@ use Rattle.vr_model.specs.tables.Tables.{visits, is_visit}
 use Rattle.vr_model.specs.routes.Routes.{route, holds, is_active}
 use Rattle.vr_model.specs.declared.records.Model.{Model}
 use Rattle.vr_routes.specs.Tours.{HaveVisits}
-use Rattle.vr_routes.proofs.SeatLemmas.{route_set_same, route_set_other, seat_of_active, active_at, place_of_held}
+use Rattle.vr_routes.proofs.SeatLemmas.{seat_of_active, active_at}
 
 pub set_twice : {A : Type 0} (xs : List A) (i : ℕ) (x y : A) → slice_set (slice_set xs i x) i y ≡ slice_set xs i y
 set_twice [] i x y = refl
@@ -49,10 +51,6 @@ visits_ascend model = IsStrictlyIncreasing-filter (is_visit model) (below model.
 
 pub few_visits : (model : Model) → length (visits model) ≤ model.nodes
 few_visits model = omega (arith, length-filter (is_visit model) (below model.nodes), count_by-le-length (is_visit model) (below model.nodes), length-range_with_len 0 model.nodes)
-
-pub none_active : (n x : ℕ) → is_active (replicate n []) x ≡ false
-none_active zero x = refl
-none_active (suc n) x = none_active n x
 
 pub length_of_empty : (n : ℕ) → length (replicate {A = List ℕ} n []) ≡ n
 length_of_empty zero = refl
@@ -160,10 +158,6 @@ append_none [] = refl
 append_none (x ∷ xs) = ap (λ l. x ∷ l) (append_none xs)
 
 -- ---- the test of a visit
-
-same_tests : (a b : Bool) → (IsTrue a → IsTrue b) → (IsTrue b → IsTrue a) → a ≡ b
-same_tests true b to back = sym (to refl)
-same_tests false b to back = sym (fails b (λ h. clash false (back h) refl))
 
 pub visit_test : (model : Model) (x : ℕ) → holds (visits model) x ≡ is_visit model x
 visit_test model x = same_tests (holds (visits model) x) (is_visit model x)

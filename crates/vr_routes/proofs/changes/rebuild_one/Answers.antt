@@ -1,9 +1,9 @@
 use Rattle.std.proofs.Common.{◌≡◌, ◌∙◌, ◌<◌, ℕ, List, length, length-set, ap, sym, subst, arith}
 use Rattle.std.specs.Prelude.{slice_set, All}
+use Rattle.vr_model.proofs.routes.Lists.{route_set_same}
 use Rattle.vr_model.specs.routes.Routes.{route}
 use Rattle.vr_routes.specs.Pieces.{joined}
 use Rattle.vr_routes.specs.Seats.{IsOnce}
-use Rattle.vr_routes.proofs.SeatLemmas.{route_set_same}
 use Rattle.vr_routes.proofs.FinalLemmas.{list_fits, list_below}
 use Rattle.vr_routes.proofs.changes.rebuild_one.Goals as goal
 

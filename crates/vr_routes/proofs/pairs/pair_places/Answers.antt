@@ -1,6 +1,7 @@
 use Rattle.std.proofs.Common.{◌∙◌}
 use Rattle.std.specs.Prelude.{◌==◌}
-use Rattle.vr_model.specs.deciding.Testing.{fails, eq_of_test}
+use Rattle.vr_model.specs.deciding.Testing.{eq_of_test}
+use Rattle.vr_model.proofs.tables.Tests.{fails}
 use Rattle.vr_routes.proofs.PairLemmas.{apart_first, apart_second, together_tells}
 use Rattle.vr_routes.proofs.pairs.pair_places.Goals as goal
 

@@ -1,11 +1,12 @@
 use Rattle.std.proofs.Common.{◌≡◌, ◌∙◌, ◌<◌, [], length, sym, ap, subst, arith, replicate}
 use Rattle.std.specs.Prelude.{All}
 use Rattle.std.specs.List.Sorted.{IsStrictlyIncreasing}
+use Rattle.vr_model.proofs.routes.Lists.{is_active-none}
 use Rattle.vr_model.specs.tables.Tables.{visits}
-use Rattle.vr_model.specs.deciding.Testing.{clash}
+use Rattle.vr_model.proofs.tables.Tests.{clash}
 use Rattle.vr_model.specs.routes.Routes.{route, is_active}
 use Rattle.vr_routes.specs.Tours.{idle}
-use Rattle.vr_routes.proofs.TourLemmas.{visits_below, visits_ascend, few_visits, none_active, length_of_empty}
+use Rattle.vr_routes.proofs.TourLemmas.{visits_below, visits_ascend, few_visits, length_of_empty}
 use Rattle.vr_routes.proofs.TourLemmas.{seen}
 use Rattle.vr_routes.proofs.routes.Routes.empty.Goals as goal
 
@@ -40,6 +41,6 @@ invariant_of-result c =
       visits_ascend = subst IsStrictlyIncreasing (sym (seen c.in_ok-visits.ensures.lists)) (visits_ascend c.args.model.now);
       each_visit_is_node = subst (λ l. All (λ node. node < c.in_ok-seating.seating.nodes) l) (sym (seen c.in_ok-visits.ensures.lists))
           (subst (λ n. All (λ node. node < n) (visits m)) (sym there) (visits_below m));
-      each_entry_is_visit = λ node active. absurd (clash (is_active c.in_ok-seating.seating.lists node) active (ap (λ l. is_active l node) lists ∙ none_active (length m.vehicles) node));
+      each_entry_is_visit = λ node active. absurd (clash (is_active c.in_ok-seating.seating.lists node) active (ap (λ l. is_active l node) lists ∙ is_active-none (length m.vehicles) node));
       inactive_ones = c.write_idle.ensures ∙ ap (λ l. idle l c.in_ok-seating.seating.lists) c.list.ensures.value;
     }

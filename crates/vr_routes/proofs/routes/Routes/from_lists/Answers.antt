@@ -2,13 +2,13 @@ use Rattle.std.proofs.Common.{◌≡◌, ◌∙◌, ◌<◌, [], ℕ, List, leng
 use Rattle.std.specs.Prelude.{All, IsTrue}
 use Rattle.std.specs.List.Sorted.{IsStrictlyIncreasing}
 use Rattle.vr_model.specs.tables.Tables.{visits}
-use Rattle.vr_model.specs.deciding.Testing.{clash}
+use Rattle.vr_model.proofs.tables.Tests.{clash}
 use Rattle.vr_model.specs.routes.Routes.{route, holds}
 use Rattle.vr_routes.specs.Tours.{idle}
 use Rattle.vr_routes.proofs.TourLemmas.{visits_below, visits_ascend, few_visits, visit_held, length_of_empty}
 use Rattle.vr_routes.proofs.TourLemmas.{seen}
 use Rattle.vr_model.specs.routes.Routes.{are_lists}
-use Rattle.vr_model.specs.deciding.Testing.{fails}
+use Rattle.vr_model.proofs.tables.Tests.{fails}
 use Rattle.vr_routes.specs.Seats.{IsOnce}
 use Rattle.vr_routes.specs.Tours.{HaveVisits}
 use Rattle.vr_routes.proofs.ListsLemmas.{are_lists_of, many_of, visits_of, once_of}

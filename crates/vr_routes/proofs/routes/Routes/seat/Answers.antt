@@ -1,5 +1,5 @@
 use Rattle.std.proofs.Common.{arith}
-use Rattle.vr_model.specs.deciding.Testing.{fails}
+use Rattle.vr_model.proofs.tables.Tests.{fails}
 use Rattle.vr_model.specs.routes.Routes.{route, is_active}
 use Rattle.vr_routes.proofs.TourLemmas.{held_below}
 use Rattle.vr_routes.proofs.routes.Routes.seat.Goals as goal
