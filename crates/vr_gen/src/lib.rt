@@ -1,0 +1,10 @@
+//! The generator of test models: a model for each number.
+#![tactic(auto)]
+
+mod draws;
+#[cfg(test)]
+mod tests;
+mod trees;
+
+pub use draws::{Customer, Site};
+pub use trees::generate;

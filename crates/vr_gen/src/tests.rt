@@ -1,0 +1,35 @@
+//! Numbers of generated trees, as another program draws them.
+
+use crate::generate;
+use serde_json::Value;
+use std::alloc::Global;
+use std::test::Fail;
+
+// The number at a path of the model of 7.
+fn number_at(alloc: Global, path: &str) -> Result<Option<u64>, Fail> {
+    let tree = generate(alloc, 7).map_err(|_| "memory")?;
+    Ok(tree.pointer(path).and_then(Value::as_u64))
+}
+
+#[test]
+fn trees_hold_the_drawn_numbers(rt: HostRuntime) -> Result<(), Fail> {
+    let alloc = rt.alloc();
+    for (path, wanted) in [
+        ("/nodes", Some(61)),
+        ("/matrices/0/0/1", Some(54)),
+        ("/matrices/0/60/0", Some(1027)),
+        ("/matrices/0/59/60", Some(437)),
+        ("/dimensions/0/nodes/0/window/1", Some(4766)),
+        ("/dimensions/0/nodes/59/window/0", Some(7739)),
+        ("/dimensions/0/visit/60", Some(30)),
+        ("/dimensions/0/breaks/5/breaks/0/to", Some(9000)),
+        ("/dimensions/1/evaluators/0/values/0", Some(0)),
+        ("/dimensions/1/evaluators/0/values/60", Some(6)),
+        ("/groups/59/nodes/0", Some(60)),
+        ("/groups/60/nodes/0", None),
+        ("/vehicles/5/end", Some(0)),
+    ] {
+        assert!(rt; number_at(alloc, path)? == wanted);
+    }
+    Ok(())
+}
