@@ -15,3 +15,4 @@ pub mod ElsewhereLemmas
 pub mod RestLemmas
 pub mod PartLemmas
 pub mod IdleLemmas
+pub mod SampleLemmas

@@ -9,7 +9,7 @@ ghost use Rattle.vr_model.specs.routes.Routes.{route};
 ghost use Rattle.vr_model.specs.declared.neighbours.Move.TheVariants.{TwoOpt, OrOpt, Relocate, Exchange, Cross};
 ghost use Rattle.vr_model.specs.declared.neighbours.Move.TheVariants.{MakeActive, MakeInactive, SwapActive};
 ghost use Rattle.vr_model.specs.declared.neighbours.Move.TheVariants.{PairActive, PairInactive, RelocatePair};
-ghost use Rattle.vr_routes.specs.Pieces.{changed, part_at, IsWithin};
+ghost use Rattle.vr_routes.specs.Pieces.{changed, no_part, part_at, IsWithin};
 ghost use Rattle.vr_routes.specs.Seats.{IsOnce, HaveNodes};
 ghost use Rattle.vr_routes.specs.Changes.{AreParts, IsChange};
 ghost use Rattle.vr_routes.specs.Pairs.{ArePlaces};
@@ -43,8 +43,10 @@ impl Model for Change {
 }
 
 impl Change {
-    /// A change to write over.
-    pub fn blank() -> Change {
+    /// A change to write over: vehicle 0 gets the empty list.
+    pub fn blank() -> Change
+        ensures { result ≡ no_part ∷ [] }
+    {
         Change {
             first: Part::new(),
             second: Part::new(),
@@ -68,12 +70,14 @@ impl Change {
         }
     }
 
-    /// Writes the change that a move makes over another one, and answers whether it is a move of the lists.
+    /// Writes the change that a move makes over another one, and answers whether it is a move of the lists. Where it is
+    /// none, the other one stays.
     pub fn of_into(model: &RoutingModel, routes: &Routes, mv: Move, out: &mut Change) -> bool
         requires well_formed { IsWellFormed model.now }
         requires of_model { routes.now.visits ≡ visits model.now }
         ensures answer { result ≡ is_move model.now routes.now.lists mv }
         ensures change { IsTrue result → IsChange model.now routes.now.lists mv out.new }
+        ensures stays { result ≡ false → out.new ≡ out.old }
     {
         if !is_move(model, routes, mv) {
             return false;

@@ -14,7 +14,7 @@ use std::sync::ledger::Ledger;
 use vr_model::{Move, NoMemory, Steps};
 
 /// What a judge says of a move.
-#[derive(Clone, Copy)]
+#[derive(Clone, Copy, Debug, PartialEq, Eq)]
 pub enum Verdict {
     /// The lists after the move are not valid.
     Refused,

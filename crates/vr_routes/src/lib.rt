@@ -11,7 +11,10 @@ mod pairs;
 mod pieces;
 mod routes;
 mod rows;
+pub mod samples;
 mod seats;
+#[cfg(test)]
+mod tests;
 mod tests_of_moves;
 
 pub use changes::Change;

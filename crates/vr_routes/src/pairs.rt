@@ -12,8 +12,11 @@ use vr_model::{Model, Pair};
 /// Where the nodes of a pair stand that stand in one list.
 #[derive(Clone, Copy, Debug, PartialEq, Eq)]
 pub struct PairPlaces {
+    /// The vehicle whose list they stand in.
     pub vehicle: u32,
+    /// The place of the pickup there.
     pub pickup: u32,
+    /// The place of the delivery there.
     pub delivery: u32,
 }
 

@@ -14,7 +14,9 @@ use vr_model::NoMemory;
 /// Where a node stands.
 #[derive(Clone, Copy, Debug, PartialEq, Eq)]
 pub struct Seat {
+    /// The vehicle whose list it stands in.
     pub vehicle: u32,
+    /// Its place there, from 0 on.
     pub place: u32,
 }
 

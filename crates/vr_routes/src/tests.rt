@@ -1,0 +1,358 @@
+//! Routes, their look-ups and the changes that moves make, against lists that were found by hand.
+
+ghost use Rattle.std.specs.Prelude.{◌≡◌, IfOk};
+ghost use Rattle.vr_model.specs.tables.Tables.{visits};
+ghost use Rattle.vr_model.specs.tables.WellFormed.{IsWellFormed};
+
+use crate::samples::{fleet, routes_of};
+use crate::{Change, Indices, Routes};
+use std::alloc::Global;
+use std::process::Abort;
+use std::test::Fail;
+use vr_model::{Model, Move, Pair};
+
+const LONG: &[u32] = &[1, 2, 3, 4, 5, 6, 7, 8];
+
+// Twelve visits: 2 and 4 are a pair, and so are 11 and 12.
+fn thirteen_nodes(alloc: Global) -> Result<Model, Fail>
+    ensures { IfOk result IsWellFormed }
+{
+    let pairs = [
+        Pair {
+            pickup: 2,
+            delivery: 4,
+        },
+        Pair {
+            pickup: 11,
+            delivery: 12,
+        },
+    ];
+    Ok(fleet(alloc, 13, 2, &pairs)?)
+}
+
+fn made(alloc: Global, model: &Model, lists: &[&[u32]]) -> Result<Routes, Fail>
+    requires { IsWellFormed model.now }
+    ensures { IfOk result (λ routes. routes.visits ≡ visits model.now) }
+{
+    let answer = routes_of(alloc, model, lists)?;
+    match answer {
+        Some(routes) => Ok(routes),
+        None => Err("they are lists".into()),
+    }
+}
+
+// The list of a vehicle is this one, and each of its nodes stands there.
+fn assert_list(rt: &impl Abort, routes: &Routes, v: u32, wanted: &[u32]) {
+    if v < routes.vehicles() {
+        assert_eq!(rt; routes.list(v), wanted);
+    }
+    for (place, &node) in wanted.iter().enumerate() {
+        assert_eq!(rt; routes.vehicle_of(node), Some(v));
+        assert_eq!(rt; routes.place_of(node), Some(place as u32));
+    }
+}
+
+fn assert_lists(rt: &impl Abort, routes: &Routes, first: &[u32], second: &[u32]) {
+    assert_eq!(rt; routes.vehicles(), 2);
+    assert_list(rt, routes, 0, first);
+    assert_list(rt, routes, 1, second);
+}
+
+// What a move of the lists makes of them, by a change that is committed, by a copy, and by taking the lists over.
+fn assert_after(
+    rt: &impl Abort,
+    alloc: Global,
+    model: &Model,
+    mv: Move,
+    first: &[u32],
+    second: &[u32],
+) -> Result<(), Fail>
+    requires { IsWellFormed model.now }
+{
+    let mut routes = made(alloc, model, &[LONG, &[9, 10]])?;
+    let mut other = routes.copy(alloc)?;
+    let change = match Change::of(model, &routes, mv) {
+        Some(change) => change,
+        None => return Err("it is a move".into()),
+    };
+    routes.commit(&change);
+    assert_lists(rt, &routes, first, second);
+    other.assign(&routes);
+    assert_lists(rt, &other, first, second);
+    Ok(())
+}
+
+#[test]
+fn lists_after_moves_of_visits(rt: HostRuntime) -> Result<(), Fail> {
+    let alloc = rt.alloc();
+    let model = thirteen_nodes(alloc)?;
+    let cases: &[(Move, &[u32], &[u32])] = &[
+        (
+            Move::TwoOpt { v: 0, a: 1, b: 6 },
+            &[1, 7, 6, 5, 4, 3, 2, 8],
+            &[9, 10],
+        ),
+        (
+            Move::OrOpt {
+                v: 0,
+                a: 5,
+                k: 3,
+                t: 1,
+            },
+            &[1, 6, 7, 8, 2, 3, 4, 5],
+            &[9, 10],
+        ),
+        (
+            Move::OrOpt {
+                v: 0,
+                a: 0,
+                k: 2,
+                t: 6,
+            },
+            &[3, 4, 5, 6, 7, 8, 1, 2],
+            &[9, 10],
+        ),
+        (
+            Move::Relocate {
+                v: 0,
+                a: 3,
+                w: 1,
+                t: 1,
+            },
+            &[1, 2, 3, 5, 6, 7, 8],
+            &[9, 4, 10],
+        ),
+        (
+            Move::Exchange {
+                v: 0,
+                a: 0,
+                w: 0,
+                b: 7,
+            },
+            &[8, 2, 3, 4, 5, 6, 7, 1],
+            &[9, 10],
+        ),
+        (
+            Move::Exchange {
+                v: 0,
+                a: 7,
+                w: 1,
+                b: 0,
+            },
+            &[1, 2, 3, 4, 5, 6, 7, 9],
+            &[8, 10],
+        ),
+        (
+            Move::Cross {
+                v: 0,
+                a: 6,
+                w: 1,
+                b: 1,
+            },
+            &[9, 7, 8],
+            &[1, 2, 3, 4, 5, 6, 10],
+        ),
+        (Move::MakeActive { u: 12, w: 1, t: 2 }, LONG, &[9, 10, 12]),
+        (
+            Move::MakeInactive { v: 0, a: 4 },
+            &[1, 2, 3, 4, 6, 7, 8],
+            &[9, 10],
+        ),
+        (Move::SwapActive { v: 1, a: 0, u: 11 }, LONG, &[11, 10]),
+    ];
+    for (mv, first, second) in cases {
+        assert_after(&rt, alloc, &model, *mv, first, second)?;
+    }
+    Ok(())
+}
+
+#[test]
+fn lists_after_moves_of_pairs(rt: HostRuntime) -> Result<(), Fail> {
+    let alloc = rt.alloc();
+    let model = thirteen_nodes(alloc)?;
+    let cases: &[(Move, &[u32], &[u32])] = &[
+        (
+            Move::PairActive {
+                p: 1,
+                w: 1,
+                s: 0,
+                t: 1,
+            },
+            LONG,
+            &[11, 9, 12, 10],
+        ),
+        (Move::PairInactive { p: 0 }, &[1, 3, 5, 6, 7, 8], &[9, 10]),
+        (
+            Move::RelocatePair {
+                p: 0,
+                w: 1,
+                s: 1,
+                t: 2,
+            },
+            &[1, 3, 5, 6, 7, 8],
+            &[9, 2, 10, 4],
+        ),
+        (
+            Move::RelocatePair {
+                p: 0,
+                w: 0,
+                s: 0,
+                t: 5,
+            },
+            &[2, 1, 3, 5, 6, 7, 4, 8],
+            &[9, 10],
+        ),
+        (
+            Move::RelocatePair {
+                p: 0,
+                w: 0,
+                s: 1,
+                t: 1,
+            },
+            &[1, 2, 4, 3, 5, 6, 7, 8],
+            &[9, 10],
+        ),
+    ];
+    for (mv, first, second) in cases {
+        assert_after(&rt, alloc, &model, *mv, first, second)?;
+    }
+    Ok(())
+}
+
+#[test]
+fn numbers_that_are_no_move(rt: HostRuntime) -> Result<(), Fail> {
+    let alloc = rt.alloc();
+    let model = thirteen_nodes(alloc)?;
+    let routes = made(alloc, &model, &[LONG, &[9, 10]])?;
+    let cases = [
+        Move::TwoOpt { v: 0, a: 3, b: 3 },
+        Move::OrOpt {
+            v: 0,
+            a: 2,
+            k: 2,
+            t: 2,
+        },
+        Move::OrOpt {
+            v: 0,
+            a: 6,
+            k: 3,
+            t: 0,
+        },
+        Move::Relocate {
+            v: 0,
+            a: 0,
+            w: 0,
+            t: 1,
+        },
+        Move::Exchange {
+            v: 0,
+            a: 2,
+            w: 0,
+            b: 2,
+        },
+        Move::Cross {
+            v: 0,
+            a: 0,
+            w: 1,
+            b: 0,
+        },
+        Move::RelocatePair {
+            p: 0,
+            w: 0,
+            s: 1,
+            t: 2,
+        },
+        Move::PairActive {
+            p: 0,
+            w: 1,
+            s: 0,
+            t: 0,
+        },
+        Move::PairInactive { p: 1 },
+        Move::MakeActive { u: 0, w: 0, t: 0 },
+        Move::MakeInactive { v: 1, a: 2 },
+        Move::SwapActive { v: 0, a: 0, u: 9 },
+    ];
+    for mv in cases {
+        assert!(&rt; Change::of(&model, &routes, mv).is_none());
+    }
+    Ok(())
+}
+
+// Too few lists, the depot, a node that is not there, and a visit twice in one list and in two.
+#[test]
+fn lists_that_are_none(rt: HostRuntime) -> Result<(), Fail> {
+    let alloc = rt.alloc();
+    let model = thirteen_nodes(alloc)?;
+    let cases: &[&[&[u32]]] = &[
+        &[LONG],
+        &[LONG, &[9], &[10]],
+        &[LONG, &[0]],
+        &[LONG, &[13]],
+        &[&[9, 1, 9], LONG],
+        &[LONG, &[9, 8]],
+    ];
+    for lists in cases {
+        assert!(&rt; routes_of(alloc, &model, lists)?.is_none());
+    }
+    Ok(())
+}
+
+// What follows each index and what comes before it, in order.
+fn assert_steps(rt: &impl Abort, indices: &Indices, routes: &Routes, steps: &[[Option<u32>; 2]])
+    requires { routes.now.visits ≡ indices.now.visits }
+{
+    let end = indices.visits() + 2 * routes.vehicles();
+    assert_eq!(rt; end as usize, steps.len());
+    for index in 0..end {
+        let found = [routes.next(index), routes.previous(index)];
+        assert_eq!(rt; Some(&found), steps.get(index as usize));
+    }
+}
+
+#[test]
+fn steps_along_routes(rt: HostRuntime) -> Result<(), Fail> {
+    let alloc = rt.alloc();
+    let model = fleet(alloc, 4, 2, &[])?;
+    let indices = Indices::new(alloc, &model)?;
+    let routes = made(alloc, &model, &[&[2, 1], &[]])?;
+    let steps = [
+        [Some(5), Some(1)],
+        [Some(0), Some(3)],
+        [None, None],
+        [Some(1), None],
+        [None, None],
+        [None, Some(0)],
+        [None, None],
+    ];
+    assert_steps(&rt, &indices, &routes, &steps);
+    Ok(())
+}
+
+#[test]
+fn indices_of_three_nodes(rt: HostRuntime) -> Result<(), Fail> {
+    let alloc = rt.alloc();
+    let model = fleet(alloc, 3, 1, &[])?;
+    let indices = Indices::new(alloc, &model)?;
+    assert_eq!(&rt; indices.visits(), 2);
+    assert_eq!(&rt;
+        [indices.index(0), indices.index(1), indices.index(2)],
+        [None, Some(0), Some(1)]
+    );
+    Ok(())
+}
+
+#[test]
+fn empty_routes_of_three_nodes(rt: HostRuntime) -> Result<(), Fail> {
+    let alloc = rt.alloc();
+    let model = fleet(alloc, 3, 1, &[])?;
+    let routes = Routes::empty(alloc, &model)?;
+    assert_eq!(&rt; routes.vehicles(), 1);
+    assert_list(&rt, &routes, 0, &[]);
+    let cases = [(0, Some(1)), (1, Some(1)), (2, Some(2)), (3, None)];
+    for (node, found) in cases {
+        assert_eq!(&rt; routes.inactive_from(node), found);
+        assert_eq!(&rt; routes.vehicle_of(node), None);
+    }
+    Ok(())
+}
