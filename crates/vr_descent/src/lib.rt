@@ -15,3 +15,4 @@ pub use laws::descent_is_sound;
 pub use listing::{MoveList, moves};
 pub use progress::Progress;
 pub use scanning::{ScanEnd, scan};
+pub use vr_model::Limit;

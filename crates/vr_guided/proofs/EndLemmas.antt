@@ -1,0 +1,46 @@
+-- What is kept at the ends of a list.
+use Rattle.std.proofs.Common.{◌≡◌, ◌∙◌, ℕ, ◌-◌, ◌≤◌, false, List, [], ◌∷◌, ◌++◌, length, take, drop, sym, ap, ap₂, subst, arith}
+use Rattle.std.specs.Prelude.{All, slice_range}
+use Rattle.std.proofs.lemmas.List.{append-nil, drop_all}
+use Rattle.std.proofs.lemmas.List.Elements.{All-head, All-tail}
+use Rattle.std.proofs.lemmas.Grind.{flat_map-append}
+use Rattle.vr_model.specs.routes.Routes.{route}
+use Rattle.vr_routes.specs.declared.pieces.Piece.{Piece}
+use Rattle.vr_routes.specs.declared.pieces.Piece.TheVariants.{Chain}
+use Rattle.vr_routes.specs.Pieces.{joined, nodes_of, IsWithin}
+use Rattle.vr_routes.proofs.PieceLemmas.{slice_to_end}
+use Rattle.vr_guided.specs.Ends.{AreEnds}
+use Rattle.vr_guided.proofs.WalkLemmas.{all_left}
+
+module _ (lists : List (List ℕ)) (v : ℕ) where
+  -- the first piece keeps the front
+  pub front_kept : (pieces rest : List Piece) (first : Piece) (front n : ℕ) → pieces ≡ first ∷ rest → first ≡ Chain v 0 front false → n ≡ length (route lists v) → All (IsWithin lists) pieces → AreEnds lists v pieces front n rest
+  front_kept pieces rest first front n e f whole within =
+      let all : All (IsWithin lists) (first ∷ rest) = subst (λ ps. All (IsWithin lists) ps) e within in
+      let here : IsWithin lists (Chain v 0 front false) = subst (IsWithin lists) f (All-head (IsWithin lists) first rest all) in
+      let same : front - 0 ≡ front = omega arith in
+      let none : drop n (route lists v) ≡ [] = drop_all n (route lists v) (omega (arith, whole)) in
+      record {
+        order = (let low = here.2 in omega (arith, low, whole));
+        high = omega (arith, whole);
+        within = All-tail (IsWithin lists) first rest all;
+        joins = ap (joined lists) (e ∙ ap (λ piece. piece ∷ rest) f)
+            ∙ (ap (λ k. take k (route lists v) ++ joined lists rest) same
+            ∙ ap (λ xs. take front (route lists v) ++ xs) (sym (append-nil (joined lists rest)) ∙ ap (λ xs. joined lists rest ++ xs) (sym none)));
+      }
+
+  -- the last piece keeps the end
+  pub behind_kept : (pieces middle rest : List Piece) (last : Piece) (front behind n : ℕ) → AreEnds lists v pieces front n middle → n ≡ length (route lists v) → middle ≡ rest ++ last ∷ []
+      → last ≡ Chain v behind n false → front ≤ behind → behind ≤ n → AreEnds lists v pieces front behind rest
+  behind_kept pieces middle rest last front behind n ends whole e f order low =
+      let none : drop n (route lists v) ≡ [] = drop_all n (route lists v) (omega (arith, whole)) in
+      let kept : nodes_of lists last ≡ drop behind (route lists v) = ap (nodes_of lists) f ∙ (ap (λ k. slice_range (route lists v) behind k) whole ∙ slice_to_end (route lists v) behind) in
+      record {
+        order = order;
+        high = omega (arith, low, whole);
+        within = all_left (IsWithin lists) rest (last ∷ []) (subst (λ ps. All (IsWithin lists) ps) e ends.within);
+        joins = ends.joins ∙ ap (λ xs. take front (route lists v) ++ xs)
+            (ap₂ (λ xs ys. xs ++ ys) (ap (joined lists) e ∙ flat_map-append (nodes_of lists) rest (last ∷ [])) none
+            ∙ (append-nil (joined lists rest ++ (nodes_of lists last ++ []))
+            ∙ ap (λ xs. joined lists rest ++ xs) (append-nil (nodes_of lists last) ∙ kept)));
+      }

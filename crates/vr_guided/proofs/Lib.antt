@@ -1,0 +1,12 @@
+pub mod WorthLemmas
+pub mod PartLemmas
+pub mod EndLemmas
+pub mod WalkLemmas
+pub mod RaiseLemmas
+pub mod LocalChanges
+pub mod ArcLemmas
+pub mod CountLemmas
+pub mod GuideLemmas
+pub mod GuidedLemmas
+pub mod AnswerLemmas
+pub mod BoundLemmas

@@ -1,0 +1,13 @@
+use Rattle.std.proofs.Common.{◌≡◌, ◌-◌, length}
+use Rattle.std.specs.List.{range_with_len}
+use Rattle.vr_model.specs.tables.Numbers.{each}
+use Rattle.vr_model.specs.routes.Routes.{arcs_of, route, used_arcs}
+use Rattle.vr_guided.specs.Counts.{counted}
+use Rattle.vr_guided.specs.Worths.{greatest, worth_of, worthless}
+use Rattle.vr_guided.proofs.penalties.Penalties.greatest.Given as goal
+
+-- the vehicles so far are counted, and those from here on are left
+abbrev pub invariant-loop-vehicle : goal.invariant-loop-vehicle
+invariant-loop-vehicle l =
+    greatest (worth_of l.model (counted l.self)) l.best (each (range_with_len l.vehicle (length l.model.vehicles - l.vehicle)) (λ v. arcs_of l.model v (route l.routes.lists v)))
+    ≡ greatest (worth_of l.model (counted l.self)) worthless (used_arcs l.model l.routes.lists)

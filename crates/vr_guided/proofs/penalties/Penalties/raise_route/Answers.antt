@@ -1,0 +1,30 @@
+use Rattle.std.proofs.Common.{◌∙◌, ◌<◌, ◌+◌, ◌*◌, ◌++◌, ◌∷◌, [], drop, length, slice_index_or, ap, sym, arith}
+use Rattle.vr_model.specs.routes.Routes.{UsedArc, arcs_from}
+use Rattle.vr_guided.specs.Counts.{counted}
+use Rattle.vr_guided.specs.Worths.{raised_in_turn}
+use Rattle.vr_guided.proofs.ArcLemmas.{arcs_onward}
+use Rattle.vr_guided.proofs.RaiseLemmas.{once_within}
+use Rattle.vr_guided.proofs.penalties.Penalties.raise_route.Goals as goal
+
+pub loop-node-preserved : goal.loop-node-preserved
+loop-node-preserved c =
+    let inv = c.loop-node.invariant in
+    let at = c.loop-node.node-index in
+    let end = c.get-ends.result.now.end in
+    let low : at < length c.args.list.now = c.loop-node-test.true in
+    let node = slice_index_or c.args.list.now at 0 in
+    let arc : UsedArc = record { vehicle = c.args.vehicle; origin = c.loop-node.at; target = node } in
+    record {
+      goes = ap (λ q. raised_in_turn c.args.model.now c.args.greatest.now q (arcs_from c.args.vehicle node (drop (at + 1) c.args.list.now ++ end ∷ []))) c.raise_arc.ensures.raised
+          ∙ (sym (ap (raised_in_turn c.args.model.now c.args.greatest.now (counted c.loop-node.self)) (arcs_onward c.args.vehicle c.loop-node.at end c.args.list.now at low)) ∙ inv.goes);
+      at = c.requires.nodes at 0 low;
+      nodes = c.raise_arc.ensures.covers ∙ inv.nodes;
+      few = once_within c.args.model.now c.args.greatest.now (counted c.loop-node.self) (counted c.raise_arc.new.self) arc (1000000000 + 1001 * c.args.vehicle + at) _ c.raise_arc.ensures.raised inv.few (omega arith);
+    }
+
+pub returns-clause-few : goal.returns-clause-few
+returns-clause-few c =
+    let inv = c.loop-node.invariant in
+    let short = c.requires.short in
+    let last = c.loop-node.auto.node-index-end in
+    once_within c.args.model.now c.args.greatest.now (counted c.loop-node.self) (counted c.raise_arc-2.new.self) _ (1000000000 + 1001 * c.args.vehicle + c.loop-node.node-index) _ c.raise_arc-2.ensures.raised inv.few (omega (arith, short, last))

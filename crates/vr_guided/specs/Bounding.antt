@@ -1,0 +1,21 @@
+-- What augmented costs come to, as a statement.
+use Rattle.std.specs.Prelude.{ℕ, ◌^◌, List, IsTrue, pos}
+use Rattle.vr_model.specs.tables.WellFormed.{IsIn, IsWellFormed}
+use Rattle.vr_model.specs.routes.Rules.{is_valid}
+use Rattle.vr_model.specs.search.GuidedSearches.{Penalties, augmented}
+use Rattle.vr_model.specs.declared.records.Model.{Model}
+use Rattle.vr_model.specs.declared.search.Lambda.{Lambda}
+use Rattle.vr_guided.specs.Counts.{AtMost}
+
+-- both parts of lambda are in 1..=1000
+pub record IsLambda (lambda : Lambda) : Type 0 where
+  pub p_in_range : IsIn (pos 1) (pos 1000) lambda.p
+  pub q_in_range : IsIn (pos 1) (pos 1000) lambda.q
+
+-- where no arc was penalised more than 10^9 times, valid lists of a well-formed model have an augmented cost from 0 to
+-- 2^100
+abbrev pub AugmentedCostsAreBounded : Type 0
+AugmentedCostsAreBounded =
+    (model : Model) → IsWellFormed model → (lambda : Lambda) → IsLambda lambda
+    → (penalties : Penalties) → AtMost 1000000000 penalties → (lists : List (List ℕ)) → IsTrue (is_valid model lists)
+    → IsIn (pos 0) (pos (2 ^ 100)) (augmented model lambda penalties lists)

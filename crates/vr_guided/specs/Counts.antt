@@ -1,0 +1,27 @@
+-- How often each ordered pair of nodes was penalised, row by row.
+use Rattle.std.specs.Prelude.{◌≡◌, ℕ, ◌+◌, ◌*◌, ◌≤◌, ◌&&◌, cond, nat_lt, List, slice_index_or, pos, ◌≤ℤ◌}
+use Rattle.vr_model.specs.declared.search.Lambda.{Lambda}
+use Rattle.vr_model.specs.search.GuidedSearches.{Penalties}
+
+-- the counts of n nodes
+pub record Counts : Type 0 where
+  pub nodes : ℕ
+  pub counts : List ℕ
+
+-- how often the arc from one node to another was penalised, 0 where there are no such nodes
+abbrev pub counted : Counts → Penalties
+counted c origin target =
+    cond (nat_lt origin c.nodes && nat_lt target c.nodes) (slice_index_or c.counts (origin * c.nodes + target) 0) 0
+
+-- no pair was penalised more often
+pub record AtMost (most : ℕ) (p : Penalties) : Type 0 where
+  pub each : (origin target : ℕ) → p origin target ≤ most
+
+-- a count for each pair of so many nodes, few enough penalties, and both parts of lambda in 1..=1000
+pub record IsSoundGuide (nodes : ℕ) (lambda : Lambda) (c : Counts) : Type 0 where
+  pub covers : c.nodes ≡ nodes
+  pub few : AtMost 1000000000 (counted c)
+  pub p_from_one : pos 1 ≤ℤ lambda.p
+  pub p_to_1000 : lambda.p ≤ℤ pos 1000
+  pub q_from_one : pos 1 ≤ℤ lambda.q
+  pub q_to_1000 : lambda.q ≤ℤ pos 1000

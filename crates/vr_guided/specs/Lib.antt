@@ -1,0 +1,9 @@
+pub mod Counts
+pub mod Kept
+pub mod Guides
+pub mod Standing
+pub mod Worths
+pub mod Walks
+pub mod Ends
+pub mod Answering
+pub mod Bounding

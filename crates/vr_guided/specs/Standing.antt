@@ -1,0 +1,67 @@
+-- Where guided search in code stands.
+use Rattle.std.specs.Prelude.{◌≡◌, ℕ, suc, ◌-◌, ◌≤◌, List, IsTrue, pos, ◌≤ℤ◌}
+use Rattle.vr_model.specs.routes.Costs.{cost}
+use Rattle.vr_model.specs.routes.Rules.{is_valid}
+use Rattle.vr_model.specs.search.Outcomes.{SearchState, Outcome}
+use Rattle.vr_model.specs.search.GuidedSearches.{Penalties, guided_from}
+use Rattle.vr_model.specs.declared.records.Model.{Model}
+use Rattle.vr_model.specs.declared.records.End.{End}
+use Rattle.vr_model.specs.declared.search.Event.{Event}
+use Rattle.vr_model.specs.declared.search.Limit.{Limit}
+use Rattle.vr_model.specs.declared.search.Lambda.{Lambda}
+use Rattle.vr_routes.specs.Tours.{Tours}
+use Rattle.vr_routes.specs.Judging.{HoldSame}
+use Rattle.vr_guided.specs.Counts.{AtMost, counted}
+use Rattle.vr_guided.specs.declared.searching.State.{State}
+use Rattle.vr_guided.specs.declared.best.Best.{Best}
+
+-- the limits of a search are in their ranges
+pub record AreLimits (limit : Limit) (lambda : Lambda) : Type 0 where
+  pub tries : limit.tries ≤ 1000000000
+  pub solutions : limit.solutions ≤ 1000000000
+  pub p_from_one : pos 1 ≤ℤ lambda.p
+  pub p_to_1000 : lambda.p ≤ℤ pos 1000
+  pub q_from_one : pos 1 ≤ℤ lambda.q
+  pub q_to_1000 : lambda.q ≤ℤ pos 1000
+
+-- the best routes are valid, and their cost is known
+pub record IsBest (model : Model) (visits : List ℕ) (best : Best) : Type 0 where
+  pub costs : best.cost ≡ cost model best.routes.lists
+  pub valid : IsTrue (is_valid model best.routes.lists)
+  pub same_visits : best.routes.visits ≡ visits
+
+-- routes and judge hold the same valid lists; their cost, the tries and the solutions are counted; the best routes are
+-- valid; no arc was penalised more often than a move was tried; and each pair of nodes has a count
+pub record Stands (model : Model) (limit : Limit) (committed : List (List ℕ)) (routes : Tours) (state : State) :
+    Type 0 where
+  pub holds : HoldSame model committed routes
+  pub costs : state.at.cost ≡ cost model routes.lists
+  pub used : state.at.used ≤ limit.tries
+  pub some : 1 ≤ state.at.found
+  pub found : state.at.found ≤ limit.solutions
+  pub best : IsBest model routes.visits state.best
+  pub few : AtMost state.at.used (counted state.penalties)
+  pub covers : state.penalties.nodes ≡ model.nodes
+
+-- where the definition stands
+abbrev pub standing : List (List ℕ) → List (List ℕ) → ℕ → ℕ → SearchState
+standing lists best used found = record { lists = lists; best = best; used = used; found = found }
+
+-- guided search from there, by one scan more than there are tries left
+abbrev pub from_here : Model → Limit → Lambda → Penalties → List (List ℕ) → List (List ℕ) → ℕ → ℕ → Outcome
+from_here model limit lambda penalties lists best used found =
+    guided_from model limit lambda (suc (limit.tries - used)) penalties (standing lists best used found)
+
+-- the same from where the code stands
+abbrev pub from_state : Model → Limit → Lambda → List (List ℕ) → State → Outcome
+from_state model limit lambda lists state =
+    from_here model limit lambda (counted state.penalties) lists state.best.routes.lists state.at.used state.at.found
+
+-- the outcome of a search that ends where it stands, with these events
+abbrev pub outcome_of : List (List ℕ) → State → End → List Event → Outcome
+outcome_of lists state stop events = record {
+  last = lists;
+  best = state.best.routes.lists;
+  report = record { tries = state.at.used; solutions = state.at.found; «end» = stop };
+  events = events;
+}

@@ -1,0 +1,47 @@
+//! Whether there is an arc that a penalty can make dearer.
+
+ghost use Rattle.std.specs.Prelude.{◌≡◌, ◌<◌, IsTrue, All, length};
+ghost use Rattle.std.specs.List.{list_any};
+ghost use Rattle.vr_guided.specs.Guides.{is_costly};
+ghost use Rattle.vr_model.specs.search.GuidedSearches.{has_costly_arc};
+ghost use Rattle.vr_model.specs.routes.Routes.{arcs_of};
+ghost use Rattle.vr_model.specs.routes.Rules.{is_valid};
+ghost use Rattle.vr_model.specs.tables.WellFormed.{IsWellFormed};
+
+use vr_model::Model;
+use vr_routes::Routes;
+
+// Whether some arc of a vehicle with a list has a cost above 0.
+fn is_route_costly(model: &Model, vehicle: u32, list: &[u32]) -> bool
+    requires well_formed { IsWellFormed model.now }
+    requires vehicle { vehicle < length model.now.vehicles }
+    requires nodes { All (λ node. node < model.now.nodes) list.now }
+    ensures { result ≡ list_any (is_costly model.now) (arcs_of model.now vehicle list.now) }
+{
+    if list.is_empty() {
+        return false;
+    }
+    let ends = model.vehicles.get(vehicle as usize);
+    let mut at = ends.start;
+    for &node in list {
+        if model.arc_cost(vehicle, at, node) > 0 {
+            return true;
+        }
+        at = node;
+    }
+    model.arc_cost(vehicle, at, ends.end) > 0
+}
+
+/// Whether some used arc has a cost above 0. Takes no memory.
+pub fn has_costly_arc(model: &Model, routes: &Routes) -> bool
+    requires well_formed { IsWellFormed model.now }
+    requires valid { IsTrue (is_valid model.now routes.now.lists) }
+    ensures { result ≡ has_costly_arc model.now routes.now.lists }
+{
+    for vehicle in 0..model.vehicles.len() as u32 {
+        if is_route_costly(model, vehicle, routes.list(vehicle)) {
+            return true;
+        }
+    }
+    false
+}

@@ -1,0 +1,64 @@
+//! What guided search takes.
+
+ghost use Rattle.std.specs.Prelude.{◌≡◌, ◌≤◌, ◌*◌, ◌^◌, ◌*ℤ◌, IsTrue, unsigned_abs};
+ghost use Rattle.vr_guided.specs.Counts.{AtMost, IsSoundGuide, counted};
+ghost use Rattle.vr_guided.specs.Guides.{makes_less, penalised_change};
+ghost use Rattle.vr_model.specs.moves.Moves.{apply};
+ghost use Rattle.vr_model.specs.moves.MoveTests.{is_move};
+ghost use Rattle.vr_model.specs.routes.Rules.{is_valid};
+ghost use Rattle.vr_model.specs.tables.Tables.{visits};
+ghost use Rattle.vr_model.specs.tables.WellFormed.{IsWellFormed};
+
+use crate::penalties::Penalties;
+use vr_descent::Accept;
+use vr_model::{Lambda, Model, Move};
+use vr_routes::{Change, Routes};
+
+/// Takes each move that makes the augmented cost less.
+#[derive(Drop)]
+pub struct Guiding<'m> {
+    pub model: &'m Model,
+    pub lambda: Lambda,
+    pub penalties: &'m Penalties,
+    ghost sound: { IsSoundGuide model.now.nodes lambda penalties.now },
+}
+
+impl<'m> Accept for Guiding<'m> {
+    ghost model = { λ s. s.model.now };
+
+    ghost takes = { λ s. makes_less s.model.now s.lambda (counted s.penalties.now) };
+
+    fn accepts(&self, routes: &Routes, mv: Move, difference: i64) -> bool {
+        let change = penalised_change(self.model, self.penalties, routes, mv);
+        let costs = scaled(self.lambda.q, difference as i128);
+        costs + scaled(self.lambda.p, change) < 0
+    }
+}
+
+// A change times p or q.
+fn scaled(factor: i64, change: i128) -> i128
+    requires factor { unsigned_abs factor ≤ 1000 }
+    requires change { unsigned_abs change ≤ 2 ^ 100 }
+    ensures value { result ≡ factor *ℤ change }
+    ensures bound { unsigned_abs result ≤ 1000 * 2 ^ 100 }
+{
+    factor as i128 * change
+}
+
+// What a move makes of the penalised arc costs, by the arcs that change. Takes no memory.
+fn penalised_change(model: &Model, penalties: &Penalties, routes: &Routes, mv: Move) -> i128
+    requires well_formed { IsWellFormed model.now }
+    requires of_model { routes.now.visits ≡ visits model.now }
+    requires valid { IsTrue (is_valid model.now routes.now.lists) }
+    requires mv { IsTrue (is_move model.now routes.now.lists mv) }
+    requires after { IsTrue (is_valid model.now (apply model.now routes.now.lists mv)) }
+    requires covers { penalties.now.nodes ≡ model.now.nodes }
+    requires few { AtMost 1000000000 (counted penalties.now) }
+    ensures bound { unsigned_abs result ≤ 2 ^ 100 }
+    ensures value { result ≡ penalised_change model.now (counted penalties.now) routes.now.lists mv }
+{
+    match Change::of(model, routes, mv) {
+        Some(change) => penalties.change(model, routes, &change),
+        None => 0,
+    }
+}

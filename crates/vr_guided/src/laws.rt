@@ -1,0 +1,15 @@
+//! Laws over the definitions. A call has no code: its contract is the law, and a proof that needs the law calls it.
+
+ghost use Rattle.vr_guided.specs.Answering.{GuidedIsSound};
+ghost use Rattle.vr_guided.specs.Bounding.{AugmentedCostsAreBounded};
+
+/// The best lists of guided local search from valid lists are valid and cost no more than these, its last lists are
+/// valid, and its tries and its solutions are within the limit.
+pub fn guided_is_sound()
+    ensures { GuidedIsSound }
+{}
+
+/// The augmented cost of valid lists is not negative and at most 2^100, where no arc was penalised more than 10^9 times.
+pub fn augmented_costs_are_bounded()
+    ensures { AugmentedCostsAreBounded }
+{}

@@ -1,0 +1,134 @@
+//! A round: one more on each used arc of the greatest worth.
+
+ghost use Rattle.std.specs.Prelude.{◌≡◌, ◌<◌, ◌≤◌, ◌+◌, ◌*◌, IsTrue, All, length};
+ghost use Rattle.vr_guided.specs.Counts.{AtMost, counted};
+ghost use Rattle.vr_guided.specs.Worths.{greatest, raised_in_turn, raised_once, worth_of, worthless};
+ghost use Rattle.vr_model.specs.search.GuidedSearches.{has_costly_arc, raised};
+ghost use Rattle.vr_model.specs.routes.Routes.{arcs_of, used_arcs};
+ghost use Rattle.vr_model.specs.routes.Rules.{is_valid};
+ghost use Rattle.vr_model.specs.tables.WellFormed.{IsWellFormed};
+
+use crate::penalties::Penalties;
+use crate::worths::Worth;
+use vr_model::Model;
+use vr_routes::Routes;
+
+impl Penalties {
+    /// One more on each used arc of the greatest worth: its cost over one more than its penalty. Takes no memory.
+    pub fn raise(&mut self, model: &Model, routes: &Routes)
+        requires well_formed { IsWellFormed model.now }
+        requires valid { IsTrue (is_valid model.now routes.now.lists) }
+        requires costly { IsTrue (has_costly_arc model.now routes.now.lists) }
+        requires covers { self.old.nodes ≡ model.now.nodes }
+        requires few { AtMost 1000000000 (counted self.old) }
+        ensures nodes { self.new.nodes ≡ self.old.nodes }
+        ensures raised { counted self.new ≡ raised model.now (counted self.old) routes.now.lists }
+    {
+        let greatest = self.greatest(model, routes);
+        for vehicle in 0..model.vehicles.len() as u32 {
+            self.raise_route(model, vehicle, routes.list(vehicle), &greatest);
+        }
+    }
+
+    // The greatest worth of the used arcs.
+    fn greatest(&self, model: &Model, routes: &Routes) -> Worth
+        requires well_formed { IsWellFormed model.now }
+        requires valid { IsTrue (is_valid model.now routes.now.lists) }
+        requires covers { self.now.nodes ≡ model.now.nodes }
+        ensures { result
+            ≡ greatest (worth_of model.now (counted self.now)) worthless (used_arcs model.now routes.now.lists) }
+    {
+        let mut best = Worth {
+            cost: 0,
+            penalty: 0,
+        };
+        for vehicle in 0..model.vehicles.len() as u32 {
+            best = self.greatest_in(model, vehicle, routes.list(vehicle), best);
+        }
+        best
+    }
+
+    // The greatest worth so far and of the arcs of a vehicle.
+    fn greatest_in(&self, model: &Model, vehicle: u32, list: &[u32], so_far: Worth) -> Worth
+        requires well_formed { IsWellFormed model.now }
+        requires vehicle { vehicle < length model.now.vehicles }
+        requires nodes { All (λ node. node < model.now.nodes) list.now }
+        requires covers { self.now.nodes ≡ model.now.nodes }
+        ensures { result
+            ≡ greatest (worth_of model.now (counted self.now)) so_far (arcs_of model.now vehicle list.now) }
+    {
+        if list.is_empty() {
+            return so_far;
+        }
+        let ends = model.vehicles.get(vehicle as usize);
+        let mut best = so_far;
+        let mut at = ends.start;
+        for &node in list {
+            best = best.or_greater(self.worth(model, vehicle, at, node));
+            at = node;
+        }
+        best.or_greater(self.worth(model, vehicle, at, ends.end))
+    }
+
+    // What an arc is worth.
+    #[inline]
+    fn worth(&self, model: &Model, vehicle: u32, origin: u32, target: u32) -> Worth
+        requires well_formed { IsWellFormed model.now }
+        requires vehicle { vehicle < length model.now.vehicles }
+        requires origin { origin < model.now.nodes }
+        requires target { target < model.now.nodes }
+        requires covers { self.now.nodes ≡ model.now.nodes }
+        ensures { result
+            ≡ worth_of model.now (counted self.now) (record { vehicle = vehicle; origin = origin; target = target }) }
+    {
+        Worth {
+            cost: model.arc_cost(vehicle, origin, target),
+            penalty: self.at(origin, target),
+        }
+    }
+
+    // One more on each arc of a vehicle that is worth as much as the greatest.
+    fn raise_route(&mut self, model: &Model, vehicle: u32, list: &[u32], greatest: &Worth)
+        requires well_formed { IsWellFormed model.now }
+        requires vehicle { vehicle < length model.now.vehicles }
+        requires nodes { All (λ node. node < model.now.nodes) list.now }
+        requires short { length list.now ≤ 1000 }
+        requires covers { self.old.nodes ≡ model.now.nodes }
+        requires few { AtMost (1000000000 + 1001 * vehicle) (counted self.old) }
+        ensures covers { self.new.nodes ≡ self.old.nodes }
+        ensures few { AtMost (1000000000 + 1001 * (vehicle + 1)) (counted self.new) }
+        ensures raised { counted self.new
+            ≡ raised_in_turn model.now greatest.now (counted self.old) (arcs_of model.now vehicle list.now) }
+    {
+        if list.is_empty() {
+            return;
+        }
+        let ends = model.vehicles.get(vehicle as usize);
+        let mut at = ends.start;
+        for &node in list {
+            self.raise_arc(model, vehicle, at, node, greatest);
+            at = node;
+        }
+        self.raise_arc(model, vehicle, at, ends.end, greatest);
+    }
+
+    // One more on an arc if it is worth as much as the greatest.
+    #[inline]
+    fn raise_arc(&mut self, model: &Model, vehicle: u32, origin: u32, target: u32, greatest: &Worth)
+        requires well_formed { IsWellFormed model.now }
+        requires vehicle { vehicle < length model.now.vehicles }
+        requires origin { origin < model.now.nodes }
+        requires target { target < model.now.nodes }
+        requires covers { self.old.nodes ≡ model.now.nodes }
+        requires room { AtMost 2000000000 (counted self.old) }
+        ensures covers { self.new.nodes ≡ self.old.nodes }
+        ensures raised { counted self.new
+            ≡ raised_once model.now greatest.now (counted self.old)
+            (record { vehicle = vehicle; origin = origin; target = target }) }
+    {
+        let worth = self.worth(model, vehicle, origin, target);
+        if greatest.is_no_more(&worth) {
+            self.increase(origin, target);
+        }
+    }
+}

@@ -1,0 +1,177 @@
+//! Guided local search.
+
+ghost use Rattle.std.specs.Prelude.{◌≡◌, ◌+◌, ◌≤◌, ◌==◌, ◌||◌, not, ◌≤ℤ◌, pos, IsTrue, IfOk, OnOk, OnErr};
+ghost use Rattle.vr_guided.specs.Standing.{AreLimits, Stands, from_state, outcome_of};
+ghost use Rattle.vr_model.specs.routes.Costs.{cost};
+ghost use Rattle.vr_model.specs.search.GuidedSearches.{guided, has_costly_arc};
+ghost use Rattle.vr_model.specs.routes.Rules.{is_valid};
+ghost use Rattle.vr_model.specs.tables.WellFormed.{IsWellFormed};
+ghost use Rattle.vr_routes.specs.Judging.{HoldSame};
+ghost use Rattle.vr_watch.specs.Told.{Told, ToldInPart};
+
+use crate::best::Best;
+use crate::costly::has_costly_arc;
+use crate::guiding::Guiding;
+use crate::penalties::Penalties;
+use std::alloc::Global;
+use std::sync::ledger::Ledger;
+use vr_descent::{Progress, ScanEnd};
+use vr_model::{End, Kind, Lambda, Limit, Model, NoMemory, Report, Steps};
+use vr_routes::{Judge, Routes};
+use vr_watch::{Watch, note_all};
+
+/// How guided local search ends.
+#[derive(Drop)]
+pub struct Guided {
+    pub report: Report,
+    /// The first routes of the least cost.
+    pub best: Routes,
+}
+
+/// Takes the first move that makes the augmented cost less, again and again, and at each local optimum penalises the
+/// used arcs of the greatest worth (`GUIDED_LOCAL_SEARCH` in OR-Tools). Routes and judge then hold the last lists; the
+/// answer has the first lists of the least cost. `limit` allows up to 10^9 tries and from 1 to 10^9 solutions, and both
+/// parts of `lambda` are in 1..=1000.
+///
+/// The report's end is `Optimum` where no move was left to try or no used arc costs anything, so that no penalty could
+/// help, `Tries` where the tries ran out, and `Solutions` where as many solutions were found as the limit allows.
+///
+/// The only refusal is want of memory. Routes and judge then hold the same valid lists, the judge was asked about no
+/// more moves than the limit has tries, and the watchers have been told the events up to there: of the event in hand,
+/// the first few. Memory is taken once at the beginning, and then by the judge and the watchers alone.
+pub fn guide<J: Judge, L: Ledger>(
+    alloc: Global,
+    model: &Model,
+    judge: &mut J,
+    routes: &mut Routes,
+    first_cost: i64,
+    limit: Limit,
+    lambda: Lambda,
+    watch: &mut Vec<Box<dyn Watch>>,
+    steps: &mut Steps<L>,
+) -> Result<Guided, NoMemory>
+    requires well_formed { IsWellFormed model.now }
+    requires judge_model { J.model judge.old ≡ model.now }
+    requires holds { HoldSame model.now (J.committed judge.old) routes.old }
+    requires first_cost { first_cost ≡ cost model.now routes.old.lists }
+    requires tries { limit.tries ≤ 1000000000 }
+    requires one_solution { 1 ≤ limit.solutions }
+    requires solutions { limit.solutions ≤ 1000000000 }
+    requires p_from_one { pos 1 ≤ℤ lambda.p }
+    requires p_to_1000 { lambda.p ≤ℤ pos 1000 }
+    requires q_from_one { pos 1 ≤ℤ lambda.q }
+    requires q_to_1000 { lambda.q ≤ℤ pos 1000 }
+    ensures report { IfOk result (λ answer. answer.report ≡ (guided model.now routes.old.lists limit lambda).report) }
+    ensures last { OnOk result (routes.new.lists ≡ (guided model.now routes.old.lists limit lambda).last) }
+    ensures best { IfOk result (λ answer. answer.best.lists ≡ (guided model.now routes.old.lists limit lambda).best) }
+    ensures told { OnOk result (Told (λ w later. after w later) watch.old.items watch.new.items
+        (guided model.now routes.old.lists limit lambda).events) }
+    ensures asked { IfOk result (λ answer. J.asked judge.new ≤ J.asked judge.old + answer.report.tries) }
+
+    ensures no_more_tries { IfOk result (λ answer. answer.report.tries ≤ limit.tries) }
+    ensures some_solution { IfOk result (λ answer. 1 ≤ answer.report.solutions) }
+    ensures no_more_solutions { IfOk result (λ answer. answer.report.solutions ≤ limit.solutions) }
+    ensures best_is_valid { IfOk result (λ answer. IsTrue (is_valid model.now answer.best.lists)) }
+    ensures same_visits { IfOk result (λ answer. answer.best.visits ≡ routes.old.visits) }
+    ensures no_dearer { IfOk result (λ answer. cost model.now answer.best.lists ≤ℤ cost model.now routes.old.lists) }
+
+    ensures judge_model { J.model judge.new ≡ model.now }
+    ensures holds { HoldSame model.now (J.committed judge.new) routes.new }
+    ensures told_in_part { OnErr result (ToldInPart (λ w later. after w later) watch.old.items watch.new.items
+        (guided model.now routes.old.lists limit lambda).events) }
+    ensures asked_at_most { OnErr result (J.asked judge.new ≤ J.asked judge.old + limit.tries) }
+{
+    let mut state = State {
+        at: Progress {
+            used: 0,
+            found: 1,
+            cost: first_cost,
+        },
+        best: Best {
+            routes: routes.copy(alloc)?,
+            cost: first_cost,
+        },
+        penalties: Penalties::new(alloc, model.nodes)?,
+    };
+    note_all(watch, state.at.event(Kind::First))?;
+    let end = improve(
+        model, judge, routes, limit, lambda, &mut state, watch, steps,
+    )?;
+    Ok(Guided {
+        report: state.at.report(end),
+        best: state.best.routes,
+    })
+}
+
+/// Where guided search stands.
+#[derive(Drop)]
+struct State {
+    at: Progress,
+    best: Best,
+    penalties: Penalties,
+}
+
+// Searches on from where it stands, and says why it ended.
+fn improve<J: Judge, L: Ledger>(
+    model: &Model,
+    judge: &mut J,
+    routes: &mut Routes,
+    limit: Limit,
+    lambda: Lambda,
+    state: &mut State,
+    watch: &mut Vec<Box<dyn Watch>>,
+    steps: &mut Steps<L>,
+) -> Result<End, NoMemory>
+    requires well_formed { IsWellFormed model.now }
+    requires judge_model { J.model judge.old ≡ model.now }
+    requires limits { AreLimits limit lambda }
+    requires stands { Stands model.now limit (J.committed judge.old) routes.old state.old }
+    ensures outcome { IfOk result (λ stop. outcome_of routes.new.lists state.new stop
+        (from_state model.now limit lambda routes.old.lists state.old).events
+        ≡ from_state model.now limit lambda routes.old.lists state.old) }
+    ensures told { OnOk result (Told (λ w later. after w later) watch.old.items watch.new.items
+        (from_state model.now limit lambda routes.old.lists state.old).events) }
+    ensures asked { OnOk result (J.asked judge.new + state.old.at.used ≤ J.asked judge.old + state.new.at.used) }
+    ensures stands { OnOk result (Stands model.now limit (J.committed judge.new) routes.new state.new) }
+    ensures no_dearer { OnOk result (state.new.best.cost ≤ℤ state.old.best.cost) }
+
+    ensures judge_model { J.model judge.new ≡ model.now }
+    ensures holds { HoldSame model.now (J.committed judge.new) routes.new }
+    ensures told_in_part { OnErr result (ToldInPart (λ w later. after w later) watch.old.items watch.new.items
+        (from_state model.now limit lambda routes.old.lists state.old).events) }
+    ensures asked_at_most { OnErr result (J.asked judge.new + state.old.at.used ≤ J.asked judge.old + limit.tries) }
+{
+    'scans: while state.at.found != limit.solutions {
+        let guiding = Guiding {
+            model,
+            lambda,
+            penalties: &state.penalties,
+        };
+        let ended = state
+            .at
+            .advance(model, judge, routes, &guiding, limit, watch, steps)?;
+        match ended {
+            ScanEnd::Accepted { .. } => {
+                state.best.offer(routes, &state.at);
+            }
+            ScanEnd::Complete { length } => {
+                if is_stuck(model, routes, length) {
+                    return Ok(End::Optimum);
+                }
+                state.penalties.raise(model, routes);
+                note_all(watch, state.at.event(Kind::Round))?;
+            }
+            ScanEnd::Cut => return Ok(End::Tries),
+        }
+    }
+    Ok(End::Solutions)
+}
+
+// Whether no penalty can help, after a scan of so many moves.
+fn is_stuck(model: &Model, routes: &Routes, moves: u64) -> bool
+    requires well_formed { IsWellFormed model.now }
+    requires valid { IsTrue (is_valid model.now routes.now.lists) }
+    ensures { result ≡ ((moves == 0) || not (has_costly_arc model.now routes.now.lists)) }
+{
+    moves == 0 || !has_costly_arc(model, routes)
+}

@@ -1,0 +1,187 @@
+//! Walks along routes, which add up penalised costs of arcs.
+
+ghost use Rattle.std.specs.Prelude.{◌≡◌, ◌<◌, ◌≤◌, ◌≤ℤ◌, ◌*ℤ◌, ◌+◌, ◌^◌, All, length, pos, reverse};
+ghost use Rattle.vr_guided.specs.Counts.{AtMost, counted};
+ghost use Rattle.vr_guided.specs.Walks.{IsSoundWalk, begun, stepped, walked, weight};
+ghost use Rattle.vr_model.specs.tables.WellFormed.{IsWellFormed};
+ghost use Rattle.vr_routes.specs.Pieces.{IsWithin, joined, nodes_of};
+
+use crate::penalties::Penalties;
+use vr_model::Model;
+use vr_routes::{Piece, Routes};
+
+/// A walk: the node where it stands, how many arcs it took, and what they add up to.
+#[derive(Clone, Copy)]
+pub struct Walk {
+    pub at: u32,
+    pub arcs: u32,
+    pub total: i128,
+}
+
+impl Walk {
+    /// A walk that begins at a node.
+    #[inline]
+    pub fn begin(at: u32) -> Walk
+        ensures { result ≡ begun at }
+    {
+        Walk {
+            at,
+            arcs: 0,
+            total: 0,
+        }
+    }
+}
+
+impl Penalties {
+    /// What an arc adds: its cost times its penalty.
+    #[inline]
+    pub fn weight(&self, model: &Model, vehicle: u32, origin: u32, target: u32) -> i128
+        requires well_formed { IsWellFormed model.now }
+        requires vehicle { vehicle < length model.now.vehicles }
+        requires origin { origin < model.now.nodes }
+        requires target { target < model.now.nodes }
+        requires covers { self.now.nodes ≡ model.now.nodes }
+        requires few { AtMost 1000000000 (counted self.now) }
+        ensures value { result
+            ≡ weight model.now (counted self.now) (record { vehicle = vehicle; origin = origin; target = target }) }
+        ensures low { pos 0 ≤ℤ result }
+        ensures high { result ≤ℤ pos (2 ^ 70) }
+    {
+        times(
+            self.at(origin, target),
+            model.arc_cost(vehicle, origin, target),
+        )
+    }
+
+    /// A walk goes on to a node.
+    #[inline]
+    pub fn step(&self, model: &Model, vehicle: u32, walk: &mut Walk, node: u32)
+        requires well_formed { IsWellFormed model.now }
+        requires vehicle { vehicle < length model.now.vehicles }
+        requires node { node < model.now.nodes }
+        requires covers { self.now.nodes ≡ model.now.nodes }
+        requires few { AtMost 1000000000 (counted self.now) }
+        requires sound { IsSoundWalk model.now.nodes walk.old }
+        requires room { walk.old.arcs ≤ 100000 }
+        ensures value { walk.new ≡ stepped model.now (counted self.now) vehicle walk.old node }
+        ensures sound { IsSoundWalk model.now.nodes walk.new }
+    {
+        let weight = self.weight(model, vehicle, walk.at, node);
+        walk.at = node;
+        walk.arcs += 1;
+        walk.total += weight;
+    }
+
+    /// A walk goes on through nodes.
+    pub fn along(&self, model: &Model, vehicle: u32, walk: &mut Walk, nodes: &[u32])
+        requires well_formed { IsWellFormed model.now }
+        requires vehicle { vehicle < length model.now.vehicles }
+        requires nodes { All (λ node. node < model.now.nodes) nodes.now }
+        requires covers { self.now.nodes ≡ model.now.nodes }
+        requires few { AtMost 1000000000 (counted self.now) }
+        requires sound { IsSoundWalk model.now.nodes walk.old }
+        requires room { walk.old.arcs + length nodes.now ≤ 100000 }
+        ensures value { walk.new ≡ walked model.now (counted self.now) vehicle walk.old nodes.now }
+        ensures sound { IsSoundWalk model.now.nodes walk.new }
+    {
+        for &node in nodes {
+            self.step(model, vehicle, walk, node);
+        }
+    }
+
+    // A walk goes on through nodes in reverse order.
+    fn along_back(&self, model: &Model, vehicle: u32, walk: &mut Walk, nodes: &[u32])
+        requires well_formed { IsWellFormed model.now }
+        requires vehicle { vehicle < length model.now.vehicles }
+        requires nodes { All (λ node. node < model.now.nodes) nodes.now }
+        requires covers { self.now.nodes ≡ model.now.nodes }
+        requires few { AtMost 1000000000 (counted self.now) }
+        requires sound { IsSoundWalk model.now.nodes walk.old }
+        requires room { walk.old.arcs + length nodes.now ≤ 100000 }
+        ensures value { walk.new ≡ walked model.now (counted self.now) vehicle walk.old (reverse nodes.now) }
+        ensures sound { IsSoundWalk model.now.nodes walk.new }
+    {
+        let mut place = nodes.len();
+        while place > 0 {
+            place -= 1;
+            self.step(model, vehicle, walk, nodes[place]);
+        }
+    }
+
+    // A walk goes on through the nodes of a piece.
+    fn along_piece(
+        &self,
+        model: &Model,
+        routes: &Routes,
+        vehicle: u32,
+        walk: &mut Walk,
+        piece: &Piece,
+    )
+        requires well_formed { IsWellFormed model.now }
+        requires vehicle { vehicle < length model.now.vehicles }
+        requires within { IsWithin routes.now.lists piece.now }
+        requires nodes { All (λ node. node < model.now.nodes) (nodes_of routes.now.lists piece.now) }
+        requires covers { self.now.nodes ≡ model.now.nodes }
+        requires few { AtMost 1000000000 (counted self.now) }
+        requires sound { IsSoundWalk model.now.nodes walk.old }
+        requires room { walk.old.arcs + length (nodes_of routes.now.lists piece.now) ≤ 100000 }
+        ensures value { walk.new
+            ≡ walked model.now (counted self.now) vehicle walk.old (nodes_of routes.now.lists piece.now) }
+        ensures sound { IsSoundWalk model.now.nodes walk.new }
+    {
+        match *piece {
+            Piece::Chain {
+                vehicle: v,
+                from,
+                to,
+                reversed,
+            } => {
+                let nodes = &routes.list(v)[from as usize..to as usize];
+                if reversed {
+                    self.along_back(model, vehicle, walk, nodes);
+                } else {
+                    self.along(model, vehicle, walk, nodes);
+                }
+            }
+            Piece::Node { node } => self.step(model, vehicle, walk, node),
+        }
+    }
+
+    /// A walk goes on through the nodes of pieces.
+    pub fn along_pieces(
+        &self,
+        model: &Model,
+        routes: &Routes,
+        vehicle: u32,
+        walk: &mut Walk,
+        pieces: &[Piece],
+    )
+        requires well_formed { IsWellFormed model.now }
+        requires vehicle { vehicle < length model.now.vehicles }
+        requires within { All (IsWithin routes.now.lists) pieces.now }
+        requires nodes { All (λ node. node < model.now.nodes) (joined routes.now.lists pieces.now) }
+        requires covers { self.now.nodes ≡ model.now.nodes }
+        requires few { AtMost 1000000000 (counted self.now) }
+        requires sound { IsSoundWalk model.now.nodes walk.old }
+        requires room { walk.old.arcs + length (joined routes.now.lists pieces.now) ≤ 100000 }
+        ensures value { walk.new
+            ≡ walked model.now (counted self.now) vehicle walk.old (joined routes.now.lists pieces.now) }
+        ensures sound { IsSoundWalk model.now.nodes walk.new }
+    {
+        for piece in pieces {
+            self.along_piece(model, routes, vehicle, walk, piece);
+        }
+    }
+}
+
+// A penalty times a cost.
+fn times(penalty: u32, cost: i64) -> i128
+    requires few { penalty ≤ 1000000000 }
+    requires low { pos 0 ≤ℤ cost }
+    requires high { cost ≤ℤ pos (2 ^ 40) }
+    ensures value { result ≡ pos penalty *ℤ cost }
+    ensures low { pos 0 ≤ℤ result }
+    ensures high { result ≤ℤ pos (2 ^ 70) }
+{
+    penalty as i128 * cost as i128
+}
