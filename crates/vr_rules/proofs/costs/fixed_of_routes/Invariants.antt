@@ -1,0 +1,10 @@
+use Rattle.std.proofs.Common.{◌≡◌, ◌*◌, ◌^◌, ◌≤ℤ◌, pos}
+use Rattle.vr_rules.proofs.CostLemmas.{fixed_of_first}
+use Rattle.vr_rules.proofs.costs.fixed_of_routes.Given as goal
+
+abbrev pub invariant-loop-vehicle : goal.invariant-loop-vehicle
+invariant-loop-vehicle l = record {
+  sum : l.total ≡ fixed_of_first l.model l.routes.lists l.vehicle;
+  low : pos 0 ≤ℤ l.total;
+  high : l.total ≤ℤ pos (2 ^ 40 * l.vehicle);
+}

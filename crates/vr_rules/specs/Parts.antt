@@ -1,0 +1,30 @@
+-- What the chosen schedules of lists cost in the first dimensions.
+use Rattle.std.specs.Prelude.{◌≡◌, ℕ, ◌*◌, List, length, ℤ, pos, ◌*ℤ◌, ◌≤ℤ◌}
+use Rattle.vr_model.specs.tables.Numbers.{total_by, below}
+use Rattle.vr_model.specs.tables.Tables.{dimension_at}
+use Rattle.vr_model.specs.routes.Routes.{route, used_vehicles}
+use Rattle.vr_model.specs.routes.Costs.{assigned, global_span}
+use Rattle.vr_model.specs.declared.records.Model.{Model}
+use Rattle.vr_rules.specs.Bounds.{IsAround}
+use Rattle.vr_rules.specs.Sums.{soft_with, span_with}
+use Rattle.vr_rules.specs.declared.parts.Timed.{Timed}
+
+-- what a dimension costs by soft upper bounds, by spans, and by the global span
+abbrev pub soft_in : Model → List (List ℕ) → ℕ → ℤ
+soft_in model lists d = total_by (λ v. soft_with model d v (route lists v)) (used_vehicles lists)
+
+abbrev pub span_in : Model → List (List ℕ) → ℕ → ℤ
+span_in model lists d = total_by (λ v. span_with model d v (route lists v)) (used_vehicles lists)
+
+abbrev pub global_in : Model → List (List ℕ) → ℕ → ℤ
+global_in model lists d = (dimension_at model d).global_span_cost *ℤ global_span (assigned model lists) d
+
+-- the costs of the first n dimensions
+pub record AreTimed (model : Model) (lists : List (List ℕ)) (n : ℕ) (timed : Timed) : Type 0 where
+  pub soft : timed.soft ≡ total_by (soft_in model lists) (below n)
+  pub span : timed.span ≡ total_by (span_in model lists) (below n)
+  pub global : timed.global ≡ total_by (global_in model lists) (below n)
+  pub soft_not_negative : pos 0 ≤ℤ timed.soft
+  pub soft_bound : timed.soft ≤ℤ pos (687200000000000 * 1200 * n)
+  pub span_in_range : IsAround (687200000000000 * 100 * n) timed.span
+  pub global_in_range : IsAround (687200000000000 * n) timed.global

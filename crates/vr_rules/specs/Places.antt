@@ -1,0 +1,32 @@
+-- Where the nodes of a model stand in one list, and the pairs of a list by their places.
+use Rattle.std.specs.Prelude.{◌≡◌, ℕ, ◌<◌, Bool, true, not, ◌&&◌, ◌||◌, nat_lt, List, map, filter, length, slice_index_or}
+use Rattle.std.specs.List.{list_all}
+use Rattle.vr_model.specs.routes.Routes.{holds}
+use Rattle.vr_model.specs.routes.Rules.{place_of}
+use Rattle.vr_model.specs.declared.records.Pair.{Pair}
+use Rattle.vr_model.specs.declared.records.Policy.{Policy}
+use Rattle.vr_model.specs.declared.records.Policy.TheVariants.{Any, Lifo, Fifo}
+use Rattle.vr_rules.specs.declared.pairs.Served.{Served}
+
+-- for each node its place in a list, the length of the list where it is absent
+pub record ArePlaces (nodes : ℕ) (list places : List ℕ) : Type 0 where
+  pub one_of_each : length places ≡ nodes
+  pub each : (node d : ℕ) → node < nodes → slice_index_or places node d ≡ place_of list node
+
+-- where a pair stands in a list
+abbrev pub served_at : List ℕ → Pair → Served
+served_at list pair = record { pickup = place_of list pair.pickup; delivery = place_of list pair.delivery }
+
+-- the pairs of the list among these, by their places
+abbrev pub served_in : List ℕ → List Pair → List Served
+served_in list pairs = map (served_at list) (filter (λ pair. holds list pair.pickup) pairs)
+
+-- what a policy asks of two pairs at their places
+abbrev pub places_allow : Policy → Served → Served → Bool
+places_allow Any x y = true
+places_allow Lifo x y = not (nat_lt x.pickup y.pickup && nat_lt y.pickup x.delivery) || nat_lt y.delivery x.delivery
+places_allow Fifo x y = not (nat_lt x.pickup y.pickup) || nat_lt x.delivery y.delivery
+
+-- the policy holds of x beside each of the pairs
+abbrev pub allows_beside : Policy → List Served → Served → Bool
+allows_beside policy served x = list_all (places_allow policy x) served

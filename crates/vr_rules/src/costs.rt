@@ -1,0 +1,87 @@
+//! What lists cost by their arcs and for the use of their vehicles.
+
+ghost use Rattle.std.specs.Prelude.{◌≡◌, ◌<◌, ◌≤◌, ◌*◌, ◌^◌, ◌≤ℤ◌, IsTrue, pos, All, length, if◌then◌else◌};
+ghost use Rattle.vr_model.specs.routes.Costs.{arcs_part, fixed_part, sum_of};
+ghost use Rattle.vr_model.specs.routes.Routes.{are_lists, is_empty, route_cost};
+ghost use Rattle.vr_model.specs.tables.Tables.{vehicle_at};
+ghost use Rattle.vr_model.specs.tables.WellFormed.{IsWellFormed};
+ghost use Rattle.vr_rules.specs.Totals.{HasTotal};
+
+use vr_model::{Model, Parts};
+use vr_routes::Routes;
+
+// The costs of the arcs that a vehicle takes with a list, added up. A list of 1000 visits has 1001 arcs.
+pub(crate) fn arcs_of_route(model: &Model, vehicle: u32, list: &[u32]) -> i64
+    requires well_formed { IsWellFormed model.now }
+    requires vehicle { vehicle < length model.now.vehicles }
+    requires nodes { All (λ node. node < model.now.nodes) list.now }
+    requires few { length list.now ≤ 1000 }
+    ensures value { result ≡ route_cost model.now vehicle list.now }
+    ensures low { pos 0 ≤ℤ result }
+    ensures high { result ≤ℤ pos (2 ^ 40 * 1001) }
+{
+    if list.is_empty() {
+        return 0;
+    }
+    let ends = model.vehicles.get(vehicle as usize);
+    let mut at = ends.start;
+    let mut total = 0;
+    for &node in list {
+        total += model.arc_cost(vehicle, at, node);
+        at = node;
+    }
+    total + model.arc_cost(vehicle, at, ends.end)
+}
+
+// What the use of a vehicle costs with these visits: nothing where there are none.
+pub(crate) fn fixed_of_route(model: &Model, vehicle: u32, visits: &[u32]) -> i64
+    requires well_formed { IsWellFormed model.now }
+    requires vehicle { vehicle < length model.now.vehicles }
+    ensures value { result ≡ (if is_empty visits.now then pos 0 else (vehicle_at model.now vehicle).fixed) }
+    ensures low { pos 0 ≤ℤ result }
+    ensures high { result ≤ℤ pos (2 ^ 40) }
+{
+    if visits.is_empty() {
+        0
+    } else {
+        model.vehicles.get(vehicle as usize).fixed
+    }
+}
+
+// The arcs part of the cost of routes.
+pub(crate) fn arcs_of_routes(model: &Model, routes: &Routes) -> i64
+    requires well_formed { IsWellFormed model.now }
+    requires lists { IsTrue (are_lists model.now routes.now.lists) }
+    ensures value { result ≡ arcs_part model.now routes.now.lists }
+    ensures low { pos 0 ≤ℤ result }
+    ensures high { result ≤ℤ pos (2 ^ 40 * 1001 * 100) }
+{
+    let mut total = 0;
+    for vehicle in 0..routes.vehicles() {
+        total += arcs_of_route(model, vehicle, routes.list(vehicle));
+    }
+    total
+}
+
+// The fixed part of the cost of routes.
+pub(crate) fn fixed_of_routes(model: &Model, routes: &Routes) -> i64
+    requires well_formed { IsWellFormed model.now }
+    requires lists { IsTrue (are_lists model.now routes.now.lists) }
+    ensures value { result ≡ fixed_part model.now routes.now.lists }
+    ensures low { pos 0 ≤ℤ result }
+    ensures high { result ≤ℤ pos (2 ^ 40 * 100) }
+{
+    let mut total = 0;
+    for vehicle in 0..routes.vehicles() {
+        total += fixed_of_route(model, vehicle, routes.list(vehicle));
+    }
+    total
+}
+
+/// The cost: the sum of its parts, which is not negative and below 2^63.
+pub fn total_cost(parts: &Parts) -> i64
+    requires { HasTotal parts.now }
+    ensures { result ≡ sum_of parts.now }
+{
+    parts.arcs + parts.fixed + parts.global + parts.penalty + parts.soft + parts.span
+}

@@ -1,0 +1,168 @@
+//! Items, which the constructions of first solutions place: a visit in no pair, or a pair.
+
+ghost use Rattle.std.specs.Prelude.{◌≡◌, ◌||◌, ◌==◌, [], find, option_map, if◌then◌else◌, IfOk, IfSome};
+ghost use Rattle.vr_model.specs.tables.Tables.{is_visit};
+ghost use Rattle.vr_model.specs.routes.Routes.{holds};
+ghost use Rattle.vr_model.specs.routes.Rules.{is_grouped as is_grouped_of};
+ghost use Rattle.vr_model.specs.first.Items.{class, empty_lists as empty_lists_of, first_node, items_at, must_fill as must_fill_of, node_class as node_class_of, pair_of as pair_of_node};
+ghost use Rattle.vr_model.specs.tables.WellFormed.{IsWellFormed};
+ghost use Rattle.vr_rules.specs.Placing.{listed, nodes_of, AreCandidates, IsItem};
+
+use std::alloc::Global;
+use vr_model::{Group, Model, NoMemory, Pair, Seq};
+
+/// What a construction places at once.
+#[derive(Clone, Copy)]
+pub enum Item {
+    /// A visit in no pair.
+    Visit(u32),
+    /// A pickup, and the delivery that goes into the same list behind it.
+    PickupAndDelivery(u32, u32),
+}
+
+impl Item {
+    /// Its first node, which is the number of the item.
+    pub fn number(self) -> u32
+        ensures { result ≡ first_node (nodes_of self) }
+    {
+        match self {
+            Item::Visit(node) => node,
+            Item::PickupAndDelivery(pickup, _) => pickup,
+        }
+    }
+
+    /// Whether it has this node.
+    pub fn has(self, node: u32) -> bool
+        ensures { result ≡ holds (nodes_of self) node }
+    {
+        match self {
+            Item::Visit(visit) => node == visit,
+            Item::PickupAndDelivery(pickup, delivery) => node == pickup || node == delivery,
+        }
+    }
+}
+
+/// An item with its class: 0 where it must be placed, 1 where it is in a group without a penalty, 2 in another.
+#[derive(Clone, Copy)]
+pub struct Candidate {
+    pub item: Item,
+    pub class: u32,
+}
+
+// Whether the group has the node.
+fn has_node(group: &Group, node: u32) -> bool
+    ensures { result ≡ holds group.now.nodes node }
+{
+    group.nodes.as_slice().contains(&node)
+}
+
+/// Whether a node is in a group.
+pub(crate) fn is_grouped(model: &Model, node: u32) -> bool
+    ensures { result ≡ is_grouped_of model.now node }
+{
+    model
+        .groups
+        .as_slice()
+        .iter()
+        .any(|group| has_node(group, node))
+}
+
+// Whether a node is in a group without a penalty.
+fn must_fill(model: &Model, node: u32) -> bool
+    ensures { result ≡ must_fill_of model.now node }
+{
+    model
+        .groups
+        .as_slice()
+        .iter()
+        .any(|group| has_node(group, node) && group.penalty.is_none())
+}
+
+/// The class of a node: 0 outside all groups, 1 in a group without a penalty, 2 in another.
+pub fn node_class(model: &Model, node: u32) -> u32
+    ensures { result ≡ node_class_of model.now node }
+{
+    if !is_grouped(model, node) {
+        0
+    } else if must_fill(model, node) {
+        1
+    } else {
+        2
+    }
+}
+
+// The class of an item: the least of its nodes.
+fn item_class(model: &Model, item: Item) -> u32
+    ensures { result ≡ class model.now (nodes_of item) }
+{
+    match item {
+        Item::Visit(node) => 2.min(node_class(model, node)),
+        Item::PickupAndDelivery(pickup, delivery) => 2
+            .min(node_class(model, pickup))
+            .min(node_class(model, delivery)),
+    }
+}
+
+// The pair that a node is in.
+fn pair_of(pairs: &[Pair], node: u32) -> Option<&Pair>
+    ensures { option_map (λ pair. pair.now) result ≡ find (λ pair. (pair.pickup == node) || (pair.delivery == node)) pairs.now }
+{
+    pairs
+        .iter()
+        .find(|pair| pair.pickup == node || pair.delivery == node)
+}
+
+// The item of a node: the node alone, or the pair of which it is the pickup.
+fn item_at(model: &Model, node: u32) -> Option<Item>
+    ensures { listed result ≡ items_at (pair_of_node model.now node) node }
+{
+    match pair_of(model.pairs.as_slice(), node) {
+        None => Some(Item::Visit(node)),
+        Some(pair) if pair.pickup == node => {
+            Some(Item::PickupAndDelivery(pair.pickup, pair.delivery))
+        }
+        Some(_) => None,
+    }
+}
+
+// The item of a node that is a visit.
+fn visit_item(model: &Model, node: u32) -> Option<Item>
+    requires { IsWellFormed model.now }
+    ensures item { listed result ≡ (if is_visit model.now node then items_at (pair_of_node model.now node) node else []) }
+    ensures valid { IfSome result (IsItem model.now) }
+{
+    if model.is_visit(node) {
+        item_at(model, node)
+    } else {
+        None
+    }
+}
+
+/// The items of a model with their classes, ascending by their numbers.
+pub fn candidates(alloc: Global, model: &Model) -> Result<Vec<Candidate>, NoMemory>
+    requires well_formed { IsWellFormed model.now }
+    ensures { IfOk result (λ candidates. AreCandidates model.now candidates.items) }
+{
+    let mut candidates = Vec::new(alloc);
+    for node in 0..model.nodes {
+        match visit_item(model, node) {
+            Some(item) => {
+                let class = item_class(model, item);
+                candidates.push(Candidate { item, class })?;
+            }
+            None => {}
+        }
+    }
+    Ok(candidates)
+}
+
+/// An empty list for each vehicle.
+pub fn empty_lists(alloc: Global, model: &Model) -> Result<Vec<Seq<u32>>, NoMemory>
+    ensures { IfOk result (λ lists. lists.items ≡ empty_lists_of model.now) }
+{
+    let mut lists = Vec::with_capacity(alloc, model.vehicles.len())?;
+    for _vehicle in 0..model.vehicles.len() {
+        lists.push(Seq::new(alloc))?;
+    }
+    Ok(lists)
+}

@@ -1,0 +1,9 @@
+//! Laws over the definitions. A call has no code: its contract is the law.
+
+ghost use Rattle.vr_rules.specs.Openness.{OpennessIsLocal};
+
+/// Openness is local: where lists are open and one of them gets nodes, the lists stay open exactly where this list is open
+/// for its vehicle and no group gets more active nodes than it may have.
+pub fn openness_is_local()
+    ensures { OpennessIsLocal }
+{}

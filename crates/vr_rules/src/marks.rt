@@ -1,0 +1,82 @@
+//! Which nodes are active, and whether the groups have room for an item.
+
+ghost use Rattle.std.specs.Prelude.{◌≡◌, ℕ, ◌<◌, ◌||◌, Bool, All, IfOk, length, slice_index_or};
+ghost use Rattle.std.specs.List.{list_all};
+ghost use Rattle.vr_model.specs.routes.Routes.{holds};
+ghost use Rattle.vr_model.specs.tables.WellFormed.{IsWellFormed};
+ghost use Rattle.vr_rules.specs.Placing.{has_room as has_room_of, is_taken as is_taken_of, nodes_of, AreMarks};
+
+use crate::items::Item;
+use std::alloc::Global;
+use vr_model::{Group, Model, NoMemory};
+use vr_routes::Routes;
+
+// Whether a node is marked, or in the item.
+fn is_taken(marks: &[bool], item: Item, node: u32) -> bool
+    requires { node < length marks.now }
+    ensures { result ≡ is_taken_of marks.now item node }
+{
+    item.has(node) || marks[node as usize]
+}
+
+// Whether a group has room for an item beside the marked nodes.
+fn has_room(marks: &[bool], item: Item, group: &Group) -> bool
+    requires { All (λ node. node < length marks.now) group.now.nodes }
+    ensures { result ≡ has_room_of marks.now item group.now }
+{
+    let mut taken: usize = 0;
+    for &node in group.nodes.as_slice() {
+        if is_taken(marks, item, node) {
+            taken += 1;
+        }
+    }
+    taken <= group.max as usize
+}
+
+/// Whether each group has room for an item beside the marked nodes.
+pub fn groups_have_room(model: &Model, marks: &[bool], item: Item) -> bool
+    requires well_formed { IsWellFormed model.now }
+    requires marks { length marks.now ≡ model.now.nodes }
+    ensures { result ≡ list_all (has_room_of marks.now item) model.now.groups }
+{
+    for k in 0..model.groups.len() {
+        if !has_room(marks, item, model.groups.get(k)) {
+            return false;
+        }
+    }
+    true
+}
+
+// Marks the nodes of a list.
+fn mark_list(marks: &mut [bool], list: &[u32])
+    requires { All (λ node. node < length marks.now) list.now }
+    ensures count { length marks.new ≡ length marks.old }
+    ensures each { (node : ℕ) (d : Bool) → node < length marks.old → slice_index_or marks.new node d ≡ (holds list.now node || slice_index_or marks.old node d) }
+{
+    for &node in list {
+        marks[node as usize] = true;
+    }
+}
+
+/// For each node whether it is active.
+pub fn active_marks(alloc: Global, model: &Model, routes: &Routes) -> Result<Vec<bool>, NoMemory>
+    ensures { IfOk result (λ marks. AreMarks model.now.nodes routes.now.lists marks.items) }
+{
+    let mut marks = Vec::with_capacity(alloc, model.nodes as usize)?;
+    for node in 0..model.nodes {
+        marks.push(routes.is_active(node))?;
+    }
+    Ok(marks)
+}
+
+/// Marks the nodes of an item.
+pub fn mark_item(marks: &mut [bool], item: Item)
+    requires { All (λ node. node < length marks.now) (nodes_of item) }
+    ensures count { length marks.new ≡ length marks.old }
+    ensures each { (node : ℕ) (d : Bool) → node < length marks.old → slice_index_or marks.new node d ≡ (holds (nodes_of item) node || slice_index_or marks.old node d) }
+{
+    match item {
+        Item::Visit(node) => mark_list(marks, &[node]),
+        Item::PickupAndDelivery(pickup, delivery) => mark_list(marks, &[pickup, delivery]),
+    }
+}

@@ -1,0 +1,77 @@
+//! What groups cost whose nodes are not all active.
+
+ghost use Rattle.std.specs.Prelude.{◌≡◌, ◌<◌, ◌≤◌, ◌*◌, ◌^◌, ◌-ℤ◌, ◌≤ℤ◌, pos, All, IfOk, IsTrue, count_by, length, nat_le};
+ghost use Rattle.std.specs.List.{list_all};
+ghost use Rattle.vr_model.specs.routes.Costs.{penalty_for, penalty_part};
+ghost use Rattle.vr_model.specs.tables.Numbers.{total_by};
+ghost use Rattle.vr_model.specs.routes.Rules.{is_open};
+ghost use Rattle.vr_model.specs.tables.WellFormed.{greatest_cost, IsIn, IsWellFormed, WherePresent};
+ghost use Rattle.vr_rules.specs.Placing.{is_marked};
+
+use crate::complete::marked;
+use crate::marks::active_marks;
+use std::alloc::Global;
+use vr_model::{Group, Model, NoMemory};
+use vr_routes::Routes;
+
+// How many nodes fewer of a group are marked than may be.
+fn missing(marks: &[bool], group: &Group) -> i64
+    requires nodes { All (λ node. node < length marks.now) group.now.nodes }
+    requires few { group.now.max ≤ 1000 }
+    requires fits { count_by (is_marked marks.now) group.now.nodes ≤ group.now.max }
+    ensures value { result ≡ (pos group.now.max -ℤ pos (count_by (is_marked marks.now) group.now.nodes)) }
+    ensures low { pos 0 ≤ℤ result }
+    ensures high { result ≤ℤ pos 1000 }
+{
+    group.max as i64 - marked(marks, group.nodes.as_slice()) as i64
+}
+
+// What a group costs with its marked nodes: nothing without a penalty.
+fn penalty_of_group(marks: &[bool], group: &Group) -> i64
+    requires nodes { All (λ node. node < length marks.now) group.now.nodes }
+    requires few { group.now.max ≤ 1000 }
+    requires penalty { WherePresent (IsIn (pos 0) greatest_cost) group.now.penalty }
+    requires fits { count_by (is_marked marks.now) group.now.nodes ≤ group.now.max }
+    ensures value { result ≡ penalty_for group.now.penalty group.now.max (count_by (is_marked marks.now) group.now.nodes) }
+    ensures low { pos 0 ≤ℤ result }
+    ensures high { result ≤ℤ pos (2 ^ 40 * 1000) }
+{
+    match group.penalty {
+        Some(penalty) => penalty * missing(marks, group),
+        None => 0,
+    }
+}
+
+// What all groups cost with the marked nodes.
+fn penalty_of_groups(model: &Model, marks: &[bool]) -> i64
+    requires well_formed { IsWellFormed model.now }
+    requires marks { length marks.now ≡ model.now.nodes }
+    requires fit { IsTrue (list_all (λ group. nat_le (count_by (is_marked marks.now) group.nodes) group.max) model.now.groups) }
+    ensures value { result ≡ total_by (λ group. penalty_for group.penalty group.max (count_by (is_marked marks.now) group.nodes)) model.now.groups }
+    ensures low { pos 0 ≤ℤ result }
+    ensures high { result ≤ℤ pos (2 ^ 40 * 1000 * 1000) }
+{
+    let mut total = 0;
+    for k in 0..model.groups.len() {
+        total += penalty_of_group(marks, model.groups.get(k));
+    }
+    total
+}
+
+/// The penalty part of the cost of routes: for each group with a penalty, the penalty times how many nodes fewer are active
+/// than may be.
+pub(crate) fn penalty_of_routes(
+    alloc: Global,
+    model: &Model,
+    routes: &Routes,
+) -> Result<i64, NoMemory>
+    requires well_formed { IsWellFormed model.now }
+    requires open_lists { IsTrue (is_open model.now routes.now.lists) }
+    ensures value { IfOk result (λ penalty. penalty ≡ penalty_part model.now routes.now.lists) }
+    ensures low { IfOk result (λ penalty. pos 0 ≤ℤ penalty) }
+    ensures high { IfOk result (λ penalty. penalty ≤ℤ pos (2 ^ 40 * 1000 * 1000)) }
+{
+    let marks = active_marks(alloc, model, routes)?;
+    let penalty = penalty_of_groups(model, &marks);
+    Ok(penalty)
+}
