@@ -27,7 +27,15 @@ fleet nodes vehicles pairs = record {
   groups = [];
   pairs = pairs;
   allowed = [];
-  search = record { first = PathCheapestArc; improve = None; tries = 0; solutions = 1; p = pos 1; q = pos 1; neighbourhoods = [] };
+  search = record {
+    first = PathCheapestArc;
+    improve = None;
+    tries = 0;
+    solutions = 1;
+    p = pos 1;
+    q = pos 1;
+    neighbourhoods = [];
+  };
 }
 
 -- both nodes of a pair are visits

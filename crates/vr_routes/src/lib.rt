@@ -21,8 +21,7 @@ pub use changes::Change;
 pub use indices::Indices;
 pub use judging::{Judge, Verdict};
 pub use pairs::{
-    PairPlaces, is_elsewhere, is_pair_inactive, is_pair_served, is_pair_together, pair_places,
-    rest_len,
+    PairPlaces, is_elsewhere, is_pair_inactive, is_pair_together, pair_places, rest_len,
 };
 pub use pieces::Piece;
 pub use routes::Routes;

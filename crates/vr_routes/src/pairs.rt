@@ -2,7 +2,7 @@
 
 ghost use Rattle.std.specs.Prelude.{◌≡◌, ◌<◌, ◌≤◌, false, length, MatchOption};
 ghost use Rattle.vr_model.specs.routes.Routes.{route};
-ghost use Rattle.vr_model.specs.moves.Moves.{is_pair_inactive, is_pair_together, is_pair_served, without_pair};
+ghost use Rattle.vr_model.specs.moves.Moves.{is_pair_inactive, is_pair_together, without_pair};
 ghost use Rattle.vr_model.specs.declared.records.Pair.{Pair as Paired};
 ghost use Rattle.vr_routes.specs.Pairs.{are_together, ArePlaces, is_elsewhere};
 
@@ -64,19 +64,6 @@ pub fn is_pair_together(model: &Model, routes: &Routes, p: u32) -> bool
     match pair_places(routes, *model.pairs.get(p as usize)) {
         None => false,
         Some(_at) => true,
-    }
-}
-
-/// Whether both nodes of a pair stand in one list, the pickup first.
-#[inline]
-pub fn is_pair_served(model: &Model, routes: &Routes, p: u32) -> bool
-    requires pair { p < length model.now.pairs }
-    ensures { result ≡ is_pair_served model.now routes.now.lists p }
-{
-    routes.know_once();
-    match pair_places(routes, *model.pairs.get(p as usize)) {
-        None => false,
-        Some(at) => at.pickup < at.delivery,
     }
 }
 
