@@ -11,6 +11,7 @@ use Rattle.vr_json.specs.Reading.{ReaderOf, array}
 use Rattle.vr_json.proofs.Lists.{list_any-map}
 use Rattle.vr_model.specs.tables.WellFormed.{HasLength, are_distinct_names}
 use Rattle.vr_model.specs.routes.Routes.{is_same, is_distinct, holds}
+use Rattle.vr_model.proofs.tables.Tests.{eq_turned}
 use Rattle.vr_json.proofs.Readings.{EachEnsures, EachFresh, weaker, array_keeps}
 
 pub list_any-flat_map : {A B : Type 0} (p : B → Bool) (f : A → List B) (xs : List A) → list_any p (flat_map f xs) ≡ list_any (λ x. list_any p (f x)) xs
@@ -45,16 +46,9 @@ module _ {K : Type 0} (same : K → K → Bool) (distinct : List K → Bool) (no
 
 -- ---- numbers
 
-pub eqb_turned : (m n : ℕ) → (m == n) ≡ (n == m)
-eqb_turned m n = turned (m == n) refl
-  where
-    turned : (b : Bool) → (m == n) ≡ b → b ≡ (n == m)
-    turned true h = sym (eq-eqb n m (sym (eqb-true m n h)))
-    turned false h = sym (ne_eqb n m (λ e. eqb-false m n h (sym e)))
-
 -- a number more, which the list does not hold
 pub is_distinct_push : (xs : List ℕ) (x : ℕ) → IsTrue (is_distinct xs) → holds xs x ≡ false → IsTrue (is_distinct (xs ++ x ∷ []))
-is_distinct_push xs x h k = distinct_push (λ x y. x == y) is_distinct refl (λ _ _. refl) xs x h (list_any_same (λ y. y == x) (λ y. x == y) (λ y. eqb_turned y x) xs ∙ k)
+is_distinct_push xs x h k = distinct_push (λ x y. x == y) is_distinct refl (λ _ _. refl) xs x h (list_any_same (λ y. y == x) (λ y. x == y) (λ y. eq_turned y x) xs ∙ k)
 
 -- an array of entries whose numbers are distinct
 pub numbered_array_ensures : {A : Type 0} {P : A → Type 0} {read : List A → ReaderOf A} (key : A → ℕ) (lo hi : ℕ) → EachFresh P (λ y x. key y == key x) read

@@ -1,4 +1,4 @@
-pub mod Ranges
+pub mod RuleLoops
 pub mod Uses
 pub mod Distinct
 pub mod WellFormedVehicles

@@ -7,12 +7,7 @@ use Rattle.std.proofs.lemmas.List.{get_or_default}
 use Rattle.std.proofs.lemmas.List.Folds.{list_any_at, Any-from_list_any}
 use Rattle.vr_model.specs.tables.Numbers.{below}
 use Rattle.vr_model.specs.deciding.Testing.{any_place, range_list_any}
-
--- two tests that pass together are the same
-pub same_tests : (a b : Bool) → (a ≡ true → b ≡ true) → (b ≡ true → a ≡ true) → a ≡ b
-same_tests true b f g = sym (f refl)
-same_tests false true f g = g refl
-same_tests false false f g = refl
+use Rattle.vr_model.proofs.tables.Tests.{same_tests}
 
 module _ (test : ℕ → Bool) (numbers : List ℕ) (n fleet : ℕ) (low : All (λ k. k < n) numbers) (full : length numbers ≡ fleet) where
   pub used_once : list_any (λ k. list_any (λ number. number == k) numbers && test k) (below n) ≡ list_any (λ v. test (slice_index_or numbers v 0)) (below fleet)

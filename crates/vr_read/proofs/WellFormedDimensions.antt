@@ -9,15 +9,17 @@ use Rattle.vr_json.specs.Reading.{ReaderOf, optional, array}
 use Rattle.vr_model.specs.tables.Numbers.{horizon}
 use Rattle.vr_model.specs.routes.Routes.{is_distinct}
 use Rattle.vr_model.specs.tables.Tables.{is_visit}
-use Rattle.vr_model.specs.tables.WellFormed.{HasLength, IsIn, IsInterval, IsSoft, IsStopRow, IsBreak, AreBreaks, AreVisitRows, AreVehicleRows, IsEvaluator, IsDimension, least_value, greatest_value, greatest_coefficient}
+use Rattle.vr_model.specs.tables.WellFormed.{HasLength, IsIn, WherePresent, IsInterval, IsSoft, IsStopRow, IsBreak, AreBreaks, AreVisitRows, AreVehicleRows, IsEvaluator, IsDimension, least_value, greatest_value, greatest_coefficient}
 use Rattle.vr_model.specs.declared.records.Model.{Model}
 use Rattle.vr_model.specs.declared.records.Dimension.{Dimension}
 use Rattle.vr_model.specs.declared.records.StopRow.{StopRow}
-use Rattle.vr_read.specs.StopRows.{interval, soft, stop_row, break_row, vehicle_breaks}
+use Rattle.vr_read.specs.StopRows.{interval, soft, limits, stop_row, break_row, vehicle_breaks}
 use Rattle.vr_read.specs.declared.dimensions.Transits.{Transits}
 use Rattle.vr_read.specs.declared.dimensions.Bounds.{Bounds}
 use Rattle.vr_read.specs.declared.dimensions.Rows.{Rows}
-use Rattle.vr_read.specs.Dimensions.{evaluator, capped, name, transits, bounds, rows as stop_tables, dimension}
+use Rattle.vr_read.specs.declared.dimensions.SpanCosts.{SpanCosts}
+use Rattle.vr_read.specs.declared.stop_rows.StopLimits.{StopLimits}
+use Rattle.vr_read.specs.Dimensions.{evaluator, capped, name, transits, bounds, rows as stop_tables, coefficient, span_costs, dimension}
 use Rattle.vr_json.proofs.Readings.{EachEnsures, EachFresh, IsFull, gives, after, any_value, weaker, whole_ensures, below_ensures, text_ensures, required_ensures, optional_ensures, maybe_ensures, refuse_if_ensures, array_ensures, full_array_ensures, for_each_ensures, two_entries_ensure, replicated}
 use Rattle.vr_read.proofs.Distinct.{numbered_array_ensures}
 use Rattle.vr_read.proofs.WellFormedVehicles.{visit_ensures}
@@ -42,6 +44,20 @@ soft_ensures path d =
     after any_value λ others _.
     gives (record { bound_in_range = bound_ok; coefficient_in_range = coefficient_ok })
 
+-- what a row says of a stop
+record AreLimits (read : StopLimits) : Type 0 where
+  window_is_interval : WherePresent IsInterval read.window
+  forbidden_are_intervals : HasLength 0 16 read.forbidden × All IsInterval read.forbidden
+  soft_in_range : WherePresent IsSoft read.soft
+
+limits_ensure : EachEnsures AreLimits limits
+unfolding limits
+limits_ensure path d =
+    after (maybe_ensures (codes "window") interval_ensures path d) λ window window_ok.
+    after (optional_ensures (codes "forbidden") [] (record { at_least = omega arith; at_most = omega arith }, All-nil IsInterval) (array_ensures 0 16 (λ so_far. interval_ensures)) path d) λ forbidden forbidden_ok.
+    after (maybe_ensures (codes "soft") soft_ensures path d) λ soft_bound soft_ok.
+    gives (record { window_is_interval = window_ok; forbidden_are_intervals = forbidden_ok; soft_in_range = soft_ok })
+
 -- a row whose key P holds of
 stop_row_ensures : {P : ℕ → Type 0} (name : List ℕ) {read_key : ReaderOf ℕ} → EachEnsures P read_key
     → EachFresh (λ row. P row.key × IsStopRow row) (λ other row. other.key == row.key) (stop_row name read_key)
@@ -49,11 +65,20 @@ unfolding stop_row
 stop_row_ensures name keys earlier path d =
     after (required_ensures name keys path d) λ key key_ok.
     after (refuse_if_ensures (list_any (λ row. row.key == key) earlier) _ _) λ fresh apart.
-    after (maybe_ensures (codes "window") interval_ensures path d) λ window window_ok.
-    after (optional_ensures (codes "forbidden") [] (record { at_least = omega arith; at_most = omega arith }, All-nil IsInterval) (array_ensures 0 16 (λ so_far. interval_ensures)) path d) λ forbidden forbidden_ok.
-    after (maybe_ensures (codes "soft") soft_ensures path d) λ soft_bound soft_ok.
+    after (limits_ensure path d) λ within within_ok.
     after any_value λ others _.
-    gives ((key_ok, record { window_is_interval = window_ok; number_of_forbidden = forbidden_ok.0.at_most; each_forbidden_is_interval = forbidden_ok.1; soft_in_range = soft_ok }), apart)
+    gives (
+      (
+        key_ok,
+        record {
+          window_is_interval = within_ok.window_is_interval;
+          number_of_forbidden = within_ok.forbidden_are_intervals.0.at_most;
+          each_forbidden_is_interval = within_ok.forbidden_are_intervals.1;
+          soft_in_range = within_ok.soft_in_range;
+        },
+      ),
+      apart,
+    )
 
 -- rows with distinct keys: P holds of each key, and Q of each row
 record AreRows {A : Type 0} (key : A → ℕ) (hi : ℕ) (P : ℕ → Type 0) (Q : A → Type 0) (rows : List A) : Type 0 where
@@ -182,17 +207,28 @@ module _ (model : Model) where
       after (rows_ensure (λ entry. entry.vehicle) (λ v. v < vehicles) AreBreaks (codes "breaks") 100 _ (vehicle_breaks_ensures vehicles) path d) λ breaks breaks_ok.
       gives (record { rows_of_visits = visit_rows nodes nodes_ok; rows_of_starts = vehicle_rows starts starts_ok; rows_of_ends = vehicle_rows ends ends_ok; breaks = breaks_ok })
 
+  -- the coefficients that are read
+  record AreSpanCosts (read : SpanCosts) : Type 0 where
+    by_vehicle : IsFull (length model.vehicles) (IsIn (pos 0) greatest_coefficient) read.by_vehicle
+    global_in_range : IsIn (pos 0) greatest_coefficient read.global
+
+  span_costs_ensure : EachEnsures AreSpanCosts (span_costs (length model.vehicles))
+  unfolding span_costs
+  span_costs_ensure path d =
+      let vehicles : ℕ = length model.vehicles in
+      after (optional_ensures (codes "span_cost") (replicate vehicles (pos 0)) (replicated vehicles (IsIn (pos 0) greatest_coefficient) (pos 0) (nothing_in_range _))
+      (for_each_ensures vehicles (λ so_far. whole_ensures (pos 0) greatest_coefficient)) path d) λ by_vehicle spans_ok.
+      after (optional_ensures (codes "global_span_cost") (pos 0) (nothing_in_range _) (whole_ensures (pos 0) greatest_coefficient) path d) λ global global_ok.
+      gives (record { by_vehicle = spans_ok; global_in_range = global_ok })
+
   pub dimension_ensures : EachFresh (IsDimension model) (λ other read. bytes_eq other.name read.name) (dimension model.nodes (length model.matrices) (length model.vehicles) model.vehicles)
   unfolding dimension
   dimension_ensures earlier path d =
-      let vehicles : ℕ = length model.vehicles in
       after (required_ensures (codes "name") (name_ensures earlier) path d) λ bytes name_ok.
       after (transits_ensure path d) λ by_vehicle transits_ok.
       after (bounds_ensure path d) λ within bounds_ok.
       after (stop_tables_ensure path d) λ stops stops_ok.
-      after (optional_ensures (codes "span_cost") (replicate vehicles (pos 0)) (replicated vehicles (IsIn (pos 0) greatest_coefficient) (pos 0) (nothing_in_range _))
-      (for_each_ensures vehicles (λ so_far. whole_ensures (pos 0) greatest_coefficient)) path d) λ span_costs spans_ok.
-      after (optional_ensures (codes "global_span_cost") (pos 0) (nothing_in_range _) (whole_ensures (pos 0) greatest_coefficient) path d) λ global_span_cost global_ok.
+      after (span_costs_ensure path d) λ spans spans_ok.
       after any_value λ others _.
       gives (
         record {
@@ -213,9 +249,9 @@ module _ (model : Model) where
           each_break_of_vehicle = stops_ok.breaks.each_key;
           breaks_of_no_vehicle_twice = stops_ok.breaks.no_key_twice;
           each_breaks = stops_ok.breaks.each_row;
-          span_cost_of_each_vehicle = spans_ok.one_for_each;
-          span_costs_in_range = spans_ok.each_entry;
-          global_span_cost_in_range = global_ok;
+          span_cost_of_each_vehicle = spans_ok.by_vehicle.one_for_each;
+          span_costs_in_range = spans_ok.by_vehicle.each_entry;
+          global_span_cost_in_range = spans_ok.global_in_range;
         },
         name_ok.1,
       )

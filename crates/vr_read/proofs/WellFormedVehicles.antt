@@ -1,5 +1,5 @@
 -- Matrices, vehicles and visits as they are read.
-use Rattle.std.proofs.Common.{◌≡◌, ℕ, ◌+◌, ◌*◌, ◌≤◌, List, [], ◌∷◌, length, ap, ap₂, ◌∙◌, arith, length-append}
+use Rattle.std.proofs.Common.{◌≡◌, ℕ, ◌+◌, ◌*◌, ◌<◌, ◌≤◌, List, [], ◌∷◌, length, ap, ap₂, ◌∙◌, arith, length-append}
 use Rattle.std.specs.Prelude.{ℤ, pos, codes, flat_map, IsTrue}
 use Rattle.std.specs.List.{All}
 use Rattle.std.proofs.lemmas.Bool.{and_from, not_from_false, lt-ltb}
@@ -8,7 +8,7 @@ use Rattle.std.proofs.lemmas.List.Elements.{All-nil, All-append, All-head, All-t
 use Rattle.vr_model.specs.tables.Tables.{is_visit}
 use Rattle.vr_model.specs.tables.WellFormed.{IsMatrix, IsVehicle, least_value, greatest_cost}
 use Rattle.vr_model.specs.declared.records.Model.{Model}
-use Rattle.vr_read.specs.Vehicles.{matrix, vehicle, is_terminal, visit}
+use Rattle.vr_read.specs.Vehicles.{matrix, ends, vehicle, is_terminal, visit}
 use Rattle.vr_json.proofs.Readings.{EachEnsures, IsFull, gives, after, any_value, whole_ensures, below_ensures, required_ensures, optional_ensures, refuse_if_ensures, full_array_ensures}
 
 -- rows of n entries each, one behind another
@@ -30,16 +30,22 @@ matrix_ensures n path d = after (full_array_ensures n (λ earlier. full_array_en
   entries_in_range = All-rows n _ rows h.each_entry;
 })
 
+ends_ensure : (n : ℕ) → EachEnsures (λ terminals. (terminals.0 < n) × (terminals.1 < n)) (ends n)
+unfolding ends
+ends_ensure n path d =
+    after (required_ensures (codes "start") (below_ensures n) path d) λ start start_ok.
+    after (required_ensures (codes "end") (below_ensures n) path d) λ final final_ok.
+    gives (start_ok, final_ok)
+
 pub vehicle_ensures : (model : Model) → 1 ≤ length model.matrices → EachEnsures (IsVehicle model) (vehicle model.nodes (length model.matrices))
 unfolding vehicle
 vehicle_ensures model some path d =
-    after (required_ensures (codes "start") (below_ensures model.nodes) path d) λ start start_ok.
-    after (required_ensures (codes "end") (below_ensures model.nodes) path d) λ final final_ok.
+    after (ends_ensure model.nodes path d) λ terminals terminals_ok.
     after (optional_ensures (codes "costs") 0 some (below_ensures (length model.matrices)) path d) λ costs costs_ok.
     after (optional_ensures (codes "fixed") (pos 0) (record { at_least = omega (arith, ints); at_most = omega (arith, ints) }) (whole_ensures (pos 0) greatest_cost) path d) λ fixed fixed_ok.
     after any_value λ policy _.
     after any_value λ others _.
-    gives (record { start_in_range = start_ok; end_in_range = final_ok; costs_in_range = costs_ok; fixed_in_range = fixed_ok })
+    gives (record { start_in_range = terminals_ok.0; end_in_range = terminals_ok.1; costs_in_range = costs_ok; fixed_in_range = fixed_ok })
 
 pub visit_ensures : (model : Model) → EachEnsures (λ node. IsTrue (is_visit model node)) (visit model.nodes model.vehicles)
 unfolding visit

@@ -19,7 +19,8 @@ use Rattle.vr_model.specs.declared.records.Pair.{Pair}
 use Rattle.vr_read.specs.Vehicles.{visit}
 use Rattle.vr_read.specs.Visits.{group_node, group, is_paired, pair, allowed_vehicle, allowed}
 use Rattle.vr_json.proofs.Readings.{EachEnsures, EachFresh, gives, after, any_value, whole_ensures, count_ensures, below_ensures, required_ensures, optional_ensures, maybe_ensures, refuse_if_ensures, array_keeps}
-use Rattle.vr_read.proofs.Distinct.{is_distinct_push, numbered_array_ensures, list_any-flat_map, list_any_same, eqb_turned}
+use Rattle.vr_read.proofs.Distinct.{is_distinct_push, numbered_array_ensures, list_any-flat_map, list_any_same}
+use Rattle.vr_model.proofs.tables.Tests.{eq_turned}
 use Rattle.vr_read.proofs.WellFormedVehicles.{visit_ensures}
 
 -- what one thing more adds to the numbers of those before it
@@ -85,7 +86,7 @@ module _ (model : Model) where
   unpaired : (pairs : List Pair) (node : ℕ) → is_paired pairs node ≡ false → holds (each pairs nodes_of) node ≡ false
   unpaired pairs node h = list_any-flat_map (λ y. node == y) nodes_of pairs
       ∙ list_any_same (λ pair. (node == pair.pickup) || ((node == pair.delivery) || false)) (λ pair. (pair.pickup == node) || (pair.delivery == node))
-      (λ pair. ap₂ (λ a b. a || b) (eqb_turned node pair.pickup) (or-false _ ∙ eqb_turned node pair.delivery)) pairs
+      (λ pair. ap₂ (λ a b. a || b) (eq_turned node pair.pickup) (or-false _ ∙ eq_turned node pair.delivery)) pairs
       ∙ h
 
   pairs_push : (pairs : List Pair) (pickup delivery : ℕ) → ArePairs pairs → IsTrue (is_visit model pickup) → IsTrue (is_visit model delivery)
@@ -94,7 +95,7 @@ module _ (model : Model) where
       let before : List ℕ = each pairs nodes_of in
       let apart = or_parts _ _ second in
       let absent : holds (before ++ pickup ∷ []) delivery ≡ false =
-      list_any-append (λ y. delivery == y) before (pickup ∷ []) ∙ ap₂ (λ a b. a || (b || false)) (unpaired pairs delivery apart.0) (eqb_turned delivery pickup ∙ apart.1) in
+      list_any-append (λ y. delivery == y) before (pickup ∷ []) ∙ ap₂ (λ a b. a || (b || false)) (unpaired pairs delivery apart.0) (eq_turned delivery pickup ∙ apart.1) in
       let distinct = is_distinct_push (before ++ pickup ∷ []) delivery (is_distinct_push before pickup h.no_node_twice (unpaired pairs pickup first)) absent in
       record {
         each_pair = All-push (IsPair model) pairs _ h.each_pair (record { pickup_is_visit = p; delivery_is_visit = q });

@@ -22,12 +22,15 @@ is_backward model evaluator = list_any (is_backward_from model evaluator) (below
 
 -- evaluator k of a dimension does so, and some vehicle uses it
 abbrev pub is_used_backward : Model → Dimension → ℕ → Bool
-is_used_backward model dimension k = list_any (λ number. number == k) dimension.vehicle_evaluators && is_backward model (evaluator_at dimension k)
+is_used_backward model dimension k =
+    list_any (λ number. number == k) dimension.vehicle_evaluators && is_backward model (evaluator_at dimension k)
 
 -- the evaluator of some vehicle does so
 abbrev pub has_backward_vehicle : Model → Dimension → Bool
-has_backward_vehicle model dimension = list_any (λ v. is_backward model (evaluator_of dimension v)) (below (length model.vehicles))
+has_backward_vehicle model dimension =
+    list_any (λ v. is_backward model (evaluator_of dimension v)) (below (length model.vehicles))
 
 -- a dimension has breaks or span costs, and a negative transit
 abbrev pub is_backward_dimension : Model → Dimension → Bool
-is_backward_dimension model dimension = (has_breaks dimension || has_span_costs dimension) && has_backward_vehicle model dimension
+is_backward_dimension model dimension =
+    (has_breaks dimension || has_span_costs dimension) && has_backward_vehicle model dimension

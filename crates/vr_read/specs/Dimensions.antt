@@ -1,5 +1,6 @@
 -- The table of dimensions.
-use Rattle.std.specs.Prelude.{ℕ, ◌^◌, ◌-◌, List, [], ◌∷◌, length, replicate, false, ℤ, pos, int_lt, if◌then◌else◌, codes, Ok}
+use Rattle.std.specs.Prelude.{ℕ, ◌^◌, ◌-◌, List, [], ◌∷◌, length, replicate, false, ℤ, pos, int_lt, if◌then◌else◌}
+use Rattle.std.specs.Prelude.{codes, Ok}
 use Rattle.std.specs.List.{list_any}
 use Rattle.std.specs.Str.{bytes_eq}
 use Rattle.vr_json.specs.declared.fault.Cause.TheVariants.{Repeated}
@@ -13,6 +14,7 @@ use Rattle.vr_model.specs.declared.records.Evaluator.{Evaluator}
 use Rattle.vr_read.specs.declared.dimensions.Transits.{Transits}
 use Rattle.vr_read.specs.declared.dimensions.Bounds.{Bounds}
 use Rattle.vr_read.specs.declared.dimensions.Rows.{Rows}
+use Rattle.vr_read.specs.declared.dimensions.SpanCosts.{SpanCosts}
 use Rattle.vr_read.specs.Vehicles.{visit}
 use Rattle.vr_read.specs.StopRows.{stop_row, vehicle_breaks}
 
@@ -37,12 +39,25 @@ name earlier path d = do
   fresh ← refuse_if (list_any (λ dimension. bytes_eq dimension.name bytes) earlier) Repeated path
   Ok bytes
 
--- the evaluators of a dimension, and the number of each vehicle's one, in a model of n nodes, so many matrices and so many vehicles
+-- a coefficient of a cost
+abbrev pub coefficient : ReaderOf ℤ
+coefficient = whole (pos 0) greatest_coefficient
+
+-- so many numbers, each that of one of so many evaluators
+abbrev pub numbers_below : ℕ → ℕ → ReaderOf (List ℕ)
+numbers_below fleet count = array fleet fleet (λ so_far. below count)
+
+-- so many visit times
+abbrev pub visit_times : ℕ → ReaderOf (List ℤ)
+visit_times n = array n n (λ so_far. whole (pos 0) greatest_value)
+
+-- the evaluators of a dimension, and the number of each vehicle's one, in a model of n nodes, so many matrices and so
+-- many vehicles
 unfoldable pub transits : ℕ → ℕ → ℕ → ReaderOf Transits
 transits n matrices fleet path d = do
   evaluators ← required (codes "evaluators") (array 1 8 (λ so_far. evaluator n matrices)) path d
-  vehicle_evaluators ← optional (codes "vehicle_evaluators") (replicate fleet 0) (array fleet fleet (λ so_far. below (length evaluators))) path d
-  Ok (record { evaluators = evaluators; vehicle_evaluators = vehicle_evaluators })
+  numbers ← optional (codes "vehicle_evaluators") (replicate fleet 0) (numbers_below fleet (length evaluators)) path d
+  Ok (record { evaluators = evaluators; vehicle_evaluators = numbers })
 
 -- the bounds of slacks and cumuls, and the visit times
 unfoldable pub bounds : ℕ → ℕ → ReaderOf Bounds
@@ -50,8 +65,8 @@ bounds n fleet path d = do
   slack_max ← required (codes "slack_max") capped path d
   capacities ← required (codes "capacity") (for_each fleet (λ so_far. capped)) path d
   fix_start ← optional (codes "fix_start") false flag path d
-  visit_times ← optional (codes "visit") (replicate n (pos 0)) (array n n (λ so_far. whole (pos 0) greatest_value)) path d
-  Ok (record { slack_max = slack_max; capacities = capacities; fix_start = fix_start; visit = visit_times })
+  times ← optional (codes "visit") (replicate n (pos 0)) (visit_times n) path d
+  Ok (record { slack_max = slack_max; capacities = capacities; fix_start = fix_start; visit = times })
 
 -- the rows of stops, and the breaks
 unfoldable pub rows : ℕ → ℕ → List Vehicle → ReaderOf Rows
@@ -62,6 +77,20 @@ rows n fleet vehicles path d = do
   breaks ← optional (codes "breaks") [] (array 0 100 (vehicle_breaks fleet)) path d
   Ok (record { nodes = nodes; starts = starts; ends = ends; breaks = breaks })
 
+-- the coefficients of spans: of each vehicle, and of all together
+unfoldable pub span_costs : ℕ → ReaderOf SpanCosts
+span_costs fleet path d = do
+  by_vehicle ← optional (codes "span_cost") (replicate fleet (pos 0)) (for_each fleet (λ so_far. coefficient)) path d
+  global ← optional (codes "global_span_cost") (pos 0) coefficient path d
+  Ok (record { by_vehicle = by_vehicle; global = global })
+
+-- the fields of a dimension
+abbrev pub dimension_fields : List (List ℕ)
+dimension_fields =
+    codes "name" ∷ codes "evaluators" ∷ codes "vehicle_evaluators" ∷ codes "slack_max" ∷ codes "capacity"
+    ∷ codes "fix_start" ∷ codes "visit" ∷ codes "nodes" ∷ codes "starts" ∷ codes "ends" ∷ codes "breaks" ∷ codes "span_cost"
+    ∷ codes "global_span_cost" ∷ []
+
 -- a dimension, in a model of n nodes, so many matrices and so many vehicles, which are these
 unfoldable pub dimension : ℕ → ℕ → ℕ → List Vehicle → List Dimension → ReaderOf Dimension
 dimension n matrices fleet vehicles earlier path d = do
@@ -69,10 +98,8 @@ dimension n matrices fleet vehicles earlier path d = do
   by_vehicle ← transits n matrices fleet path d
   within ← bounds n fleet path d
   stops ← rows n fleet vehicles path d
-  span_costs ← optional (codes "span_cost") (replicate fleet (pos 0)) (for_each fleet (λ so_far. whole (pos 0) greatest_coefficient)) path d
-  global_span_cost ← optional (codes "global_span_cost") (pos 0) (whole (pos 0) greatest_coefficient) path d
-  others ← known (codes "name" ∷ codes "evaluators" ∷ codes "vehicle_evaluators" ∷ codes "slack_max" ∷ codes "capacity" ∷ codes "fix_start" ∷ codes "visit" ∷ codes "nodes"
-      ∷ codes "starts" ∷ codes "ends" ∷ codes "breaks" ∷ codes "span_cost" ∷ codes "global_span_cost" ∷ []) path d
+  spans ← span_costs fleet path d
+  others ← known dimension_fields path d
   Ok (record {
     name = bytes;
     evaluators = by_vehicle.evaluators;
@@ -85,6 +112,6 @@ dimension n matrices fleet vehicles earlier path d = do
     starts = stops.starts;
     ends = stops.ends;
     breaks = stops.breaks;
-    span_costs = span_costs;
-    global_span_cost = global_span_cost;
+    span_costs = spans.by_vehicle;
+    global_span_cost = spans.global;
   })

@@ -3,7 +3,7 @@ pub mod StopRows
 pub mod Dimensions
 pub mod Visits
 pub mod Searches
-pub mod Parts
+pub mod ModelParts
 pub mod Backward
 pub mod Alike
 pub mod Rules

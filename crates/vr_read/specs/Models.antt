@@ -4,40 +4,61 @@ use Rattle.vr_json.specs.Reading.{◌>>=◌, ReaderOf, required, optional, known
 use Rattle.vr_json.specs.Kinds.{whole, count}
 use Rattle.vr_model.specs.declared.records.Model.{Model}
 use Rattle.vr_model.specs.declared.records.Vehicle.{Vehicle}
-use Rattle.vr_read.specs.declared.model.Parts.{Parts}
+use Rattle.vr_read.specs.declared.model.ModelBase.{ModelBase}
+use Rattle.vr_read.specs.declared.model.ModelParts.{ModelParts}
+use Rattle.vr_read.specs.declared.model.VisitTables.{VisitTables}
 use Rattle.vr_read.specs.Vehicles.{matrix, vehicle}
 use Rattle.vr_read.specs.Dimensions.{dimension}
 use Rattle.vr_read.specs.Visits.{group, pair, allowed}
 use Rattle.vr_read.specs.Searches.{search_row, default_search}
 use Rattle.vr_read.specs.Rules.{rules}
 
--- the fields of a model from its dimensions on, in a model of n nodes, so many matrices and so many vehicles, which are these
-unfoldable pub parts : ℕ → ℕ → ℕ → List Vehicle → ReaderOf Parts
-parts n matrices fleet vehicles path d = do
-  dimensions ← optional (codes "dimensions") [] (array 0 4 (dimension n matrices fleet vehicles)) path d
+-- the groups, pairs and allowed rows of visits, in a model of n nodes and so many vehicles, which are these
+unfoldable pub visit_tables : ℕ → ℕ → List Vehicle → ReaderOf VisitTables
+visit_tables n fleet vehicles path d = do
   groups ← optional (codes "groups") [] (array 0 1000 (group n vehicles)) path d
   pairs ← optional (codes "pairs") [] (array 0 500 (pair n vehicles)) path d
   allowed_rows ← optional (codes "allowed") [] (array 0 1000 (allowed n fleet vehicles)) path d
-  search_values ← optional (codes "search") default_search search_row path d
-  Ok (record { dimensions = dimensions; groups = groups; pairs = pairs; allowed = allowed_rows; search = search_values })
+  Ok (record { groups = groups; pairs = pairs; allowed = allowed_rows })
 
--- the table of a model
-unfoldable pub model_table : ReaderOf Model
-model_table path d = do
+-- the fields of a model from its dimensions on, in a model of n nodes, so many matrices and so many vehicles, which are
+-- these
+unfoldable pub parts : ℕ → ℕ → ℕ → List Vehicle → ReaderOf ModelParts
+parts n matrices fleet vehicles path d = do
+  dimensions ← optional (codes "dimensions") [] (array 0 4 (dimension n matrices fleet vehicles)) path d
+  tables ← visit_tables n fleet vehicles path d
+  search_values ← optional (codes "search") default_search search_row path d
+  Ok (record { dimensions = dimensions; tables = tables; search = search_values })
+
+-- the fields of a model up to its vehicles
+unfoldable pub base : ReaderOf ModelBase
+base path d = do
   format ← required (codes "format") (whole (pos 1) (pos 1)) path d
   nodes ← required (codes "nodes") (count 1 1000) path d
   matrices ← required (codes "matrices") (array 1 16 (λ so_far. matrix nodes)) path d
   vehicles ← required (codes "vehicles") (array 1 100 (λ so_far. vehicle nodes (length matrices))) path d
-  others ← parts nodes (length matrices) (length vehicles) vehicles path d
-  unknown ← known (codes "format" ∷ codes "nodes" ∷ codes "matrices" ∷ codes "vehicles" ∷ codes "dimensions" ∷ codes "groups" ∷ codes "pairs" ∷ codes "allowed" ∷ codes "search" ∷ []) path d
+  Ok (record { nodes = nodes; matrices = matrices; vehicles = vehicles })
+
+-- the fields of a model
+abbrev pub model_fields : List (List ℕ)
+model_fields =
+    codes "format" ∷ codes "nodes" ∷ codes "matrices" ∷ codes "vehicles" ∷ codes "dimensions" ∷ codes "groups"
+    ∷ codes "pairs" ∷ codes "allowed" ∷ codes "search" ∷ []
+
+-- the table of a model
+unfoldable pub model_table : ReaderOf Model
+model_table path d = do
+  start ← base path d
+  others ← parts start.nodes (length start.matrices) (length start.vehicles) start.vehicles path d
+  unknown ← known model_fields path d
   Ok (record {
-    nodes = nodes;
-    matrices = matrices;
-    vehicles = vehicles;
+    nodes = start.nodes;
+    matrices = start.matrices;
+    vehicles = start.vehicles;
     dimensions = others.dimensions;
-    groups = others.groups;
-    pairs = others.pairs;
-    allowed = others.allowed;
+    groups = others.tables.groups;
+    pairs = others.tables.pairs;
+    allowed = others.tables.allowed;
     search = others.search;
   })
 

@@ -15,9 +15,14 @@ unfoldable pub for_all : List ℕ → (ℕ → Result ⊤ Fault) → Result ⊤ 
 for_all [] rule = Ok tt
 for_all (k ∷ ks) rule = rule k >>= λ passed. for_all ks rule
 
+-- the path of a field of entry k of an array
+abbrev pub field_of_entry : List ℕ → List ℕ → ℕ → List ℕ → List ℕ
+field_of_entry path array k field = name_path (item_path (name_path path array) k) field
+
 -- the cost matrix of vehicle v has no negative entry
 abbrev pub cost_rule : List ℕ → Model → ℕ → Result ⊤ Fault
-cost_rule path model v = refuse_if (has_negative_cost model v) NegativeCost (name_path (item_path (name_path path (codes "vehicles")) v) (codes "costs"))
+cost_rule path model v =
+    refuse_if (has_negative_cost model v) NegativeCost (field_of_entry path (codes "vehicles") v (codes "costs"))
 
 -- no vehicle's cost matrix has a negative entry: the first vehicle in order that breaks it is the fault
 abbrev pub costs_rule : List ℕ → Model → Result ⊤ Fault
@@ -25,15 +30,19 @@ costs_rule path model = for_all (below (length model.vehicles)) (cost_rule path 
 
 -- the matrix of evaluator k of a dimension, which stands at this path, has no entry that is too large
 abbrev pub entry_rule : List ℕ → Model → Dimension → ℕ → Result ⊤ Fault
-entry_rule path model dimension k = refuse_if (is_large model (evaluator_at dimension k).matrix) LargeTransit (name_path (item_path (name_path path (codes "evaluators")) k) (codes "matrix"))
+entry_rule path model dimension k =
+    refuse_if (is_large model (evaluator_at dimension k).matrix) LargeTransit
+    (field_of_entry path (codes "evaluators") k (codes "matrix"))
 
 -- no evaluator of a dimension has such a matrix, whether a vehicle uses it or not
 abbrev pub dimension_entries_rule : List ℕ → Model → Dimension → Result ⊤ Fault
-dimension_entries_rule path model dimension = for_all (below (length dimension.evaluators)) (entry_rule path model dimension)
+dimension_entries_rule path model dimension =
+    for_all (below (length dimension.evaluators)) (entry_rule path model dimension)
 
 -- the same of dimension d, at its place in the model
 abbrev pub entries_rule_at : List ℕ → Model → ℕ → Result ⊤ Fault
-entries_rule_at path model d = dimension_entries_rule (item_path (name_path path (codes "dimensions")) d) model (dimension_at model d)
+entries_rule_at path model d =
+    dimension_entries_rule (item_path (name_path path (codes "dimensions")) d) model (dimension_at model d)
 
 -- no dimension has an evaluator with such a matrix
 abbrev pub entries_rule : List ℕ → Model → Result ⊤ Fault
@@ -41,7 +50,8 @@ entries_rule path model = for_all (below (length model.dimensions)) (entries_rul
 
 -- dimension d does not go back where it has breaks or span costs
 abbrev pub transit_rule : List ℕ → Model → ℕ → Result ⊤ Fault
-transit_rule path model d = refuse_if (goes_back model d) NegativeTransit (item_path (name_path path (codes "dimensions")) d)
+transit_rule path model d =
+    refuse_if (goes_back model d) NegativeTransit (item_path (name_path path (codes "dimensions")) d)
 
 -- no dimension goes back where it has breaks or span costs
 abbrev pub transits_rule : List ℕ → Model → Result ⊤ Fault
@@ -49,7 +59,8 @@ transits_rule path model = for_all (below (length model.dimensions)) (transit_ru
 
 -- savings are asked for only of vehicles that are alike, with no rows of allowed vehicles
 abbrev pub savings_rule : List ℕ → Model → Result ⊤ Fault
-savings_rule path model = refuse_if (cannot_save model) UnlikeVehicles (name_path (name_path path (codes "search")) (codes "first"))
+savings_rule path model =
+    refuse_if (cannot_save model) UnlikeVehicles (name_path (name_path path (codes "search")) (codes "first"))
 
 -- the rules on the whole model
 unfoldable pub rules : List ℕ → Model → Result ⊤ Fault

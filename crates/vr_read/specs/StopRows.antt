@@ -12,6 +12,7 @@ use Rattle.vr_model.specs.declared.records.Interval.{Interval}
 use Rattle.vr_model.specs.declared.records.Soft.{Soft}
 use Rattle.vr_model.specs.declared.records.VehicleBreaks.{VehicleBreaks}
 use Rattle.vr_model.specs.declared.records.BreakRow.{BreakRow}
+use Rattle.vr_read.specs.declared.stop_rows.StopLimits.{StopLimits}
 
 -- an interval: an array of two whole numbers, the lower one first
 unfoldable pub interval : ReaderOf Interval
@@ -28,16 +29,22 @@ soft path d = do
   others ← known (codes "bound" ∷ codes "coefficient" ∷ []) path d
   Ok (record { bound = bound; coefficient = coefficient })
 
+-- the window of a stop, its forbidden intervals and its soft bound
+unfoldable pub limits : ReaderOf StopLimits
+limits path d = do
+  window ← maybe (codes "window") interval path d
+  forbidden ← optional (codes "forbidden") [] (array 0 16 (λ so_far. interval)) path d
+  soft_bound ← maybe (codes "soft") soft path d
+  Ok (record { window = window; forbidden = forbidden; soft = soft_bound })
+
 -- a stop row, whose key stands in no earlier row
 unfoldable pub stop_row : List ℕ → ReaderOf ℕ → List StopRow → ReaderOf StopRow
 stop_row name read_key earlier path d = do
   key ← required name read_key path d
   fresh ← refuse_if (list_any (λ row. row.key == key) earlier) Repeated (name_path path name)
-  window ← maybe (codes "window") interval path d
-  forbidden ← optional (codes "forbidden") [] (array 0 16 (λ so_far. interval)) path d
-  soft_bound ← maybe (codes "soft") soft path d
+  within ← limits path d
   others ← known (name ∷ codes "window" ∷ codes "forbidden" ∷ codes "soft" ∷ []) path d
-  Ok (record { key = key; window = window; forbidden = forbidden; soft = soft_bound })
+  Ok (record { key = key; window = within.window; forbidden = within.forbidden; soft = within.soft })
 
 -- a break: a start range and a duration
 unfoldable pub break_row : ReaderOf BreakRow

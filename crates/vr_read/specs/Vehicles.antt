@@ -20,16 +20,22 @@ matrix n path d = do
 abbrev pub policies : List (List ℕ × Policy)
 policies = (codes "any", Any) ∷ (codes "lifo", Lifo) ∷ (codes "fifo", Fifo) ∷ []
 
+-- where a vehicle starts and ends, in a model of n nodes
+unfoldable pub ends : ℕ → ReaderOf (ℕ × ℕ)
+ends n path d = do
+  start ← required (codes "start") (below n) path d
+  final ← required (codes "end") (below n) path d
+  Ok (start, final)
+
 -- a vehicle, in a model of n nodes and so many matrices
 unfoldable pub vehicle : ℕ → ℕ → ReaderOf Vehicle
 vehicle n matrices path d = do
-  start ← required (codes "start") (below n) path d
-  final ← required (codes "end") (below n) path d
+  terminals ← ends n path d
   costs ← optional (codes "costs") 0 (below matrices) path d
   fixed ← optional (codes "fixed") (pos 0) (whole (pos 0) greatest_cost) path d
   policy ← optional (codes "policy") Any (choice policies) path d
   others ← known (codes "start" ∷ codes "end" ∷ codes "costs" ∷ codes "fixed" ∷ codes "policy" ∷ []) path d
-  Ok (record { start = start; «end» = final; costs = costs; fixed = fixed; policy = policy })
+  Ok (record { start = terminals.0; «end» = terminals.1; costs = costs; fixed = fixed; policy = policy })
 
 -- a node is the start or the end of some vehicle
 abbrev pub is_terminal : List Vehicle → ℕ → Bool

@@ -39,7 +39,8 @@ pair n vehicles earlier path d = do
   pickup ← required (codes "pickup") (visit n vehicles) path d
   fresh_pickup ← refuse_if (is_paired earlier pickup) Repeated (name_path path (codes "pickup"))
   delivery ← required (codes "delivery") (visit n vehicles) path d
-  fresh_delivery ← refuse_if (is_paired earlier delivery || (pickup == delivery)) Repeated (name_path path (codes "delivery"))
+  fresh_delivery ← refuse_if (is_paired earlier delivery || (pickup == delivery)) Repeated
+      (name_path path (codes "delivery"))
   others ← known (codes "pickup" ∷ codes "delivery" ∷ []) path d
   Ok (record { pickup = pickup; delivery = delivery })
 

@@ -2,14 +2,12 @@
 
 ghost use Rattle.std.specs.Prelude.{◌≡◌, ◌<◌, Bool, length, option_map};
 ghost use Rattle.std.specs.List.{All, list_all};
-ghost use Rattle.vr_model.specs.tables.ModelRules.{are_alike as are_alike_of, are_alike_in as are_alike_in_of, is_same_option as is_same_option_of, is_same_policy as is_same_policy_of, vehicles_differ as vehicles_differ_of};
-ghost use Rattle.vr_model.specs.tables.Numbers.{are_same_by, is_same_number as is_same_number_of};
-ghost use Rattle.vr_model.specs.tables.Tables.{breaks_of as breaks_of_vehicle, row_of as row_of_key};
-ghost use Rattle.vr_model.specs.tables.WellFormed.{IsDimension};
-ghost use Rattle.vr_read.specs.Alike.{are_alike_in_all as are_alike_in_all_of, differs_from_some as differs_from_some_of};
-ghost use Rattle.vr_read.specs.Parts.{HasParts, HasVehicle};
+ghost use Rattle.vr_model.specs.tables.ModelRules as model_rules;
+ghost use Rattle.vr_model.specs.tables.Numbers.{are_same_by};
+ghost use Rattle.vr_read.specs.Alike as alike;
+ghost use Rattle.vr_read.specs.ModelParts.{HasModelParts, HasVehicle};
 
-use vr_model::{BreakRow, Dimension, Interval, Model, Policy, Soft, StopRow, VehicleBreaks};
+use vr_model::{BreakRow, Dimension, Interval, Model, Policy, Soft, StopRow};
 
 // Values that are the same or not.
 trait Alike {
@@ -77,7 +75,8 @@ impl Alike for StopRow {
 
 // Whether two values that may be absent are both absent, or both present and the same.
 fn is_same_option<T: Alike>(one: Option<&T>, other: Option<&T>) -> bool
-    ensures { result ≡ is_same_option_of T.same (option_map (λ x. x.now) one.entry) (option_map (λ x. x.now) other.entry) }
+    ensures { result
+        ≡ model_rules.is_same_option T.same (option_map (λ x. x.now) one.entry) (option_map (λ x. x.now) other.entry) }
 {
     match (one, other) {
         (None, None) => true,
@@ -103,7 +102,7 @@ fn are_same<T: Alike>(one: &[T], other: &[T]) -> bool
 
 // Whether two policies are the same.
 fn is_same_policy(one: Policy, other: Policy) -> bool
-    ensures { result ≡ is_same_policy_of one other }
+    ensures { result ≡ model_rules.is_same_policy one other }
 {
     match (one, other) {
         (Policy::Any, Policy::Any) | (Policy::Lifo, Policy::Lifo) | (Policy::Fifo, Policy::Fifo) =>
@@ -112,54 +111,32 @@ fn is_same_policy(one: Policy, other: Policy) -> bool
     }
 }
 
-// The row of a vehicle.
-fn row_of(rows: &[StopRow], vehicle: u32) -> Option<&StopRow>
-    ensures { option_map (λ row. row.now) result ≡ row_of_key rows.now vehicle }
-{
-    rows.iter().find(|row| row.key == vehicle)
-}
-
-// The breaks of a vehicle.
-fn breaks_of(dimension: &Dimension, vehicle: u32) -> &[BreakRow]
-    ensures { result.now ≡ breaks_of_vehicle dimension.now vehicle }
-{
-    match dimension
-        .breaks
-        .as_slice()
-        .iter()
-        .find(|entry| entry.vehicle == vehicle)
-    {
-        None => &[],
-        Some(entry) => entry.rows.as_slice(),
-    }
-}
-
 // Whether two vehicles are alike in a dimension: the same capacity, evaluator, span coefficient,
 // start row, end row and breaks.
 fn are_alike_in(dimension: &Dimension, v: u32, w: u32) -> bool
     requires one { HasVehicle v dimension.now }
     requires other { HasVehicle w dimension.now }
-    ensures { result ≡ are_alike_in_of dimension.now v w }
+    ensures { result ≡ model_rules.are_alike_in dimension.now v w }
 {
     let capacities = &dimension.capacities;
     let evaluators = &dimension.vehicle_evaluators;
     let span_costs = &dimension.span_costs;
-    let starts = dimension.starts.as_slice();
-    let ends = dimension.ends.as_slice();
+    let starts = &dimension.starts;
+    let ends = &dimension.ends;
     let (one, other) = (v as usize, w as usize);
     capacities.get(one).is_same(capacities.get(other))
         && *evaluators.get(one) == *evaluators.get(other)
         && span_costs.get(one).is_same(span_costs.get(other))
-        && is_same_option(row_of(starts, v), row_of(starts, w))
-        && is_same_option(row_of(ends, v), row_of(ends, w))
-        && are_same(breaks_of(dimension, v), breaks_of(dimension, w))
+        && is_same_option(StopRow::of_key(starts, v), StopRow::of_key(starts, w))
+        && is_same_option(StopRow::of_key(ends, v), StopRow::of_key(ends, w))
+        && are_same(dimension.breaks_of(v), dimension.breaks_of(w))
 }
 
 // Whether two vehicles are alike in each of some dimensions.
 fn are_alike_in_all(dimensions: &[Dimension], v: u32, w: u32) -> bool
     requires one { All (HasVehicle v) dimensions.now }
     requires other { All (HasVehicle w) dimensions.now }
-    ensures { result ≡ are_alike_in_all_of dimensions.now v w }
+    ensures { result ≡ alike.are_alike_in_all dimensions.now v w }
 {
     for dimension in dimensions {
         if !are_alike_in(dimension, v, w) {
@@ -172,10 +149,10 @@ fn are_alike_in_all(dimensions: &[Dimension], v: u32, w: u32) -> bool
 // Whether two vehicles are alike: the same start, end, cost matrix, fixed cost and policy, and alike
 // in each dimension.
 fn are_alike(model: &Model, v: u32, w: u32) -> bool
-    requires parts { HasParts model.now }
+    requires parts { HasModelParts model.now }
     requires one { v < length model.now.vehicles }
     requires other { w < length model.now.vehicles }
-    ensures { result ≡ are_alike_of model.now v w }
+    ensures { result ≡ model_rules.are_alike model.now v w }
 {
     let one = model.vehicles.get(v as usize);
     let other = model.vehicles.get(w as usize);
@@ -189,9 +166,9 @@ fn are_alike(model: &Model, v: u32, w: u32) -> bool
 
 // Whether some vehicle is not like vehicle `v`.
 fn differs_from_some(model: &Model, v: u32) -> bool
-    requires parts { HasParts model.now }
+    requires parts { HasModelParts model.now }
     requires vehicle { v < length model.now.vehicles }
-    ensures { result ≡ differs_from_some_of model.now v }
+    ensures { result ≡ alike.differs_from_some model.now v }
 {
     for w in 0..model.vehicles.len() as u32 {
         if !are_alike(model, v, w) {
@@ -203,8 +180,8 @@ fn differs_from_some(model: &Model, v: u32) -> bool
 
 /// Whether some two vehicles are not alike.
 pub(crate) fn vehicles_differ(model: &Model) -> bool
-    requires { HasParts model.now }
-    ensures { result ≡ vehicles_differ_of model.now }
+    requires { HasModelParts model.now }
+    ensures { result ≡ model_rules.vehicles_differ model.now }
 {
     for v in 0..model.vehicles.len() as u32 {
         if differs_from_some(model, v) {

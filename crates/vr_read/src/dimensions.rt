@@ -5,9 +5,8 @@ ghost use Rattle.std.specs.List.{list_any};
 ghost use Rattle.std.specs.Str.{bytes_eq};
 ghost use Rattle.serde_json.specs.View.{view};
 ghost use Rattle.vr_json.specs.Reading.{Answers};
-ghost use Rattle.vr_read.specs.Dimensions.{bounds as bounds_of, rows as rows_of, transits as transits_of};
+ghost use Rattle.vr_read.specs.Dimensions as dimension_tables;
 
-use crate::limits::{GREATEST_COEFFICIENT, GREATEST_VALUE, HORIZON, LEAST_VALUE};
 use crate::{StopTable, VehicleBreaksTable, Visit};
 use serde_json::Value;
 use std::alloc::Global;
@@ -15,6 +14,7 @@ use vr_json::{
     Array, Below, Cause, Flag, ForEach, Path, Place, ReadFail, Reader, Whole, copies, known, maybe,
     optional, refuse_if, required, text,
 };
+use vr_model::limits::{GREATEST_COEFFICIENT, GREATEST_VALUE, HORIZON, LEAST_VALUE};
 use vr_model::{Dimension, Evaluator, Seq, StopRow, Text, Vehicle, VehicleBreaks};
 
 /// An evaluator, in a model of so many nodes and matrices.
@@ -147,6 +147,13 @@ pub struct Rows {
     pub breaks: Seq<VehicleBreaks>,
 }
 
+/// The coefficients of spans: of each vehicle, and of all together.
+#[derive(Drop)]
+pub struct SpanCosts {
+    pub by_vehicle: Seq<i64>,
+    pub global: i64,
+}
+
 /// A dimension, in a model of so many nodes, matrices and vehicles.
 #[derive(Clone, Copy)]
 pub struct DimensionTable<'a> {
@@ -161,7 +168,7 @@ impl DimensionTable<'_> {
     // The evaluators.
     fn transits(&self, alloc: Global, value: &Value, path: &Path) -> Result<Transits, ReadFail>
         ensures { Answers result
-            (transits_of self.now.nodes self.now.matrices self.now.fleet path.now (view value.now)) }
+            (dimension_tables.transits self.now.nodes self.now.matrices self.now.fleet path.now (view value.now)) }
     {
         let evaluators = Array {
             lo: 1,
@@ -189,7 +196,7 @@ impl DimensionTable<'_> {
 
     // The bounds and visit times.
     fn bounds(&self, alloc: Global, value: &Value, path: &Path) -> Result<Bounds, ReadFail>
-        ensures { Answers result (bounds_of self.now.nodes self.now.fleet path.now (view value.now)) }
+        ensures { Answers result (dimension_tables.bounds self.now.nodes self.now.fleet path.now (view value.now)) }
     {
         let by_vehicle = ForEach {
             count: self.fleet as usize,
@@ -219,17 +226,22 @@ impl DimensionTable<'_> {
     // The rows of stops, and the breaks.
     fn rows(&self, alloc: Global, value: &Value, path: &Path) -> Result<Rows, ReadFail>
         ensures { Answers result
-            (rows_of self.now.nodes self.now.fleet self.now.vehicles.now path.now (view value.now)) }
+            (dimension_tables.rows self.now.nodes self.now.fleet self.now.vehicles.now path.now (view value.now)) }
     {
+        let visit = Visit {
+            nodes: self.nodes,
+            vehicles: self.vehicles,
+        };
+        let vehicle = Below { count: self.fleet };
+        let breaks = VehicleBreaksTable {
+            vehicles: self.fleet,
+        };
         let of_visits = Array {
             lo: 0,
             hi: 1000,
             entry: StopTable {
                 name: "node",
-                key: Visit {
-                    nodes: self.nodes,
-                    vehicles: self.vehicles,
-                },
+                key: visit,
             },
         };
         let of_vehicles = Array {
@@ -237,15 +249,13 @@ impl DimensionTable<'_> {
             hi: 100,
             entry: StopTable {
                 name: "vehicle",
-                key: Below { count: self.fleet },
+                key: vehicle,
             },
         };
         let of_breaks = Array {
             lo: 0,
             hi: 100,
-            entry: VehicleBreaksTable {
-                vehicles: self.fleet,
-            },
+            entry: breaks,
         };
         let no_nodes = Seq::new(alloc);
         let nodes = optional(alloc, value, "nodes", path, no_nodes, &of_visits)?;
@@ -261,6 +271,24 @@ impl DimensionTable<'_> {
             ends,
             breaks,
         })
+    }
+
+    // The coefficients of spans.
+    fn span_costs(&self, alloc: Global, value: &Value, path: &Path) -> Result<SpanCosts, ReadFail>
+        ensures { Answers result (dimension_tables.span_costs self.now.fleet path.now (view value.now)) }
+    {
+        let cost = Whole {
+            lo: 0,
+            hi: GREATEST_COEFFICIENT,
+        };
+        let costs = ForEach {
+            count: self.fleet as usize,
+            entry: cost,
+        };
+        let zeros = copies(alloc, 0i64, self.fleet as usize)?;
+        let by_vehicle = optional(alloc, value, "span_cost", path, zeros, &costs)?;
+        let global = optional(alloc, value, "global_span_cost", path, 0, &cost)?;
+        Ok(SpanCosts { by_vehicle, global })
     }
 }
 
@@ -279,21 +307,11 @@ impl Reader for DimensionTable<'_> {
         place: Place<'_>,
     ) -> Result<Dimension, ReadFail> {
         let path = place.path()?;
-        let cost = Whole {
-            lo: 0,
-            hi: GREATEST_COEFFICIENT,
-        };
-        let by_vehicle = ForEach {
-            count: self.fleet as usize,
-            entry: cost,
-        };
         let name = required(alloc, value, "name", &path, &Name { earlier })?;
         let transits = self.transits(alloc, value, &path)?;
         let bounds = self.bounds(alloc, value, &path)?;
         let rows = self.rows(alloc, value, &path)?;
-        let zeros = copies(alloc, 0i64, self.fleet as usize)?;
-        let span_costs = optional(alloc, value, "span_cost", &path, zeros, &by_vehicle)?;
-        let global = optional(alloc, value, "global_span_cost", &path, 0, &cost)?;
+        let span_costs = self.span_costs(alloc, value, &path)?;
         known(alloc, value, &FIELDS, &path)?;
         Ok(Dimension {
             name,
@@ -307,8 +325,8 @@ impl Reader for DimensionTable<'_> {
             starts: rows.starts,
             ends: rows.ends,
             breaks: rows.breaks,
-            span_costs,
-            global_span_cost: global,
+            span_costs: span_costs.by_vehicle,
+            global_span_cost: span_costs.global,
         })
     }
 }

@@ -3,16 +3,16 @@
 ghost use Rattle.std.specs.Prelude.{◌≡◌, ◌||◌, ◌==◌};
 ghost use Rattle.std.specs.List.{list_any};
 ghost use Rattle.vr_model.specs.routes.Routes.{holds};
-ghost use Rattle.vr_read.specs.Visits.{is_paired as is_paired_of};
+ghost use Rattle.vr_read.specs.Visits as visit_tables;
 
 use crate::Visit;
-use crate::limits::GREATEST_COST;
 use serde_json::Value;
 use std::alloc::Global;
 use vr_json::{
     Array, Below, Cause, Count, Place, ReadFail, Reader, Whole, known, maybe, optional, refuse_if,
     required,
 };
+use vr_model::limits::GREATEST_COST;
 use vr_model::{Allowed, Group, Pair, Vehicle};
 
 // Whether a number stands in a list.
@@ -33,7 +33,7 @@ fn is_grouped(groups: &[Group], node: u32) -> bool
 
 // Whether a node stands in some pair.
 fn is_paired(pairs: &[Pair], node: u32) -> bool
-    ensures { result ≡ is_paired_of pairs.now node }
+    ensures { result ≡ visit_tables.is_paired pairs.now node }
 {
     pairs
         .iter()

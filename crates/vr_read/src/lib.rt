@@ -6,14 +6,13 @@ mod backward;
 mod dimensions;
 mod groups;
 pub mod laws;
-mod limits;
 mod matrices;
 mod model;
 mod model_rules;
-#[cfg(test)]
-mod rule_tests;
 mod searches;
 mod stop_rows;
+#[cfg(test)]
+mod tests;
 mod vehicles;
 
 pub use dimensions::DimensionTable;

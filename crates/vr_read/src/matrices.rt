@@ -1,22 +1,12 @@
 //! The table of matrices.
 
-ghost use Rattle.std.specs.Prelude.{◌≡◌, ◌++◌, flat_map, IfOk, OnOk};
+ghost use Rattle.std.specs.Prelude.{◌≡◌, flat_map, IfOk};
 
-use crate::limits::{GREATEST_COST, LEAST_VALUE};
 use serde_json::Value;
 use std::alloc::Global;
 use vr_json::{Array, Place, ReadFail, Reader, Whole};
+use vr_model::limits::{GREATEST_COST, LEAST_VALUE};
 use vr_model::{Matrix, NoMemory, Seq};
-
-// Puts numbers at the end of a list.
-fn append(entries: &mut Seq<i64>, row: &[i64]) -> Result<(), NoMemory>
-    ensures { OnOk result (entries.new ≡ entries.old ++ row.now) }
-{
-    for &entry in row {
-        entries.push(entry)?;
-    }
-    Ok(())
-}
 
 // The numbers of all rows, row by row.
 fn joined(alloc: Global, rows: &[Seq<i64>]) -> Result<Seq<i64>, NoMemory>
@@ -24,7 +14,7 @@ fn joined(alloc: Global, rows: &[Seq<i64>]) -> Result<Seq<i64>, NoMemory>
 {
     let mut entries = Seq::new(alloc);
     for row in rows {
-        append(&mut entries, row.as_slice())?;
+        entries.extend_from_slice(row.as_slice())?;
     }
     Ok(entries)
 }

@@ -4,7 +4,7 @@ ghost use Rattle.std.specs.Prelude.{IfOk};
 ghost use Rattle.serde_json.specs.View.{view};
 ghost use Rattle.vr_json.specs.Reading.{Answers};
 ghost use Rattle.vr_model.specs.tables.WellFormed.{IsWellFormed};
-ghost use Rattle.vr_read.specs.Models.{model_table, parts as parts_of, read_model as read_model_of};
+ghost use Rattle.vr_read.specs.Models as models;
 
 use crate::matrices::MatrixTable;
 use crate::model_rules::keep_rules;
@@ -15,41 +15,43 @@ use crate::{
 use serde_json::Value;
 use std::alloc::Global;
 use vr_json::{Array, Count, Path, ReadFail, Whole, known, optional, required};
-use vr_model::{Allowed, Dimension, Group, Model, Pair, SearchRow, Seq};
+use vr_model::{Allowed, Dimension, Group, Matrix, Model, Pair, SearchRow, Seq, Vehicle};
 
-// The fields of a model from its dimensions on.
+// The fields of a model up to its vehicles.
 #[derive(Drop)]
-pub struct Parts {
-    pub dimensions: Seq<Dimension>,
+pub struct ModelBase {
+    pub nodes: u32,
+    pub matrices: Seq<Matrix>,
+    pub vehicles: Seq<Vehicle>,
+}
+
+// The tables of visits.
+#[derive(Drop)]
+pub struct VisitTables {
     pub groups: Seq<Group>,
     pub pairs: Seq<Pair>,
     pub allowed: Seq<Allowed>,
+}
+
+// The fields of a model from its dimensions on.
+#[derive(Drop)]
+pub struct ModelParts {
+    pub dimensions: Seq<Dimension>,
+    pub tables: VisitTables,
     pub search: SearchRow,
 }
 
-// The fields of a model from its dimensions on, in a model of so many nodes and matrices and of
-// these vehicles, whose number is `table.fleet`.
-fn read_parts(
+// The groups, pairs and allowed rows, in a model of so many vehicles, of which a visit is none's start or end.
+fn read_visit_tables(
     alloc: Global,
     value: &Value,
     path: &Path,
-    table: DimensionTable<'_>,
-) -> Result<Parts, ReadFail>
+    visit: Visit<'_>,
+    fleet: u32,
+) -> Result<VisitTables, ReadFail>
     ensures { Answers result
-        (parts_of table.entry.nodes table.entry.matrices table.entry.fleet table.entry.vehicles.now path.now (view value.now)) }
+        (models.visit_tables visit.entry.nodes fleet visit.entry.vehicles.now path.now (view value.now)) }
 {
-    let visit = Visit {
-        nodes: table.nodes,
-        vehicles: table.vehicles,
-    };
-    let table = Array {
-        lo: 0,
-        hi: 4,
-        entry: table,
-    };
-    let none = Seq::new(alloc);
-    let dimensions = optional(alloc, value, "dimensions", path, none, &table)?;
-    let fleet = table.entry.fleet;
     let table = Array {
         lo: 0,
         hi: 1000,
@@ -71,20 +73,50 @@ fn read_parts(
     };
     let none = Seq::new(alloc);
     let allowed = optional(alloc, value, "allowed", path, none, &table)?;
-    let usual = default_search(alloc)?;
-    let search = optional(alloc, value, "search", path, usual, &SearchTable)?;
-    Ok(Parts {
-        dimensions,
+    Ok(VisitTables {
         groups,
         pairs,
         allowed,
+    })
+}
+
+// The fields of a model from its dimensions on, in a model of so many nodes and matrices and of
+// these vehicles, whose number is `table.fleet`.
+fn read_parts(
+    alloc: Global,
+    value: &Value,
+    path: &Path,
+    table: DimensionTable<'_>,
+) -> Result<ModelParts, ReadFail>
+    ensures { Answers result
+        (models.parts table.entry.nodes table.entry.matrices table.entry.fleet table.entry.vehicles.now
+        path.now (view value.now)) }
+{
+    let visit = Visit {
+        nodes: table.nodes,
+        vehicles: table.vehicles,
+    };
+    let fleet = table.fleet;
+    let table = Array {
+        lo: 0,
+        hi: 4,
+        entry: table,
+    };
+    let none = Seq::new(alloc);
+    let dimensions = optional(alloc, value, "dimensions", path, none, &table)?;
+    let tables = read_visit_tables(alloc, value, path, visit, fleet)?;
+    let usual = default_search(alloc)?;
+    let search = optional(alloc, value, "search", path, usual, &SearchTable)?;
+    Ok(ModelParts {
+        dimensions,
+        tables,
         search,
     })
 }
 
-// The table of a model, without the rules on the whole model.
-fn read_table(alloc: Global, value: &Value, path: &Path) -> Result<Model, ReadFail>
-    ensures { Answers result (model_table path.now (view value.now)) }
+// The fields of a model up to its vehicles.
+fn read_base(alloc: Global, value: &Value, path: &Path) -> Result<ModelBase, ReadFail>
+    ensures { Answers result (models.base path.now (view value.now)) }
 {
     let nodes = Count { lo: 1, hi: 1000 };
     let one = Whole { lo: 1, hi: 1 };
@@ -106,24 +138,37 @@ fn read_table(alloc: Global, value: &Value, path: &Path) -> Result<Model, ReadFa
         },
     };
     let vehicles = required(alloc, value, "vehicles", path, &table)?;
-    let fleet = vehicles.len() as u32;
-    let all = vehicles.as_slice();
-    let table = DimensionTable {
+    Ok(ModelBase {
         nodes,
-        matrices: count,
+        matrices,
+        vehicles,
+    })
+}
+
+// The table of a model, without the rules on the whole model.
+fn read_table(alloc: Global, value: &Value, path: &Path) -> Result<Model, ReadFail>
+    ensures { Answers result (models.model_table path.now (view value.now)) }
+{
+    let base = read_base(alloc, value, path)?;
+    let matrices = base.matrices.len() as u32;
+    let fleet = base.vehicles.len() as u32;
+    let vehicles = base.vehicles.as_slice();
+    let table = DimensionTable {
+        nodes: base.nodes,
+        matrices,
         fleet,
-        vehicles: all,
+        vehicles,
     };
     let parts = read_parts(alloc, value, path, table)?;
     known(alloc, value, &FIELDS, path)?;
     Ok(Model {
-        nodes,
-        matrices,
-        vehicles,
+        nodes: base.nodes,
+        matrices: base.matrices,
+        vehicles: base.vehicles,
         dimensions: parts.dimensions,
-        groups: parts.groups,
-        pairs: parts.pairs,
-        allowed: parts.allowed,
+        groups: parts.tables.groups,
+        pairs: parts.tables.pairs,
+        allowed: parts.tables.allowed,
         search: parts.search,
     })
 }
@@ -135,7 +180,7 @@ fn read_table(alloc: Global, value: &Value, path: &Path) -> Result<Model, ReadFa
 /// a field that the table does not name; and then as the rules say: `NegativeCost`, `LargeTransit`,
 /// `NegativeTransit`, `UnlikeVehicles`. A model that is given is well formed.
 pub fn read_model(alloc: Global, value: &Value, path: &Path) -> Result<Model, ReadFail>
-    ensures found { Answers result (read_model_of path.now (view value.now)) }
+    ensures found { Answers result (models.read_model path.now (view value.now)) }
     ensures well_formed { IfOk result IsWellFormed }
 {
     let model = read_table(alloc, value, path)?;

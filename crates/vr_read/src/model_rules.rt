@@ -3,21 +3,22 @@
 ghost use Rattle.std.specs.Prelude.{◌≡◌, ◌<◌, map, length, int_lt, IfOk};
 ghost use Rattle.std.specs.List.{All, list_any};
 ghost use Rattle.vr_json.specs.Paths.{item_path, name_path};
-ghost use Rattle.vr_json.specs.Reading.{Answers, refuse_if as refused_if};
-ghost use Rattle.vr_model.specs.tables.ModelRules.{cannot_save as cannot_save_of, greatest_entry, is_large, is_negative, is_savings as is_savings_of};
+ghost use Rattle.vr_json.specs.Reading as reading;
+ghost use Rattle.vr_json.specs.Reading.{Answers};
+ghost use Rattle.vr_model.specs.tables.ModelRules as model_rules;
+ghost use Rattle.vr_model.specs.tables.ModelRules.{greatest_entry, is_large, is_negative};
 ghost use Rattle.vr_model.specs.tables.WellFormed.{IsDimension, IsEvaluator, IsVehicle, WherePresent};
 ghost use Rattle.vr_model.specs.declared.records.Matrix.{Matrix as MatrixOf};
-ghost use Rattle.vr_read.specs.Parts.{HasParts};
-ghost use Rattle.vr_read.specs.Rules.{costs_rule, dimension_entries_rule, entries_rule, rules, savings_rule, transits_rule};
+ghost use Rattle.vr_read.specs.ModelParts.{HasModelParts};
+ghost use Rattle.vr_read.specs.Rules.{costs_rule, dimension_entries_rule, entries_rule, rules, savings_rule};
+ghost use Rattle.vr_read.specs.Rules.{transits_rule};
 
 use crate::alike::vehicles_differ;
 use crate::backward::goes_back;
 use std::alloc::Global;
 use vr_json::{Cause, Path, ReadFail, refuse_if};
+use vr_model::limits::GREATEST_VALUE;
 use vr_model::{Dimension, First, Matrix, Model, NoMemory, Seq};
-
-// The greatest entry of a matrix that a dimension uses.
-const GREATEST_ENTRY: i64 = 1 << 30;
 
 /// Refuses a model that breaks a rule on the whole of it: `NegativeCost` at the costs of the first
 /// vehicle whose matrix has a negative entry; then `LargeTransit` at the matrix of the first
@@ -26,7 +27,7 @@ const GREATEST_ENTRY: i64 = 1 << 30;
 /// `UnlikeVehicles` at `search/first` where savings are asked for, though vehicles differ or rows of
 /// allowed vehicles are there. `path` is where the model stands.
 pub(crate) fn keep_rules(alloc: Global, model: &Model, path: &Path) -> Result<(), ReadFail>
-    requires { HasParts model.now }
+    requires { HasModelParts model.now }
     ensures { Answers result (rules path.now model.now) }
 {
     keep_costs(alloc, model, path)?;
@@ -46,7 +47,7 @@ fn refuse_field(
     name: &str,
 ) -> Result<(), ReadFail>
     ensures { Answers result
-        (refused_if broken cause (name_path (item_path array.now k) name.now)) }
+        (reading.refuse_if broken cause (name_path (item_path array.now k) name.now)) }
 {
     if broken {
         let entry = array.item(k)?;
@@ -104,7 +105,7 @@ fn has_large_entry(model: &Model, matrix: Option<u32>) -> bool
 fn has_large(entries: &[i64]) -> bool
     ensures { result ≡ list_any (int_lt greatest_entry) entries.now }
 {
-    entries.iter().any(|entry| GREATEST_ENTRY < *entry)
+    entries.iter().any(|entry| GREATEST_VALUE < *entry)
 }
 
 // The matrix of each evaluator of a dimension, which stands at `path`, has no entry that is too large.
@@ -140,7 +141,7 @@ fn keep_entries(alloc: Global, model: &Model, path: &Path) -> Result<(), ReadFai
 
 // No dimension with breaks or span costs goes back.
 fn keep_transits(alloc: Global, model: &Model, path: &Path) -> Result<(), ReadFail>
-    requires { HasParts model.now }
+    requires { HasModelParts model.now }
     ensures { Answers result (transits_rule path.now model.now) }
 {
     let dimensions = path.name("dimensions")?;
@@ -153,22 +154,22 @@ fn keep_transits(alloc: Global, model: &Model, path: &Path) -> Result<(), ReadFa
 
 // Whether the first solution is to be built by savings.
 fn is_savings(first: First) -> bool
-    ensures { result ≡ is_savings_of first }
+    ensures { result ≡ model_rules.is_savings first }
 {
     matches!(first, First::Savings)
 }
 
 // Whether savings are asked for, though vehicles differ or rows of allowed vehicles are there.
 fn cannot_save(model: &Model) -> bool
-    requires { HasParts model.now }
-    ensures { result ≡ cannot_save_of model.now }
+    requires { HasModelParts model.now }
+    ensures { result ≡ model_rules.cannot_save model.now }
 {
     is_savings(model.search.first) && (vehicles_differ(model) || !model.allowed.is_empty())
 }
 
 // Savings are asked for only of vehicles that are alike, with no rows of allowed vehicles.
 fn keep_savings(alloc: Global, model: &Model, path: &Path) -> Result<(), ReadFail>
-    requires { HasParts model.now }
+    requires { HasModelParts model.now }
     ensures { Answers result (savings_rule path.now model.now) }
 {
     let search = path.name("search")?;

@@ -3,12 +3,15 @@
 ghost use Rattle.std.specs.Prelude.{◌≡◌, ◌==◌, IfOk};
 ghost use Rattle.std.specs.List.{list_any};
 ghost use Rattle.vr_model.specs.tables.WellFormed.{number_of};
-ghost use Rattle.vr_read.specs.Searches.{all_neighbourhoods as all_of, default_search as default_of};
+ghost use Rattle.serde_json.specs.View.{view};
+ghost use Rattle.vr_json.specs.Reading.{Answers};
+ghost use Rattle.vr_read.specs.Searches as search_tables;
 
 use serde_json::Value;
 use std::alloc::Global;
 use vr_json::{
-    Array, TwoEntries, Cause, Choice, Count, Place, ReadFail, Reader, Whole, known, optional, refuse_if,
+    Array, Cause, Choice, Count, Path, Place, ReadFail, Reader, TwoEntries, Whole, known, optional,
+    refuse_if,
 };
 use vr_model::{First, Improve, Neighbourhood, NoMemory, SearchRow, Seq};
 
@@ -97,30 +100,10 @@ impl Reader for NeighbourhoodTable {
     }
 }
 
-// All neighbourhoods, in the order of their words.
-fn all_neighbourhoods(alloc: Global) -> Result<Seq<Neighbourhood>, NoMemory>
-    ensures { IfOk result (λ all. all ≡ all_of) }
-{
-    let all = vec![in alloc;
-        Neighbourhood::TwoOpt,
-        Neighbourhood::OrOpt,
-        Neighbourhood::Relocate,
-        Neighbourhood::Exchange,
-        Neighbourhood::Cross,
-        Neighbourhood::RelocatePair,
-        Neighbourhood::PairActive,
-        Neighbourhood::PairInactive,
-        Neighbourhood::MakeActive,
-        Neighbourhood::MakeInactive,
-        Neighbourhood::SwapActive,
-    ]?;
-    Ok(Seq::from(all))
-}
-
 /// The search where a model says nothing of it: the cheapest arc first, then greedy descent over all
 /// neighbourhoods with at most 100000 tries.
 pub(crate) fn default_search(alloc: Global) -> Result<SearchRow, NoMemory>
-    ensures { IfOk result (λ row. row ≡ default_of) }
+    ensures { IfOk result (λ row. row ≡ search_tables.default_search) }
 {
     Ok(SearchRow {
         first: First::PathCheapestArc,
@@ -129,7 +112,40 @@ pub(crate) fn default_search(alloc: Global) -> Result<SearchRow, NoMemory>
         solutions: u64::from(MOST),
         p: 1,
         q: 10,
-        neighbourhoods: all_neighbourhoods(alloc)?,
+        neighbourhoods: Neighbourhood::all(alloc)?,
+    })
+}
+
+// How a search begins and goes on, and how far it may go.
+#[derive(Drop)]
+pub struct SearchChoices {
+    pub first: First,
+    pub improve: Improve,
+    pub tries: u64,
+    pub solutions: u64,
+}
+
+// The first solution, the improvement and the limits of a search.
+fn choices(alloc: Global, value: &Value, path: &Path) -> Result<SearchChoices, ReadFail>
+    ensures { Answers result (search_tables.choices path.now (view value.now)) }
+{
+    let strategy = Choice { words: &STRATEGIES };
+    let cheapest = First::PathCheapestArc;
+    let first = optional(alloc, value, "first", path, cheapest, &strategy)?;
+    let improvement = Choice {
+        words: &IMPROVEMENTS,
+    };
+    let descent = Improve::GreedyDescent;
+    let improve = optional(alloc, value, "improve", path, descent, &improvement)?;
+    let count = Count { lo: 0, hi: MOST };
+    let tries = optional(alloc, value, "tries", path, TRIES, &count)?;
+    let count = Count { lo: 1, hi: MOST };
+    let solutions = optional(alloc, value, "solutions", path, MOST, &count)?;
+    Ok(SearchChoices {
+        first,
+        improve,
+        tries: u64::from(tries),
+        solutions: u64::from(solutions),
     })
 }
 
@@ -153,24 +169,7 @@ impl Reader for SearchTable {
         place: Place<'_>,
     ) -> Result<SearchRow, ReadFail> {
         let path = place.path()?;
-        let strategy = Choice { words: &STRATEGIES };
-        let first = optional(
-            alloc,
-            value,
-            "first",
-            &path,
-            First::PathCheapestArc,
-            &strategy,
-        )?;
-        let improvement = Choice {
-            words: &IMPROVEMENTS,
-        };
-        let descent = Improve::GreedyDescent;
-        let improve = optional(alloc, value, "improve", &path, descent, &improvement)?;
-        let count = Count { lo: 0, hi: MOST };
-        let tries = optional(alloc, value, "tries", &path, TRIES, &count)?;
-        let count = Count { lo: 1, hi: MOST };
-        let solutions = optional(alloc, value, "solutions", &path, MOST, &count)?;
+        let choices = choices(alloc, value, &path)?;
         let weight = TwoEntries {
             entry: Whole { lo: 1, hi: 1000 },
         };
@@ -180,14 +179,14 @@ impl Reader for SearchTable {
             hi: 11,
             entry: NeighbourhoodTable,
         };
-        let all = all_neighbourhoods(alloc)?;
+        let all = Neighbourhood::all(alloc)?;
         let neighbourhoods = optional(alloc, value, "neighbourhoods", &path, all, &words)?;
         known(alloc, value, &FIELDS, &path)?;
         Ok(SearchRow {
-            first,
-            improve,
-            tries: u64::from(tries),
-            solutions: u64::from(solutions),
+            first: choices.first,
+            improve: choices.improve,
+            tries: choices.tries,
+            solutions: choices.solutions,
             p: lambda.0,
             q: lambda.1,
             neighbourhoods,

@@ -2,14 +2,17 @@
 
 ghost use Rattle.std.specs.Prelude.{◌≡◌, ◌==◌};
 ghost use Rattle.std.specs.List.{list_any};
+ghost use Rattle.serde_json.specs.View.{view};
+ghost use Rattle.vr_json.specs.Reading.{Answers};
+ghost use Rattle.vr_read.specs.StopRows as stop_tables;
 
-use crate::limits::{GREATEST_COEFFICIENT, HORIZON};
 use serde_json::Value;
 use std::alloc::Global;
 use vr_json::{
-    Array, Below, TwoEntries, Cause, Place, ReadFail, Reader, Whole, known, maybe, optional, refuse_if,
-    required,
+    Array, Below, Cause, Path, Place, ReadFail, Reader, TwoEntries, Whole, known, maybe, optional,
+    refuse_if, required,
 };
+use vr_model::limits::{GREATEST_COEFFICIENT, HORIZON};
 use vr_model::{BreakRow, Interval, Seq, Soft, StopRow, VehicleBreaks};
 
 /// An interval: an array of two cumuls, the lower one first.
@@ -71,6 +74,34 @@ impl Reader for SoftTable {
     }
 }
 
+// What a row says of a stop, but for its key.
+#[derive(Drop)]
+pub struct StopLimits {
+    pub window: Option<Interval>,
+    pub forbidden: Seq<Interval>,
+    pub soft: Option<Soft>,
+}
+
+// The window, the forbidden intervals and the soft bound of a row.
+fn limits(alloc: Global, value: &Value, path: &Path) -> Result<StopLimits, ReadFail>
+    ensures { Answers result (stop_tables.limits path.now (view value.now)) }
+{
+    let intervals = Array {
+        lo: 0,
+        hi: 16,
+        entry: IntervalTable,
+    };
+    let window = maybe(alloc, value, "window", path, &IntervalTable)?;
+    let none = Seq::new(alloc);
+    let forbidden = optional(alloc, value, "forbidden", path, none, &intervals)?;
+    let soft = maybe(alloc, value, "soft", path, &SoftTable)?;
+    Ok(StopLimits {
+        window,
+        forbidden,
+        soft,
+    })
+}
+
 /// A row for a stop, whose key stands in the field `name`.
 #[derive(Clone, Copy)]
 pub struct StopTable<'a, K> {
@@ -101,11 +132,6 @@ impl<K: Reader<Item = u32>> Reader for StopTable<'_, K> {
         place: Place<'_>,
     ) -> Result<StopRow, ReadFail> {
         let path = place.path()?;
-        let intervals = Array {
-            lo: 0,
-            hi: 16,
-            entry: IntervalTable,
-        };
         let key = required(alloc, value, self.name, &path, &self.key)?;
         refuse_if(
             alloc,
@@ -113,10 +139,7 @@ impl<K: Reader<Item = u32>> Reader for StopTable<'_, K> {
             Cause::Repeated,
             path.field(self.name),
         )?;
-        let window = maybe(alloc, value, "window", &path, &IntervalTable)?;
-        let none = Seq::new(alloc);
-        let forbidden = optional(alloc, value, "forbidden", &path, none, &intervals)?;
-        let soft = maybe(alloc, value, "soft", &path, &SoftTable)?;
+        let limits = limits(alloc, value, &path)?;
         known(
             alloc,
             value,
@@ -125,9 +148,9 @@ impl<K: Reader<Item = u32>> Reader for StopTable<'_, K> {
         )?;
         Ok(StopRow {
             key,
-            window,
-            forbidden,
-            soft,
+            window: limits.window,
+            forbidden: limits.forbidden,
+            soft: limits.soft,
         })
     }
 }

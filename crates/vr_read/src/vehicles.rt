@@ -1,22 +1,43 @@
-//! The tables of matrices and vehicles, and visits.
+//! The table of vehicles, and visits.
 
 ghost use Rattle.std.specs.Prelude.{◌≡◌};
-ghost use Rattle.vr_read.specs.Vehicles.{is_terminal as is_terminal_of};
+ghost use Rattle.serde_json.specs.View.{view};
+ghost use Rattle.vr_json.specs.Reading.{Answers};
+ghost use Rattle.vr_read.specs.Vehicles as vehicle_tables;
 
-use crate::limits::{GREATEST_COST, LEAST_VALUE};
 use serde_json::Value;
 use std::alloc::Global;
 use vr_json::{
-    Array, Below, Cause, Choice, Place, ReadFail, Reader, Whole, known, optional, refuse_if,
+    Below, Cause, Choice, Path, Place, ReadFail, Reader, Whole, known, optional, refuse_if,
     required,
 };
-use vr_model::{Matrix, Policy, Seq, Vehicle};
+use vr_model::limits::GREATEST_COST;
+use vr_model::{Policy, Vehicle};
 
 /// A vehicle, in a model of so many nodes and matrices.
 #[derive(Clone, Copy)]
 pub struct VehicleTable {
     pub nodes: u32,
     pub matrices: u32,
+}
+
+// The words for policies.
+const POLICIES: [(&str, Policy); 3] = [
+    ("any", Policy::Any),
+    ("lifo", Policy::Lifo),
+    ("fifo", Policy::Fifo),
+];
+
+impl VehicleTable {
+    // Where the vehicle starts, and where it ends.
+    fn ends(&self, alloc: Global, value: &Value, path: &Path) -> Result<(u32, u32), ReadFail>
+        ensures { Answers result (vehicle_tables.ends self.now.nodes path.now (view value.now)) }
+    {
+        let node = Below { count: self.nodes };
+        let start = required(alloc, value, "start", path, &node)?;
+        let end = required(alloc, value, "end", path, &node)?;
+        Ok((start, end))
+    }
 }
 
 impl Reader for VehicleTable {
@@ -34,7 +55,6 @@ impl Reader for VehicleTable {
         place: Place<'_>,
     ) -> Result<Vehicle, ReadFail> {
         let path = place.path()?;
-        let node = Below { count: self.nodes };
         let matrix = Below {
             count: self.matrices,
         };
@@ -42,17 +62,10 @@ impl Reader for VehicleTable {
             lo: 0,
             hi: GREATEST_COST,
         };
-        let words = [
-            ("any", Policy::Any),
-            ("lifo", Policy::Lifo),
-            ("fifo", Policy::Fifo),
-        ];
-        // The ends.
-        let start = required(alloc, value, "start", &path, &node)?;
-        let end = required(alloc, value, "end", &path, &node)?;
+        let ends = self.ends(alloc, value, &path)?;
         let costs = optional(alloc, value, "costs", &path, 0, &matrix)?;
         let fixed = optional(alloc, value, "fixed", &path, 0, &cost)?;
-        let policy = Choice { words: &words };
+        let policy = Choice { words: &POLICIES };
         let policy = optional(alloc, value, "policy", &path, Policy::Any, &policy)?;
         known(
             alloc,
@@ -61,8 +74,8 @@ impl Reader for VehicleTable {
             &path,
         )?;
         Ok(Vehicle {
-            start,
-            end,
+            start: ends.0,
+            end: ends.1,
             costs,
             fixed,
             policy,
@@ -79,11 +92,11 @@ pub struct Visit<'a> {
 
 // Whether a node is the start or the end of some vehicle.
 fn is_terminal(vehicles: &[Vehicle], node: u32) -> bool
-    ensures { result ≡ is_terminal_of vehicles.now node }
+    ensures { result ≡ vehicle_tables.is_terminal vehicles.now node }
 {
     vehicles
         .iter()
-        .any(|vehicle| vehicle.start == node || vehicle.end == node)
+        .any(|vehicle| vehicle.starts_or_ends_at(node))
 }
 
 impl Reader for Visit<'_> {

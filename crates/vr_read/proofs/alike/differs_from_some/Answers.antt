@@ -1,6 +1,6 @@
 use Rattle.std.proofs.Common.{not, length, sym, ap, ◌∙◌, arith}
 use Rattle.vr_model.specs.tables.ModelRules.{are_alike}
-use Rattle.vr_read.proofs.Ranges.{test_goes_on}
+use Rattle.vr_model.proofs.tables.Ranges.{test_goes_on}
 use Rattle.vr_read.proofs.alike.differs_from_some.Goals as goal
 
 pub loop-w-preserved : goal.loop-w-preserved

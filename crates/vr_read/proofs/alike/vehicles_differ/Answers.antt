@@ -1,6 +1,6 @@
 use Rattle.std.proofs.Common.{length, sym, ◌∙◌, arith}
 use Rattle.vr_read.specs.Alike.{differs_from_some}
-use Rattle.vr_read.proofs.Ranges.{test_goes_on}
+use Rattle.vr_model.proofs.tables.Ranges.{test_goes_on}
 use Rattle.vr_read.proofs.alike.vehicles_differ.Goals as goal
 
 pub loop-v-preserved : goal.loop-v-preserved

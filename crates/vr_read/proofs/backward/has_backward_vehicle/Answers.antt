@@ -6,7 +6,7 @@ use Rattle.vr_model.specs.tables.WellFormed.{IsDimension}
 use Rattle.vr_model.specs.declared.records.Model.{Model}
 use Rattle.vr_model.specs.declared.records.Dimension.{Dimension}
 use Rattle.vr_read.specs.Backward.{is_backward, is_used_backward, has_backward_vehicle}
-use Rattle.vr_read.proofs.Ranges.{test_finds, test_goes_on, test_ends}
+use Rattle.vr_model.proofs.tables.Ranges.{test_finds, test_goes_on, test_ends}
 use Rattle.vr_read.proofs.Uses.{used_once}
 use Rattle.vr_read.proofs.backward.has_backward_vehicle.Goals as goal
 

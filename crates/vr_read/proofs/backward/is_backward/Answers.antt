@@ -1,6 +1,6 @@
 use Rattle.std.proofs.Common.{sym, ◌∙◌, arith}
 use Rattle.vr_read.specs.Backward.{is_backward_from}
-use Rattle.vr_read.proofs.Ranges.{test_goes_on}
+use Rattle.vr_model.proofs.tables.Ranges.{test_goes_on}
 use Rattle.vr_read.proofs.backward.is_backward.Goals as goal
 
 pub loop-i-preserved : goal.loop-i-preserved

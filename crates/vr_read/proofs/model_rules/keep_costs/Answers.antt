@@ -9,7 +9,7 @@ use Rattle.vr_model.specs.tables.Tables.{no_matrix, matrix_at, no_vehicle, vehic
 use Rattle.vr_model.specs.declared.records.Model.{Model}
 use Rattle.vr_model.specs.declared.records.Vehicle.{Vehicle}
 use Rattle.vr_read.specs.Rules.{cost_rule}
-use Rattle.vr_read.proofs.Ranges.{rule_passes, rule_stops, rule_ends}
+use Rattle.vr_read.proofs.RuleLoops.{rule_passes, rule_stops, rule_ends}
 use Rattle.vr_read.proofs.model_rules.keep_costs.Goals as goal
 
 -- what is marked of the matrix of a vehicle

@@ -5,7 +5,7 @@ use Rattle.vr_json.proofs.Steps.{asked}
 use Rattle.vr_model.specs.tables.ModelRules.{is_large}
 use Rattle.vr_model.specs.tables.Tables.{no_evaluator}
 use Rattle.vr_read.specs.Rules.{entry_rule}
-use Rattle.vr_read.proofs.Ranges.{rule_passes, rule_stops, rule_ends}
+use Rattle.vr_read.proofs.RuleLoops.{rule_passes, rule_stops, rule_ends}
 use Rattle.vr_read.proofs.model_rules.keep_dimension_entries.Goals as goal
 
 pub returns-in_err-refuse_field : goal.returns-in_err-refuse_field

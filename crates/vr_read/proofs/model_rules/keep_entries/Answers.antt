@@ -7,7 +7,7 @@ use Rattle.vr_model.specs.tables.Tables.{no_dimension}
 use Rattle.vr_model.specs.declared.records.Model.{Model}
 use Rattle.vr_model.specs.declared.records.Dimension.{Dimension}
 use Rattle.vr_read.specs.Rules.{dimension_entries_rule, entries_rule_at}
-use Rattle.vr_read.proofs.Ranges.{rule_passes, rule_stops, rule_ends}
+use Rattle.vr_read.proofs.RuleLoops.{rule_passes, rule_stops, rule_ends}
 use Rattle.vr_read.proofs.model_rules.keep_entries.Goals as goal
 
 -- the rule was asked of the dimension and the place of the definition

@@ -4,7 +4,7 @@ use Rattle.vr_json.proofs.Steps.{asked}
 use Rattle.vr_model.specs.tables.Tables.{no_dimension}
 use Rattle.vr_read.specs.Backward.{is_backward_dimension}
 use Rattle.vr_read.specs.Rules.{transit_rule}
-use Rattle.vr_read.proofs.Ranges.{rule_passes, rule_stops, rule_ends}
+use Rattle.vr_read.proofs.RuleLoops.{rule_passes, rule_stops, rule_ends}
 use Rattle.vr_read.proofs.model_rules.keep_transits.Goals as goal
 
 pub returns-in_err-refuse_if : goal.returns-in_err-refuse_if

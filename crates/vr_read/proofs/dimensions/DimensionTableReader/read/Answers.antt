@@ -1,5 +1,5 @@
 use Rattle.std.proofs.Common.{rules}
-use Rattle.vr_json.proofs.Steps.{then, stops, gives, otherwise}
+use Rattle.vr_json.proofs.Steps.{then, stops, gives}
 use Rattle.vr_read.specs.Dimensions.{dimension}
 use Rattle.vr_read.proofs.dimensions.DimensionTableReader.read.Goals as goal
 
@@ -21,16 +21,12 @@ returns-in_err-rows c = rw (← c.in_ok-path.ensures) (then _ c.in_ok-name.ensur
 
 pub returns-in_err-span_costs : goal.returns-in_err-span_costs
 unfolding dimension
-returns-in_err-span_costs c = rw (← c.in_ok-path.ensures) (then _ c.in_ok-name.ensures (then _ c.in_ok-transits.ensures (then _ c.in_ok-bounds.ensures (then _ c.in_ok-rows.ensures (stops _ _ (otherwise _ _ _ _ c.in_ok-zeros.ensures c.in_err-span_costs.ensures) c.from_residual-in_err-span_costs.ensures.1)))))
-
-pub returns-in_err-global : goal.returns-in_err-global
-unfolding dimension
-returns-in_err-global c = rw (← c.in_ok-path.ensures) (then _ c.in_ok-name.ensures (then _ c.in_ok-transits.ensures (then _ c.in_ok-bounds.ensures (then _ c.in_ok-rows.ensures (then _ (otherwise _ _ _ _ c.in_ok-zeros.ensures c.in_ok-span_costs.ensures) (stops _ _ c.in_err-global.ensures c.from_residual-in_err-global.ensures.1))))))
+returns-in_err-span_costs c = rw (← c.in_ok-path.ensures) (then _ c.in_ok-name.ensures (then _ c.in_ok-transits.ensures (then _ c.in_ok-bounds.ensures (then _ c.in_ok-rows.ensures (stops _ _ c.in_err-span_costs.ensures c.from_residual-in_err-span_costs.ensures.1)))))
 
 pub returns-in_err-known : goal.returns-in_err-known
 unfolding dimension
-returns-in_err-known c = rw (← c.in_ok-path.ensures) (then _ c.in_ok-name.ensures (then _ c.in_ok-transits.ensures (then _ c.in_ok-bounds.ensures (then _ c.in_ok-rows.ensures (then _ (otherwise _ _ _ _ c.in_ok-zeros.ensures c.in_ok-span_costs.ensures) (then _ c.in_ok-global.ensures (stops _ _ c.in_err-known.ensures c.from_residual-in_err-known.ensures.1)))))))
+returns-in_err-known c = rw (← c.in_ok-path.ensures) (then _ c.in_ok-name.ensures (then _ c.in_ok-transits.ensures (then _ c.in_ok-bounds.ensures (then _ c.in_ok-rows.ensures (then _ c.in_ok-span_costs.ensures (stops _ _ c.in_err-known.ensures c.from_residual-in_err-known.ensures.1))))))
 
 pub returns : goal.returns
 unfolding dimension
-returns c = rw (← c.in_ok-path.ensures) (then _ c.in_ok-name.ensures (then _ c.in_ok-transits.ensures (then _ c.in_ok-bounds.ensures (then _ c.in_ok-rows.ensures (then _ (otherwise _ _ _ _ c.in_ok-zeros.ensures c.in_ok-span_costs.ensures) (then _ c.in_ok-global.ensures (then _ c.in_ok-known.ensures (gives (search rules)))))))))
+returns c = rw (← c.in_ok-path.ensures) (then _ c.in_ok-name.ensures (then _ c.in_ok-transits.ensures (then _ c.in_ok-bounds.ensures (then _ c.in_ok-rows.ensures (then _ c.in_ok-span_costs.ensures (then _ c.in_ok-known.ensures (gives (search rules))))))))

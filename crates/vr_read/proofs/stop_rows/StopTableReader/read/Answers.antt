@@ -1,5 +1,5 @@
 use Rattle.std.proofs.Common.{rules}
-use Rattle.vr_json.proofs.Steps.{then, stops, gives, asked, otherwise}
+use Rattle.vr_json.proofs.Steps.{then, stops, gives, asked}
 use Rattle.vr_read.specs.StopRows.{stop_row}
 use Rattle.vr_read.proofs.stop_rows.StopTableReader.read.Goals as goal
 
@@ -11,22 +11,14 @@ pub returns-in_err-refuse_if : goal.returns-in_err-refuse_if
 unfolding stop_row
 returns-in_err-refuse_if g c = rw (← c.in_ok-path.ensures) (then _ c.in_ok-key.ensures (stops _ _ (asked _ c.has_row.ensures c.field.ensures c.in_err-refuse_if.ensures) c.from_residual-in_err-refuse_if.ensures.1))
 
-pub returns-in_err-window : goal.returns-in_err-window
+pub returns-in_err-limits : goal.returns-in_err-limits
 unfolding stop_row
-returns-in_err-window g c = rw (← c.in_ok-path.ensures) (then _ c.in_ok-key.ensures (then _ (asked _ c.has_row.ensures c.field.ensures c.in_ok-refuse_if.ensures) (stops _ _ c.in_err-window.ensures c.from_residual-in_err-window.ensures.1)))
-
-pub returns-in_err-forbidden : goal.returns-in_err-forbidden
-unfolding stop_row
-returns-in_err-forbidden g c = rw (← c.in_ok-path.ensures) (then _ c.in_ok-key.ensures (then _ (asked _ c.has_row.ensures c.field.ensures c.in_ok-refuse_if.ensures) (then _ c.in_ok-window.ensures (stops _ _ (otherwise _ _ _ _ c.new-none.ensures c.in_err-forbidden.ensures) c.from_residual-in_err-forbidden.ensures.1))))
-
-pub returns-in_err-soft : goal.returns-in_err-soft
-unfolding stop_row
-returns-in_err-soft g c = rw (← c.in_ok-path.ensures) (then _ c.in_ok-key.ensures (then _ (asked _ c.has_row.ensures c.field.ensures c.in_ok-refuse_if.ensures) (then _ c.in_ok-window.ensures (then _ (otherwise _ _ _ _ c.new-none.ensures c.in_ok-forbidden.ensures) (stops _ _ c.in_err-soft.ensures c.from_residual-in_err-soft.ensures.1)))))
+returns-in_err-limits g c = rw (← c.in_ok-path.ensures) (then _ c.in_ok-key.ensures (then _ (asked _ c.has_row.ensures c.field.ensures c.in_ok-refuse_if.ensures) (stops _ _ c.in_err-limits.ensures c.from_residual-in_err-limits.ensures.1)))
 
 pub returns-in_err-known : goal.returns-in_err-known
 unfolding stop_row
-returns-in_err-known g c = rw (← c.in_ok-path.ensures) (then _ c.in_ok-key.ensures (then _ (asked _ c.has_row.ensures c.field.ensures c.in_ok-refuse_if.ensures) (then _ c.in_ok-window.ensures (then _ (otherwise _ _ _ _ c.new-none.ensures c.in_ok-forbidden.ensures) (then _ c.in_ok-soft.ensures (stops _ _ c.in_err-known.ensures c.from_residual-in_err-known.ensures.1))))))
+returns-in_err-known g c = rw (← c.in_ok-path.ensures) (then _ c.in_ok-key.ensures (then _ (asked _ c.has_row.ensures c.field.ensures c.in_ok-refuse_if.ensures) (then _ c.in_ok-limits.ensures (stops _ _ c.in_err-known.ensures c.from_residual-in_err-known.ensures.1))))
 
 pub returns : goal.returns
 unfolding stop_row
-returns g c = rw (← c.in_ok-path.ensures) (then _ c.in_ok-key.ensures (then _ (asked _ c.has_row.ensures c.field.ensures c.in_ok-refuse_if.ensures) (then _ c.in_ok-window.ensures (then _ (otherwise _ _ _ _ c.new-none.ensures c.in_ok-forbidden.ensures) (then _ c.in_ok-soft.ensures (then _ c.in_ok-known.ensures (gives (search rules))))))))
+returns g c = rw (← c.in_ok-path.ensures) (then _ c.in_ok-key.ensures (then _ (asked _ c.has_row.ensures c.field.ensures c.in_ok-refuse_if.ensures) (then _ c.in_ok-limits.ensures (then _ c.in_ok-known.ensures (gives (search rules))))))

@@ -3,30 +3,26 @@ use Rattle.vr_json.proofs.Steps.{then, stops, gives}
 use Rattle.vr_read.specs.Vehicles.{vehicle}
 use Rattle.vr_read.proofs.vehicles.VehicleTableReader.read.Goals as goal
 
-pub returns-in_err-start : goal.returns-in_err-start
+pub returns-in_err-ends : goal.returns-in_err-ends
 unfolding vehicle
-returns-in_err-start c = rw (← c.in_ok-path.ensures) (stops _ _ c.in_err-start.ensures c.from_residual-in_err-start.ensures.1)
-
-pub returns-in_err-end : goal.returns-in_err-end
-unfolding vehicle
-returns-in_err-end c = rw (← c.in_ok-path.ensures) (then _ c.in_ok-start.ensures (stops _ _ c.in_err-end.ensures c.from_residual-in_err-end.ensures.1))
+returns-in_err-ends c = rw (← c.in_ok-path.ensures) (stops _ _ c.in_err-ends.ensures c.from_residual-in_err-ends.ensures.1)
 
 pub returns-in_err-costs : goal.returns-in_err-costs
 unfolding vehicle
-returns-in_err-costs c = rw (← c.in_ok-path.ensures) (then _ c.in_ok-start.ensures (then _ c.in_ok-end.ensures (stops _ _ c.in_err-costs.ensures c.from_residual-in_err-costs.ensures.1)))
+returns-in_err-costs c = rw (← c.in_ok-path.ensures) (then _ c.in_ok-ends.ensures (stops _ _ c.in_err-costs.ensures c.from_residual-in_err-costs.ensures.1))
 
 pub returns-in_err-fixed : goal.returns-in_err-fixed
 unfolding vehicle
-returns-in_err-fixed c = rw (← c.in_ok-path.ensures) (then _ c.in_ok-start.ensures (then _ c.in_ok-end.ensures (then _ c.in_ok-costs.ensures (stops _ _ c.in_err-fixed.ensures c.from_residual-in_err-fixed.ensures.1))))
+returns-in_err-fixed c = rw (← c.in_ok-path.ensures) (then _ c.in_ok-ends.ensures (then _ c.in_ok-costs.ensures (stops _ _ c.in_err-fixed.ensures c.from_residual-in_err-fixed.ensures.1)))
 
 pub returns-in_err-policy : goal.returns-in_err-policy
 unfolding vehicle
-returns-in_err-policy c = rw (← c.in_ok-path.ensures) (then _ c.in_ok-start.ensures (then _ c.in_ok-end.ensures (then _ c.in_ok-costs.ensures (then _ c.in_ok-fixed.ensures (stops _ _ c.in_err-policy.ensures c.from_residual-in_err-policy.ensures.1)))))
+returns-in_err-policy c = rw (← c.in_ok-path.ensures) (then _ c.in_ok-ends.ensures (then _ c.in_ok-costs.ensures (then _ c.in_ok-fixed.ensures (stops _ _ c.in_err-policy.ensures c.from_residual-in_err-policy.ensures.1))))
 
 pub returns-in_err-known : goal.returns-in_err-known
 unfolding vehicle
-returns-in_err-known c = rw (← c.in_ok-path.ensures) (then _ c.in_ok-start.ensures (then _ c.in_ok-end.ensures (then _ c.in_ok-costs.ensures (then _ c.in_ok-fixed.ensures (then _ c.in_ok-policy.ensures (stops _ _ c.in_err-known.ensures c.from_residual-in_err-known.ensures.1))))))
+returns-in_err-known c = rw (← c.in_ok-path.ensures) (then _ c.in_ok-ends.ensures (then _ c.in_ok-costs.ensures (then _ c.in_ok-fixed.ensures (then _ c.in_ok-policy.ensures (stops _ _ c.in_err-known.ensures c.from_residual-in_err-known.ensures.1)))))
 
 pub returns : goal.returns
 unfolding vehicle
-returns c = rw (← c.in_ok-path.ensures) (then _ c.in_ok-start.ensures (then _ c.in_ok-end.ensures (then _ c.in_ok-costs.ensures (then _ c.in_ok-fixed.ensures (then _ c.in_ok-policy.ensures (then _ c.in_ok-known.ensures (gives (search rules))))))))
+returns c = rw (← c.in_ok-path.ensures) (then _ c.in_ok-ends.ensures (then _ c.in_ok-costs.ensures (then _ c.in_ok-fixed.ensures (then _ c.in_ok-policy.ensures (then _ c.in_ok-known.ensures (gives (search rules)))))))

@@ -1,0 +1,19 @@
+-- The parts of a model, as its table gives them: what the rules on the whole model may take for granted.
+use Rattle.std.specs.Prelude.{ℕ, ◌<◌, length}
+use Rattle.std.specs.List.{All}
+use Rattle.vr_model.specs.tables.WellFormed.{HasLength, IsMatrix, IsVehicle, IsDimension}
+use Rattle.vr_model.specs.declared.records.Model.{Model}
+use Rattle.vr_model.specs.declared.records.Dimension.{Dimension}
+
+-- there are not too many vehicles, each matrix, vehicle and dimension is in its ranges, and its lists are full
+pub record HasModelParts (model : Model) : Type 0 where
+  pub number_of_vehicles : HasLength 1 100 model.vehicles
+  pub each_matrix : All (IsMatrix model.nodes) model.matrices
+  pub each_vehicle : All (IsVehicle model) model.vehicles
+  pub each_dimension : All (IsDimension model) model.dimensions
+
+-- the lists by vehicle of a dimension reach to vehicle v
+pub record HasVehicle (v : ℕ) (dimension : Dimension) : Type 0 where
+  pub capacity : v < length dimension.capacities
+  pub evaluator : v < length dimension.vehicle_evaluators
+  pub span_cost : v < length dimension.span_costs
