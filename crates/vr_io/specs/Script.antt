@@ -3,7 +3,7 @@ use Rattle.std.specs.Prelude.{ℕ, List, Bool, ◌++◌, ◌-◌, ◌&&◌, ◌|
 use Rattle.std.specs.List.{list_any}
 use Rattle.vr_io.specs.Edges.{risen}
 
--- the most bytes of one call, the numbers of the calls that fail, how many calls there were, and how many of them failed
+-- the most bytes of one call, the numbers of the calls that fail, how many calls there were, and how many failed
 pub record Script : Type 0 where
   pub piece : ℕ
   pub fails : List ℕ
@@ -42,7 +42,7 @@ pub record Taking : Type 0 where
 abbrev pub to_take : Taking → ℕ → ℕ
 to_take sink len = min sink.script.piece len
 
--- whether a write of a piece so long fails: it has bytes, and its call is one of those that fail or the room that is left is too small
+-- whether a write of a piece so long fails: it has bytes, and its call is to fail or the room that is left is too small
 abbrev pub refuses : Taking → ℕ → Bool
 refuses sink len = nat_lt 0 len && (fails_next sink.script || nat_lt (sink.room - length sink.bytes) (to_take sink len))
 

@@ -1,6 +1,7 @@
 //! A source and a sink in memory that never fail.
 
-ghost use Rattle.std.specs.Prelude.{◌≡◌, ◌≤◌, ◌+◌, ◌++◌, List, ℕ, [], false, length, take, drop, min, Some, IfSome, IfOk, OnErr, Ok, vec_len};
+ghost use Rattle.std.specs.Prelude.{◌≡◌, ◌≤◌, ◌+◌, ◌++◌, List, ℕ, [], false, length, take, drop, min, Some, IfSome};
+ghost use Rattle.std.specs.Prelude.{IfOk, OnErr, Ok, vec_len};
 ghost use Rattle.vr_io.specs.Edges.{Rose, Gave, EndsAtEnd, Took};
 ghost use Rattle.vr_io.specs.Kept.{told, keeping};
 

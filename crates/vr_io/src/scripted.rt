@@ -53,7 +53,8 @@ impl Source for MemSource {
     /// the least of the piece, the length of `buf` and what is left.
     fn read(&mut self, buf: &mut [u8]) -> Result<usize, Failed>
         ensures fails { is_err result ≡ fails_next self.old.script }
-        ensures number { IfOk result (λ n. n ≡ min (min (length buf.new) self.old.script.piece) (length self.old.left)) }
+        ensures number { IfOk result
+            (λ n. n ≡ min (min (length buf.new) self.old.script.piece) (length self.old.left)) }
         ensures gives { IfOk result (λ n. Gave (Some self.old.left) (Some self.new.left) (take n buf.new)) }
         ensures ends { IfOk result (λ n. EndsAtEnd (Some self.old.left) (length buf.new) n) }
         ensures kept { OnErr result (self.new.left ≡ self.old.left) }
