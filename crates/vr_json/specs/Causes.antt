@@ -1,7 +1,10 @@
 -- The causes of a refusal, and the fault of one at a path.
 use Rattle.std.specs.Prelude.{ℕ, List}
 use Rattle.vr_json.specs.declared.fault.Cause.{Cause}
-use Rattle.vr_json.specs.declared.fault.Cause.TheVariants.{Absent, OtherKind, NotWhole, UnknownKey, OutOfRange, WrongLength, Repeated, UnknownWord, NotAVisit, Reversed, NegativeCost, LargeTransit, NegativeTransit, UnlikeVehicles, NotBuilt}
+use Rattle.vr_json.specs.declared.fault.Cause.TheVariants.{Absent, OtherKind, NotWhole, UnknownKey, OutOfRange}
+use Rattle.vr_json.specs.declared.fault.Cause.TheVariants.{WrongLength, Repeated, UnknownWord, NotAVisit, Reversed}
+use Rattle.vr_json.specs.declared.fault.Cause.TheVariants.{NegativeCost, LargeTransit, NegativeTransit}
+use Rattle.vr_json.specs.declared.fault.Cause.TheVariants.{UnlikeVehicles, NotBuilt}
 use Rattle.vr_json.specs.declared.fault.Fault.{Fault}
 
 -- the number of a cause in the texts of the program

@@ -1,5 +1,6 @@
 -- The kinds of values that are no object and no array.
-use Rattle.std.specs.Prelude.{ℕ, ℤ, pos, ◌-ℤ◌, nat_abs, ◌&&◌, List, Bool, length, nat_le, int_le, if◌then◌else◌, find, position, option_map, Result, Ok, Err}
+use Rattle.std.specs.Prelude.{ℕ, ℤ, pos, ◌-ℤ◌, nat_abs, ◌&&◌, List, Bool, length, nat_le, int_le, if◌then◌else◌, find}
+use Rattle.std.specs.Prelude.{position, option_map, Result, Ok, Err}
 use Rattle.std.specs.Option.{ok_or}
 use Rattle.std.specs.Borrow.{Bor}
 use Rattle.std.specs.Str.{bytes_eq}

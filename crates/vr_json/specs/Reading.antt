@@ -1,5 +1,6 @@
 -- Reading: a value, or the first fault. Each table of a format is a reader, made of the few forms of this file.
-use Rattle.std.specs.Prelude.{◌≡◌, ℕ, ◌&&◌, List, [], ◌∷◌, ◌++◌, Bool, not, length, nat_le, if◌then◌else◌, find, replicate, Option, Some, None, is_some, Result, Ok, Err, IfOk, ⊤}
+use Rattle.std.specs.Prelude.{◌≡◌, ℕ, ◌&&◌, List, [], ◌∷◌, ◌++◌, Bool, not, length, nat_le, if◌then◌else◌, find}
+use Rattle.std.specs.Prelude.{replicate, Option, Some, None, is_some, Result, Ok, Err, IfOk, ⊤}
 use Rattle.std.specs.List.{list_any}
 use Rattle.std.specs.Str.{bytes_eq}
 use Rattle.std.specs.Option.{ok_or}
@@ -57,7 +58,8 @@ if_present absent read (Some d) = read d
 
 -- a field that must be there
 unfoldable pub required : {A : Type 0} → List ℕ → ReaderOf A → ReaderOf A
-required key read path d = field key path d >>= if_present (Err (fault_at Absent (name_path path key))) (read (name_path path key))
+required key read path d =
+    field key path d >>= if_present (Err (fault_at Absent (name_path path key))) (read (name_path path key))
 
 -- a field that may be absent, with its value then
 unfoldable pub optional : {A : Type 0} → List ℕ → A → ReaderOf A → ReaderOf A
@@ -86,7 +88,8 @@ if_unknown path None = Ok tt
 if_unknown path (Some key) = Err (fault_at UnknownKey (name_path path key))
 
 unfoldable pub known : List (List ℕ) → ReaderOf ⊤
-known names path d = at_path path (ok_or (as_object d) OtherKind) >>= λ members. if_unknown path (unknown_key names members)
+known names path d =
+    at_path path (ok_or (as_object d) OtherKind) >>= λ members. if_unknown path (unknown_key names members)
 
 -- ---- arrays
 
@@ -94,15 +97,20 @@ abbrev pub list_of : Items → List Data
 list_of no_items = []
 list_of (item d items) = d ∷ list_of items
 
+-- whether there are lo to hi values
+abbrev pub has_between : ℕ → ℕ → List Data → Bool
+has_between lo hi ds = nat_le lo (length ds) && nat_le (length ds) hi
+
 -- an array of lo to hi entries
 unfoldable pub list : ℕ → ℕ → ReaderOf (List Data)
 list lo hi path d = at_path path (ok_or (as_array d) OtherKind)
-    >>= λ items. (if nat_le lo (length (list_of items)) && nat_le (length (list_of items)) hi then Ok (list_of items) else Err (fault_at WrongLength path))
+    >>= λ items. (if has_between lo hi (list_of items) then Ok (list_of items) else Err (fault_at WrongLength path))
 
 -- each entry in order, beside those that were read before it
 unfoldable pub entries : {A : Type 0} → (List A → ReaderOf A) → List A → List ℕ → List Data → Result (List A) Fault
 entries read earlier path [] = Ok earlier
-entries read earlier path (d ∷ ds) = read earlier (item_path path (length earlier)) d >>= λ x. entries read (earlier ++ x ∷ []) path ds
+entries read earlier path (d ∷ ds) =
+    read earlier (item_path path (length earlier)) d >>= λ x. entries read (earlier ++ x ∷ []) path ds
 
 -- an array of lo to hi such entries
 unfoldable pub array : {A : Type 0} → ℕ → ℕ → (List A → ReaderOf A) → ReaderOf (List A)
@@ -110,7 +118,8 @@ array lo hi read path d = list lo hi path d >>= entries read [] path
 
 -- an array of two such values
 unfoldable pub first_two : {A : Type 0} → ReaderOf A → List ℕ → List Data → Result (A × A) Fault
-first_two read path (first ∷ second ∷ []) = read (item_path path 0) first >>= λ x. (read (item_path path 1) second >>= λ y. Ok (x, y))
+first_two read path (first ∷ second ∷ []) =
+    read (item_path path 0) first >>= λ x. (read (item_path path 1) second >>= λ y. Ok (x, y))
 first_two read path ds = Err (fault_at WrongLength path)
 
 unfoldable pub two_entries : {A : Type 0} → ReaderOf A → ReaderOf (A × A)
@@ -118,7 +127,8 @@ two_entries read path d = list 2 2 path d >>= first_two read path
 
 -- an array of n values, or one value for all
 unfoldable pub for_each : {A : Type 0} → ℕ → (List A → ReaderOf A) → ReaderOf (List A)
-for_each n read path d = if is_some (as_array d) then array n n read path d else (read [] path d >>= λ x. Ok (replicate n x))
+for_each n read path d =
+    if is_some (as_array d) then array n n read path d else (read [] path d >>= λ x. Ok (replicate n x))
 
 -- ---- rules
 

@@ -19,7 +19,7 @@ use Rattle.vr_read.specs.declared.dimensions.Bounds.{Bounds}
 use Rattle.vr_read.specs.declared.dimensions.Rows.{Rows}
 use Rattle.vr_read.specs.declared.dimensions.SpanCosts.{SpanCosts}
 use Rattle.vr_read.specs.declared.stop_rows.StopLimits.{StopLimits}
-use Rattle.vr_read.specs.Dimensions.{evaluator, capped, name, transits, bounds, rows as stop_tables, coefficient, span_costs, dimension}
+use Rattle.vr_read.specs.Dimensions.{evaluator, capped, name, transits, bounds, rows as stop_tables, span_costs, dimension}
 use Rattle.vr_json.proofs.Readings.{EachEnsures, EachFresh, IsFull, gives, after, any_value, weaker, whole_ensures, below_ensures, text_ensures, required_ensures, optional_ensures, maybe_ensures, refuse_if_ensures, array_ensures, full_array_ensures, for_each_ensures, two_entries_ensure, replicated}
 use Rattle.vr_read.proofs.Distinct.{numbered_array_ensures}
 use Rattle.vr_read.proofs.WellFormedVehicles.{visit_ensures}

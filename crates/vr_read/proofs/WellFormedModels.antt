@@ -1,9 +1,8 @@
 -- What reading gives is well formed.
-use Rattle.std.proofs.Common.{◌≡◌, ℕ, zero, suc, ◌+◌, ◌<◌, ◌≤◌, false, List, [], map, length, Result, Ok, IfOk, refl, ap, subst, inl, inr, arith}
+use Rattle.std.proofs.Common.{◌≡◌, ℕ, zero, suc, ◌+◌, ◌<◌, ◌≤◌, false, List, [], map, length, Result, Ok, IfOk, refl, subst, inl, inr, arith}
 use Rattle.std.specs.Prelude.{codes, ⊤, IsTrue}
 use Rattle.std.specs.List.{All, range_with_len}
-use Rattle.std.proofs.lemmas.Bool.{cases_eq, cases_lt}
-use Rattle.std.proofs.lemmas.List.{get_or_past}
+use Rattle.std.proofs.lemmas.Bool.{cases_eq}
 use Rattle.std.proofs.lemmas.List.Elements.{All-nil}
 use Rattle.serde_json.specs.Data.{Data}
 use Rattle.vr_json.specs.declared.fault.Fault.{Fault}
@@ -11,8 +10,8 @@ use Rattle.vr_json.specs.declared.fault.ReadFail.{ReadFail}
 use Rattle.vr_json.specs.Reading.{Answers}
 use Rattle.vr_model.specs.tables.Numbers.{below}
 use Rattle.vr_model.specs.routes.Routes.{is_distinct}
-use Rattle.vr_model.specs.tables.Tables.{dimension_at, no_evaluator}
-use Rattle.vr_model.specs.tables.ModelRules.{has_negative_cost, has_large_entry, is_large, goes_back, cannot_save}
+use Rattle.vr_model.specs.tables.Tables.{dimension_at}
+use Rattle.vr_model.specs.tables.ModelRules.{has_negative_cost, has_large_entry, goes_back, cannot_save}
 use Rattle.vr_model.specs.tables.WellFormed.{HasLength, IsMatrix, IsVehicle, IsDimension, IsAllowed, IsSearch, IsWellFormed, are_distinct_names}
 use Rattle.vr_model.specs.declared.records.Model.{Model}
 use Rattle.vr_model.specs.declared.records.Matrix.{Matrix}
