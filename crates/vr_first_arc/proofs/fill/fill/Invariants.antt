@@ -1,0 +1,13 @@
+use Rattle.std.proofs.Common.{◌≡◌, ◌-◌, length}
+use Rattle.vr_model.specs.first.PathCheapestArc.{filled}
+use Rattle.vr_rules.specs.Placing.{AreBuilt, AreMarks}
+use Rattle.vr_first_arc.proofs.fill.fill.Given as goal
+
+-- what is filled from here with the steps that are left is what is filled from the start with all of them
+abbrev pub invariant-loop-step : goal.invariant-loop-step
+invariant-loop-step l = record {
+  fills : filled l.model l.v (length l.candidates - l._step) l.lists ≡ filled l.model l.v (length l.candidates) l.initial.lists;
+  count : length l.lists ≡ length l.initial.lists;
+  built : AreBuilt l.model l.lists;
+  marked : AreMarks l.model.nodes l.lists l.marks;
+}

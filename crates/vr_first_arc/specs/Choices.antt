@@ -1,0 +1,59 @@
+-- What may be appended next, as code compares it.
+use Rattle.std.specs.Prelude.{◌≡◌, ℕ, ◌&&◌, Bool, false, List, [], ◌∷◌, ◌++◌, ℤ, pos, IsTrue, Option, cond, fold, length}
+use Rattle.std.specs.List.{list_all}
+use Rattle.vr_model.specs.tables.Numbers.{below}
+use Rattle.vr_model.specs.tables.Tables.{is_visit, arc_cost, vehicle_at}
+use Rattle.vr_model.specs.routes.Routes.{is_active, is_distinct, is_empty}
+use Rattle.vr_model.specs.routes.Rules.{is_open, is_route_open}
+use Rattle.vr_model.specs.first.Choosing.{better}
+use Rattle.vr_model.specs.first.Items.{first_node, last_node, items}
+use Rattle.vr_model.specs.first.PathCheapestArc.{appended, filled}
+use Rattle.vr_model.specs.declared.records.Model.{Model}
+use Rattle.vr_rules.specs.declared.items.Item.{Item}
+use Rattle.vr_rules.specs.declared.items.Candidate.{Candidate}
+use Rattle.vr_rules.specs.Placing.{nodes_of, has_room, is_marked, IsItem}
+use Rattle.vr_first_arc.specs.declared.choice.Choice.{Choice}
+
+-- what a choice is compared by: the class, the cost of the arc, the number
+abbrev pub key_of : Choice → List ℤ
+key_of choice = pos choice.class ∷ choice.cost ∷ pos (first_node (nodes_of choice.item)) ∷ []
+
+-- the item of a choice
+abbrev pub item_of_choice : Choice → Item
+item_of_choice choice = choice.item
+
+-- the nodes of a choice
+abbrev pub nodes_of_choice : Choice → List ℕ
+nodes_of_choice choice = nodes_of choice.item
+
+-- where the next arc begins: at the last visit of the list, at the start of vehicle v where it is empty
+abbrev pub tail : Model → ℕ → List ℕ → ℕ
+tail model v list = cond (is_empty list) (vehicle_at model v).start (last_node list)
+
+-- the choice of a candidate behind a node
+abbrev pub choice_of : Model → ℕ → ℕ → Candidate → Choice
+choice_of model v at candidate = record { item = candidate.item; class = candidate.class; cost = arc_cost model v at (first_node (nodes_of candidate.item)) }
+
+-- the longer list of vehicle v is open, and the groups have room for the item
+abbrev pub may_append : Model → ℕ → List ℕ → List Bool → Item → Bool
+may_append model v list marks item = is_route_open model v (list ++ nodes_of item) && list_all (has_room marks item) model.groups
+
+-- a list may be read with nodes at its end: they are visits, and none stands twice
+pub record IsLonger (model : Model) (list nodes : List ℕ) : Type 0 where
+  pub visits : IsTrue (list_all (is_visit model) (list ++ nodes))
+  pub distinct : IsTrue (is_distinct (list ++ nodes))
+
+-- an item that may be appended to the list of vehicle v: it stands in no list, and the lists stay open
+pub record MayBeAppended (model : Model) (lists : List (List ℕ)) (v : ℕ) (item : Item) : Type 0 where
+  pub is_item : IsItem model item
+  pub inactive : is_active lists (first_node (nodes_of item)) ≡ false
+  pub stays_open : IsTrue (is_open model (appended lists v (nodes_of item)))
+
+-- the better of the best choice so far and a candidate, which counts only where its first node is not marked
+abbrev pub chosen_beside : Model → ℕ → List ℕ → List Bool → Candidate → Option Choice → Option Choice
+chosen_beside model v list marks candidate best = let next = choice_of model v (tail model v list) candidate in
+    cond (is_marked marks (first_node (nodes_of candidate.item))) best (cond (may_append model v list marks candidate.item) (better key_of best next) best)
+
+-- the lists of the first vehicles are filled in turn
+abbrev pub all_filled : Model → ℕ → List (List ℕ) → List (List ℕ)
+all_filled model count lists = fold (λ lists v. filled model v (length (items model)) lists) lists (below count)

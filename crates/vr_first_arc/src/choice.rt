@@ -1,0 +1,43 @@
+//! What may be appended next, and which of two choices comes first.
+
+ghost use Rattle.std.specs.Prelude.{◌≡◌, option_map};
+ghost use Rattle.vr_model.specs.tables.Numbers.{is_lex_less};
+ghost use Rattle.vr_rules.specs.Placing.{improves as improves_by};
+ghost use Rattle.vr_first_arc.specs.Choices.{key_of, item_of_choice};
+
+use vr_rules::Item;
+
+/// An item that may be next, its class, and the cost of the arc to its first node.
+#[derive(Clone, Copy)]
+pub(crate) struct Choice {
+    pub(crate) item: Item,
+    pub(crate) class: u32,
+    pub(crate) cost: i64,
+}
+
+// Whether a choice comes before another: by class, then by cost, then by number.
+fn comes_before(one: Choice, other: Choice) -> bool
+    ensures { result ≡ is_lex_less (key_of one) (key_of other) }
+{
+    let (number, others) = (one.item.number(), other.item.number());
+    one.class < other.class
+        || (one.class <= other.class
+            && (one.cost < other.cost || (one.cost <= other.cost && number < others)))
+}
+
+/// Whether a choice is better than the best so far, or the first.
+pub(crate) fn improves(best: Option<Choice>, next: Choice) -> bool
+    ensures { result ≡ improves_by key_of best next }
+{
+    match best {
+        Some(best) => comes_before(next, best),
+        None => true,
+    }
+}
+
+/// The item of a choice, where there is one.
+pub(crate) fn item_of(best: Option<Choice>) -> Option<Item>
+    ensures { result ≡ option_map item_of_choice best }
+{
+    best.map(|choice| choice.item)
+}

@@ -1,0 +1,42 @@
+//! The first solution.
+
+ghost use Rattle.std.specs.Prelude.{◌≡◌, Some, None, cond, IfOk, IfSome};
+ghost use Rattle.vr_model.specs.first.PathCheapestArc.{path_cheapest_arc};
+ghost use Rattle.vr_model.specs.routes.Rules.{is_valid};
+ghost use Rattle.vr_model.specs.tables.Tables.{visits};
+ghost use Rattle.vr_model.specs.tables.WellFormed.{IsWellFormed};
+ghost use Rattle.vr_rules.specs.Placing.{lists_in, AreBuilt};
+
+use crate::fill::fill_all;
+use std::alloc::Global;
+use vr_model::{Model, NoMemory, Seq};
+use vr_routes::Routes;
+use vr_rules::{candidates, complete_routes, empty_lists};
+
+// The lists at which the construction ends.
+fn filled_lists(alloc: Global, model: &Model) -> Result<Vec<Seq<u32>>, NoMemory>
+    requires well_formed { IsWellFormed model.now }
+    ensures lists { IfOk result (λ lists. lists.items ≡ path_cheapest_arc model.now) }
+    ensures built { IfOk result (λ lists. AreBuilt model.now lists.items) }
+{
+    let candidates = candidates(alloc, model)?;
+    let mut lists = empty_lists(alloc, model)?;
+    let mut marks = vec![in alloc; false; model.nodes as usize]?;
+    fill_all(alloc, model, &candidates, &mut lists, &mut marks)?;
+    Ok(lists)
+}
+
+/// The first solution of a model (`PATH_CHEAPEST_ARC` in OR-Tools): vehicle after vehicle, items are appended to its list
+/// as long as the lists stay open, each time the item of the least class, and of those the one to which the arc costs
+/// least, and of those the one of the least number.
+///
+/// `None` exactly where the lists at which this ends are not valid. `NoMemory` comes only where memory is refused.
+pub fn first(alloc: Global, model: &Model) -> Result<Option<Routes>, NoMemory>
+    requires well_formed { IsWellFormed model.now }
+    ensures first { IfOk result (λ first. lists_in first ≡ cond (is_valid model.now (path_cheapest_arc model.now)) (Some (path_cheapest_arc model.now)) None) }
+    ensures visits { IfOk result (λ first. IfSome first (λ routes. routes.visits ≡ visits model.now)) }
+{
+    let lists = filled_lists(alloc, model)?;
+    let routes = complete_routes(alloc, model, &lists)?;
+    Ok(routes)
+}

@@ -1,0 +1,56 @@
+-- Choices that cannot be better than the best so far.
+use Rattle.std.proofs.Common.{◌≡◌, ◌∙◌, ◌≤◌, ℕ, suc, List, [], ◌∷◌, Bool, true, false, cond, Option, Some, None, ℤ, pos, ◌≤ℤ◌, ◌+ℤ◌, refl, ap, sym, subst, inl, inr, arith, length}
+use Rattle.std.specs.Prelude.{◌&&◌, ◌||◌, ◌==◌, fold, int_lt, int_le, nat_lt, nat_le}
+use Rattle.std.proofs.lemmas.Int.{ints}
+use Rattle.std.proofs.lemmas.Bool.{eqb-true}
+use Rattle.vr_model.specs.declared.records.Model.{Model}
+use Rattle.vr_model.specs.tables.Numbers.{is_lex_less, from_to}
+use Rattle.vr_model.specs.routes.Rules.{is_route_open}
+use Rattle.vr_model.specs.tables.Tables.{arc_cost}
+use Rattle.vr_model.proofs.tables.Members.{In, from_map, of_from_to}
+use Rattle.vr_rules.specs.Placing.{improves}
+use Rattle.vr_rules.proofs.LazyLeast.{untested}
+use Rattle.vr_first_insert.specs.declared.choice.Choice.{Choice}
+use Rattle.vr_first_insert.specs.Increases.{arc_at, detour, node_before, node_behind, visit_increase, pair_increase}
+use Rattle.vr_first_insert.specs.Placings.{key_of, tail_key, may_improve, placed, weigh, IsLeast}
+use Rattle.vr_first_insert.proofs.InsertLemmas.{deliveries}
+
+not-before : (n c : ℕ) (i l b : ℤ) (tail : Bool) → (nat_lt n c || (nat_le n c && int_le l b)) ≡ false → l ≤ℤ i
+    → (int_lt (pos n) (pos c) || (int_le (pos n) (pos c) && (int_lt i b || (int_le i b && tail)))) ≡ false
+not-before n c i l b tail h low = Prim.grind arith
+
+-- a choice of the class that adds no less
+pub none-improves : (best : Option Choice) (class : ℕ) (least : ℤ) → may_improve best class least ≡ false → (next : Choice) → next.class ≡ class → least ≤ℤ next.increase → improves key_of best next ≡ false
+none-improves None class least h next same low = absurd (cc)
+none-improves (Some b) class least h next same low =
+    not-before next.class b.class next.increase least b.increase (is_lex_less (tail_key next) (tail_key b)) (ap (λ n. nat_lt n b.class || (nat_le n b.class && int_le least b.increase)) same ∙ h) low
+
+-- choices none of which is better
+pub passed-over : (model : Model) (list : List ℕ) (best : Option Choice) (choices : List Choice) → ((choice : Choice) → In choices choice → improves key_of best choice ≡ false) → best ≡ fold (weigh model list) best choices
+passed-over model list best [] h = refl
+passed-over model list best (c ∷ cs) h =
+    let here : best ≡ weigh model list best c = untested key_of best c (is_route_open model c.vehicle (placed list c.placing)) (h c (inl refl)) in
+    passed-over model list best cs (λ d there. h d (inr there)) ∙ ap (λ b. fold (weigh model list) b cs) here
+
+-- deliveries none of which is better
+pub deliveries-passed_over : (model : Model) (v : ℕ) (list : List ℕ) (class pickup delivery s : ℕ) (best : Option Choice) (least : ℤ) → ((t : ℕ) → t ≤ length list → least ≤ℤ pair_increase model v list pickup delivery s t)
+    → may_improve best class least ≡ false → best ≡ fold (weigh model list) best (deliveries model v list class pickup delivery s)
+deliveries-passed_over model v list class pickup delivery s best least low h =
+    passed-over model list best (deliveries model v list class pickup delivery s) (λ choice there.
+    from_map _ (from_to s (suc (length list))) choice there (λ t t_in is.
+    let b = of_from_to s (suc (length list)) t t_in in
+    let high = b.1 in
+    none-improves best class least h choice (ap (λ c. c.class) is) (subst (λ x. least ≤ℤ x) (sym (ap (λ c. c.increase) is)) (low t (omega (arith, high))))))
+
+-- the pair at each place of its delivery
+pub least-apart : (model : Model) (v : ℕ) (list : List ℕ) (pickup delivery s : ℕ) (least together result : ℤ) → IsLeast model v list delivery least → together ≡ pair_increase model v list pickup delivery s s
+    → result ≤ℤ together → result ≤ℤ (visit_increase model v list pickup s +ℤ least) → (t : ℕ) → t ≤ length list → result ≤ℤ pair_increase model v list pickup delivery s t
+least-apart model v list pickup delivery s least together result is_least same below_one below_two t within = by (s == t) refl
+  where
+    by : (b : Bool) → (s == t) ≡ b → result ≤ℤ pair_increase model v list pickup delivery s t
+    by true e = subst (λ t. result ≤ℤ pair_increase model v list pickup delivery s t) (eqb-true s t e) (subst (λ x. result ≤ℤ x) same below_one)
+    by false e =
+        let apart : pair_increase model v list pickup delivery s t ≡ (visit_increase model v list pickup s +ℤ visit_increase model v list delivery t) =
+        ap (λ b. cond b (arc_cost model v (node_before model v list s) pickup +ℤ detour model v pickup delivery (node_behind model v list s) (arc_at model v list s)) (visit_increase model v list pickup s +ℤ visit_increase model v list delivery t)) e in
+        let low = is_least t within in
+        subst (λ x. result ≤ℤ x) (sym apart) (omega (arith, ints, below_two, low))

@@ -1,0 +1,23 @@
+use Rattle.std.proofs.Common.{◌≡◌, ◌∙◌, suc, ap, sym, arith, length}
+use Rattle.std.specs.Prelude.{fold}
+use Rattle.vr_model.specs.tables.Numbers.{below, each}
+use Rattle.vr_model.proofs.tables.Ranges.{below-more}
+use Rattle.vr_first_insert.specs.Placings.{weigh}
+use Rattle.vr_first_insert.proofs.InsertLemmas.{deliveries, fold-each}
+use Rattle.vr_first_insert.proofs.search.best_pair.Goals as goal
+
+pub loop-s-preserved : goal.loop-s-preserved
+loop-s-preserved c =
+    let model = c.args.model.now in
+    let list = c.args.list.now in
+    let f = deliveries model c.args.v list c.args.class c.args.pickup c.args.delivery in
+    c.in_ok-best.ensures ∙ ap (λ best. fold (weigh model list) best (f c.loop-s.s)) c.loop-s.invariant
+    ∙ sym (fold-each (weigh model list) c.args.best f (below c.loop-s.s) c.loop-s.s) ∙ sym (ap (λ ks. fold (weigh model list) c.args.best (each ks f)) (below-more c.loop-s.s))
+
+pub returns : goal.returns
+returns c =
+    let model = c.args.model.now in
+    let list = c.args.list.now in
+    let f = deliveries model c.args.v list c.args.class c.args.pickup c.args.delivery in
+    let end : c.loop-s.s ≡ suc (length list) = omega arith in
+    c.loop-s.invariant ∙ ap (λ n. fold (weigh model list) c.args.best (each (below n) f)) end

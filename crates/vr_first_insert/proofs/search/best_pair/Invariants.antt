@@ -1,0 +1,10 @@
+use Rattle.std.proofs.Common.{◌≡◌}
+use Rattle.std.specs.Prelude.{fold}
+use Rattle.vr_model.specs.tables.Numbers.{below, each}
+use Rattle.vr_first_insert.specs.Placings.{weigh}
+use Rattle.vr_first_insert.proofs.InsertLemmas.{deliveries}
+use Rattle.vr_first_insert.proofs.search.best_pair.Given as goal
+
+-- the best beside the places of the pickup so far
+abbrev pub invariant-loop-s : goal.invariant-loop-s
+invariant-loop-s l = l.best ≡ fold (weigh l.model l.list) l.initial.best (each (below l.s) (deliveries l.model l.v l.list l.class l.pickup l.delivery))

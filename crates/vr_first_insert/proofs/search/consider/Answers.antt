@@ -1,0 +1,18 @@
+use Rattle.std.proofs.Common.{◌∙◌, ap, arith}
+use Rattle.std.specs.List.{list_all}
+use Rattle.vr_model.specs.tables.Tables.{is_visit}
+use Rattle.vr_model.specs.routes.Routes.{is_distinct}
+use Rattle.vr_rules.proofs.RouteLemmas.{visits-few}
+use Rattle.vr_first_insert.proofs.PlacedLemmas.{placed-visits, placed-distinct}
+use Rattle.vr_first_insert.proofs.search.consider.Goals as goal
+
+pub placed-requires-clause-few : goal.placed-requires-clause-few
+placed-requires-clause-few c = omega (arith, visits-few c.args.model.now c.args.list.now c.requires.may_hold.visits c.requires.may_hold.distinct, c.requires.well_formed.number_of_nodes.1)
+
+pub route_open-requires-clause-visits : goal.route_open-requires-clause-visits
+route_open-requires-clause-visits c =
+    ap (list_all (is_visit c.args.model.now)) (c.deref.ensures.value ∙ c.in_ok-longer.ensures) ∙ placed-visits c.args.model.now c.args.list.now c.args.next.placing c.requires.within c.requires.may_hold
+
+pub route_open-requires-clause-distinct : goal.route_open-requires-clause-distinct
+route_open-requires-clause-distinct c =
+    ap is_distinct (c.deref.ensures.value ∙ c.in_ok-longer.ensures) ∙ placed-distinct c.args.model.now c.args.list.now c.args.next.placing c.requires.within c.requires.may_hold

@@ -1,0 +1,12 @@
+use Rattle.std.proofs.Common.{◌≡◌, ◌-◌, length}
+use Rattle.vr_model.specs.first.CheapestInsertion.{rebuilt}
+use Rattle.vr_rules.specs.Placing.{AreBuilt, AreMarks}
+use Rattle.vr_first_insert.proofs.search.insert_all.Given as goal
+
+-- what is rebuilt from here with the steps that are left is what is rebuilt from the start with all of them
+abbrev pub invariant-loop-step : goal.invariant-loop-step
+invariant-loop-step l = record {
+  rebuilds : rebuilt l.model (length l.candidates - l._step) l.lists ≡ rebuilt l.model (length l.candidates) l.initial.lists;
+  built : AreBuilt l.model l.lists;
+  marked : AreMarks l.model.nodes l.lists l.marks;
+}

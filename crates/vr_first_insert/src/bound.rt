@@ -1,0 +1,54 @@
+//! What no place of a list can do better than.
+
+ghost use Rattle.std.specs.Prelude.{◌≡◌, ℕ, ◌<◌, ◌≤◌, ◌^◌, All, length, neg_ℤ, pos, ◌≤ℤ◌};
+ghost use Rattle.vr_model.specs.tables.WellFormed.{IsWellFormed};
+ghost use Rattle.vr_first_insert.specs.Increases.{pair_increase as pair_increase_of};
+ghost use Rattle.vr_first_insert.specs.Placings.{IsLeast};
+
+use crate::increase::{pair_increase, visit_increase};
+use vr_model::Model;
+
+/// The least that a visit adds to the list of vehicle `v`.
+pub(crate) fn least_visit(model: &Model, v: u32, list: &[u32], node: u32) -> i64
+    requires well_formed { IsWellFormed model.now }
+    requires vehicle { v < length model.now.vehicles }
+    requires nodes { All (λ node. node < model.now.nodes) list.now }
+    requires visit { node < model.now.nodes }
+    ensures least { IsLeast model.now v list.now node result }
+    ensures low { neg_ℤ (pos (2 ^ 40)) ≤ℤ result }
+    ensures high { result ≤ℤ pos (2 ^ 41) }
+{
+    let mut least = visit_increase(model, v, list, node, 0);
+    for t in 1..list.len() + 1 {
+        least = least.min(visit_increase(model, v, list, node, t));
+    }
+    least
+}
+
+/// What a pair adds at least with its pickup before place `s`, where the delivery alone adds `least` at least.
+pub(crate) fn least_behind(
+    model: &Model,
+    v: u32,
+    list: &[u32],
+    pickup: u32,
+    delivery: u32,
+    s: usize,
+    least: i64,
+) -> i64
+    requires well_formed { IsWellFormed model.now }
+    requires vehicle { v < length model.now.vehicles }
+    requires nodes { All (λ node. node < model.now.nodes) list.now }
+    requires pickup { pickup < model.now.nodes }
+    requires delivery { delivery < model.now.nodes }
+    requires within { s ≤ length list.now }
+    requires least { IsLeast model.now v list.now delivery least }
+    requires low { neg_ℤ (pos (2 ^ 40)) ≤ℤ least }
+    requires high { least ≤ℤ pos (2 ^ 41) }
+    ensures least { (t : ℕ) → t ≤ length list.now → result ≤ℤ pair_increase_of model.now v list.now pickup delivery s t }
+    ensures low { neg_ℤ (pos (2 ^ 41)) ≤ℤ result }
+    ensures high { result ≤ℤ pos (2 ^ 42) }
+{
+    let together = pair_increase(model, v, list, pickup, delivery, s, s);
+    let apart = visit_increase(model, v, list, pickup, s) + least;
+    together.min(apart)
+}

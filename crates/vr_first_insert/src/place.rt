@@ -1,0 +1,51 @@
+//! Lists with an item placed in them.
+
+ghost use Rattle.std.specs.Prelude.{◌≡◌, ◌<◌, ◌≤◌, IfOk, OnOk, length};
+ghost use Rattle.vr_model.specs.moves.Moves.{with_route};
+ghost use Rattle.vr_model.specs.routes.Routes.{route};
+ghost use Rattle.vr_first_insert.specs.Placings.{placed as placed_of, AreWithin};
+
+use crate::choice::Placing;
+use std::alloc::Global;
+use vr_model::{NoMemory, Seq};
+
+/// The list with an item placed in it.
+pub(crate) fn placed(alloc: Global, list: &[u32], placing: Placing) -> Result<Vec<u32>, NoMemory>
+    requires within { AreWithin list.now placing }
+    requires few { length list.now ≤ 1000 }
+    ensures { IfOk result (λ longer. longer.items ≡ placed_of list.now placing) }
+{
+    let mut longer = Vec::with_capacity(alloc, list.len() + 2)?;
+    match placing {
+        Placing::One(node, t) => {
+            longer.extend_from_slice(&list[..t as usize])?;
+            longer.push(node)?;
+            longer.extend_from_slice(&list[t as usize..])?;
+        }
+        Placing::Two(pickup, delivery, s, t) => {
+            longer.extend_from_slice(&list[..s as usize])?;
+            longer.push(pickup)?;
+            longer.extend_from_slice(&list[s as usize..t as usize])?;
+            longer.push(delivery)?;
+            longer.extend_from_slice(&list[t as usize..])?;
+        }
+    }
+    Ok(longer)
+}
+
+/// Places an item in a list among lists.
+pub(crate) fn place_in(
+    alloc: Global,
+    lists: &mut [Seq<u32>],
+    v: u32,
+    placing: Placing,
+) -> Result<(), NoMemory>
+    requires vehicle { v < length lists.now }
+    requires within { AreWithin (route lists.now v) placing }
+    requires few { length (route lists.now v) ≤ 1000 }
+    ensures { OnOk result (lists.new ≡ with_route lists.old v (placed_of (route lists.old v) placing)) }
+{
+    let longer = placed(alloc, lists[v as usize].as_slice(), placing)?;
+    lists[v as usize] = Seq::from(longer);
+    Ok(())
+}

@@ -1,0 +1,276 @@
+//! The insertion that is made next.
+
+ghost use Rattle.std.specs.Prelude.{◌≡◌, ℕ, suc, ◌<◌, ◌≤◌, All, false, fold, map, true, IfOk, IfSome, OnOk, length, neg_ℤ, option_map, pos, ◌^◌, ◌≤ℤ◌};
+ghost use Rattle.vr_model.specs.first.CheapestInsertion.{next_inserted, rebuilt};
+ghost use Rattle.vr_model.specs.first.Items.{first_node, items};
+ghost use Rattle.vr_model.specs.moves.Moves.{gaps};
+ghost use Rattle.vr_model.specs.tables.Numbers.{each, from_to};
+ghost use Rattle.vr_model.specs.routes.Routes.{route};
+ghost use Rattle.vr_model.specs.tables.WellFormed.{IsWellFormed};
+ghost use Rattle.vr_rules.specs.Placing.{nodes_of, AreBuilt, AreCandidates, AreMarks};
+ghost use Rattle.vr_rules.specs.declared.items.Item.TheVariants.{Visit, PickupAndDelivery};
+ghost use Rattle.vr_first_insert.specs.Placings.{best_beside, best_in, best_in_lists as best_in_lists_of, counts as counts_of, insertion_of, item_in, pair_choice, visit_choice, weigh, AreWithin, IsLeast, MayBeInserted, MayHold};
+
+use crate::bound::{least_behind, least_visit};
+use crate::choice::{Choice, Placing, improves, may_improve};
+use crate::increase::{pair_increase, visit_increase};
+use crate::place::{place_in, placed};
+use std::alloc::Global;
+use vr_model::{Model, NoMemory, Seq};
+use vr_rules::{Candidate, Item, groups_have_room, mark_item, route_open};
+
+// The better of the best so far and a choice in a list, which is tested only where it improves.
+fn consider(
+    alloc: Global,
+    model: &Model,
+    list: &[u32],
+    next: Choice,
+    best: Option<Choice>,
+) -> Result<Option<Choice>, NoMemory>
+    requires well_formed { IsWellFormed model.now }
+    requires vehicle { next.vehicle < length model.now.vehicles }
+    requires may_hold { MayHold model.now list.now (item_in next.placing) }
+    requires within { AreWithin list.now next.placing }
+    ensures { IfOk result (λ chosen. chosen ≡ weigh model.now list.now best next) }
+{
+    if !improves(best, next) {
+        return Ok(best);
+    }
+    let longer = placed(alloc, list, next.placing)?;
+    if route_open(alloc, model, next.vehicle, &longer)? {
+        Ok(Some(next))
+    } else {
+        Ok(best)
+    }
+}
+
+// The best beside a visit before each place of the list of vehicle `v`.
+fn best_visit(
+    alloc: Global,
+    model: &Model,
+    v: u32,
+    list: &[u32],
+    class: u32,
+    node: u32,
+    best: Option<Choice>,
+) -> Result<Option<Choice>, NoMemory>
+    requires well_formed { IsWellFormed model.now }
+    requires vehicle { v < length model.now.vehicles }
+    requires may_hold { MayHold model.now list.now (Visit node) }
+    ensures { IfOk result (λ chosen. chosen ≡ fold (weigh model.now list.now) best (map (visit_choice model.now v list.now class node) (gaps list.now))) }
+{
+    let mut best = best;
+    for t in 0..list.len() + 1 {
+        let next = Choice {
+            placing: Placing::One(node, t as u32),
+            class,
+            vehicle: v,
+            increase: visit_increase(model, v, list, node, t),
+        };
+        best = consider(alloc, model, list, next, best)?;
+    }
+    Ok(best)
+}
+
+// The best beside a pickup before place `s` and its delivery before each place from there on, where the delivery alone adds
+// `least` at least: then no place is looked at where none can be better.
+fn best_delivery(
+    alloc: Global,
+    model: &Model,
+    v: u32,
+    list: &[u32],
+    class: u32,
+    pickup: u32,
+    delivery: u32,
+    s: usize,
+    least: i64,
+    best: Option<Choice>,
+) -> Result<Option<Choice>, NoMemory>
+    requires well_formed { IsWellFormed model.now }
+    requires vehicle { v < length model.now.vehicles }
+    requires may_hold { MayHold model.now list.now (PickupAndDelivery pickup delivery) }
+    requires within { s ≤ length list.now }
+    requires least { IsLeast model.now v list.now delivery least }
+    requires low { neg_ℤ (pos (2 ^ 40)) ≤ℤ least }
+    requires high { least ≤ℤ pos (2 ^ 41) }
+    ensures { IfOk result (λ chosen. chosen ≡ fold (weigh model.now list.now) best (map (pair_choice model.now v list.now class pickup delivery s) (from_to s (suc (length list.now))))) }
+{
+    if !may_improve(
+        best,
+        class,
+        least_behind(model, v, list, pickup, delivery, s, least),
+    ) {
+        return Ok(best);
+    }
+    let mut best = best;
+    for t in s..list.len() + 1 {
+        let next = Choice {
+            placing: Placing::Two(pickup, delivery, s as u32, t as u32),
+            class,
+            vehicle: v,
+            increase: pair_increase(model, v, list, pickup, delivery, s, t),
+        };
+        best = consider(alloc, model, list, next, best)?;
+    }
+    Ok(best)
+}
+
+// The best beside a pair before each two places of the list of vehicle `v`.
+fn best_pair(
+    alloc: Global,
+    model: &Model,
+    v: u32,
+    list: &[u32],
+    class: u32,
+    pickup: u32,
+    delivery: u32,
+    best: Option<Choice>,
+) -> Result<Option<Choice>, NoMemory>
+    requires well_formed { IsWellFormed model.now }
+    requires vehicle { v < length model.now.vehicles }
+    requires may_hold { MayHold model.now list.now (PickupAndDelivery pickup delivery) }
+    ensures { IfOk result (λ chosen. chosen ≡ fold (weigh model.now list.now) best (each (gaps list.now) (λ s. map (pair_choice model.now v list.now class pickup delivery s) (from_to s (suc (length list.now)))))) }
+{
+    let least = least_visit(model, v, list, delivery);
+    let mut best = best;
+    for s in 0..list.len() + 1 {
+        best = best_delivery(
+            alloc, model, v, list, class, pickup, delivery, s, least, best,
+        )?;
+    }
+    Ok(best)
+}
+
+// The best beside an item in the list of vehicle `v`.
+fn best_in_list(
+    alloc: Global,
+    model: &Model,
+    v: u32,
+    list: &[u32],
+    candidate: Candidate,
+    best: Option<Choice>,
+) -> Result<Option<Choice>, NoMemory>
+    requires well_formed { IsWellFormed model.now }
+    requires vehicle { v < length model.now.vehicles }
+    requires may_hold { MayHold model.now list.now candidate.item }
+    ensures { IfOk result (λ chosen. chosen ≡ best_in model.now v list.now candidate best) }
+{
+    let class = candidate.class;
+    let best = match candidate.item {
+        Item::Visit(node) => best_visit(alloc, model, v, list, class, node, best)?,
+        Item::PickupAndDelivery(pickup, delivery) => best_pair(
+            alloc, model, v, list, class, pickup, delivery, best,
+        )?,
+    };
+    Ok(best)
+}
+
+// The best beside an item in each list.
+fn best_in_lists(
+    alloc: Global,
+    model: &Model,
+    lists: &[Seq<u32>],
+    candidate: Candidate,
+    best: Option<Choice>,
+) -> Result<Option<Choice>, NoMemory>
+    requires well_formed { IsWellFormed model.now }
+    requires vehicles { length lists.now ≡ length model.now.vehicles }
+    requires may_hold { (v : ℕ) → v < length lists.now → MayHold model.now (route lists.now v) candidate.item }
+    ensures { IfOk result (λ chosen. chosen ≡ best_in_lists_of model.now lists.now candidate (length lists.now) best) }
+{
+    let mut best = best;
+    for v in 0..lists.len() {
+        best = best_in_list(alloc, model, v as u32, lists[v].as_slice(), candidate, best)?;
+    }
+    Ok(best)
+}
+
+// Whether an item may count: its first node is not marked, and the groups have room for it.
+fn counts(model: &Model, marks: &[bool], candidate: Candidate) -> bool
+    requires well_formed { IsWellFormed model.now }
+    requires marks { length marks.now ≡ model.now.nodes }
+    requires first { first_node (nodes_of candidate.item) < model.now.nodes }
+    ensures { result ≡ counts_of model.now marks.now candidate }
+{
+    if marks[candidate.item.number() as usize] {
+        false
+    } else {
+        groups_have_room(model, marks, candidate.item)
+    }
+}
+
+// The best beside all insertions of a candidate.
+fn beside(
+    alloc: Global,
+    model: &Model,
+    lists: &[Seq<u32>],
+    marks: &[bool],
+    candidate: Candidate,
+    best: Option<Choice>,
+) -> Result<Option<Choice>, NoMemory>
+    requires well_formed { IsWellFormed model.now }
+    requires vehicles { length lists.now ≡ length model.now.vehicles }
+    requires marks { length marks.now ≡ model.now.nodes }
+    requires first { first_node (nodes_of candidate.item) < model.now.nodes }
+    requires may_hold { counts_of model.now marks.now candidate ≡ true → (v : ℕ) → v < length lists.now → MayHold model.now (route lists.now v) candidate.item }
+    ensures { IfOk result (λ chosen. chosen ≡ best_beside model.now lists.now marks.now candidate best) }
+{
+    if !counts(model, marks, candidate) {
+        return Ok(best);
+    }
+    let best = best_in_lists(alloc, model, lists, candidate, best)?;
+    Ok(best)
+}
+
+// The insertion to make next, if any may be made.
+fn next_insertion(
+    alloc: Global,
+    model: &Model,
+    candidates: &[Candidate],
+    marks: &[bool],
+    lists: &[Seq<u32>],
+) -> Result<Option<Choice>, NoMemory>
+    requires well_formed { IsWellFormed model.now }
+    requires candidates { AreCandidates model.now candidates.now }
+    requires built { AreBuilt model.now lists.now }
+    requires marks { AreMarks model.now.nodes lists.now marks.now }
+    ensures next { IfOk result (λ next. option_map insertion_of next ≡ next_inserted model.now lists.now) }
+    ensures may { IfOk result (λ next. IfSome next (MayBeInserted model.now lists.now)) }
+{
+    let mut best: Option<Choice> = None;
+    for &candidate in candidates {
+        best = beside(alloc, model, lists, marks, candidate, best)?;
+    }
+    Ok(best)
+}
+
+/// Inserts items into lists as long as one may be inserted: each time the insertion of the least class, increase, item,
+/// vehicle and places.
+///
+/// After want of memory nothing is said of the lists.
+pub(crate) fn insert_all(
+    alloc: Global,
+    model: &Model,
+    candidates: &[Candidate],
+    lists: &mut [Seq<u32>],
+    marks: &mut [bool],
+) -> Result<(), NoMemory>
+    requires well_formed { IsWellFormed model.now }
+    requires candidates { AreCandidates model.now candidates.now }
+    requires built { AreBuilt model.now lists.now }
+    requires marks { AreMarks model.now.nodes lists.now marks.now }
+    ensures rebuilt { OnOk result (lists.new ≡ rebuilt model.now (length (items model.now)) lists.old) }
+    ensures built { OnOk result (AreBuilt model.now lists.new) }
+    ensures marked { OnOk result (AreMarks model.now.nodes lists.new marks.new) }
+{
+    for _step in 0..candidates.len() {
+        match next_insertion(alloc, model, candidates, marks, lists)? {
+            Some(choice) => {
+                place_in(alloc, lists, choice.vehicle, choice.placing)?;
+                mark_item(marks, choice.placing.item());
+            }
+            None => return Ok(()),
+        }
+    }
+    Ok(())
+}

@@ -1,0 +1,35 @@
+//! Two routes to be joined, and which of two joins comes first.
+
+ghost use Rattle.std.specs.Prelude.{◌≡◌};
+ghost use Rattle.vr_model.specs.tables.Numbers.{is_lex_less};
+ghost use Rattle.vr_rules.specs.Placing.{improves as improves_by};
+ghost use Rattle.vr_first_savings.specs.Joins.{key_of};
+
+/// Two routes by their places, what joining them saves, and the nodes where they meet.
+#[derive(Clone, Copy)]
+pub(crate) struct Choice {
+    pub(crate) front: usize,
+    pub(crate) back: usize,
+    pub(crate) saving: i64,
+    pub(crate) last: u32,
+    pub(crate) first: u32,
+}
+
+// Whether a choice comes before another: the greater saving, then the lesser nodes.
+fn comes_before(one: Choice, other: Choice) -> bool
+    ensures { result ≡ is_lex_less (key_of one) (key_of other) }
+{
+    other.saving < one.saving
+        || (other.saving <= one.saving
+            && (one.last < other.last || (one.last <= other.last && one.first < other.first)))
+}
+
+/// Whether a choice is better than the best so far, or the first.
+pub(crate) fn improves(best: Option<Choice>, next: Choice) -> bool
+    ensures { result ≡ improves_by key_of best next }
+{
+    match best {
+        Some(best) => comes_before(next, best),
+        None => true,
+    }
+}

@@ -1,0 +1,132 @@
+//! The best join of two routes.
+
+ghost use Rattle.std.specs.Prelude.{◌≡◌, ◌<◌, ◌++◌, ◌^◌, IfOk, IfSome, option_map, length, neg_ℤ, pos, ◌≤ℤ◌};
+ghost use Rattle.vr_model.specs.first.Choosing.{least_by};
+ghost use Rattle.vr_model.specs.routes.Routes.{route};
+ghost use Rattle.vr_model.specs.first.SavingsJoins.{join_key, joins};
+ghost use Rattle.vr_model.specs.tables.WellFormed.{IsWellFormed};
+ghost use Rattle.vr_first_savings.specs.Joins.{best_behind as best_behind_of, choice_at as choice_at_of, join_of, saved as saved_of, weigh, AreApart, MayBeJoined};
+
+use crate::choice::{Choice, improves};
+use std::alloc::Global;
+use vr_model::{Model, NoMemory, Seq};
+use vr_rules::route_open;
+
+// What it saves to drive from one node to another, and not over the end and the start.
+fn saved(model: &Model, last: u32, first: u32) -> i64
+    requires well_formed { IsWellFormed model.now }
+    requires last { last < model.now.nodes }
+    requires first { first < model.now.nodes }
+    ensures value { result ≡ saved_of model.now last first }
+    ensures low { neg_ℤ (pos (2 ^ 40)) ≤ℤ result }
+    ensures high { result ≤ℤ pos (2 ^ 41) }
+{
+    let ends = model.vehicles.get(0);
+    model.arc_cost(0, last, ends.end) + model.arc_cost(0, ends.start, first)
+        - model.arc_cost(0, last, first)
+}
+
+// The choice of two routes.
+fn choice_at(model: &Model, routes: &[Seq<u32>], i: usize, j: usize) -> Choice
+    requires well_formed { IsWellFormed model.now }
+    requires apart { AreApart model.now routes.now }
+    requires front { i < length routes.now }
+    requires back { j < length routes.now }
+    ensures { result ≡ choice_at_of model.now routes.now i j }
+{
+    let front = routes[i].as_slice();
+    let last = front[front.len() - 1];
+    let first = routes[j].as_slice()[0];
+    Choice {
+        front: i,
+        back: j,
+        saving: saved(model, last, first),
+        last,
+        first,
+    }
+}
+
+/// One route behind another.
+pub(crate) fn joined(
+    alloc: Global,
+    routes: &[Seq<u32>],
+    choice: Choice,
+) -> Result<Vec<u32>, NoMemory>
+    requires front { choice.front < length routes.now }
+    requires back { choice.back < length routes.now }
+    ensures { IfOk result (λ joined. joined.items ≡ (route routes.now choice.front ++ route routes.now choice.back)) }
+{
+    let front = routes[choice.front].as_slice();
+    let back = routes[choice.back].as_slice();
+    let mut joined = Vec::with_capacity(alloc, front.len() + back.len())?;
+    joined.extend_from_slice(front)?;
+    joined.extend_from_slice(back)?;
+    Ok(joined)
+}
+
+// The better of the best so far and a choice, which is tested only where it improves.
+fn consider(
+    alloc: Global,
+    model: &Model,
+    routes: &[Seq<u32>],
+    next: Choice,
+    best: Option<Choice>,
+) -> Result<Option<Choice>, NoMemory>
+    requires well_formed { IsWellFormed model.now }
+    requires apart { AreApart model.now routes.now }
+    requires front { next.front < length routes.now }
+    requires back { next.back < length routes.now }
+    ensures { IfOk result (λ chosen. chosen ≡ weigh model.now routes.now best next) }
+{
+    if next.front == next.back {
+        return Ok(best);
+    }
+    if !improves(best, next) {
+        return Ok(best);
+    }
+    let longer = joined(alloc, routes, next)?;
+    if route_open(alloc, model, 0, &longer)? {
+        Ok(Some(next))
+    } else {
+        Ok(best)
+    }
+}
+
+// The best beside the joins of one route with each.
+fn best_behind(
+    alloc: Global,
+    model: &Model,
+    routes: &[Seq<u32>],
+    i: usize,
+    best: Option<Choice>,
+) -> Result<Option<Choice>, NoMemory>
+    requires well_formed { IsWellFormed model.now }
+    requires apart { AreApart model.now routes.now }
+    requires front { i < length routes.now }
+    ensures { IfOk result (λ chosen. chosen ≡ best_behind_of model.now routes.now i (length routes.now) best) }
+{
+    let mut best = best;
+    for j in 0..routes.len() {
+        let next = choice_at(model, routes, i, j);
+        best = consider(alloc, model, routes, next, best)?;
+    }
+    Ok(best)
+}
+
+/// The best join of two routes, if any may be joined.
+pub(crate) fn best_join(
+    alloc: Global,
+    model: &Model,
+    routes: &[Seq<u32>],
+) -> Result<Option<Choice>, NoMemory>
+    requires well_formed { IsWellFormed model.now }
+    requires apart { AreApart model.now routes.now }
+    ensures best { IfOk result (λ best. option_map (join_of routes.now) best ≡ least_by (join_key model.now) (joins model.now routes.now)) }
+    ensures may { IfOk result (λ best. IfSome best (MayBeJoined model.now routes.now)) }
+{
+    let mut best: Option<Choice> = None;
+    for i in 0..routes.len() {
+        best = best_behind(alloc, model, routes, i, best)?;
+    }
+    Ok(best)
+}

@@ -1,0 +1,91 @@
+//! Routes are joined as long as the best join is wanted.
+
+ghost use Rattle.std.specs.Prelude.{◌≡◌, ◌<◌, ◌++◌, ◌==◌, ◌||◌, [], ◌∷◌, All, cond, int_lt, length, nat_lt, not, pos, IfOk, OnOk};
+ghost use Rattle.vr_model.specs.first.Items.{first_node};
+ghost use Rattle.vr_model.specs.routes.Routes.{route};
+ghost use Rattle.vr_model.specs.first.SavingsJoins.{joined as joined_by, merged as merged_of};
+ghost use Rattle.vr_model.specs.tables.WellFormed.{IsWellFormed};
+ghost use Rattle.vr_first_savings.specs.Joins.{join_of, AreApart};
+
+use crate::choice::Choice;
+use crate::joins::{best_join, joined};
+use std::alloc::Global;
+use vr_model::{Model, NoMemory, Seq};
+
+// Puts a copy of a route behind others, where its first node is neither of two.
+fn keep_other(
+    alloc: Global,
+    route: &[u32],
+    front: u32,
+    back: u32,
+    kept: &mut Vec<Seq<u32>>,
+) -> Result<(), NoMemory>
+    requires { 0 < length route.now }
+    ensures { OnOk result (kept.new.items ≡ kept.old.items ++ cond (not ((first_node route.now == front) || (first_node route.now == back))) (route.now ∷ []) []) }
+{
+    let first = route[0];
+    if first == front || first == back {
+        return Ok(());
+    }
+    kept.push(Seq::from(Vec::from_slice(alloc, route)?))?;
+    Ok(())
+}
+
+// The first node of a route.
+fn first_of(routes: &[Seq<u32>], i: usize) -> u32
+    requires within { i < length routes.now }
+    requires some { All (λ route. 0 < length route) routes.now }
+    ensures { result ≡ first_node (route routes.now i) }
+{
+    routes[i].as_slice()[0]
+}
+
+// The routes after a join: the joined route, then the others in order.
+fn join(alloc: Global, routes: &[Seq<u32>], choice: Choice) -> Result<Vec<Seq<u32>>, NoMemory>
+    requires front { choice.front < length routes.now }
+    requires back { choice.back < length routes.now }
+    requires some { All (λ route. 0 < length route) routes.now }
+    ensures { IfOk result (λ after. after.items ≡ joined_by routes.now (join_of routes.now choice)) }
+{
+    let front = first_of(routes, choice.front);
+    let back = first_of(routes, choice.back);
+    let mut after = Vec::with_capacity(alloc, routes.len())?;
+    after.push(Seq::from(joined(alloc, routes, choice)?))?;
+    for route in routes {
+        keep_other(alloc, route.as_slice(), front, back, &mut after)?;
+    }
+    Ok(after)
+}
+
+// Whether a join saves, or there are more routes than vehicles.
+fn is_wanted(model: &Model, routes: usize, choice: Choice) -> bool
+    ensures { result ≡ (int_lt (pos 0) choice.saving || nat_lt (length model.now.vehicles) routes) }
+{
+    0 < choice.saving || model.vehicles.len() < routes
+}
+
+/// Joins routes as long as the best join saves, or there are more routes than vehicles.
+pub(crate) fn merged(
+    alloc: Global,
+    model: &Model,
+    routes: Vec<Seq<u32>>,
+) -> Result<Vec<Seq<u32>>, NoMemory>
+    requires well_formed { IsWellFormed model.now }
+    requires apart { AreApart model.now routes.items }
+    ensures merged { IfOk result (λ after. after.items ≡ merged_of model.now (length routes.items) routes.items) }
+    ensures apart { IfOk result (λ after. AreApart model.now after.items) }
+{
+    let mut routes = routes;
+    for _step in 0..routes.len() {
+        match best_join(alloc, model, &routes)? {
+            Some(choice) => {
+                if !is_wanted(model, routes.len(), choice) {
+                    return Ok(routes);
+                }
+                routes = join(alloc, &routes, choice)?;
+            }
+            None => return Ok(routes),
+        }
+    }
+    Ok(routes)
+}

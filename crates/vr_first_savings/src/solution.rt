@@ -1,0 +1,49 @@
+//! The first solution.
+
+ghost use Rattle.std.specs.Prelude.{◌≡◌, Some, None, cond, IfOk, IfSome, IsTrue};
+ghost use Rattle.vr_model.specs.routes.Routes.{are_lists};
+ghost use Rattle.vr_model.specs.routes.Rules.{is_valid};
+ghost use Rattle.vr_model.specs.first.SavingsJoins.{savings};
+ghost use Rattle.vr_model.specs.tables.Tables.{visits};
+ghost use Rattle.vr_model.specs.tables.WellFormed.{IsWellFormed};
+ghost use Rattle.vr_rules.specs.Placing.{lists_in};
+
+use crate::merge::merged;
+use crate::ranks::{lists_of, ranked};
+use crate::singles::single_routes;
+use std::alloc::Global;
+use vr_model::{Model, NoMemory, Seq};
+use vr_routes::Routes;
+use vr_rules::valid;
+
+// The lists at which the construction ends.
+fn lists_by_savings(alloc: Global, model: &Model) -> Result<Vec<Seq<u32>>, NoMemory>
+    requires well_formed { IsWellFormed model.now }
+    ensures savings { IfOk result (λ lists. lists.items ≡ savings model.now) }
+    ensures lists { IfOk result (λ lists. IsTrue (are_lists model.now lists.items)) }
+{
+    let routes = merged(alloc, model, single_routes(alloc, model)?)?;
+    let lists = lists_of(alloc, model, ranked(alloc, model, &routes)?)?;
+    Ok(lists)
+}
+
+/// The first solution of a model by savings (`SAVINGS` in OR-Tools, after Clarke and Wright): each item begins as a route
+/// of its own, and routes are joined where that saves most. The model asks for this construction, so its vehicles are
+/// alike.
+///
+/// `None` exactly where the lists at which this ends are not valid. `NoMemory` comes only where memory is refused.
+pub fn first(alloc: Global, model: &Model) -> Result<Option<Routes>, NoMemory>
+    requires well_formed { IsWellFormed model.now }
+    ensures first { IfOk result (λ first. lists_in first ≡ cond (is_valid model.now (savings model.now)) (Some (savings model.now)) None) }
+    ensures visits { IfOk result (λ first. IfSome first (λ routes. routes.visits ≡ visits model.now)) }
+{
+    let lists = lists_by_savings(alloc, model)?;
+    let Some(routes) = Routes::from_lists(alloc, model, &lists)? else {
+        return Ok(None);
+    };
+    if valid(alloc, model, &routes)? {
+        Ok(Some(routes))
+    } else {
+        Ok(None)
+    }
+}
