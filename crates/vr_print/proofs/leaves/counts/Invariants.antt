@@ -1,0 +1,7 @@
+use Rattle.std.proofs.Common.{◌≡◌, map, take}
+use Rattle.serde_json.specs.View.{view}
+use Rattle.vr_print.specs.Numbers.{count}
+use Rattle.vr_print.proofs.leaves.counts.Given as goal
+
+abbrev pub invariant-loop-node : goal.invariant-loop-node
+invariant-loop-node l = map view l.items.items ≡ map count (take l.node-index l.nodes)

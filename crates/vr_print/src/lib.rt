@@ -1,0 +1,11 @@
+//! The text of a solution: its tree, and its line.
+#![tactic(auto)]
+
+mod leaves;
+mod plans;
+mod routes;
+mod solution;
+#[cfg(test)]
+mod tests;
+
+pub use solution::{solution_line, solution_tree};

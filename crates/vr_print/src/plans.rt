@@ -1,0 +1,114 @@
+//! The trees of plans.
+
+ghost use Rattle.std.specs.Prelude.{◌≡◌, ◌<◌, IfOk, IsTrue, false, length, unwrap_or};
+ghost use Rattle.std.specs.List.{list_all};
+ghost use Rattle.serde_json.specs.View.{view};
+ghost use Rattle.vr_model.specs.routes.Costs.{assigned, no_plan};
+ghost use Rattle.vr_model.specs.routes.Routes.{are_lists, is_distinct, is_empty, route};
+ghost use Rattle.vr_model.specs.schedules.Choices.{chosen};
+ghost use Rattle.vr_model.specs.schedules.Lines.{line};
+ghost use Rattle.vr_model.specs.tables.Tables.{is_visit};
+ghost use Rattle.vr_model.specs.tables.WellFormed.{IsWellFormed};
+ghost use Rattle.vr_plan.specs.Plans.{seen};
+ghost use Rattle.vr_print.specs.Solution as solution;
+
+use crate::leaves::{text, wholes};
+use serde_json::Value;
+use std::alloc::Global;
+use vr_json::Tree;
+use vr_model::{Dimension, Model, NoMemory, Seq};
+use vr_plan::{Plan, schedule};
+use vr_routes::Routes;
+use vr_steps::Line;
+
+// The plan that is chosen for a list of vehicle `v` in dimension `d`, empty where the list has no schedule.
+fn chosen_plan(alloc: Global, model: &Model, d: u32, v: u32, list: &[u32]) -> Result<Plan, NoMemory>
+    requires well_formed { IsWellFormed model.now }
+    requires dimension { d < length model.now.dimensions }
+    requires vehicle { v < length model.now.vehicles }
+    requires some { 0 < length list.now }
+    requires visits { IsTrue (list_all (is_visit model.now) list.now) }
+    requires distinct { IsTrue (is_distinct list.now) }
+    ensures { IfOk result (λ plan. seen plan ≡ unwrap_or (chosen (line model.now d v list.now)) no_plan) }
+{
+    let line = Line::build(alloc, model, d, v, list)?;
+    match schedule(alloc, &line)? {
+        Some(plan) => Ok(plan),
+        None => Ok(Plan {
+            cumuls: Seq::new(alloc),
+            slacks: Seq::new(alloc),
+            breaks: Seq::new(alloc),
+        }),
+    }
+}
+
+// The tree of a plan.
+#[tactic(auto, unfolding(crate::specs::Solution::plan_tree))]
+fn plan_tree(alloc: Global, dimension: &Dimension, plan: &Plan) -> Result<Value, NoMemory>
+    ensures { IfOk result (λ tree. view tree ≡ solution.plan_tree dimension.now (seen plan.now)) }
+{
+    let mut tree = Tree::new(alloc);
+    tree.put("breaks", wholes(alloc, plan.breaks.as_slice())?)?;
+    tree.put("cumuls", wholes(alloc, plan.cumuls.as_slice())?)?;
+    tree.put("name", text(alloc, dimension.name.as_str())?)?;
+    tree.put("slacks", wholes(alloc, plan.slacks.as_slice())?)?;
+    Ok(tree.finish())
+}
+
+// The chosen plan of a used vehicle in dimension `d`.
+fn dimension_tree(
+    alloc: Global,
+    model: &Model,
+    routes: &Routes,
+    v: u32,
+    d: u32,
+) -> Result<Value, NoMemory>
+    requires well_formed { IsWellFormed model.now }
+    requires lists { IsTrue (are_lists model.now routes.now.lists) }
+    requires vehicle { v < length routes.now.lists }
+    requires dimension { d < length model.now.dimensions }
+    requires used { is_empty (route routes.now.lists v) ≡ false }
+    ensures { let assignment = assigned model.now routes.now.lists in
+        IfOk result (λ tree. view tree ≡ solution.dimension_tree model.now assignment v d) }
+{
+    let plan = chosen_plan(alloc, model, d, v, routes.list(v))?;
+    let tree = plan_tree(alloc, model.dimensions.get(d as usize), &plan)?;
+    Ok(tree)
+}
+
+// The chosen plans of a used vehicle, one in each dimension.
+fn used_plans_tree(alloc: Global, model: &Model, routes: &Routes, v: u32) -> Result<Value, NoMemory>
+    requires well_formed { IsWellFormed model.now }
+    requires lists { IsTrue (are_lists model.now routes.now.lists) }
+    requires vehicle { v < length routes.now.lists }
+    requires used { is_empty (route routes.now.lists v) ≡ false }
+    ensures { let assignment = assigned model.now routes.now.lists in
+        IfOk result (λ tree. view tree ≡ solution.used_plans_tree model.now assignment v) }
+{
+    let mut trees = Vec::new(alloc);
+    for d in 0..model.dimensions.len() {
+        let tree = dimension_tree(alloc, model, routes, v, d as u32)?;
+        trees.push(tree)?;
+    }
+    Ok(Value::Array(trees))
+}
+
+/// The chosen plans of a vehicle, one in each dimension; none where it is not used.
+pub(crate) fn plans_tree(
+    alloc: Global,
+    model: &Model,
+    routes: &Routes,
+    v: u32,
+) -> Result<Value, NoMemory>
+    requires well_formed { IsWellFormed model.now }
+    requires lists { IsTrue (are_lists model.now routes.now.lists) }
+    requires vehicle { v < length routes.now.lists }
+    ensures { let assignment = assigned model.now routes.now.lists in
+        IfOk result (λ tree. view tree ≡ solution.plans_tree model.now assignment v) }
+{
+    if routes.len(v) == 0 {
+        return Ok(Value::Array(Vec::new(alloc)));
+    }
+    let tree = used_plans_tree(alloc, model, routes, v)?;
+    Ok(tree)
+}

@@ -1,0 +1,94 @@
+//! The trees of routes.
+
+ghost use Rattle.std.specs.Prelude.{◌≡◌, ◌<◌, ◌++◌, ◌&&◌, ◌∷◌, [], cond, not, IfOk, IsTrue, OnOk, length};
+ghost use Rattle.serde_json.specs.View.{view};
+ghost use Rattle.vr_model.specs.routes.Costs.{assigned};
+ghost use Rattle.vr_model.specs.routes.Routes.{are_lists, inactive, is_active, route};
+ghost use Rattle.vr_model.specs.tables.Tables.{is_visit, visits};
+ghost use Rattle.vr_model.specs.tables.WellFormed.{IsWellFormed};
+ghost use Rattle.vr_print.specs.Solution as solution;
+
+use crate::leaves::counts;
+use crate::plans::plans_tree;
+use serde_json::{Value, json};
+use std::alloc::Global;
+use vr_model::{Model, NoMemory};
+use vr_routes::Routes;
+
+// The nodes of a route from its start to its end.
+fn route_nodes(
+    alloc: Global,
+    model: &Model,
+    vehicle: u32,
+    list: &[u32],
+) -> Result<Vec<u32>, NoMemory>
+    requires { vehicle < length model.now.vehicles }
+    ensures { IfOk result (λ nodes. nodes.items ≡ solution.route_nodes model.now vehicle list.now) }
+{
+    let mut nodes = Vec::new(alloc);
+    if list.is_empty() {
+        return Ok(nodes);
+    }
+    let ends = model.vehicles.get(vehicle as usize);
+    nodes.push(ends.start)?;
+    nodes.extend_from_slice(list)?;
+    nodes.push(ends.end)?;
+    Ok(nodes)
+}
+
+// The route of a vehicle.
+#[tactic(auto, unfolding(crate::specs::Solution::route_tree))]
+fn route_tree(alloc: Global, model: &Model, routes: &Routes, v: u32) -> Result<Value, NoMemory>
+    requires well_formed { IsWellFormed model.now }
+    requires lists { IsTrue (are_lists model.now routes.now.lists) }
+    requires vehicle { v < length routes.now.lists }
+    ensures { let assignment = assigned model.now routes.now.lists in
+        IfOk result (λ tree. view tree ≡ solution.route_tree model.now assignment v) }
+{
+    let dimensions = plans_tree(alloc, model, routes, v)?;
+    let nodes = route_nodes(alloc, model, v, routes.list(v))?;
+    let nodes = counts(alloc, &nodes)?;
+    let route = json!(in alloc; {"dimensions": dimensions, "nodes": nodes, "vehicle": v as u64})?;
+    Ok(route)
+}
+
+/// The routes of all vehicles.
+pub(crate) fn routes_tree(alloc: Global, model: &Model, routes: &Routes) -> Result<Value, NoMemory>
+    requires well_formed { IsWellFormed model.now }
+    requires lists { IsTrue (are_lists model.now routes.now.lists) }
+    ensures { IfOk result (λ tree. view tree ≡ solution.routes_tree model.now (assigned model.now routes.now.lists)) }
+{
+    let mut trees = Vec::new(alloc);
+    for v in 0..routes.vehicles() {
+        let route = route_tree(alloc, model, routes, v)?;
+        trees.push(route)?;
+    }
+    Ok(Value::Array(trees))
+}
+
+// Adds the node, where it is a visit that stands in no list.
+fn note_inactive(
+    model: &Model,
+    routes: &Routes,
+    node: u32,
+    nodes: &mut Vec<u32>,
+) -> Result<(), NoMemory>
+    ensures { OnOk result (nodes.new.items ≡ nodes.old.items
+        ++ cond (is_visit model.now node && not (is_active routes.now.lists node)) (node ∷ []) []) }
+{
+    if model.is_visit(node) && !routes.is_active(node) {
+        nodes.push(node)?;
+    }
+    Ok(())
+}
+
+/// The visits that stand in no list, ascending.
+pub(crate) fn inactive(alloc: Global, model: &Model, routes: &Routes) -> Result<Vec<u32>, NoMemory>
+    ensures { IfOk result (λ nodes. nodes.items ≡ inactive model.now routes.now.lists) }
+{
+    let mut nodes = Vec::new(alloc);
+    for node in 0..model.nodes {
+        note_inactive(model, routes, node, &mut nodes)?;
+    }
+    Ok(nodes)
+}

@@ -1,0 +1,122 @@
+//! The tree and the line of a solution.
+
+ghost use Rattle.std.specs.Prelude.{◌≡◌, ◌≤◌, IfOk, IsTrue, Some, false};
+ghost use Rattle.serde_json.specs.Data.{depth};
+ghost use Rattle.serde_json.specs.Read.{max_depth, read};
+ghost use Rattle.serde_json.specs.View.{view};
+ghost use Rattle.serde_json.specs.Written.{has_float};
+ghost use Rattle.vr_json.specs.Trees.{line_of};
+ghost use Rattle.vr_model.specs.routes.Rules.{is_valid};
+ghost use Rattle.vr_model.specs.tables.WellFormed.{IsWellFormed};
+ghost use Rattle.vr_rules.specs.Totals.{HasTotal};
+ghost use Rattle.vr_print.specs.Solution as solution;
+
+use crate::leaves::{counts, text};
+use crate::routes::{inactive, routes_tree};
+use serde_json::Value;
+use std::alloc::Global;
+use vr_json::{Tree, to_line};
+use vr_model::{End, Model, NoMemory, Parts, Report, Seq};
+use vr_routes::Routes;
+use vr_rules::{cost, total_cost};
+
+// The six parts of a cost.
+#[tactic(auto, unfolding(crate::specs::Solution::parts_tree))]
+fn parts_tree(alloc: Global, parts: &Parts) -> Result<Value, NoMemory>
+    ensures { IfOk result (λ tree. view tree ≡ solution.parts_tree parts.now) }
+{
+    let mut tree = Tree::new(alloc);
+    tree.put("arcs", Value::from(parts.arcs))?;
+    tree.put("fixed", Value::from(parts.fixed))?;
+    tree.put("global", Value::from(parts.global))?;
+    tree.put("penalty", Value::from(parts.penalty))?;
+    tree.put("soft", Value::from(parts.soft))?;
+    tree.put("span", Value::from(parts.span))?;
+    Ok(tree.finish())
+}
+
+// How a search ended, as a word.
+fn word_of(end: End) -> &'static str
+    ensures { result.now ≡ solution.word_of end }
+{
+    match end {
+        End::First => "first",
+        End::Optimum => "optimum",
+        End::Tries => "tries",
+        End::Solutions => "solutions",
+    }
+}
+
+// The tree of a solution, of its parts.
+#[tactic(auto, unfolding(crate::specs::Solution::tree_of))]
+fn tree_of(
+    alloc: Global,
+    parts: &Parts,
+    dropped: &[u32],
+    routes: Value,
+    first_cost: i64,
+    report: Report,
+) -> Result<Value, NoMemory>
+    requires { HasTotal parts.now }
+    ensures { IfOk result (λ tree. view tree ≡ solution.tree_of parts.now dropped.now (view routes) first_cost report) }
+{
+    let mut tree = Tree::new(alloc);
+    tree.put("cost", Value::from(total_cost(parts)))?;
+    tree.put("dropped", counts(alloc, dropped)?)?;
+    tree.put("first_cost", Value::from(first_cost))?;
+    tree.put("parts", parts_tree(alloc, parts)?)?;
+    tree.put("routes", routes)?;
+    tree.put("solutions", Value::from(report.solutions))?;
+    tree.put("status", text(alloc, "ROUTING_SUCCESS")?)?;
+    tree.put("stop", text(alloc, word_of(report.end))?)?;
+    tree.put("tries", Value::from(report.tries))?;
+    Ok(tree.finish())
+}
+
+/// The tree of valid routes of a model: their cost with its six parts, the visits that are dropped, ascending, and for
+/// each vehicle its nodes from start to end and, in each dimension, the cumuls, slacks and break starts of its chosen
+/// schedule; beside these what the first solution cost and how the search went.
+///
+/// `NoMemory` comes only where memory is refused.
+pub fn solution_tree(
+    alloc: Global,
+    model: &Model,
+    routes: &Routes,
+    first_cost: i64,
+    report: Report,
+) -> Result<Value, NoMemory>
+    requires well_formed { IsWellFormed model.now }
+    requires valid { IsTrue (is_valid model.now routes.now.lists) }
+    ensures tree { let wanted = solution.solution_tree model.now routes.now.lists first_cost report in
+        IfOk result (λ tree. view tree ≡ wanted) }
+    ensures whole { IfOk result (λ tree. has_float (view tree) ≡ false) }
+    ensures nested { IfOk result (λ tree. depth (view tree) ≤ max_depth) }
+{
+    let parts = cost(alloc, model, routes)?;
+    let dropped = inactive(alloc, model, routes)?;
+    let trees = routes_tree(alloc, model, routes)?;
+    let tree = tree_of(alloc, &parts, &dropped, trees, first_cost, report)?;
+    Ok(tree)
+}
+
+/// The line of valid routes of a model: the text of their tree, and a line feed. Reading it gives the tree back.
+///
+/// `NoMemory` comes only where memory is refused.
+pub fn solution_line(
+    alloc: Global,
+    model: &Model,
+    routes: &Routes,
+    first_cost: i64,
+    report: Report,
+) -> Result<Seq<u8>, NoMemory>
+    requires well_formed { IsWellFormed model.now }
+    requires valid { IsTrue (is_valid model.now routes.now.lists) }
+    ensures text { let wanted = solution.solution_tree model.now routes.now.lists first_cost report in
+        IfOk result (λ line. line ≡ line_of wanted) }
+    ensures reads_back { let wanted = solution.solution_tree model.now routes.now.lists first_cost report in
+        IfOk result (λ line. read line ≡ Some wanted) }
+{
+    let tree = solution_tree(alloc, model, routes, first_cost, report)?;
+    let line = to_line(alloc, &tree)?;
+    Ok(line)
+}

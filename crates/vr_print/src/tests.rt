@@ -1,0 +1,60 @@
+//! That there is a text with ample memory, and its bytes.
+
+ghost use Rattle.std.specs.Prelude.{IfOk};
+ghost use Rattle.vr_model.specs.tables.WellFormed.{IsWellFormed};
+
+use crate::solution_line;
+use serde_json::Value;
+use std::alloc::Global;
+use std::test::Fail;
+use vr_json::Path;
+use vr_model::{End, Model, NoMemory, Report, Seq};
+use vr_read::read_model;
+use vr_routes::Routes;
+use vr_rules::valid;
+
+// Two nodes, two vehicles and two dimensions, one of them with a break; the line is of one used vehicle.
+const MODEL: &str =
+    "{\"format\":1,\"nodes\":3,\"matrices\":[[[0,10,9],[10,0,9],[9,9,0]]],\"vehicles\":[{\"start\":0,\"end\":0},{\"start\":0,\"end\":0}],\"groups\":[{\"nodes\":[2],\"penalty\":7}],\"dimensions\":[{\"name\":\"time\",\"evaluators\":[{\"matrix\":0}],\"slack_max\":20,\"capacity\":100,\"fix_start\":true,\"visit\":[2,2,2],\"breaks\":[{\"vehicle\":0,\"breaks\":[{\"from\":4,\"to\":6,\"duration\":5}]}],\"span_cost\":2},{\"name\":\"load\",\"evaluators\":[{\"values\":[0,3,0]}],\"slack_max\":0,\"capacity\":5}]}";
+
+const LINE: &str =
+    "{\"cost\":77,\"dropped\":[2],\"first_cost\":80,\"parts\":{\"arcs\":20,\"fixed\":0,\"global\":0,\"penalty\":7,\"soft\":0,\"span\":50},\"routes\":[{\"dimensions\":[{\"breaks\":[4],\"cumuls\":[0,15,25],\"name\":\"time\",\"slacks\":[5,0]},{\"breaks\":[],\"cumuls\":[0,0,3],\"name\":\"load\",\"slacks\":[0,0]}],\"nodes\":[0,1,0],\"vehicle\":0},{\"dimensions\":[],\"nodes\":[],\"vehicle\":1}],\"solutions\":3,\"status\":\"ROUTING_SUCCESS\",\"stop\":\"tries\",\"tries\":5}\n";
+
+// The model of a text.
+fn model_of(alloc: Global, text: &str) -> Result<Model, NoMemory>
+    ensures { IfOk result IsWellFormed }
+{
+    let value = Value::from_str(alloc, text).map_err(|_| NoMemory)?;
+    let model = read_model(alloc, &value, &Path::root(alloc)).map_err(|_| NoMemory)?;
+    Ok(model)
+}
+
+// The line of routes in which vehicle 0 visits node 1 alone, none where they are not valid.
+fn line_of_one_visit(alloc: Global, model: &Model) -> Result<Option<Seq<u8>>, NoMemory>
+    requires { IsWellFormed model.now }
+{
+    let mut list = Seq::new(alloc);
+    list.push(1)?;
+    let lists = vec![in alloc; list, Seq::new(alloc)]?;
+    let Some(routes) = Routes::from_lists(alloc, model, &lists)? else {
+        return Ok(None);
+    };
+    if !valid(alloc, model, &routes)? {
+        return Ok(None);
+    }
+    let report = Report {
+        tries: 5,
+        solutions: 3,
+        end: End::Tries,
+    };
+    Ok(Some(solution_line(alloc, model, &routes, 80, report)?))
+}
+
+#[test]
+fn breaks_cumuls_and_slacks_are_printed(rt: HostRuntime) -> Result<(), Fail> {
+    let alloc = rt.alloc();
+    let model = model_of(alloc, MODEL)?;
+    let line = line_of_one_visit(alloc, &model)?;
+    assert!(rt; line.is_some_and(|line| line.as_slice() == LINE.as_bytes()));
+    Ok(())
+}
