@@ -1,5 +1,6 @@
 -- Lists of runs: the numbers that they have, and the one normal form of a set.
-use Rattle.std.specs.Prelude.{◌≡◌, ℕ, ◌^◌, Bool, true, false, not, ◌&&◌, ◌||◌, List, [], ◌∷◌, length, ℤ, pos, neg_ℤ, ◌+ℤ◌, ◌-ℤ◌, ◌≤ℤ◌, int_le}
+use Rattle.std.specs.Prelude.{◌≡◌, ℕ, ◌^◌, Bool, true, false, not, ◌&&◌, ◌||◌, List, [], ◌∷◌, length, ℤ, pos, neg_ℤ}
+use Rattle.std.specs.Prelude.{◌+ℤ◌, ◌-ℤ◌, ◌≤ℤ◌, int_le}
 use Rattle.std.specs.Ordering.{int_eq}
 use Rattle.std.specs.List.{list_any}
 use Rattle.vr_spans.specs.declared.runs.Run.{Run}
@@ -21,7 +22,8 @@ abbrev pub has : List Run → ℤ → Bool
 has [] x = false
 has (r ∷ rs) x = in_run r x || has rs x
 
--- the runs are not empty, they end at the limit, the first begins at m or later, and each later one leaves out a number after the one before
+-- the runs are not empty, they end at the limit, the first begins at m or later, and each later one leaves out a number
+-- after the one before
 abbrev pub IsNormalFrom : ℤ → List Run → Type 0
 IsNormalFrom m [] = Unit {0}
 IsNormalFrom m (r ∷ rs) = (m ≤ℤ r.lo) × (r.lo ≤ℤ r.hi) × (r.hi ≤ℤ limit) × IsNormalFrom (r.hi +ℤ pos 2) rs

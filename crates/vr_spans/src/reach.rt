@@ -88,8 +88,8 @@ impl Spans {
 
     /// Writes those numbers of `within` over `out` that are a number of this set plus one from `first` to `last`.
     ///
-    /// This is one pass over the runs of both sets. `first` and `last` lie in `-FARTHEST..=FARTHEST`, so the sums may lie
-    /// beyond `LIMIT`.
+    /// This is one pass over the runs of both sets. `first` and `last` lie in `-FARTHEST..=FARTHEST`, so the sums may
+    /// lie beyond `LIMIT`.
     pub fn reach_into(
         &self,
         first: i64,
@@ -107,7 +107,8 @@ impl Spans {
         out.reach(self.runs.as_slice(), first, last, within.runs.as_slice())
     }
 
-    /// Makes this the set of the numbers that the runs of `from`, stretched by `first` and `last`, share with those of `within`.
+    /// Makes this the set of the numbers that the runs of `from`, stretched by `first` and `last`, share with those of
+    /// `within`.
     #[inline(always)]
     fn reach(&mut self, from: &[Run], first: i64, last: i64, within: &[Run]) -> Result<(), NoMemory>
         requires from { IsNormal from.now }
