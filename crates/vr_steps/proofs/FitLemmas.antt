@@ -1,5 +1,5 @@
 -- The cumuls before and after which breaks fit.
-use Rattle.std.proofs.Common.{◌≡◌, ℕ, zero, suc, ◌<◌, ◌^◌, List, [], ◌∷◌, length, get_or, All, ℤ, pos, neg_ℤ, ◌+ℤ◌, ◌-ℤ◌, ◌≤ℤ◌, arith}
+use Rattle.std.proofs.Common.{◌≡◌, List, [], ◌∷◌, All, ℤ, pos, ◌≤ℤ◌, arith}
 use Rattle.std.specs.Int.{int_max, int_min}
 use Rattle.std.proofs.lemmas.Int.{ints, clamps}
 use Rattle.vr_model.specs.tables.Numbers.{horizon}
@@ -8,14 +8,14 @@ use Rattle.vr_model.specs.schedules.Levels.{FitBefore, FitAfter}
 use Rattle.vr_model.specs.tables.WellFormed.{IsBreak}
 use Rattle.vr_model.specs.declared.records.BreakRow.{BreakRow}
 use Rattle.vr_steps.specs.declared.chains.Chain.{Chain}
-use Rattle.vr_steps.specs.Chains.{far, total, latest, first_end, CanBegin, IsChainOf}
+use Rattle.vr_steps.specs.Chains.{far, total, first_end, CanBegin, IsChainOf}
 use Rattle.std.specs.Prelude.{IsTrue, ◌↔◌}
 use Rattle.vr_spans.specs.declared.runs.Run.{Run}
 use Rattle.vr_spans.specs.Runs.{has, IsLeast}
 use Rattle.vr_model.specs.deciding.Testing.{within_is}
 use Rattle.vr_steps.specs.Levels.{IsCumuls}
 use Rattle.vr_steps.specs.Fits.{IsEarliest, IsLatest}
-use Rattle.vr_steps.proofs.ChainLemmas.{IsChain, HasRoom, Starts, durations_from_rows, room_from_chain, chain_from_room, chain_from_starts, starts_from_chain}
+use Rattle.vr_steps.proofs.ChainLemmas.{HasRoom, durations_from_rows, room_from_chain, chain_from_room, chain_from_starts, starts_from_chain}
 
 -- where all breaks are over, there was time for them from 0 on
 total_by_end : (rows : List BreakRow) → All IsBreak rows → total rows ≤ℤ int_max (first_end rows) (pos 0)

@@ -1,10 +1,10 @@
 -- The images of sets over passages, and how they add up to levels.
-use Rattle.std.proofs.Common.{◌≡◌, ℕ, zero, suc, ◌+◌, ◌-◌, ◌<◌, ◌≤◌, ◌^◌, true, false, Bool, ◌&&◌, ◌||◌, ◌⊎◌, inl, inr, Option, Some, None, List, [], ◌∷◌, length, get_or, take, drop, All, ℤ, pos, neg_ℤ, ◌+ℤ◌, ◌-ℤ◌, ◌≤ℤ◌, refl, sym, subst, ap, ◌∙◌, arith}
+use Rattle.std.proofs.Common.{◌≡◌, ℕ, suc, ◌-◌, ◌<◌, ◌≤◌, true, Bool, ◌&&◌, ◌||◌, ◌⊎◌, inl, inr, Option, Some, None, List, [], length, take, drop, All, ℤ, pos, neg_ℤ, ◌≤ℤ◌, refl, sym, subst, ap, ◌∙◌, arith}
 use Rattle.std.specs.Prelude.{IsTrue, IsSome, IsNone, IfSome, ◌↔◌}
-use Rattle.std.proofs.lemmas.Int.{ints, clamps}
+use Rattle.std.proofs.lemmas.Int.{ints}
 use Rattle.std.proofs.lemmas.Bool.{and_parts, and_from, or_cases, or_left, or_right, cases_lt}
 use Rattle.std.proofs.lemmas.List.{drop-take, drop_all, length-take}
-use Rattle.vr_model.specs.tables.Numbers.{horizon, within}
+use Rattle.vr_model.specs.tables.Numbers.{horizon}
 use Rattle.vr_model.specs.deciding.Testing.{within_is}
 use Rattle.vr_model.specs.tables.WellFormed.{IsBreak}
 use Rattle.vr_model.specs.declared.records.BreakRow.{BreakRow}
@@ -16,7 +16,7 @@ use Rattle.vr_steps.specs.declared.passages.Passage.{Passage}
 use Rattle.vr_steps.specs.Arcs.{IsSoundHop, Leads, between}
 use Rattle.vr_steps.specs.Chains.{CanBegin, IsChainOf}
 use Rattle.vr_steps.specs.Levels.{IsCumuls, level_at}
-use Rattle.vr_steps.specs.Passages.{Passes, IsPassage, LeadsNowhere, IsOver, HasWay, ArrivesAt, DepartsAt, AreArrivals, AreDepartures}
+use Rattle.vr_steps.specs.Passages.{IsPassage, LeadsNowhere, IsOver, HasWay, ArrivesAt, DepartsAt, AreArrivals, AreDepartures}
 use Rattle.vr_steps.proofs.PassageLemmas.{passage, closed}
 
 -- the answer of a passage over a chain

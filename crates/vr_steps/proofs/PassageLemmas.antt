@@ -1,22 +1,19 @@
 -- An arc with breaks inside.
-use Rattle.std.proofs.Common.{◌≡◌, ℕ, zero, suc, ◌+◌, ◌<◌, ◌≤◌, ◌^◌, true, false, Bool, ◌&&◌, ◌⊎◌, inl, inr, cond, List, [], ◌∷◌, length, get_or, All, ℤ, pos, neg_ℤ, ◌+ℤ◌, ◌-ℤ◌, ◌≤ℤ◌, refl, sym, subst, ap, ap₂, ◌∙◌, arith}
-use Rattle.std.specs.Prelude.{IsTrue, EachIndex, ◌↔◌, int_le}
+use Rattle.std.proofs.Common.{◌≡◌, ℕ, zero, suc, ◌+◌, ◌<◌, true, false, ◌&&◌, ◌⊎◌, inl, inr, cond, List, [], ◌∷◌, length, get_or, All, ℤ, pos, ◌+ℤ◌, ◌-ℤ◌, ◌≤ℤ◌, refl, sym, subst, ap, ap₂, ◌∙◌, arith}
+use Rattle.std.specs.Prelude.{IsTrue, EachIndex, int_le}
 use Rattle.std.specs.List.{range_with_len}
-use Rattle.std.specs.Int.{int_max, int_min}
 use Rattle.std.proofs.lemmas.Int.{ints, clamps}
-use Rattle.vr_model.specs.tables.Numbers.{horizon, within, total_by, below}
+use Rattle.vr_model.specs.tables.Numbers.{horizon, within, total_by}
 use Rattle.vr_model.specs.deciding.Testing.{and_left, and_right, and_both, le_of_test, test_of_le, within_is}
 use Rattle.vr_model.specs.schedules.Schedules.{Plan, no_side, no_break, KeepsRules, cumul, slack, allows, arc_at, break_time, break_start, break_end, break_at, is_inside, is_before, is_after}
-use Rattle.vr_model.specs.schedules.Levels.{AreStarts, FitBefore, FitAfter}
 use Rattle.vr_model.specs.tables.WellFormed.{IsBreak}
 use Rattle.vr_model.specs.declared.records.BreakRow.{BreakRow}
 use Rattle.vr_steps.specs.declared.hops.Hop.{Hop}
 use Rattle.vr_steps.specs.declared.chains.Chain.{Chain}
 use Rattle.vr_steps.specs.declared.passages.Passage.{Passage}
 use Rattle.vr_steps.specs.Arcs.{IsSoundHop, one_arc, Leads}
-use Rattle.vr_steps.specs.Chains.{far, total, latest, first_end, CanBegin, IsChainOf}
+use Rattle.vr_steps.specs.Chains.{total, CanBegin, IsChainOf}
 use Rattle.vr_steps.specs.Passages.{Passes, IsOpen, IsPassage, LeadsNowhere, IsOver, HasWay}
-use Rattle.vr_steps.specs.Fits.{IsEarliest, IsLatest}
 use Rattle.vr_steps.proofs.ChainLemmas.{IsChain, HaveDurations, HasRoom, Starts, durations_from_rows, room_from_chain, chain_from_room, chain_from_starts, starts_from_chain}
 
 no_false : {A : Type 0} → IsTrue false → A

@@ -29,8 +29,10 @@ FitsAfter allowed rows set = (x : ℤ) → IsTrue (has set x) ↔ (IsTrue (has a
 
 -- with some number of breaks taken, a cumul is there after which the others fit
 abbrev pub CanEnd : List (List Run) → List BreakRow → Type 0
-CanEnd levels breaks = (b : ℕ) × (b ≤ length breaks) × (x : ℤ) × IsTrue (has (level_at levels b) x) × FitAfter (drop b breaks) x
+CanEnd levels breaks = (b : ℕ) × (b ≤ length breaks) × (x : ℤ) × IsTrue (has (level_at levels b) x)
+    × FitAfter (drop b breaks) x
 
 -- the same with fewer than n breaks taken
 abbrev pub CanEndBelow : List (List Run) → List BreakRow → ℕ → Type 0
-CanEndBelow levels breaks n = (b : ℕ) × (b < n) × (x : ℤ) × IsTrue (has (level_at levels b) x) × FitAfter (drop b breaks) x
+CanEndBelow levels breaks n = (b : ℕ) × (b < n) × (x : ℤ) × IsTrue (has (level_at levels b) x)
+    × FitAfter (drop b breaks) x

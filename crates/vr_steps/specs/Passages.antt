@@ -1,5 +1,5 @@
 -- What an arc with breaks inside asks of the cumuls at its two ends.
-use Rattle.std.specs.Prelude.{◌≡◌, ℕ, ◌+◌, ◌≤◌, ◌^◌, ◌↔◌, ◌⊎◌, IsTrue, List, length, ℤ, pos, neg_ℤ, ◌+ℤ◌, ◌-ℤ◌, ◌≤ℤ◌}
+use Rattle.std.specs.Prelude.{◌≡◌, ℕ, ◌≤◌, ◌^◌, ◌↔◌, IsTrue, List, ℤ, pos, neg_ℤ, ◌+ℤ◌, ◌-ℤ◌, ◌≤ℤ◌}
 use Rattle.std.specs.Int.{int_max, int_min}
 use Rattle.vr_spans.specs.declared.runs.Run.{Run}
 use Rattle.vr_spans.specs.Runs.{has}
@@ -31,7 +31,8 @@ pub record IsOpen (passage : Passage) : Type 0 where
 -- an arc with these breaks inside leads exactly where the passage lets through
 pub record IsPassage (hop : Hop) (rows : List BreakRow) (passage : Passage) : Type 0 where
   pub open_way : IsOpen passage
-  pub exact : (y x : ℤ) → Leads hop rows y x ↔ (IsTrue (within (pos 0) horizon y) × IsTrue (within (pos 0) horizon x) × Passes passage y x)
+  pub exact : (y x : ℤ) → Leads hop rows y x
+      ↔ (IsTrue (within (pos 0) horizon y) × IsTrue (within (pos 0) horizon x) × Passes passage y x)
 
 -- an arc with these breaks inside leads nowhere
 abbrev pub LeadsNowhere : Hop → List BreakRow → Type 0
@@ -61,9 +62,12 @@ DepartsAt to hop rows here y = IsTrue (has here y) × ((x : ℤ) × IsTrue (has 
 -- the cumuls of next to which the arc leads from the levels of k breaks or more, with b breaks taken behind it
 abbrev pub AreArrivals : List (List Run) → Hop → List Run → List BreakRow → ℕ → ℕ → List Run → Type 0
 AreArrivals from hop next breaks k b set = (x : ℤ)
-    → IsTrue (has set x) ↔ (IsTrue (has next x) × ((a : ℕ) × (k ≤ a) × (a ≤ b) × (y : ℤ) × IsTrue (has (level_at from a) y) × Leads hop (between breaks a b) y x))
+    → IsTrue (has set x) ↔ (IsTrue (has next x)
+    × ((a : ℕ) × (k ≤ a) × (a ≤ b) × (y : ℤ) × IsTrue (has (level_at from a) y)
+    × Leads hop (between breaks a b) y x))
 
 -- the cumuls of here from which the arc leads to the levels of k breaks or fewer, with a breaks taken before it
 abbrev pub AreDepartures : List (List Run) → Hop → List Run → List BreakRow → ℕ → ℕ → List Run → Type 0
 AreDepartures to hop here breaks a k set = (y : ℤ)
-    → IsTrue (has set y) ↔ (IsTrue (has here y) × ((b : ℕ) × (a ≤ b) × (b ≤ k) × (x : ℤ) × IsTrue (has (level_at to b) x) × Leads hop (between breaks a b) y x))
+    → IsTrue (has set y) ↔ (IsTrue (has here y)
+    × ((b : ℕ) × (a ≤ b) × (b ≤ k) × (x : ℤ) × IsTrue (has (level_at to b) x) × Leads hop (between breaks a b) y x))

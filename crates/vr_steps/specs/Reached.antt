@@ -10,7 +10,8 @@ use Rattle.vr_model.specs.schedules.Weights.{runs}
 use Rattle.vr_steps.specs.declared.hops.Hop.{Hop}
 use Rattle.vr_steps.specs.declared.lines.Line.{Line as Made}
 use Rattle.vr_steps.specs.Arcs.{Leads, between}
-use Rattle.vr_steps.specs.Levels.{HasNumbers, IsCumuls, level_at, AreStartLevels, AreEndLevels, AreCrossed, AreCrossedBack}
+use Rattle.vr_steps.specs.Levels.{HasNumbers, IsCumuls, level_at, AreStartLevels, AreEndLevels, AreCrossed}
+use Rattle.vr_steps.specs.Levels.{AreCrossedBack}
 use Rattle.vr_steps.specs.Lines.{hop_of, IsLineOf, IsSoundLine}
 
 -- arc k of a line
@@ -24,11 +25,13 @@ pub record IsAllowedSet (line : Line) (k : ℕ) (set : List Run) : Type 0 where
 
 -- the levels have, for each number of breaks taken, the cumuls that are reached at stop k
 abbrev pub AreReached : Line → ℕ → List (List Run) → Type 0
-AreReached line k levels = (b : ℕ) → b ≤ length line.breaks → (x : ℤ) → IsTrue (has (level_at levels b) x) ↔ IsReached line k b x
+AreReached line k levels = (b : ℕ) → b ≤ length line.breaks → (x : ℤ) → IsTrue (has (level_at levels b) x)
+    ↔ IsReached line k b x
 
 -- the levels have, for each number of breaks taken, the cumuls of stop k from which the end is reached
 abbrev pub AreReachingEnd : Line → ℕ → List (List Run) → Type 0
-AreReachingEnd line k levels = (b : ℕ) → b ≤ length line.breaks → (x : ℤ) → IsTrue (has (level_at levels b) x) ↔ ReachesEnd line k b x
+AreReachingEnd line k levels = (b : ℕ) → b ≤ length line.breaks → (x : ℤ) → IsTrue (has (level_at levels b) x)
+    ↔ ReachesEnd line k b x
 
 -- what a line as the code holds it gives at each place is that of the line of the definition
 pub record StandsFor (defined : Line) (made : Made) : Type 0 where
@@ -45,7 +48,8 @@ LinesStandForTheirs = (defined : Line) (made : Made) → IsLineOf defined made �
 -- an arc of a line leads from one cumul to another where its two stops allow them and the arc alone leads there
 abbrev pub ArcAlone : Type 0
 ArcAlone = (line : Line) → IsSound line → (k a b : ℕ) → k < length line.arcs → (y x : ℤ)
-    → Crosses line k a b y x ↔ (IsTrue (allows line k y) × IsTrue (allows line (suc k) x) × Leads (hop_at line k) (between line.breaks a b) y x)
+    → Crosses line k a b y x ↔ (IsTrue (allows line k y) × IsTrue (allows line (suc k) x)
+    × Leads (hop_at line k) (between line.breaks a b) y x)
 
 -- the levels of a start are what is reached at the first stop
 abbrev pub StartIsReached : Type 0
@@ -54,30 +58,37 @@ StartIsReached = (line : Line) → IsSound line → (set : List Run) (levels : L
 
 -- the levels behind an arc are what is reached at its end, where those before it are what is reached at its begin
 abbrev pub ReachedBehindArc : Type 0
-ReachedBehindArc = (line : Line) → IsSound line → (k : ℕ) → k < length line.arcs → (set : List Run) (from reached : List (List Run))
-    → IsAllowedSet line (suc k) set → AreReached line k from → AreCrossed from (hop_at line k) set line.breaks reached → AreReached line (suc k) reached
+ReachedBehindArc = (line : Line) → IsSound line → (k : ℕ) → k < length line.arcs
+    → (set : List Run) (from reached : List (List Run))
+    → IsAllowedSet line (suc k) set → AreReached line k from → AreCrossed from (hop_at line k) set line.breaks reached
+    → AreReached line (suc k) reached
 
 -- the levels of an end are what the end is reached from at the last stop
 abbrev pub EndIsReached : Type 0
 EndIsReached = (line : Line) → IsSound line → (set : List Run) (levels : List (List Run))
-    → IsAllowedSet line (length line.arcs) set → AreEndLevels set line.breaks levels → AreReachingEnd line (length line.arcs) levels
+    → IsAllowedSet line (length line.arcs) set → AreEndLevels set line.breaks levels
+    → AreReachingEnd line (length line.arcs) levels
 
 -- the levels before an arc are what the end is reached from at its begin, where those behind it are so at its end
 abbrev pub EndReachedBeforeArc : Type 0
-EndReachedBeforeArc = (line : Line) → IsSound line → (k : ℕ) → k < length line.arcs → (set : List Run) (to reached : List (List Run))
-    → IsAllowedSet line k set → AreReachingEnd line (suc k) to → AreCrossedBack to (hop_at line k) set line.breaks reached → AreReachingEnd line k reached
+EndReachedBeforeArc = (line : Line) → IsSound line → (k : ℕ) → k < length line.arcs
+    → (set : List Run) (to reached : List (List Run))
+    → IsAllowedSet line k set → AreReachingEnd line (suc k) to
+    → AreCrossedBack to (hop_at line k) set line.breaks reached → AreReachingEnd line k reached
 
 -- a line is feasible exactly where, at some stop, both levels of some number of breaks share a cumul
 abbrev pub FeasibleWhereShared : Type 0
 FeasibleWhereShared = (line : Line) → IsSound line → (k : ℕ) → k ≤ length line.arcs → (from to : List (List Run))
     → AreReached line k from → AreReachingEnd line k to
-    → IsFeasible line ↔ ((b : ℕ) × (b ≤ length line.breaks) × (x : ℤ) × IsTrue (has (level_at from b) x) × IsTrue (has (level_at to b) x))
+    → IsFeasible line ↔ ((b : ℕ) × (b ≤ length line.breaks) × (x : ℤ) × IsTrue (has (level_at from b) x)
+    × IsTrue (has (level_at to b) x))
 
--- a line is feasible exactly where, with some number of breaks taken, a cumul is reached at the last stop after which the
--- other breaks fit
+-- a line is feasible exactly where, with some number of breaks taken, a cumul is reached at the last stop after which
+-- the other breaks fit
 abbrev pub FeasibleAtEnd : Type 0
 FeasibleAtEnd = (line : Line) → IsSound line → (levels : List (List Run)) → AreReached line (length line.arcs) levels
-    → IsFeasible line ↔ ((b : ℕ) × (b ≤ length line.breaks) × (x : ℤ) × IsTrue (has (level_at levels b) x) × FitAfter (drop b line.breaks) x)
+    → IsFeasible line ↔ ((b : ℕ) × (b ≤ length line.breaks) × (x : ℤ) × IsTrue (has (level_at levels b) x)
+    × FitAfter (drop b line.breaks) x)
 
 -- a set of cumuls has as many runs as the definitions count
 abbrev pub RunsAreCounted : Type 0

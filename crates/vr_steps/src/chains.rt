@@ -7,8 +7,8 @@ ghost use Rattle.vr_model.specs.tables.WellFormed.{IsBreak};
 ghost use Rattle.vr_steps.specs.Chains.{CanBegin, IsAfter, IsChainOf, IsLate, IsSmall};
 ghost use Rattle.vr_steps.specs.Fits.{IsEarliest, IsLatest};
 
-use crate::HORIZON;
 use vr_model::BreakRow;
+use vr_model::limits::HORIZON;
 
 /// No number that matters is above this one, and none is below its negative.
 const FAR: i64 = 1 << 42;

@@ -4,7 +4,8 @@ ghost use Rattle.std.specs.Prelude.{◌≡◌, ◌+◌, ◌*◌, ◌<◌, ◌≤
 ghost use Rattle.vr_model.specs.tables.WellFormed.{IsBreak};
 ghost use Rattle.vr_spans.specs.Runs.{IsNormal};
 ghost use Rattle.vr_steps.specs.Arcs.{IsSoundHop};
-ghost use Rattle.vr_steps.specs.Levels.{IsCumuls, AreLevels, AreCrossed, AreCrossedBack, forward_steps, backward_steps, level_at};
+ghost use Rattle.vr_steps.specs.Levels.{IsCumuls, AreLevels, AreCrossed, AreCrossedBack, forward_steps, backward_steps};
+ghost use Rattle.vr_steps.specs.Levels.{level_at};
 ghost use Rattle.vr_steps.specs.Passages.{AreArrivals, AreDepartures};
 
 use crate::passages::Room;
@@ -14,8 +15,8 @@ use std::sync::ledger::Ledger;
 use vr_model::{BreakRow, NoMemory, Steps};
 use vr_spans::Spans;
 
-/// The levels behind an arc: with `b` breaks taken, the cumuls in `next` to which the arc leads from a cumul of some level
-/// `a <= b` of `from`, with the breaks after the first `a` up to the `b`-th inside it.
+/// The levels behind an arc: with `b` breaks taken, the cumuls in `next` to which the arc leads from a cumul of some
+/// level `a <= b` of `from`, with the breaks after the first `a` up to the `b`-th inside it.
 ///
 /// A step is the image of one run under one number of further breaks; `steps` counts each, and after `NoMemory` at most
 /// as many.
@@ -82,11 +83,11 @@ pub fn cross_into<L: Ledger>(
     Ok(())
 }
 
-/// The levels before an arc: with `a` breaks taken, the cumuls in `here` from which the arc leads to a cumul of some level
-/// `b >= a` of `to`, with the breaks after the first `a` up to the `b`-th inside it.
+/// The levels before an arc: with `a` breaks taken, the cumuls in `here` from which the arc leads to a cumul of some
+/// level `b >= a` of `to`, with the breaks after the first `a` up to the `b`-th inside it.
 ///
-/// A step is the preimage of one run under one number of further breaks; `steps` counts each, and after `NoMemory` at most
-/// as many.
+/// A step is the preimage of one run under one number of further breaks; `steps` counts each, and after `NoMemory` at
+/// most as many.
 pub fn cross_back<L: Ledger>(
     alloc: Global,
     to: &Levels,
@@ -288,7 +289,8 @@ fn write_further_arrivals(
     requires hop { IsSoundHop hop }
     requires next { IsCumuls next.now }
     requires long { length sets.old.items ≡ length rows.now }
-    ensures each { OnOk result ((k : ℕ) → k < length rows.now → AreArrivals from.now hop next.now rows.now 0 (suc k) (level_at sets.new.items k)) }
+    ensures each { OnOk result ((k : ℕ) → k < length rows.now →
+        AreArrivals from.now hop next.now rows.now 0 (suc k) (level_at sets.new.items k)) }
     ensures long { OnOk result (length sets.new.items ≡ length rows.now) }
 {
     let mut k = 0;
@@ -314,7 +316,8 @@ fn write_further_departures(
     requires hop { IsSoundHop hop }
     requires here { IsCumuls here.now }
     requires long { length sets.old.items ≡ length rows.now }
-    ensures each { OnOk result ((k : ℕ) → k < length rows.now → AreDepartures to.now hop here.now rows.now (suc k) (length rows.now) (level_at sets.new.items k)) }
+    ensures each { OnOk result ((k : ℕ) → k < length rows.now →
+        AreDepartures to.now hop here.now rows.now (suc k) (length rows.now) (level_at sets.new.items k)) }
     ensures long { OnOk result (length sets.new.items ≡ length rows.now) }
 {
     let mut k = 0;

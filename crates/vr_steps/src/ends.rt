@@ -1,6 +1,7 @@
 //! The levels at the two ends of a line.
 
-ghost use Rattle.std.specs.Prelude.{◌≡◌, ◌<◌, ◌≤◌, ◌↔◌, ℕ, suc, ℤ, [], ◌∷◌, All, IfOk, OnOk, IsTrue, length, take, drop};
+ghost use Rattle.std.specs.Prelude.{◌≡◌, ◌<◌, ◌≤◌, ◌↔◌, ℕ, suc, ℤ, [], ◌∷◌, All, IfOk, OnOk, IsTrue, length, take};
+ghost use Rattle.std.specs.Prelude.{drop};
 ghost use Rattle.vr_model.specs.schedules.Levels.{FitBefore, FitAfter};
 ghost use Rattle.vr_model.specs.tables.WellFormed.{IsBreak};
 ghost use Rattle.vr_spans.specs.Runs.{has};
@@ -8,8 +9,9 @@ ghost use Rattle.vr_steps.specs.Levels.{IsCumuls, AreLevels, AreStartLevels, Are
 ghost use Rattle.vr_steps.specs.Fits.{FitsBefore, FitsAfter, CanEnd, CanEndBelow};
 
 use crate::chains::{earliest, last};
-use crate::{Breaks, HORIZON, Levels};
+use crate::{Breaks, Levels};
 use std::alloc::Global;
+use vr_model::limits::HORIZON;
 use vr_model::{BreakRow, NoMemory};
 use vr_spans::{Run, Spans};
 
@@ -127,7 +129,8 @@ fn write_starts(
     requires few { length rows.now ≤ 8 }
     requires allowed { IsCumuls allowed.now }
     requires long { length sets.old.items ≡ length rows.now }
-    ensures each { OnOk result ((k : ℕ) → k < length rows.now → FitsBefore allowed.now (take (suc k) rows.now) (level_at sets.new.items k)) }
+    ensures each { OnOk result ((k : ℕ) → k < length rows.now →
+        FitsBefore allowed.now (take (suc k) rows.now) (level_at sets.new.items k)) }
     ensures long { OnOk result (length sets.new.items ≡ length rows.now) }
 {
     let mut b = 0;
@@ -148,7 +151,8 @@ fn write_ends(
     requires few { length rows.now ≤ 8 }
     requires allowed { IsCumuls allowed.now }
     requires long { length sets.old.items ≡ length rows.now }
-    ensures each { OnOk result ((k : ℕ) → k < length rows.now → FitsAfter allowed.now (drop (suc k) rows.now) (level_at sets.new.items k)) }
+    ensures each { OnOk result ((k : ℕ) → k < length rows.now →
+        FitsAfter allowed.now (drop (suc k) rows.now) (level_at sets.new.items k)) }
     ensures long { OnOk result (length sets.new.items ≡ length rows.now) }
 {
     let mut b = 0;

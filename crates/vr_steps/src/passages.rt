@@ -9,10 +9,11 @@ ghost use Rattle.vr_steps.specs.Chains.{IsSmall};
 ghost use Rattle.vr_steps.specs.Levels.{IsCumuls};
 ghost use Rattle.vr_steps.specs.Passages.{ArrivesAt, DepartsAt, HasWay, IsOver, IsPassage, LeadsNowhere};
 
+use crate::Hop;
 use crate::chains::Chain;
-use crate::{HORIZON, Hop};
 use std::mem;
 use vr_model::BreakRow;
+use vr_model::limits::HORIZON;
 use vr_spans::{NoMemory, Run, Spans};
 
 /// What an arc with certain breaks inside asks of the cumul `y` at its begin and the cumul `x` at its end:
@@ -26,7 +27,8 @@ pub struct Passage {
 }
 
 impl Passage {
-    /// The passage over these breaks, of which there is one at least; `None` where the arc leads nowhere with them inside.
+    /// The passage over these breaks, of which there is one at least; `None` where the arc leads nowhere with them
+    /// inside.
     pub(crate) fn of(hop: Hop, rows: &[BreakRow]) -> Option<Passage>
         requires some { 0 < length rows.now }
         requires few { length rows.now ≤ 8 }

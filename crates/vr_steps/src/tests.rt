@@ -2,7 +2,7 @@
 
 ghost use Rattle.std.specs.Prelude.{◌≡◌, ◌<◌, ◌≤◌, All, IfOk, length, pos, ◌≤ℤ◌};
 ghost use Rattle.vr_model.specs.tables.WellFormed.{IsBreak};
-ghost use Rattle.vr_steps.specs.Samples.{IsShort};
+ghost use Rattle.vr_steps.specs.Samples.{IsCumulRun};
 ghost use Rattle.vr_steps.specs.Levels.{IsCumuls};
 
 use crate::{Breaks, Hop, Levels, cross, cross_back, end_levels, start_levels};
@@ -21,9 +21,9 @@ fn extent(set: &Spans) -> Extent {
     (set.len(), set.least(), set.greatest())
 }
 
-// The set of these runs, of cumuls up to 100.
+// The set of these runs of cumuls.
 fn cumuls(alloc: Global, runs: &[Run]) -> Result<Spans, NoMemory>
-    requires { All IsShort runs.now }
+    requires { All IsCumulRun runs.now }
     ensures { IfOk result IsCumuls }
 {
     Spans::from_runs(alloc, runs)
@@ -72,7 +72,7 @@ fn arcs_are_crossed_both_ways(rt: HostRuntime) -> Result<(), Fail> {
 // One break that starts from 4 to 6 and lasts 5.
 fn one_break() -> Breaks
     ensures breaks { All IsBreak result }
-    ensures few { length result ≤ 8 }
+    ensures one { length result ≡ 1 }
 {
     let mut rows = ArrayVec::new();
     rows.push(BreakRow {
@@ -90,7 +90,8 @@ fn extents(levels: &Levels) -> (Extent, Extent)
     (extent(levels.level(0)), extent(levels.level(1)))
 }
 
-// The levels of a start at 0, behind an arc of transit 10, slack 20 and visit time 2, before such an arc, and at an end.
+// The levels of a start at 0, behind an arc of transit 10, slack 20 and visit time 2, before such an arc, and at an
+// end.
 fn cross_a_break<L: Ledger>(alloc: Global, blank: Blank) -> Result<[(Extent, Extent); 4], Fail>
     requires name { blank.name ≡ L.name }
     requires parts { blank.parts ≡ L.parts }

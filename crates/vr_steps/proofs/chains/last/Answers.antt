@@ -1,4 +1,4 @@
-use Rattle.std.proofs.Common.{◌≡◌, pos, to_z, of_z, w64, refl, arith}
+use Rattle.std.proofs.Common.{◌≡◌, to_z, of_z, w64, refl, arith}
 use Rattle.std.specs.Int.{int_min}
 use Rattle.std.proofs.lemmas.Int.{ints, clamps}
 use Rattle.vr_model.specs.tables.Numbers.{horizon}
