@@ -1,8 +1,8 @@
 -- Rows that are written one after another.
-use Rattle.std.proofs.Common.{◌≡◌, ℕ, zero, suc, Bool, true, false, Option, Some, None, ◌+◌, ◌<◌, ◌≤◌, List, [], ◌∷◌, ◌++◌, length, get_or, set, take, drop, append-nil, ℤ, inl, inr, refl, sym, subst, ap, ◌∙◌, arith}
-use Rattle.std.specs.Prelude.{IsTrue, ◌↔◌, ◌==◌, is_some, IsNone, IfSome}
+use Rattle.std.proofs.Common.{◌≡◌, ℕ, zero, suc, Bool, true, false, Option, Some, None, ◌+◌, ◌<◌, ◌≤◌, List, [], ◌∷◌, ◌++◌, length, get_or, set, take, drop, ℤ, inl, inr, refl, sym, subst, ap, ◌∙◌, arith}
+use Rattle.std.specs.Prelude.{IsTrue, ◌↔◌, is_some, IsNone, IfSome}
 use Rattle.std.proofs.lemmas.Bool.{cases_lt}
-use Rattle.std.proofs.lemmas.List.{get_or-set_same, get_or-set_other, length-set, drop_all, take_all}
+use Rattle.std.proofs.lemmas.List.{get_or-set_same, get_or-set_other, length-set}
 use Rattle.vr_spans.specs.declared.runs.Run.{Run}
 use Rattle.vr_model.specs.schedules.Lines.{Line as Defined}
 use Rattle.vr_model.specs.schedules.Schedules.{IsFeasible}
@@ -32,11 +32,6 @@ read_back [] k d lt = absurd (omega (arith, lt))
 read_back (r ∷ rs) zero d lt = refl
 read_back (r ∷ rs) (suc k) d lt = read_back rs k d (omega (arith, lt))
 
-pub same_row : (rows : List (List (List Run))) (k : ℕ) (d : List (List Run)) → k < length rows → get_or rows k d ≡ row_at rows k
-same_row [] k d lt = absurd (omega (arith, lt))
-same_row (r ∷ rs) zero d lt = refl
-same_row (r ∷ rs) (suc k) d lt = same_row rs k d (omega (arith, lt))
-
 -- a row that is written in a part of the rows
 pub set_back : (rows : List (List (List Run))) (k : ℕ) (new : List (List Run)) → take k rows ++ set (drop k rows) 0 new ≡ set rows k new
 set_back rows zero new = refl
@@ -50,12 +45,6 @@ set_front_at (r ∷ rs) (suc k) new = ap (λ xs. r ∷ xs) (set_front_at rs k ne
 
 pub set_front : (rows : List (List (List Run))) (k : ℕ) (new : List (List Run)) → set (take (k + 1) rows) k new ++ drop (k + 1) rows ≡ set rows k new
 set_front rows k new = let e : k + 1 ≡ suc k = omega arith in rw e (set_front_at rows k new)
-
--- a list that was written over in place
-pub refilled : (new old : List (List (List Run))) (len : ℕ) → length new ≡ length old → len ≡ length old → take len (new ++ drop (length new) old) ≡ new
-refilled new old len same is =
-    let rest : drop (length new) old ≡ [] = drop_all (length new) old (omega (arith, same)) in
-    ap (λ xs. take len (new ++ xs)) rest ∙ (ap (take len) (append-nil new) ∙ take_all len new (omega (arith, same, is)))
 
 pub hold_first : (P : ℕ → List (List Run) → Type 0) (rows : List (List (List Run))) (new : List (List Run)) → 0 < length rows → P 0 new → HoldUpto P 0 (set rows 0 new)
 hold_first P rows new lt here j le = let e : 0 ≡ j = omega (arith, le) in subst (λ n. P n (row_at (set rows 0 new) n)) e (subst (P 0) (sym (get_or-set_same rows 0 new [] lt)) here)
@@ -137,10 +126,6 @@ feasible_at_start stands law line rows are defined of =
       λ shared. let m = shared.1 in there.1 (m.0, let lt = m.1 in omega (arith, lt, long, same), shared.0, m.3, m.4),
       λ feasible. let m = there.0 feasible in (m.2, (m.0, let le = m.1 in omega (arith, le, long, same), let le = m.1 in omega (arith, le, long_back, same), m.3, m.4)),
     )
-
--- a list that a test finds not empty
-pub some_from_test : (n : ℕ) (empty : Bool) → empty ≡ false → empty ≡ (n == 0) → 0 < n
-some_from_test n empty some is = grind arith
 
 -- whether a least cumul was found is whether there is a shared one
 pub found_where_shared : (P Q : ℤ → Type 0) → ((x : ℤ) → Q x → P x) → (found : Option ℤ) (some : Bool) → some ≡ is_some found → (IsNone found → (x : ℤ) → P x → ⊥) → IfSome found Q → IsTrue some ↔ ((x : ℤ) × P x)

@@ -1,29 +1,28 @@
 //! Forward and backward levels of each stop of a line.
 
-ghost use Rattle.std.specs.Prelude.{◌≡◌, ◌<◌, ◌↔◌, [], IsTrue, IfOk, OnOk, length, slice_get, slice_index_or, Some};
+ghost use Rattle.std.specs.Prelude.{◌≡◌, ◌<◌, ◌↔◌, [], IsTrue, IfOk, OnOk, length, slice_index_or};
 ghost use Rattle.vr_model.specs.schedules.Lines.{Line as Defined};
 ghost use Rattle.vr_model.specs.schedules.Schedules.{IsFeasible};
 ghost use Rattle.vr_steps.specs.Lines.{IsLineOf, IsSoundLine};
 ghost use Rattle.vr_steps.specs.declared.lines.Line.{Line as Made};
 ghost use Rattle.vr_reach.specs.Rows.{AreRows};
 
+use crate::Sweep;
 use crate::shared::share_at_first;
-use crate::sweeps::{fit, sweep_back, sweep_on};
 use std::alloc::Global;
-use std::marker::{Brand, Model};
-use std::sync::ledger::{Blank, Ledger};
-use vr_model::{NoMemory, Steps};
+use std::marker::Model;
+use vr_model::NoMemory;
 use vr_steps::{Levels, Line};
 
-/// The forward and backward levels of each stop of a line: with `b` breaks taken, the cumuls that are reached at the stop,
-/// and those from which the end is reached with the other breaks taken.
+/// The forward and backward levels of each stop of a line: with `b` breaks taken, the cumuls that are reached at the
+/// stop, and those from which the end is reached with the other breaks taken.
 ///
-/// Rows may be built anew in place: where the line has no more stops than before and no set has more runs, no memory is
-/// taken.
+/// Rows may be built anew in place, which takes memory only where the line has more stops than any before, or a set
+/// more runs than its place has room for.
 #[derive(Drop)]
 pub struct Rows {
-    ahead: Vec<Levels>,
-    behind: Vec<Levels>,
+    ahead: Sweep,
+    behind: Sweep,
 }
 
 impl Model for Rows {
@@ -31,7 +30,7 @@ impl Model for Rows {
 
     ghost Value = { BothWays };
 
-    ghost view = { λ r. record { forward = r.ahead.items; backward = r.behind.items } };
+    ghost view = { λ r. record { forward = r.ahead; backward = r.behind } };
 }
 
 impl Rows {
@@ -40,8 +39,8 @@ impl Rows {
         ensures { result ≡ record { forward = []; backward = [] } }
     {
         Rows {
-            ahead: Vec::new(alloc),
-            behind: Vec::new(alloc),
+            ahead: Sweep::new(alloc),
+            behind: Sweep::new(alloc),
         }
     }
 
@@ -60,10 +59,8 @@ impl Rows {
         requires { IsSoundLine line.now }
         ensures { OnOk result (AreRows line.now self.new) }
     {
-        fit(alloc, &mut self.ahead, line.allowed.len())?;
-        fit(alloc, &mut self.behind, line.allowed.len())?;
-        sweep_on::<Brand>(line, &mut self.ahead, Blank::new(1))?;
-        sweep_back::<Brand>(line, &mut self.behind, Blank::new(1))?;
+        self.ahead.forward(alloc, line)?;
+        self.behind.backward(alloc, line)?;
         Ok(())
     }
 
@@ -71,12 +68,13 @@ impl Rows {
     pub fn stops(&self) -> usize
         ensures { result ≡ length self.now.forward }
     {
-        self.ahead.len()
+        self.ahead.stops()
     }
 
     /// Whether the line has a schedule. It takes no memory.
     pub fn feasible(&self) -> bool
-        ensures { (line : Made) → AreRows line self.now → (defined : Defined) → IsLineOf defined line → IsTrue result ↔ IsFeasible defined }
+        ensures { (line : Made) → AreRows line self.now → (defined : Defined) → IsLineOf defined line →
+            IsTrue result ↔ IsFeasible defined }
     {
         vr_steps::laws::feasible_where_shared();
         vr_steps::laws::lines_stand_for_theirs();
@@ -88,7 +86,7 @@ impl Rows {
         requires { k < length self.now.forward }
         ensures { slice_index_or self.now.forward k [] ≡ result.now }
     {
-        &self.ahead[k]
+        self.ahead.levels(k)
     }
 
     /// The levels of stop `k` from which the end is reached. It takes no memory.
@@ -96,6 +94,13 @@ impl Rows {
         requires { k < length self.now.backward }
         ensures { slice_index_or self.now.backward k [] ≡ result.now }
     {
-        &self.behind[k]
+        self.behind.levels(k)
+    }
+
+    /// The levels of all stops from which the end is reached. It takes no memory.
+    pub fn backward_sweep(&self) -> &Sweep
+        ensures { result.now ≡ self.now.backward }
+    {
+        &self.behind
     }
 }

@@ -7,18 +7,19 @@ ghost use Rattle.vr_model.specs.tables.WellFormed.{IsBreak};
 ghost use Rattle.vr_spans.specs.Runs.{IsNormal};
 ghost use Rattle.vr_steps.specs.Arcs.{IsSoundHop};
 ghost use Rattle.vr_steps.specs.Levels.{IsCumuls, AreLevels, AreStartLevels, AreCrossed, forward_steps};
-ghost use Rattle.vr_reach.specs.Rows.{row_at};
+ghost use Rattle.vr_steps.specs.Lines.{IsLineOf, IsSoundLine};
+ghost use Rattle.vr_reach.specs.Rows.{IsForwardRow, row_at};
 ghost use Rattle.vr_reach.specs.Walks.{EndsAt, Meets, runs_in};
 
 use crate::Rows;
 use crate::shared::share;
 use std::alloc::Global;
-use std::marker::Model;
+use std::marker::{Brand, Model};
 use std::mem;
-use std::sync::ledger::Ledger;
+use std::sync::ledger::{Blank, Ledger};
 use vr_model::{NoMemory, Steps};
 use vr_spans::Spans;
-use vr_steps::{Breaks, Hop, Levels, can_end, cross_into, start_levels};
+use vr_steps::{Breaks, Hop, Levels, Line, can_end, cross_into, start_levels, start_levels_into};
 
 /// What is reached at a stop of a line, moved from stop to stop. Contracts see the levels at the stop where it stands.
 ///
@@ -76,8 +77,20 @@ impl Walk {
         })
     }
 
-    /// Whether the line at whose last stop the walk stands has a schedule: whether, with some number of breaks taken, the
-    /// others can be taken after some cumul. It takes no memory.
+    /// Whether a line has a schedule: goes along it from its start to its end. Afterwards nothing is said of where the
+    /// walk stands.
+    pub fn goes_along(&mut self, line: &Line) -> Result<bool, NoMemory>
+        requires { IsSoundLine line.now }
+        ensures { IfOk result (λ goes. (defined : Defined) → IsLineOf defined line.now →
+            IsTrue goes ↔ IsFeasible defined) }
+    {
+        vr_steps::laws::lines_stand_for_theirs();
+        walk_along::<Brand>(line, &mut self.here, &mut self.next, Blank::new(1))?;
+        Ok(self.ends(&line.breaks))
+    }
+
+    /// Whether the line at whose last stop the walk stands has a schedule: whether, with some number of breaks taken,
+    /// the others can be taken after some cumul. It takes no memory.
     pub fn ends(&self, breaks: &Breaks) -> bool
         requires breaks { All IsBreak breaks.now }
         requires few { length breaks.now ≤ 8 }
@@ -140,19 +153,20 @@ impl Walk {
         Ok(())
     }
 
-    /// Whether the line on which the walk stands has a schedule, where from this stop on it is the line of the rows from
-    /// `stop` on. It takes no memory, and counts a step for each run of both levels.
+    /// Whether the line on which the walk stands has a schedule, where from this stop on it is the line of the rows
+    /// from `stop` on. It takes no memory, and counts a step for each run of both levels.
     pub fn joins<L: Ledger>(&self, rows: &Rows, stop: usize, steps: &mut Steps<L>) -> bool
         requires stop { stop < length rows.now.backward }
-        ensures exact { (line : Defined) (k : ℕ) → Meets line k self.now (row_at rows.now.backward stop) → IsTrue result ↔ IsFeasible line }
+        ensures exact { (line : Defined) (k : ℕ) → Meets line k self.now (row_at rows.now.backward stop) →
+            IsTrue result ↔ IsFeasible line }
         ensures count { steps.new ≡ steps.old + (runs_in self.now + runs_in (row_at rows.now.backward stop)) }
     {
         let joined = self.meets(rows.backward(stop), steps);
         joined
     }
 
-    /// Whether the line on which the walk stands has a schedule, where these are the levels from which its end is reached
-    /// at this stop. It takes no memory, and counts a step for each run of both levels.
+    /// Whether the line on which the walk stands has a schedule, where these are the levels from which its end is
+    /// reached at this stop. It takes no memory, and counts a step for each run of both levels.
     pub fn meets<L: Ledger>(&self, behind: &Levels, steps: &mut Steps<L>) -> bool
         ensures exact { (line : Defined) (k : ℕ) → Meets line k self.now behind.now → IsTrue result ↔ IsFeasible line }
         ensures count { steps.new ≡ steps.old + (runs_in self.now + runs_in behind.now) }
@@ -164,6 +178,39 @@ impl Walk {
         count_runs(behind, steps);
         share(&self.here, behind)
     }
+}
+
+/// Writes what is reached at the last stop of a line over `here`.
+fn walk_along<L: Ledger>(
+    line: &Line,
+    here: &mut Levels,
+    next: &mut Levels,
+    blank: Blank,
+) -> Result<(), NoMemory>
+    requires name { blank.name ≡ L.name }
+    requires parts { blank.parts ≡ L.parts }
+    requires some { 0 < blank.parts }
+    requires sound { IsSoundLine line.now }
+    ensures { OnOk result (IsForwardRow line.now (length line.now.hops) here.new) }
+{
+    vr_steps::laws::lines_stand_for_theirs();
+    vr_steps::laws::start_is_reached();
+    vr_steps::laws::reached_behind_arc();
+    let mut steps = Steps::<L>::new(blank);
+    start_levels_into(line.allowed.get(0), &line.breaks, here)?;
+    for k in 0..line.hops.len() {
+        let hop = *line.hops.get(k);
+        cross_into(
+            here,
+            hop,
+            line.allowed.get(k + 1),
+            &line.breaks,
+            &mut steps,
+            next,
+        )?;
+        mem::swap(here, next);
+    }
+    Ok(())
 }
 
 /// Counts a step for each run of levels.
