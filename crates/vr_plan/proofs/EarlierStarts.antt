@@ -1,14 +1,14 @@
 -- A break of a schedule may start earlier in its place.
-use Rattle.std.proofs.Common.{◌≡◌, ℕ, zero, suc, ◌+◌, ◌-◌, ◌<◌, ◌≢◌, ◌≤◌, true, false, Bool, cond, ◌&&◌, List, [], ◌∷◌, length, get_or, set, ℤ, pos, ◌+ℤ◌, ◌-ℤ◌, ◌≤ℤ◌, ◌<ℤ◌, ◌⊎◌, inl, inr, refl, sym, subst, ap, ap₂, ◌∙◌, arith}
+use Rattle.std.proofs.Common.{◌≡◌, ℕ, zero, suc, ◌+◌, ◌<◌, ◌≢◌, ◌≤◌, true, false, Bool, cond, ◌&&◌, length, set, ℤ, pos, ◌+ℤ◌, ◌≤ℤ◌, ◌⊎◌, inl, inr, refl, sym, subst, ap, ◌∙◌, arith}
 use Rattle.std.specs.Prelude.{IsTrue, EachIndex, int_le}
 use Rattle.std.specs.List.{range_with_len}
 use Rattle.std.proofs.lemmas.Int.{ints}
 use Rattle.std.proofs.lemmas.Bool.{cases_lt}
 use Rattle.std.proofs.lemmas.List.{length-set, get_or-set_same, get_or-set_other}
-use Rattle.vr_model.specs.tables.Numbers.{number_at, below, total_by}
+use Rattle.vr_model.specs.tables.Numbers.{total_by}
 use Rattle.vr_model.specs.deciding.Testing.{and_left, and_right, and_both, le_of_test, test_of_le}
 use Rattle.vr_model.specs.schedules.Lines.{Line}
-use Rattle.vr_model.specs.schedules.Schedules.{Plan, both_sides, KeepsRules, IsSchedule, cumul, slack, break_at, break_start, break_end, is_before, is_after, is_inside, break_time, arc_at}
+use Rattle.vr_model.specs.schedules.Schedules.{Plan, IsSchedule, cumul, break_at, break_start, break_end, is_before, is_after, is_inside, break_time, arc_at}
 use Rattle.vr_model.specs.schedules.SoundLines.{IsSound}
 use Rattle.vr_model.proofs.schedules.LineParts.{ascends_to}
 

@@ -1,17 +1,14 @@
 -- The line whose stops allow given cumuls alone.
-use Rattle.std.proofs.Common.{◌≡◌, ℕ, zero, suc, ◌+◌, ◌<◌, false, Bool, ◌&&◌, List, [], ◌∷◌, ◌++◌, length, get_or, All, ℤ, pos, ◌≤ℤ◌, inl, inr, refl, sym, subst, ap, ap₂, ◌∙◌, arith}
-use Rattle.std.specs.Prelude.{IsTrue, EachIndex}
+use Rattle.std.proofs.Common.{◌≡◌, ℕ, zero, suc, ◌<◌, false, Bool, ◌&&◌, List, [], ◌∷◌, ◌++◌, length, get_or, ℤ, pos, inl, inr, refl, sym, subst, ap, ◌∙◌, arith}
+use Rattle.std.specs.Prelude.{IsTrue}
 use Rattle.std.specs.List.{AllZip}
-use Rattle.std.proofs.lemmas.Int.{ints}
 use Rattle.std.proofs.lemmas.Bool.{cases_lt}
 use Rattle.std.proofs.lemmas.List.{get_or_append_left, length-append, ext_get_or}
 use Rattle.vr_spans.specs.declared.runs.Run.{Run}
-use Rattle.vr_spans.specs.Runs.{has}
 use Rattle.vr_model.specs.tables.Numbers.{number_at, is_same_number, within, horizon}
 use Rattle.vr_model.specs.deciding.Testing.{and_left, and_right, and_both, tests_of_eq, eq_of_tests}
 use Rattle.vr_model.specs.schedules.Lines.{Line as Defined}
 use Rattle.vr_model.specs.schedules.Schedules.{Plan, IsSchedule, allows, cumul}
-use Rattle.vr_model.specs.schedules.SoundLines.{IsSound}
 use Rattle.vr_steps.specs.declared.lines.Line.{Line}
 use Rattle.vr_steps.specs.Levels.{HasNumbers}
 use Rattle.vr_steps.specs.Lines.{IsLineOf}
@@ -117,6 +114,3 @@ module _ (line : Defined) (cumuls : List ℤ) (long : length cumuls ≡ length l
 
       parts : (k : ℕ) → k < length line.allowed → IsTrue (get_or line.allowed k (λ _. false) (cumul plan k) && is_same_number (number_at cumuls k) (cumul plan k))
       parts k lt = sym (fixed_at line.allowed cumuls k (cumul plan k) long lt) ∙ and_right (within (pos 0) horizon (cumul plan k)) _ (here k lt)
-
-pub fixed_sound : (line : Defined) (cumuls : List ℤ) → IsSound line → IsSound (fixed line cumuls)
-fixed_sound line cumuls s = record { stops = length_fixed line.allowed cumuls ∙ s.stops; visits = s.visits; durations = s.durations; forward = s.forward }

@@ -1,30 +1,29 @@
 -- One stop after another is settled at the least cumul that schedules have there.
-use Rattle.std.proofs.Common.{◌≡◌, ℕ, zero, suc, ◌+◌, ◌<◌, ◌≤◌, true, false, Bool, ◌&&◌, List, [], ◌∷◌, ◌++◌, length, get_or, set, take, drop, ℤ, pos, ◌≤ℤ◌, Option, Some, None, inl, inr, refl, sym, subst, ap, ap₂, ◌∙◌, arith}
-use Rattle.std.specs.Prelude.{IsTrue, ◌↔◌, is_some}
-use Rattle.std.proofs.lemmas.Int.{ints}
-use Rattle.std.proofs.lemmas.Bool.{cases_lt, and_parts}
-use Rattle.std.proofs.lemmas.List.{get_or-set_same, get_or-set_other, get_or-drop, length-set, ext_get_or, get_or_append_left, length-append}
+use Rattle.std.proofs.Common.{◌≡◌, ℕ, zero, suc, ◌+◌, ◌<◌, ◌≤◌, true, false, Bool, ◌&&◌, List, [], ◌∷◌, ◌++◌, length, get_or, set, take, drop, ℤ, pos, ◌≤ℤ◌, Option, Some, None, inl, inr, refl, sym, subst, ap, ◌∙◌, arith}
+use Rattle.std.specs.Prelude.{is_some}
+use Rattle.std.proofs.lemmas.Bool.{cases_lt}
+use Rattle.std.proofs.lemmas.List.{get_or-set_same, get_or-drop, length-set, ext_get_or, get_or_append_left, length-append}
 use Rattle.vr_spans.specs.declared.runs.Run.{Run}
-use Rattle.vr_spans.specs.Runs.{has}
-use Rattle.vr_model.specs.tables.Numbers.{number_at, is_same_number, horizon, within}
+use Rattle.vr_model.specs.tables.Numbers.{number_at, is_same_number, horizon}
 use Rattle.std.proofs.lemmas.List.Elements.{All-push}
 use Rattle.vr_model.specs.tables.WellFormed.{IsIn}
 use Rattle.vr_model.specs.deciding.Testing.{within_is}
 use Rattle.vr_model.specs.schedules.Lines.{Line as Defined, Arc}
-use Rattle.vr_model.specs.schedules.Schedules.{Plan, IsSchedule, IsChosen, IsFeasible, IsReached, ReachesEnd, KeepsRules, before_only, after_only, cumul, front, back, arc_at, no_arc}
+use Rattle.vr_model.specs.schedules.Schedules.{Plan, IsSchedule, IsChosen, IsFeasible, KeepsRules, before_only, after_only, cumul, front, back, no_arc}
 use Rattle.vr_model.specs.schedules.SoundLines.{IsSound}
 use Rattle.vr_model.specs.schedules.Levels.{CumulWhereLevelsMeet}
-use Rattle.vr_model.specs.schedules.Choices.{chosen, is_feasible}
+use Rattle.vr_model.specs.schedules.Choices.{chosen}
 use Rattle.vr_model.specs.schedules.ChosenLaws.{pinned, LeastCumulMayBePinned, ChosenWhereFeasible, ChosenIsLeast}
 use Rattle.vr_model.specs.declared.records.BreakRow.{BreakRow}
 use Rattle.vr_model.proofs.schedules.Narrowing.{to_pinned, of_pinned}
 use Rattle.vr_steps.specs.declared.hops.Hop.{Hop}
 use Rattle.vr_steps.specs.declared.lines.Line.{Line}
-use Rattle.vr_steps.specs.Levels.{AreLevels, AreStartLevels, AreCrossed, IsCumuls, level_at}
+use Rattle.vr_steps.specs.Levels.{AreLevels, AreStartLevels, AreCrossed, IsCumuls}
 use Rattle.vr_steps.specs.Lines.{IsLineOf, IsSoundLine, hop_of}
 use Rattle.vr_steps.specs.Reached.{LinesStandForTheirs, StartIsReached, ReachedBehindArc, IsAllowedSet, AreReached, AreReachingEnd, hop_at, StandsFor}
-use Rattle.vr_reach.specs.Rows.{BothWays, AreRows, row_at}
+use Rattle.vr_reach.specs.Rows.{AreBackward, IsForwardRow, row_at}
 use Rattle.vr_reach.specs.Shared.{SharedAt, IsLeastShared}
+use Rattle.vr_plan.proofs.SlackLemmas.{number_last}
 use Rattle.vr_plan.specs.Settled.{IsOnly, IsNarrowed, IsSettled, IsUnfeasible, HaveChosenCumuls}
 
 take_set : {A : Type 0} (xs : List A) (n k : ℕ) (x : A) → n ≤ k → take n (set xs k x) ≡ take n xs
@@ -111,36 +110,30 @@ reaching_same line narrow k rest arcs slack breaks to are b few y =
 number_before : (cumuls : List ℤ) (x : ℤ) (i : ℕ) → i < length cumuls → number_at (cumuls ++ x ∷ []) i ≡ number_at cumuls i
 number_before cumuls x i lt = get_or_append_left cumuls (x ∷ []) (pos 0) i lt
 
-number_last : (cumuls : List ℤ) (x : ℤ) (i : ℕ) → length cumuls ≡ i → number_at (cumuls ++ x ∷ []) i ≡ x
-number_last [] x zero e = refl
-number_last [] x (suc i) e = absurd (omega (arith, e))
-number_last (c ∷ cs) x zero e = absurd (omega (arith, e))
-number_last (c ∷ cs) x (suc i) e = number_last cs x i (omega (arith, e))
-
-module _ (stands : LinesStandForTheirs) (meet : CumulWhereLevelsMeet) (law : LeastCumulMayBePinned) (made : Line) (rows : BothWays) (are : AreRows made rows) where
+module _ (stands : LinesStandForTheirs) (meet : CumulWhereLevelsMeet) (law : LeastCumulMayBePinned) (made : Line) (rows : List (List (List Run))) (sound_made : IsSoundLine made) (are : AreBackward made rows) where
   -- the levels of a line have as many sets
   long_of : (defined : Defined) → IsLineOf defined made → (levels : List (List Run)) → AreLevels made.breaks levels → length levels ≡ suc (length defined.breaks)
-  long_of defined of levels m = m.one_more ∙ ap (λ bs. suc (length bs)) (sym (stands defined made of are.sound).breaks)
+  long_of defined of levels m = m.one_more ∙ ap (λ bs. suc (length bs)) (sym (stands defined made of sound_made).breaks)
 
   -- no cumul is shared at the start
-  pub unfeasible_at_start : (from to : List (List Run)) → row_at rows.forward 0 ≡ from → row_at rows.backward 0 ≡ to → ((x : ℤ) → SharedAt from to x → ⊥) → IsUnfeasible made
+  pub unfeasible_at_start : (from to : List (List Run)) → IsForwardRow made 0 from → row_at rows 0 ≡ to → ((x : ℤ) → SharedAt from to x → ⊥) → IsUnfeasible made
   unfeasible_at_start from to first last none defined of feasible =
-      let s = stands defined made of are.sound in
-      let n = are.sound.stops in
-      let ahead = subst (λ r. AreLevels made.breaks r × AreReached defined 0 r) first (let m = are.forward.each 0 (omega (arith, n)) in (m.form, m.exact defined of)) in
-      let behind = subst (λ r. AreLevels made.breaks r × AreReachingEnd defined 0 r) last (let m = are.backward.each 0 (omega (arith, n)) in (m.form, m.exact defined of)) in
+      let s = stands defined made of sound_made in
+      let n = sound_made.stops in
+      let ahead : AreLevels made.breaks from × AreReached defined 0 from = (first.form, first.exact defined of) in
+      let behind = subst (λ r. AreLevels made.breaks r × AreReachingEnd defined 0 r) last (let m = are.each 0 (omega (arith, n)) in (m.form, m.exact defined of)) in
       none_shared defined s.sound 0 (omega arith) from to (long_of defined of from ahead.0) (long_of defined of to behind.0) ahead.1 behind.1 meet none feasible
 
   -- the start is settled
-  pub settled_at_start : StartIsReached → (from to : List (List Run)) → row_at rows.forward 0 ≡ from → row_at rows.backward 0 ≡ to → (x : ℤ) → IsLeastShared from to x → (set only : List Run) (here : List (List Run)) → ((d : List Run) → get_or made.allowed 0 d ≡ set) → IsOnly set x only → IsCumuls only → AreStartLevels only made.breaks here → IsIn (pos 0) horizon x → IsSettled made 0 (x ∷ []) here
+  pub settled_at_start : StartIsReached → (from to : List (List Run)) → IsForwardRow made 0 from → row_at rows 0 ≡ to → (x : ℤ) → IsLeastShared from to x → (set only : List Run) (here : List (List Run)) → ((d : List Run) → get_or made.allowed 0 d ≡ set) → IsOnly set x only → IsCumuls only → AreStartLevels only made.breaks here → IsIn (pos 0) horizon x → IsSettled made 0 (x ∷ []) here
   settled_at_start start from to first last x least set only here set_is is cumuls levels range = record {
     cumul_of_each = refl;
     in_range = All-push (IsIn (pos 0) horizon) [] x (λ i d lt. absurd (omega arith)) range;
     narrowed = λ defined of.
-        let s = stands defined made of are.sound in
-        let n = are.sound.stops in
-        let ahead = subst (λ r. AreLevels made.breaks r × AreReached defined 0 r) first (let m = are.forward.each 0 (omega (arith, n)) in (m.form, m.exact defined of)) in
-        let behind = subst (λ r. AreLevels made.breaks r × AreReachingEnd defined 0 r) last (let m = are.backward.each 0 (omega (arith, n)) in (m.form, m.exact defined of)) in
+        let s = stands defined made of sound_made in
+        let n = sound_made.stops in
+        let ahead : AreLevels made.breaks from × AreReached defined 0 from = (first.form, first.exact defined of) in
+        let behind = subst (λ r. AreLevels made.breaks r × AreReachingEnd defined 0 r) last (let m = are.each 0 (omega (arith, n)) in (m.form, m.exact defined of)) in
         let long = long_of defined of from ahead.0 in
         let long_too = long_of defined of to behind.0 in
         let le : 0 ≤ length defined.arcs = omega arith in
@@ -162,10 +155,10 @@ module _ (stands : LinesStandForTheirs) (meet : CumulWhereLevelsMeet) (law : Lea
         );
   }
 
-  module _ (arc_law : ReachedBehindArc) (k : ℕ) (lt : k < length made.hops) (cumuls : List ℤ) (here : List (List Run)) (settled : IsSettled made k cumuls here) (set : List Run) (hop : Hop) (from to : List (List Run)) (set_is : (d : List Run) → get_or made.allowed (k + 1) d ≡ set) (hop_is : (d : Hop) → get_or made.hops k d ≡ hop) (crossed : AreCrossed here hop set made.breaks from) (fit : AreLevels made.breaks from) (to_is : row_at rows.backward (k + 1) ≡ to) where
+  module _ (arc_law : ReachedBehindArc) (k : ℕ) (lt : k < length made.hops) (cumuls : List ℤ) (here : List (List Run)) (settled : IsSettled made k cumuls here) (set : List Run) (hop : Hop) (from to : List (List Run)) (set_is : (d : List Run) → get_or made.allowed (k + 1) d ≡ set) (hop_is : (d : Hop) → get_or made.hops k d ≡ hop) (crossed : AreCrossed here hop set made.breaks from) (fit : AreLevels made.breaks from) (to_is : row_at rows (k + 1) ≡ to) where
     module _ (defined : Defined) (of : IsLineOf defined made) where
       s : StandsFor defined made
-      s = stands defined made of are.sound
+      s = stands defined made of sound_made
 
       abbrev narrow : Defined
       narrow = (settled.narrowed defined of).0
@@ -183,14 +176,14 @@ module _ (stands : LinesStandForTheirs) (meet : CumulWhereLevelsMeet) (law : Lea
       hop_same = sym (hop_is hop) ∙ (s.hops k hop lt ∙ (λ i. hop_of (sym m.slack i) (get_or (sym m.arcs i) k no_arc)))
 
       back_row : AreLevels made.breaks to × AreReachingEnd defined (suc k) to
-      back_row = subst (λ i. AreLevels made.breaks to × AreReachingEnd defined i to) next (subst (λ r. AreLevels made.breaks r × AreReachingEnd defined (k + 1) r) to_is (let r = are.backward.each (k + 1) (omega (arith, are.sound.stops, lt)) in (r.form, r.exact defined of)))
+      back_row = subst (λ i. AreLevels made.breaks to × AreReachingEnd defined i to) next (subst (λ r. AreLevels made.breaks r × AreReachingEnd defined (k + 1) r) to_is (let r = are.each (k + 1) (omega (arith, sound_made.stops, lt)) in (r.form, r.exact defined of)))
 
       reaching : AreReachingEnd (settled.narrowed defined of).0 (suc k) to
       reaching = reaching_same defined (settled.narrowed defined of).0 k m.rest m.arcs m.slack m.breaks to back_row.1
 
       allowed : IsAllowedSet (settled.narrowed defined of).0 (suc k) set
       allowed =
-          let theirs = subst (λ i. IsAllowedSet defined i set) next (subst (IsAllowedSet defined (k + 1)) (set_is []) (s.allowed (k + 1) (omega (arith, are.sound.stops, lt)))) in
+          let theirs = subst (λ i. IsAllowedSet defined i set) next (subst (IsAllowedSet defined (k + 1)) (set_is []) (s.allowed (k + 1) (omega (arith, sound_made.stops, lt)))) in
           let zero_more : suc k + 0 ≡ suc k = omega arith in
           let same : get_or (settled.narrowed defined of).0.allowed (suc k) (λ _. false) ≡ get_or defined.allowed (suc k) (λ _. false) =
           ap (λ i. get_or (settled.narrowed defined of).0.allowed i (λ _. false)) (sym zero_more) ∙ (sym (get_or-drop (suc k) (settled.narrowed defined of).0.allowed 0 (λ _. false))

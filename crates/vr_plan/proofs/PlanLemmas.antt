@@ -1,6 +1,6 @@
 -- The plan of the chosen cumuls and break starts of a line.
-use Rattle.std.proofs.Common.{◌≡◌, ℕ, suc, ◌<◌, true, false, Bool, List, [], ◌∷◌, length, get_or, ℤ, pos, ◌-ℤ◌, Option, Some, None, refl, sym, subst, ap, ◌∙◌, arith}
-use Rattle.std.specs.Prelude.{IsTrue, ◌↔◌, is_some, IfSome, IsNone, ◌==◌}
+use Rattle.std.proofs.Common.{◌≡◌, suc, ◌<◌, true, List, [], ◌∷◌, length, get_or, ℤ, pos, Option, Some, None, refl, sym, ap, ◌∙◌, arith}
+use Rattle.std.specs.Prelude.{is_some, IfSome, IsNone}
 use Rattle.std.specs.Option.{option_map}
 use Rattle.std.proofs.lemmas.Int.{ints}
 use Rattle.std.proofs.lemmas.List.{ext_get_or}
@@ -8,13 +8,12 @@ use Rattle.vr_spans.specs.Runs.{has}
 use Rattle.vr_model.specs.deciding.Testing.{and_right, eq_of_tests}
 use Rattle.vr_model.specs.tables.Numbers.{number_at, within, horizon}
 use Rattle.vr_model.specs.schedules.Lines.{Line as Defined}
-use Rattle.vr_model.specs.schedules.Schedules.{Plan as Wanted, IsChosen, IsFeasible, arc_at, cumul}
-use Rattle.vr_model.specs.schedules.Choices.{chosen, is_feasible}
+use Rattle.vr_model.specs.schedules.Schedules.{Plan as Wanted, IsChosen, cumul}
+use Rattle.vr_model.specs.schedules.Choices.{chosen}
 use Rattle.vr_model.specs.schedules.ChosenLaws.{ChosenWhereFeasible, ChosenIsLeast, OneChosen}
-use Rattle.vr_steps.specs.declared.hops.Hop.{Hop}
 use Rattle.vr_steps.specs.declared.lines.Line.{Line}
 use Rattle.vr_steps.specs.Lines.{IsLineOf, IsSoundLine}
-use Rattle.vr_steps.specs.Reached.{LinesStandForTheirs, hop_at}
+use Rattle.vr_steps.specs.Reached.{LinesStandForTheirs}
 use Rattle.vr_plan.specs.declared.plans.Plan.{Plan}
 use Rattle.vr_plan.specs.Plans.{AreSlacks, cumuls_of, no_hop, seen}
 use Rattle.vr_plan.specs.Narrow.{AreOnly, fixed}

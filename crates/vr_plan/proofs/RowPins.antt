@@ -1,14 +1,13 @@
 -- The least start of a break, put in: what is chosen then is chosen of the line too.
-use Rattle.std.proofs.Common.{◌≡◌, ℕ, zero, suc, ◌+◌, ◌<◌, ◌≢◌, ◌≤◌, true, false, Bool, cond, ◌&&◌, List, [], ◌∷◌, ◌++◌, length, get_or, set, ℤ, pos, ◌+ℤ◌, ◌-ℤ◌, ◌≤ℤ◌, ◌<ℤ◌, ◌⊎◌, inl, inr, refl, sym, subst, ap, ap₂, ◌∙◌, arith}
-use Rattle.std.specs.Prelude.{IsTrue, EachIndex, int_le, int_lt}
+use Rattle.std.proofs.Common.{◌≡◌, ℕ, suc, ◌<◌, ◌≢◌, true, cond, ◌&&◌, List, [], ◌∷◌, ◌++◌, length, ℤ, pos, ◌+ℤ◌, ◌≤ℤ◌, ◌<ℤ◌, ◌⊎◌, inl, inr, sym, subst, ap, ap₂, ◌∙◌, arith}
+use Rattle.std.specs.Prelude.{IsTrue, int_le, int_lt}
 use Rattle.std.proofs.lemmas.Int.{ints}
 use Rattle.std.proofs.lemmas.Bool.{cases_lt}
 use Rattle.std.proofs.lemmas.List.{length-set, get_or-set_same, get_or-set_other}
-use Rattle.vr_model.specs.tables.Numbers.{number_at, below, total_by, is_lex_le}
+use Rattle.vr_model.specs.tables.Numbers.{below, total_by, is_lex_le}
 use Rattle.vr_model.specs.deciding.Testing.{and_both, or_right, test_of_le}
 use Rattle.vr_model.specs.schedules.Lines.{Line}
 use Rattle.vr_model.specs.schedules.Schedules.{Plan, Sides, both_sides, KeepsRules, IsSchedule, IsChosen, cumul, break_at, break_start, break_end, is_before, is_after, is_inside, break_time, arc_at, no_break}
-use Rattle.vr_model.specs.declared.records.BreakRow.{BreakRow}
 use Rattle.vr_plan.specs.Narrow.{at_start, row_pinned}
 use Rattle.vr_model.proofs.tables.Totals.{sum_same}
 use Rattle.vr_model.proofs.schedules.Narrowing.{lex_less_at}

@@ -1,5 +1,5 @@
 -- One slack more.
-use Rattle.std.proofs.Common.{◌≡◌, ℕ, zero, suc, ◌+◌, ◌<◌, List, [], ◌∷◌, ◌++◌, length, ℤ, pos, ◌-ℤ◌, inl, inr, refl, sym, subst, ap, ◌∙◌, arith}
+use Rattle.std.proofs.Common.{◌≡◌, ℕ, zero, suc, ◌<◌, List, [], ◌∷◌, ◌++◌, length, ℤ, pos, ◌-ℤ◌, inl, inr, refl, ap, ◌∙◌, arith}
 use Rattle.std.specs.Prelude.{slice_index_or}
 use Rattle.std.proofs.lemmas.Bool.{cases_lt}
 use Rattle.std.proofs.lemmas.List.{get_or_append_left, length-append}
@@ -11,7 +11,8 @@ use Rattle.vr_plan.specs.Plans.{no_hop}
 abbrev pub slack_of : List Hop → List ℤ → ℕ → ℤ
 slack_of hops cumuls j = (number_at cumuls (suc j) -ℤ number_at cumuls j) -ℤ (slice_index_or hops j no_hop).transit
 
-number_last : (xs : List ℤ) (x : ℤ) (i : ℕ) → length xs ≡ i → number_at (xs ++ x ∷ []) i ≡ x
+-- the number that was added last
+pub number_last : (xs : List ℤ) (x : ℤ) (i : ℕ) → length xs ≡ i → number_at (xs ++ x ∷ []) i ≡ x
 number_last [] x zero e = refl
 number_last [] x (suc i) e = absurd (omega (arith, e))
 number_last (c ∷ cs) x zero e = absurd (omega (arith, e))

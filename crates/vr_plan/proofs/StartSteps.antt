@@ -1,12 +1,11 @@
 -- Break starts put in one after another.
-use Rattle.std.proofs.Common.{◌≡◌, ℕ, zero, suc, ◌+◌, ◌<◌, ◌≤◌, ◌^◌, true, false, List, [], ◌∷◌, ◌++◌, length, get_or, set, Option, Some, None, ℤ, pos, ◌+ℤ◌, ◌≤ℤ◌, inl, inr, refl, sym, subst, ap, ◌∙◌, arith}
-use Rattle.std.specs.Prelude.{IsTrue, ◌↔◌, is_some, IfSome}
-use Rattle.std.specs.Int.{int_min}
+use Rattle.std.proofs.Common.{◌≡◌, ℕ, zero, suc, ◌+◌, ◌<◌, ◌^◌, true, false, List, [], ◌∷◌, ◌++◌, length, get_or, Option, Some, None, ℤ, pos, ◌+ℤ◌, ◌≤ℤ◌, inl, inr, refl, sym, subst, ap, ◌∙◌, arith}
+use Rattle.std.specs.Prelude.{is_some, IfSome}
 use Rattle.std.proofs.lemmas.Int.{ints, clamps}
 use Rattle.std.proofs.lemmas.Bool.{cases_lt}
 use Rattle.std.proofs.lemmas.List.{get_or_append_left, length-append, length-set, ext_get_or}
-use Rattle.vr_model.specs.tables.Numbers.{number_at, horizon}
-use Rattle.vr_model.specs.tables.WellFormed.{IsIn, IsBreak}
+use Rattle.vr_model.specs.tables.Numbers.{number_at}
+use Rattle.vr_model.specs.tables.WellFormed.{IsIn}
 use Rattle.vr_model.specs.schedules.Lines.{Line as Defined}
 use Rattle.vr_model.specs.schedules.Schedules.{Plan, IsSchedule, IsChosen, IsFeasible, break_at, break_start, break_end, no_break}
 use Rattle.vr_model.specs.schedules.Choices.{chosen}
@@ -17,7 +16,7 @@ use Rattle.vr_steps.specs.declared.lines.Line.{Line}
 use Rattle.vr_steps.specs.Lines.{IsLineOf, IsSoundLine}
 use Rattle.vr_steps.specs.Reached.{LinesStandForTheirs, StandsFor}
 use Rattle.vr_plan.specs.Plans.{no_hop}
-use Rattle.vr_plan.specs.Narrow.{at_start, row_pinned, first_at, IsLeastTried, IsStartOf, with_start}
+use Rattle.vr_plan.specs.Narrow.{row_pinned, first_at, IsLeastTried, IsStartOf, with_start}
 use Rattle.vr_plan.specs.Settled.{IsUnfeasible}
 use Rattle.vr_plan.specs.Starts.{HaveCumuls, HaveStarts}
 use Rattle.vr_plan.proofs.RowPins.{of_row_pinned, same_duration, least_start_may_be_pinned}

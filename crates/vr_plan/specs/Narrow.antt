@@ -1,5 +1,6 @@
 -- Lines whose cumuls and break starts are put in.
-use Rattle.std.specs.Prelude.{◌≡◌, ℕ, zero, suc, ◌<◌, nat_lt, ◌&&◌, Bool, if◌then◌else◌, List, [], ◌∷◌, length, set, slice_index_or, Option, Some, None, ℤ, pos, ◌+ℤ◌, ◌≤ℤ◌}
+use Rattle.std.specs.Prelude.{◌≡◌, ℕ, zero, suc, ◌<◌, nat_lt, ◌&&◌, Bool, if◌then◌else◌, List, [], ◌∷◌, length, set}
+use Rattle.std.specs.Prelude.{slice_index_or, Option, Some, None, ℤ, pos, ◌+ℤ◌, ◌≤ℤ◌}
 use Rattle.std.specs.Int.{int_max}
 use Rattle.vr_spans.specs.declared.runs.Run.{Run}
 use Rattle.vr_model.specs.tables.Numbers.{number_at, is_same_number}
@@ -14,7 +15,8 @@ use Rattle.vr_plan.specs.Settled.{IsOnly}
 -- each set has its cumul alone, where the set of its stop has it
 pub record AreOnly (allowed : List (List Run)) (cumuls : List ℤ) (sets : List (List Run)) : Type 0 where
   pub one_of_each : length sets ≡ length allowed
-  pub each : (k : ℕ) → k < length sets → IsOnly (slice_index_or allowed k []) (number_at cumuls k) (slice_index_or sets k [])
+  pub each : (k : ℕ) → k < length sets
+      → IsOnly (slice_index_or allowed k []) (number_at cumuls k) (slice_index_or sets k [])
 
 -- what stops allow that allow these cumuls alone
 abbrev pub fixed_allowed : List (ℤ → Bool) → List ℤ → List (ℤ → Bool)
@@ -37,7 +39,9 @@ row_pinned line i x = record line { breaks = set line.breaks i (at_start (break_
 -- where a place of a break begins: before the first stop, inside arc k, or after the last stop
 abbrev pub place_begin : List Hop → List ℤ → ℕ → ℤ
 place_begin hops cumuls zero = pos 0
-place_begin hops cumuls (suc k) = if nat_lt k (length hops) then number_at cumuls k +ℤ (slice_index_or hops k no_hop).visit else number_at cumuls (length hops)
+place_begin hops cumuls (suc k) =
+    if nat_lt k (length hops) then number_at cumuls k +ℤ (slice_index_or hops k no_hop).visit
+    else number_at cumuls (length hops)
 
 -- the first start of a break in a place, where it may not start before ready
 abbrev pub first_at : List Hop → List ℤ → BreakRow → ℤ → ℕ → ℤ
@@ -51,7 +55,8 @@ IsTried line i to first (Some x) = (x ≡ first) × (first ≤ℤ to) × IsFeasi
 -- the least of the starts in the first n places with which the line has a schedule
 abbrev pub IsLeastTried : Line → ℕ → ℤ → (ℕ → ℤ) → ℕ → Option ℤ → Type 0
 IsLeastTried line i to firsts n None = (p : ℕ) → p < n → firsts p ≤ℤ to → IsFeasible (row_pinned line i (firsts p)) → ⊥
-IsLeastTried line i to firsts n (Some x) = ((p : ℕ) × (p < n) × (x ≡ firsts p)) × (x ≤ℤ to) × IsFeasible (row_pinned line i x)
+IsLeastTried line i to firsts n (Some x) = ((p : ℕ) × (p < n) × (x ≡ firsts p)) × (x ≤ℤ to)
+    × IsFeasible (row_pinned line i x)
     × ((p : ℕ) → p < n → firsts p ≤ℤ to → IsFeasible (row_pinned line i (firsts p)) → x ≤ℤ firsts p)
 
 -- the break may start at x
@@ -61,4 +66,8 @@ pub record IsStartOf (row : BreakRow) (x : ℤ) : Type 0 where
 
 -- the line as the code holds it whose break i starts at x
 abbrev pub with_start : Made → ℕ → ℤ → Made
-with_start line i x = record { allowed = line.allowed; hops = line.hops; breaks = set line.breaks i (at_start (slice_index_or line.breaks i no_break) x) }
+with_start line i x = record {
+  allowed = line.allowed;
+  hops = line.hops;
+  breaks = set line.breaks i (at_start (slice_index_or line.breaks i no_break) x);
+}

@@ -23,9 +23,10 @@ IsUnfeasible line = (defined : Defined) → IsLineOf defined line → IsFeasible
 abbrev pub Goes : Type 0 → Bool → Type 0
 Goes P goes = goes ≡ true → P
 
--- A narrower line, whose stops up to k allow the settled cumuls alone, and whose later stops are those of the line. It is
--- feasible, what is chosen of it is chosen of the line, and the levels are what it reaches at stop k.
-pub record IsNarrowed (defined : Defined) (k : ℕ) (cumuls : List ℤ) (here : List (List Run)) (narrow : Defined) : Type 0 where
+-- A narrower line, whose stops up to k allow the settled cumuls alone, and whose later stops are those of the line. It
+-- is feasible, what is chosen of it is chosen of the line, and the levels are what it reaches at stop k.
+pub record IsNarrowed (defined : Defined) (k : ℕ) (cumuls : List ℤ) (here : List (List Run)) (narrow : Defined)
+    : Type 0 where
   pub sound : IsSound narrow
   pub arcs : narrow.arcs ≡ defined.arcs
   pub slack : narrow.slack_max ≡ defined.slack_max
@@ -41,10 +42,12 @@ pub record IsNarrowed (defined : Defined) (k : ℕ) (cumuls : List ℤ) (here : 
 pub record IsSettled (line : Line) (k : ℕ) (cumuls : List ℤ) (here : List (List Run)) : Type 0 where
   pub cumul_of_each : length cumuls ≡ suc k
   pub in_range : All (IsIn (pos 0) horizon) cumuls
-  pub narrowed : (defined : Defined) → IsLineOf defined line → (narrow : Defined) × IsNarrowed defined k cumuls here narrow
+  pub narrowed : (defined : Defined) → IsLineOf defined line → (narrow : Defined)
+      × IsNarrowed defined k cumuls here narrow
 
 -- these are the cumuls of the chosen schedule, one for each stop
 pub record HaveChosenCumuls (line : Line) (cumuls : List ℤ) : Type 0 where
   pub cumul_of_each_stop : length cumuls ≡ length line.allowed
   pub in_range : All (IsIn (pos 0) horizon) cumuls
-  pub chosen : (defined : Defined) → IsLineOf defined line → (plan : Plan) × IsChosen defined plan × (plan.cumuls ≡ cumuls)
+  pub chosen : (defined : Defined) → IsLineOf defined line → (plan : Plan) × IsChosen defined plan
+      × (plan.cumuls ≡ cumuls)

@@ -4,14 +4,15 @@ ghost use Rattle.std.specs.Prelude.{◌≡◌, ◌<◌, [], pos, false, IfOk, If
 ghost use Rattle.vr_model.specs.tables.Numbers.{horizon};
 ghost use Rattle.vr_model.specs.tables.WellFormed.{IsIn};
 ghost use Rattle.vr_steps.specs.Levels.{AreLevels, IsCumuls};
-ghost use Rattle.vr_reach.specs.Rows.{AreRows};
+ghost use Rattle.vr_steps.specs.Lines.{IsSoundLine};
+ghost use Rattle.vr_reach.specs.Rows.{AreBackward};
 ghost use Rattle.vr_plan.specs.Settled.{IsOnly, IsSettled, HaveChosenCumuls, IsUnfeasible, Goes};
 
 use std::alloc::Global;
 use std::mem;
 use std::sync::ledger::{Blank, Ledger};
 use vr_model::{NoMemory, Seq, Steps};
-use vr_reach::{Rows, least_shared};
+use vr_reach::{Sweep, least_shared};
 use vr_spans::{Run, Spans};
 use vr_steps::{Levels, Line, cross_into, start_levels_into};
 
@@ -23,17 +24,19 @@ struct Room {
     next: Levels,
 }
 
-/// The cumuls of the chosen schedule of a line, over its rows; `None` exactly where the line has no schedule.
+/// The cumuls of the chosen schedule of a line, by what its end is reached from; `None` exactly where the line has no
+/// schedule.
 pub(crate) fn settled_cumuls<L: Ledger>(
     alloc: Global,
     line: &Line,
-    rows: &Rows,
+    behind: &Sweep,
     blank: Blank,
 ) -> Result<Option<Seq<i64>>, NoMemory>
     requires name { blank.name ≡ L.name }
     requires parts { blank.parts ≡ L.parts }
     requires some { 0 < blank.parts }
-    requires rows { AreRows line.now rows.now }
+    requires sound { IsSoundLine line.now }
+    requires behind { AreBackward line.now behind.now }
     ensures some { IfOk result (λ found. IfSome found (HaveChosenCumuls line.now)) }
     ensures none { IfOk result (λ found. IsNone found → IsUnfeasible line.now) }
 {
@@ -43,19 +46,20 @@ pub(crate) fn settled_cumuls<L: Ledger>(
         next: Levels::new(alloc),
     };
     let mut cumuls = Seq::new(alloc);
-    let goes = settle::<L>(line, rows, &mut room, &mut cumuls, blank)?;
+    let goes = settle::<L>(line, behind, &mut room, &mut cumuls, blank)?;
     Ok(goes.then_some(cumuls))
 }
 
 /// Settles the cumul of the start: the least that schedules have there. Answers whether there is a schedule.
 fn begin(
     line: &Line,
-    rows: &Rows,
+    behind: &Sweep,
     only: &mut Spans,
     here: &mut Levels,
     cumuls: &mut Seq<i64>,
 ) -> Result<bool, NoMemory>
-    requires rows { AreRows line.now rows.now }
+    requires sound { IsSoundLine line.now }
+    requires behind { AreBackward line.now behind.now }
     requires none { cumuls.old ≡ [] }
     ensures settled { IfOk result (Goes (IsSettled line.now 0 cumuls.new here.new)) }
     ensures levels { IfOk result (Goes (AreLevels line.now.breaks here.new)) }
@@ -65,10 +69,12 @@ fn begin(
     vr_steps::laws::start_is_reached();
     vr_model::laws::cumul_where_levels_meet();
     vr_model::laws::least_cumul_may_be_pinned();
-    let Some(first) = least_shared(rows.forward(0), rows.backward(0)) else {
+    let allowed = line.allowed.get(0);
+    start_levels_into(allowed, &line.breaks, here)?;
+    let Some(first) = least_shared(here, behind.levels(0)) else {
         return Ok(false);
     };
-    keep(line.allowed.get(0), first, only)?;
+    keep(allowed, first, only)?;
     start_levels_into(only, &line.breaks, here)?;
     cumuls.push(first)?;
     Ok(true)
@@ -78,7 +84,7 @@ fn begin(
 /// Answers whether there is a schedule.
 fn settle<L: Ledger>(
     line: &Line,
-    rows: &Rows,
+    behind: &Sweep,
     room: &mut Room,
     cumuls: &mut Seq<i64>,
     blank: Blank,
@@ -86,7 +92,8 @@ fn settle<L: Ledger>(
     requires name { blank.name ≡ L.name }
     requires parts { blank.parts ≡ L.parts }
     requires some { 0 < blank.parts }
-    requires rows { AreRows line.now rows.now }
+    requires sound { IsSoundLine line.now }
+    requires behind { AreBackward line.now behind.now }
     requires none { cumuls.old ≡ [] }
     ensures settled { IfOk result (Goes (HaveChosenCumuls line.now cumuls.new)) }
     ensures stops { IfOk result (λ goes. goes ≡ false → IsUnfeasible line.now) }
@@ -99,14 +106,14 @@ fn settle<L: Ledger>(
     vr_model::laws::chosen_is_least();
     let mut steps = Steps::<L>::new(blank);
     let Room { only, here, next } = room;
-    if !begin(line, rows, only, here, cumuls)? {
+    if !begin(line, behind, only, here, cumuls)? {
         return Ok(false);
     }
     for k in 0..line.hops.len() {
         let hop = *line.hops.get(k);
         let allowed = line.allowed.get(k + 1);
         cross_into(here, hop, allowed, &line.breaks, &mut steps, next)?;
-        let Some(least) = least_shared(next, rows.backward(k + 1)) else {
+        let Some(least) = least_shared(next, behind.levels(k + 1)) else {
             return Ok(false);
         };
         keep(allowed, least, only)?;

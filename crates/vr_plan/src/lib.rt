@@ -9,3 +9,6 @@ mod starts;
 
 pub use plans::Plan;
 pub use schedules::{chosen_cumuls, schedule, schedule_over};
+
+#[cfg(test)]
+mod tests;

@@ -1,9 +1,9 @@
 //! The break starts of the chosen schedule, break by break.
 
-ghost use Rattle.std.specs.Prelude.{◌≡◌, ◌<◌, ◌^◌, ◌↔◌, suc, pos, false, [], ◌+ℤ◌, ◌≤ℤ◌, All, IsTrue, IfOk, IfSome, IsNone, OnOk, length, slice_index_or};
+ghost use Rattle.std.specs.Prelude.{◌≡◌, ◌<◌, ◌^◌, ◌↔◌, suc, pos, false, [], ◌+ℤ◌, ◌≤ℤ◌, All, IsTrue, IfOk, IfSome};
+ghost use Rattle.std.specs.Prelude.{IsNone, OnOk, length, slice_index_or};
 ghost use Rattle.vr_model.specs.tables.Numbers.{horizon};
 ghost use Rattle.vr_model.specs.tables.WellFormed.{IsIn};
-ghost use Rattle.vr_reach.specs.Shared.{lesser_of};
 ghost use Rattle.vr_steps.specs.Arcs.{IsSoundHop};
 ghost use Rattle.vr_model.specs.schedules.Lines.{Line as Defined};
 ghost use Rattle.vr_model.specs.schedules.Schedules.{IsFeasible, no_break};
@@ -15,22 +15,17 @@ ghost use Rattle.vr_plan.specs.Settled.{Goes, HaveChosenCumuls, IsUnfeasible};
 use crate::narrow::{put_row, row_at, with_cumuls};
 use std::alloc::Global;
 use vr_model::{BreakRow, NoMemory, Seq};
-use vr_reach::Rows;
+use vr_reach::{Walk, lesser};
 use vr_steps::{Hop, Line};
 
 /// Whether the line has a schedule whose break `i` starts at `first`, which is in its range.
-fn can_start(
-    alloc: Global,
-    line: &mut Line,
-    rows: &mut Rows,
-    i: usize,
-    first: i64,
-) -> Result<bool, NoMemory>
+fn can_start(line: &mut Line, walk: &mut Walk, i: usize, first: i64) -> Result<bool, NoMemory>
     requires sound { IsSoundLine line.old }
     requires place { i < length line.old.breaks }
     requires from { (slice_index_or line.old.breaks i no_break).from ≤ℤ first }
     requires to { first ≤ℤ (slice_index_or line.old.breaks i no_break).to }
-    ensures exact { IfOk result (λ can. (defined : Defined) → IsLineOf defined line.old → IsTrue can ↔ IsFeasible (row_pinned defined i first)) }
+    ensures exact { IfOk result (λ can. (defined : Defined) → IsLineOf defined line.old → IsTrue can ↔
+        IsFeasible (row_pinned defined i first)) }
     ensures same { OnOk result (line.new ≡ line.old) }
 {
     let row = row_at(&line.breaks, i);
@@ -43,16 +38,15 @@ fn can_start(
             duration: row.duration,
         },
     );
-    rows.rebuild(alloc, line)?;
+    let can = walk.goes_along(line)?;
     put_row(&mut line.breaks, i, row);
-    Ok(rows.feasible())
+    Ok(can)
 }
 
 /// The start that is tried, where it is not above `to` and the line has a schedule whose break `i` starts there.
 fn try_start(
-    alloc: Global,
     line: &mut Line,
-    rows: &mut Rows,
+    walk: &mut Walk,
     i: usize,
     to: i64,
     first: i64,
@@ -61,7 +55,8 @@ fn try_start(
     requires place { i < length line.old.breaks }
     requires from { (slice_index_or line.old.breaks i no_break).from ≤ℤ first }
     requires to { to ≡ (slice_index_or line.old.breaks i no_break).to }
-    ensures exact { IfOk result (λ found. (defined : Defined) → IsLineOf defined line.old → IsTried defined i to first found) }
+    ensures exact { IfOk result (λ found. (defined : Defined) → IsLineOf defined line.old →
+        IsTried defined i to first found) }
     ensures range { IfOk result (λ found. IfSome found (IsStartOf (slice_index_or line.old.breaks i no_break))) }
     ensures same { OnOk result (line.new ≡ line.old) }
 {
@@ -69,7 +64,7 @@ fn try_start(
         let _ = &line.breaks;
         return Ok(None);
     }
-    if !can_start(alloc, line, rows, i, first)? {
+    if !can_start(line, walk, i, first)? {
         return Ok(None);
     }
     Ok(Some(first))
@@ -94,9 +89,8 @@ fn place_begin(hops: &[Hop], cumuls: &[i64], place: usize) -> i64
 
 /// The least start that schedules of the line have for break `i`, which may not start before `ready`.
 fn least_start(
-    alloc: Global,
     line: &mut Line,
-    rows: &mut Rows,
+    walk: &mut Walk,
     cumuls: &[i64],
     i: usize,
     ready: i64,
@@ -108,7 +102,8 @@ fn least_start(
     requires ready { IsIn (pos 0) (pos (2 ^ 40)) ready }
     ensures exact { IfOk result (λ best. (defined : Defined) → IsLineOf defined line.old →
         IsLeastTried defined i (slice_index_or line.old.breaks i no_break).to
-        (first_at line.old.hops cumuls.now (slice_index_or line.old.breaks i no_break) ready) (suc (length cumuls.now)) best) }
+        (first_at line.old.hops cumuls.now (slice_index_or line.old.breaks i no_break) ready)
+        (suc (length cumuls.now)) best) }
     ensures range { IfOk result (λ best. IfSome best (IsStartOf (slice_index_or line.old.breaks i no_break))) }
     ensures same { OnOk result (line.new ≡ line.old) }
 {
@@ -117,19 +112,9 @@ fn least_start(
     for place in 0..cumuls.len() + 1 {
         let begin = place_begin(line.hops.as_slice(), cumuls, place);
         let first = row.from.max(ready).max(begin);
-        best = lesser(best, try_start(alloc, line, rows, i, row.to, first)?);
+        best = lesser(best, try_start(line, walk, i, row.to, first)?);
     }
     Ok(best)
-}
-
-/// The lesser of two numbers that may be there.
-fn lesser(first: Option<i64>, second: Option<i64>) -> Option<i64>
-    ensures { result ≡ lesser_of first second }
-{
-    let (Some(x), Some(y)) = (first, second) else {
-        return first.or(second);
-    };
-    Some(x.min(y))
 }
 
 /// Lets break `i` start at `first` alone; answers when it is over.
@@ -153,12 +138,11 @@ fn fix_start(line: &mut Line, i: usize, first: i64) -> i64
     first + row.duration
 }
 
-/// Settles the start of each break of a line whose schedules have these cumuls, one after another: the least that schedules
-/// with the starts before have there. Answers whether there is a schedule.
+/// Settles the start of each break of a line whose schedules have these cumuls, one after another: the least that
+/// schedules with the starts before have there. Answers whether there is a schedule.
 fn settle_starts(
-    alloc: Global,
     line: &mut Line,
-    rows: &mut Rows,
+    walk: &mut Walk,
     cumuls: &[i64],
     starts: &mut Seq<i64>,
 ) -> Result<bool, NoMemory>
@@ -175,7 +159,7 @@ fn settle_starts(
     vr_model::laws::chosen_is_least();
     let mut ready = 0;
     for i in 0..line.breaks.rows.len() {
-        let Some(first) = least_start(alloc, line, rows, cumuls, i, ready)? else {
+        let Some(first) = least_start(line, walk, cumuls, i, ready)? else {
             return Ok(false);
         };
         ready = fix_start(line, i, first);
@@ -184,7 +168,8 @@ fn settle_starts(
     Ok(true)
 }
 
-/// The break starts of the chosen schedule of a line, which has these cumuls; `None` only where the line has no schedule.
+/// The break starts of the chosen schedule of a line, which has these cumuls; `None` only where the line has no
+/// schedule.
 pub(crate) fn chosen_starts(
     alloc: Global,
     line: &Line,
@@ -214,8 +199,8 @@ fn starts_of(alloc: Global, line: &mut Line, cumuls: &[i64]) -> Result<Option<Se
     ensures some { IfOk result (λ found. IfSome found (HaveStarts line.old)) }
     ensures none { IfOk result (λ found. IsNone found → IsUnfeasible line.old) }
 {
-    let mut rows = Rows::new(alloc);
+    let mut walk = Walk::new(alloc);
     let mut starts = Seq::new(alloc);
-    let goes = settle_starts(alloc, line, &mut rows, cumuls, &mut starts)?;
+    let goes = settle_starts(line, &mut walk, cumuls, &mut starts)?;
     Ok(goes.then_some(starts))
 }

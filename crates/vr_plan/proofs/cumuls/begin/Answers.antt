@@ -1,7 +1,7 @@
 use Rattle.std.proofs.Common.{◌≡◌, ◌∷◌, ◌++◌, [], pos, to_z, of_z, w64, ap, ◌∙◌, subst, sym, rules, arith}
 use Rattle.std.proofs.lemmas.Int.{ints}
-use Rattle.vr_steps.specs.Levels.{AreLevels}
 use Rattle.vr_reach.specs.Shared.{IsLeastShared}
+use Rattle.vr_reach.proofs.SweepLemmas.{begun}
 use Rattle.vr_model.specs.tables.Numbers.{horizon}
 use Rattle.vr_model.specs.tables.WellFormed.{IsIn}
 use Rattle.vr_plan.specs.Settled.{IsSettled}
@@ -10,16 +10,17 @@ use Rattle.vr_plan.proofs.cumuls.begin.Goals as goal
 
 pub returns-in_default-clause-stops : goal.returns-in_default-clause-stops
 returns-in_default-clause-stops c = λ stops.
-    unfeasible_at_start c.lines_stand_for_theirs.ensures c.cumul_where_levels_meet.ensures c.least_cumul_may_be_pinned.ensures c.args.line.now c.args.rows.now c.requires.rows c.forward.result.now c.backward.result.now c.forward.ensures c.backward.ensures (c.in_default.ensures.none (search rules))
+    unfeasible_at_start c.lines_stand_for_theirs.ensures c.cumul_where_levels_meet.ensures c.least_cumul_may_be_pinned.ensures c.args.line.now c.args.behind.now c.requires.sound c.requires.behind c.start_levels_into.new.out c.levels.result.now
+    (begun c.lines_stand_for_theirs.ensures c.args.line.now c.requires.sound c.start_is_reached.ensures c.get-allowed.result.now c.start_levels_into.new.out c.get-allowed.ensures.value c.in_ok-start_levels_into.ensures.exact c.in_ok-start_levels_into.ensures.levels)
+    c.levels.ensures (c.in_default.ensures.none (search rules))
 
 pub returns-clause-settled : goal.returns-clause-settled
 returns-clause-settled c = λ goes.
     let x = to_z w64 (of_z w64 c.in-Some.first) in
     let least = c.in-Some.ensures.some in
-    let n = c.requires.rows.sound.stops in
-    let form = subst (AreLevels c.args.line.now.breaks) c.forward.ensures (c.requires.rows.forward.each 0 (omega (arith, n))).form in
-    let range = shared_range c.args.line.now.breaks c.forward.result.now c.backward.result.now c.in-Some.first form least in
+    let ahead = begun c.lines_stand_for_theirs.ensures c.args.line.now c.requires.sound c.start_is_reached.ensures c.get-allowed.result.now c.start_levels_into.new.out c.get-allowed.ensures.value c.in_ok-start_levels_into.ensures.exact c.in_ok-start_levels_into.ensures.levels in
+    let range = shared_range c.args.line.now.breaks c.start_levels_into.new.out c.levels.result.now c.in-Some.first c.in_ok-start_levels_into.ensures.levels least in
     let same : x ≡ c.in-Some.first = omega (arith, ints, range) in
     let pushed = c.in_ok-push.ensures.ok ∙ ap (λ cs. cs ++ x ∷ []) c.requires.none in
-    subst (λ cs. IsSettled c.args.line.now 0 cs c.start_levels_into.new.out) (sym pushed)
-    (settled_at_start c.lines_stand_for_theirs.ensures c.cumul_where_levels_meet.ensures c.least_cumul_may_be_pinned.ensures c.args.line.now c.args.rows.now c.requires.rows c.start_is_reached.ensures c.forward.result.now c.backward.result.now c.forward.ensures c.backward.ensures x (subst (IsLeastShared c.forward.result.now c.backward.result.now) (sym same) least) c.get.result.now c.keep.new.only c.start_levels_into.new.out c.get.ensures.value c.in_ok-keep.ensures.exact c.in_ok-keep.ensures.cumuls c.in_ok-start_levels_into.ensures.exact (subst (IsIn (pos 0) horizon) (sym same) range))
+    subst (λ cs. IsSettled c.args.line.now 0 cs c.start_levels_into-2.new.out) (sym pushed)
+    (settled_at_start c.lines_stand_for_theirs.ensures c.cumul_where_levels_meet.ensures c.least_cumul_may_be_pinned.ensures c.args.line.now c.args.behind.now c.requires.sound c.requires.behind c.start_is_reached.ensures c.start_levels_into.new.out c.levels.result.now ahead c.levels.ensures x (subst (IsLeastShared c.start_levels_into.new.out c.levels.result.now) (sym same) least) c.get-allowed.result.now c.keep.new.only c.start_levels_into-2.new.out c.get-allowed.ensures.value c.in_ok-keep.ensures.exact c.in_ok-keep.ensures.cumuls c.in_ok-start_levels_into-2.ensures.exact (subst (IsIn (pos 0) horizon) (sym same) range))

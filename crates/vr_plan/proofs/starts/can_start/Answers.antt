@@ -1,4 +1,4 @@
-use Rattle.std.proofs.Common.{◌≡◌, set, ap, ap₂, ◌∙◌, arith}
+use Rattle.std.proofs.Common.{set, ap, ap₂, ◌∙◌, arith}
 use Rattle.std.proofs.lemmas.Int.{ints}
 use Rattle.vr_model.specs.schedules.Schedules.{no_break}
 use Rattle.vr_model.specs.declared.records.BreakRow.{BreakRow}
@@ -6,8 +6,8 @@ use Rattle.vr_plan.specs.Narrow.{row_pinned}
 use Rattle.vr_plan.proofs.StartLemmas.{put_is, put_sound, put_line, put_back, with_breaks}
 use Rattle.vr_plan.proofs.starts.can_start.Goals as goal
 
-pub rebuild-requires : goal.rebuild-requires
-rebuild-requires c =
+pub goes_along-requires : goal.goes_along-requires
+goes_along-requires c =
     let valid = c.requires.sound.each_break c.args.i no_break c.requires.place in
     let from = c.requires.from in
     let to = c.requires.to in
@@ -22,7 +22,7 @@ returns-clause-exact c = λ defined of.
     let to = c.requires.to in
     let length = ap (λ (r : BreakRow). r.duration) c.row_at-row.ensures in
     let is = put_is c.args.line.now.breaks c.put_row.new.breaks c.args.i c.args.first _ c.put_row.ensures (omega (arith, ints, valid, from, to)) (omega (arith, ints, valid, from, to)) (omega (arith, ints, valid.duration_in_range, length)) in
-    c.feasible.ensures (with_breaks c.args.line.now c.put_row.new.breaks) c.in_ok-rebuild.ensures (row_pinned defined c.args.i c.args.first) (put_line defined c.args.line.now c.args.i c.args.first c.put_row.new.breaks of is)
+    c.in_ok-can.ensures (row_pinned defined c.args.i c.args.first) (put_line defined c.args.line.now c.args.i c.args.first c.put_row.new.breaks of is)
 
 pub returns-clause-same : goal.returns-clause-same
 returns-clause-same c =
