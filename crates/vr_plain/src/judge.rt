@@ -1,0 +1,134 @@
+//! The judge that rebuilds.
+
+ghost use Rattle.std.specs.Prelude.{◌≡◌, ◌≤ℤ◌, IfOk, IsTrue, length, pos};
+ghost use Rattle.vr_model.specs.moves.MoveTests.{is_move};
+ghost use Rattle.vr_model.specs.routes.Costs.{cost};
+ghost use Rattle.vr_model.specs.routes.Routes.{are_lists};
+ghost use Rattle.vr_model.specs.routes.Rules.{is_valid};
+ghost use Rattle.vr_model.specs.tables.Tables.{visits};
+ghost use Rattle.vr_model.specs.tables.WellFormed.{IsWellFormed};
+ghost use Rattle.vr_routes.specs.Changes.{IsChange, IsMadeOn};
+ghost use Rattle.vr_routes.specs.Judging.{HoldSame, moved};
+
+use std::alloc::Global;
+use std::marker::Model;
+use std::sync::ledger::Ledger;
+use vr_model::{Model as RoutingModel, Move, NoMemory, Steps};
+use vr_routes::{Change, Judge, Routes, Verdict};
+use vr_rules::{cost, total_cost, valid};
+
+/// Judges a move by the rules and the cost of the whole lists after it, which it builds anew each time. It counts no
+/// questions and no steps: both of its numbers are 0.
+#[derive(Drop)]
+pub struct PlainJudge<'m> {
+    alloc: Global,
+    model: &'m RoutingModel,
+    // the lists that are committed, and what they cost
+    held: Routes,
+    total: i64,
+    // the lists after the move in hand, and what it changes: written over for each move
+    scratch: Routes,
+    change: Change,
+}
+
+impl<'m> Model for PlainJudge<'m> {
+    ghost use Rattle.vr_plain.specs.Holding.{AreKept, Held};
+
+    ghost Value = { Held };
+
+    ghost view = { λ judge. record { model = judge.model.now; lists = judge.held.lists } };
+
+    ghost invariant = { λ judge. AreKept judge.model.now judge.held judge.scratch judge.total };
+}
+
+impl<'m> PlainJudge<'m> {
+    /// A judge that has committed the lists of these routes, which are valid. The only refusal is want of memory.
+    pub fn open(
+        alloc: Global,
+        model: &'m RoutingModel,
+        routes: &Routes,
+    ) -> Result<PlainJudge<'m>, NoMemory>
+        requires well_formed { IsWellFormed model.now }
+        requires of_model { routes.now.visits ≡ visits model.now }
+        requires valid { IsTrue (is_valid model.now routes.now.lists) }
+        ensures model { IfOk result (λ judge. judge.model ≡ model.now) }
+        ensures holds { IfOk result (λ judge. HoldSame model.now judge.lists routes.now) }
+    {
+        let held = routes.copy(alloc)?;
+        let scratch = routes.copy(alloc)?;
+        let total = total_of(alloc, model, routes)?;
+        Ok(PlainJudge {
+            alloc,
+            model,
+            held,
+            total,
+            scratch,
+            change: Change::blank(),
+        })
+    }
+}
+
+impl<'m> Judge for PlainJudge<'m> {
+    ghost model = { λ judge. judge.model };
+
+    ghost committed = { λ judge. judge.lists };
+
+    ghost asked = { λ judge. 0 };
+
+    ghost weight = { λ judge mv. 0 };
+
+    /// Memory is taken by the rules and the cost alone.
+    fn judge<L: Ledger>(
+        &mut self,
+        routes: &Routes,
+        mv: Move,
+        _steps: &mut Steps<L>,
+    ) -> Result<Verdict, NoMemory> {
+        rebuild(self.model, routes, mv, &mut self.change, &mut self.scratch);
+        if !valid(self.alloc, self.model, &self.scratch)? {
+            return Ok(Verdict::Refused);
+        }
+        let total = total_of(self.alloc, self.model, &self.scratch)?;
+        Ok(Verdict::Difference(total - self.total))
+    }
+
+    /// The cost is worked out first; then routes and judge are changed, which takes no memory.
+    fn commit(&mut self, routes: &mut Routes, mv: Move) -> Result<(), NoMemory> {
+        rebuild(self.model, routes, mv, &mut self.change, &mut self.scratch);
+        let total = total_of(self.alloc, self.model, &self.scratch)?;
+        routes.commit(&self.change);
+        self.held.commit(&self.change);
+        self.total = total;
+        Ok(())
+    }
+}
+
+// Writes what a move changes over `change`, and the lists after it over those of `after`.
+fn rebuild(model: &RoutingModel, routes: &Routes, mv: Move, change: &mut Change, after: &mut Routes)
+    requires well_formed { IsWellFormed model.now }
+    requires of_model { routes.now.visits ≡ visits model.now }
+    requires valid { IsTrue (is_valid model.now routes.now.lists) }
+    requires mv { IsTrue (is_move model.now routes.now.lists mv) }
+    requires same_visits { after.old.visits ≡ visits model.now }
+    requires for_all { length after.old.lists ≡ length model.now.vehicles }
+    ensures made { IsMadeOn routes.now change.new }
+    ensures change { IsChange model.now routes.now.lists mv change.new }
+    ensures after { after.new ≡ moved model.now routes.now mv }
+    ensures lists { IsTrue (are_lists model.now after.new.lists) }
+    ensures for_all { length after.new.lists ≡ length model.now.vehicles }
+{
+    after.assign(routes);
+    Change::write(model, routes, mv, change);
+    after.commit(change);
+}
+
+// What valid lists cost.
+fn total_of(alloc: Global, model: &RoutingModel, routes: &Routes) -> Result<i64, NoMemory>
+    requires well_formed { IsWellFormed model.now }
+    requires valid { IsTrue (is_valid model.now routes.now.lists) }
+    ensures value { IfOk result (λ total. total ≡ cost model.now routes.now.lists) }
+    ensures least { IfOk result (λ total. pos 0 ≤ℤ total) }
+{
+    let parts = cost(alloc, model, routes)?;
+    Ok(total_cost(&parts))
+}

@@ -1,0 +1,119 @@
+//! What the tests search: models of texts, routes of them, and a judge that counts.
+
+ghost use Rattle.std.specs.Prelude.{◌≡◌, IfOk, IfSome, IsTrue};
+ghost use Rattle.vr_model.specs.routes.Costs.{cost};
+ghost use Rattle.vr_model.specs.routes.Rules.{is_valid};
+ghost use Rattle.vr_model.specs.tables.Tables.{visits};
+ghost use Rattle.vr_model.specs.tables.WellFormed.{IsWellFormed};
+
+use crate::PlainJudge;
+use serde_json::Value;
+use std::alloc::Global;
+use std::sync::ledger::Ledger;
+use vr_json::Path;
+use vr_model::{Model, Move, NoMemory, Seq, Steps};
+use vr_read::read_model;
+use vr_routes::{Judge, Routes, Verdict};
+use vr_rules::{cost, total_cost, valid};
+
+/// Three nodes and one vehicle; the fields that follow are to be added.
+pub const THREE: &str = "{\"format\":1,\"nodes\":3,\"matrices\":[[[0,5,9],[5,0,4],[9,4,0]]],\
+    \"vehicles\":[{\"start\":0,\"end\":0}]";
+
+/// Three nodes all 5 apart, two vehicles, and a cost of the time from the first start to the last end.
+pub const TWO_VANS: &str = "{\"format\":1,\"nodes\":3,\"matrices\":[[[0,5,5],[5,0,5],[5,5,0]]],\
+    \"vehicles\":[{\"start\":0,\"end\":0},{\"start\":0,\"end\":0}],\
+    \"dimensions\":[{\"name\":\"time\",\"evaluators\":[{\"matrix\":0}],\"capacity\":100,\"slack_max\":0,\
+    \"fix_start\":true,\"global_span_cost\":10}]";
+
+/// One node and one vehicle.
+pub const ONE: &str =
+    "{\"format\":1,\"nodes\":1,\"matrices\":[[[0]]],\"vehicles\":[{\"start\":0,\"end\":0}]";
+
+/// A list of all nodes but 0 for the first vehicle, and empty ones for the others.
+pub fn one_list(alloc: Global, model: &Model) -> Result<Vec<Seq<u32>>, NoMemory> {
+    let mut all = Seq::new(alloc);
+    for node in 1..model.nodes {
+        all.push(node)?;
+    }
+    let mut lists = Vec::new(alloc);
+    lists.push(all)?;
+    for _ in 1..model.vehicles.len() {
+        lists.push(Seq::new(alloc))?;
+    }
+    Ok(lists)
+}
+
+/// The model of a text, where there is one.
+pub fn read(alloc: Global, text: &str) -> Result<Option<Model>, NoMemory>
+    ensures { IfOk result (λ model. IfSome model IsWellFormed) }
+{
+    let path = Path::root(alloc);
+    match Value::from_str(alloc, text) {
+        Ok(value) => Ok(read_model(alloc, &value, &path).ok()),
+        Err(_) => Ok(None),
+    }
+}
+
+/// Valid routes of a model with these lists, where there are such.
+pub fn routes_of(
+    alloc: Global,
+    model: &Model,
+    lists: &[Seq<u32>],
+) -> Result<Option<Routes>, NoMemory>
+    requires well_formed { IsWellFormed model.now }
+    ensures of_model { IfOk result (λ routes. IfSome routes (λ found. found.visits ≡ visits model.now)) }
+    ensures valid { IfOk result (λ routes. IfSome routes (λ found. IsTrue (is_valid model.now found.lists))) }
+{
+    let Some(routes) = Routes::from_lists(alloc, model, lists)? else {
+        return Ok(None);
+    };
+    if valid(alloc, model, &routes)? {
+        Ok(Some(routes))
+    } else {
+        Ok(None)
+    }
+}
+
+/// What valid routes cost.
+pub fn cost_of(alloc: Global, model: &Model, routes: &Routes) -> Result<i64, NoMemory>
+    requires well_formed { IsWellFormed model.now }
+    requires valid { IsTrue (is_valid model.now routes.now.lists) }
+    ensures { IfOk result (λ total. total ≡ cost model.now routes.now.lists) }
+{
+    let parts = cost(alloc, model, routes)?;
+    Ok(total_cost(&parts))
+}
+
+/// A plain judge that counts how often it is asked.
+#[derive(Drop)]
+pub struct Counting<'m> {
+    pub judge: PlainJudge<'m>,
+    pub asked: u64,
+}
+
+impl<'m> Judge for Counting<'m> {
+    ghost model = { λ counting. counting.judge.model };
+
+    ghost committed = { λ counting. counting.judge.lists };
+
+    ghost asked = { λ counting. counting.asked };
+
+    ghost weight = { λ counting mv. 0 };
+
+    fn judge<L: Ledger>(
+        &mut self,
+        routes: &Routes,
+        mv: Move,
+        steps: &mut Steps<L>,
+    ) -> Result<Verdict, NoMemory> {
+        self.asked = self.asked.saturating_add(1);
+        let verdict = self.judge.judge(routes, mv, steps)?;
+        Ok(verdict)
+    }
+
+    fn commit(&mut self, routes: &mut Routes, mv: Move) -> Result<(), NoMemory> {
+        self.judge.commit(routes, mv)?;
+        Ok(())
+    }
+}

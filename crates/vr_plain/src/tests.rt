@@ -1,0 +1,237 @@
+//! The searches over a plain judge. No clause says that they find memory, nor that they ask about each move that they
+//! count.
+
+ghost use Rattle.std.specs.Prelude.{◌≡◌, ◌<◌, IsTrue};
+ghost use Rattle.vr_model.specs.routes.Rules.{is_valid};
+ghost use Rattle.vr_model.specs.tables.Tables.{visits};
+ghost use Rattle.vr_model.specs.tables.WellFormed.{IsWellFormed};
+
+use crate::PlainJudge;
+use crate::samples::{Counting, ONE, THREE, TWO_VANS, cost_of, one_list, read, routes_of};
+use std::alloc::Global;
+use std::fmt::Write;
+use std::marker::Brand;
+use std::sync::ledger::{Blank, Ledger};
+use std::test::Fail;
+use vr_descent::descend;
+use vr_guided::guide;
+use vr_model::{End, Lambda, Limit, Model, NoMemory, Report, Steps};
+use vr_routes::Routes;
+use vr_watch::{Stopper, Tally, Trace, Watch};
+
+type Watchers = Vec<Box<dyn Watch>>;
+
+// What a search tells: its tries, its solutions, its end, the cost of the best lists, and how often the judge was asked.
+type Told = (u64, u64, &'static str, i64, u64);
+
+fn told(report: Report, cost: i64, asked: u64) -> Told {
+    let end = match report.end {
+        End::First => "first",
+        End::Optimum => "optimum",
+        End::Tries => "tries",
+        End::Solutions => "solutions",
+    };
+    (report.tries, report.solutions, end, cost, asked)
+}
+
+// The limit of the model's own search.
+fn limit_of(model: &Model) -> Limit
+    ensures tries { result.tries ≡ model.now.search.tries }
+    ensures solutions { result.solutions ≡ model.now.search.solutions }
+{
+    Limit {
+        tries: model.search.tries,
+        solutions: model.search.solutions,
+    }
+}
+
+fn descended<L: Ledger>(
+    alloc: Global,
+    model: &Model,
+    routes: &mut Routes,
+    watch: &mut Watchers,
+    blank: Blank,
+) -> Result<Told, NoMemory>
+    requires well_formed { IsWellFormed model.now }
+    requires of_model { routes.old.visits ≡ visits model.now }
+    requires valid { IsTrue (is_valid model.now routes.old.lists) }
+    requires name { blank.name ≡ L.name }
+    requires parts { blank.parts ≡ L.parts }
+    requires some { 0 < blank.parts }
+{
+    let first_cost = cost_of(alloc, model, routes)?;
+    let mut judge = Counting {
+        judge: PlainJudge::open(alloc, model, routes)?,
+        asked: 0,
+    };
+    let mut steps = Steps::<L>::new(blank);
+    let limit = limit_of(model);
+    let report = descend(
+        model, &mut judge, routes, first_cost, limit, watch, &mut steps,
+    )?;
+    let cost = cost_of(alloc, model, routes)?;
+    Ok(told(report, cost, judge.asked))
+}
+
+fn guided<L: Ledger>(
+    alloc: Global,
+    model: &Model,
+    routes: &mut Routes,
+    watch: &mut Watchers,
+    blank: Blank,
+) -> Result<Told, NoMemory>
+    requires well_formed { IsWellFormed model.now }
+    requires of_model { routes.old.visits ≡ visits model.now }
+    requires valid { IsTrue (is_valid model.now routes.old.lists) }
+    requires name { blank.name ≡ L.name }
+    requires parts { blank.parts ≡ L.parts }
+    requires some { 0 < blank.parts }
+{
+    let first_cost = cost_of(alloc, model, routes)?;
+    let mut judge = Counting {
+        judge: PlainJudge::open(alloc, model, routes)?,
+        asked: 0,
+    };
+    let mut steps = Steps::<L>::new(blank);
+    let limit = limit_of(model);
+    let lambda = Lambda {
+        p: model.search.p,
+        q: model.search.q,
+    };
+    let guided = guide(
+        alloc, model, &mut judge, routes, first_cost, limit, lambda, watch, &mut steps,
+    )?;
+    let cost = cost_of(alloc, model, &guided.best)?;
+    Ok(told(guided.report, cost, judge.asked))
+}
+
+// A search that begins with one list, of all nodes but 0, on the model of a text with further fields.
+fn search_text(
+    alloc: Global,
+    start: &str,
+    rest: &str,
+    is_guided: bool,
+    watch: &mut Watchers,
+) -> Result<Told, Fail> {
+    let mut text = String::new(alloc);
+    write!(text, "{start},{rest}}}")?;
+    let model = read(alloc, text.as_str())?.ok_or("a model")?;
+    let lists = one_list(alloc, &model)?;
+    let mut routes = routes_of(alloc, &model, &lists)?.ok_or("valid routes")?;
+    let found = if is_guided {
+        guided::<Brand>(alloc, &model, &mut routes, watch, Blank::new(1))?
+    } else {
+        descended::<Brand>(alloc, &model, &mut routes, watch, Blank::new(1))?
+    };
+    Ok(found)
+}
+
+#[test]
+fn descents_ask_as_often_as_they_try(rt: HostRuntime) -> Result<(), Fail> {
+    let alloc = rt.alloc();
+    let three = "\"search\":{\"neighbourhoods\":[\"two_opt\",\"or_opt\",\"relocate\"]";
+    let pair = "\"pairs\":[{\"pickup\":1,\"delivery\":2}]";
+    for (start, fields, rest, tries, solutions, end, cost) in [
+        (THREE, three, "}", 3, 1, "optimum", 18),
+        (TWO_VANS, three, "}", 8, 2, "optimum", 120),
+        (TWO_VANS, three, ",\"tries\":3}", 3, 1, "tries", 165),
+        (TWO_VANS, three, ",\"solutions\":2}", 4, 2, "solutions", 120),
+        (TWO_VANS, "\"search\":{}", "", 14, 2, "optimum", 120),
+        (THREE, "\"search\":{\"tries\":0}", "", 0, 1, "tries", 18),
+        (THREE, "\"search\":{\"tries\":1}", "", 1, 1, "tries", 18),
+        (THREE, "\"search\":{\"tries\":5}", "", 5, 1, "tries", 18),
+        (THREE, "\"search\":{\"tries\":6}", "", 6, 1, "optimum", 18),
+        (
+            THREE,
+            "\"search\":{\"solutions\":1}",
+            "",
+            0,
+            1,
+            "solutions",
+            18,
+        ),
+        (
+            THREE,
+            "\"groups\":[{\"nodes\":[2],\"penalty\":8}]",
+            "",
+            6,
+            1,
+            "optimum",
+            18,
+        ),
+        (THREE, pair, "", 7, 1, "optimum", 18),
+        (
+            THREE,
+            pair,
+            ",\"groups\":[{\"nodes\":[1],\"penalty\":1},{\"nodes\":[2],\"penalty\":1}]",
+            8,
+            2,
+            "optimum",
+            2,
+        ),
+    ] {
+        let mut text = String::new(alloc);
+        write!(text, "{fields}{rest}")?;
+        let found = search_text(alloc, start, text.as_str(), false, &mut Vec::new(alloc))?;
+        assert_eq!(rt; found, (tries, solutions, end, cost, tries), "{text}");
+    }
+    Ok(())
+}
+
+#[test]
+fn guided_searches_ask_as_often_as_they_try(rt: HostRuntime) -> Result<(), Fail> {
+    let alloc = rt.alloc();
+    for (start, rest, tries, solutions, end, cost) in [
+        (THREE, "\"search\":{\"tries\":20}", 20, 3, "tries", 18),
+        (THREE, "\"search\":{\"tries\":6}", 6, 1, "tries", 18),
+        (ONE, "\"search\":{}", 0, 1, "optimum", 0),
+    ] {
+        let found = search_text(alloc, start, rest, true, &mut Vec::new(alloc))?;
+        assert_eq!(rt; found, (tries, solutions, end, cost, tries), "{rest}");
+    }
+    Ok(())
+}
+
+// The reports of watchers, one after the other.
+fn reports_of(alloc: Global, watch: &Watchers) -> Result<Vec<u8>, NoMemory> {
+    let mut reports = Vec::new(alloc);
+    for watcher in watch {
+        reports.extend_from_slice(watcher.report()?.as_slice())?;
+    }
+    Ok(reports)
+}
+
+#[test]
+fn watchers_are_told_each_event(rt: HostRuntime) -> Result<(), Fail> {
+    let alloc = rt.alloc();
+    let mut watch: Watchers = Vec::new(alloc);
+    watch.push(Box::new(alloc, Tally::new(alloc))?)?;
+    watch.push(Box::new(alloc, Trace::new(alloc))?)?;
+    search_text(alloc, THREE, "\"search\":{\"tries\":20}", true, &mut watch)?;
+    let want =
+        "moves 2 rounds 3 best 18\n0 first 18\n6 round 18\n7 move 18\n13 round 18\n19 round 18\n20 move 18\n";
+    assert!(rt; reports_of(alloc, &watch)?.as_slice() == want.as_bytes());
+    Ok(())
+}
+
+#[test]
+fn a_watcher_that_refuses_ends_the_search(rt: HostRuntime) -> Result<(), Fail> {
+    let alloc = rt.alloc();
+    let mut watch: Watchers = Vec::new(alloc);
+    watch.push(Box::new(alloc, Trace::new(alloc))?)?;
+    watch.push(Box::new(alloc, Stopper::new(alloc, 1))?)?;
+    watch.push(Box::new(alloc, Trace::new(alloc))?)?;
+    let fields = ",\"groups\":[{\"nodes\":[2],\"penalty\":3}]}";
+    let mut text = String::new(alloc);
+    write!(text, "{THREE}{fields}")?;
+    let model = read(alloc, text.as_str())?.ok_or("a model")?;
+    let lists = one_list(alloc, &model)?;
+    let mut routes = routes_of(alloc, &model, &lists)?.ok_or("valid routes")?;
+    let found = descended::<Brand>(alloc, &model, &mut routes, &mut watch, Blank::new(1));
+    assert!(rt; found.is_err());
+    let kept: &[u32] = &[1];
+    assert!(rt; routes.vehicles() == 1 && routes.list(0) == kept);
+    let want = "0 first 18\n6 move 13\n0 first 18\n";
+    assert!(rt; reports_of(alloc, &watch)?.as_slice() == want.as_bytes());
+    Ok(())
+}
