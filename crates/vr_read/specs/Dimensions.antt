@@ -88,8 +88,8 @@ span_costs fleet path d = do
 abbrev pub dimension_fields : List (List ℕ)
 dimension_fields =
     codes "name" ∷ codes "evaluators" ∷ codes "vehicle_evaluators" ∷ codes "slack_max" ∷ codes "capacity"
-    ∷ codes "fix_start" ∷ codes "visit" ∷ codes "nodes" ∷ codes "starts" ∷ codes "ends" ∷ codes "breaks" ∷ codes "span_cost"
-    ∷ codes "global_span_cost" ∷ []
+    ∷ codes "fix_start" ∷ codes "visit" ∷ codes "nodes" ∷ codes "starts" ∷ codes "ends" ∷ codes "breaks"
+    ∷ codes "span_cost" ∷ codes "global_span_cost" ∷ []
 
 -- a dimension, in a model of n nodes, so many matrices and so many vehicles, which are these
 unfoldable pub dimension : ℕ → ℕ → ℕ → List Vehicle → List Dimension → ReaderOf Dimension
