@@ -11,6 +11,7 @@ use Rattle.vr_model.specs.tables.WellFormed.{least_value, greatest_value, greate
 use Rattle.vr_model.specs.declared.records.Vehicle.{Vehicle}
 use Rattle.vr_model.specs.declared.records.Dimension.{Dimension}
 use Rattle.vr_model.specs.declared.records.Evaluator.{Evaluator}
+use Rattle.vr_model.specs.declared.records.StopRow.{StopRow}
 use Rattle.vr_read.specs.declared.dimensions.Transits.{Transits}
 use Rattle.vr_read.specs.declared.dimensions.Bounds.{Bounds}
 use Rattle.vr_read.specs.declared.dimensions.Rows.{Rows}
@@ -68,12 +69,16 @@ bounds n fleet path d = do
   times ← optional (codes "visit") (replicate n (pos 0)) (visit_times n) path d
   Ok (record { slack_max = slack_max; capacities = capacities; fix_start = fix_start; visit = times })
 
+-- the rows of the starts or of the ends of so many vehicles, in a field of this name
+abbrev pub vehicle_rows : List ℕ → ℕ → ReaderOf (List StopRow)
+vehicle_rows field fleet = optional field [] (array 0 100 (stop_row (codes "vehicle") (below fleet)))
+
 -- the rows of stops, and the breaks
 unfoldable pub rows : ℕ → ℕ → List Vehicle → ReaderOf Rows
 rows n fleet vehicles path d = do
   nodes ← optional (codes "nodes") [] (array 0 1000 (stop_row (codes "node") (visit n vehicles))) path d
-  starts ← optional (codes "starts") [] (array 0 100 (stop_row (codes "vehicle") (below fleet))) path d
-  ends ← optional (codes "ends") [] (array 0 100 (stop_row (codes "vehicle") (below fleet))) path d
+  starts ← vehicle_rows (codes "starts") fleet path d
+  ends ← vehicle_rows (codes "ends") fleet path d
   breaks ← optional (codes "breaks") [] (array 0 100 (vehicle_breaks fleet)) path d
   Ok (record { nodes = nodes; starts = starts; ends = ends; breaks = breaks })
 
@@ -88,8 +93,8 @@ span_costs fleet path d = do
 abbrev pub dimension_fields : List (List ℕ)
 dimension_fields =
     codes "name" ∷ codes "evaluators" ∷ codes "vehicle_evaluators" ∷ codes "slack_max" ∷ codes "capacity"
-    ∷ codes "fix_start" ∷ codes "visit" ∷ codes "nodes" ∷ codes "starts" ∷ codes "ends" ∷ codes "breaks" ∷ codes "span_cost"
-    ∷ codes "global_span_cost" ∷ []
+    ∷ codes "fix_start" ∷ codes "visit" ∷ codes "nodes" ∷ codes "starts" ∷ codes "ends" ∷ codes "breaks"
+    ∷ codes "span_cost" ∷ codes "global_span_cost" ∷ []
 
 -- a dimension, in a model of n nodes, so many matrices and so many vehicles, which are these
 unfoldable pub dimension : ℕ → ℕ → ℕ → List Vehicle → List Dimension → ReaderOf Dimension

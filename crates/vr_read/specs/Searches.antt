@@ -33,7 +33,8 @@ improvements =
 abbrev pub neighbourhood_words : List (List ℕ × Neighbourhood)
 neighbourhood_words =
     (codes "two_opt", TwoOpt) ∷ (codes "or_opt", OrOpt) ∷ (codes "relocate", Relocate)
-    ∷ (codes "exchange", Exchange) ∷ (codes "cross", Cross) ∷ (codes "relocate_pair", RelocatePair) ∷ (codes "pair_active", PairActive) ∷ (codes "pair_inactive", PairInactive)
+    ∷ (codes "exchange", Exchange) ∷ (codes "cross", Cross) ∷ (codes "relocate_pair", RelocatePair)
+    ∷ (codes "pair_active", PairActive) ∷ (codes "pair_inactive", PairInactive)
     ∷ (codes "make_active", MakeActive) ∷ (codes "make_inactive", MakeInactive) ∷ (codes "swap_active", SwapActive) ∷ []
 
 -- a neighbourhood, each once

@@ -223,48 +223,57 @@ impl DimensionTable<'_> {
         })
     }
 
+    // The rows of starts or of ends, in the field `name`.
+    fn vehicle_rows(
+        &self,
+        alloc: Global,
+        value: &Value,
+        name: &str,
+        path: &Path,
+    ) -> Result<Seq<StopRow>, ReadFail>
+        ensures { Answers result
+            (dimension_tables.vehicle_rows name.now self.now.fleet path.now (view value.now)) }
+    {
+        let key = Below { count: self.fleet };
+        let rows = Array {
+            lo: 0,
+            hi: 100,
+            entry: StopTable {
+                name: "vehicle",
+                key,
+            },
+        };
+        let none = Seq::new(alloc);
+        optional(alloc, value, name, path, none, &rows)
+    }
+
     // The rows of stops, and the breaks.
     fn rows(&self, alloc: Global, value: &Value, path: &Path) -> Result<Rows, ReadFail>
         ensures { Answers result
             (dimension_tables.rows self.now.nodes self.now.fleet self.now.vehicles.now path.now (view value.now)) }
     {
-        let visit = Visit {
+        let key = Visit {
             nodes: self.nodes,
             vehicles: self.vehicles,
-        };
-        let vehicle = Below { count: self.fleet };
-        let breaks = VehicleBreaksTable {
-            vehicles: self.fleet,
         };
         let of_visits = Array {
             lo: 0,
             hi: 1000,
-            entry: StopTable {
-                name: "node",
-                key: visit,
-            },
-        };
-        let of_vehicles = Array {
-            lo: 0,
-            hi: 100,
-            entry: StopTable {
-                name: "vehicle",
-                key: vehicle,
-            },
+            entry: StopTable { name: "node", key },
         };
         let of_breaks = Array {
             lo: 0,
             hi: 100,
-            entry: breaks,
+            entry: VehicleBreaksTable {
+                vehicles: self.fleet,
+            },
         };
-        let no_nodes = Seq::new(alloc);
-        let nodes = optional(alloc, value, "nodes", path, no_nodes, &of_visits)?;
-        let no_starts = Seq::new(alloc);
-        let starts = optional(alloc, value, "starts", path, no_starts, &of_vehicles)?;
-        let no_ends = Seq::new(alloc);
-        let ends = optional(alloc, value, "ends", path, no_ends, &of_vehicles)?;
-        let no_breaks = Seq::new(alloc);
-        let breaks = optional(alloc, value, "breaks", path, no_breaks, &of_breaks)?;
+        let none = Seq::new(alloc);
+        let nodes = optional(alloc, value, "nodes", path, none, &of_visits)?;
+        let starts = self.vehicle_rows(alloc, value, "starts", path)?;
+        let ends = self.vehicle_rows(alloc, value, "ends", path)?;
+        let none = Seq::new(alloc);
+        let breaks = optional(alloc, value, "breaks", path, none, &of_breaks)?;
         Ok(Rows {
             nodes,
             starts,
