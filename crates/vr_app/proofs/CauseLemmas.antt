@@ -1,14 +1,17 @@
 -- What the status of a reply says of the input.
-use Rattle.std.proofs.Common.{◌≡◌, ◌∙◌, ◌<◌, ◌≤◌, ◌↔◌, ℕ, List, Bool, true, false, cond, Option, Some, None, Result, Ok, Err, refl, ap, sym, arith, length}
+use Rattle.std.proofs.Common.{◌≡◌, ◌∙◌, ◌<◌, ◌≤◌, ◌↔◌, ℕ, List, Bool, true, false, cond, Option, Some, None, Result, Ok, Err, refl, ap, sym, subst, arith, length, option_map}
 use Rattle.std.specs.Prelude.{IsSome, nat_lt}
 use Rattle.std.proofs.lemmas.Bool.Decides.{nat_tests}
 use Rattle.serde_json.specs.Data.{Data}
 use Rattle.vr_json.specs.Trees.{line_of}
 use Rattle.vr_json.specs.declared.fault.Fault.{Fault}
 use Rattle.vr_model.specs.declared.records.Model.{Model}
-use Rattle.vr_app.specs.Causes.{IsModel, IsNotJson, IsRefused, IsTooLong}
+use Rattle.vr_model.specs.first.FirstSolutions.{first_lists}
+use Rattle.vr_app.specs.Causes.{HasFault, HasFirst, HasNoFirst, IsModel, IsNotJson, IsRefused, IsTooLong}
+use Rattle.vr_app.specs.Found.{found_from}
 use Rattle.vr_app.specs.Input.{max_input, model_of, value_of}
-use Rattle.vr_app.specs.Reply.{reply, reply_in, reply_to_input, reply_to_model, reply_to_value, too_long}
+use Rattle.vr_app.specs.Reply.{reply, reply_in, reply_to_found, reply_to_input, reply_to_model, reply_to_value, too_long}
+use Rattle.vr_app.specs.Runs.{IsAccepted}
 use Rattle.vr_app.specs.Texts.{refused_tree}
 use Rattle.vr_app.specs.Words.{mode_of}
 use Rattle.vr_app.specs.declared.words.Mode.{Mode}
@@ -18,8 +21,9 @@ use Rattle.vr_app.proofs.InputLemmas.{reply-short}
 pub record Tells (bytes : List ℕ) (status : ℕ) : Type 0 where
   pub too_long : (status ≡ 8) ↔ IsTooLong bytes
   pub not_json : (status ≡ 4) ↔ IsNotJson bytes
-  pub refused : (status ≡ 5) ↔ ((fault : Fault) × IsRefused bytes fault)
-  pub done : (status ≡ 0) ↔ ((model : Model) × IsModel bytes model)
+  pub refused : (status ≡ 5) ↔ IsRefused bytes
+  pub done : (status ≡ 0) ↔ HasFirst bytes
+  pub none_found : (status ≡ 6) ↔ HasNoFirst bytes
 
 long-tells : (bytes : List ℕ) → max_input < length bytes → Tells bytes 8
 long-tells bytes long = record {
@@ -27,6 +31,7 @@ long-tells bytes long = record {
   not_json = (λ e. absurd (omega arith), λ h. absurd (omega (arith, h.short)));
   refused = (λ e. absurd (omega arith), λ h. absurd (omega (arith, h.1.short)));
   done = (λ e. absurd (omega arith), λ h. absurd (omega (arith, h.1.short)));
+  none_found = (λ e. absurd (omega arith), λ h. absurd (omega (arith, h.1.short)));
 }
 
 no_value-tells : (bytes : List ℕ) → length bytes ≤ max_input → value_of bytes ≡ None → Tells bytes 4
@@ -35,31 +40,64 @@ no_value-tells bytes short none = record {
   not_json = (λ e. record { short = short; no_value = none }, λ h. refl);
   refused = (λ e. absurd (omega arith), λ h. let same = sym none ∙ h.1.is_value in absurd cc);
   done = (λ e. absurd (omega arith), λ h. let same = sym none ∙ h.1.is_value in absurd cc);
+  none_found = (λ e. absurd (omega arith), λ h. let same = sym none ∙ h.1.is_value in absurd cc);
 }
 
-same_model : (bytes : List ℕ) (d e : Data) → value_of bytes ≡ Some d → value_of bytes ≡ Some e → model_of d ≡ model_of e
-same_model bytes d e p q = let same : d ≡ e = let k = sym p ∙ q in cc in ap model_of same
+-- of an input whose value this is
+module _ (bytes : List ℕ) (d : Data) (short : length bytes ≤ max_input) (some : value_of bytes ≡ Some d) where
+  same_model : (e : Data) → value_of bytes ≡ Some e → model_of d ≡ model_of e
+  same_model e q = let same : d ≡ e = let k = sym some ∙ q in cc in ap model_of same
 
-value-tells : (mode : Mode) (bytes : List ℕ) (d : Data) → length bytes ≤ max_input → value_of bytes ≡ Some d
-    → (m : Result Model Fault) → model_of d ≡ m → Tells bytes (reply_to_model mode m).status
-value-tells mode bytes d short some (Err fault) is = record {
-  too_long = (λ e. absurd (omega arith), λ h. absurd (omega arith));
-  not_json = (λ e. absurd (omega arith), λ h. let same = sym some ∙ h.no_value in absurd cc);
-  refused = (λ e. (fault, record { short = short; value = d; is_value = some; is_fault = is }), λ h. refl);
-  done = (λ e. absurd (omega arith), λ h. let both = sym is ∙ same_model bytes d h.1.value some h.1.is_value ∙ h.1.is_model in absurd cc);
-}
-value-tells mode bytes d short some (Ok model) is = record {
-  too_long = (λ e. absurd (omega arith), λ h. absurd (omega arith));
-  not_json = (λ e. absurd (omega arith), λ h. let same = sym some ∙ h.no_value in absurd cc);
-  refused = (λ e. absurd (omega arith), λ h. let both = sym is ∙ same_model bytes d h.1.value some h.1.is_value ∙ h.1.is_fault in absurd cc);
-  done = (λ e. (model, record { short = short; value = d; is_value = some; is_model = is }), λ h. refl);
-}
+  not_both : (model : Model) (fault : Fault) → model_of d ≡ Err fault → IsModel bytes model → ⊥
+  not_both model fault is h = let both = sym is ∙ same_model h.value h.is_value ∙ h.is_model in absurd cc
+
+  only_model : (model other : Model) → model_of d ≡ Ok model → IsModel bytes other → model ≡ other
+  only_model model other is h = let both = sym is ∙ same_model h.value h.is_value ∙ h.is_model in cc
+
+  fault-tells : (fault : Fault) → model_of d ≡ Err fault → Tells bytes 5
+  fault-tells fault is = record {
+    too_long = (λ e. absurd (omega arith), λ h. absurd (omega arith));
+    not_json = (λ e. absurd (omega arith), λ h. let same = sym some ∙ h.no_value in absurd cc);
+    refused = (λ e. (fault, record { short = short; value = d; is_value = some; is_fault = is }), λ h. refl);
+    done = (λ e. absurd (omega arith), λ h. absurd (not_both h.0 fault is h.1));
+    none_found = (λ e. absurd (omega arith), λ h. absurd (not_both h.0 fault is h.1));
+  }
+
+  module _ (model : Model) (is : model_of d ≡ Ok model) where
+    is-model : IsModel bytes model
+    is-model = record { short = short; value = d; is_value = some; is_model = is }
+
+    not_refused : IsRefused bytes → ⊥
+    not_refused h = not_both-from h.1
+      where
+        not_both-from : HasFault bytes h.0 → ⊥
+        not_both-from k = let both = sym is ∙ same_model k.value k.is_value ∙ k.is_fault in absurd cc
+
+    found-tells : (mode : Mode) (o : Option (List (List ℕ))) → first_lists model ≡ o → Tells bytes (reply_to_found model (option_map (found_from mode model) o)).status
+    found-tells mode None none = record {
+      too_long = (λ e. absurd (omega arith), λ h. absurd (omega arith));
+      not_json = (λ e. absurd (omega arith), λ h. let same = sym some ∙ h.no_value in absurd cc);
+      refused = (λ e. absurd (omega arith), λ h. absurd (not_refused h));
+      done = (λ e. absurd (omega arith), λ h. let k = subst IsSome (ap first_lists (sym (only_model model h.0 is h.1)) ∙ none) h.2 in absurd cc);
+      none_found = (λ e. (model, is-model, none), λ h. refl);
+    }
+    found-tells mode (Some lists) first = record {
+      too_long = (λ e. absurd (omega arith), λ h. absurd (omega arith));
+      not_json = (λ e. absurd (omega arith), λ h. let same = sym some ∙ h.no_value in absurd cc);
+      refused = (λ e. absurd (omega arith), λ h. absurd (not_refused h));
+      done = (λ e. (model, is-model, subst IsSome (sym first) refl), λ h. refl);
+      none_found = (λ e. absurd (omega arith), λ h. let k = sym first ∙ ap first_lists (only_model model h.0 is h.1) ∙ h.2 in absurd cc);
+    }
+
+  value-tells : (mode : Mode) (m : Result Model Fault) → model_of d ≡ m → Tells bytes (reply_to_model mode m).status
+  value-tells mode (Err fault) is = fault-tells fault is
+  value-tells mode (Ok model) is = found-tells model is mode (first_lists model) refl
 
 short-tells : (mode : Mode) (bytes : List ℕ) → length bytes ≤ max_input → (o : Option Data) → value_of bytes ≡ o → Tells bytes (reply_to_value mode o).status
 short-tells mode bytes short None e = no_value-tells bytes short e
-short-tells mode bytes short (Some d) e = value-tells mode bytes d short e (model_of d) refl
+short-tells mode bytes short (Some d) e = value-tells bytes d short e mode (model_of d) refl
 
-pub input-tells : (mode : Mode) (bytes : List ℕ) → Tells bytes (reply_to_input mode bytes).status
+input-tells : (mode : Mode) (bytes : List ℕ) → Tells bytes (reply_to_input mode bytes).status
 unfolding reply_to_input
 input-tells mode bytes = by (nat_lt max_input (length bytes)) refl
   where
@@ -68,7 +106,7 @@ input-tells mode bytes = by (nat_lt max_input (length bytes)) refl
     by false e = short-tells mode bytes (grind (arith, nat_tests)) (value_of bytes) refl
 
 -- of accepted words
-pub reply-tells : (words : List (List ℕ)) (bytes : List ℕ) → IsSome (mode_of words) → Tells bytes (reply words bytes).status
+pub reply-tells : (words : List (List ℕ)) (bytes : List ℕ) → IsAccepted words → Tells bytes (reply words bytes).status
 reply-tells words bytes h = by (mode_of words) h
   where
     by : (o : Option Mode) → IsSome o → Tells bytes (reply_in o bytes).status
@@ -76,7 +114,7 @@ reply-tells words bytes h = by (mode_of words) h
     by (Some mode) h = input-tells mode bytes
 
 -- a refusal tells the fault
-pub reply-refused : (words : List (List ℕ)) (bytes : List ℕ) (fault : Fault) → (reply words bytes).status ≡ 5 → IsRefused bytes fault → (reply words bytes).text ≡ line_of (refused_tree fault)
+pub reply-refused : (words : List (List ℕ)) (bytes : List ℕ) (fault : Fault) → (reply words bytes).status ≡ 5 → HasFault bytes fault → (reply words bytes).text ≡ line_of (refused_tree fault)
 reply-refused words bytes fault e r = by (mode_of words) e
   where
     by : (o : Option Mode) → (reply_in o bytes).status ≡ 5 → (reply_in o bytes).text ≡ line_of (refused_tree fault)

@@ -1,5 +1,5 @@
 -- Inputs, and what they are replied.
-use Rattle.std.proofs.Common.{◌≡◌, ◌∙◌, ◌<◌, ◌≤◌, ℕ, List, Bool, true, false, cond, [], Option, Some, None, Ok, Err, refl, ap, sym, arith, length, length-append}
+use Rattle.std.proofs.Common.{◌≡◌, ◌∙◌, ◌<◌, ◌≤◌, ℕ, List, Bool, true, false, cond, Option, Some, None, refl, ap, sym, arith, length, length-append}
 use Rattle.std.specs.Prelude.{nat_lt}
 use Rattle.std.specs.Str.{IsUtf8, is_utf8}
 use Rattle.std.proofs.lemmas.Str.{IsUtf8-from_is_utf8, is_utf8-from_IsUtf8}
@@ -7,15 +7,7 @@ use Rattle.std.proofs.lemmas.Bool.Decides.{nat_tests}
 use Rattle.serde_json.specs.Data.{Data}
 use Rattle.serde_json.specs.Read.{read}
 use Rattle.vr_io.specs.Edges.{Gave}
-use Rattle.vr_json.proofs.Steps.{then, gives}
-use Rattle.vr_json.specs.Reading.{Answers}
-use Rattle.vr_json.specs.declared.fault.Fault.{Fault}
-use Rattle.vr_json.specs.declared.fault.ReadFail.TheVariants.{Refused}
-use Rattle.vr_model.specs.declared.records.Model.{Model}
-use Rattle.vr_read.specs.Models.{read_model}
-use Rattle.vr_app.specs.Input.{max_input, model_of, unless_unbuilt, value_of}
-use Rattle.vr_app.specs.Unbuilt.{fault_of, first_unbuilt}
-use Rattle.vr_app.specs.declared.unbuilt.Unbuilt.{Unbuilt}
+use Rattle.vr_app.specs.Input.{max_input, value_of}
 use Rattle.vr_app.specs.Reply.{reply_to_input, reply_to_value, too_long}
 use Rattle.vr_app.specs.declared.words.Mode.{Mode}
 
@@ -50,16 +42,3 @@ reply-long mode bytes h = let e : nat_lt max_input (length bytes) ≡ true = gri
 -- a source from which too many bytes came
 pub long-gave : (old new : Option (List ℕ)) (taken bytes : List ℕ) → max_input < length taken → Gave old new taken → old ≡ Some bytes → max_input < length bytes
 long-gave old new taken bytes h gave e = let g = gave.told bytes e in omega (arith, length-append taken g.0, ap length g.1)
-
--- ---- the model of a value
-
--- it is read, and each part of it is solved
-pub model-solved : (d : Data) (model : Model) → Answers (Ok model) (read_model [] d) → first_unbuilt model ≡ None → Answers (Ok model) (model_of d)
-unfolding model_of
-model-solved d model h e = then (λ model. unless_unbuilt model (first_unbuilt model)) h (rw e (gives refl))
-
--- it is read, and a part of it is not solved
-pub model-unsolved : (d : Data) (model : Model) (part : Unbuilt) (fault : Fault) → Answers (Ok model) (read_model [] d) → first_unbuilt model ≡ Some part → fault ≡ fault_of part
-    → Answers (Err (Refused fault)) (model_of d)
-unfolding model_of
-model-unsolved d model part fault h e f = then (λ model. unless_unbuilt model (first_unbuilt model)) h (rw e (record { value = tt; refused = λ other is. ap Err (sym f ∙ (cc)) }))

@@ -1,4 +1,4 @@
-pub mod TreeLemmas
 pub mod InputLemmas
 pub mod CauseLemmas
+pub mod SolutionLemmas
 pub mod ReplyLemmas

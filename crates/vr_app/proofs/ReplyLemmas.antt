@@ -1,23 +1,22 @@
 -- Replies.
-use Rattle.std.proofs.Common.{◌≡◌, ◌≤◌, ◌∙◌, ℕ, ℤ, List, Bool, true, false, cond, Some, None, refl, ap, sym, arith}
-use Rattle.std.proofs.lemmas.Int.{ints}
+use Rattle.std.proofs.Common.{◌≡◌, ◌≤◌, ℕ, List, Bool, true, false, cond, Option, Some, None, Result, Ok, Err, refl, arith, option_map, length}
+use Rattle.std.specs.Prelude.{nat_lt}
+use Rattle.std.proofs.lemmas.Bool.Decides.{nat_tests}
 use Rattle.serde_json.specs.Data.{Data, depth}
 use Rattle.serde_json.specs.Read.{max_depth}
 use Rattle.serde_json.specs.Written.{has_float}
 use Rattle.vr_json.specs.declared.fault.Fault.{Fault}
 use Rattle.vr_model.specs.declared.records.Model.{Model}
-use Rattle.vr_model.specs.declared.records.Parts.{Parts}
-use Rattle.vr_model.specs.first.FirstSolutions.{build, first_lists}
-use Rattle.vr_model.specs.routes.Costs.{assigned, cost, parts_at, sum_of}
-use Rattle.vr_model.specs.routes.Routes.{inactive, vehicles}
-use Rattle.vr_model.specs.routes.Rules.{is_valid}
-use Rattle.vr_model.specs.declared.records.End.TheVariants as stop
-use Rattle.vr_model.specs.tables.WellFormed.{IsWellFormed}
-use Rattle.vr_app.specs.declared.found.Found.{Found}
-use Rattle.vr_app.specs.Reply.{IsSolution, untried}
-use Rattle.vr_app.specs.Solution.{solution_tree, tree_with}
+use Rattle.vr_model.specs.first.FirstSolutions.{first_lists}
+use Rattle.vr_read.proofs.WellFormedModels.{well_formed_from_read}
+use Rattle.vr_app.specs.Causes.{IsSolvedBy}
+use Rattle.vr_app.specs.Found.{found_from}
+use Rattle.vr_app.specs.Input.{max_input, model_of, value_of}
+use Rattle.vr_app.specs.Reply.{Reply, reply, reply_in, reply_to_found, reply_to_input, reply_to_model, reply_to_value, too_long}
 use Rattle.vr_app.specs.Texts.{refused_tree, status_tree}
-use Rattle.vr_app.proofs.TreeLemmas.{is_float-whole, no_float_counts, no_float_routes, flat_counts, depth_routes}
+use Rattle.vr_app.specs.Words.{mode_of}
+use Rattle.vr_app.specs.declared.words.Mode.{Mode}
+use Rattle.vr_app.proofs.SolutionLemmas.{found-printed}
 
 -- a tree that may be printed: no float stands in it, and it is not too deep
 pub record IsPrintable (d : Data) : Type 0 where
@@ -32,33 +31,37 @@ pub refused-printable : (fault : Fault) → IsPrintable (refused_tree fault)
 unfolding refused_tree
 refused-printable fault = record { whole = refl; nested = omega arith }
 
-pub solution-printable : (parts : Parts) (model : Model) (found : Found) → IsPrintable (tree_with parts model found)
-unfolding tree_with
-solution-printable parts model found = record {
-  whole = simp (is_float-whole, no_float_counts, no_float_routes);
-  nested = omega (arith, flat_counts (inactive model found.lists), depth_routes model found.lists (vehicles found.lists));
-}
+-- ---- a reply of status 0 has the text of a solution
 
--- the first lists are valid
-first_lists-valid : (model : Model) (lists : List (List ℕ)) → first_lists model ≡ Some lists → is_valid model lists ≡ true
-unfolding first_lists
-first_lists-valid model lists e = by (is_valid model (build model)) refl e
+abbrev SolvedWhere : List ℕ → Reply → Type 0
+SolvedWhere bytes reply = reply.status ≡ 0 → IsSolvedBy bytes reply.text
+
+found-solved : (asked : Mode) (bytes : List ℕ) (d : Data) (model : Model) → length bytes ≤ max_input → value_of bytes ≡ Some d → model_of d ≡ Ok model
+    → (o : Option (List (List ℕ))) → first_lists model ≡ o → SolvedWhere bytes (reply_to_found model (option_map (found_from asked model) o))
+found-solved asked bytes d model short some is None e zero = absurd (omega arith)
+found-solved asked bytes d model short some is (Some lists) e zero =
+    (model, record { short = short; value = d; is_value = some; is_model = is }, found-printed asked model lists (well_formed_from_read _ d model is) e)
+
+model-solved : (asked : Mode) (bytes : List ℕ) (d : Data) → length bytes ≤ max_input → value_of bytes ≡ Some d
+    → (m : Result Model Fault) → model_of d ≡ m → SolvedWhere bytes (reply_to_model asked m)
+model-solved asked bytes d short some (Err fault) is zero = absurd (omega arith)
+model-solved asked bytes d short some (Ok model) is zero = found-solved asked bytes d model short some is (first_lists model) refl zero
+
+value-solved : (asked : Mode) (bytes : List ℕ) → length bytes ≤ max_input → (o : Option Data) → value_of bytes ≡ o → SolvedWhere bytes (reply_to_value asked o)
+value-solved asked bytes short None e zero = absurd (omega arith)
+value-solved asked bytes short (Some d) e zero = model-solved asked bytes d short e (model_of d) refl zero
+
+input-solved : (asked : Mode) (bytes : List ℕ) → SolvedWhere bytes (reply_to_input asked bytes)
+unfolding reply_to_input
+input-solved asked bytes = by (nat_lt max_input (length bytes)) refl
   where
-    by : (b : Bool) → is_valid model (build model) ≡ b → cond b (Some (build model)) None ≡ Some lists → is_valid model lists ≡ true
-    by true valid same = let k : build model ≡ lists = cc in ap (is_valid model) (sym k) ∙ valid
-    by false valid same = absurd (cc)
+    by : (b : Bool) → nat_lt max_input (length bytes) ≡ b → SolvedWhere bytes (cond b too_long (reply_to_value asked (value_of bytes)))
+    by true e zero = absurd (omega arith)
+    by false e zero = value-solved asked bytes (grind (arith, nat_tests)) (value_of bytes) refl zero
 
--- the first lists are a solution
-pub untried-solution : (model : Model) (lists : List (List ℕ)) → IsWellFormed model → first_lists model ≡ Some lists → IsSolution model (untried model lists)
-untried-solution model lists well_formed e = record {
-  valid = first_lists-valid model lists e;
-  no_dearer_than_first = omega (arith, ints);
-  tries_in_limit = omega arith;
-  solutions_in_limit = (omega arith, well_formed.search_in_range.solutions_in_range.0);
-}
-
--- the tree of the lists of a first solution, of the parts of their cost
-pub tree_with-untried : (parts : Parts) (model : Model) (lists : List (List ℕ)) (first_cost : ℤ) → parts ≡ parts_at model (assigned model lists) → first_cost ≡ sum_of parts
-    → tree_with parts model (record { lists = lists; first_cost = first_cost; report = record { tries = 0; solutions = 1; «end» = stop.First } }) ≡ solution_tree model (untried model lists)
-unfolding solution_tree cost
-tree_with-untried parts model lists first_cost same sum = cc
+pub reply-solved : (words : List (List ℕ)) (bytes : List ℕ) → (reply words bytes).status ≡ 0 → IsSolvedBy bytes (reply words bytes).text
+reply-solved words bytes = by (mode_of words)
+  where
+    by : (o : Option Mode) → (reply_in o bytes).status ≡ 0 → IsSolvedBy bytes (reply_in o bytes).text
+    by None e = absurd (omega arith)
+    by (Some asked) e = input-solved asked bytes e

@@ -1,6 +1,7 @@
 -- An answer of the code beside a reply.
-use Rattle.std.specs.Prelude.{◌≡◌, ℕ, List}
+use Rattle.std.specs.Prelude.{◌≡◌, ◌⊎◌, ℕ, List}
 use Rattle.vr_app.specs.declared.status.Status.{Status}
+use Rattle.vr_app.specs.declared.status.Status.TheVariants as all
 use Rattle.vr_app.specs.Status.{number_of}
 use Rattle.vr_app.specs.declared.answer.Answer.{Answer}
 use Rattle.vr_app.specs.Reply.{Reply}
@@ -14,3 +15,19 @@ pub record Answers (status : Status) (text : List ℕ) (answer : Answer) : Type 
 pub record AnswersReply (reply : Reply) (answer : Answer) : Type 0 where
   pub status_is : number_of answer.status ≡ reply.status
   pub text_is : answer.text ≡ reply.text
+
+-- the status of an answer to a model
+abbrev pub IsOfModel : Status → Type 0
+IsOfModel status = (status ≡ all.Done) ⊎ (status ≡ all.NoneFound)
+
+-- the status of an answer to an input that is not too long
+abbrev pub IsOfShort : Status → Type 0
+IsOfShort status = IsOfModel status ⊎ (status ≡ all.NotJson) ⊎ (status ≡ all.Refused)
+
+-- the status of an answer to an input
+abbrev pub IsOfInput : Status → Type 0
+IsOfInput status = IsOfShort status ⊎ (status ≡ all.TooLong)
+
+-- the status of an answer
+abbrev pub IsOfAnswer : Status → Type 0
+IsOfAnswer status = (status ≡ all.Usage) ⊎ IsOfInput status

@@ -1,10 +1,11 @@
 -- What an input is, for each status of an accepted call.
-use Rattle.std.specs.Prelude.{◌≡◌, ◌<◌, ◌≤◌, ℕ, List, Some, None, Ok, Err, length}
+use Rattle.std.specs.Prelude.{◌≡◌, ◌<◌, ◌≤◌, ℕ, List, Some, None, Ok, Err, IsSome, length}
 use Rattle.serde_json.specs.Data.{Data}
 use Rattle.vr_json.specs.declared.fault.Fault.{Fault}
+use Rattle.vr_model.specs.first.FirstSolutions.{first_lists}
 use Rattle.vr_model.specs.declared.records.Model.{Model}
 use Rattle.vr_app.specs.Input.{max_input, value_of, model_of}
-use Rattle.vr_app.specs.Reply.{HasFirst}
+use Rattle.vr_app.specs.Solutions.{PrintsSolution}
 
 -- it has too many bytes
 abbrev pub IsTooLong : List ℕ → Type 0
@@ -16,7 +17,7 @@ pub record IsNotJson (bytes : List ℕ) : Type 0 where
   pub no_value : value_of bytes ≡ None
 
 -- it is JSON, and this is the first fault of its value
-pub record IsRefused (bytes : List ℕ) (fault : Fault) : Type 0 where
+pub record HasFault (bytes : List ℕ) (fault : Fault) : Type 0 where
   pub short : length bytes ≤ max_input
   pub value : Data
   pub is_value : value_of bytes ≡ Some value
@@ -29,14 +30,18 @@ pub record IsModel (bytes : List ℕ) (model : Model) : Type 0 where
   pub is_value : value_of bytes ≡ Some value
   pub is_model : model_of value ≡ Ok model
 
--- a value gives a model, and the text is the line of its first solution
-pub record PrintsModel (value : Data) (text : List ℕ) : Type 0 where
-  pub model : Model
-  pub is_model : model_of value ≡ Ok model
-  pub first : HasFirst model text
+-- it is JSON whose value is refused
+abbrev pub IsRefused : List ℕ → Type 0
+IsRefused bytes = (fault : Fault) × HasFault bytes fault
 
--- it is a model, and the text is the line of its first solution
-pub record PrintsFirst (bytes text : List ℕ) : Type 0 where
-  pub model : Model
-  pub is_read : IsModel bytes model
-  pub first : HasFirst model text
+-- it is a model for which the construction gives a first solution
+abbrev pub HasFirst : List ℕ → Type 0
+HasFirst bytes = (model : Model) × IsModel bytes model × IsSome (first_lists model)
+
+-- it is a model for which the construction gives no first solution
+abbrev pub HasNoFirst : List ℕ → Type 0
+HasNoFirst bytes = (model : Model) × IsModel bytes model × (first_lists model ≡ None)
+
+-- it is a model, and the text is the line of a solution of it
+abbrev pub IsSolvedBy : List ℕ → List ℕ → Type 0
+IsSolvedBy bytes text = (model : Model) × IsModel bytes model × PrintsSolution model text

@@ -1,9 +1,10 @@
 pub mod Words
 pub mod Status
-pub mod Unbuilt
 pub mod Input
 pub mod Texts
-pub mod Solution
+pub mod Found
 pub mod Reply
+pub mod Solutions
 pub mod Causes
 pub mod Answers
+pub mod Runs

@@ -1,7 +1,7 @@
 //! How a run ends.
 
 ghost use Rattle.std.specs.Prelude.{◌≡◌};
-ghost use Rattle.vr_app.specs.Status.{number_of};
+ghost use Rattle.vr_app.specs.Status.{IsStatus, number_of};
 
 /// The status of a run. Its number is what the program ends with.
 #[derive(Clone, Copy)]
@@ -18,6 +18,8 @@ pub(crate) enum Status {
     NotJson = 4,
     /// The input is refused.
     Refused = 5,
+    /// The construction gives no first solution.
+    NoneFound = 6,
     /// Want of memory.
     NoMemory = 7,
     /// The input has too many bytes.
@@ -27,7 +29,8 @@ pub(crate) enum Status {
 impl Status {
     /// The number of the status.
     pub(crate) fn number(self) -> u8
-        ensures { result ≡ number_of self }
+        ensures number { result ≡ number_of self }
+        ensures status { IsStatus result }
     {
         self as u8
     }

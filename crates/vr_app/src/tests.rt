@@ -55,28 +55,36 @@ fn assert_refused(
 }
 
 #[test]
-fn solutions_are_written(rt: HostRuntime) -> Result<(), Fail> {
+fn models_are_answered(rt: HostRuntime) -> Result<(), Fail> {
     let alloc = rt.alloc();
-    for (vehicles, text) in [
+    for (from, to, status, text) in [
         (
-            VEHICLES,
+            "",
+            "",
+            0,
             "{\"cost\":18,\"dropped\":[],\"first_cost\":18,\"parts\":{\"arcs\":18,\"fixed\":0,\"global\":0,\"penalty\":0,\"soft\":0,\"span\":0},\"routes\":[{\"dimensions\":[],\"nodes\":[0,1,2,0],\"vehicle\":0}],\"solutions\":1,\"status\":\"ROUTING_SUCCESS\",\"stop\":\"first\",\"tries\":0}\n",
         ),
         (
-            "[{\"start\":0,\"end\":0,\"fixed\":7}]",
+            "\"end\":0",
+            "\"end\":0,\"fixed\":7",
+            0,
             "{\"cost\":25,\"dropped\":[],\"first_cost\":25,\"parts\":{\"arcs\":18,\"fixed\":7,\"global\":0,\"penalty\":0,\"soft\":0,\"span\":0},\"routes\":[{\"dimensions\":[],\"nodes\":[0,1,2,0],\"vehicle\":0}],\"solutions\":1,\"status\":\"ROUTING_SUCCESS\",\"stop\":\"first\",\"tries\":0}\n",
         ),
         (
-            "[{\"start\":0,\"end\":0},{\"start\":0,\"end\":0,\"fixed\":5}]",
-            "{\"cost\":18,\"dropped\":[],\"first_cost\":18,\"parts\":{\"arcs\":18,\"fixed\":0,\"global\":0,\"penalty\":0,\"soft\":0,\"span\":0},\"routes\":[{\"dimensions\":[],\"nodes\":[0,1,2,0],\"vehicle\":0},{\"dimensions\":[],\"nodes\":[],\"vehicle\":1}],\"solutions\":1,\"status\":\"ROUTING_SUCCESS\",\"stop\":\"first\",\"tries\":0}\n",
+            THREE_NODES,
+            "{\"format\":1,\"nodes\":1,\"matrices\":[[[0]]],\"vehicles\":[{\"start\":0,\"end\":0}]}",
+            0,
+            "{\"cost\":0,\"dropped\":[],\"first_cost\":0,\"parts\":{\"arcs\":0,\"fixed\":0,\"global\":0,\"penalty\":0,\"soft\":0,\"span\":0},\"routes\":[{\"dimensions\":[],\"nodes\":[],\"vehicle\":0}],\"solutions\":1,\"status\":\"ROUTING_SUCCESS\",\"stop\":\"first\",\"tries\":0}\n",
         ),
         (
-            "[{\"start\":0,\"end\":1,\"fixed\":7},{\"start\":2,\"end\":0}]",
-            "{\"cost\":0,\"dropped\":[],\"first_cost\":0,\"parts\":{\"arcs\":0,\"fixed\":0,\"global\":0,\"penalty\":0,\"soft\":0,\"span\":0},\"routes\":[{\"dimensions\":[],\"nodes\":[],\"vehicle\":0},{\"dimensions\":[],\"nodes\":[],\"vehicle\":1}],\"solutions\":1,\"status\":\"ROUTING_SUCCESS\",\"stop\":\"first\",\"tries\":0}\n",
+            "\"format\":1",
+            "\"format\":1,\"dimensions\":[{\"name\":\"t\",\"evaluators\":[{\"matrix\":0}],\"slack_max\":0,\"capacity\":3}]",
+            6,
+            "{\"status\":\"ROUTING_FAIL\"}\n",
         ),
     ] {
-        let input = THREE_NODES.replace(alloc, VEHICLES, vehicles)?;
-        assert_answer(&rt, alloc, &input, 0, text)?;
+        let input = THREE_NODES.replace(alloc, from, to)?;
+        assert_answer(&rt, alloc, &input, status, text)?;
     }
     Ok(())
 }
@@ -114,54 +122,9 @@ fn faults_are_refused(rt: HostRuntime) -> Result<(), Fail> {
             23,
             "/search/first",
         ),
-        (
-            VEHICLES,
-            "[{\"start\":0,\"end\":0}],\"search\":{\"first\":\"SAVINGS\"}",
-            30,
-            "/search/first",
-        ),
     ] {
         let input = THREE_NODES.replace(alloc, from, to)?;
         assert_refused(&rt, alloc, &input, code, path)?;
-    }
-    Ok(())
-}
-
-// The parts that are not solved are put into the model one after another, the last one first.
-#[test]
-fn the_first_part_that_is_not_solved_is_told(rt: HostRuntime) -> Result<(), Fail> {
-    let alloc = rt.alloc();
-    let mut input = String::from_str(alloc, THREE_NODES)?;
-    for (from, to, path) in [
-        (
-            "\"format\":1",
-            "\"format\":1,\"search\":{\"first\":\"PARALLEL_CHEAPEST_INSERTION\"}",
-            "/search/first",
-        ),
-        (
-            "\"format\":1",
-            "\"format\":1,\"allowed\":[{\"node\":1,\"vehicles\":[0]}]",
-            "/allowed",
-        ),
-        (
-            "\"format\":1",
-            "\"format\":1,\"pairs\":[{\"pickup\":1,\"delivery\":2}]",
-            "/pairs",
-        ),
-        (
-            "\"format\":1",
-            "\"format\":1,\"groups\":[{\"nodes\":[2]}]",
-            "/groups",
-        ),
-        ("\"end\":0", "\"end\":0,\"policy\":\"fifo\"", "/vehicles"),
-        (
-            "\"format\":1",
-            "\"format\":1,\"dimensions\":[{\"name\":\"t\",\"evaluators\":[{}],\"slack_max\":0,\"capacity\":0}]",
-            "/dimensions",
-        ),
-    ] {
-        input = input.replace(alloc, from, to)?;
-        assert_refused(&rt, alloc, &input, 30, path)?;
     }
     Ok(())
 }

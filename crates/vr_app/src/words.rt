@@ -1,7 +1,8 @@
 //! The words that the program takes.
 
-ghost use Rattle.std.specs.Prelude.{◌≡◌, map, string_bytes};
-ghost use Rattle.vr_app.specs.Words.{mode_of as mode_of_words};
+ghost use Rattle.std.specs.Prelude.{◌≡◌};
+ghost use Rattle.vr_app.specs.Runs.{bytes_of};
+ghost use Rattle.vr_app.specs.Words as words_of;
 
 /// What the program is asked for.
 #[derive(Clone, Copy)]
@@ -12,7 +13,7 @@ pub(crate) enum Mode {
 
 /// What the words ask for, none where they are not accepted.
 pub(crate) fn mode_of(words: &[String]) -> Option<Mode>
-    ensures { result ≡ mode_of_words (map string_bytes words.now) }
+    ensures { result ≡ words_of.mode_of (bytes_of words.now) }
 {
     match words {
         [word] if word.as_str() == "first" => Some(Mode::First),

@@ -1,0 +1,90 @@
+-- Solutions that are printed.
+use Rattle.std.proofs.Common.{◌≡◌, ◌∙◌, ℕ, List, Bool, true, false, cond, Option, Some, None, refl, ap, sym, subst, arith}
+use Rattle.std.specs.Prelude.{IsTrue, is_some, unwrap_or, ◌≤ℤ◌}
+use Rattle.std.proofs.lemmas.Int.{ints}
+use Rattle.vr_model.specs.declared.records.Model.{Model}
+use Rattle.vr_model.specs.search.Outcomes.{Outcome}
+use Rattle.vr_model.specs.first.FirstSolutions.{build, first_lists}
+use Rattle.vr_model.specs.routes.Costs.{assigned, cost, no_plan, parts_at, sum_of}
+use Rattle.vr_model.specs.routes.Routes.{route}
+use Rattle.vr_model.specs.routes.Rules.{is_open, is_valid}
+use Rattle.vr_model.specs.schedules.Choices.{chosen}
+use Rattle.vr_model.specs.schedules.Lines.{Line, line}
+use Rattle.vr_model.specs.schedules.Schedules.{IsChosen, IsSchedule, Plan}
+use Rattle.vr_model.specs.tables.WellFormed.{IsWellFormed}
+use Rattle.vr_model.specs.deciding.Testing.{and_left, and_right}
+use Rattle.vr_model.proofs.routes.Assigned.{chosen_plans_are_there, open_meets_its_lines}
+use Rattle.vr_model.proofs.schedules.ChoiceLaws.{chosen_is, chosen_where_feasible}
+use Rattle.vr_print.proofs.TreeLemmas.{plan-at}
+use Rattle.vr_app.specs.Found.{found_from, line_of_found, searched}
+use Rattle.vr_app.specs.Solutions.{HasChosenPlans, IsInLimits, IsSolution, PrintsSolution}
+use Rattle.vr_app.specs.declared.words.Mode.{Mode}
+use Rattle.vr_app.specs.declared.words.Mode.TheVariants as mode
+
+-- the first lists are valid
+pub first_lists-valid : (model : Model) (lists : List (List ℕ)) → first_lists model ≡ Some lists → IsTrue (is_valid model lists)
+unfolding first_lists
+first_lists-valid model lists e = by (is_valid model (build model)) refl e
+  where
+    by : (b : Bool) → is_valid model (build model) ≡ b → cond b (Some (build model)) None ≡ Some lists → is_valid model lists ≡ true
+    by true valid same = let k : build model ≡ lists = cc in ap (is_valid model) (sym k) ∙ valid
+    by false valid same = absurd (cc)
+
+valid-open : (model : Model) (lists : List (List ℕ)) → IsTrue (is_valid model lists) → IsTrue (is_open model lists)
+unfolding is_valid
+valid-open model lists h = and_left (is_open model lists) _ (and_right _ _ h)
+
+-- a line with a schedule has the chosen one
+chosen-of : (line : Line) (plan : Plan) → IsSchedule line plan → IsChosen line (unwrap_or (chosen line) no_plan)
+chosen-of line plan is = by (chosen line) refl ((chosen_where_feasible line).1 (plan, is))
+  where
+    by : (o : Option Plan) → chosen line ≡ o → IsTrue (is_some o) → IsChosen line (unwrap_or o no_plan)
+    by None e h = absurd cc
+    by (Some p) e h = chosen_is line p e
+
+chosen-plans : (model : Model) (lists : List (List ℕ)) → IsTrue (is_valid model lists) → HasChosenPlans model (assigned model lists)
+chosen-plans model lists valid d v low known used =
+    let meets = open_meets_its_lines model lists (valid-open model lists valid) d v low known used in
+    subst (IsChosen (line model d v (route lists v))) (sym (plan-at model lists d v low known used)) (chosen-of (line model d v (route lists v)) _ meets)
+
+pub sum-is_cost : (model : Model) (lists : List (List ℕ)) → sum_of (parts_at model (assigned model lists)) ≡ cost model lists
+unfolding cost
+sum-is_cost model lists = refl
+
+-- valid lists at their chosen schedules are a solution
+pub is-solution : (model : Model) (first lists : List (List ℕ)) → IsTrue (is_valid model lists) → cost model lists ≤ℤ cost model first → IsSolution model first (assigned model lists)
+is-solution model first lists valid no_dearer = record {
+  valid = valid;
+  plans = chosen_plans_are_there model lists;
+  chosen = chosen-plans model lists valid;
+  cost_is = sum-is_cost model lists;
+  no_dearer_than_first = subst (λ z. z ≤ℤ cost model first) (sym (sum-is_cost model lists)) no_dearer;
+}
+
+-- the lists of a search are valid and cost no more than the first, and its report is within the limits
+pub record IsSound (model : Model) (first : List (List ℕ)) (outcome : Outcome) : Type 0 where
+  pub valid : IsTrue (is_valid model outcome.best)
+  pub no_dearer : cost model outcome.best ≤ℤ cost model first
+  pub in_limits : IsInLimits model outcome.report
+
+pub searched-sound : (asked : Mode) (model : Model) (first : List (List ℕ)) → IsWellFormed model → IsTrue (is_valid model first) → IsSound model first (searched asked model first)
+searched-sound mode.First model first well_formed valid = record {
+  valid = valid;
+  no_dearer = omega (arith, ints);
+  in_limits = record { tries = omega arith; some_solution = omega arith; solutions = well_formed.search_in_range.solutions_in_range.0 };
+}
+
+-- what is found is printed as a solution
+pub found-printed : (asked : Mode) (model : Model) (first : List (List ℕ)) → IsWellFormed model → first_lists model ≡ Some first → PrintsSolution model (line_of_found model (found_from asked model first))
+unfolding line_of_found
+found-printed asked model first well_formed e =
+    let sound = searched-sound asked model first well_formed (first_lists-valid model first e) in
+    record {
+      first = first;
+      assignment = assigned model (searched asked model first).best;
+      report = (searched asked model first).report;
+      is_first = e;
+      is_solution = is-solution model first (searched asked model first).best sound.valid sound.no_dearer;
+      is_in_limits = sound.in_limits;
+      text_is = refl;
+    }

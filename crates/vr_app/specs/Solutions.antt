@@ -1,0 +1,44 @@
+-- What holds of each solution that is printed.
+use Rattle.std.specs.Prelude.{◌≡◌, ℕ, ◌<◌, ◌≤◌, List, Some, false, IsTrue, length, ◌≤ℤ◌}
+use Rattle.vr_json.specs.Trees.{line_of}
+use Rattle.vr_model.specs.first.FirstSolutions.{first_lists}
+use Rattle.vr_model.specs.routes.AssignmentLaws.{HasPlans}
+use Rattle.vr_model.specs.routes.Costs.{Assignment, cost, parts_at, plan_at, sum_of}
+use Rattle.vr_model.specs.routes.Routes.{is_empty, route}
+use Rattle.vr_model.specs.routes.Rules.{is_valid}
+use Rattle.vr_model.specs.schedules.Lines.{line}
+use Rattle.vr_model.specs.schedules.Schedules.{IsChosen}
+use Rattle.vr_model.specs.declared.records.Model.{Model}
+use Rattle.vr_model.specs.declared.records.Report.{Report}
+use Rattle.vr_print.specs.Solution.{assignment_tree}
+
+-- the plan of each used vehicle in each dimension is the chosen schedule of its line
+abbrev pub HasChosenPlans : Model → Assignment → Type 0
+HasChosenPlans model assignment = (d v : ℕ) → d < length model.dimensions → v < length assignment.lists
+    → is_empty (route assignment.lists v) ≡ false
+    → IsChosen (line model d v (route assignment.lists v)) (plan_at assignment d v)
+
+-- an assignment with valid lists and chosen schedules; its cost, the sum of the six parts at its cumuls, is that of its
+-- lists and at most that of the first solution
+pub record IsSolution (model : Model) (first : List (List ℕ)) (assignment : Assignment) : Type 0 where
+  pub valid : IsTrue (is_valid model assignment.lists)
+  pub plans : HasPlans model assignment
+  pub chosen : HasChosenPlans model assignment
+  pub cost_is : sum_of (parts_at model assignment) ≡ cost model assignment.lists
+  pub no_dearer_than_first : sum_of (parts_at model assignment) ≤ℤ cost model first
+
+-- no more moves were tried and no more solutions found than the model allows, and one solution was found
+pub record IsInLimits (model : Model) (report : Report) : Type 0 where
+  pub tries : report.tries ≤ model.search.tries
+  pub some_solution : 1 ≤ report.solutions
+  pub solutions : report.solutions ≤ model.search.solutions
+
+-- the text is the line of a solution, of what the first solution cost, and of a report
+pub record PrintsSolution (model : Model) (text : List ℕ) : Type 0 where
+  pub first : List (List ℕ)
+  pub assignment : Assignment
+  pub report : Report
+  pub is_first : first_lists model ≡ Some first
+  pub is_solution : IsSolution model first assignment
+  pub is_in_limits : IsInLimits model report
+  pub text_is : text ≡ line_of (assignment_tree model assignment (cost model first) report)
