@@ -122,8 +122,12 @@ fn rebuild(model: &RoutingModel, routes: &Routes, mv: Move, change: &mut Change,
     after.commit(change);
 }
 
-// What valid lists cost.
-fn total_of(alloc: Global, model: &RoutingModel, routes: &Routes) -> Result<i64, NoMemory>
+/// What valid lists cost. The only refusal is want of memory.
+pub(crate) fn total_of(
+    alloc: Global,
+    model: &RoutingModel,
+    routes: &Routes,
+) -> Result<i64, NoMemory>
     requires well_formed { IsWellFormed model.now }
     requires valid { IsTrue (is_valid model.now routes.now.lists) }
     ensures value { IfOk result (λ total. total ≡ cost model.now routes.now.lists) }

@@ -1,7 +1,6 @@
 //! What the tests search: models of texts, routes of them, and a judge that counts.
 
 ghost use Rattle.std.specs.Prelude.{◌≡◌, IfOk, IfSome, IsTrue};
-ghost use Rattle.vr_model.specs.routes.Costs.{cost};
 ghost use Rattle.vr_model.specs.routes.Rules.{is_valid};
 ghost use Rattle.vr_model.specs.tables.Tables.{visits};
 ghost use Rattle.vr_model.specs.tables.WellFormed.{IsWellFormed};
@@ -14,7 +13,7 @@ use vr_json::Path;
 use vr_model::{Model, Move, NoMemory, Seq, Steps};
 use vr_read::read_model;
 use vr_routes::{Judge, Routes, Verdict};
-use vr_rules::{cost, total_cost, valid};
+use vr_rules::valid;
 
 /// Three nodes and one vehicle; the fields that follow are to be added.
 pub const THREE: &str = "{\"format\":1,\"nodes\":3,\"matrices\":[[[0,5,9],[5,0,4],[9,4,0]]],\
@@ -73,16 +72,6 @@ pub fn routes_of(
     } else {
         Ok(None)
     }
-}
-
-/// What valid routes cost.
-pub fn cost_of(alloc: Global, model: &Model, routes: &Routes) -> Result<i64, NoMemory>
-    requires well_formed { IsWellFormed model.now }
-    requires valid { IsTrue (is_valid model.now routes.now.lists) }
-    ensures { IfOk result (λ total. total ≡ cost model.now routes.now.lists) }
-{
-    let parts = cost(alloc, model, routes)?;
-    Ok(total_cost(&parts))
 }
 
 /// A plain judge that counts how often it is asked.

@@ -1,13 +1,14 @@
 //! The searches over a plain judge. No clause says that they find memory, nor that they ask about each move that they
 //! count.
 
-ghost use Rattle.std.specs.Prelude.{◌≡◌, ◌<◌, IsTrue};
+ghost use Rattle.std.specs.Prelude.{◌≡◌, ◌<◌, ◌≤◌, ◌≤ℤ◌, IsTrue, pos};
 ghost use Rattle.vr_model.specs.routes.Rules.{is_valid};
 ghost use Rattle.vr_model.specs.tables.Tables.{visits};
 ghost use Rattle.vr_model.specs.tables.WellFormed.{IsWellFormed};
 
 use crate::PlainJudge;
-use crate::samples::{Counting, ONE, THREE, TWO_VANS, cost_of, one_list, read, routes_of};
+use crate::judge::total_of;
+use crate::samples::{Counting, ONE, THREE, TWO_VANS, one_list, read, routes_of};
 use std::alloc::Global;
 use std::fmt::Write;
 use std::marker::Brand;
@@ -36,12 +37,28 @@ fn told(report: Report, cost: i64, asked: u64) -> Told {
 
 // The limit of the model's own search.
 fn limit_of(model: &Model) -> Limit
-    ensures tries { result.tries ≡ model.now.search.tries }
-    ensures solutions { result.solutions ≡ model.now.search.solutions }
+    requires well_formed { IsWellFormed model.now }
+    ensures tries { result.tries ≤ 1000000000 }
+    ensures one_solution { 1 ≤ result.solutions }
+    ensures solutions { result.solutions ≤ 1000000000 }
 {
     Limit {
         tries: model.search.tries,
         solutions: model.search.solutions,
+    }
+}
+
+// The weight of penalties of the model's own search.
+fn lambda_of(model: &Model) -> Lambda
+    requires well_formed { IsWellFormed model.now }
+    ensures p_from_one { pos 1 ≤ℤ result.p }
+    ensures p_to_1000 { result.p ≤ℤ pos 1000 }
+    ensures q_from_one { pos 1 ≤ℤ result.q }
+    ensures q_to_1000 { result.q ≤ℤ pos 1000 }
+{
+    Lambda {
+        p: model.search.p,
+        q: model.search.q,
     }
 }
 
@@ -59,7 +76,7 @@ fn descended<L: Ledger>(
     requires parts { blank.parts ≡ L.parts }
     requires some { 0 < blank.parts }
 {
-    let first_cost = cost_of(alloc, model, routes)?;
+    let first_cost = total_of(alloc, model, routes)?;
     let mut judge = Counting {
         judge: PlainJudge::open(alloc, model, routes)?,
         asked: 0,
@@ -69,7 +86,7 @@ fn descended<L: Ledger>(
     let report = descend(
         model, &mut judge, routes, first_cost, limit, watch, &mut steps,
     )?;
-    let cost = cost_of(alloc, model, routes)?;
+    let cost = total_of(alloc, model, routes)?;
     Ok(told(report, cost, judge.asked))
 }
 
@@ -87,21 +104,18 @@ fn guided<L: Ledger>(
     requires parts { blank.parts ≡ L.parts }
     requires some { 0 < blank.parts }
 {
-    let first_cost = cost_of(alloc, model, routes)?;
+    let first_cost = total_of(alloc, model, routes)?;
     let mut judge = Counting {
         judge: PlainJudge::open(alloc, model, routes)?,
         asked: 0,
     };
     let mut steps = Steps::<L>::new(blank);
     let limit = limit_of(model);
-    let lambda = Lambda {
-        p: model.search.p,
-        q: model.search.q,
-    };
+    let lambda = lambda_of(model);
     let guided = guide(
         alloc, model, &mut judge, routes, first_cost, limit, lambda, watch, &mut steps,
     )?;
-    let cost = cost_of(alloc, model, &guided.best)?;
+    let cost = total_of(alloc, model, &guided.best)?;
     Ok(told(guided.report, cost, judge.asked))
 }
 
