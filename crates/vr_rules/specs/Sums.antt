@@ -1,6 +1,7 @@
 -- What the chosen schedules of lists come to, added up over vehicles and over dimensions.
 use Rattle.std.specs.Prelude.{◌≡◌, ℕ, suc, ◌+◌, ◌*◌, ◌<◌, Bool, false, not, List, length, map, filter}
-use Rattle.std.specs.Prelude.{take, ℤ, pos, ◌-ℤ◌, ◌*ℤ◌, ◌≤ℤ◌, MatchOption, IfSome, slice_index, [], Option, Some, None, is_some}
+use Rattle.std.specs.Prelude.{take, ℤ, pos, ◌-ℤ◌, ◌*ℤ◌, ◌≤ℤ◌, MatchOption, IfSome, slice_index, [], Option, Some}
+use Rattle.std.specs.Prelude.{None, is_some}
 use Rattle.std.specs.List.{concat}
 use Rattle.std.specs.Int.{int_max, int_min}
 use Rattle.vr_model.specs.tables.Numbers.{number_at, total_by, below, horizon}

@@ -5,7 +5,8 @@ ghost use Rattle.vr_model.specs.tables.Tables.{is_visit};
 ghost use Rattle.vr_model.specs.routes.Routes.{holds};
 ghost use Rattle.vr_model.specs.routes.Rules.{is_grouped as is_grouped_of};
 ghost use Rattle.vr_model.specs.first.Items.{class, empty_lists as empty_lists_of, first_node};
-ghost use Rattle.vr_model.specs.first.Items.{items_at, must_fill as must_fill_of, node_class as node_class_of, pair_of as pair_of_node};
+ghost use Rattle.vr_model.specs.first.Items.{items_at, must_fill as must_fill_of, node_class as node_class_of};
+ghost use Rattle.vr_model.specs.first.Items.{pair_of as pair_of_node};
 ghost use Rattle.vr_model.specs.tables.WellFormed.{IsWellFormed};
 ghost use Rattle.vr_rules.specs.Placing.{listed, nodes_of, AreCandidates, IsItem};
 
