@@ -32,9 +32,13 @@ saved model last first = (arc_cost model 0 last (vehicle_at model 0).end
 
 -- the choice of two routes
 abbrev pub choice_at : Model → List (List ℕ) → ℕ → ℕ → Choice
-choice_at model routes i j = record { front = i; back = j;
-    saving = saved model (last_node (route routes i)) (first_node (route routes j));
-    last = last_node (route routes i); first = first_node (route routes j) }
+choice_at model routes i j = record {
+  front = i;
+  back = j;
+  saving = saved model (last_node (route routes i)) (first_node (route routes j));
+  last = last_node (route routes i);
+  first = first_node (route routes j);
+}
 
 -- the better of the best so far and a choice, which counts only where the two routes may be joined
 abbrev pub weigh : Model → List (List ℕ) → Option Choice → Choice → Option Choice

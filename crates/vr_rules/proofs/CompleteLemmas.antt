@@ -1,9 +1,8 @@
 -- Open lists are valid where nothing is missing in them.
 use Rattle.std.proofs.Common.{◌≡◌, ◌∙◌, ◌<◌, ℕ, List, [], ◌∷◌, Bool, true, false, cond, not, refl, ap, ap₂, sym, subst, arith, get_or}
-use Rattle.std.specs.Prelude.{◌&&◌, ◌||◌, count_by, filter, nat_le, Option, None, MatchOption}
+use Rattle.std.specs.Prelude.{◌&&◌, ◌||◌, filter, nat_le, Option, None, MatchOption}
 use Rattle.std.specs.List.{list_all}
 use Rattle.vr_model.specs.declared.records.Model.{Model}
-use Rattle.vr_model.specs.declared.records.Group.{Group}
 use Rattle.vr_model.specs.tables.Numbers.{below}
 use Rattle.vr_model.specs.tables.Tables.{is_visit, visits}
 use Rattle.vr_model.specs.routes.Routes.{are_lists, is_active}

@@ -1,6 +1,6 @@
 -- The penalties of groups.
 use Rattle.std.proofs.Common.{◌≡◌, ◌∙◌, ◌<◌, ◌≤◌, ◌+◌, ℕ, suc, List, [], ◌∷◌, Bool, true, false, ℤ, pos, ◌+ℤ◌, refl, ap, ap₂, arith, length, get_or, take}
-use Rattle.std.specs.Prelude.{nat_le, count_by, All}
+use Rattle.std.specs.Prelude.{nat_le, All}
 use Rattle.std.specs.List.{list_all}
 use Rattle.std.proofs.lemmas.Int.{ints}
 use Rattle.std.proofs.lemmas.Bool.Decides.{nat_tests}
