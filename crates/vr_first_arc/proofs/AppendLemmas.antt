@@ -23,13 +23,17 @@ use Rattle.vr_rules.specs.declared.items.Item.TheVariants.{Visit, PickupAndDeliv
 use Rattle.vr_rules.specs.declared.items.Candidate.{Candidate}
 use Rattle.vr_rules.specs.Placing.{nodes_of, is_marked, AreBuilt, AreMarks, AreCandidates, IsCandidate, IsItem}
 use Rattle.vr_model.proofs.tables.Ranges.{below-more}
-use Rattle.vr_rules.proofs.FirstLemmas.{filled-more}
 use Rattle.vr_model.proofs.routes.Lists.{visit_below}
 use Rattle.vr_rules.proofs.LocalOpenness.{is_open-local}
 use Rattle.vr_rules.proofs.LazyLeast.{IsBest, IsBest-none, IsBest-more}
 use Rattle.vr_rules.proofs.PlacingLemmas.{IsAdded, item-inactive, inactive-route, is_distinct-both, fits_beside-marks, built-visits, built-distinct}
 use Rattle.vr_first_arc.specs.declared.choice.Choice.{Choice}
 use Rattle.vr_first_arc.specs.Choices.{all_filled, key_of, item_of_choice, nodes_of_choice, choice_of, chosen_beside, may_append, tail, IsLonger, MayBeAppended}
+
+-- one more item is appended
+filled-more : (model : Model) (v more : ℕ) (lists : List (List ℕ)) (item : List ℕ) → next_appended model lists v ≡ Some item
+    → filled model v (suc more) lists ≡ filled model v more (appended lists v item)
+filled-more model v more lists item e = ap (λ next. elim next [ None ↦ lists | Some item ↦ filled model v more (appended lists v item) ]) e
 
 either-way : (a b : Bool) → (a || b) ≡ (b || a)
 either-way true true = refl

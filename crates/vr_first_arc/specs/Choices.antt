@@ -1,5 +1,6 @@
 -- What may be appended next, as code compares it.
-use Rattle.std.specs.Prelude.{◌≡◌, ℕ, ◌&&◌, Bool, false, List, [], ◌∷◌, ◌++◌, ℤ, pos, IsTrue, Option, cond, fold, length}
+use Rattle.std.specs.Prelude.{◌≡◌, ℕ, ◌&&◌, Bool, false, List, [], ◌∷◌, ◌++◌, ℤ, pos, IsTrue, Option, cond, fold}
+use Rattle.std.specs.Prelude.{length}
 use Rattle.std.specs.List.{list_all}
 use Rattle.vr_model.specs.tables.Numbers.{below}
 use Rattle.vr_model.specs.tables.Tables.{is_visit, arc_cost, vehicle_at}
@@ -32,11 +33,16 @@ tail model v list = cond (is_empty list) (vehicle_at model v).start (last_node l
 
 -- the choice of a candidate behind a node
 abbrev pub choice_of : Model → ℕ → ℕ → Candidate → Choice
-choice_of model v at candidate = record { item = candidate.item; class = candidate.class; cost = arc_cost model v at (first_node (nodes_of candidate.item)) }
+choice_of model v at candidate = record {
+  item = candidate.item;
+  class = candidate.class;
+  cost = arc_cost model v at (first_node (nodes_of candidate.item));
+}
 
 -- the longer list of vehicle v is open, and the groups have room for the item
 abbrev pub may_append : Model → ℕ → List ℕ → List Bool → Item → Bool
-may_append model v list marks item = is_route_open model v (list ++ nodes_of item) && list_all (has_room marks item) model.groups
+may_append model v list marks item = is_route_open model v (list ++ nodes_of item)
+    && list_all (has_room marks item) model.groups
 
 -- a list may be read with nodes at its end: they are visits, and none stands twice
 pub record IsLonger (model : Model) (list nodes : List ℕ) : Type 0 where
@@ -52,7 +58,8 @@ pub record MayBeAppended (model : Model) (lists : List (List ℕ)) (v : ℕ) (it
 -- the better of the best choice so far and a candidate, which counts only where its first node is not marked
 abbrev pub chosen_beside : Model → ℕ → List ℕ → List Bool → Candidate → Option Choice → Option Choice
 chosen_beside model v list marks candidate best = let next = choice_of model v (tail model v list) candidate in
-    cond (is_marked marks (first_node (nodes_of candidate.item))) best (cond (may_append model v list marks candidate.item) (better key_of best next) best)
+    cond (is_marked marks (first_node (nodes_of candidate.item))) best
+    (cond (may_append model v list marks candidate.item) (better key_of best next) best)
 
 -- the lists of the first vehicles are filled in turn
 abbrev pub all_filled : Model → ℕ → List (List ℕ) → List (List ℕ)

@@ -6,7 +6,8 @@ ghost use Rattle.vr_model.specs.first.Items.{first_node, items};
 ghost use Rattle.vr_model.specs.first.PathCheapestArc.{appended, filled, next_appended};
 ghost use Rattle.vr_model.specs.tables.WellFormed.{IsWellFormed};
 ghost use Rattle.vr_rules.specs.Placing.{nodes_of, is_marked, AreBuilt, AreCandidates, AreMarks};
-ghost use Rattle.vr_first_arc.specs.Choices.{all_filled, chosen_beside, key_of, may_append as may_append_of, tail as tail_of, IsLonger, MayBeAppended};
+ghost use Rattle.vr_first_arc.specs.Choices.{all_filled, chosen_beside, key_of, may_append as may_append_of};
+ghost use Rattle.vr_first_arc.specs.Choices.{tail as tail_of, IsLonger, MayBeAppended};
 
 use crate::append::{append, may_append};
 use crate::choice::{Choice, improves, item_of};
@@ -39,7 +40,8 @@ fn consider(
     requires vehicle { v < length model.now.vehicles }
     requires marks { length marks.now ≡ model.now.nodes }
     requires longer { IsLonger model.now list.now (nodes_of next.item) }
-    ensures { IfOk result (λ chosen. chosen ≡ cond (may_append_of model.now v list.now marks.now next.item) (better key_of best next) best) }
+    ensures { IfOk result (λ chosen. chosen ≡ cond (may_append_of model.now v list.now marks.now next.item)
+        (better key_of best next) best) }
 {
     if !improves(best, next) {
         return Ok(best);
@@ -66,7 +68,8 @@ fn consider_candidate(
     requires marks { length marks.now ≡ model.now.nodes }
     requires nodes { All (λ node. node < model.now.nodes) list.now }
     requires first { first_node (nodes_of candidate.item) < model.now.nodes }
-    requires longer { is_marked marks.now (first_node (nodes_of candidate.item)) ≡ false → IsLonger model.now list.now (nodes_of candidate.item) }
+    requires longer { is_marked marks.now (first_node (nodes_of candidate.item)) ≡ false
+        → IsLonger model.now list.now (nodes_of candidate.item) }
     ensures { IfOk result (λ chosen. chosen ≡ chosen_beside model.now v list.now marks.now candidate best) }
 {
     let number = candidate.item.number();

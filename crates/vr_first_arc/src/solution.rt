@@ -26,14 +26,15 @@ fn filled_lists(alloc: Global, model: &Model) -> Result<Vec<Seq<u32>>, NoMemory>
     Ok(lists)
 }
 
-/// The first solution of a model (`PATH_CHEAPEST_ARC` in OR-Tools): vehicle after vehicle, items are appended to its list
-/// as long as the lists stay open, each time the item of the least class, and of those the one to which the arc costs
-/// least, and of those the one of the least number.
+/// The first solution of a model (`PATH_CHEAPEST_ARC` in OR-Tools): vehicle after vehicle, items are appended to its
+/// list as long as the lists stay open, each time the item of the least class, and of those the one to which the arc
+/// costs least, and of those the one of the least number.
 ///
 /// `None` exactly where the lists at which this ends are not valid. `NoMemory` comes only where memory is refused.
 pub fn first(alloc: Global, model: &Model) -> Result<Option<Routes>, NoMemory>
     requires well_formed { IsWellFormed model.now }
-    ensures first { IfOk result (λ first. lists_in first ≡ cond (is_valid model.now (path_cheapest_arc model.now)) (Some (path_cheapest_arc model.now)) None) }
+    ensures first { IfOk result (λ first. lists_in first
+        ≡ cond (is_valid model.now (path_cheapest_arc model.now)) (Some (path_cheapest_arc model.now)) None) }
     ensures visits { IfOk result (λ first. IfSome first (λ routes. routes.visits ≡ visits model.now)) }
 {
     let lists = filled_lists(alloc, model)?;

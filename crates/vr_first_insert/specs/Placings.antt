@@ -1,5 +1,6 @@
 -- Insertions as code compares them.
-use Rattle.std.specs.Prelude.{◌≡◌, ℕ, suc, ◌<◌, ◌≤◌, Bool, true, false, cond, List, [], ◌∷◌, map, fold, length, insert, ℤ, pos, ◌≤ℤ◌, int_le, nat_lt, nat_le, ◌&&◌, ◌||◌, IsTrue, Option, Some, None}
+use Rattle.std.specs.Prelude.{◌≡◌, ℕ, suc, ◌<◌, ◌≤◌, Bool, true, false, cond, List, [], ◌∷◌, map, fold, length}
+use Rattle.std.specs.Prelude.{insert, ℤ, pos, ◌≤ℤ◌, int_le, nat_lt, nat_le, ◌&&◌, ◌||◌, IsTrue, Option, Some, None}
 use Rattle.std.specs.List.{list_all}
 use Rattle.vr_model.specs.tables.Numbers.{from_to, each, below}
 use Rattle.vr_model.specs.tables.Tables.{is_visit}
@@ -41,11 +42,16 @@ AreWithin list (Two pickup delivery s t) = (s ≤ t) × (t ≤ length list)
 
 -- the insertion that a choice stands for
 abbrev pub insertion_of : Choice → Insertion
-insertion_of choice = record { item = nodes_of (item_in choice.placing); vehicle = choice.vehicle; places = places_in choice.placing }
+insertion_of choice = record {
+  item = nodes_of (item_in choice.placing);
+  vehicle = choice.vehicle;
+  places = places_in choice.placing;
+}
 
 -- what choices of one class and increase are compared by: the number of the item, the vehicle, the places
 abbrev pub tail_key : Choice → List ℤ
-tail_key choice = pos (first_node (nodes_of (item_in choice.placing))) ∷ pos choice.vehicle ∷ map pos (places_in choice.placing)
+tail_key choice = pos (first_node (nodes_of (item_in choice.placing))) ∷ pos choice.vehicle ∷
+    map pos (places_in choice.placing)
 
 -- what a choice is compared by: the class, the increase, the number of the item, the vehicle, the places
 abbrev pub key_of : Choice → List ℤ
@@ -53,36 +59,52 @@ key_of choice = pos choice.class ∷ choice.increase ∷ tail_key choice
 
 -- a visit before place t of the list of vehicle v
 abbrev pub visit_choice : Model → ℕ → List ℕ → ℕ → ℕ → ℕ → Choice
-visit_choice model v list class node t = record { placing = One node t; class = class; vehicle = v; increase = visit_increase model v list node t }
+visit_choice model v list class node t = record {
+  placing = One node t;
+  class = class;
+  vehicle = v;
+  increase = visit_increase model v list node t;
+}
 
 -- a pair before places s and t
 abbrev pub pair_choice : Model → ℕ → List ℕ → ℕ → ℕ → ℕ → ℕ → ℕ → Choice
-pair_choice model v list class pickup delivery s t = record { placing = Two pickup delivery s t; class = class; vehicle = v; increase = pair_increase model v list pickup delivery s t }
+pair_choice model v list class pickup delivery s t = record {
+  placing = Two pickup delivery s t;
+  class = class;
+  vehicle = v;
+  increase = pair_increase model v list pickup delivery s t;
+}
 
 -- the choices of an item of a class in the list of vehicle v
 abbrev pub choices_in : Model → ℕ → List ℕ → ℕ → Item → List Choice
 choices_in model v list class (Visit node) = map (visit_choice model v list class node) (gaps list)
-choices_in model v list class (PickupAndDelivery pickup delivery) = each (gaps list) λ s. map (pair_choice model v list class pickup delivery s) (from_to s (suc (length list)))
+choices_in model v list class (PickupAndDelivery pickup delivery) = each (gaps list) λ s. map
+    (pair_choice model v list class pickup delivery s) (from_to s (suc (length list)))
 
 -- the better of the best so far and a choice in a list, which counts only where the list stays open
 abbrev pub weigh : Model → List ℕ → Option Choice → Choice → Option Choice
-weigh model list best next = cond (is_route_open model next.vehicle (placed list next.placing)) (better key_of best next) best
+weigh model list best next = cond (is_route_open model next.vehicle (placed list next.placing))
+    (better key_of best next) best
 
 -- the best beside the choices of an item in the list of vehicle v
 abbrev pub best_in : Model → ℕ → List ℕ → Candidate → Option Choice → Option Choice
-best_in model v list candidate best = fold (weigh model list) best (choices_in model v list candidate.class candidate.item)
+best_in model v list candidate best = fold (weigh model list) best
+    (choices_in model v list candidate.class candidate.item)
 
 -- the same in the lists of the first vehicles
 abbrev pub best_in_lists : Model → List (List ℕ) → Candidate → ℕ → Option Choice → Option Choice
-best_in_lists model lists candidate count best = fold (λ best v. best_in model v (route lists v) candidate best) best (below count)
+best_in_lists model lists candidate count best = fold (λ best v. best_in model v (route lists v) candidate best) best
+    (below count)
 
 -- an item counts where its first node is not marked and the groups have room for it
 abbrev pub counts : Model → List Bool → Candidate → Bool
-counts model marks candidate = cond (is_marked marks (first_node (nodes_of candidate.item))) false (list_all (has_room marks candidate.item) model.groups)
+counts model marks candidate = cond (is_marked marks (first_node (nodes_of candidate.item))) false
+    (list_all (has_room marks candidate.item) model.groups)
 
 -- the best beside all choices of a candidate
 abbrev pub best_beside : Model → List (List ℕ) → List Bool → Candidate → Option Choice → Option Choice
-best_beside model lists marks candidate best = cond (counts model marks candidate) (best_in_lists model lists candidate (length lists) best) best
+best_beside model lists marks candidate best = cond (counts model marks candidate)
+    (best_in_lists model lists candidate (length lists) best) best
 
 -- a list of distinct visits that an item may be put into: none of its nodes stands there
 pub record MayHold (model : Model) (list : List ℕ) (item : Item) : Type 0 where

@@ -44,7 +44,8 @@ pub(crate) fn least_behind(
     requires least { IsLeast model.now v list.now delivery least }
     requires low { neg_ℤ (pos (2 ^ 40)) ≤ℤ least }
     requires high { least ≤ℤ pos (2 ^ 41) }
-    ensures least { (t : ℕ) → t ≤ length list.now → result ≤ℤ pair_increase_of model.now v list.now pickup delivery s t }
+    ensures least { (t : ℕ) → t ≤ length list.now
+        → result ≤ℤ pair_increase_of model.now v list.now pickup delivery s t }
     ensures low { neg_ℤ (pos (2 ^ 41)) ≤ℤ result }
     ensures high { result ≤ℤ pos (2 ^ 42) }
 {

@@ -3,7 +3,10 @@
 ghost use Rattle.std.specs.Prelude.{◌≡◌, ◌<◌, ◌≤◌, ◌^◌, All, length, neg_ℤ, pos, ◌+ℤ◌, ◌≤ℤ◌};
 ghost use Rattle.vr_model.specs.tables.Tables.{arc_cost};
 ghost use Rattle.vr_model.specs.tables.WellFormed.{IsWellFormed};
-ghost use Rattle.vr_first_insert.specs.Increases.{arc_at as arc_at_of, detour as detour_of, node_before as node_before_of, node_behind as node_behind_of, pair_increase as pair_increase_of, visit_increase as visit_increase_of};
+ghost use Rattle.vr_first_insert.specs.Increases.{arc_at as arc_at_of, detour as detour_of};
+ghost use Rattle.vr_first_insert.specs.Increases.{node_before as node_before_of, node_behind as node_behind_of};
+ghost use Rattle.vr_first_insert.specs.Increases.{pair_increase as pair_increase_of};
+ghost use Rattle.vr_first_insert.specs.Increases.{visit_increase as visit_increase_of};
 
 use vr_model::Model;
 
@@ -99,7 +102,9 @@ fn together(model: &Model, v: u32, list: &[u32], pickup: u32, delivery: u32, s: 
     requires within { s ≤ length list.now }
     requires pickup { pickup < model.now.nodes }
     requires delivery { delivery < model.now.nodes }
-    ensures value { result ≡ (arc_cost model.now v (node_before_of model.now v list.now s) pickup +ℤ detour_of model.now v pickup delivery (node_behind_of model.now v list.now s) (arc_at_of model.now v list.now s)) }
+    ensures value { result ≡ (arc_cost model.now v (node_before_of model.now v list.now s) pickup
+        +ℤ detour_of model.now v pickup delivery (node_behind_of model.now v list.now s)
+        (arc_at_of model.now v list.now s)) }
     ensures low { neg_ℤ (pos (2 ^ 41)) ≤ℤ result }
     ensures high { result ≤ℤ pos (2 ^ 42) }
 {
@@ -117,7 +122,8 @@ fn apart(model: &Model, v: u32, list: &[u32], pickup: u32, delivery: u32, s: usi
     requires second { t ≤ length list.now }
     requires pickup { pickup < model.now.nodes }
     requires delivery { delivery < model.now.nodes }
-    ensures value { result ≡ (visit_increase_of model.now v list.now pickup s +ℤ visit_increase_of model.now v list.now delivery t) }
+    ensures value { result ≡ (visit_increase_of model.now v list.now pickup s
+        +ℤ visit_increase_of model.now v list.now delivery t) }
     ensures low { neg_ℤ (pos (2 ^ 41)) ≤ℤ result }
     ensures high { result ≤ℤ pos (2 ^ 42) }
 {

@@ -1,6 +1,7 @@
 //! The insertion that is made next.
 
-ghost use Rattle.std.specs.Prelude.{◌≡◌, ℕ, suc, ◌<◌, ◌≤◌, All, false, fold, map, true, IfOk, IfSome, OnOk, length, neg_ℤ, option_map, pos, ◌^◌, ◌≤ℤ◌};
+ghost use Rattle.std.specs.Prelude.{◌≡◌, ℕ, suc, ◌<◌, ◌≤◌, All, false, fold, map, true, IfOk, IfSome, OnOk, length};
+ghost use Rattle.std.specs.Prelude.{neg_ℤ, option_map, pos, ◌^◌, ◌≤ℤ◌};
 ghost use Rattle.vr_model.specs.first.CheapestInsertion.{next_inserted, rebuilt};
 ghost use Rattle.vr_model.specs.first.Items.{first_node, items};
 ghost use Rattle.vr_model.specs.moves.Moves.{gaps};
@@ -9,7 +10,9 @@ ghost use Rattle.vr_model.specs.routes.Routes.{route};
 ghost use Rattle.vr_model.specs.tables.WellFormed.{IsWellFormed};
 ghost use Rattle.vr_rules.specs.Placing.{nodes_of, AreBuilt, AreCandidates, AreMarks};
 ghost use Rattle.vr_rules.specs.declared.items.Item.TheVariants.{Visit, PickupAndDelivery};
-ghost use Rattle.vr_first_insert.specs.Placings.{best_beside, best_in, best_in_lists as best_in_lists_of, counts as counts_of, insertion_of, item_in, pair_choice, visit_choice, weigh, AreWithin, IsLeast, MayBeInserted, MayHold};
+ghost use Rattle.vr_first_insert.specs.Placings.{best_beside, best_in, best_in_lists as best_in_lists_of};
+ghost use Rattle.vr_first_insert.specs.Placings.{counts as counts_of, insertion_of, item_in, pair_choice};
+ghost use Rattle.vr_first_insert.specs.Placings.{visit_choice, weigh, AreWithin, IsLeast, MayBeInserted, MayHold};
 
 use crate::bound::{least_behind, least_visit};
 use crate::choice::{Choice, Placing, improves, may_improve};
@@ -57,7 +60,8 @@ fn best_visit(
     requires well_formed { IsWellFormed model.now }
     requires vehicle { v < length model.now.vehicles }
     requires may_hold { MayHold model.now list.now (Visit node) }
-    ensures { IfOk result (λ chosen. chosen ≡ fold (weigh model.now list.now) best (map (visit_choice model.now v list.now class node) (gaps list.now))) }
+    ensures { IfOk result (λ chosen. chosen ≡ fold (weigh model.now list.now) best
+        (map (visit_choice model.now v list.now class node) (gaps list.now))) }
 {
     let mut best = best;
     for t in 0..list.len() + 1 {
@@ -72,8 +76,8 @@ fn best_visit(
     Ok(best)
 }
 
-// The best beside a pickup before place `s` and its delivery before each place from there on, where the delivery alone adds
-// `least` at least: then no place is looked at where none can be better.
+// The best beside a pickup before place `s` and its delivery before each place from there on, where the delivery
+// alone adds `least` at least: then no place is looked at where none can be better.
 fn best_delivery(
     alloc: Global,
     model: &Model,
@@ -93,7 +97,8 @@ fn best_delivery(
     requires least { IsLeast model.now v list.now delivery least }
     requires low { neg_ℤ (pos (2 ^ 40)) ≤ℤ least }
     requires high { least ≤ℤ pos (2 ^ 41) }
-    ensures { IfOk result (λ chosen. chosen ≡ fold (weigh model.now list.now) best (map (pair_choice model.now v list.now class pickup delivery s) (from_to s (suc (length list.now))))) }
+    ensures { IfOk result (λ chosen. chosen ≡ fold (weigh model.now list.now) best
+        (map (pair_choice model.now v list.now class pickup delivery s) (from_to s (suc (length list.now))))) }
 {
     if !may_improve(
         best,
@@ -129,7 +134,9 @@ fn best_pair(
     requires well_formed { IsWellFormed model.now }
     requires vehicle { v < length model.now.vehicles }
     requires may_hold { MayHold model.now list.now (PickupAndDelivery pickup delivery) }
-    ensures { IfOk result (λ chosen. chosen ≡ fold (weigh model.now list.now) best (each (gaps list.now) (λ s. map (pair_choice model.now v list.now class pickup delivery s) (from_to s (suc (length list.now)))))) }
+    ensures { IfOk result (λ chosen. chosen ≡ fold (weigh model.now list.now) best
+        (each (gaps list.now) (λ s. map (pair_choice model.now v list.now class pickup delivery s)
+        (from_to s (suc (length list.now)))))) }
 {
     let least = least_visit(model, v, list, delivery);
     let mut best = best;
@@ -212,7 +219,8 @@ fn beside(
     requires vehicles { length lists.now ≡ length model.now.vehicles }
     requires marks { length marks.now ≡ model.now.nodes }
     requires first { first_node (nodes_of candidate.item) < model.now.nodes }
-    requires may_hold { counts_of model.now marks.now candidate ≡ true → (v : ℕ) → v < length lists.now → MayHold model.now (route lists.now v) candidate.item }
+    requires may_hold { counts_of model.now marks.now candidate ≡ true → (v : ℕ) → v < length lists.now
+        → MayHold model.now (route lists.now v) candidate.item }
     ensures { IfOk result (λ chosen. chosen ≡ best_beside model.now lists.now marks.now candidate best) }
 {
     if !counts(model, marks, candidate) {

@@ -31,7 +31,8 @@ fn rebuilt_lists(alloc: Global, model: &Model, routes: &Routes) -> Result<Vec<Se
     requires well_formed { IsWellFormed model.now }
     requires lists { IsTrue (are_lists model.now routes.now.lists) }
     requires open_lists { IsTrue (is_open model.now routes.now.lists) }
-    ensures rebuilt { IfOk result (λ lists. lists.items ≡ rebuilt model.now (length (items model.now)) routes.now.lists) }
+    ensures rebuilt { IfOk result (λ lists. lists.items
+        ≡ rebuilt model.now (length (items model.now)) routes.now.lists) }
     ensures built { IfOk result (λ lists. AreBuilt model.now lists.items) }
 {
     let candidates = candidates(alloc, model)?;
@@ -41,9 +42,9 @@ fn rebuilt_lists(alloc: Global, model: &Model, routes: &Routes) -> Result<Vec<Se
     Ok(built)
 }
 
-/// The routes at which parallel cheapest insertion ends when it begins with these open routes: as long as an item may be
-/// inserted into some list so that the lists stay open, the insertion of the least class is made, of those the one that
-/// adds least to the arc costs, and of those the first by item, vehicle and places.
+/// The routes at which parallel cheapest insertion ends when it begins with these open routes: as long as an item may
+/// be inserted into some list so that the lists stay open, the insertion of the least class is made, of those the one
+/// that adds least to the arc costs, and of those the first by item, vehicle and places.
 ///
 /// `NoMemory` comes only where memory is refused.
 pub fn rebuild(alloc: Global, model: &Model, routes: &Routes) -> Result<Routes, NoMemory>
@@ -61,13 +62,15 @@ pub fn rebuild(alloc: Global, model: &Model, routes: &Routes) -> Result<Routes, 
     }
 }
 
-/// The first solution of a model by parallel cheapest insertion (`PARALLEL_CHEAPEST_INSERTION` in OR-Tools): empty routes,
-/// rebuilt.
+/// The first solution of a model by parallel cheapest insertion (`PARALLEL_CHEAPEST_INSERTION` in OR-Tools): empty
+/// routes, rebuilt.
 ///
 /// `None` exactly where the lists at which this ends are not valid. `NoMemory` comes only where memory is refused.
 pub fn first(alloc: Global, model: &Model) -> Result<Option<Routes>, NoMemory>
     requires well_formed { IsWellFormed model.now }
-    ensures first { IfOk result (λ first. lists_in first ≡ cond (is_valid model.now (parallel_cheapest_insertion model.now)) (Some (parallel_cheapest_insertion model.now)) None) }
+    ensures first { IfOk result (λ first. lists_in first
+        ≡ cond (is_valid model.now (parallel_cheapest_insertion model.now))
+        (Some (parallel_cheapest_insertion model.now)) None) }
     ensures visits { IfOk result (λ first. IfSome first (λ routes. routes.visits ≡ visits model.now)) }
 {
     let empty = Routes::empty(alloc, model)?;

@@ -1,5 +1,6 @@
 -- Joins of routes as code compares them.
-use Rattle.std.specs.Prelude.{◌≡◌, ◌≢◌, ℕ, ◌<◌, cond, List, [], ◌∷◌, map, fold, length, ℤ, pos, ◌+ℤ◌, ◌-ℤ◌, neg_ℤ, IsTrue, Option, None, All}
+use Rattle.std.specs.Prelude.{◌≡◌, ◌≢◌, ℕ, ◌<◌, cond, List, [], ◌∷◌, map, fold, length, ℤ, pos, ◌+ℤ◌, ◌-ℤ◌, neg_ℤ}
+use Rattle.std.specs.Prelude.{IsTrue, Option, None, All}
 use Rattle.std.specs.List.{list_all, concat}
 use Rattle.vr_model.specs.tables.Numbers.{below}
 use Rattle.vr_model.specs.tables.Tables.{is_visit, arc_cost, vehicle_at}
@@ -26,11 +27,18 @@ key_of choice = neg_ℤ choice.saving ∷ pos choice.last ∷ pos choice.first �
 
 -- what it saves to drive from one node to another, and not over the end and the start
 abbrev pub saved : Model → ℕ → ℕ → ℤ
-saved model last first = (arc_cost model 0 last (vehicle_at model 0).end +ℤ arc_cost model 0 (vehicle_at model 0).start first) -ℤ arc_cost model 0 last first
+saved model last first = (arc_cost model 0 last (vehicle_at model 0).end
+    +ℤ arc_cost model 0 (vehicle_at model 0).start first) -ℤ arc_cost model 0 last first
 
 -- the choice of two routes
 abbrev pub choice_at : Model → List (List ℕ) → ℕ → ℕ → Choice
-choice_at model routes i j = record { front = i; back = j; saving = saved model (last_node (route routes i)) (first_node (route routes j)); last = last_node (route routes i); first = first_node (route routes j) }
+choice_at model routes i j = record {
+  front = i;
+  back = j;
+  saving = saved model (last_node (route routes i)) (first_node (route routes j));
+  last = last_node (route routes i);
+  first = first_node (route routes j);
+}
 
 -- the better of the best so far and a choice, which counts only where the two routes may be joined
 abbrev pub weigh : Model → List (List ℕ) → Option Choice → Choice → Option Choice

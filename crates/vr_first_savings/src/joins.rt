@@ -5,7 +5,8 @@ ghost use Rattle.vr_model.specs.first.Choosing.{least_by};
 ghost use Rattle.vr_model.specs.routes.Routes.{route};
 ghost use Rattle.vr_model.specs.first.SavingsJoins.{join_key, joins};
 ghost use Rattle.vr_model.specs.tables.WellFormed.{IsWellFormed};
-ghost use Rattle.vr_first_savings.specs.Joins.{best_behind as best_behind_of, choice_at as choice_at_of, join_of, saved as saved_of, weigh, AreApart, MayBeJoined};
+ghost use Rattle.vr_first_savings.specs.Joins.{best_behind as best_behind_of, choice_at as choice_at_of, join_of};
+ghost use Rattle.vr_first_savings.specs.Joins.{saved as saved_of, weigh, AreApart, MayBeJoined};
 
 use crate::choice::{Choice, improves};
 use std::alloc::Global;
@@ -121,7 +122,8 @@ pub(crate) fn best_join(
 ) -> Result<Option<Choice>, NoMemory>
     requires well_formed { IsWellFormed model.now }
     requires apart { AreApart model.now routes.now }
-    ensures best { IfOk result (λ best. option_map (join_of routes.now) best ≡ least_by (join_key model.now) (joins model.now routes.now)) }
+    ensures best { IfOk result (λ best. option_map (join_of routes.now) best
+        ≡ least_by (join_key model.now) (joins model.now routes.now)) }
     ensures may { IfOk result (λ best. IfSome best (MayBeJoined model.now routes.now)) }
 {
     let mut best: Option<Choice> = None;

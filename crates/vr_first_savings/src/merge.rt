@@ -1,6 +1,7 @@
 //! Routes are joined as long as the best join is wanted.
 
-ghost use Rattle.std.specs.Prelude.{◌≡◌, ◌<◌, ◌++◌, ◌==◌, ◌||◌, [], ◌∷◌, All, cond, int_lt, length, nat_lt, not, pos, IfOk, OnOk};
+ghost use Rattle.std.specs.Prelude.{◌≡◌, ◌<◌, ◌++◌, ◌==◌, ◌||◌, [], ◌∷◌, All, cond, int_lt, length, nat_lt, not, pos};
+ghost use Rattle.std.specs.Prelude.{IfOk, OnOk};
 ghost use Rattle.vr_model.specs.first.Items.{first_node};
 ghost use Rattle.vr_model.specs.routes.Routes.{route};
 ghost use Rattle.vr_model.specs.first.SavingsJoins.{joined as joined_by, merged as merged_of};
@@ -21,7 +22,8 @@ fn keep_other(
     kept: &mut Vec<Seq<u32>>,
 ) -> Result<(), NoMemory>
     requires { 0 < length route.now }
-    ensures { OnOk result (kept.new.items ≡ kept.old.items ++ cond (not ((first_node route.now == front) || (first_node route.now == back))) (route.now ∷ []) []) }
+    ensures { OnOk result (kept.new.items ≡ kept.old.items ++ cond
+        (not ((first_node route.now == front) || (first_node route.now == back))) (route.now ∷ []) []) }
 {
     let first = route[0];
     if first == front || first == back {

@@ -27,14 +27,15 @@ fn lists_by_savings(alloc: Global, model: &Model) -> Result<Vec<Seq<u32>>, NoMem
     Ok(lists)
 }
 
-/// The first solution of a model by savings (`SAVINGS` in OR-Tools, after Clarke and Wright): each item begins as a route
-/// of its own, and routes are joined where that saves most. The model asks for this construction, so its vehicles are
-/// alike.
+/// The first solution of a model by savings (`SAVINGS` in OR-Tools, after Clarke and Wright): each item begins as a
+/// route of its own, and routes are joined where that saves most. The model asks for this construction, so its
+/// vehicles are alike.
 ///
 /// `None` exactly where the lists at which this ends are not valid. `NoMemory` comes only where memory is refused.
 pub fn first(alloc: Global, model: &Model) -> Result<Option<Routes>, NoMemory>
     requires well_formed { IsWellFormed model.now }
-    ensures first { IfOk result (λ first. lists_in first ≡ cond (is_valid model.now (savings model.now)) (Some (savings model.now)) None) }
+    ensures first { IfOk result (λ first. lists_in first
+        ≡ cond (is_valid model.now (savings model.now)) (Some (savings model.now)) None) }
     ensures visits { IfOk result (λ first. IfSome first (λ routes. routes.visits ≡ visits model.now)) }
 {
     let lists = lists_by_savings(alloc, model)?;

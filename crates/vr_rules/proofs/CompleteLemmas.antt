@@ -1,9 +1,8 @@
 -- Open lists are valid where nothing is missing in them.
 use Rattle.std.proofs.Common.{◌≡◌, ◌∙◌, ◌<◌, ℕ, List, [], ◌∷◌, Bool, true, false, cond, not, refl, ap, ap₂, sym, subst, arith, get_or}
-use Rattle.std.specs.Prelude.{◌&&◌, ◌||◌, count_by, filter, nat_le, Option, None, MatchOption}
+use Rattle.std.specs.Prelude.{◌&&◌, ◌||◌, filter, nat_le, Option, None, MatchOption}
 use Rattle.std.specs.List.{list_all}
 use Rattle.vr_model.specs.declared.records.Model.{Model}
-use Rattle.vr_model.specs.declared.records.Group.{Group}
 use Rattle.vr_model.specs.tables.Numbers.{below}
 use Rattle.vr_model.specs.tables.Tables.{is_visit, visits}
 use Rattle.vr_model.specs.routes.Routes.{are_lists, is_active}
@@ -12,16 +11,12 @@ use Rattle.vr_model.specs.deciding.Testing.{range_list_all}
 use Rattle.vr_model.proofs.tables.Tests.{clash}
 use Rattle.vr_model.specs.tables.WellFormed.{IsWellFormed}
 use Rattle.vr_routes.specs.Tours.{Tours}
-use Rattle.vr_rules.specs.Placing.{is_complete, is_marked, AreBuilt, AreMarks}
+use Rattle.vr_rules.specs.Placing.{fits_by, is_complete, is_filled_by, is_marked, AreBuilt, AreMarks}
 use Rattle.vr_rules.specs.RoutesOpen.{are_routes_open}
 use Rattle.vr_rules.proofs.OpenLemmas.{one_fails}
 use Rattle.vr_model.proofs.routes.Lists.{visit_below}
 use Rattle.vr_rules.proofs.PlacingLemmas.{list_all-within, count_by-within}
 use Rattle.std.proofs.lemmas.List.Elements.{All-weaker, filter_passes}
-
--- the group has a penalty, or as many marked nodes as it may have
-abbrev pub is_filled_by : List Bool → Group → Bool
-is_filled_by marks group = has_enough group.penalty group.max (count_by (is_marked marks) group.nodes)
 
 -- the node is no visit, or in a group, or marked
 abbrev pub may_stay : Model → List Bool → ℕ → Bool
@@ -73,10 +68,6 @@ valid_by model well_formed written ends marks read answer built are filled same 
     is ∙ ap (is_complete model) same ∙ is_valid-complete model well_formed written marks built are ∙ ap (is_valid model) filled
 
 -- ---- open lists, by marks
-
--- the group has no more marked nodes than it may have
-abbrev pub fits_by : List Bool → Group → Bool
-fits_by marks group = nat_le (count_by (is_marked marks) group.nodes) group.max
 
 pub fits-marks : (model : Model) → IsWellFormed model → (lists : List (List ℕ)) (marks : List Bool) → AreMarks model.nodes lists marks → list_all (fits_by marks) model.groups ≡ list_all (fits_group lists) model.groups
 fits-marks model well_formed lists marks are =

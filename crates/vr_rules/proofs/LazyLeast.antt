@@ -11,7 +11,11 @@ use Rattle.vr_model.specs.tables.Numbers.{is_lex_less}
 use Rattle.vr_model.specs.first.Choosing.{least_by, better}
 use Rattle.vr_model.proofs.tables.Members.{In}
 use Rattle.vr_rules.specs.Placing.{improves}
-use Rattle.vr_rules.proofs.LeastLemmas.{least_by-push}
+use Rattle.std.proofs.lemmas.List.Sums.{fold-append}
+
+-- the least of a list with one entry more
+least_by-push : {A : Type 0} (key : A → List ℤ) (xs : List A) (y : A) → least_by key (xs ++ y ∷ []) ≡ better key (least_by key xs) y
+least_by-push key xs y = fold-append (better key) None xs (y ∷ [])
 
 module _ {A C : Type 0} (entry : C → A) (key : A → List ℤ) (key_of : C → List ℤ) (test : A → Bool) (Good : C → Type 0) where
   -- the best among entries: it is the least that passes, its key is known, and so is what holds wherever an entry passes

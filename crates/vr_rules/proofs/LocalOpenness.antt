@@ -1,6 +1,6 @@
 -- Openness is local: where lists are open, they stay open with nodes added to one list exactly where that list is open
 -- and the groups have room for these nodes.
-use Rattle.std.proofs.Common.{◌≡◌, ◌∙◌, ◌<◌, ◌≢◌, ℕ, zero, suc, List, [], ◌∷◌, Bool, true, false, refl, ap, ap₂, sym, subst, arith, length}
+use Rattle.std.proofs.Common.{◌≡◌, ◌∙◌, ◌<◌, ℕ, zero, suc, List, [], ◌∷◌, Bool, true, false, refl, ap, ap₂, sym, subst, arith, length}
 use Rattle.std.specs.Prelude.{◌&&◌, ◌||◌, ◌==◌, count_by, nat_le}
 use Rattle.std.specs.List.{list_all}
 use Rattle.std.proofs.lemmas.Bool.{eqb-true}

@@ -10,7 +10,7 @@ use Rattle.vr_model.specs.tables.Numbers.{number_at, total_by, below}
 use Rattle.vr_model.specs.tables.Tables.{dimension_at}
 use Rattle.vr_model.specs.tables.WellFormed.{IsWellFormed}
 use Rattle.vr_model.specs.routes.Routes.{route, is_empty, are_lists, used_vehicles}
-use Rattle.vr_model.specs.routes.Costs.{no_plan, plan_at, start_at, end_at, chosen_plans, assigned, greatest, least, global_span, soft_costs, soft_part, span_part, global_part}
+use Rattle.vr_model.specs.routes.Costs.{no_plan, plan_at, start_at, end_at, chosen_plans, assigned, greatest, least, global_span, soft_costs, soft_part, span_part}
 use Rattle.vr_model.specs.schedules.Lines.{line}
 use Rattle.vr_model.specs.schedules.Schedules.{cumul}
 use Rattle.vr_model.specs.schedules.Choices.{chosen}

@@ -1,6 +1,6 @@
 -- The penalties of groups.
 use Rattle.std.proofs.Common.{◌≡◌, ◌∙◌, ◌<◌, ◌≤◌, ◌+◌, ℕ, suc, List, [], ◌∷◌, Bool, true, false, ℤ, pos, ◌+ℤ◌, refl, ap, ap₂, arith, length, get_or, take}
-use Rattle.std.specs.Prelude.{nat_le, count_by, All}
+use Rattle.std.specs.Prelude.{nat_le, All}
 use Rattle.std.specs.List.{list_all}
 use Rattle.std.proofs.lemmas.Int.{ints}
 use Rattle.std.proofs.lemmas.Bool.Decides.{nat_tests}
@@ -13,15 +13,11 @@ use Rattle.vr_model.specs.routes.Rules.{is_open, is_valid, active_in, fits_group
 use Rattle.vr_model.specs.routes.Costs.{penalty_for, penalty_part}
 use Rattle.vr_model.specs.deciding.Testing.{and_left, and_right}
 use Rattle.vr_model.specs.tables.WellFormed.{IsWellFormed}
-use Rattle.vr_rules.specs.Placing.{is_marked, AreMarks}
+use Rattle.vr_rules.specs.Placing.{is_marked, AreMarks, fits_by, penalty_by}
 use Rattle.vr_model.proofs.tables.Totals.{total_by-append}
 use Rattle.vr_model.proofs.routes.Lists.{visit_below}
 use Rattle.vr_rules.proofs.PlacingLemmas.{count_by-within}
-use Rattle.vr_rules.proofs.CompleteLemmas.{fits_by, fits-marks}
-
--- what a group costs by the marks of its nodes
-abbrev pub penalty_by : List Bool → Group → ℤ
-penalty_by marks group = penalty_for group.penalty group.max (count_by (is_marked marks) group.nodes)
+use Rattle.vr_rules.proofs.CompleteLemmas.{fits-marks}
 
 -- what the first groups cost
 abbrev pub penalty_of_first : Model → List Bool → ℕ → ℤ

@@ -4,7 +4,7 @@ use Rattle.std.specs.Prelude.{◌+◌, ◌&&◌, ◌||◌, ◌==◌, filter, cou
 use Rattle.std.specs.List.{list_all, concat}
 use Rattle.std.proofs.lemmas.Bool.{eqb-true, eq-eqb}
 use Rattle.std.proofs.lemmas.Bool.Decides.{nat_tests}
-use Rattle.std.proofs.lemmas.List.{get_or_default, get_or_append_left, length-append, length-set, length-replicate}
+use Rattle.std.proofs.lemmas.List.{get_or_append_left, length-append, length-set, length-replicate}
 use Rattle.std.proofs.Math.Seq.{get_or-append_seam}
 use Rattle.std.proofs.lemmas.List.Sums.{length-filter}
 use Rattle.std.proofs.lemmas.List.Folds.{list_all-append, list_any-append}
@@ -12,7 +12,7 @@ use Rattle.vr_model.specs.declared.records.Model.{Model}
 use Rattle.vr_model.specs.declared.records.Group.{Group}
 use Rattle.vr_model.specs.declared.records.Pair.{Pair}
 use Rattle.vr_model.specs.tables.Tables.{is_visit}
-use Rattle.vr_model.specs.routes.Routes.{route, holds, is_active, is_distinct, are_lists, vehicles}
+use Rattle.vr_model.specs.routes.Routes.{route, holds, is_active, is_distinct, vehicles}
 use Rattle.vr_model.specs.moves.Moves.{with_route, comes_before}
 use Rattle.vr_model.specs.routes.Rules.{is_open, is_route_open, serves_pair, fits_group}
 use Rattle.vr_model.specs.first.Items.{first_node, empty_lists}

@@ -1,8 +1,7 @@
 -- What cumuls cost by soft bounds, stop by stop.
-use Rattle.std.proofs.Common.{◌≡◌, ◌∙◌, ℕ, ◌+◌, ◌<◌, ◌≤◌, List, [], ◌∷◌, ◌++◌, length, drop, get_or, length-append, suc, ◌-◌, Bool, refl, ap, sym, arith}
-use Rattle.std.specs.Prelude.{ℤ, pos, ◌+ℤ◌, ◌-ℤ◌, ◌*ℤ◌, map, Option, Some, None, option_map, unwrap_or}
+use Rattle.std.proofs.Common.{◌≡◌, ◌∙◌, ℕ, ◌+◌, ◌<◌, ◌≤◌, List, [], ◌∷◌, ◌++◌, length, drop, get_or, length-append, suc, Bool, ap, sym, arith}
+use Rattle.std.specs.Prelude.{ℤ, pos, ◌+ℤ◌, map, Option, Some, None, option_map, unwrap_or}
 use Rattle.std.specs.List.{zip}
-use Rattle.std.proofs.lemmas.Int.{ints}
 use Rattle.std.proofs.lemmas.List.{drop_more, drop_all, length-map}
 use Rattle.vr_model.specs.tables.Numbers.{total_by, number_at}
 use Rattle.vr_model.specs.routes.Costs.{row_cost, no_plan}

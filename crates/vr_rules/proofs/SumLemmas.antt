@@ -1,10 +1,10 @@
 -- What chosen schedules come to, one vehicle further.
-use Rattle.std.proofs.Common.{◌≡◌, ◌∙◌, ◌<◌, ◌≤◌, ◌+◌, ◌*◌, ◌++◌, ℕ, zero, suc, List, [], ◌∷◌, Bool, true, false, cond, not, length, map, take, drop, refl, ap, ap₂, sym, subst, arith, Option, Some, None}
-use Rattle.std.specs.Prelude.{ℤ, pos, negsuc, ◌+ℤ◌, ◌-ℤ◌, ◌*ℤ◌, ◌≤ℤ◌, ◌&&◌, filter, fold, is_some, All, IfSome, IsSome, MatchOption, slice_index}
+use Rattle.std.proofs.Common.{◌≡◌, ◌∙◌, ◌<◌, ◌≤◌, ◌+◌, ◌*◌, ◌++◌, ℕ, suc, List, [], ◌∷◌, true, false, cond, not, length, map, take, drop, refl, ap, ap₂, sym, subst, arith, Option, Some, None}
+use Rattle.std.specs.Prelude.{ℤ, pos, negsuc, ◌+ℤ◌, ◌-ℤ◌, ◌*ℤ◌, ◌≤ℤ◌, ◌&&◌, filter, is_some, IfSome, IsSome, MatchOption, slice_index}
 use Rattle.std.specs.List.{concat, list_all, zip}
 use Rattle.std.specs.Int.{int_max, int_min}
 use Rattle.std.proofs.lemmas.Int.{ints, int_max_is, int_min_is}
-use Rattle.std.proofs.lemmas.List.{append-nil, length-append, take_more, take_all, take-append-drop}
+use Rattle.std.proofs.lemmas.List.{append-nil, length-append, take_more, take-append-drop}
 use Rattle.std.proofs.lemmas.List.Elements.{filter-append}
 use Rattle.std.proofs.lemmas.List.Folds.{concat-append}
 use Rattle.std.proofs.lemmas.List.Sums.{fold-append}
@@ -14,15 +14,15 @@ use Rattle.vr_model.specs.declared.records.StopRow.{StopRow}
 use Rattle.vr_model.specs.declared.records.Soft.{Soft}
 use Rattle.vr_model.specs.tables.Numbers.{number_at, total_by, below, horizon}
 use Rattle.vr_model.specs.tables.Tables.{dimension_at, is_visit, row_of}
-use Rattle.vr_model.specs.tables.WellFormed.{IsIn, IsWellFormed}
+use Rattle.vr_model.specs.tables.WellFormed.{IsIn}
 use Rattle.vr_model.specs.routes.Routes.{route, is_empty, is_distinct, are_lists}
 use Rattle.vr_model.specs.routes.Costs.{greatest, least, row_cost, soft_cost}
 use Rattle.vr_model.specs.schedules.Lines.{stop_rows}
 use Rattle.vr_model.specs.deciding.Testing.{and_left, and_right}
 use Rattle.vr_model.proofs.tables.Tests.{fails_not}
 use Rattle.vr_rules.specs.Bounds.{IsAround}
-use Rattle.vr_rules.specs.Timings.{soft_of, IsTiming, IsTimingOf}
-use Rattle.vr_rules.specs.Sums.{used_below, soft_with, start_with, last_with, span_with, has_soft, start_beside, last_beside, IsExtent, IsExtentInRange, IsWider, AreSums, PaysNothing}
+use Rattle.vr_rules.specs.Timings.{IsTiming, IsTimingOf}
+use Rattle.vr_rules.specs.Sums.{used_below, soft_with, start_with, last_with, span_with, has_soft, IsExtent, IsExtentInRange, IsWider, AreSums, PaysNothing}
 use Rattle.vr_rules.specs.declared.timings.Timing.{Timing}
 use Rattle.vr_rules.specs.declared.sums.Extent.{Extent}
 use Rattle.vr_rules.specs.declared.sums.Sums.{Sums}

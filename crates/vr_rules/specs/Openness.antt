@@ -9,6 +9,7 @@ use Rattle.vr_rules.specs.Placing.{fits_beside}
 -- open lists in which vehicle v gets another list, with these nodes beside those that it had, are open exactly where
 -- vehicle v may drive it and no group gets more active nodes than it may have
 abbrev pub OpennessIsLocal : Type 0
-OpennessIsLocal = (model : Model) (lists : List (List ℕ)) (v : ℕ) (list nodes : List ℕ) → IsTrue (is_open model lists) → v < length lists
+OpennessIsLocal = (model : Model) (lists : List (List ℕ)) (v : ℕ) (list nodes : List ℕ)
+    → IsTrue (is_open model lists) → v < length lists
     → ((node : ℕ) → holds list node ≡ (holds nodes node || holds (route lists v) node))
     → is_open model (with_route lists v list) ≡ (is_route_open model v list && fits_beside model lists nodes)

@@ -1,5 +1,6 @@
 -- Where the nodes of a model stand in one list, and the pairs of a list by their places.
-use Rattle.std.specs.Prelude.{◌≡◌, ℕ, ◌<◌, Bool, true, not, ◌&&◌, ◌||◌, nat_lt, List, map, filter, length, slice_index_or}
+use Rattle.std.specs.Prelude.{◌≡◌, ℕ, ◌<◌, Bool, true, not, ◌&&◌}
+use Rattle.std.specs.Prelude.{◌||◌, nat_lt, List, map, filter, length, slice_index_or}
 use Rattle.std.specs.List.{list_all}
 use Rattle.vr_model.specs.routes.Routes.{holds}
 use Rattle.vr_model.specs.routes.Rules.{place_of}

@@ -1,10 +1,12 @@
 -- Items and marks, which the constructions of first solutions share.
-use Rattle.std.specs.Prelude.{◌≡◌, ℕ, ◌<◌, ℤ, Bool, true, false, ◌&&◌, ◌||◌, nat_le, IsTrue, List, [], ◌∷◌, length, map, count_by, slice_index_or, option_map, Option, Some, None, ⊤}
+use Rattle.std.specs.Prelude.{◌≡◌, ℕ, ◌<◌, ℤ, Bool, true, false, ◌&&◌, ◌||◌, nat_le, IsTrue}
+use Rattle.std.specs.Prelude.{List, [], ◌∷◌, length, map, count_by, slice_index_or, option_map, Option, Some, None, ⊤}
 use Rattle.std.specs.List.{All, list_all}
 use Rattle.vr_model.specs.tables.Numbers.{is_lex_less}
 use Rattle.vr_model.specs.tables.Tables.{is_visit, visits}
 use Rattle.vr_model.specs.routes.Routes.{holds, is_active, is_distinct, are_lists}
 use Rattle.vr_model.specs.routes.Rules.{is_open, fits_group, is_grouped, has_enough}
+use Rattle.vr_model.specs.routes.Costs.{penalty_for}
 use Rattle.vr_model.specs.first.Items.{class, items}
 use Rattle.vr_model.specs.declared.records.Model.{Model}
 use Rattle.vr_model.specs.declared.records.Group.{Group}
@@ -27,7 +29,8 @@ listed (Some item) = nodes_of item ∷ []
 -- the nodes of an item are one of the pairs
 abbrev pub IsOfPairs : Model → Item → Type 0
 IsOfPairs model (Visit node) = ⊤
-IsOfPairs model (PickupAndDelivery pickup delivery) = (k : ℕ) × (k < length model.pairs) × ((d : Pair) → slice_index_or model.pairs k d ≡ record { pickup = pickup; delivery = delivery })
+IsOfPairs model (PickupAndDelivery pickup delivery) = (k : ℕ) × (k < length model.pairs)
+    × ((d : Pair) → slice_index_or model.pairs k d ≡ record { pickup = pickup; delivery = delivery })
 
 -- an item of a model: its nodes are distinct visits, and two are a pair
 pub record IsItem (model : Model) (item : Item) : Type 0 where
@@ -50,6 +53,11 @@ pub record AreMarks (nodes : ℕ) (lists : List (List ℕ)) (marks : List Bool) 
   pub one_of_each : length marks ≡ nodes
   pub each : (node : ℕ) (d : Bool) → node < nodes → slice_index_or marks node d ≡ is_active lists node
 
+-- the marks after some nodes were marked too
+abbrev pub AreMarkedToo : List Bool → List ℕ → List Bool → Type 0
+AreMarkedToo before nodes marks = (node : ℕ) (d : Bool) → node < length before
+    → slice_index_or marks node d ≡ (holds nodes node || slice_index_or before node d)
+
 -- the node is marked
 abbrev pub is_marked : List Bool → ℕ → Bool
 is_marked marks node = slice_index_or marks node false
@@ -66,10 +74,22 @@ has_room marks item group = nat_le (count_by (is_taken marks item) group.nodes) 
 abbrev pub fits_beside : Model → List (List ℕ) → List ℕ → Bool
 fits_beside model lists nodes = list_all (fits_group (nodes ∷ lists)) model.groups
 
+-- the group has no more marked nodes than it may have
+abbrev pub fits_by : List Bool → Group → Bool
+fits_by marks group = nat_le (count_by (is_marked marks) group.nodes) group.max
+
+-- the group has a penalty, or as many marked nodes as it may have
+abbrev pub is_filled_by : List Bool → Group → Bool
+is_filled_by marks group = has_enough group.penalty group.max (count_by (is_marked marks) group.nodes)
+
+-- what the group costs by the marks of its nodes
+abbrev pub penalty_by : List Bool → Group → ℤ
+penalty_by marks group = penalty_for group.penalty group.max (count_by (is_marked marks) group.nodes)
+
 -- each visit in no group is marked, and each group without a penalty has as many marked nodes as it may have
 abbrev pub is_complete : Model → List Bool → Bool
 is_complete model marks = list_all (λ node. is_grouped model node || is_marked marks node) (visits model)
-    && list_all (λ group. has_enough group.penalty group.max (count_by (is_marked marks) group.nodes)) model.groups
+    && list_all (is_filled_by marks) model.groups
 
 -- lists to which items are added: lists of the model that are open
 pub record AreBuilt (model : Model) (lists : List (List ℕ)) : Type 0 where

@@ -1,9 +1,11 @@
 -- What the chosen schedules of lists come to, added up over vehicles and over dimensions.
-use Rattle.std.specs.Prelude.{◌≡◌, ℕ, suc, ◌+◌, ◌*◌, ◌<◌, Bool, false, not, List, length, map, filter, take, ℤ, pos, ◌-ℤ◌, ◌*ℤ◌, ◌≤ℤ◌, MatchOption, IfSome, [], Option, Some, None, is_some}
+use Rattle.std.specs.Prelude.{◌≡◌, ℕ, suc, ◌+◌, ◌*◌, ◌<◌, Bool, false, not, List, length, map, filter}
+use Rattle.std.specs.Prelude.{take, ℤ, pos, ◌-ℤ◌, ◌*ℤ◌, ◌≤ℤ◌, MatchOption, IfSome, slice_index, [], Option, Some}
+use Rattle.std.specs.Prelude.{None, is_some}
 use Rattle.std.specs.List.{concat}
 use Rattle.std.specs.Int.{int_max, int_min}
 use Rattle.vr_model.specs.tables.Numbers.{number_at, total_by, below, horizon}
-use Rattle.vr_model.specs.tables.Tables.{dimension_at}
+use Rattle.vr_model.specs.tables.Tables.{dimension_at, row_of}
 use Rattle.vr_model.specs.tables.WellFormed.{IsIn}
 use Rattle.vr_model.specs.routes.Routes.{route, is_empty}
 use Rattle.vr_model.specs.routes.Costs.{greatest, least}
@@ -35,7 +37,8 @@ last_with model d v list = cumul (plan_of model d v list) (suc (length list))
 
 -- what its span costs
 abbrev pub span_with : Model → ℕ → ℕ → List ℕ → ℤ
-span_with model d v list = number_at (dimension_at model d).span_costs v *ℤ (last_with model d v list -ℤ start_with model d v list)
+span_with model d v list = number_at (dimension_at model d).span_costs v
+    *ℤ (last_with model d v list -ℤ start_with model d v list)
 
 -- the least start and the greatest end of used vehicles, of which there are some
 pub record IsExtent (model : Model) (lists : List (List ℕ)) (d : ℕ) (used : List ℕ) (extent : Extent) : Type 0 where
@@ -68,11 +71,12 @@ pub record IsExtentInRange (extent : Extent) : Type 0 where
   pub start : IsIn (pos 0) horizon extent.start
   pub last : IsIn (pos 0) horizon extent.last
 
--- the sums over the used ones of the first n vehicles in dimension d. The extent is told where its coefficient is not 0.
+-- the sums over the used ones of the first n vehicles in dimension d; the extent is told where its coefficient is not 0
 pub record AreSums (model : Model) (lists : List (List ℕ)) (d n : ℕ) (sums : Sums) : Type 0 where
   pub soft : sums.soft ≡ total_by (λ v. soft_with model d v (route lists v)) (used_below lists n)
   pub span : sums.span ≡ total_by (λ v. span_with model d v (route lists v)) (used_below lists n)
-  pub extent : ((dimension_at model d).global_span_cost ≡ pos 0 → ⊥) → MatchOption sums.extent (used_below lists n ≡ []) (IsExtent model lists d (used_below lists n))
+  pub extent : ((dimension_at model d).global_span_cost ≡ pos 0 → ⊥)
+      → MatchOption sums.extent (used_below lists n ≡ []) (IsExtent model lists d (used_below lists n))
   pub soft_not_negative : pos 0 ≤ℤ sums.soft
   pub soft_bound : sums.soft ≤ℤ pos (687200000000000 * (length (concat (take n lists)) + 2 * n))
   pub span_in_range : IsAround (687200000000000 * n) sums.span
@@ -82,6 +86,10 @@ pub record AreSums (model : Model) (lists : List (List ℕ)) (d n : ℕ) (sums :
 abbrev pub has_soft : Option StopRow → Bool
 has_soft None = false
 has_soft (Some row) = is_some row.soft
+
+-- no visit of a list has a soft upper bound
+abbrev pub AreFree : Dimension → List ℕ → Type 0
+AreFree dimension list = (k : ℕ) → k < length list → has_soft (row_of dimension.nodes (slice_index list k)) ≡ false
 
 -- no schedule of the list costs anything in this dimension
 pub record PaysNothing (dimension : Dimension) (v : ℕ) (list : List ℕ) : Type 0 where

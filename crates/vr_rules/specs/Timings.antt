@@ -1,5 +1,5 @@
 -- What the chosen schedule of a list comes to in one dimension.
-use Rattle.std.specs.Prelude.{◌≡◌, ℕ, suc, ◌+◌, ◌*◌, List, length, unwrap_or, ℤ, pos, ◌≤ℤ◌}
+use Rattle.std.specs.Prelude.{◌≡◌, ℕ, suc, ◌*◌, List, length, unwrap_or, ℤ, pos, ◌≤ℤ◌}
 use Rattle.std.specs.List.{zip}
 use Rattle.vr_model.specs.tables.Numbers.{total_by, horizon}
 use Rattle.vr_model.specs.tables.Tables.{dimension_at}

@@ -3,9 +3,9 @@
 ghost use Rattle.std.specs.Prelude.{◌≡◌, ◌<◌, ◌||◌, Some, None, cond, not, All, IfOk, IfSome, length, count_by};
 ghost use Rattle.std.specs.List.{list_all};
 ghost use Rattle.vr_model.specs.tables.Tables.{is_visit, visits};
-ghost use Rattle.vr_model.specs.routes.Rules.{has_enough, is_grouped as is_grouped_of, is_valid};
+ghost use Rattle.vr_model.specs.routes.Rules.{is_grouped as is_grouped_of, is_valid};
 ghost use Rattle.vr_model.specs.tables.WellFormed.{IsWellFormed};
-ghost use Rattle.vr_rules.specs.Placing.{is_complete as is_complete_of, is_marked, lists_in, AreBuilt};
+ghost use Rattle.vr_rules.specs.Placing.{is_complete as is_complete_of, is_filled_by, is_marked, lists_in, AreBuilt};
 
 use crate::items::is_grouped;
 use crate::marks::active_marks;
@@ -51,7 +51,7 @@ pub(crate) fn marked(marks: &[bool], nodes: &[u32]) -> usize
 // Whether a group has a penalty, or as many marked nodes as it may have.
 fn is_filled(marks: &[bool], group: &Group) -> bool
     requires { All (λ node. node < length marks.now) group.now.nodes }
-    ensures { result ≡ has_enough group.now.penalty group.now.max (count_by (is_marked marks.now) group.now.nodes) }
+    ensures { result ≡ is_filled_by marks.now group.now }
 {
     match group.penalty {
         Some(_) => true,
@@ -63,7 +63,7 @@ fn is_filled(marks: &[bool], group: &Group) -> bool
 fn are_filled(model: &Model, marks: &[bool]) -> bool
     requires well_formed { IsWellFormed model.now }
     requires marks { length marks.now ≡ model.now.nodes }
-    ensures { result ≡ list_all (λ group. has_enough group.penalty group.max (count_by (is_marked marks.now) group.nodes)) model.now.groups }
+    ensures { result ≡ list_all (is_filled_by marks.now) model.now.groups }
 {
     for k in 0..model.groups.len() {
         if !is_filled(marks, model.groups.get(k)) {
@@ -83,8 +83,8 @@ pub fn is_complete(model: &Model, marks: &[bool]) -> bool
     has_required(model, marks) && are_filled(model, marks)
 }
 
-/// Routes with these open lists of the model; `None` exactly where they are not valid, since something is missing in them.
-/// `NoMemory` comes only where memory is refused.
+/// Routes with these open lists of the model; `None` exactly where they are not valid, since something is missing in
+/// them. `NoMemory` comes only where memory is refused.
 pub fn complete_routes(
     alloc: Global,
     model: &Model,
@@ -92,7 +92,8 @@ pub fn complete_routes(
 ) -> Result<Option<Routes>, NoMemory>
     requires well_formed { IsWellFormed model.now }
     requires built { AreBuilt model.now lists.now }
-    ensures lists { IfOk result (λ answer. lists_in answer ≡ cond (is_valid model.now lists.now) (Some lists.now) None) }
+    ensures lists { IfOk result (λ answer.
+        lists_in answer ≡ cond (is_valid model.now lists.now) (Some lists.now) None) }
     ensures visits { IfOk result (λ answer. IfSome answer (λ routes. routes.visits ≡ visits model.now)) }
 {
     let Some(routes) = Routes::from_lists(alloc, model, lists)? else {

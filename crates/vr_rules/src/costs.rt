@@ -11,7 +11,7 @@ use vr_model::{Model, Parts};
 use vr_routes::Routes;
 
 // The costs of the arcs that a vehicle takes with a list, added up. A list of 1000 visits has 1001 arcs.
-pub(crate) fn arcs_of_route(model: &Model, vehicle: u32, list: &[u32]) -> i64
+fn arcs_of_route(model: &Model, vehicle: u32, list: &[u32]) -> i64
     requires well_formed { IsWellFormed model.now }
     requires vehicle { vehicle < length model.now.vehicles }
     requires nodes { All (λ node. node < model.now.nodes) list.now }
@@ -34,7 +34,7 @@ pub(crate) fn arcs_of_route(model: &Model, vehicle: u32, list: &[u32]) -> i64
 }
 
 // What the use of a vehicle costs with these visits: nothing where there are none.
-pub(crate) fn fixed_of_route(model: &Model, vehicle: u32, visits: &[u32]) -> i64
+fn fixed_of_route(model: &Model, vehicle: u32, visits: &[u32]) -> i64
     requires well_formed { IsWellFormed model.now }
     requires vehicle { vehicle < length model.now.vehicles }
     ensures value { result ≡ (if is_empty visits.now then pos 0 else (vehicle_at model.now vehicle).fixed) }

@@ -4,7 +4,9 @@ ghost use Rattle.std.specs.Prelude.{◌≡◌, ◌||◌, ◌==◌, [], find, opt
 ghost use Rattle.vr_model.specs.tables.Tables.{is_visit};
 ghost use Rattle.vr_model.specs.routes.Routes.{holds};
 ghost use Rattle.vr_model.specs.routes.Rules.{is_grouped as is_grouped_of};
-ghost use Rattle.vr_model.specs.first.Items.{class, empty_lists as empty_lists_of, first_node, items_at, must_fill as must_fill_of, node_class as node_class_of, pair_of as pair_of_node};
+ghost use Rattle.vr_model.specs.first.Items.{class, empty_lists as empty_lists_of, first_node};
+ghost use Rattle.vr_model.specs.first.Items.{items_at, must_fill as must_fill_of, node_class as node_class_of};
+ghost use Rattle.vr_model.specs.first.Items.{pair_of as pair_of_node};
 ghost use Rattle.vr_model.specs.tables.WellFormed.{IsWellFormed};
 ghost use Rattle.vr_rules.specs.Placing.{listed, nodes_of, AreCandidates, IsItem};
 
@@ -105,7 +107,8 @@ fn item_class(model: &Model, item: Item) -> u32
 
 // The pair that a node is in.
 fn pair_of(pairs: &[Pair], node: u32) -> Option<&Pair>
-    ensures { option_map (λ pair. pair.now) result ≡ find (λ pair. (pair.pickup == node) || (pair.delivery == node)) pairs.now }
+    ensures { option_map (λ pair. pair.now) result
+        ≡ find (λ pair. (pair.pickup == node) || (pair.delivery == node)) pairs.now }
 {
     pairs
         .iter()
@@ -128,7 +131,8 @@ fn item_at(model: &Model, node: u32) -> Option<Item>
 // The item of a node that is a visit.
 fn visit_item(model: &Model, node: u32) -> Option<Item>
     requires { IsWellFormed model.now }
-    ensures item { listed result ≡ (if is_visit model.now node then items_at (pair_of_node model.now node) node else []) }
+    ensures item { listed result
+        ≡ (if is_visit model.now node then items_at (pair_of_node model.now node) node else []) }
     ensures valid { IfSome result (IsItem model.now) }
 {
     if model.is_visit(node) {

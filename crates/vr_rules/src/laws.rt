@@ -2,8 +2,8 @@
 
 ghost use Rattle.vr_rules.specs.Openness.{OpennessIsLocal};
 
-/// Openness is local: where lists are open and one of them gets nodes, the lists stay open exactly where this list is open
-/// for its vehicle and no group gets more active nodes than it may have.
+/// Openness is local: where lists are open and one of them gets nodes, the lists stay open exactly where this list is
+/// open for its vehicle and no group gets more active nodes than it may have.
 pub fn openness_is_local()
     ensures { OpennessIsLocal }
 {}

@@ -4,7 +4,8 @@ ghost use Rattle.std.specs.Prelude.{◌≡◌, ℕ, ◌<◌, ◌||◌, Bool, All
 ghost use Rattle.std.specs.List.{list_all};
 ghost use Rattle.vr_model.specs.routes.Routes.{holds};
 ghost use Rattle.vr_model.specs.tables.WellFormed.{IsWellFormed};
-ghost use Rattle.vr_rules.specs.Placing.{has_room as has_room_of, is_taken as is_taken_of, nodes_of, AreMarks};
+ghost use Rattle.vr_rules.specs.Placing.{has_room as has_room_of, is_taken as is_taken_of, nodes_of, AreMarkedToo};
+ghost use Rattle.vr_rules.specs.Placing.{AreMarks};
 
 use crate::items::Item;
 use std::alloc::Global;
@@ -51,7 +52,7 @@ pub fn groups_have_room(model: &Model, marks: &[bool], item: Item) -> bool
 fn mark_list(marks: &mut [bool], list: &[u32])
     requires { All (λ node. node < length marks.now) list.now }
     ensures count { length marks.new ≡ length marks.old }
-    ensures each { (node : ℕ) (d : Bool) → node < length marks.old → slice_index_or marks.new node d ≡ (holds list.now node || slice_index_or marks.old node d) }
+    ensures each { AreMarkedToo marks.old list.now marks.new }
 {
     for &node in list {
         marks[node as usize] = true;
@@ -73,7 +74,7 @@ pub fn active_marks(alloc: Global, model: &Model, routes: &Routes) -> Result<Vec
 pub fn mark_item(marks: &mut [bool], item: Item)
     requires { All (λ node. node < length marks.now) (nodes_of item) }
     ensures count { length marks.new ≡ length marks.old }
-    ensures each { (node : ℕ) (d : Bool) → node < length marks.old → slice_index_or marks.new node d ≡ (holds (nodes_of item) node || slice_index_or marks.old node d) }
+    ensures each { AreMarkedToo marks.old (nodes_of item) marks.new }
 {
     match item {
         Item::Visit(node) => mark_list(marks, &[node]),

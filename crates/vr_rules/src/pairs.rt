@@ -116,8 +116,8 @@ fn allows_all(policy: Policy, served: &[Served]) -> bool
 
 /// Whether a list serves each pair in order, and keeps the policy of vehicle `v`.
 ///
-/// It marks the place of each node once, and then looks at each pair of the model, and at each two pairs of the list where
-/// the policy asks something of them. A model without pairs costs nothing.
+/// It marks the place of each node once, and then looks at each pair of the model, and at each two pairs of the list
+/// where the policy asks something of them. A model without pairs costs nothing.
 pub(crate) fn keeps_pairs(
     alloc: Global,
     model: &Model,
@@ -128,7 +128,8 @@ pub(crate) fn keeps_pairs(
     requires vehicle { v < length model.now.vehicles }
     requires visits { IsTrue (list_all (is_visit model.now) list.now) }
     requires distinct { IsTrue (is_distinct list.now) }
-    ensures { IfOk result (λ keeps. keeps ≡ (list_all (serves_pair list.now) model.now.pairs && keeps_policy model.now v list.now)) }
+    ensures { IfOk result (λ keeps.
+        keeps ≡ (list_all (serves_pair list.now) model.now.pairs && keeps_policy model.now v list.now)) }
 {
     if model.pairs.is_empty() {
         return Ok(true);

@@ -1,12 +1,13 @@
 //! What groups cost whose nodes are not all active.
 
-ghost use Rattle.std.specs.Prelude.{◌≡◌, ◌<◌, ◌≤◌, ◌*◌, ◌^◌, ◌-ℤ◌, ◌≤ℤ◌, pos, All, IfOk, IsTrue, count_by, length, nat_le};
+ghost use Rattle.std.specs.Prelude.{◌≡◌, ◌<◌, ◌≤◌, ◌*◌, ◌^◌, ◌-ℤ◌, ◌≤ℤ◌};
+ghost use Rattle.std.specs.Prelude.{pos, All, IfOk, IsTrue, count_by, length, nat_le};
 ghost use Rattle.std.specs.List.{list_all};
-ghost use Rattle.vr_model.specs.routes.Costs.{penalty_for, penalty_part};
+ghost use Rattle.vr_model.specs.routes.Costs.{penalty_part};
 ghost use Rattle.vr_model.specs.tables.Numbers.{total_by};
 ghost use Rattle.vr_model.specs.routes.Rules.{is_open};
 ghost use Rattle.vr_model.specs.tables.WellFormed.{greatest_cost, IsIn, IsWellFormed, WherePresent};
-ghost use Rattle.vr_rules.specs.Placing.{is_marked};
+ghost use Rattle.vr_rules.specs.Placing.{fits_by, is_marked, penalty_by};
 
 use crate::complete::marked;
 use crate::marks::active_marks;
@@ -32,7 +33,7 @@ fn penalty_of_group(marks: &[bool], group: &Group) -> i64
     requires few { group.now.max ≤ 1000 }
     requires penalty { WherePresent (IsIn (pos 0) greatest_cost) group.now.penalty }
     requires fits { count_by (is_marked marks.now) group.now.nodes ≤ group.now.max }
-    ensures value { result ≡ penalty_for group.now.penalty group.now.max (count_by (is_marked marks.now) group.now.nodes) }
+    ensures value { result ≡ penalty_by marks.now group.now }
     ensures low { pos 0 ≤ℤ result }
     ensures high { result ≤ℤ pos (2 ^ 40 * 1000) }
 {
@@ -46,8 +47,8 @@ fn penalty_of_group(marks: &[bool], group: &Group) -> i64
 fn penalty_of_groups(model: &Model, marks: &[bool]) -> i64
     requires well_formed { IsWellFormed model.now }
     requires marks { length marks.now ≡ model.now.nodes }
-    requires fit { IsTrue (list_all (λ group. nat_le (count_by (is_marked marks.now) group.nodes) group.max) model.now.groups) }
-    ensures value { result ≡ total_by (λ group. penalty_for group.penalty group.max (count_by (is_marked marks.now) group.nodes)) model.now.groups }
+    requires fit { IsTrue (list_all (fits_by marks.now) model.now.groups) }
+    ensures value { result ≡ total_by (penalty_by marks.now) model.now.groups }
     ensures low { pos 0 ≤ℤ result }
     ensures high { result ≤ℤ pos (2 ^ 40 * 1000 * 1000) }
 {
@@ -58,8 +59,8 @@ fn penalty_of_groups(model: &Model, marks: &[bool]) -> i64
     total
 }
 
-/// The penalty part of the cost of routes: for each group with a penalty, the penalty times how many nodes fewer are active
-/// than may be.
+/// The penalty part of the cost of routes: for each group with a penalty, the penalty times how many nodes fewer are
+/// active than may be.
 pub(crate) fn penalty_of_routes(
     alloc: Global,
     model: &Model,

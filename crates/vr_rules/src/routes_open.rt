@@ -17,8 +17,8 @@ use vr_model::{Model, NoMemory, laws};
 use vr_reach::Rows;
 use vr_steps::Line;
 
-/// Whether vehicle `v` may drive a list: the list is empty, or its line in each dimension has a schedule, it serves each
-/// pair in order and as the vehicle's policy asks, and the vehicle may visit each of its nodes.
+/// Whether vehicle `v` may drive a list: the list is empty, or its line in each dimension has a schedule, it serves
+/// each pair in order and as the vehicle's policy asks, and the vehicle may visit each of its nodes.
 ///
 /// The list holds distinct visits. `NoMemory` comes only where memory is refused.
 pub fn route_open(alloc: Global, model: &Model, v: u32, list: &[u32]) -> Result<bool, NoMemory>

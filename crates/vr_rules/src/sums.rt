@@ -1,6 +1,7 @@
 //! What the chosen schedules of routes cost in one dimension, added up over the vehicles.
 
-ghost use Rattle.std.specs.Prelude.{◌≡◌, ℕ, ◌<◌, ◌+◌, ◌*◌, ◌+ℤ◌, ◌*ℤ◌, ◌-ℤ◌, ◌≤ℤ◌, pos, All, IfOk, IfSome, IsSome, IsTrue, false, length, slice_index};
+ghost use Rattle.std.specs.Prelude.{◌≡◌, ℕ, ◌<◌, ◌+◌, ◌*◌, ◌+ℤ◌, ◌*ℤ◌, ◌-ℤ◌, ◌≤ℤ◌};
+ghost use Rattle.std.specs.Prelude.{pos, All, IfOk, IfSome, IsSome, IsTrue, false, length, slice_index};
 ghost use Rattle.std.specs.Option.{option_copied};
 ghost use Rattle.vr_model.specs.tables.Numbers.{horizon, number_at};
 ghost use Rattle.vr_model.specs.tables.Tables.{row_of};
@@ -8,7 +9,8 @@ ghost use Rattle.vr_model.specs.tables.WellFormed.{IsIn, IsWellFormed};
 ghost use Rattle.vr_model.specs.routes.Routes.{are_lists};
 ghost use Rattle.vr_rules.specs.Bounds.{IsAround};
 ghost use Rattle.vr_rules.specs.Timings.{IsTimingOf};
-ghost use Rattle.vr_rules.specs.Sums.{has_soft, start_beside, last_beside, length_of, AreSums, IsExtentInRange, IsWider, PaysNothing};
+ghost use Rattle.vr_rules.specs.Sums.{has_soft, start_beside, last_beside, length_of};
+ghost use Rattle.vr_rules.specs.Sums.{AreFree, AreSums, IsExtentInRange, IsWider, PaysNothing};
 
 use crate::timings::{Timing, times, timing_of};
 use std::alloc::Global;
@@ -42,7 +44,7 @@ fn has_soft(row: Option<&StopRow>) -> bool
 
 // Whether some visit of a list has a soft upper bound.
 fn visits_soft(dimension: &Dimension, list: &[u32]) -> bool
-    ensures { result ≡ false → (k : ℕ) → k < length list.now → has_soft (row_of dimension.now.nodes (slice_index list.now k)) ≡ false }
+    ensures { result ≡ false → AreFree dimension.now list.now }
 {
     for &node in list {
         if has_soft(StopRow::of_key(&dimension.nodes, node)) {

@@ -5,7 +5,7 @@ ghost use Rattle.std.specs.List.{list_all};
 ghost use Rattle.vr_model.specs.routes.Routes.{are_lists};
 ghost use Rattle.vr_model.specs.routes.Rules.{is_open, is_valid};
 ghost use Rattle.vr_model.specs.tables.WellFormed.{IsWellFormed};
-ghost use Rattle.vr_rules.specs.Placing.{is_marked};
+ghost use Rattle.vr_rules.specs.Placing.{fits_by};
 ghost use Rattle.vr_rules.specs.RoutesOpen.{are_routes_open as are_routes_open_of};
 
 use crate::complete::{is_complete, marked};
@@ -32,7 +32,7 @@ fn are_routes_open(alloc: Global, model: &Model, routes: &Routes) -> Result<bool
 // Whether a group has no more marked nodes than it may have.
 fn fits(marks: &[bool], group: &Group) -> bool
     requires { All (λ node. node < length marks.now) group.now.nodes }
-    ensures { result ≡ nat_le (count_by (is_marked marks.now) group.now.nodes) group.now.max }
+    ensures { result ≡ fits_by marks.now group.now }
 {
     marked(marks, group.nodes.as_slice()) <= group.max as usize
 }
@@ -41,7 +41,7 @@ fn fits(marks: &[bool], group: &Group) -> bool
 fn groups_fit(model: &Model, marks: &[bool]) -> bool
     requires well_formed { IsWellFormed model.now }
     requires marks { length marks.now ≡ model.now.nodes }
-    ensures { result ≡ list_all (λ group. nat_le (count_by (is_marked marks.now) group.nodes) group.max) model.now.groups }
+    ensures { result ≡ list_all (fits_by marks.now) model.now.groups }
 {
     for k in 0..model.groups.len() {
         if !fits(marks, model.groups.get(k)) {
@@ -51,8 +51,8 @@ fn groups_fit(model: &Model, marks: &[bool]) -> bool
     true
 }
 
-/// Whether routes of the model are open: each vehicle may drive its list, and no group has more active nodes than it may
-/// have. `NoMemory` comes only where memory is refused.
+/// Whether routes of the model are open: each vehicle may drive its list, and no group has more active nodes than it
+/// may have. `NoMemory` comes only where memory is refused.
 pub fn open(alloc: Global, model: &Model, routes: &Routes) -> Result<bool, NoMemory>
     requires well_formed { IsWellFormed model.now }
     requires lists { IsTrue (are_lists model.now routes.now.lists) }

@@ -1,6 +1,5 @@
 use Rattle.std.proofs.Common.{◌≡◌, ◌∙◌, List, ℕ, ap, sym, subst, length, drop}
 use Rattle.vr_model.specs.first.Items.{empty_lists}
-use Rattle.vr_model.specs.first.PathCheapestArc.{path_cheapest_arc}
 use Rattle.vr_rules.specs.Placing.{AreBuilt, AreMarks}
 use Rattle.vr_rules.proofs.PlacingLemmas.{built-count, AreBuilt-empty, AreMarks-empty}
 use Rattle.vr_first_arc.specs.Choices.{all_filled}

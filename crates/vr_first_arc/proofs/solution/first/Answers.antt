@@ -1,5 +1,4 @@
-use Rattle.std.proofs.Common.{◌≡◌, ◌∙◌, Some, None, cond, ap, sym, subst}
-use Rattle.vr_model.specs.first.PathCheapestArc.{path_cheapest_arc}
+use Rattle.std.proofs.Common.{◌∙◌, Some, None, cond, ap, sym, subst}
 use Rattle.vr_model.specs.routes.Rules.{is_valid}
 use Rattle.vr_rules.specs.Placing.{AreBuilt}
 use Rattle.vr_first_arc.proofs.solution.first.Goals as goal

@@ -1,4 +1,4 @@
-use Rattle.std.proofs.Common.{◌≡◌, ◌∙◌, Some, None, cond, ap, sym, subst, length}
+use Rattle.std.proofs.Common.{◌≡◌, ◌∙◌, Some, None, cond, ap, sym, length}
 use Rattle.vr_model.specs.routes.Routes.{are_lists}
 use Rattle.vr_model.specs.routes.Rules.{is_open, is_valid}
 use Rattle.vr_model.specs.first.Items.{items}

@@ -1,6 +1,5 @@
 use Rattle.std.proofs.Common.{◌≡◌, ◌∙◌, Some, None, cond, ap, sym, subst}
 use Rattle.std.specs.Prelude.{IfSome}
-use Rattle.vr_model.specs.routes.Rules.{is_valid}
 use Rattle.vr_rules.proofs.CompleteLemmas.{complete-is-valid}
 use Rattle.vr_rules.proofs.complete.complete_routes.Goals as goal
 

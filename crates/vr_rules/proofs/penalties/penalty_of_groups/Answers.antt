@@ -4,7 +4,7 @@ use Rattle.std.proofs.lemmas.Int.{ints}
 use Rattle.vr_model.specs.declared.records.Group.{Group}
 use Rattle.vr_rules.specs.Placing.{is_marked}
 use Rattle.vr_model.proofs.tables.Tests.{all-from_list_all}
-use Rattle.vr_rules.proofs.CompleteLemmas.{fits_by}
+use Rattle.vr_rules.specs.Placing.{fits_by}
 use Rattle.vr_rules.proofs.PenaltyLemmas.{le-of-test, penalty_of_first-more}
 use Rattle.vr_rules.proofs.penalties.penalty_of_groups.Goals as goal
 

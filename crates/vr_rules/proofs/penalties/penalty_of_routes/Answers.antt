@@ -2,8 +2,9 @@ use Rattle.std.proofs.Common.{◌≡◌, ◌∙◌, ap, arith, to_z, of_z, w64}
 use Rattle.std.specs.List.{list_all}
 use Rattle.std.proofs.lemmas.Int.{ints}
 use Rattle.vr_model.specs.tables.Numbers.{total_by}
-use Rattle.vr_rules.proofs.CompleteLemmas.{fits_by}
-use Rattle.vr_rules.proofs.PenaltyLemmas.{penalty_by, penalty_part-marks, groups_fit-open}
+use Rattle.vr_rules.specs.Placing.{fits_by}
+use Rattle.vr_rules.specs.Placing.{penalty_by}
+use Rattle.vr_rules.proofs.PenaltyLemmas.{penalty_part-marks, groups_fit-open}
 use Rattle.vr_rules.proofs.penalties.penalty_of_routes.Goals as goal
 
 pub penalty_of_groups-penalty-requires-clause-fit : goal.penalty_of_groups-penalty-requires-clause-fit

@@ -1,7 +1,7 @@
 use Rattle.std.proofs.Common.{◌≡◌, ◌∙◌, ◌+◌, ◌<◌, ap, sym, subst, arith, length}
 use Rattle.std.proofs.lemmas.Int.{ints}
 use Rattle.std.specs.List.{list_all}
-use Rattle.std.specs.Prelude.{pos, ◌*ℤ◌, ◌-ℤ◌, ◌+ℤ◌}
+use Rattle.std.specs.Prelude.{◌*ℤ◌, ◌-ℤ◌, ◌+ℤ◌}
 use Rattle.vr_model.specs.tables.Numbers.{number_at}
 use Rattle.vr_model.specs.tables.Tables.{dimension_at, is_visit, no_dimension}
 use Rattle.vr_model.specs.routes.Routes.{route, is_distinct}

@@ -1,6 +1,5 @@
-use Rattle.std.proofs.Common.{◌≡◌, ◌∙◌, ap, sym, subst, arith, to_z, of_z, w64}
+use Rattle.std.proofs.Common.{arith}
 use Rattle.std.proofs.lemmas.Int.{ints}
-use Rattle.vr_rules.specs.Bounds.{IsAround}
 use Rattle.vr_rules.proofs.BoundLemmas.{mul-around, mul-sign, read-around}
 use Rattle.vr_rules.proofs.timings.times.Goals as goal
 

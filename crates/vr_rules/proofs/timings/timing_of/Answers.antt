@@ -1,4 +1,4 @@
-use Rattle.std.proofs.Common.{◌≡◌, ◌∙◌, ◌+◌, suc, [], List, ap, sym, subst, arith, length, to_z, of_z, w64}
+use Rattle.std.proofs.Common.{◌≡◌, ◌∙◌, ◌+◌, suc, List, ap, sym, subst, arith, length, to_z, of_z, w64}
 use Rattle.std.proofs.lemmas.Int.{ints}
 use Rattle.std.specs.Prelude.{All, IfSome, Some, ℤ, pos}
 use Rattle.std.proofs.lemmas.Slice.Zip.{AllZip-long}
@@ -8,7 +8,7 @@ use Rattle.vr_model.specs.tables.WellFormed.{IsIn, IsStopRow}
 use Rattle.vr_model.specs.schedules.Lines.{line}
 use Rattle.vr_model.specs.schedules.Choices.{chosen}
 use Rattle.vr_steps.specs.Levels.{HasNumbers}
-use Rattle.vr_rules.specs.Timings.{plan_of, soft_of, IsTiming}
+use Rattle.vr_rules.specs.Timings.{plan_of, soft_of}
 use Rattle.vr_rules.proofs.SoftLemmas.{line-stops, cumuls-seen}
 use Rattle.vr_rules.proofs.timings.timing_of.Goals as goal
 

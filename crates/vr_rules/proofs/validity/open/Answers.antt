@@ -1,6 +1,7 @@
 use Rattle.std.proofs.Common.{◌∙◌, ap, sym}
 use Rattle.std.specs.List.{list_all}
-use Rattle.vr_rules.proofs.CompleteLemmas.{fits_by, groups_close, open_where_routes}
+use Rattle.vr_rules.specs.Placing.{fits_by}
+use Rattle.vr_rules.proofs.CompleteLemmas.{groups_close, open_where_routes}
 use Rattle.vr_rules.proofs.validity.open.Goals as goal
 
 pub returns-then-not-groups_fit : goal.returns-then-not-groups_fit
