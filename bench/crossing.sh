@@ -29,7 +29,7 @@ cat > "$work/proved/crates/crossing/src/main.rt" <<'END'
 ghost use Rattle.std.specs.Prelude.{◌≡◌, ◌<◌, [], ◌∷◌, All, IfOk, OnOk, pos};
 ghost use Rattle.vr_steps.specs.Arcs.{IsSoundHop};
 ghost use Rattle.vr_steps.specs.Levels.{IsCumuls, AreLevels};
-ghost use Rattle.vr_steps.specs.Samples.{IsShort};
+ghost use Rattle.vr_steps.specs.Samples.{IsCumulRun};
 
 use arrayvec::ArrayVec;
 use std::alloc::Global;
@@ -74,7 +74,7 @@ const ARCS: usize = 64;
 
 /// The set of these runs of cumuls.
 fn set_of(alloc: Global, runs: &[Run]) -> Result<Spans, vr_spans::NoMemory>
-    requires { All IsShort runs.now }
+    requires { All IsCumulRun runs.now }
     ensures { IfOk result IsCumuls }
 {
     Spans::from_runs(alloc, runs)
