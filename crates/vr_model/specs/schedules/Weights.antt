@@ -42,8 +42,7 @@ walk_weight line a e =
     + over_breaks line (λ b. runs (is_reached line e b) + runs (reaches_end line e b))
 
 -- the weight of one list after a change: nothing where it is empty or as before; else of the walk from the last stop
--- that
--- both lists share at the front to the first that both share at the back
+-- that both lists share at the front to the first that both share at the back
 abbrev pub list_weight : Model → ℕ → ℕ → List ℕ → List ℕ → ℕ
 list_weight model d v old new = cond (is_empty new || is_same old new) 0
     (walk_weight (line model d v new) (shared_front old new) (length new + 1 - shared_back old new))
