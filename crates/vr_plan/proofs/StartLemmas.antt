@@ -44,6 +44,7 @@ put_sound line i first rows sound lt low high is =
       arcs = sound.arcs;
       cumuls = sound.cumuls;
       each_hop = sound.each_hop;
+      one_slack = sound.one_slack;
       few_breaks = omega (arith, n, few);
       each_break = subst (All IsBreak) (sym is) (All-set IsBreak line.breaks i _ (start_is_break (get_or line.breaks i no_break) first (sound.each_break i no_break lt) low high) sound.each_break);
       forward = λ some. sound.forward (omega (arith, n, some));

@@ -16,7 +16,7 @@ use vr_reach::{Sweep, least_shared};
 use vr_spans::{Run, Spans};
 use vr_steps::{Levels, Line, cross_into, start_levels_into};
 
-/// Sets that are written over while cumuls are settled.
+// Sets that are written over while cumuls are settled.
 #[derive(Drop)]
 struct Room {
     only: Spans,
@@ -24,8 +24,8 @@ struct Room {
     next: Levels,
 }
 
-/// The cumuls of the chosen schedule of a line, by what its end is reached from; `None` exactly where the line has no
-/// schedule.
+// The cumuls of the chosen schedule of a line, by what its end is reached from; `None` exactly where the line has no
+// schedule.
 pub(crate) fn settled_cumuls<L: Ledger>(
     alloc: Global,
     line: &Line,
@@ -50,7 +50,7 @@ pub(crate) fn settled_cumuls<L: Ledger>(
     Ok(goes.then_some(cumuls))
 }
 
-/// Settles the cumul of the start: the least that schedules have there. Answers whether there is a schedule.
+// Settles the cumul of the start: the least that schedules have there. Answers whether there is a schedule.
 fn begin(
     line: &Line,
     behind: &Sweep,
@@ -80,8 +80,8 @@ fn begin(
     Ok(true)
 }
 
-/// Settles the cumul of each stop, one after another: the least that schedules with the cumuls before it have there.
-/// Answers whether there is a schedule.
+// Settles the cumul of each stop, one after another: the least that schedules with the cumuls before it have there.
+// Answers whether there is a schedule.
 fn settle<L: Ledger>(
     line: &Line,
     behind: &Sweep,
@@ -124,7 +124,7 @@ fn settle<L: Ledger>(
     Ok(true)
 }
 
-/// Writes those of the allowed cumuls that are `x` over `only`.
+// Writes those of the allowed cumuls that are `x` over `only`.
 pub(crate) fn keep(allowed: &Spans, x: i64, only: &mut Spans) -> Result<(), NoMemory>
     requires cumul { IsIn (pos 0) horizon x }
     requires allowed { IsCumuls allowed.now }

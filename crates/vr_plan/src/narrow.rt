@@ -14,7 +14,7 @@ use vr_model::{BreakRow, NoMemory, Seq};
 use vr_spans::Spans;
 use vr_steps::{Breaks, Hop, Line};
 
-/// The line whose stops allow these cumuls alone.
+// The line whose stops allow these cumuls alone.
 pub(crate) fn with_cumuls(alloc: Global, line: &Line, cumuls: &[i64]) -> Result<Line, NoMemory>
     requires sound { IsSoundLine line.now }
     requires cumuls { HaveChosenCumuls line.now cumuls.now }
@@ -30,7 +30,7 @@ pub(crate) fn with_cumuls(alloc: Global, line: &Line, cumuls: &[i64]) -> Result<
     })
 }
 
-/// Of each stop, the cumul that is put in.
+// Of each stop, the cumul that is put in.
 fn only_sets(alloc: Global, line: &Line, cumuls: &[i64]) -> Result<Seq<Spans>, NoMemory>
     requires sound { IsSoundLine line.now }
     requires cumuls { HaveChosenCumuls line.now cumuls.now }
@@ -46,7 +46,7 @@ fn only_sets(alloc: Global, line: &Line, cumuls: &[i64]) -> Result<Seq<Spans>, N
     Ok(sets)
 }
 
-/// The same arcs.
+// The same arcs.
 fn same_hops(alloc: Global, hops: &[Hop]) -> Result<Seq<Hop>, NoMemory>
     ensures { IfOk result (λ same. same ≡ hops.now) }
 {
@@ -57,7 +57,7 @@ fn same_hops(alloc: Global, hops: &[Hop]) -> Result<Seq<Hop>, NoMemory>
     Ok(same)
 }
 
-/// The same breaks.
+// The same breaks.
 fn same_breaks(breaks: &Breaks) -> Breaks
     requires { length breaks.now ≤ 8 }
     ensures { result ≡ breaks.now }
@@ -67,7 +67,7 @@ fn same_breaks(breaks: &Breaks) -> Breaks
     }
 }
 
-/// Puts a row in the place of break `i`.
+// Puts a row in the place of break `i`.
 pub(crate) fn put_row(breaks: &mut Breaks, i: usize, row: BreakRow)
     requires { i < length breaks.old }
     ensures { breaks.new ≡ set breaks.old i row }
@@ -75,7 +75,7 @@ pub(crate) fn put_row(breaks: &mut Breaks, i: usize, row: BreakRow)
     breaks.rows[i] = row;
 }
 
-/// Break `i`.
+// Break `i`.
 pub(crate) fn row_at(breaks: &Breaks, i: usize) -> BreakRow
     requires { i < length breaks.now }
     ensures { result ≡ slice_index_or breaks.now i no_break }

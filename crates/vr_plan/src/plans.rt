@@ -14,12 +14,16 @@ use vr_steps::Hop;
 /// (`RoutingDimension::CumulVar`, `RoutingDimension::SlackVar` and the break intervals in OR-Tools).
 #[derive(Drop)]
 pub struct Plan {
+    /// The cumul of each stop in `0..=2^36`: of the start, of each visit in order, and of the end.
     pub cumuls: Seq<i64>,
+    /// The slack of each arc, from 0 to the greatest that the dimension lets: what its end has beyond its begin and the
+    /// transit.
     pub slacks: Seq<i64>,
+    /// The start of each break of the vehicle in order, in `0..=2^36`.
     pub breaks: Seq<i64>,
 }
 
-/// The slacks that cumuls leave on arcs.
+// The slacks that cumuls leave on arcs.
 pub(crate) fn slacks_left(alloc: Global, hops: &[Hop], cumuls: &[i64]) -> Result<Seq<i64>, NoMemory>
     requires stops { length cumuls.now ≡ suc (length hops.now) }
     requires range { All (IsIn (pos 0) horizon) cumuls.now }

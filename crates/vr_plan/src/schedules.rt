@@ -57,7 +57,7 @@ pub fn chosen_cumuls(alloc: Global, line: &Line) -> Result<Option<Seq<i64>>, NoM
     Ok(cumuls)
 }
 
-/// The chosen schedule of a line, by what its end is reached from.
+// The chosen schedule of a line, by what its end is reached from.
 fn schedule_behind(alloc: Global, line: &Line, behind: &Sweep) -> Result<Option<Plan>, NoMemory>
     requires sound { IsSoundLine line.now }
     requires behind { AreBackward line.now behind.now }

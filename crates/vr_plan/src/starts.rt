@@ -18,7 +18,7 @@ use vr_model::{BreakRow, NoMemory, Seq};
 use vr_reach::{Walk, lesser};
 use vr_steps::{Hop, Line};
 
-/// Whether the line has a schedule whose break `i` starts at `first`, which is in its range.
+// Whether the line has a schedule whose break `i` starts at `first`, which is in its range.
 fn can_start(line: &mut Line, walk: &mut Walk, i: usize, first: i64) -> Result<bool, NoMemory>
     requires sound { IsSoundLine line.old }
     requires place { i < length line.old.breaks }
@@ -43,7 +43,7 @@ fn can_start(line: &mut Line, walk: &mut Walk, i: usize, first: i64) -> Result<b
     Ok(can)
 }
 
-/// The start that is tried, where it is not above `to` and the line has a schedule whose break `i` starts there.
+// The start that is tried, where it is not above `to` and the line has a schedule whose break `i` starts there.
 fn try_start(
     line: &mut Line,
     walk: &mut Walk,
@@ -61,6 +61,7 @@ fn try_start(
     ensures same { OnOk result (line.new ≡ line.old) }
 {
     if first > to {
+        // the line is as it was
         let _ = &line.breaks;
         return Ok(None);
     }
@@ -70,7 +71,7 @@ fn try_start(
     Ok(Some(first))
 }
 
-/// Where a place of a break begins: before the first stop, inside an arc, or after the last stop.
+// Where a place of a break begins: before the first stop, inside an arc, or after the last stop.
 fn place_begin(hops: &[Hop], cumuls: &[i64], place: usize) -> i64
     requires stops { length cumuls.now ≡ suc (length hops.now) }
     requires range { All (IsIn (pos 0) horizon) cumuls.now }
@@ -87,7 +88,7 @@ fn place_begin(hops: &[Hop], cumuls: &[i64], place: usize) -> i64
     cumuls[hops.len()]
 }
 
-/// The least start that schedules of the line have for break `i`, which may not start before `ready`.
+// The least start that schedules of the line have for break `i`, which may not start before `ready`.
 fn least_start(
     line: &mut Line,
     walk: &mut Walk,
@@ -117,7 +118,7 @@ fn least_start(
     Ok(best)
 }
 
-/// Lets break `i` start at `first` alone; answers when it is over.
+// Lets break `i` start at `first` alone; answers when it is over.
 fn fix_start(line: &mut Line, i: usize, first: i64) -> i64
     requires sound { IsSoundLine line.old }
     requires place { i < length line.old.breaks }
@@ -138,8 +139,8 @@ fn fix_start(line: &mut Line, i: usize, first: i64) -> i64
     first + row.duration
 }
 
-/// Settles the start of each break of a line whose schedules have these cumuls, one after another: the least that
-/// schedules with the starts before have there. Answers whether there is a schedule.
+// Settles the start of each break of a line whose schedules have these cumuls, one after another: the least that
+// schedules with the starts before have there. Answers whether there is a schedule.
 fn settle_starts(
     line: &mut Line,
     walk: &mut Walk,
@@ -168,8 +169,8 @@ fn settle_starts(
     Ok(true)
 }
 
-/// The break starts of the chosen schedule of a line, which has these cumuls; `None` only where the line has no
-/// schedule.
+// The break starts of the chosen schedule of a line, which has these cumuls; `None` only where the line has no
+// schedule.
 pub(crate) fn chosen_starts(
     alloc: Global,
     line: &Line,
@@ -190,7 +191,7 @@ pub(crate) fn chosen_starts(
     Ok(starts)
 }
 
-/// The break starts of the chosen schedule of a line whose schedules have these cumuls; `None` only where it has none.
+// The break starts of the chosen schedule of a line whose schedules have these cumuls; `None` only where it has none.
 fn starts_of(alloc: Global, line: &mut Line, cumuls: &[i64]) -> Result<Option<Seq<i64>>, NoMemory>
     requires sound { IsSoundLine line.old }
     requires stops { length cumuls.now ≡ suc (length line.old.hops) }

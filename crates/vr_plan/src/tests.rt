@@ -89,6 +89,26 @@ fn chosen(alloc: Global, line: &Line) -> Result<Vec<i64>, Fail>
     numbers(alloc, &plan)
 }
 
+// The numbers of the chosen schedule of the line of one visit, whose stops allow these runs.
+fn chosen_of(
+    alloc: Global,
+    start: &[Run],
+    visit: &[Run],
+    hop: Hop,
+    rows: &[BreakRow],
+) -> Result<Vec<i64>, Fail>
+    requires start { All IsCumulRun start.now }
+    requires visit { All IsCumulRun visit.now }
+    requires hop { IsSoundHop hop }
+    requires forward { pos 0 ≤ℤ hop.transit }
+    requires rows { All IsBreak rows.now }
+    requires few { length rows.now ≤ 8 }
+{
+    let line = line_of(alloc, start, visit, &ALL, hop, rows)?;
+    let found = chosen(alloc, &line)?;
+    Ok(found)
+}
+
 // An arc with transit 5, which may wait up to `slack`.
 fn short_arc(slack: i64) -> Hop
     requires { (pos 0 ≤ℤ slack) × (slack ≤ℤ pos 100) }
@@ -103,20 +123,23 @@ fn short_arc(slack: i64) -> Hop
 }
 
 #[test]
+fn a_visit_cannot_wait_so_long(rt: HostRuntime) -> Result<(), Fail> {
+    let found = chosen_of(rt.alloc(), &ZERO, &SPLIT, short_arc(3), &[])?;
+    assert_eq!(rt; found.len(), 0);
+    Ok(())
+}
+
+#[test]
+fn the_start_waits_where_the_visit_cannot(rt: HostRuntime) -> Result<(), Fail> {
+    let found = chosen_of(rt.alloc(), &ALL, &SPLIT, short_arc(3), &[])?;
+    assert_eq!(rt; found.as_slice(), [1, 9, 14, -1, 3, 0, -1, -1].as_slice());
+    Ok(())
+}
+
+#[test]
 fn a_visit_waits_until_it_may_begin(rt: HostRuntime) -> Result<(), Fail> {
-    let alloc = rt.alloc();
-    let fixed = line_of(alloc, &ZERO, &SPLIT, &ALL, short_arc(3), &[])?;
-    assert_eq!(rt; chosen(alloc, &fixed)?.len(), 0);
-    let free = line_of(alloc, &ALL, &SPLIT, &ALL, short_arc(3), &[])?;
-    assert_eq!(rt;
-        chosen(alloc, &free)?.as_slice(),
-        [1, 9, 14, -1, 3, 0, -1, -1].as_slice()
-    );
-    let longer = line_of(alloc, &ZERO, &SPLIT, &ALL, short_arc(4), &[])?;
-    assert_eq!(rt;
-        chosen(alloc, &longer)?.as_slice(),
-        [0, 9, 14, -1, 4, 0, -1, -1].as_slice()
-    );
+    let found = chosen_of(rt.alloc(), &ZERO, &SPLIT, short_arc(4), &[])?;
+    assert_eq!(rt; found.as_slice(), [0, 9, 14, -1, 4, 0, -1, -1].as_slice());
     Ok(())
 }
 
@@ -142,34 +165,37 @@ fn long_arc(slack: i64, visit: i64) -> Hop
 }
 
 #[test]
-fn breaks_are_taken_on_the_way(rt: HostRuntime) -> Result<(), Fail> {
-    let alloc = rt.alloc();
-    let rest = row(4, 6, 5);
-    let one = line_of(alloc, &ZERO, &ALL, &ALL, long_arc(20, 2), &[rest])?;
+fn a_break_is_taken_on_the_way(rt: HostRuntime) -> Result<(), Fail> {
+    let found = chosen_of(rt.alloc(), &ZERO, &ALL, long_arc(20, 2), &[row(4, 6, 5)])?;
     assert_eq!(rt;
-        chosen(alloc, &one)?.as_slice(),
+        found.as_slice(),
         [0, 15, 25, -1, 5, 0, -1, 4, -1].as_slice()
     );
-    let late = line_of(alloc, &ZERO, &ALL, &ALL, long_arc(20, 7), &[rest])?;
-    assert_eq!(rt; chosen(alloc, &late)?.len(), 0);
+    Ok(())
+}
+
+#[test]
+fn a_break_cannot_begin_during_a_visit(rt: HostRuntime) -> Result<(), Fail> {
+    let found = chosen_of(rt.alloc(), &ZERO, &ALL, long_arc(20, 7), &[row(4, 6, 5)])?;
+    assert_eq!(rt; found.len(), 0);
     Ok(())
 }
 
 #[test]
 fn breaks_are_taken_before_and_after(rt: HostRuntime) -> Result<(), Fail> {
-    let alloc = rt.alloc();
     let rests = [row(0, 0, 5), row(40, 50, 5)];
-    let two = line_of(alloc, &ALL, &ALL, &ALL, long_arc(0, 2), &rests)?;
+    let found = chosen_of(rt.alloc(), &ALL, &ALL, long_arc(0, 2), &rests)?;
     assert_eq!(rt;
-        chosen(alloc, &two)?.as_slice(),
+        found.as_slice(),
         [5, 15, 25, -1, 0, 0, -1, 0, 40, -1].as_slice()
     );
     Ok(())
 }
 
-#[test]
-fn a_visit_waits_as_long_as_there_is_time(rt: HostRuntime) -> Result<(), Fail> {
-    let alloc = rt.alloc();
+// The line of one visit that allows the horizon alone, with arcs that may wait as long.
+fn longest_line(alloc: Global) -> Result<Line, Fail>
+    ensures { IfOk result IsSoundLine }
+{
     let whole = [Run { lo: 0, hi: HORIZON }];
     let last = [Run {
         lo: HORIZON,
@@ -180,19 +206,39 @@ fn a_visit_waits_as_long_as_there_is_time(rt: HostRuntime) -> Result<(), Fail> {
         slack: HORIZON,
         visit: 0,
     };
-    let line = line_of(alloc, &whole, &last, &whole, hop, &[])?;
+    line_of(alloc, &whole, &last, &whole, hop, &[])
+}
+
+// The numbers of its chosen schedule, over its rows.
+fn longest_schedule(alloc: Global) -> Result<Vec<i64>, Fail> {
+    let line = longest_line(alloc)?;
     let rows = Rows::build(alloc, &line)?;
-    let wanted = [0, HORIZON, HORIZON];
-    let found = schedule_over(alloc, &line, &rows)?;
-    assert!(rt; found.is_some());
-    let Some(plan) = found else {
-        return Ok(());
+    let Some(plan) = schedule_over(alloc, &line, &rows)? else {
+        return Ok(Vec::new(alloc));
     };
+    numbers(alloc, &plan)
+}
+
+#[test]
+fn a_visit_waits_as_long_as_there_is_time(rt: HostRuntime) -> Result<(), Fail> {
+    let found = longest_schedule(rt.alloc())?;
     assert_eq!(rt;
-        numbers(alloc, &plan)?.as_slice(),
+        found.as_slice(),
         [0, HORIZON, HORIZON, -1, HORIZON, 0, -1, -1].as_slice()
     );
-    let numbers = chosen_cumuls(alloc, &line)?;
-    assert!(rt; numbers.is_some_and(|cumuls| cumuls.as_slice() == wanted.as_slice()));
+    Ok(())
+}
+
+// Whether its chosen cumuls are these.
+fn has_cumuls(alloc: Global, wanted: &[i64]) -> Result<bool, Fail> {
+    let line = longest_line(alloc)?;
+    let found = chosen_cumuls(alloc, &line)?;
+    Ok(found.is_some_and(|cumuls| cumuls.as_slice() == wanted))
+}
+
+#[test]
+fn cumuls_are_those_of_the_schedule(rt: HostRuntime) -> Result<(), Fail> {
+    assert!(rt; has_cumuls(rt.alloc(), &[0, HORIZON, HORIZON])?);
+    assert!(rt; !has_cumuls(rt.alloc(), &[0, HORIZON])?);
     Ok(())
 }

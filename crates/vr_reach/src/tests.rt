@@ -12,9 +12,9 @@ use std::alloc::Global;
 use std::marker::Brand;
 use std::sync::ledger::{Blank, Ledger};
 use std::test::Fail;
-use vr_model::{Seq, Steps};
+use vr_model::{NoMemory, Seq, Steps};
 use vr_spans::{Run, Spans};
-use vr_steps::{Breaks, Hop, Levels, Line};
+use vr_steps::{Breaks, Hop, Levels, Line, start_levels};
 
 // The set of these runs of cumuls.
 fn cumuls(alloc: Global, runs: &[Run]) -> Result<Spans, vr_spans::NoMemory>
@@ -90,29 +90,132 @@ fn rows_hold_what_is_reached(rt: HostRuntime) -> Result<(), Fail> {
     Ok(())
 }
 
-// Whether a line that starts in 0..=last and the line of the rows from the visit on have a schedule together: by a walk
-// that joins the rows, and by one that goes along a line to its end.
-fn walks<L: Ledger>(alloc: Global, last: i64, blank: Blank) -> Result<(bool, bool), Fail>
+// The rows of the line that starts in 0..=last.
+fn rows_from(alloc: Global, last: i64) -> Result<Rows, Fail>
+    requires { (pos 0 ≤ℤ last) × (last ≤ℤ pos 100) }
+    ensures ahead { IfOk result (λ rows. length rows.forward ≡ 3) }
+    ensures behind { IfOk result (λ rows. length rows.backward ≡ 3) }
+{
+    let line = line_from(alloc, last)?;
+    let rows = Rows::build(alloc, &line)?;
+    Ok(rows)
+}
+
+fn no_breaks() -> Breaks
+    ensures { result ≡ [] }
+{
+    Breaks {
+        rows: ArrayVec::new(),
+    }
+}
+
+// Whether a walk that begins at a start that allows `here`, and steps to a visit that allows `next`, joins the rows.
+fn steps_and_joins<L: Ledger>(
+    alloc: Global,
+    here: &Spans,
+    next: &Spans,
+    rows: &Rows,
+    blank: Blank,
+) -> Result<bool, NoMemory>
     requires name { blank.name ≡ L.name }
     requires parts { blank.parts ≡ L.parts }
     requires some { 0 < blank.parts }
-    requires last { (pos 0 ≤ℤ last) × (last ≤ℤ pos 100) }
+    requires here { IsCumuls here.now }
+    requires next { IsCumuls next.now }
+    requires behind { length rows.now.backward ≡ 3 }
 {
-    let known = line_from(alloc, 100)?;
-    let rows = Rows::build(alloc, &known)?;
-    let line = line_from(alloc, last)?;
+    let breaks = no_breaks();
     let mut steps = Steps::<L>::new(blank);
-    let mut walk = Walk::fresh(alloc, line.allowed.get(0), &line.breaks)?;
-    walk.step(arc(), line.allowed.get(1), &line.breaks, &mut steps)?;
-    let joins = walk.joins(&rows, 1, &mut steps);
-    Ok((joins, walk.goes_along(&line)?))
+    let mut walk = Walk::fresh(alloc, here, &breaks)?;
+    walk.step(arc(), next, &breaks, &mut steps)?;
+    let joins = walk.joins(rows, 1, &mut steps);
+    Ok(joins)
+}
+
+// The same where the walk leaves levels of a start that allows `here`.
+fn leaves_and_joins<L: Ledger>(
+    alloc: Global,
+    here: &Spans,
+    next: &Spans,
+    rows: &Rows,
+    blank: Blank,
+) -> Result<bool, NoMemory>
+    requires name { blank.name ≡ L.name }
+    requires parts { blank.parts ≡ L.parts }
+    requires some { 0 < blank.parts }
+    requires here { IsCumuls here.now }
+    requires next { IsCumuls next.now }
+    requires behind { length rows.now.backward ≡ 3 }
+{
+    let breaks = no_breaks();
+    let mut steps = Steps::<L>::new(blank);
+    let start = start_levels(alloc, here, &breaks)?;
+    let mut walk = Walk::new(alloc);
+    walk.leave(&start, arc(), next, &breaks, &mut steps)?;
+    let joins = walk.joins(rows, 1, &mut steps);
+    Ok(joins)
+}
+
+// Whether a walk that is opened at the visit joins the rows there.
+fn opens_and_joins<L: Ledger>(alloc: Global, rows: &Rows, blank: Blank) -> Result<bool, NoMemory>
+    requires name { blank.name ≡ L.name }
+    requires parts { blank.parts ≡ L.parts }
+    requires some { 0 < blank.parts }
+    requires ahead { length rows.now.forward ≡ 3 }
+    requires behind { length rows.now.backward ≡ 3 }
+{
+    let mut steps = Steps::<L>::new(blank);
+    let walk = Walk::open(alloc, rows, 1)?;
+    let joins = walk.joins(rows, 1, &mut steps);
+    Ok(joins)
+}
+
+// Whether walks from a start in 0..=last to a visit without 5..=8 join the rows: by steps, and by leaving levels.
+fn joined(alloc: Global, last: i64, rows: &Rows) -> Result<(bool, bool), Fail>
+    requires last { (pos 0 ≤ℤ last) × (last ≤ℤ pos 100) }
+    requires behind { length rows.now.backward ≡ 3 }
+{
+    let here = cumuls(alloc, &[Run { lo: 0, hi: last }])?;
+    let next = cumuls(alloc, &[Run { lo: 0, hi: 4 }, Run { lo: 9, hi: 100 }])?;
+    let steps = steps_and_joins::<Brand>(alloc, &here, &next, rows, Blank::new(1))?;
+    let leaves = leaves_and_joins::<Brand>(alloc, &here, &next, rows, Blank::new(1))?;
+    Ok((steps, leaves))
 }
 
 #[test]
-fn walks_join_rows_and_reach_ends(rt: HostRuntime) -> Result<(), Fail> {
-    let from_all = walks::<Brand>(rt.alloc(), 100, Blank::new(1))?;
-    assert_eq!(rt; from_all, (true, true));
-    let from_one = walks::<Brand>(rt.alloc(), 0, Blank::new(1))?;
-    assert_eq!(rt; from_one, (false, false));
+fn walks_join_rows(rt: HostRuntime) -> Result<(), Fail> {
+    let rows = rows_from(rt.alloc(), 100)?;
+    assert_eq!(rt; joined(rt.alloc(), 100, &rows)?, (true, true));
+    assert_eq!(rt; joined(rt.alloc(), 0, &rows)?, (false, false));
+    Ok(())
+}
+
+fn opened(alloc: Global, last: i64) -> Result<bool, Fail>
+    requires { (pos 0 ≤ℤ last) × (last ≤ℤ pos 100) }
+{
+    let rows = rows_from(alloc, last)?;
+    let joins = opens_and_joins::<Brand>(alloc, &rows, Blank::new(1))?;
+    Ok(joins)
+}
+
+#[test]
+fn walks_are_opened_at_rows(rt: HostRuntime) -> Result<(), Fail> {
+    assert_eq!(rt; opened(rt.alloc(), 100)?, true);
+    assert_eq!(rt; opened(rt.alloc(), 0)?, false);
+    Ok(())
+}
+
+fn goes(alloc: Global, last: i64) -> Result<bool, Fail>
+    requires { (pos 0 ≤ℤ last) × (last ≤ℤ pos 100) }
+{
+    let line = line_from(alloc, last)?;
+    let mut walk = Walk::new(alloc);
+    Ok(walk.goes_along(&line)?)
+}
+
+#[test]
+fn walks_go_along_lines(rt: HostRuntime) -> Result<(), Fail> {
+    assert_eq!(rt; goes(rt.alloc(), 100)?, true);
+    assert_eq!(rt; goes(rt.alloc(), 0)?, false);
     Ok(())
 }

@@ -5,8 +5,7 @@ ghost use Rattle.vr_model.specs.schedules.Lines.{Line as Defined};
 ghost use Rattle.vr_model.specs.schedules.Schedules.{IsFeasible};
 ghost use Rattle.vr_model.specs.tables.WellFormed.{IsBreak};
 ghost use Rattle.vr_spans.specs.Runs.{IsNormal};
-ghost use Rattle.vr_steps.specs.Arcs.{IsSoundHop};
-ghost use Rattle.vr_steps.specs.Levels.{IsCumuls, AreLevels, AreStartLevels, AreCrossed, forward_steps};
+ghost use Rattle.vr_steps.specs.Levels.{IsCrossing, IsCumuls, AreLevels, AreStartLevels, AreCrossed, forward_steps};
 ghost use Rattle.vr_steps.specs.Lines.{IsLineOf, IsSoundLine};
 ghost use Rattle.vr_reach.specs.Rows.{IsForwardRow, row_at};
 ghost use Rattle.vr_reach.specs.Walks.{EndsAt, Meets, runs_in};
@@ -111,11 +110,7 @@ impl Walk {
         breaks: &Breaks,
         steps: &mut Steps<L>,
     ) -> Result<(), NoMemory>
-        requires breaks { All IsBreak breaks.now }
-        requires few { length breaks.now ≤ 8 }
-        requires from { AreLevels breaks.now from.now }
-        requires hop { IsSoundHop hop }
-        requires next { IsCumuls next.now }
+        requires { IsCrossing from.now hop next.now breaks.now }
         ensures exact { OnOk result (AreCrossed from.now hop next.now breaks.now self.new) }
         ensures levels { OnOk result (AreLevels breaks.now self.new) }
         ensures count { OnOk result (steps.new ≡ steps.old + forward_steps from.now) }
@@ -136,11 +131,7 @@ impl Walk {
         breaks: &Breaks,
         steps: &mut Steps<L>,
     ) -> Result<(), NoMemory>
-        requires breaks { All IsBreak breaks.now }
-        requires few { length breaks.now ≤ 8 }
-        requires here { AreLevels breaks.now self.old }
-        requires hop { IsSoundHop hop }
-        requires next { IsCumuls next.now }
+        requires { IsCrossing self.old hop next.now breaks.now }
         ensures exact { OnOk result (AreCrossed self.old hop next.now breaks.now self.new) }
         ensures levels { OnOk result (AreLevels breaks.now self.new) }
         ensures count { OnOk result (steps.new ≡ steps.old + forward_steps self.old) }
@@ -180,7 +171,7 @@ impl Walk {
     }
 }
 
-/// Writes what is reached at the last stop of a line over `here`.
+// Writes what is reached at the last stop of a line over `here`.
 fn walk_along<L: Ledger>(
     line: &Line,
     here: &mut Levels,
@@ -213,7 +204,7 @@ fn walk_along<L: Ledger>(
     Ok(())
 }
 
-/// Counts a step for each run of levels.
+// Counts a step for each run of levels.
 fn count_runs<L: Ledger>(levels: &Levels, steps: &mut Steps<L>)
     ensures count { steps.new ≡ steps.old + runs_in levels.now }
     ensures normal { All IsNormal levels.now }
@@ -223,7 +214,7 @@ fn count_runs<L: Ledger>(levels: &Levels, steps: &mut Steps<L>)
     }
 }
 
-/// Counts a step for each run of a set.
+// Counts a step for each run of a set.
 fn count_set<L: Ledger>(set: &Spans, steps: &mut Steps<L>)
     ensures count { steps.new ≡ steps.old + length set.now }
     ensures normal { IsNormal set.now }

@@ -1,5 +1,5 @@
 -- Small lines, for tests.
-use Rattle.std.proofs.Common.{zero, suc, List, [], ◌∷◌, length, pos, ◌≤ℤ◌, inl, inr, refl, arith}
+use Rattle.std.proofs.Common.{◌≡◌, zero, suc, List, [], ◌∷◌, length, pos, ◌≤ℤ◌, inl, inr, refl, arith}
 use Rattle.std.specs.Prelude.{All, ◌≤◌}
 use Rattle.std.proofs.lemmas.Int.{ints}
 use Rattle.std.proofs.lemmas.Bool.{or_cases}
@@ -42,6 +42,7 @@ one_visit first second third hop rows a b c sound forward breaks few = record {
   arcs = omega arith;
   cumuls = three first second third a b c;
   each_hop = both IsSoundHop hop sound;
+  one_slack = both (λ h. h.slack ≡ hop.slack) hop refl;
   few_breaks = few;
   each_break = breaks;
   forward = λ some. both (λ h. pos 0 ≤ℤ h.transit) hop forward;

@@ -12,7 +12,7 @@ use Rattle.vr_steps.specs.declared.lines.Line.{Line as Made}
 use Rattle.vr_steps.specs.Arcs.{Leads, between}
 use Rattle.vr_steps.specs.Levels.{HasNumbers, IsCumuls, level_at, AreStartLevels, AreEndLevels, AreCrossed}
 use Rattle.vr_steps.specs.Levels.{AreCrossedBack}
-use Rattle.vr_steps.specs.Lines.{hop_of, IsLineOf, IsSoundLine}
+use Rattle.vr_steps.specs.Lines.{hop_of, defined_by, IsLineOf, IsSoundLine}
 
 -- arc k of a line
 abbrev pub hop_at : Line → ℕ → Hop
@@ -40,6 +40,10 @@ pub record StandsFor (defined : Line) (made : Made) : Type 0 where
   pub arcs : length defined.arcs ≡ length made.hops
   pub breaks : defined.breaks ≡ made.breaks
   pub sound : IsSound defined
+
+-- each sound line is that of a definition
+abbrev pub SoundLinesAreDefined : Type 0
+SoundLinesAreDefined = (made : Made) → IsSoundLine made → IsLineOf (defined_by made) made
 
 -- a sound line that is that of a definition stands for it at each place
 abbrev pub LinesStandForTheirs : Type 0

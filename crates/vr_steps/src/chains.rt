@@ -10,7 +10,7 @@ ghost use Rattle.vr_steps.specs.Fits.{IsEarliest, IsLatest};
 use vr_model::BreakRow;
 use vr_model::limits::HORIZON;
 
-/// No number that matters is above this one, and none is below its negative.
+// No number that matters is above this one, and none is below its negative.
 const FAR: i64 = 1 << 42;
 
 /// What breaks that are taken one after another come to.
@@ -25,7 +25,7 @@ pub struct Chain {
 }
 
 impl Chain {
-    /// What these breaks come to; `None` where they cannot be taken one after another.
+    // What these breaks come to; `None` where they cannot be taken one after another.
     pub(crate) fn of(rows: &[BreakRow]) -> Option<Chain>
         requires few { length rows.now ≤ 8 }
         requires rows { All IsBreak rows.now }
@@ -45,7 +45,7 @@ impl Chain {
         Some(chain)
     }
 
-    /// The breaks with one more in front; `None` where that one cannot begin in time.
+    // The breaks with one more in front; `None` where that one cannot begin in time.
     fn after(self, row: BreakRow) -> Option<Chain>
         requires row { IsBreak row }
         requires small { IsSmall self }
@@ -65,7 +65,7 @@ impl Chain {
     }
 }
 
-/// The first cumul before which the breaks can all be taken; `None` where there is none.
+// The first cumul before which the breaks can all be taken; `None` where there is none.
 pub(crate) fn earliest(rows: &[BreakRow]) -> Option<i64>
     requires few { length rows.now ≤ 8 }
     requires rows { All IsBreak rows.now }
@@ -80,7 +80,7 @@ pub(crate) fn earliest(rows: &[BreakRow]) -> Option<i64>
     Some(first)
 }
 
-/// The last cumul after which the breaks can all be taken; `None` where there is none.
+// The last cumul after which the breaks can all be taken; `None` where there is none.
 pub(crate) fn last(rows: &[BreakRow]) -> Option<i64>
     requires few { length rows.now ≤ 8 }
     requires rows { All IsBreak rows.now }

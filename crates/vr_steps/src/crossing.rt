@@ -1,10 +1,8 @@
 //! Crossing an arc, forwards and backwards.
 
 ghost use Rattle.std.specs.Prelude.{◌≡◌, ◌+◌, ◌*◌, ◌<◌, ◌≤◌, ℕ, suc, [], All, length, IfOk, OnOk};
-ghost use Rattle.vr_model.specs.tables.WellFormed.{IsBreak};
 ghost use Rattle.vr_spans.specs.Runs.{IsNormal};
-ghost use Rattle.vr_steps.specs.Arcs.{IsSoundHop};
-ghost use Rattle.vr_steps.specs.Levels.{IsCumuls, AreLevels, AreCrossed, AreCrossedBack, forward_steps, backward_steps};
+ghost use Rattle.vr_steps.specs.Levels.{IsCrossing, AreLevels, AreCrossed, AreCrossedBack, forward_steps, backward_steps};
 ghost use Rattle.vr_steps.specs.Levels.{level_at};
 ghost use Rattle.vr_steps.specs.Passages.{AreArrivals, AreDepartures};
 
@@ -28,11 +26,7 @@ pub fn cross<L: Ledger>(
     breaks: &Breaks,
     steps: &mut Steps<L>,
 ) -> Result<Levels, NoMemory>
-    requires breaks { All IsBreak breaks.now }
-    requires few { length breaks.now ≤ 8 }
-    requires from { AreLevels breaks.now from.now }
-    requires hop { IsSoundHop hop }
-    requires next { IsCumuls next.now }
+    requires { IsCrossing from.now hop next.now breaks.now }
     ensures exact { IfOk result (AreCrossed from.now hop next.now breaks.now) }
     ensures levels { IfOk result (AreLevels breaks.now) }
     ensures count { OnOk result (steps.new ≡ steps.old + forward_steps from.now) }
@@ -55,11 +49,7 @@ pub fn cross_into<L: Ledger>(
     steps: &mut Steps<L>,
     out: &mut Levels,
 ) -> Result<(), NoMemory>
-    requires breaks { All IsBreak breaks.now }
-    requires few { length breaks.now ≤ 8 }
-    requires from { AreLevels breaks.now from.now }
-    requires hop { IsSoundHop hop }
-    requires next { IsCumuls next.now }
+    requires { IsCrossing from.now hop next.now breaks.now }
     ensures exact { OnOk result (AreCrossed from.now hop next.now breaks.now out.new) }
     ensures levels { OnOk result (AreLevels breaks.now out.new) }
     ensures count { OnOk result (steps.new ≡ steps.old + forward_steps from.now) }
@@ -96,15 +86,13 @@ pub fn cross_back<L: Ledger>(
     breaks: &Breaks,
     steps: &mut Steps<L>,
 ) -> Result<Levels, NoMemory>
-    requires breaks { All IsBreak breaks.now }
-    requires few { length breaks.now ≤ 8 }
-    requires to { AreLevels breaks.now to.now }
-    requires hop { IsSoundHop hop }
-    requires here { IsCumuls here.now }
+    requires { IsCrossing to.now hop here.now breaks.now }
     ensures exact { IfOk result (AreCrossedBack to.now hop here.now breaks.now) }
     ensures levels { IfOk result (AreLevels breaks.now) }
     ensures count { OnOk result (steps.new ≡ steps.old + backward_steps to.now) }
     ensures at_most { steps.new ≤ steps.old + backward_steps to.now }
+    // so that the definitions count their runs too
+    ensures normal { All IsNormal to.now }
 {
     let mut out = Levels::new(alloc);
     cross_back_into(to, hop, here, breaks, steps, &mut out)?;
@@ -121,15 +109,13 @@ pub fn cross_back_into<L: Ledger>(
     steps: &mut Steps<L>,
     out: &mut Levels,
 ) -> Result<(), NoMemory>
-    requires breaks { All IsBreak breaks.now }
-    requires few { length breaks.now ≤ 8 }
-    requires to { AreLevels breaks.now to.now }
-    requires hop { IsSoundHop hop }
-    requires here { IsCumuls here.now }
+    requires { IsCrossing to.now hop here.now breaks.now }
     ensures exact { OnOk result (AreCrossedBack to.now hop here.now breaks.now out.new) }
     ensures levels { OnOk result (AreLevels breaks.now out.new) }
     ensures count { OnOk result (steps.new ≡ steps.old + backward_steps to.now) }
     ensures at_most { steps.new ≤ steps.old + backward_steps to.now }
+    // so that the definitions count their runs too
+    ensures normal { All IsNormal to.now }
 {
     if !breaks.rows.is_empty() {
         return cross_back_over(to, hop, here, breaks, steps, out);
@@ -147,7 +133,7 @@ pub fn cross_back_into<L: Ledger>(
     Ok(())
 }
 
-/// As `cross_into`, where there are breaks.
+// As `cross_into`, where there are breaks.
 #[cold]
 #[inline(never)]
 fn cross_over<L: Ledger>(
@@ -158,11 +144,7 @@ fn cross_over<L: Ledger>(
     steps: &mut Steps<L>,
     out: &mut Levels,
 ) -> Result<(), NoMemory>
-    requires breaks { All IsBreak breaks.now }
-    requires few { length breaks.now ≤ 8 }
-    requires from { AreLevels breaks.now from.now }
-    requires hop { IsSoundHop hop }
-    requires next { IsCumuls next.now }
+    requires { IsCrossing from.now hop next.now breaks.now }
     ensures exact { OnOk result (AreCrossed from.now hop next.now breaks.now out.new) }
     ensures levels { OnOk result (AreLevels breaks.now out.new) }
     ensures count { steps.new ≡ steps.old + forward_steps from.now }
@@ -183,7 +165,7 @@ fn cross_over<L: Ledger>(
     Ok(())
 }
 
-/// As `cross_back_into`, where there are breaks.
+// As `cross_back_into`, where there are breaks.
 #[cold]
 #[inline(never)]
 fn cross_back_over<L: Ledger>(
@@ -194,14 +176,11 @@ fn cross_back_over<L: Ledger>(
     steps: &mut Steps<L>,
     out: &mut Levels,
 ) -> Result<(), NoMemory>
-    requires breaks { All IsBreak breaks.now }
-    requires few { length breaks.now ≤ 8 }
-    requires to { AreLevels breaks.now to.now }
-    requires hop { IsSoundHop hop }
-    requires here { IsCumuls here.now }
+    requires { IsCrossing to.now hop here.now breaks.now }
     ensures exact { OnOk result (AreCrossedBack to.now hop here.now breaks.now out.new) }
     ensures levels { OnOk result (AreLevels breaks.now out.new) }
     ensures count { steps.new ≡ steps.old + backward_steps to.now }
+    ensures normal { All IsNormal to.now }
 {
     count_backward(to, steps);
     let rows = breaks.rows.as_slice();
@@ -218,7 +197,7 @@ fn cross_back_over<L: Ledger>(
     Ok(())
 }
 
-/// Writes the cumuls of `next` over `set` to which the arc leads with `b` breaks taken behind it.
+// Writes the cumuls of `next` over `set` to which the arc leads with `b` breaks taken behind it.
 fn write_arrivals(
     from: &Levels,
     hop: Hop,
@@ -229,11 +208,7 @@ fn write_arrivals(
     room: &mut Room,
 ) -> Result<(), vr_spans::NoMemory>
     requires taken { b ≤ length rows.now }
-    requires rows { All IsBreak rows.now }
-    requires few { length rows.now ≤ 8 }
-    requires from { AreLevels rows.now from.now }
-    requires hop { IsSoundHop hop }
-    requires next { IsCumuls next.now }
+    requires crossing { IsCrossing from.now hop next.now rows.now }
     ensures { OnOk result (AreArrivals from.now hop next.now rows.now 0 b set.new) }
 {
     from.level(b)
@@ -246,7 +221,7 @@ fn write_arrivals(
     Ok(())
 }
 
-/// Writes the cumuls of `here` over `set` from which the arc leads with `a` breaks taken before it.
+// Writes the cumuls of `here` over `set` from which the arc leads with `a` breaks taken before it.
 fn write_departures(
     to: &Levels,
     hop: Hop,
@@ -257,11 +232,7 @@ fn write_departures(
     room: &mut Room,
 ) -> Result<(), vr_spans::NoMemory>
     requires taken { a ≤ length rows.now }
-    requires rows { All IsBreak rows.now }
-    requires few { length rows.now ≤ 8 }
-    requires to { AreLevels rows.now to.now }
-    requires hop { IsSoundHop hop }
-    requires here { IsCumuls here.now }
+    requires crossing { IsCrossing to.now hop here.now rows.now }
     ensures { OnOk result (AreDepartures to.now hop here.now rows.now a (length rows.now) set.new) }
 {
     to.level(a)
@@ -274,7 +245,7 @@ fn write_departures(
     Ok(())
 }
 
-/// Writes the sets of one break taken and more over `sets`, behind an arc.
+// Writes the sets of one break taken and more over `sets`, behind an arc.
 fn write_further_arrivals(
     from: &Levels,
     hop: Hop,
@@ -283,11 +254,7 @@ fn write_further_arrivals(
     sets: &mut Vec<Spans>,
     room: &mut Room,
 ) -> Result<(), vr_spans::NoMemory>
-    requires rows { All IsBreak rows.now }
-    requires few { length rows.now ≤ 8 }
-    requires from { AreLevels rows.now from.now }
-    requires hop { IsSoundHop hop }
-    requires next { IsCumuls next.now }
+    requires crossing { IsCrossing from.now hop next.now rows.now }
     requires long { length sets.old.items ≡ length rows.now }
     ensures each { OnOk result ((k : ℕ) → k < length rows.now →
         AreArrivals from.now hop next.now rows.now 0 (suc k) (level_at sets.new.items k)) }
@@ -301,7 +268,7 @@ fn write_further_arrivals(
     Ok(())
 }
 
-/// Writes the sets of one break taken and more over `sets`, before an arc.
+// Writes the sets of one break taken and more over `sets`, before an arc.
 fn write_further_departures(
     to: &Levels,
     hop: Hop,
@@ -310,11 +277,7 @@ fn write_further_departures(
     sets: &mut Vec<Spans>,
     room: &mut Room,
 ) -> Result<(), vr_spans::NoMemory>
-    requires rows { All IsBreak rows.now }
-    requires few { length rows.now ≤ 8 }
-    requires to { AreLevels rows.now to.now }
-    requires hop { IsSoundHop hop }
-    requires here { IsCumuls here.now }
+    requires crossing { IsCrossing to.now hop here.now rows.now }
     requires long { length sets.old.items ≡ length rows.now }
     ensures each { OnOk result ((k : ℕ) → k < length rows.now →
         AreDepartures to.now hop here.now rows.now (suc k) (length rows.now) (level_at sets.new.items k)) }
@@ -328,7 +291,7 @@ fn write_further_departures(
     Ok(())
 }
 
-/// Takes the sets out of a list, which mostly has none.
+// Takes the sets out of a list, which mostly has none.
 #[inline]
 fn empty(sets: &mut Vec<Spans>)
     ensures { sets.new.items ≡ [] }
@@ -338,7 +301,7 @@ fn empty(sets: &mut Vec<Spans>)
     }
 }
 
-/// Takes the sets out of a list that has some.
+// Takes the sets out of a list that has some.
 #[cold]
 #[inline(never)]
 fn drop_all(sets: &mut Vec<Spans>)
@@ -347,7 +310,7 @@ fn drop_all(sets: &mut Vec<Spans>)
     sets.clear();
 }
 
-/// Counts a step for each run of a set.
+// Counts a step for each run of a set.
 #[inline]
 fn count_runs<L: Ledger>(set: &Spans, steps: &mut Steps<L>)
     ensures count { steps.new ≡ steps.old + length set.now }
@@ -358,7 +321,7 @@ fn count_runs<L: Ledger>(set: &Spans, steps: &mut Steps<L>)
     }
 }
 
-/// Counts the steps of crossing from levels.
+// Counts the steps of crossing from levels.
 fn count_forward<L: Ledger>(from: &Levels, steps: &mut Steps<L>)
     ensures count { steps.new ≡ steps.old + forward_steps from.now }
     ensures normal { All IsNormal from.now }
@@ -370,9 +333,10 @@ fn count_forward<L: Ledger>(from: &Levels, steps: &mut Steps<L>)
     }
 }
 
-/// Counts the steps of crossing back to levels.
+// Counts the steps of crossing back to levels.
 fn count_backward<L: Ledger>(to: &Levels, steps: &mut Steps<L>)
-    ensures { steps.new ≡ steps.old + backward_steps to.now }
+    ensures count { steps.new ≡ steps.old + backward_steps to.now }
+    ensures normal { All IsNormal to.now }
 {
     let further = to.more.as_slice();
     count_times(&to.first, 1, steps);
@@ -381,7 +345,7 @@ fn count_backward<L: Ledger>(to: &Levels, steps: &mut Steps<L>)
     }
 }
 
-/// Counts some steps for each run of a set.
+// Counts some steps for each run of a set.
 fn count_times<L: Ledger>(set: &Spans, times: usize, steps: &mut Steps<L>)
     ensures count { steps.new ≡ steps.old + length set.now * times }
     ensures normal { IsNormal set.now }

@@ -100,7 +100,7 @@ pub fn can_end(levels: &Levels, breaks: &Breaks) -> bool
     false
 }
 
-/// Whether these breaks can all be taken after some cumul of a set.
+// Whether these breaks can all be taken after some cumul of a set.
 fn fit_behind(set: &Spans, rows: &[BreakRow]) -> bool
     requires rows { All IsBreak rows.now }
     requires few { length rows.now ≤ 8 }
@@ -119,7 +119,7 @@ fn fit_behind(set: &Spans, rows: &[BreakRow]) -> bool
     false
 }
 
-/// Writes the sets of one break taken and more over `sets`, at a start.
+// Writes the sets of one break taken and more over `sets`, at a start.
 fn write_starts(
     allowed: &Spans,
     rows: &[BreakRow],
@@ -141,7 +141,7 @@ fn write_starts(
     Ok(())
 }
 
-/// Writes the sets of one break taken and more over `sets`, at an end.
+// Writes the sets of one break taken and more over `sets`, at an end.
 fn write_ends(
     allowed: &Spans,
     rows: &[BreakRow],
@@ -163,7 +163,7 @@ fn write_ends(
     Ok(())
 }
 
-/// Writes the allowed cumuls before which these breaks fit over `set`.
+// Writes the allowed cumuls before which these breaks fit over `set`.
 fn write_before(
     allowed: &Spans,
     rows: &[BreakRow],
@@ -187,7 +187,7 @@ fn write_before(
     )
 }
 
-/// Writes the allowed cumuls after which these breaks fit over `set`.
+// Writes the allowed cumuls after which these breaks fit over `set`.
 fn write_after(
     allowed: &Spans,
     rows: &[BreakRow],

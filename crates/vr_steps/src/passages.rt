@@ -27,8 +27,8 @@ pub struct Passage {
 }
 
 impl Passage {
-    /// The passage over these breaks, of which there is one at least; `None` where the arc leads nowhere with them
-    /// inside.
+    // The passage over these breaks, of which there is one at least; `None` where the arc leads nowhere with them
+    // inside.
     pub(crate) fn of(hop: Hop, rows: &[BreakRow]) -> Option<Passage>
         requires some { 0 < length rows.now }
         requires few { length rows.now ≤ 8 }
@@ -41,7 +41,7 @@ impl Passage {
         Passage::over(hop, chain)
     }
 
-    /// The passage over the breaks of a chain.
+    // The passage over the breaks of a chain.
     fn over(hop: Hop, chain: Chain) -> Option<Passage>
         requires hop { IsSoundHop hop }
         requires small { IsSmall chain }
@@ -68,7 +68,7 @@ impl Passage {
     }
 }
 
-/// Sets that are written over while an arc with breaks is crossed.
+// Sets that are written over while an arc with breaks is crossed.
 #[derive(Drop)]
 pub(crate) struct Room {
     left: Spans,
@@ -78,7 +78,7 @@ pub(crate) struct Room {
 }
 
 impl Room {
-    /// Empty sets, with the allocator of this one. They take no memory.
+    // Empty sets, with the allocator of this one. They take no memory.
     pub(crate) fn beside(set: &Spans) -> Room {
         Room {
             left: set.fresh(),
@@ -88,7 +88,7 @@ impl Room {
         }
     }
 
-    /// Adds those cumuls of `next` to `set` to which the arc leads from `from` with these breaks inside.
+    // Adds those cumuls of `next` to `set` to which the arc leads from `from` with these breaks inside.
     pub(crate) fn add_arrivals(
         &mut self,
         from: &Spans,
@@ -106,6 +106,7 @@ impl Room {
         ensures { OnOk result ((x : ℤ) →
             IsTrue (has set.new x) ↔ (IsTrue (has set.old x) ⊎ ArrivesAt from.now hop rows.now next.now x)) }
     {
+        // the room is as it was where the arc leads nowhere
         let _ = &self.left;
         let Some(passage) = Passage::of(hop, rows) else {
             return Ok(());
@@ -123,7 +124,7 @@ impl Room {
         Ok(())
     }
 
-    /// Adds those cumuls of `here` to `set` from which the arc leads to `to` with these breaks inside.
+    // Adds those cumuls of `here` to `set` from which the arc leads to `to` with these breaks inside.
     pub(crate) fn add_departures(
         &mut self,
         to: &Spans,
@@ -141,6 +142,7 @@ impl Room {
         ensures { OnOk result ((y : ℤ) →
             IsTrue (has set.new y) ↔ (IsTrue (has set.old y) ⊎ DepartsAt to.now hop rows.now here.now y)) }
     {
+        // the room is as it was where the arc leads nowhere
         let _ = &self.left;
         let Some(passage) = Passage::of(hop, rows) else {
             return Ok(());
@@ -159,14 +161,14 @@ impl Room {
     }
 }
 
-/// The cumuls up to one of them.
+// The cumuls up to one of them.
 fn upto(last: i64) -> Run
     ensures { result ≡ record { lo = pos 0; hi = last } }
 {
     Run { lo: 0, hi: last }
 }
 
-/// The cumuls from one of them on.
+// The cumuls from one of them on.
 fn onward(first: i64) -> Run
     ensures { result ≡ record { lo = first; hi = horizon } }
 {

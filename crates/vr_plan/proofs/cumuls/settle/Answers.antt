@@ -3,6 +3,7 @@ use Rattle.std.proofs.lemmas.Int.{ints}
 use Rattle.vr_reach.specs.Shared.{IsLeastShared}
 use Rattle.vr_steps.specs.Arcs.{IsSoundHop}
 use Rattle.vr_steps.specs.Levels.{IsCumuls}
+use Rattle.vr_steps.proofs.LineLemmas.{crossing_of}
 use Rattle.vr_model.specs.tables.Numbers.{horizon}
 use Rattle.vr_model.specs.tables.WellFormed.{IsIn}
 use Rattle.vr_plan.proofs.PinLemmas.{unfeasible_behind, settled_behind, chosen_where_settled, shared_range}
@@ -16,8 +17,17 @@ returns-in_default-clause-stops g c = λ stops.
 pub keep-requires-clause-allowed : goal.keep-requires-clause-allowed
 keep-requires-clause-allowed g c = subst IsCumuls (c.get-allowed.ensures.value c.get-allowed.result.now) (c.requires.sound.cumuls (c.loop-k.k + 1) c.get-allowed.result.now (omega (arith, c.requires.sound.stops)))
 
-pub cross_into-requires-in-loop-k-clause-hop : goal.cross_into-requires-in-loop-k-clause-hop
-cross_into-requires-in-loop-k-clause-hop g c = subst IsSoundHop (c.get-hop.ensures.value c.get-hop.result.now) (c.requires.sound.each_hop c.loop-k.k c.get-hop.result.now (omega arith))
+pub cross_into-requires : goal.cross_into-requires
+cross_into-requires g c = crossing_of c.args.line.now c.requires.sound c.loop-k.k (c.loop-k.k + 1) (omega arith) (omega (arith, c.requires.sound.stops)) c.loop-k.here c.loop-k.invariant.levels c.get-hop.result.now (c.get-hop.ensures.value c.get-hop.result.now) c.get-allowed.result.now (c.get-allowed.ensures.value c.get-allowed.result.now)
+
+pub cross_into-requires-in-loop-k : goal.cross_into-requires-in-loop-k
+cross_into-requires-in-loop-k g c = record {
+  each_break = c.requires.sound.each_break;
+  few_breaks = c.requires.sound.few_breaks;
+  form = c.loop-k.invariant.levels;
+  arc = subst IsSoundHop (c.get-hop.ensures.value c.get-hop.result.now) (c.requires.sound.each_hop c.loop-k.k c.get-hop.result.now (omega arith));
+  cumuls = c.in_ok-keep.ensures.cumuls;
+}
 
 pub loop-k-preserved : goal.loop-k-preserved
 loop-k-preserved g c =
