@@ -144,6 +144,14 @@ impl Walk {
         Ok(())
     }
 
+    /// Writes the levels at which the walk stands over `levels`. Afterwards nothing is said of where it stands. It takes
+    /// no memory.
+    pub fn hand_over(&mut self, levels: &mut Levels)
+        ensures { levels.new ≡ self.old }
+    {
+        mem::swap(&mut self.here, levels);
+    }
+
     /// Whether the line on which the walk stands has a schedule, where from this stop on it is the line of the rows
     /// from `stop` on. It takes no memory, and counts a step for each run of both levels.
     pub fn joins<L: Ledger>(&self, rows: &Rows, stop: usize, steps: &mut Steps<L>) -> bool
