@@ -74,7 +74,7 @@ impl<'a> Family for Targets<'a> {
 #[derive(Drop)]
 struct Nodes<'a> {
     routes: &'a Routes,
-    idle: &'a [u32],
+    nodes: &'a [u32],
     vehicles: u32,
 }
 
@@ -83,18 +83,18 @@ impl<'a> Family for Nodes<'a> {
 
     ghost is_sound = { λ s. s.vehicles ≡ length s.routes.now.lists };
 
-    ghost count = { λ s. length s.idle.now };
+    ghost count = { λ s. length s.nodes.now };
 
     ghost passes = { λ s k. true };
 
     ghost moves = { λ s k. each (vehicles s.routes.now.lists) λ w.
-        map (MakeActive (slice_index s.idle.now k) w) (gaps (route s.routes.now.lists w)) };
+        map (MakeActive (slice_index s.nodes.now k) w) (gaps (route s.routes.now.lists w)) };
 
     #[inline]
     fn open(&self, k: u32) -> Option<Each<Targets<'a>>> {
         let targets = Targets {
             routes: self.routes,
-            u: self.idle[k as usize],
+            u: self.nodes[k as usize],
         };
         Some(Each::new(targets, 0, self.vehicles))
     }
@@ -137,16 +137,16 @@ pub fn make_active<'a>(routes: &'a Routes) -> MakeActiveMoves<'a>
         → result ≡ moves_in model routes.now.lists MakeActiveKind }
 {
     let vehicles = routes.vehicles();
-    let idle = routes.inactive();
+    let nodes = routes.inactive();
     MakeActiveMoves {
         left: Each::new(
             Nodes {
                 routes,
-                idle,
+                nodes,
                 vehicles,
             },
             0,
-            idle.len() as u32,
+            nodes.len() as u32,
         ),
     }
 }

@@ -20,17 +20,17 @@ use vr_routes::nests::{Each, Family, Listed, Numbered, Run};
 struct Newcomers<'a> {
     v: u32,
     a: u32,
-    idle: &'a [u32],
+    nodes: &'a [u32],
 }
 
 impl<'a> Numbered for Newcomers<'a> {
     ghost is_sound = { λ s. ⊤ };
 
-    ghost count = { λ s. length s.idle.now };
+    ghost count = { λ s. length s.nodes.now };
 
     ghost passes = { λ s k. true };
 
-    ghost move_at = { λ s k. SwapActive s.v s.a (slice_index s.idle.now k) };
+    ghost move_at = { λ s k. SwapActive s.v s.a (slice_index s.nodes.now k) };
 
     #[inline]
     fn has(&self, _k: u32) -> bool {
@@ -42,7 +42,7 @@ impl<'a> Numbered for Newcomers<'a> {
         Move::SwapActive {
             v: self.v,
             a: self.a,
-            u: self.idle[k as usize],
+            u: self.nodes[k as usize],
         }
     }
 }
@@ -51,28 +51,28 @@ impl<'a> Numbered for Newcomers<'a> {
 #[derive(Drop)]
 struct Places<'a> {
     v: u32,
-    idle: &'a [u32],
+    nodes: &'a [u32],
 }
 
 impl<'a> Family for Places<'a> {
     type Inner = Run<Newcomers<'a>>;
 
-    ghost is_sound = { λ s. length s.idle.now ≤ 1000 };
+    ghost is_sound = { λ s. length s.nodes.now ≤ 1000 };
 
     ghost count = { λ s. 4294967296 };
 
     ghost passes = { λ s k. true };
 
-    ghost moves = { λ s k. map (SwapActive s.v k) s.idle.now };
+    ghost moves = { λ s k. map (SwapActive s.v k) s.nodes.now };
 
     #[inline]
     fn open(&self, k: u32) -> Option<Run<Newcomers<'a>>> {
         let newcomers = Newcomers {
             v: self.v,
             a: k,
-            idle: self.idle,
+            nodes: self.nodes,
         };
-        Some(Run::new(newcomers, 0, self.idle.len() as u32))
+        Some(Run::new(newcomers, 0, self.nodes.len() as u32))
     }
 }
 
@@ -80,25 +80,25 @@ impl<'a> Family for Places<'a> {
 #[derive(Drop)]
 struct Vehicles<'a> {
     routes: &'a Routes,
-    idle: &'a [u32],
+    nodes: &'a [u32],
 }
 
 impl<'a> Family for Vehicles<'a> {
     type Inner = Each<Places<'a>>;
 
-    ghost is_sound = { λ s. length s.idle.now ≤ 1000 };
+    ghost is_sound = { λ s. length s.nodes.now ≤ 1000 };
 
     ghost count = { λ s. length s.routes.now.lists };
 
     ghost passes = { λ s k. true };
 
-    ghost moves = { λ s k. each (places (route s.routes.now.lists k)) λ a. map (SwapActive k a) s.idle.now };
+    ghost moves = { λ s k. each (places (route s.routes.now.lists k)) λ a. map (SwapActive k a) s.nodes.now };
 
     #[inline]
     fn open(&self, k: u32) -> Option<Each<Places<'a>>> {
         let places = Places {
             v: k,
-            idle: self.idle,
+            nodes: self.nodes,
         };
         Some(Each::new(places, 0, self.routes.len(k)))
     }
@@ -142,8 +142,8 @@ pub fn swap_active<'a>(routes: &'a Routes) -> SwapActiveMoves<'a>
         → result ≡ moves_in model routes.now.lists SwapActiveKind }
 {
     let vehicles = routes.vehicles();
-    let idle = routes.inactive();
+    let nodes = routes.inactive();
     SwapActiveMoves {
-        left: Each::new(Vehicles { routes, idle }, 0, vehicles),
+        left: Each::new(Vehicles { routes, nodes }, 0, vehicles),
     }
 }

@@ -8,8 +8,9 @@ use Rattle.vr_routes.specs.Pieces.{ListAfter, joined, with_parts, changed}
 use Rattle.vr_routes.specs.Tours.{Tours}
 use Rattle.vr_routes.specs.Changes.{IsMadeOn}
 use Rattle.vr_routes.proofs.SeatLemmas.{seat_of_active, active_at}
-use Rattle.vr_routes.proofs.OnceLemmas.{times_in, few_times, once_of_times, times_of_seat, one_seat_of}
-use Rattle.vr_routes.proofs.CountLemmas.{kept}
+use Rattle.vr_model.proofs.moves.Times.{times_in}
+use Rattle.vr_routes.proofs.OnceLemmas.{few_times, once_of_times, times_of_seat, one_seat_of}
+use Rattle.vr_model.proofs.moves.Kept.{kept}
 use Rattle.vr_routes.proofs.TourLemmas.{visit_held}
 
 length_with_parts : (old : List (List ℕ)) (parts : List ListAfter) (lists : List (List ℕ)) → length (with_parts old parts lists) ≡ length lists

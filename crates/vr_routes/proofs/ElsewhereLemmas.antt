@@ -16,7 +16,8 @@ use Rattle.vr_model.specs.declared.records.Pair.{Pair}
 use Rattle.vr_routes.specs.Seats.{IsSeat, IsOnce}
 use Rattle.vr_routes.specs.Pairs.{are_together, are_in_order, ArePlaces, IsGap, without_two, is_elsewhere}
 use Rattle.vr_routes.proofs.TourLemmas.{set_twice}
-use Rattle.vr_routes.proofs.OnceLemmas.{times, times_set, few_times, at_least_one}
+use Rattle.vr_model.proofs.moves.Times.{times, times_set, at_least_one}
+use Rattle.vr_routes.proofs.OnceLemmas.{few_times}
 use Rattle.vr_routes.proofs.PairLemmas.{together_at}
 use Rattle.vr_routes.proofs.WithoutLemmas.{nothing_out, pickup_first, row_times, split_at_two, pair_out}
 use Rattle.vr_routes.proofs.RestLemmas.{two_fewer}

@@ -56,9 +56,10 @@ module _ (model : Model) (lists : List (List ℕ)) where
     pub apart : v ≢ w
     pub gap : a ≤ length (route lists v)
     pub other_gap : b ≤ length (route lists w)
+    pub some : a ≡ 0 → b ≡ 0 → ⊥
 
   pub of_cross : (v a w b : ℕ) → is_move model lists (Cross v a w b) ≡ true → CrossFacts v a w b
-  of_cross v a w b h = record { vehicle = Prim.grind arith; other = Prim.grind arith; apart = λ e. Prim.grind arith; gap = Prim.grind arith; other_gap = Prim.grind arith }
+  of_cross v a w b h = record { vehicle = Prim.grind arith; other = Prim.grind arith; apart = λ e. Prim.grind arith; gap = Prim.grind arith; other_gap = Prim.grind arith; some = λ e f. Prim.grind arith }
 
   pub record PlaceFacts (v a : ℕ) : Type 0 where
     pub vehicle : v < length lists

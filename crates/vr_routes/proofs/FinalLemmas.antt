@@ -1,16 +1,17 @@
 -- Lists in which no node stands twice, and single lists of them.
-use Rattle.std.proofs.Common.{◌≡◌, ◌≢◌, ◌∙◌, ℕ, zero, suc, ◌<◌, ◌≤◌, List, [], ◌∷◌, length, refl, sym, ap, subst, arith, true}
+use Rattle.std.proofs.Common.{◌≡◌, ◌≢◌, ◌∙◌, ℕ, zero, suc, ◌<◌, ◌≤◌, List, [], ◌∷◌, length, length-set, refl, sym, ap, subst, arith, true}
 use Rattle.std.specs.Prelude.{All, slice_index, slice_index_or, slice_set}
 use Rattle.std.proofs.lemmas.Bool.Decides.{Decides-eqb}
 use Rattle.std.proofs.lemmas.List.{get_or_default}
 use Rattle.std.proofs.lemmas.Map.Made.{IsDistinct-from_AllPairs}
 use Rattle.std.proofs.lemmas.Map.Steps.{length-le_from_distinct_below}
-use Rattle.vr_model.proofs.routes.Lists.{place_of_held}
+use Rattle.vr_model.proofs.routes.Lists.{place_of_held, route_set_other, route_set_same}
 use Rattle.vr_model.specs.routes.Routes.{route, holds}
 use Rattle.vr_routes.specs.Seats.{IsSeat, IsOnce, HaveNodes}
 use Rattle.vr_routes.proofs.SeatLemmas.{active_at}
 use Rattle.vr_routes.proofs.TourLemmas.{set_twice}
-use Rattle.vr_routes.proofs.OnceLemmas.{times_set, few_times, once_of_times}
+use Rattle.vr_model.proofs.moves.Times.{times_set}
+use Rattle.vr_routes.proofs.OnceLemmas.{few_times, once_of_times}
 
 module _ (n : ℕ) (lists : List (List ℕ)) (once : IsOnce lists) (have : HaveNodes n lists) (v : ℕ) (low : v < length lists) (list : List ℕ) (same : route lists v ≡ list) where
   seat : (k : ℕ) → k < length list → IsSeat lists (slice_index list k) v k
@@ -51,3 +52,27 @@ emptied lists v w nodes others apart = set_twice (slice_set lists v nodes) w oth
 
 pub written_in_turn : (lists : List (List ℕ)) (v w : ℕ) (nodes others : List ℕ) → v ≢ w → slice_set (slice_set (slice_set lists w []) v nodes) w others ≡ slice_set (slice_set lists v nodes) w others
 written_in_turn lists v w nodes others apart = ap (λ l. slice_set l w others) (sym (set_commute lists v w nodes [] apart)) ∙ set_twice (slice_set lists v nodes) w [] others
+
+-- two lists that take the place of others have room, and their nodes are few
+pub record AreSet (n : ℕ) (list more : List ℕ) : Type 0 where
+  pub first_fits : length list ≤ n
+  pub second_fits : length more ≤ n
+  pub first_below : All (λ node. node < n) list
+  pub second_below : All (λ node. node < n) more
+
+pub two_set : (n : ℕ) (lists : List (List ℕ)) (v w : ℕ) (list more : List ℕ) → v < length lists → w < length lists → v ≢ w
+    → IsOnce (slice_set (slice_set lists v list) w more) → HaveNodes n (slice_set (slice_set lists v list) w more) → AreSet n list more
+two_set n lists v w list more low low_w apart once have =
+    let half : List (List ℕ) = slice_set lists v list in
+    let final : List (List ℕ) = slice_set half w more in
+    let there : v < length final = omega (arith, low, length-set lists v list, length-set half w more) in
+    let low_half : w < length half = omega (arith, low_w, length-set lists v list) in
+    let there_w : w < length final = omega (arith, low_half, length-set half w more) in
+    let row : route final v ≡ list = route_set_other half w v more apart ∙ route_set_same lists v list low in
+    let row_w : route final w ≡ more = route_set_same half w more low_half in
+    record {
+      first_fits = list_fits n final once have v there list row;
+      second_fits = list_fits n final once have w there_w more row_w;
+      first_below = list_below n final once have v there list row;
+      second_below = list_below n final once have w there_w more row_w;
+    }

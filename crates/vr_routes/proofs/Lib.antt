@@ -4,9 +4,9 @@ pub mod PieceLemmas
 pub mod ChangeLemmas
 pub mod NestLemmas
 pub mod OnceLemmas
-pub mod CountLemmas
 pub mod FinalLemmas
 pub mod CommitLemmas
+pub mod DifferLemmas
 pub mod PairLemmas
 pub mod FactLemmas
 pub mod WithoutLemmas
@@ -14,5 +14,5 @@ pub mod ListsLemmas
 pub mod ElsewhereLemmas
 pub mod RestLemmas
 pub mod PartLemmas
-pub mod IdleLemmas
+pub mod InactiveLemmas
 pub mod SampleLemmas

@@ -15,52 +15,10 @@ use Rattle.vr_model.specs.declared.records.Model.{Model}
 use Rattle.vr_routes.specs.Seats.{IsSeat, IsOnce}
 use Rattle.vr_routes.specs.Tours.{HaveVisits}
 use Rattle.vr_routes.proofs.SeatLemmas.{seat_of_active, active_at}
-use Rattle.vr_routes.proofs.OnceLemmas.{times, times_in, times_append, here_or_later, one_place, at_least_one, few_times, once_of_times, next_inactive, times_of_seat, one_seat_of}
+use Rattle.vr_model.proofs.moves.Times.{times, times_in, times_append, here_or_later, one_place, at_least_one, joined_times, held_times, times_held, distinct_of_times, times_of_distinct, all_held, all_of_held}
+use Rattle.vr_routes.proofs.OnceLemmas.{few_times, once_of_times, next_inactive, times_of_seat, one_seat_of}
 
 -- ---- lists joined
-
-joined_times : (x : ℕ) (lists : List (List ℕ)) → times x (concat lists) ≡ times_in x lists
-joined_times x [] = refl
-joined_times x (l ∷ ls) = let a = times_append x l (concat ls) in let r = joined_times x ls in omega (arith, a, r)
-
-held_times : (x : ℕ) (xs : List ℕ) → IsTrue (holds xs x) → 1 ≤ times x xs
-held_times x xs h = let p = place_of_held xs x h in at_least_one x xs p.0 p.1 p.2
-
-times_held : (x : ℕ) (xs : List ℕ) → 1 ≤ times x xs → IsTrue (holds xs x)
-times_held x xs h = let p = one_place x xs h in held_at xs x p.0 p.1 p.2
-
--- no number stands twice where each stands once at most
-distinct_of_times : (xs : List ℕ) → ((x : ℕ) → times x xs ≤ 1) → IsTrue (is_distinct xs)
-distinct_of_times [] few = refl
-distinct_of_times (y ∷ ys) few = and_both (not (holds ys y)) _ (ap not (fails (holds ys y) (λ h.
-    let later = held_times y ys h in
-    let here = at_least_one y (y ∷ []) 0 (omega arith) refl in
-    let all = few y in
-    omega (arith, later, here, all)))) (distinct_of_times ys (λ x. let all = few x in omega (arith, all)))
-
-times_of_distinct : (xs : List ℕ) → IsTrue (is_distinct xs) → (x : ℕ) → times x xs ≤ 1
-times_of_distinct [] h x = omega arith
-times_of_distinct (y ∷ ys) h x =
-    let rest = times_of_distinct ys (and_right (not (holds ys y)) _ h) x in
-    elim (here_or_later x y) [
-      | inl same ↦ elim (cases_lt 0 (times x ys)) [
-        | inl some ↦ absurd (clash (holds ys y) (subst (λ z. IsTrue (holds ys z)) same.0 (times_held x ys some)) (fails_not (holds ys y) (and_left (not (holds ys y)) _ h)))
-        | inr free ↦ (let one = same.1 in omega (arith, one, free))
-      ]
-      | inr other ↦ omega (arith, rest, other)
-    ]
-
--- a test that all numbers of a list pass
-all_held : (p : ℕ → Bool) (xs : List ℕ) → IsTrue (list_all p xs) → (x : ℕ) → IsTrue (holds xs x) → IsTrue (p x)
-all_held p [] h x held = absurd (clash false held refl)
-all_held p (y ∷ ys) h x held = elim (or_cases (x == y) _ held) [
-  | inl here ↦ subst (λ z. IsTrue (p z)) (sym (eq_of_test x y here)) (and_left (p y) _ h)
-  | inr later ↦ all_held p ys (and_right (p y) _ h) x later
-]
-
-all_of_held : (p : ℕ → Bool) (xs : List ℕ) → ((x : ℕ) → IsTrue (holds xs x) → IsTrue (p x)) → IsTrue (list_all p xs)
-all_of_held p [] each = refl
-all_of_held p (y ∷ ys) each = and_both (p y) _ (each y (or_left (y == y) _ (test_of_eq y y refl))) (all_of_held p ys (λ x held. each x (or_right (x == y) _ held)))
 
 active_joined : (lists : List (List ℕ)) (x : ℕ) → IsTrue (is_active lists x) → IsTrue (holds (concat lists) x)
 active_joined lists x active =

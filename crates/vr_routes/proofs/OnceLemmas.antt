@@ -8,60 +8,10 @@ use Rattle.std.proofs.lemmas.Grind.{take_at_read}
 use Rattle.vr_model.proofs.routes.Lists.{route_set_other, route_set_same}
 use Rattle.vr_model.proofs.tables.Tests.{clash, fails}
 use Rattle.vr_model.specs.routes.Routes.{route, is_active}
+use Rattle.vr_model.proofs.moves.Times.{times, times_in, times_append, times_split, times_set, one_place, two_places, at_least_one, at_least_two}
 use Rattle.vr_routes.specs.Seats.{IsSeat, IsOnce}
 use Rattle.vr_routes.proofs.SeatLemmas.{seat_of_active, active_at}
 use Rattle.vr_routes.proofs.TourLemmas.{set_twice}
-
-abbrev pub hit : ℕ → ℕ → ℕ
-hit x y = cond (x == y) 1 0
-
-abbrev pub times : ℕ → List ℕ → ℕ
-times x [] = 0
-times x (y ∷ ys) = hit x y + times x ys
-
-abbrev pub times_in : ℕ → List (List ℕ) → ℕ
-times_in x [] = 0
-times_in x (l ∷ ls) = times x l + times_in x ls
-
-pub times_append : (x : ℕ) (xs ys : List ℕ) → times x (xs ++ ys) ≡ times x xs + times x ys
-times_append x [] ys = omega arith
-times_append x (z ∷ zs) ys = let r = times_append x zs ys in omega (arith, r)
-
-pub times_split : (x k : ℕ) (xs : List ℕ) → times x (take k xs) + times x (drop k xs) ≡ times x xs
-times_split x k xs = sym (times_append x (take k xs) (drop k xs)) ∙ ap (times x) (take-append-drop k xs)
-
-pub times_reverse : (x : ℕ) (xs : List ℕ) → times x (reverse xs) ≡ times x xs
-times_reverse x [] = refl
-times_reverse x (y ∷ ys) =
-    let r = times_reverse x ys in
-    let a = times_append x (reverse ys) (y ∷ []) in
-    let e : times x (reverse (y ∷ ys)) ≡ times x (reverse ys ++ y ∷ []) = ap (times x) (reverse-append (y ∷ []) ys) in
-    omega (arith, r, a, e)
-
-pub times_set : (x : ℕ) (lists : List (List ℕ)) (v : ℕ) (list : List ℕ) → v < length lists → times_in x (slice_set lists v list) + times x (route lists v) ≡ times_in x lists + times x list
-times_set x [] v list low = absurd (omega (arith, low))
-times_set x (l ∷ ls) zero list low = omega arith
-times_set x (l ∷ ls) (suc v) list low = let r = times_set x ls v list (omega (arith, low)) in omega (arith, r)
-
-pub here_or_later : (x y : ℕ) → ((x ≡ y) × (hit x y ≡ 1)) ⊎ (hit x y ≡ 0)
-here_or_later x y = elim (eqb_tells x y) [
-  | inl same ↦ inl (same.1, ap (λ t. cond t 1 0) same.0)
-  | inr other ↦ inr (ap (λ t. cond t 1 0) other.0)
-]
-
-pub one_place : (x : ℕ) (xs : List ℕ) → 1 ≤ times x xs → (k : ℕ) × (k < length xs) × (slice_index xs k ≡ x)
-one_place x [] h = absurd (omega (arith, h))
-one_place x (y ∷ ys) h = elim (here_or_later x y) [
-  | inl here ↦ (0, omega arith, sym here.0)
-  | inr later ↦ (let r = one_place x ys (omega (arith, h, later)) in (suc r.0, (let low = r.1 in omega (arith, low)), r.2))
-]
-
-pub two_places : (x : ℕ) (xs : List ℕ) → 2 ≤ times x xs → (j : ℕ) × (k : ℕ) × (j < k) × (k < length xs) × (slice_index xs j ≡ x) × (slice_index xs k ≡ x)
-two_places x [] h = absurd (omega (arith, h))
-two_places x (y ∷ ys) h = elim (here_or_later x y) [
-  | inl here ↦ (let e = here.1 in let r = one_place x ys (omega (arith, h, e)) in (0, suc r.0, omega arith, (let low = r.1 in omega (arith, low)), sym here.0, r.2))
-  | inr later ↦ (let r = two_places x ys (omega (arith, h, later)) in (suc r.0, suc r.1, (let low = r.2 in omega (arith, low)), (let low = r.3 in omega (arith, low)), r.4, r.5))
-]
 
 pub one_seat_of : (x : ℕ) (lists : List (List ℕ)) → 1 ≤ times_in x lists → (v : ℕ) × (k : ℕ) × IsSeat lists x v k
 one_seat_of x [] h = absurd (omega (arith, h))
@@ -69,26 +19,6 @@ one_seat_of x (l ∷ ls) h = elim (cases_lt 0 (times x l)) [
   | inl here ↦ (let r = one_place x l (omega (arith, here)) in (0, r.0, record { vehicle = omega arith; place = r.1; found = r.2 }))
   | inr none ↦ (let r = one_seat_of x ls (omega (arith, h, none)) in (suc r.0, r.1, record { vehicle = (let low = r.2.vehicle in omega (arith, low)); place = r.2.place; found = r.2.found }))
 ]
-
-pub at_least_one : (x : ℕ) (xs : List ℕ) (k : ℕ) → k < length xs → slice_index xs k ≡ x → 1 ≤ times x xs
-at_least_one x [] k low e = absurd (omega (arith, low))
-at_least_one x (y ∷ ys) zero low e = elim (here_or_later x y) [
-  | inl here ↦ (let one = here.1 in omega (arith, one))
-  | inr later ↦ absurd (elim (eqb_tells x y) [
-    | inl same ↦ (let one : hit x y ≡ 1 = ap (λ t. cond t 1 0) same.0 in omega (arith, one, later))
-    | inr other ↦ other.1 (sym e)
-  ])
-]
-at_least_one x (y ∷ ys) (suc k) low e = let r = at_least_one x ys k (omega (arith, low)) e in omega (arith, r)
-
-pub at_least_two : (x : ℕ) (xs : List ℕ) (j k : ℕ) → j < k → k < length xs → slice_index xs j ≡ x → slice_index xs k ≡ x → 2 ≤ times x xs
-at_least_two x [] j k order low e f = absurd (omega (arith, low))
-at_least_two x (y ∷ ys) j zero order low e f = absurd (omega (arith, order))
-at_least_two x (y ∷ ys) zero (suc k) order low e f =
-    let later = at_least_one x ys k (omega (arith, low)) f in
-    let here = at_least_one x (y ∷ []) 0 (omega arith) e in
-    omega (arith, later, here)
-at_least_two x (y ∷ ys) (suc j) (suc k) order low e f = let r = at_least_two x ys j k (omega (arith, order)) (omega (arith, low)) e f in omega (arith, r)
 
 pub few_times : (x : ℕ) (lists : List (List ℕ)) → ((v k w j : ℕ) → IsSeat lists x v k → IsSeat lists x w j → (v ≡ w) × (k ≡ j)) → times_in x lists ≤ 1
 few_times x [] h = omega arith
@@ -183,9 +113,3 @@ pub slice_from : (xs : List ℕ) (p e : ℕ) → p < e → e ≤ length xs → s
 slice_from xs p e low within =
     let n : e - p ≡ suc (e - (p + 1)) = omega (arith, low) in
     ap (λ k. take k (drop p xs)) n ∙ ap (take (suc (e - (p + 1)))) (drop-cons xs p 0 (omega (arith, low, within)) ∙ ap (λ k. slice_index xs p ∷ drop k xs) (sym (add-one p)))
-
-pub inactive_times : (lists : List (List ℕ)) (x : ℕ) → is_active lists x ≡ false → times_in x lists ≡ 0
-inactive_times lists x inactive = elim (cases_lt 0 (times_in x lists)) [
-  | inl some ↦ absurd (let s = one_seat_of x lists (omega (arith, some)) in clash (is_active lists x) (active_at lists x s.0 s.1 s.2.vehicle s.2.place s.2.found) inactive)
-  | inr none ↦ omega (arith, none)
-]

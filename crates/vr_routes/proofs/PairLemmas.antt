@@ -1,13 +1,17 @@
 -- Two nodes of lists in which no node stands twice.
-use Rattle.std.proofs.Common.{◌≡◌, ◌∙◌, ℕ, zero, suc, false, ◌&&◌, List, [], ◌∷◌, refl, sym, subst, inl, inr, arith}
-use Rattle.std.specs.Prelude.{IsTrue, ◌==◌}
+use Rattle.std.proofs.Common.{◌≡◌, ◌≢◌, ◌∙◌, ℕ, zero, suc, ◌<◌, false, ◌&&◌, List, [], ◌∷◌, length, refl, sym, ap, subst, inl, inr, arith}
+use Rattle.std.specs.Prelude.{IsTrue, ◌==◌, slice_index}
 use Rattle.std.proofs.lemmas.Bool.Decides.{eqb_tells}
 use Rattle.vr_model.proofs.routes.Lists.{held_at, place_of_held}
 use Rattle.vr_model.specs.deciding.Testing.{or_cases, or_left, or_right, and_left, and_right, and_both}
 use Rattle.vr_model.proofs.tables.Tests.{clash, fails}
-use Rattle.vr_model.specs.routes.Routes.{holds, is_active}
+use Rattle.vr_model.proofs.moves.Kept.{pair_apart}
+use Rattle.vr_model.specs.routes.Routes.{route, holds, is_active}
+use Rattle.vr_model.specs.tables.Tables.{pair_at}
+use Rattle.vr_model.specs.tables.WellFormed.{IsWellFormed}
+use Rattle.vr_model.specs.declared.records.Model.{Model}
 use Rattle.vr_routes.specs.Seats.{IsSeat, IsOnce}
-use Rattle.vr_routes.specs.Pairs.{are_together}
+use Rattle.vr_routes.specs.Pairs.{are_together, ArePlaces}
 use Rattle.vr_routes.proofs.SeatLemmas.{active_at}
 
 -- where two nodes stand that stand in one list
@@ -47,3 +51,8 @@ together_tells lists x y v k w j once a b = elim (eqb_tells v w) [
       let s = both_seats lists x y h in
       other.1 ((once x v k s.0 s.1 a s.3).0 ∙ sym (once y w j s.0 s.2 b s.4).0)) ∙ sym other.0
 ]
+
+-- the two nodes of a pair stand at two places
+pub places_apart : (model : Model) (p : ℕ) (lists : List (List ℕ)) (v k j : ℕ) → IsWellFormed model → p < length model.pairs → ArePlaces lists (pair_at model p) v k j → k ≢ j
+places_apart model p lists v k j well low places same =
+    pair_apart model.pairs p low well.no_node_in_pairs_twice (sym places.pickup_stands.found ∙ ap (slice_index (route lists v)) same ∙ places.delivery_stands.found)

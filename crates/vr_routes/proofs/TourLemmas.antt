@@ -164,5 +164,5 @@ visit_test model x = same_tests (holds (visits model) x) (is_visit model x)
     (λ h. let p = place_of_held (visits model) x h in subst (λ y. IsTrue (is_visit model y)) p.2 (filter_passes (is_visit model) (below model.nodes) p.0 0 p.1))
     (visit_held model x)
 
-pub idle_test : (model : Model) (visited : List ℕ) (x : ℕ) → visited ≡ visits model → holds visited x ≡ is_visit model x
-idle_test model visited x e = ap (λ l. holds l x) e ∙ visit_test model x
+pub inactive_test : (model : Model) (visited : List ℕ) (x : ℕ) → visited ≡ visits model → holds visited x ≡ is_visit model x
+inactive_test model visited x e = ap (λ l. holds l x) e ∙ visit_test model x

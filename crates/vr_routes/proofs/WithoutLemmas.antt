@@ -10,7 +10,9 @@ use Rattle.vr_model.specs.moves.Moves.{without_pair}
 use Rattle.vr_model.specs.declared.records.Pair.{Pair}
 use Rattle.vr_routes.specs.Seats.{IsOnce}
 use Rattle.vr_routes.specs.Pairs.{IsGap, ArePlaces, without_two}
-use Rattle.vr_routes.proofs.OnceLemmas.{times, times_in, hit, times_append, times_set, here_or_later, at_least_one, few_times}
+use Rattle.vr_model.proofs.moves.Kept.{pickup_out, delivery_out}
+use Rattle.vr_model.proofs.moves.Times.{times, times_in, hit, times_append, times_set, here_or_later, at_least_one}
+use Rattle.vr_routes.proofs.OnceLemmas.{few_times}
 
 -- the list in which two of its places stand out
 pub split_at_two : (xs : List ℕ) (lo hi : ℕ) → lo < hi → hi < length xs → xs ≡ take lo xs ++ (slice_index xs lo ∷ (slice_range xs (suc lo) hi ++ (slice_index xs hi ∷ drop (suc hi) xs)))
@@ -96,22 +98,6 @@ module _ (pair : Pair) where
       ap (λ k. k ∷ map (without_pair pair) ls) (nothing_out l (omega (arith, p, rp)) (omega (arith, d, rd)))
       ∙ ap (λ r. l ∷ r) (one_list_changes ls v within (omega (arith, p)) (omega (arith, d)))
 
-  pub pickup_out : keeps pair.pickup ≡ false
-  pickup_out = elim (eqb_tells pair.pickup pair.pickup) [
-    | inl same ↦ ap (λ t. not (t || (pair.pickup == pair.delivery))) same.0
-    | inr other ↦ absurd (other.1 refl)
-  ]
-
-  pub delivery_out : keeps pair.delivery ≡ false
-  delivery_out = elim (eqb_tells pair.delivery pair.delivery) [
-    | inl same ↦ ap (λ t. not ((pair.delivery == pair.pickup) || t)) same.0 ∙ either (pair.delivery == pair.pickup)
-    | inr other ↦ absurd (other.1 refl)
-  ]
-    where
-      either : (t : Bool) → not (t || true) ≡ false
-      either true = refl
-      either false = refl
-
   one_of : (x y : ℕ) → y ≡ x → 1 ≤ hit x y
   one_of x y e = elim (here_or_later x y) [
     | inl same ↦ (let one = same.1 in omega (arith, one))
@@ -164,7 +150,7 @@ module _ (pair : Pair) where
         let d = places.delivery_stands.found in
         let one_p = one_of pair.pickup (slice_index row k) p in
         let one_d = one_of pair.delivery (slice_index row j) d in
-        gap_of k j order places.delivery_stands.place (ap keeps p ∙ pickup_out) (ap keeps d ∙ delivery_out) (omega (arith, one_p)) (omega (arith, one_d))
+        gap_of k j order places.delivery_stands.place (ap keeps p ∙ pickup_out pair) (ap keeps d ∙ delivery_out pair) (omega (arith, one_p)) (omega (arith, one_d))
 
     pub delivery_first : j < k → IsGap lists pair v j k
     delivery_first order =
@@ -172,4 +158,4 @@ module _ (pair : Pair) where
         let d = places.delivery_stands.found in
         let one_p = one_of pair.pickup (slice_index row k) p in
         let one_d = one_of pair.delivery (slice_index row j) d in
-        gap_of j k order places.pickup_stands.place (ap keeps d ∙ delivery_out) (ap keeps p ∙ pickup_out) (omega (arith, one_p)) (omega (arith, one_d))
+        gap_of j k order places.pickup_stands.place (ap keeps d ∙ delivery_out pair) (ap keeps p ∙ pickup_out pair) (omega (arith, one_p)) (omega (arith, one_d))

@@ -1,7 +1,8 @@
 -- What a part of a change is.
-use Rattle.std.specs.Prelude.{◌≡◌, ◌≢◌, ◌<◌, ℕ, true, List, length, All}
+use Rattle.std.specs.Prelude.{◌≡◌, ◌≢◌, ◌<◌, ℕ, true, IsTrue, List, length, All}
 use Rattle.std.specs.List.{AllPairs}
 use Rattle.vr_model.specs.moves.Moves.{apply}
+use Rattle.vr_model.specs.routes.Routes.{route, are_lists}
 use Rattle.vr_model.specs.declared.records.Model.{Model}
 use Rattle.vr_model.specs.declared.neighbours.Move.{Move}
 use Rattle.vr_model.specs.tables.Tables.{visits}
@@ -22,10 +23,15 @@ pub record AreParts (lists : List (List ℕ)) (parts : List ListAfter) : Type 0 
   pub each_within : All (λ part. All (IsWithin lists) part.pieces) parts
   pub apart : AllPairs (λ p q. p.vehicle ≢ q.vehicle) parts
 
--- a change of lists is the one that a move of theirs makes
+-- a part gives its vehicle another list than it has
+abbrev pub IsOther : List (List ℕ) → ListAfter → Type 0
+IsOther lists part = joined lists part.pieces ≢ route lists part.vehicle
+
+-- a change of lists is the one that a move of theirs makes, and no part of it leaves its list as it is
 pub record IsChange (model : Model) (lists : List (List ℕ)) (mv : Move) (parts : List ListAfter) : Type 0 where
   pub parts_are : AreParts lists parts
   pub lists_are : changed lists parts ≡ apply model lists mv
+  pub each_changes : IsTrue (are_lists model lists) → All (IsOther lists) parts
 
 -- a change was made on routes: some move of their lists makes it
 pub record IsMadeOn (tours : Tours) (parts : List ListAfter) : Type 0 where

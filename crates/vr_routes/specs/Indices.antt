@@ -57,18 +57,18 @@ pub record IsNext (tours : Tours) (i j : ℕ) : Type 0 where
   pub to : IsStop tours j vehicle (stop + 1)
 
 -- index i is that of a visit that stands in no list
-abbrev pub IsIdleIndex : Tours → ℕ → Type 0
-IsIdleIndex tours i = (i < length tours.visits) × (is_active tours.lists (slice_index tours.visits i) ≡ false)
+abbrev pub IsInactiveIndex : Tours → ℕ → Type 0
+IsInactiveIndex tours i = (i < length tours.visits) × (is_active tours.lists (slice_index tours.visits i) ≡ false)
 
 -- nothing follows: an inactive visit, the start of an unused vehicle, or an end
 abbrev pub HasNoNext : Tours → ℕ → Type 0
 HasNoNext tours i =
-    IsIdleIndex tours i ⊎ (((v : ℕ) × (i ≡ start_index tours v) × (route tours.lists v ≡ [])) ⊎ (end_index tours 0 ≤ i))
+    IsInactiveIndex tours i ⊎ (((v : ℕ) × (i ≡ start_index tours v) × (route tours.lists v ≡ [])) ⊎ (end_index tours 0 ≤ i))
 
 -- nothing comes before: an inactive visit, the end of an unused vehicle, or a start
 abbrev pub HasNoPrevious : Tours → ℕ → Type 0
 HasNoPrevious tours i =
-    IsIdleIndex tours i
+    IsInactiveIndex tours i
     ⊎ (((v : ℕ) × (i ≡ end_index tours v) × (route tours.lists v ≡ []))
     ⊎ ((v : ℕ) × (v < length tours.lists) × (i ≡ start_index tours v)))
 

@@ -12,8 +12,8 @@ pub record Tours : Type 0 where
   pub lists : List (List ℕ)
 
 -- the visits that stand in no list, ascending
-abbrev pub idle : List ℕ → List (List ℕ) → List ℕ
-idle visits lists = filter (λ node. not (is_active lists node)) visits
+abbrev pub inactive_of : List ℕ → List (List ℕ) → List ℕ
+inactive_of visits lists = filter (λ node. not (is_active lists node)) visits
 
 -- what holds of all routes: few vehicles and nodes, visits that ascend, all entries visits, and what is kept of the
 -- inactive ones
@@ -27,7 +27,7 @@ pub record AreKept (visits seating : Seated) (inactive : List ℕ) : Type 0 wher
   pub each_visit_is_node : All (λ node. node < seating.nodes) (route visits.lists 0)
   pub each_entry_is_visit : (node : ℕ)
       → IsTrue (is_active seating.lists node) → IsTrue (holds (route visits.lists 0) node)
-  pub inactive_ones : inactive ≡ idle (route visits.lists 0) seating.lists
+  pub inactive_ones : inactive ≡ inactive_of (route visits.lists 0) seating.lists
 
 -- each entry of the lists is a visit
 abbrev pub HaveVisits : Model → List (List ℕ) → Type 0

@@ -21,7 +21,7 @@ use crate::pieces::{Part, Piece};
 use crate::routes::Routes;
 use crate::rows::Row;
 use crate::seats::Seating;
-use crate::tests_of_moves::{is_move, pair_served, pair_together};
+use crate::conditions::{is_move, pair_served, pair_together};
 use std::marker::Model;
 use vr_model::{Model as RoutingModel, Move};
 
@@ -285,6 +285,7 @@ impl Change {
         s: u32,
         t: u32,
     )
+        requires is_one { is_move model.now routes.now.lists (RelocatePair p w s t) ≡ true }
         requires pair { p < length model.now.pairs }
         requires stands { ArePlaces routes.now.lists (pair_at model.now p) at.vehicle at.pickup at.delivery }
         requires served { at.pickup < at.delivery }

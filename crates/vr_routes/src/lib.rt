@@ -15,7 +15,7 @@ pub mod samples;
 mod seats;
 #[cfg(test)]
 mod tests;
-mod tests_of_moves;
+mod conditions;
 
 pub use changes::Change;
 pub use indices::Indices;
@@ -27,4 +27,4 @@ pub use pieces::Piece;
 pub use routes::Routes;
 pub use rows::Row;
 pub use seats::Seat;
-pub use tests_of_moves::pair_served;
+pub use conditions::pair_served;

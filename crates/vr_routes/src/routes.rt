@@ -13,7 +13,7 @@ ghost use Rattle.vr_routes.specs.Seats.{IsSeat, IsOnce};
 ghost use Rattle.vr_routes.specs.Pieces.{changed, joined, part_at, IsWithin};
 ghost use Rattle.vr_routes.specs.Indices.{end_index, HasNoNext, HasNoPrevious, IsNext, IsStop};
 ghost use Rattle.vr_routes.specs.Changes.{IsMadeOn};
-ghost use Rattle.vr_routes.specs.Tours.{idle, HaveVisits};
+ghost use Rattle.vr_routes.specs.Tours.{inactive_of, HaveVisits};
 
 use crate::changes::Change;
 use crate::filling::fill;
@@ -58,7 +58,7 @@ impl Routes {
         let visits = visits_of(alloc, model)?;
         let seating = Seating::empty(alloc, model.vehicles.len(), model.nodes as usize)?;
         let mut inactive = Row::new();
-        write_idle(&seating, visits.list(0), &mut inactive);
+        write_inactive(&seating, visits.list(0), &mut inactive);
         Ok(Routes {
             visits,
             seating,
@@ -87,7 +87,7 @@ impl Routes {
         }
         seating.know_once();
         let mut inactive = Row::new();
-        write_idle(&seating, visits.list(0), &mut inactive);
+        write_inactive(&seating, visits.list(0), &mut inactive);
         Ok(Some(Routes {
             visits,
             seating,
@@ -105,7 +105,7 @@ impl Routes {
     {
         self.seating.know_once();
         change.rebuild(&mut self.seating, &mut self.first, &mut self.second);
-        write_idle(&self.seating, self.visits.list(0), &mut self.inactive);
+        write_inactive(&self.seating, self.visits.list(0), &mut self.inactive);
     }
 
     /// Takes the lists of other routes of the same model over.
@@ -115,7 +115,7 @@ impl Routes {
         ensures { self.new ≡ other.now }
     {
         self.seating.assign(&other.seating);
-        write_idle(&self.seating, self.visits.list(0), &mut self.inactive);
+        write_inactive(&self.seating, self.visits.list(0), &mut self.inactive);
     }
 
     /// How many lists there are.
@@ -229,12 +229,13 @@ impl Routes {
     pub fn know_entries(&self)
         ensures { (node : ℕ) → IsTrue (is_active self.now.lists node) → IsTrue (holds self.now.visits node) }
     {
+        // To read a field is to know what holds of all routes.
         let _visits = &self.visits;
     }
 
     /// Whether a node is a visit that stands in no list.
     #[inline]
-    pub fn is_idle(&self, node: u32) -> bool
+    pub fn is_inactive(&self, node: u32) -> bool
         ensures { result ≡ (holds self.now.visits node && not (is_active self.now.lists node)) }
     {
         if (node as usize) < self.seating.nodes() {
@@ -245,7 +246,7 @@ impl Routes {
 
     /// The least visit at or above `node` that stands in no list.
     pub fn inactive_from(&self, node: u32) -> Option<u32>
-        ensures { result ≡ find (λ x. nat_le node x) (idle self.now.visits self.now.lists) }
+        ensures { result ≡ find (λ x. nat_le node x) (inactive_of self.now.visits self.now.lists) }
     {
         first_from(self.inactive.as_slice(), node)
     }
@@ -257,7 +258,7 @@ impl Routes {
         let visits = self.visits.copy(alloc)?;
         let seating = self.seating.copy(alloc)?;
         let mut inactive = Row::new();
-        write_idle(&seating, visits.list(0), &mut inactive);
+        write_inactive(&seating, visits.list(0), &mut inactive);
         Ok(Routes {
             visits,
             seating,
@@ -350,7 +351,7 @@ impl Routes {
     /// The visits that stand in no list, ascending.
     #[inline]
     pub fn inactive(&self) -> &[u32]
-        ensures value { result.now ≡ idle self.now.visits self.now.lists }
+        ensures value { result.now ≡ inactive_of self.now.visits self.now.lists }
         ensures few { length result.now ≤ 1000 }
     {
         self.inactive.as_slice()
@@ -446,10 +447,10 @@ fn first_from(nodes: &[u32], node: u32) -> Option<u32>
 }
 
 // Writes the visits that stand in no list.
-fn write_idle(seating: &Seating, visits: &[u32], inactive: &mut Row)
+fn write_inactive(seating: &Seating, visits: &[u32], inactive: &mut Row)
     requires few { length visits.now ≤ 1000 }
     requires nodes { All (λ node. node < seating.now.nodes) visits.now }
-    ensures { inactive.new ≡ idle visits.now seating.now.lists }
+    ensures { inactive.new ≡ inactive_of visits.now seating.now.lists }
 {
     inactive.clear();
     for &node in visits {

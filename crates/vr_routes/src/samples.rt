@@ -1,6 +1,7 @@
 //! Small models and their routes, for tests of this crate and of those above it.
 
-ghost use Rattle.std.specs.Prelude.{◌≡◌, ◌≤◌, ◌*◌, ℕ, IsTrue, IfOk, IfSome, replicate};
+ghost use Rattle.std.specs.Prelude.{◌≡◌, ◌≤◌, ◌*◌, ℕ, IsTrue, true, false, IfOk, IfSome, MatchOption, map, replicate};
+ghost use Rattle.vr_model.specs.routes.Routes.{are_lists};
 ghost use Rattle.vr_model.specs.tables.Tables.{visits};
 ghost use Rattle.vr_model.specs.tables.WellFormed.{IsWellFormed};
 ghost use Rattle.vr_routes.specs.Samples.{fleet, is_fleet};
@@ -58,13 +59,25 @@ fn model_of(alloc: Global, nodes: u32, vehicles: usize, pairs: &[Pair]) -> Resul
 /// Routes with these lists, as [`Routes::from_lists`] makes them.
 pub fn routes_of(alloc: Global, model: &Model, lists: &[&[u32]]) -> Result<Option<Routes>, NoMemory>
     requires well_formed { IsWellFormed model.now }
+    ensures answer { let are = are_lists model.now (map (λ list. list.now) lists.now) in
+        IfOk result (λ answer. MatchOption answer (are ≡ false) (λ routes. are ≡ true)) }
     ensures visits { IfOk result (λ answer. IfSome answer (λ routes. routes.visits ≡ visits model.now)) }
+    ensures lists { IfOk result (λ answer. IfSome answer (λ routes. routes.lists ≡ map (λ list. list.now) lists.now)) }
+{
+    let seqs = seqs_of(alloc, lists)?;
+    let answer = Routes::from_lists(alloc, model, &seqs)?;
+    Ok(answer)
+}
+
+// The same lists.
+fn seqs_of(alloc: Global, lists: &[&[u32]]) -> Result<Vec<Seq<u32>>, NoMemory>
+    ensures { IfOk result (λ seqs. seqs.items ≡ map (λ list. list.now) lists.now) }
 {
     let mut seqs = Vec::new(alloc);
     for list in lists {
         seqs.push(seq_of(alloc, list)?)?;
     }
-    Routes::from_lists(alloc, model, &seqs)
+    Ok(seqs)
 }
 
 // The values in order.

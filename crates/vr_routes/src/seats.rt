@@ -227,10 +227,11 @@ impl Seating {
         }
     }
 
-    /// No node stands at two places.
+    /// No node stands at two places. It does nothing.
     pub fn know_once(&self)
         ensures { IsOnce self.now.lists }
     {
+        // To read a field is to know what holds of all seatings.
         let _rows = &self.rows;
     }
 }

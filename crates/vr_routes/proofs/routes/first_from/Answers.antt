@@ -2,7 +2,7 @@ use Rattle.std.proofs.Common.{◌∙◌, ℕ, List, sym, rules}
 use Rattle.std.specs.Prelude.{nat_lt}
 use Rattle.std.proofs.lemmas.Option.{slice_get_past, slice_get-get_or}
 use Rattle.std.proofs.lemmas.List.Sorted.{IsPartitionPoint-from_clause}
-use Rattle.vr_routes.proofs.IdleLemmas.{lower_first, first_from}
+use Rattle.vr_routes.proofs.InactiveLemmas.{lower_first, first_from}
 use Rattle.vr_routes.proofs.routes.first_from.Goals as goal
 
 pub returns-then-place-nodes : goal.returns-then-place-nodes

@@ -12,5 +12,5 @@ pub returns-clause-rest : goal.returns-clause-rest
 returns-clause-rest c =
     let s = c.args.self.now in
     let lists : List (List ℕ) = s.routes.now.lists in
-    let at : ℕ → List Move = λ w. map (MakeActive (slice_index s.idle.now c.args.k) w) (gaps (route lists w)) in
+    let at : ℕ → List Move = λ w. map (MakeActive (slice_index s.nodes.now c.args.k) w) (gaps (route lists w)) in
     rw c.new.ensures (joined_all_below at s.vehicles ∙ ap (λ n. each (below n) at) c.requires.sound)

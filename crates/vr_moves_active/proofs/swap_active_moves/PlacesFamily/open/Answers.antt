@@ -8,5 +8,5 @@ use Rattle.vr_moves_active.proofs.swap_active_moves.PlacesFamily.open.Goals as g
 pub returns-clause-rest : goal.returns-clause-rest
 returns-clause-rest c =
     let s = c.args.self.now in
-    let at : ℕ → Move = λ k. SwapActive s.v c.args.k (slice_index s.idle.now k) in
-    rw c.new.ensures (run_all_below at (length s.idle.now) ∙ map_places (SwapActive s.v c.args.k) s.idle.now)
+    let at : ℕ → Move = λ k. SwapActive s.v c.args.k (slice_index s.nodes.now k) in
+    rw c.new.ensures (run_all_below at (length s.nodes.now) ∙ map_places (SwapActive s.v c.args.k) s.nodes.now)

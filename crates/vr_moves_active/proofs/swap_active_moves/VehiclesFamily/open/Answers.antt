@@ -8,5 +8,5 @@ use Rattle.vr_moves_active.proofs.swap_active_moves.VehiclesFamily.open.Goals as
 pub returns-clause-rest : goal.returns-clause-rest
 returns-clause-rest c =
     let s = c.args.self.now in
-    let at : ℕ → List Move = λ a. map (SwapActive c.args.k a) s.idle.now in
+    let at : ℕ → List Move = λ a. map (SwapActive c.args.k a) s.nodes.now in
     rw c.new.ensures (joined_all_below at c.len.result ∙ ap (λ n. each (below n) at) c.len.ensures.value)

@@ -6,6 +6,7 @@ use Rattle.vr_model.specs.declared.records.Pair.{Pair}
 use Rattle.vr_model.specs.declared.neighbours.Move.TheVariants.{RelocatePair}
 use Rattle.vr_routes.specs.Pairs.{without_two}
 use Rattle.vr_routes.proofs.ChangeLemmas.{one_part, two_parts}
+use Rattle.vr_routes.proofs.DifferLemmas.{paired_differs, unpaired_differs}
 use Rattle.vr_routes.proofs.ElsewhereLemmas.{own_rest, others_stay, moved_within, moved_between}
 use Rattle.vr_routes.proofs.changes.Change.put_elsewhere.Goals as goal
 
@@ -25,7 +26,7 @@ returns-then-w-at c =
     one_part c.args.model.now lists (RelocatePair c.args.p w c.args.s c.args.t) _ w _
     c.requires.vehicle c.move_pair.ensures
     (ap (λ (q : Pair). with_route lists w (with_pair q c.args.s c.args.t (without_two (route lists w) at.pickup at.delivery))) (sym (c.get-pair.ensures.value (record { pickup = 0; delivery = 0 })))
-    ∙ moved_within lists pair c.know_once.ensures at.vehicle at.pickup at.delivery c.requires.stands c.requires.served w c.args.s c.args.t c.if-w-at.true)
+    ∙ moved_within lists pair c.know_once.ensures at.vehicle at.pickup at.delivery c.requires.stands c.requires.served w c.args.s c.args.t c.if-w-at.true) c.requires.is_one
 
 pub put_pair-requires-clause-gap : goal.put_pair-requires-clause-gap
 put_pair-requires-clause-gap c =
@@ -47,3 +48,5 @@ returns c =
     (c.take_pair.ensures pair places) c.put_pair.ensures
     (ap (λ (q : Pair). with_route (with_route lists at.vehicle (without_pair pair (route lists at.vehicle))) w (with_pair q c.args.s c.args.t (route lists w))) (sym (c.get-pair.ensures.value (record { pickup = 0; delivery = 0 })))
     ∙ moved_between lists pair c.know_once.ensures at.vehicle at.pickup at.delivery places c.requires.served w c.args.s c.args.t c.if-w-at.false)
+    (λ are. unpaired_differs pair (route lists at.vehicle) at.pickup places.pickup_stands.place places.pickup_stands.found)
+    (λ are. paired_differs c.get-pair.result.now c.args.s c.args.t (route lists w) c.requires.order)

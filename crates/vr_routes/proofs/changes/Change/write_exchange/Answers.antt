@@ -1,9 +1,10 @@
-use Rattle.std.proofs.Common.{◌≡◌, ◌∙◌, ℕ, List, ap}
+use Rattle.std.proofs.Common.{◌≡◌, ◌∙◌, ℕ, List, sym, ap}
 use Rattle.std.specs.Prelude.{slice_set, slice_index}
 use Rattle.vr_model.specs.routes.Routes.{route}
 use Rattle.vr_model.specs.declared.neighbours.Move.TheVariants.{Exchange}
 use Rattle.vr_routes.proofs.FactLemmas.{of_exchange}
 use Rattle.vr_routes.proofs.ChangeLemmas.{one_part, two_parts, exchanged_within, exchanged_between}
+use Rattle.vr_routes.proofs.DifferLemmas.{replaced_differs, apart_between}
 use Rattle.vr_routes.proofs.changes.Change.write_exchange.Goals as goal
 
 pub returns-then-v-w : goal.returns-then-v-w
@@ -18,7 +19,7 @@ returns-then-v-w c =
     let low = (of_exchange c.args.model.now c.args.routes.now.lists c.args.v c.args.a c.args.w c.args.b c.requires.is_one).vehicle in
     one_part c.args.model.now lists (Exchange v a w b) _ v _ low c.swap_within.ensures
     (ap (λ u. slice_set lists v (slice_set (slice_set (route lists v) a (slice_index (route lists u) b)) b x)) same
-    ∙ exchanged_within lists v w a b (slice_index (route lists w) b) x same low)
+    ∙ exchanged_within lists v w a b (slice_index (route lists w) b) x same low) c.requires.is_one
 
 pub returns : goal.returns
 returns c =
@@ -34,3 +35,5 @@ returns c =
     (ap (λ z. slice_set (slice_set lists v (slice_set (route lists v) a z)) w (slice_set (route lists w) b c.node_at-2.result)) c.node_at.ensures
     ∙ ap (λ z. slice_set (slice_set lists v (slice_set (route lists v) a y)) w (slice_set (route lists w) b z)) c.node_at-2.ensures
     ∙ exchanged_between lists v w b x (slice_set (route lists v) a y) c.if-v-w.false)
+    (λ are. replaced_differs (route lists v) a c.node_at.result test.place (λ e. apart_between c.args.model.now lists are v w a b c.if-v-w.false test.place test.other_place (sym e ∙ c.node_at.ensures)))
+    (λ are. replaced_differs (route lists w) b c.node_at-2.result test.other_place (λ e. apart_between c.args.model.now lists are v w a b c.if-v-w.false test.place test.other_place (sym c.node_at-2.ensures ∙ e)))

@@ -11,4 +11,4 @@ returns c =
     let lists = c.args.routes.now.lists in
     one_part c.args.model.now lists (PairActive c.args.p c.args.w c.args.s c.args.t) _ c.args.w _
     ((of_pair_active c.args.model.now c.args.routes.now.lists c.args.p c.args.w c.args.s c.args.t c.requires.is_one).vehicle) c.put_pair.ensures
-    (ap (λ pair. with_route lists c.args.w (with_pair pair c.args.s c.args.t (route lists c.args.w))) (sym (c.get.ensures.value (record { pickup = 0; delivery = 0 }))))
+    (ap (λ pair. with_route lists c.args.w (with_pair pair c.args.s c.args.t (route lists c.args.w))) (sym (c.get.ensures.value (record { pickup = 0; delivery = 0 })))) c.requires.is_one

@@ -3,7 +3,7 @@ use Rattle.vr_model.specs.tables.Tables.{pair_at}
 use Rattle.vr_model.specs.declared.records.Pair.{Pair}
 use Rattle.vr_model.specs.declared.neighbours.Move.TheVariants.{PairInactive}
 use Rattle.vr_routes.proofs.ChangeLemmas.{one_part}
-use Rattle.vr_routes.proofs.CountLemmas.{places_apart}
+use Rattle.vr_routes.proofs.PairLemmas.{places_apart}
 use Rattle.vr_routes.proofs.WithoutLemmas.{pair_out}
 use Rattle.vr_routes.proofs.changes.Change.write_pair_inactive.Goals as goal
 
@@ -19,4 +19,4 @@ returns c =
     let at = c.in-Some.at in
     let places = c.in-Some.ensures.places in
     one_part c.args.model.now lists (PairInactive c.args.p) _ at.vehicle _ places.pickup_stands.vehicle (c.take_pair.ensures pair places)
-    (sym (pair_out pair lists c.know_once.ensures at.vehicle at.pickup at.delivery places))
+    (sym (pair_out pair lists c.know_once.ensures at.vehicle at.pickup at.delivery places)) c.requires.is_one

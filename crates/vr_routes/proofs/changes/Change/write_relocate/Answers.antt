@@ -5,6 +5,7 @@ use Rattle.vr_model.specs.moves.Moves.{with_route}
 use Rattle.vr_model.specs.declared.neighbours.Move.TheVariants.{Relocate}
 use Rattle.vr_routes.proofs.FactLemmas.{of_relocate}
 use Rattle.vr_routes.proofs.ChangeLemmas.{two_parts}
+use Rattle.vr_routes.proofs.DifferLemmas.{removed_differs, inserted_differs}
 use Rattle.vr_routes.proofs.changes.Change.write_relocate.Goals as goal
 
 pub returns : goal.returns
@@ -14,3 +15,5 @@ returns c =
     two_parts c.args.model.now lists (Relocate c.args.v c.args.a c.args.w c.args.t) _ _ c.args.v c.args.w _ _
     test.vehicle test.other test.apart c.take_out.ensures c.put_in.ensures
     (ap (λ node. with_route (with_route lists c.args.v (remove (route lists c.args.v) c.args.a)) c.args.w (insert (route lists c.args.w) c.args.t node)) c.node_at.ensures)
+    (λ are. removed_differs (route lists c.args.v) c.args.a test.place)
+    (λ are. inserted_differs (route lists c.args.w) c.args.t c.node_at.result)

@@ -2,7 +2,7 @@ use Rattle.std.proofs.Common.{◌≡◌, ◌∙◌, ◌<◌, ◌≤◌, length, 
 use Rattle.std.specs.Prelude.{All, IsTrue}
 use Rattle.vr_model.specs.routes.Routes.{route, is_active}
 use Rattle.vr_routes.specs.Seats.{IsOnce}
-use Rattle.vr_routes.specs.Tours.{Tours, idle}
+use Rattle.vr_routes.specs.Tours.{Tours, inactive_of}
 use Rattle.vr_routes.specs.Changes.{IsMadeOn}
 use Rattle.vr_routes.proofs.TourLemmas.{held_below}
 use Rattle.vr_routes.proofs.CommitLemmas.{as_many_lists, once_after, entry_after}
@@ -43,5 +43,5 @@ invariant_of-self c =
       visits_ascend = i.visits_ascend;
       each_visit_is_node = subst (λ n. All (λ node. node < n) tours.visits) nodes i.each_visit_is_node;
       each_entry_is_visit = λ node active. entry_after tours parts made once i.each_entry_is_visit node (subst (λ l. IsTrue (is_active l node)) lists active);
-      inactive_ones = c.write_idle.ensures ∙ ap (λ l. idle l c.rebuild.new.seating.lists) c.list.ensures.value;
+      inactive_ones = c.write_inactive.ensures ∙ ap (λ l. inactive_of l c.rebuild.new.seating.lists) c.list.ensures.value;
     }

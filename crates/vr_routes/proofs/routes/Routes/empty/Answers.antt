@@ -5,20 +5,20 @@ use Rattle.vr_model.proofs.routes.Lists.{is_active-none}
 use Rattle.vr_model.specs.tables.Tables.{visits}
 use Rattle.vr_model.proofs.tables.Tests.{clash}
 use Rattle.vr_model.specs.routes.Routes.{route, is_active}
-use Rattle.vr_routes.specs.Tours.{idle}
+use Rattle.vr_routes.specs.Tours.{inactive_of}
 use Rattle.vr_routes.proofs.TourLemmas.{visits_below, visits_ascend, few_visits, length_of_empty}
 use Rattle.vr_routes.proofs.TourLemmas.{seen}
 use Rattle.vr_routes.proofs.routes.Routes.empty.Goals as goal
 
-pub write_idle-requires-clause-few : goal.write_idle-requires-clause-few
-write_idle-requires-clause-few c =
+pub write_inactive-requires-clause-few : goal.write_inactive-requires-clause-few
+write_inactive-requires-clause-few c =
     let few = few_visits c.args.model.now in
     let nodes = c.requires.well_formed.number_of_nodes.1 in
     let v : length c.list.result.now ≡ length (visits c.args.model.now) = ap length (c.list.ensures.value ∙ seen c.in_ok-visits.ensures.lists) in
     omega (arith, few, nodes, v)
 
-pub write_idle-requires-clause-nodes : goal.write_idle-requires-clause-nodes
-write_idle-requires-clause-nodes c =
+pub write_inactive-requires-clause-nodes : goal.write_inactive-requires-clause-nodes
+write_inactive-requires-clause-nodes c =
     subst (λ l. All (λ node. node < c.in_ok-seating.seating.nodes) l) (sym (c.list.ensures.value ∙ seen c.in_ok-visits.ensures.lists))
     (subst (λ n. All (λ node. node < n) (visits c.args.model.now)) (sym c.in_ok-seating.ensures.nodes) (visits_below c.args.model.now))
 
@@ -42,5 +42,5 @@ invariant_of-result c =
       each_visit_is_node = subst (λ l. All (λ node. node < c.in_ok-seating.seating.nodes) l) (sym (seen c.in_ok-visits.ensures.lists))
           (subst (λ n. All (λ node. node < n) (visits m)) (sym there) (visits_below m));
       each_entry_is_visit = λ node active. absurd (clash (is_active c.in_ok-seating.seating.lists node) active (ap (λ l. is_active l node) lists ∙ is_active-none (length m.vehicles) node));
-      inactive_ones = c.write_idle.ensures ∙ ap (λ l. idle l c.in_ok-seating.seating.lists) c.list.ensures.value;
+      inactive_ones = c.write_inactive.ensures ∙ ap (λ l. inactive_of l c.in_ok-seating.seating.lists) c.list.ensures.value;
     }

@@ -4,7 +4,7 @@ use Rattle.std.specs.List.Sorted.{IsStrictlyIncreasing}
 use Rattle.vr_model.specs.tables.Tables.{visits}
 use Rattle.vr_model.proofs.tables.Tests.{clash}
 use Rattle.vr_model.specs.routes.Routes.{route, holds}
-use Rattle.vr_routes.specs.Tours.{idle}
+use Rattle.vr_routes.specs.Tours.{inactive_of}
 use Rattle.vr_routes.proofs.TourLemmas.{visits_below, visits_ascend, few_visits, visit_held, length_of_empty}
 use Rattle.vr_routes.proofs.TourLemmas.{seen}
 use Rattle.vr_model.specs.routes.Routes.{are_lists}
@@ -14,15 +14,15 @@ use Rattle.vr_routes.specs.Tours.{HaveVisits}
 use Rattle.vr_routes.proofs.ListsLemmas.{are_lists_of, many_of, visits_of, once_of}
 use Rattle.vr_routes.proofs.routes.Routes.from_lists.Goals as goal
 
-pub write_idle-requires-clause-few : goal.write_idle-requires-clause-few
-write_idle-requires-clause-few c =
+pub write_inactive-requires-clause-few : goal.write_inactive-requires-clause-few
+write_inactive-requires-clause-few c =
     let few = few_visits c.args.model.now in
     let nodes = c.requires.well_formed.number_of_nodes.1 in
     let v : length c.list.result.now ≡ length (visits c.args.model.now) = ap length (c.list.ensures.value ∙ seen c.in_ok-visits.ensures.lists) in
     omega (arith, few, nodes, v)
 
-pub write_idle-requires-clause-nodes : goal.write_idle-requires-clause-nodes
-write_idle-requires-clause-nodes c =
+pub write_inactive-requires-clause-nodes : goal.write_inactive-requires-clause-nodes
+write_inactive-requires-clause-nodes c =
     subst (λ l. All (λ node. node < c.seat_lists.new.seating.nodes) l) (sym (c.list.ensures.value ∙ seen c.in_ok-visits.ensures.lists))
     (subst (λ n. All (λ node. node < n) (visits c.args.model.now)) (sym (c.seat_lists.ensures.nodes ∙ c.in_ok-seating.ensures.nodes)) (visits_below c.args.model.now))
 
@@ -45,7 +45,7 @@ invariant_of-result c =
       each_visit_is_node = subst (λ l. All (λ node. node < c.seat_lists.new.seating.nodes) l) (sym (seen c.in_ok-visits.ensures.lists))
           (subst (λ n. All (λ node. node < n) (visits m)) (sym there) (visits_below m));
       each_entry_is_visit = λ node active. subst (λ l. IsTrue (holds l node)) (sym (seen c.in_ok-visits.ensures.lists)) (visit_held m node (c.seat_lists.ensures.visits passed node active));
-      inactive_ones = c.write_idle.ensures ∙ ap (λ l. idle l c.seat_lists.new.seating.lists) c.list.ensures.value;
+      inactive_ones = c.write_inactive.ensures ∙ ap (λ l. inactive_of l c.seat_lists.new.seating.lists) c.list.ensures.value;
     }
 
 pub returns-then-not-seat_lists-clause-answer : goal.returns-then-not-seat_lists-clause-answer

@@ -1,4 +1,4 @@
-use Rattle.std.proofs.Common.{◌<◌, length, ap, sym, subst, arith}
+use Rattle.std.proofs.Common.{◌∙◌, ◌<◌, length, ap, sym, subst, arith}
 use Rattle.std.specs.Prelude.{All}
 use Rattle.vr_model.specs.routes.Routes.{route}
 use Rattle.vr_routes.specs.Pieces.{changed, joined, part_at, no_part, IsWithin}
@@ -32,3 +32,8 @@ fill-requires-clause-room c =
     let fits = list_fits c.self.inside.seating.nodes final (once_after tours parts made once) have (part_at parts c.args.k).vehicle low list (part_is tours.lists parts made.makes.parts_are c.args.k c.requires.part) in
     let same = ap (λ p. length (joined tours.lists p)) c.pieces.ensures.value in
     omega (arith, fits, same, i.few_nodes)
+
+pub returns : goal.returns
+returns c =
+    c.fill.ensures ∙ ap (λ lists. joined lists c.pieces.result.now) (ap (λ (tours : Tours). tours.lists) c.self.view_is)
+    ∙ ap (joined c.args.self.now.lists) c.pieces.ensures.value

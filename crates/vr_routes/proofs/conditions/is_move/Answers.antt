@@ -1,6 +1,6 @@
 use Rattle.std.proofs.Common.{◌∙◌, sym, ap}
 use Rattle.vr_model.specs.moves.MoveTests.{is_move}
-use Rattle.vr_routes.proofs.tests_of_moves.is_move.Goals as goal
+use Rattle.vr_routes.proofs.conditions.is_move.Goals as goal
 
 pub returns-in-TwoOpt : goal.returns-in-TwoOpt
 returns-in-TwoOpt c = c.is_two_opt.ensures c.args.model.now ∙ sym (ap (is_move c.args.model.now c.args.routes.now.lists) c.in-TwoOpt.is)

@@ -5,7 +5,7 @@ use Rattle.vr_model.specs.tables.Tables.{pair_at}
 use Rattle.vr_model.specs.declared.records.Pair.{Pair}
 use Rattle.vr_routes.specs.Pairs.{are_in_order}
 use Rattle.vr_routes.proofs.ElsewhereLemmas.{served_tells, is_behind, not_served, second_fails}
-use Rattle.vr_routes.proofs.tests_of_moves.pair_served.Goals as goal
+use Rattle.vr_routes.proofs.conditions.pair_served.Goals as goal
 
 pub returns-in-None-clause-answer : goal.returns-in-None-clause-answer
 returns-in-None-clause-answer c =

@@ -2,7 +2,7 @@ use Rattle.std.proofs.Common.{◌≡◌, ◌&&◌, not, false, arith, ap, sym}
 use Rattle.vr_model.proofs.tables.Tests.{fails}
 use Rattle.vr_model.specs.routes.Routes.{route, holds, is_active}
 use Rattle.vr_routes.proofs.TourLemmas.{held_below}
-use Rattle.vr_routes.proofs.routes.Routes.is_idle.Goals as goal
+use Rattle.vr_routes.proofs.routes.Routes.is_inactive.Goals as goal
 
 pub returns : goal.returns
 returns c = rw (← c.self.view_is) (

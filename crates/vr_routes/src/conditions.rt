@@ -95,7 +95,7 @@ fn is_make_inactive(routes: &Routes, v: u32, a: u32) -> bool
 fn is_inactive(routes: &Routes, u: u32) -> bool
     ensures { (model : Defined) → routes.now.visits ≡ visits model → result ≡ is_inactive model routes.now.lists u }
 {
-    routes.is_idle(u)
+    routes.is_inactive(u)
 }
 
 #[inline]

@@ -5,7 +5,7 @@ use Rattle.vr_model.specs.moves.Moves.{without_pair, changes_the_list}
 use Rattle.vr_model.specs.moves.MoveTests.{may_put_pair}
 use Rattle.vr_model.specs.declared.records.Pair.{Pair}
 use Rattle.vr_routes.proofs.ElsewhereLemmas.{elsewhere_tells, may_put}
-use Rattle.vr_routes.proofs.tests_of_moves.is_put_elsewhere.Goals as goal
+use Rattle.vr_routes.proofs.conditions.is_put_elsewhere.Goals as goal
 
 pub returns : goal.returns
 returns c =
