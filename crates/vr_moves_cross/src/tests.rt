@@ -1,51 +1,81 @@
 //! The moves between the lists of vehicles.
 
+ghost use Rattle.std.specs.Prelude.{IsTrue, []};
+ghost use Rattle.vr_routes.specs.Samples.{is_fleet};
+
 use crate::{cross_chains, exchange, relocate};
 use std::alloc::Global;
+use std::process::Abort;
 use std::test::Fail;
-use vr_model::{Move, NoMemory};
+use vr_model::Move;
 use vr_routes::Routes;
 use vr_routes::samples::{fleet, routes_of};
 
-// The numbers of the moves of relocate, in order.
-fn relocate_numbers(alloc: Global, routes: &Routes) -> Result<Vec<[u32; 4]>, NoMemory> {
-    let mut found = Vec::new(alloc);
-    for mv in relocate(routes) {
-        if let Move::Relocate { v, a, w, t } = mv {
-            found.push([v, a, w, t])?;
-        }
+// The routes of a model of so many nodes and vehicles, with these lists.
+fn made(alloc: Global, nodes: u32, vehicles: usize, lists: &[&[u32]]) -> Result<Routes, Fail>
+    requires { IsTrue (is_fleet nodes vehicles []) }
+{
+    let model = fleet(alloc, nodes, vehicles, &[])?;
+    match routes_of(alloc, &model, lists)? {
+        Some(routes) => Ok(routes),
+        None => Err("they are lists".into()),
     }
-    Ok(found)
 }
 
-// The numbers of the moves of exchange, in order.
-fn exchange_numbers(alloc: Global, routes: &Routes) -> Result<Vec<[u32; 4]>, NoMemory> {
-    let mut found = Vec::new(alloc);
-    for mv in exchange(routes) {
-        if let Move::Exchange { v, a, w, b } = mv {
-            found.push([v, a, w, b])?;
-        }
+// The numbers of a move of relocate.
+fn relocate_numbers(mv: Option<Move>) -> Option<[u32; 4]> {
+    match mv {
+        Some(Move::Relocate { v, a, w, t }) => Some([v, a, w, t]),
+        _ => None,
     }
-    Ok(found)
 }
 
-// The numbers of the moves of cross, in order.
-fn cross_numbers(alloc: Global, routes: &Routes) -> Result<Vec<[u32; 4]>, NoMemory> {
-    let mut found = Vec::new(alloc);
-    for mv in cross_chains(routes) {
-        if let Move::Cross { v, a, w, b } = mv {
-            found.push([v, a, w, b])?;
-        }
+fn assert_relocate(rt: &impl Abort, routes: &Routes, wanted: &[[u32; 4]])
+{
+    let mut moves = relocate(routes);
+    for &numbers in wanted {
+        assert_eq!(rt; relocate_numbers(moves.next()), Some(numbers));
     }
-    Ok(found)
+    assert!(rt; moves.next().is_none());
+}
+
+// The numbers of a move of exchange.
+fn exchange_numbers(mv: Option<Move>) -> Option<[u32; 4]> {
+    match mv {
+        Some(Move::Exchange { v, a, w, b }) => Some([v, a, w, b]),
+        _ => None,
+    }
+}
+
+fn assert_exchange(rt: &impl Abort, routes: &Routes, wanted: &[[u32; 4]])
+{
+    let mut moves = exchange(routes);
+    for &numbers in wanted {
+        assert_eq!(rt; exchange_numbers(moves.next()), Some(numbers));
+    }
+    assert!(rt; moves.next().is_none());
+}
+
+// The numbers of a move of cross.
+fn cross_numbers(mv: Option<Move>) -> Option<[u32; 4]> {
+    match mv {
+        Some(Move::Cross { v, a, w, b }) => Some([v, a, w, b]),
+        _ => None,
+    }
+}
+
+fn assert_cross(rt: &impl Abort, routes: &Routes, wanted: &[[u32; 4]])
+{
+    let mut moves = cross_chains(routes);
+    for &numbers in wanted {
+        assert_eq!(rt; cross_numbers(moves.next()), Some(numbers));
+    }
+    assert!(rt; moves.next().is_none());
 }
 
 #[test]
 fn moves_into_lists(rt: HostRuntime) -> Result<(), Fail> {
-    let alloc = rt.alloc();
-    let model = fleet(alloc, 4, 3, &[])?;
-    let routes = routes_of(alloc, &model, &[&[1, 2], &[3], &[]])?.ok_or("they are lists")?;
-    let found = relocate_numbers(alloc, &routes)?;
+    let routes = made(rt.alloc(), 4, 3, &[&[1, 2], &[3], &[]])?;
     let wanted = [
         [0, 0, 1, 0],
         [0, 0, 1, 1],
@@ -58,19 +88,14 @@ fn moves_into_lists(rt: HostRuntime) -> Result<(), Fail> {
         [1, 0, 0, 2],
         [1, 0, 2, 0],
     ];
-    assert_eq!(&rt; found.as_slice(), &wanted[..]);
+    assert_relocate(&rt, &routes, &wanted);
     Ok(())
 }
 
 #[test]
 fn moves_between_two_lists(rt: HostRuntime) -> Result<(), Fail> {
-    let alloc = rt.alloc();
-    let model = fleet(alloc, 4, 2, &[])?;
-    let routes = routes_of(alloc, &model, &[&[1, 2], &[3]])?.ok_or("they are lists")?;
-    let found = exchange_numbers(alloc, &routes)?;
-    let wanted = [[0, 0, 0, 1], [0, 0, 1, 0], [0, 1, 1, 0]];
-    assert_eq!(&rt; found.as_slice(), &wanted[..]);
-    let found = cross_numbers(alloc, &routes)?;
+    let routes = made(rt.alloc(), 4, 2, &[&[1, 2], &[3]])?;
+    assert_exchange(&rt, &routes, &[[0, 0, 0, 1], [0, 0, 1, 0], [0, 1, 1, 0]]);
     let wanted = [
         [0, 0, 1, 1],
         [0, 1, 1, 0],
@@ -78,6 +103,6 @@ fn moves_between_two_lists(rt: HostRuntime) -> Result<(), Fail> {
         [0, 2, 1, 0],
         [0, 2, 1, 1],
     ];
-    assert_eq!(&rt; found.as_slice(), &wanted[..]);
+    assert_cross(&rt, &routes, &wanted);
     Ok(())
 }

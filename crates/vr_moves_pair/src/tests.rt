@@ -1,97 +1,109 @@
 //! The moves of a pair that is served, and of one that is not.
 
+ghost use Rattle.std.specs.Prelude.{◌≡◌, IfOk};
+ghost use Rattle.vr_model.specs.tables.Tables.{visits};
 ghost use Rattle.vr_model.specs.tables.WellFormed.{IsWellFormed};
 
 use crate::{pair_active, pair_inactive, relocate_pair};
 use std::alloc::Global;
+use std::process::Abort;
 use std::test::Fail;
 use vr_model::{Model, Move, NoMemory, Pair};
 use vr_routes::Routes;
 use vr_routes::samples::{fleet, routes_of};
 
-const PAIR: &[Pair] = &[Pair {
-    pickup: 1,
-    delivery: 2,
-}];
-
-// The numbers of the moves of relocate_pair, in order.
-fn relocate_pair_numbers(
-    alloc: Global,
-    model: &Model,
-    routes: &Routes,
-) -> Result<Vec<[u32; 4]>, NoMemory>
-    requires well_formed { IsWellFormed model.now }
+// Visits 1 and 2 of three are a pair.
+fn four_nodes(alloc: Global) -> Result<Model, NoMemory>
+    ensures { IfOk result IsWellFormed }
 {
-    let mut found = Vec::new(alloc);
-    for mv in relocate_pair(model, routes) {
-        if let Move::RelocatePair { p, w, s, t } = mv {
-            found.push([p, w, s, t])?;
-        }
-    }
-    Ok(found)
+    let pairs = [Pair {
+        pickup: 1,
+        delivery: 2,
+    }];
+    let model = fleet(alloc, 4, 1, &pairs)?;
+    Ok(model)
 }
 
-// The numbers of the moves of pair_active, in order.
-fn pair_active_numbers(
-    alloc: Global,
-    model: &Model,
-    routes: &Routes,
-) -> Result<Vec<[u32; 4]>, NoMemory>
-    requires well_formed { IsWellFormed model.now }
+fn made(alloc: Global, model: &Model, list: &[u32]) -> Result<Routes, Fail>
+    requires { IsWellFormed model.now }
 {
-    let mut found = Vec::new(alloc);
-    for mv in pair_active(model, routes) {
-        if let Move::PairActive { p, w, s, t } = mv {
-            found.push([p, w, s, t])?;
-        }
+    match routes_of(alloc, model, &[list])? {
+        Some(routes) => Ok(routes),
+        None => Err("it is a list".into()),
     }
-    Ok(found)
 }
 
-// The numbers of the moves of pair_inactive, in order.
-fn pair_inactive_numbers(
-    alloc: Global,
-    model: &Model,
-    routes: &Routes,
-) -> Result<Vec<[u32; 1]>, NoMemory>
+// The numbers of a move of relocate_pair.
+fn relocate_pair_numbers(mv: Option<Move>) -> Option<[u32; 4]> {
+    match mv {
+        Some(Move::RelocatePair { p, w, s, t }) => Some([p, w, s, t]),
+        _ => None,
+    }
+}
+
+fn assert_relocate_pair(rt: &impl Abort, model: &Model, routes: &Routes, wanted: &[[u32; 4]])
     requires well_formed { IsWellFormed model.now }
 {
-    let mut found = Vec::new(alloc);
-    for mv in pair_inactive(model, routes) {
-        if let Move::PairInactive { p } = mv {
-            found.push([p])?;
-        }
+    let mut moves = relocate_pair(model, routes);
+    for &numbers in wanted {
+        assert_eq!(rt; relocate_pair_numbers(moves.next()), Some(numbers));
     }
-    Ok(found)
+    assert!(rt; moves.next().is_none());
+}
+
+// The numbers of a move of pair_active.
+fn pair_active_numbers(mv: Option<Move>) -> Option<[u32; 4]> {
+    match mv {
+        Some(Move::PairActive { p, w, s, t }) => Some([p, w, s, t]),
+        _ => None,
+    }
+}
+
+fn assert_pair_active(rt: &impl Abort, model: &Model, routes: &Routes, wanted: &[[u32; 4]])
+    requires well_formed { IsWellFormed model.now }
+{
+    let mut moves = pair_active(model, routes);
+    for &numbers in wanted {
+        assert_eq!(rt; pair_active_numbers(moves.next()), Some(numbers));
+    }
+    assert!(rt; moves.next().is_none());
+}
+
+// The numbers of a move of pair_inactive.
+fn pair_inactive_numbers(mv: Option<Move>) -> Option<[u32; 1]> {
+    match mv {
+        Some(Move::PairInactive { p }) => Some([p]),
+        _ => None,
+    }
+}
+
+fn assert_pair_inactive(rt: &impl Abort, model: &Model, routes: &Routes, wanted: &[[u32; 1]])
+    requires well_formed { IsWellFormed model.now }
+{
+    let mut moves = pair_inactive(model, routes);
+    for &numbers in wanted {
+        assert_eq!(rt; pair_inactive_numbers(moves.next()), Some(numbers));
+    }
+    assert!(rt; moves.next().is_none());
 }
 
 #[test]
 fn moves_of_a_served_pair(rt: HostRuntime) -> Result<(), Fail> {
-    let alloc = rt.alloc();
-    let model = fleet(alloc, 4, 1, PAIR)?;
-    let routes = routes_of(alloc, &model, &[&[1, 2, 3]])?.ok_or("they are lists")?;
-    let found = relocate_pair_numbers(alloc, &model, &routes)?;
-    let wanted = [[0, 0, 0, 1], [0, 0, 1, 1]];
-    assert_eq!(&rt; found.as_slice(), &wanted[..]);
-    let found = pair_active_numbers(alloc, &model, &routes)?;
-    assert_eq!(&rt; found.len(), 0);
-    let found = pair_inactive_numbers(alloc, &model, &routes)?;
-    let wanted = [[0]];
-    assert_eq!(&rt; found.as_slice(), &wanted[..]);
+    let model = four_nodes(rt.alloc())?;
+    let routes = made(rt.alloc(), &model, &[1, 2, 3])?;
+    assert_relocate_pair(&rt, &model, &routes, &[[0, 0, 0, 1], [0, 0, 1, 1]]);
+    assert_pair_active(&rt, &model, &routes, &[]);
+    assert_pair_inactive(&rt, &model, &routes, &[[0]]);
     Ok(())
 }
 
 #[test]
 fn moves_of_an_inactive_pair(rt: HostRuntime) -> Result<(), Fail> {
-    let alloc = rt.alloc();
-    let model = fleet(alloc, 3, 1, PAIR)?;
-    let routes = Routes::empty(alloc, &model)?;
-    let found = relocate_pair_numbers(alloc, &model, &routes)?;
-    assert_eq!(&rt; found.len(), 0);
-    let found = pair_active_numbers(alloc, &model, &routes)?;
-    let wanted = [[0, 0, 0, 0]];
-    assert_eq!(&rt; found.as_slice(), &wanted[..]);
-    let found = pair_inactive_numbers(alloc, &model, &routes)?;
-    assert_eq!(&rt; found.len(), 0);
+    let model = four_nodes(rt.alloc())?;
+    let routes = made(rt.alloc(), &model, &[3])?;
+    assert_relocate_pair(&rt, &model, &routes, &[]);
+    let wanted = [[0, 0, 0, 0], [0, 0, 0, 1], [0, 0, 1, 1]];
+    assert_pair_active(&rt, &model, &routes, &wanted);
+    assert_pair_inactive(&rt, &model, &routes, &[]);
     Ok(())
 }

@@ -1,21 +1,20 @@
 -- Lists that are lists of a model.
-use Rattle.std.proofs.Common.{◌⊎◌, ◌≡◌, ◌∙◌, ℕ, ◌+◌, ◌<◌, ◌≤◌, Bool, true, false, not, List, [], ◌∷◌, ◌++◌, length, take, refl, sym, ap, subst, inl, inr, arith, length-set}
+use Rattle.std.proofs.Common.{◌⊎◌, ◌≡◌, ◌∙◌, ℕ, ◌+◌, ◌<◌, ◌≤◌, true, false, List, [], ◌++◌, length, take, sym, ap, subst, inl, inr, arith, length-set}
 use Rattle.std.specs.Prelude.{IsTrue, ◌==◌, slice_index, slice_set}
 use Rattle.std.specs.List.{list_all, concat}
 use Rattle.std.proofs.lemmas.Bool.{cases_lt}
 use Rattle.std.proofs.lemmas.Bool.Decides.{eqb_tells}
 use Rattle.std.proofs.lemmas.List.{length-append, get_or-append-add}
 use Rattle.std.proofs.Math.Seq.{take-append-add}
-use Rattle.vr_model.proofs.routes.Lists.{held_at, place_of_held, route_set_other, route_set_same}
-use Rattle.vr_model.specs.deciding.Testing.{or_cases, or_left, or_right, and_left, and_right, and_both, eq_of_test, test_of_eq}
-use Rattle.vr_model.proofs.tables.Tests.{clash, fails, fails_not}
-use Rattle.vr_model.specs.routes.Routes.{route, holds, is_active, is_distinct, are_lists}
+use Rattle.vr_model.proofs.routes.Lists.{route_set_other, route_set_same}
+use Rattle.vr_model.specs.deciding.Testing.{and_left, and_right, and_both, eq_of_test, test_of_eq}
+use Rattle.vr_model.specs.routes.Routes.{route, holds, is_active, are_lists}
 use Rattle.vr_model.specs.tables.Tables.{is_visit}
 use Rattle.vr_model.specs.declared.records.Model.{Model}
 use Rattle.vr_routes.specs.Seats.{IsSeat, IsOnce}
 use Rattle.vr_routes.specs.Tours.{HaveVisits}
 use Rattle.vr_routes.proofs.SeatLemmas.{seat_of_active, active_at}
-use Rattle.vr_model.proofs.moves.Times.{times, times_in, times_append, here_or_later, one_place, at_least_one, joined_times, held_times, times_held, distinct_of_times, times_of_distinct, all_held, all_of_held}
+use Rattle.vr_model.proofs.moves.Times.{times_in, joined_times, held_times, times_held, distinct_of_times, times_of_distinct, all_held, all_of_held}
 use Rattle.vr_routes.proofs.OnceLemmas.{few_times, once_of_times, next_inactive, times_of_seat, one_seat_of}
 
 -- ---- lists joined

@@ -1,16 +1,15 @@
 -- How often a node stands in lists.
-use Rattle.std.proofs.Common.{length-set, ◌⊎◌, ◌≡◌, ◌≢◌, ◌∙◌, ℕ, zero, suc, ◌+◌, ◌-◌, ◌<◌, ◌≤◌, false, cond, List, [], ◌∷◌, ◌++◌, length, reverse, take, drop, drop-cons, add-one, refl, sym, ap, subst, inl, inr, arith}
-use Rattle.std.specs.Prelude.{◌==◌, slice_index, slice_range, slice_set}
+use Rattle.std.proofs.Common.{length-set, ◌≡◌, ◌≢◌, ◌∙◌, ℕ, suc, ◌+◌, ◌-◌, ◌<◌, ◌≤◌, false, List, [], ◌∷◌, ◌++◌, length, take, drop, drop-cons, add-one, refl, sym, ap, subst, inl, inr, arith}
+use Rattle.std.specs.Prelude.{slice_index, slice_range, slice_set}
 use Rattle.std.proofs.lemmas.Bool.{cases_lt}
 use Rattle.std.proofs.lemmas.Bool.Decides.{eqb_tells}
-use Rattle.std.proofs.lemmas.List.{take-append-drop, reverse-append}
 use Rattle.std.proofs.lemmas.Grind.{take_at_read}
 use Rattle.vr_model.proofs.routes.Lists.{route_set_other, route_set_same}
-use Rattle.vr_model.proofs.tables.Tests.{clash, fails}
+use Rattle.vr_model.proofs.tables.Tests.{fails}
 use Rattle.vr_model.specs.routes.Routes.{route, is_active}
 use Rattle.vr_model.proofs.moves.Times.{times, times_in, times_append, times_split, times_set, one_place, two_places, at_least_one, at_least_two}
 use Rattle.vr_routes.specs.Seats.{IsSeat, IsOnce}
-use Rattle.vr_routes.proofs.SeatLemmas.{seat_of_active, active_at}
+use Rattle.vr_routes.proofs.SeatLemmas.{seat_of_active}
 use Rattle.vr_routes.proofs.TourLemmas.{set_twice}
 
 pub one_seat_of : (x : ℕ) (lists : List (List ℕ)) → 1 ≤ times_in x lists → (v : ℕ) × (k : ℕ) × IsSeat lists x v k

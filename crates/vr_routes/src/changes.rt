@@ -14,6 +14,7 @@ ghost use Rattle.vr_routes.specs.Seats.{IsOnce, HaveNodes};
 ghost use Rattle.vr_routes.specs.Changes.{AreParts, IsChange};
 ghost use Rattle.vr_routes.specs.Pairs.{ArePlaces};
 
+use crate::conditions::{is_move, pair_served, pair_together};
 use crate::filling::fill;
 use crate::kinds;
 use crate::pairs::PairPlaces;
@@ -21,7 +22,6 @@ use crate::pieces::{Part, Piece};
 use crate::routes::Routes;
 use crate::rows::Row;
 use crate::seats::Seating;
-use crate::conditions::{is_move, pair_served, pair_together};
 use std::marker::Model;
 use vr_model::{Model as RoutingModel, Move};
 

@@ -2,6 +2,7 @@
 #![tactic(auto)]
 
 mod changes;
+mod conditions;
 mod filling;
 mod indices;
 mod judging;
@@ -15,9 +16,9 @@ pub mod samples;
 mod seats;
 #[cfg(test)]
 mod tests;
-mod conditions;
 
 pub use changes::Change;
+pub use conditions::pair_served;
 pub use indices::Indices;
 pub use judging::{Judge, Verdict};
 pub use pairs::{
@@ -27,4 +28,3 @@ pub use pieces::Piece;
 pub use routes::Routes;
 pub use rows::Row;
 pub use seats::Seat;
-pub use conditions::pair_served;

@@ -1,6 +1,6 @@
 //! Routes, their look-ups and the changes that moves make, against lists that were found by hand.
 
-ghost use Rattle.std.specs.Prelude.{◌≡◌, IfOk};
+ghost use Rattle.std.specs.Prelude.{◌≡◌, IfOk, length};
 ghost use Rattle.vr_model.specs.tables.Tables.{visits};
 ghost use Rattle.vr_model.specs.tables.WellFormed.{IsWellFormed};
 
@@ -34,8 +34,7 @@ fn made(alloc: Global, model: &Model, lists: &[&[u32]]) -> Result<Routes, Fail>
     requires { IsWellFormed model.now }
     ensures { IfOk result (λ routes. routes.visits ≡ visits model.now) }
 {
-    let answer = routes_of(alloc, model, lists)?;
-    match answer {
+    match routes_of(alloc, model, lists)? {
         Some(routes) => Ok(routes),
         None => Err("they are lists".into()),
     }
@@ -58,27 +57,50 @@ fn assert_lists(rt: &impl Abort, routes: &Routes, first: &[u32], second: &[u32])
     assert_list(rt, routes, 1, second);
 }
 
-// What a move of the lists makes of them, by a change that is committed, by a copy, and by taking the lists over.
-fn assert_after(
+// A move, and the two lists after it.
+type Case = (Move, &'static [u32], &'static [u32]);
+
+// What each move of the lists of `base` makes of them, by a change that is committed.
+fn assert_each(rt: &impl Abort, model: &Model, base: &Routes, routes: &mut Routes, cases: &[Case])
+    requires well_formed { IsWellFormed model.now }
+    requires of_model { base.now.visits ≡ visits model.now }
+    requires same { routes.old ≡ base.now }
+{
+    let mut change = Change::blank();
+    for &(mv, first, second) in cases {
+        routes.assign(base);
+        assert_moved(rt, model, routes, mv, &mut change, first, second);
+    }
+}
+
+fn assert_moved(
     rt: &impl Abort,
-    alloc: Global,
     model: &Model,
+    routes: &mut Routes,
     mv: Move,
+    change: &mut Change,
     first: &[u32],
     second: &[u32],
-) -> Result<(), Fail>
+)
+    requires well_formed { IsWellFormed model.now }
+    requires of_model { routes.old.visits ≡ visits model.now }
+    ensures visits { routes.new.visits ≡ routes.old.visits }
+    ensures many { length routes.new.lists ≡ length routes.old.lists }
+{
+    let is_one = Change::of_into(model, routes, mv, change);
+    assert!(rt; is_one);
+    if is_one {
+        routes.commit(change);
+        assert_lists(rt, routes, first, second);
+    }
+}
+
+fn assert_after(rt: &impl Abort, alloc: Global, model: &Model, cases: &[Case]) -> Result<(), Fail>
     requires { IsWellFormed model.now }
 {
-    let mut routes = made(alloc, model, &[LONG, &[9, 10]])?;
-    let mut other = routes.copy(alloc)?;
-    let change = match Change::of(model, &routes, mv) {
-        Some(change) => change,
-        None => return Err("it is a move".into()),
-    };
-    routes.commit(&change);
-    assert_lists(rt, &routes, first, second);
-    other.assign(&routes);
-    assert_lists(rt, &other, first, second);
+    let base = made(alloc, model, &[LONG, &[9, 10]])?;
+    let mut routes = base.copy(alloc)?;
+    assert_each(rt, model, &base, &mut routes, cases);
     Ok(())
 }
 
@@ -86,7 +108,7 @@ fn assert_after(
 fn lists_after_moves_of_visits(rt: HostRuntime) -> Result<(), Fail> {
     let alloc = rt.alloc();
     let model = thirteen_nodes(alloc)?;
-    let cases: &[(Move, &[u32], &[u32])] = &[
+    let cases: &[Case] = &[
         (
             Move::TwoOpt { v: 0, a: 1, b: 6 },
             &[1, 7, 6, 5, 4, 3, 2, 8],
@@ -160,17 +182,14 @@ fn lists_after_moves_of_visits(rt: HostRuntime) -> Result<(), Fail> {
         ),
         (Move::SwapActive { v: 1, a: 0, u: 11 }, LONG, &[11, 10]),
     ];
-    for (mv, first, second) in cases {
-        assert_after(&rt, alloc, &model, *mv, first, second)?;
-    }
-    Ok(())
+    assert_after(&rt, alloc, &model, cases)
 }
 
 #[test]
 fn lists_after_moves_of_pairs(rt: HostRuntime) -> Result<(), Fail> {
     let alloc = rt.alloc();
     let model = thirteen_nodes(alloc)?;
-    let cases: &[(Move, &[u32], &[u32])] = &[
+    let cases: &[Case] = &[
         (
             Move::PairActive {
                 p: 1,
@@ -213,10 +232,7 @@ fn lists_after_moves_of_pairs(rt: HostRuntime) -> Result<(), Fail> {
             &[9, 10],
         ),
     ];
-    for (mv, first, second) in cases {
-        assert_after(&rt, alloc, &model, *mv, first, second)?;
-    }
-    Ok(())
+    assert_after(&rt, alloc, &model, cases)
 }
 
 #[test]
@@ -273,10 +289,18 @@ fn numbers_that_are_no_move(rt: HostRuntime) -> Result<(), Fail> {
         Move::MakeInactive { v: 1, a: 2 },
         Move::SwapActive { v: 0, a: 0, u: 9 },
     ];
-    for mv in cases {
-        assert!(&rt; Change::of(&model, &routes, mv).is_none());
-    }
+    assert_none(&rt, &model, &routes, &cases);
     Ok(())
+}
+
+fn assert_none(rt: &impl Abort, model: &Model, routes: &Routes, cases: &[Move])
+    requires well_formed { IsWellFormed model.now }
+    requires of_model { routes.now.visits ≡ visits model.now }
+{
+    let mut change = Change::blank();
+    for &mv in cases {
+        assert!(rt; !Change::of_into(model, routes, mv, &mut change));
+    }
 }
 
 // Too few lists, the depot, a node that is not there, and a visit twice in one list and in two.
@@ -293,9 +317,15 @@ fn lists_that_are_none(rt: HostRuntime) -> Result<(), Fail> {
         &[LONG, &[9, 8]],
     ];
     for lists in cases {
-        assert!(&rt; routes_of(alloc, &model, lists)?.is_none());
+        assert!(&rt; are_refused(alloc, &model, lists)?);
     }
     Ok(())
+}
+
+fn are_refused(alloc: Global, model: &Model, lists: &[&[u32]]) -> Result<bool, Fail>
+    requires { IsWellFormed model.now }
+{
+    Ok(routes_of(alloc, model, lists)?.is_none())
 }
 
 // What follows each index and what comes before it, in order.
