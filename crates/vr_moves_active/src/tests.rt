@@ -30,8 +30,7 @@ fn make_active_numbers(mv: Option<Move>) -> Option<[u32; 3]> {
     }
 }
 
-fn assert_make_active(rt: &impl Abort, routes: &Routes, wanted: &[[u32; 3]])
-{
+fn assert_make_active(rt: &impl Abort, routes: &Routes, wanted: &[[u32; 3]]) {
     let mut moves = make_active(routes);
     for &numbers in wanted {
         assert_eq!(rt; make_active_numbers(moves.next()), Some(numbers));
@@ -47,8 +46,7 @@ fn make_inactive_numbers(mv: Option<Move>) -> Option<[u32; 2]> {
     }
 }
 
-fn assert_make_inactive(rt: &impl Abort, routes: &Routes, wanted: &[[u32; 2]])
-{
+fn assert_make_inactive(rt: &impl Abort, routes: &Routes, wanted: &[[u32; 2]]) {
     let mut moves = make_inactive(routes);
     for &numbers in wanted {
         assert_eq!(rt; make_inactive_numbers(moves.next()), Some(numbers));
@@ -64,8 +62,7 @@ fn swap_active_numbers(mv: Option<Move>) -> Option<[u32; 3]> {
     }
 }
 
-fn assert_swap_active(rt: &impl Abort, routes: &Routes, wanted: &[[u32; 3]])
-{
+fn assert_swap_active(rt: &impl Abort, routes: &Routes, wanted: &[[u32; 3]]) {
     let mut moves = swap_active(routes);
     for &numbers in wanted {
         assert_eq!(rt; swap_active_numbers(moves.next()), Some(numbers));

@@ -30,8 +30,7 @@ fn relocate_numbers(mv: Option<Move>) -> Option<[u32; 4]> {
     }
 }
 
-fn assert_relocate(rt: &impl Abort, routes: &Routes, wanted: &[[u32; 4]])
-{
+fn assert_relocate(rt: &impl Abort, routes: &Routes, wanted: &[[u32; 4]]) {
     let mut moves = relocate(routes);
     for &numbers in wanted {
         assert_eq!(rt; relocate_numbers(moves.next()), Some(numbers));
@@ -47,8 +46,7 @@ fn exchange_numbers(mv: Option<Move>) -> Option<[u32; 4]> {
     }
 }
 
-fn assert_exchange(rt: &impl Abort, routes: &Routes, wanted: &[[u32; 4]])
-{
+fn assert_exchange(rt: &impl Abort, routes: &Routes, wanted: &[[u32; 4]]) {
     let mut moves = exchange(routes);
     for &numbers in wanted {
         assert_eq!(rt; exchange_numbers(moves.next()), Some(numbers));
@@ -64,8 +62,7 @@ fn cross_numbers(mv: Option<Move>) -> Option<[u32; 4]> {
     }
 }
 
-fn assert_cross(rt: &impl Abort, routes: &Routes, wanted: &[[u32; 4]])
-{
+fn assert_cross(rt: &impl Abort, routes: &Routes, wanted: &[[u32; 4]]) {
     let mut moves = cross_chains(routes);
     for &numbers in wanted {
         assert_eq!(rt; cross_numbers(moves.next()), Some(numbers));

@@ -30,8 +30,7 @@ fn two_opt_numbers(mv: Option<Move>) -> Option<[u32; 3]> {
     }
 }
 
-fn assert_two_opt(rt: &impl Abort, routes: &Routes, wanted: &[[u32; 3]])
-{
+fn assert_two_opt(rt: &impl Abort, routes: &Routes, wanted: &[[u32; 3]]) {
     let mut moves = two_opt(routes);
     for &numbers in wanted {
         assert_eq!(rt; two_opt_numbers(moves.next()), Some(numbers));
@@ -47,8 +46,7 @@ fn or_opt_numbers(mv: Option<Move>) -> Option<[u32; 4]> {
     }
 }
 
-fn assert_or_opt(rt: &impl Abort, routes: &Routes, wanted: &[[u32; 4]])
-{
+fn assert_or_opt(rt: &impl Abort, routes: &Routes, wanted: &[[u32; 4]]) {
     let mut moves = or_opt(routes);
     for &numbers in wanted {
         assert_eq!(rt; or_opt_numbers(moves.next()), Some(numbers));
