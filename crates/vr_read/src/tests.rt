@@ -5,7 +5,10 @@ use serde_json::Value;
 use std::alloc::Global;
 use std::test::Fail;
 use vr_json::{Path, ReadFail};
-use vr_model::{Dimension, First, Improve, Model, Policy, StopRow};
+use vr_model::{
+    Allowed, Dimension, First, Group, Improve, Matrix, Model, Pair, Policy, SearchRow, StopRow,
+    Vehicle,
+};
 
 // Every field that a short text can have: five nodes, of which 1 to 4 are visits.
 const FULL: &str =
@@ -26,38 +29,39 @@ fn read(alloc: Global, source: &str) -> Result<Model, ReadFail> {
     read_model(alloc, &value, &Path::root(alloc))
 }
 
-#[test]
-fn reads_matrices_vehicles_and_the_search(rt: HostRuntime) -> Result<(), Fail> {
-    let model = read(rt.alloc(), FULL).map_err(|_| "refused")?;
-    assert_eq!(rt; model.nodes, 5);
-    for matrix in model.matrices.iter() {
-        assert_eq!(rt;
-            matrix.entries.as_slice(),
-            [
-                0, 1, 2, 3, 4, 5, 0, 7, 8, 9, 1, 1, 0, 1, 1, 2, 2, 2, 0, 2, 3, 3, 3, 3, 0
-            ]
-            .as_slice()
-        );
-    }
-    for (k, vehicle) in model.vehicles.iter().enumerate() {
-        assert_eq!(rt; (vehicle.start, vehicle.end, vehicle.costs), (0, 0, 0));
-        assert_eq!(rt; vehicle.fixed, if k == 0 { 6 } else { 0 });
-        assert_eq!(rt; matches!(vehicle.policy, Policy::Fifo), k == 0);
-    }
-    assert_eq!(rt; (model.matrices.len(), model.vehicles.len()), (1, 2));
-    let search = &model.search;
-    assert!(rt;
-        matches!(
-            (search.first, search.improve),
-            (First::PathCheapestArc, Improve::None)
-        )
-    );
-    assert_eq!(rt; (search.tries, search.solutions), (100_000, 1_000_000_000));
-    assert_eq!(rt;
-        (search.p, search.q, search.neighbourhoods.len()),
-        (2, 3, 11)
-    );
-    Ok(())
+// The entries of the one matrix, row by row.
+const ENTRIES: [i64; 25] = [
+    0, 1, 2, 3, 4, 5, 0, 7, 8, 9, 1, 1, 0, 1, 1, 2, 2, 2, 0, 2, 3, 3, 3, 3, 0,
+];
+
+fn is_matrix(matrix: &Matrix) -> bool {
+    matrix.entries.as_slice() == ENTRIES.as_slice()
+}
+
+fn is_first(vehicle: &Vehicle) -> bool {
+    vehicle.start == 0
+        && vehicle.end == 0
+        && vehicle.costs == 0
+        && vehicle.fixed == 6
+        && matches!(vehicle.policy, Policy::Fifo)
+}
+
+fn is_second(vehicle: &Vehicle) -> bool {
+    vehicle.start == 0
+        && vehicle.end == 0
+        && vehicle.costs == 0
+        && vehicle.fixed == 0
+        && matches!(vehicle.policy, Policy::Any)
+}
+
+fn is_search(search: &SearchRow) -> bool {
+    matches!(search.first, First::PathCheapestArc)
+        && matches!(search.improve, Improve::None)
+        && search.tries == 100_000
+        && search.solutions == 1_000_000_000
+        && search.p == 2
+        && search.q == 3
+        && search.neighbourhoods.len() == 11
 }
 
 // Whether the row is that of node 2.
@@ -87,47 +91,62 @@ fn has_lists(dimension: &Dimension) -> bool {
         && dimension.span_costs.as_slice() == [4, 4].as_slice()
 }
 
-#[test]
-fn reads_a_dimension(rt: HostRuntime) -> Result<(), Fail> {
-    let model = read(rt.alloc(), FULL).map_err(|_| "refused")?;
-    assert_eq!(rt; model.dimensions.len(), 1);
-    for dimension in model.dimensions.iter() {
-        assert!(rt; has_lists(dimension));
-        assert_eq!(rt; (dimension.evaluators.len(), dimension.slack_max), (2, 9));
-        assert_eq!(rt;
-            (dimension.fix_start, dimension.global_span_cost),
-            (true, 0)
-        );
-        assert!(rt; dimension.nodes.len() == 1 && dimension.nodes.iter().all(is_row));
-        assert_eq!(rt;
-            (
-                dimension.starts.len(),
-                dimension.ends.len(),
-                dimension.breaks.len()
-            ),
-            (0, 1, 1)
-        );
-    }
-    Ok(())
+// Whether the rows of stops and breaks are those of the text.
+fn has_rows(dimension: &Dimension) -> bool {
+    dimension.nodes.len() == 1
+        && dimension.nodes.iter().all(is_row)
+        && dimension.starts.len() == 0
+        && dimension.ends.len() == 1
+        && dimension.breaks.len() == 1
+}
+
+fn is_dimension(dimension: &Dimension) -> bool {
+    has_lists(dimension)
+        && has_rows(dimension)
+        && dimension.evaluators.len() == 2
+        && dimension.slack_max == 9
+        && dimension.fix_start
+        && dimension.global_span_cost == 0
+}
+
+fn is_group(group: &Group) -> bool {
+    group.nodes.as_slice() == [3, 1].as_slice() && group.penalty == Some(11) && group.max == 1
+}
+
+fn is_pair(pair: &Pair) -> bool {
+    pair.pickup == 2 && pair.delivery == 4
+}
+
+fn is_allowed(row: &Allowed) -> bool {
+    row.node == 2 && row.vehicles.as_slice() == [1, 0].as_slice()
+}
+
+// Whether the matrices and vehicles are those of the text.
+fn has_tables(model: &Model) -> bool {
+    model.nodes == 5
+        && model.matrices.len() == 1
+        && model.matrices.iter().all(is_matrix)
+        && model.vehicles.len() == 2
+        && is_first(model.vehicles.get(0))
+        && is_second(model.vehicles.get(1))
+}
+
+// Whether the rows of visits are those of the text.
+fn has_visits(model: &Model) -> bool {
+    model.groups.len() == 1
+        && model.groups.iter().all(is_group)
+        && model.pairs.len() == 1
+        && model.pairs.iter().all(is_pair)
+        && model.allowed.len() == 1
+        && model.allowed.iter().all(is_allowed)
 }
 
 #[test]
-fn reads_groups_pairs_and_allowed_rows(rt: HostRuntime) -> Result<(), Fail> {
+fn reads_every_part_of_a_model(rt: HostRuntime) -> Result<(), Fail> {
     let model = read(rt.alloc(), FULL).map_err(|_| "refused")?;
-    assert_eq!(rt;
-        (model.groups.len(), model.pairs.len(), model.allowed.len()),
-        (1, 1, 1)
-    );
-    for group in model.groups.iter() {
-        assert_eq!(rt; group.nodes.as_slice(), [3, 1].as_slice());
-        assert_eq!(rt; (group.penalty, group.max), (Some(11), 1));
-    }
-    for pair in model.pairs.iter() {
-        assert_eq!(rt; (pair.pickup, pair.delivery), (2, 4));
-    }
-    for row in model.allowed.iter() {
-        assert_eq!(rt; row.node, 2);
-        assert_eq!(rt; row.vehicles.as_slice(), [1, 0].as_slice());
-    }
+    assert!(rt; has_tables(&model));
+    assert!(rt; model.dimensions.len() == 1 && model.dimensions.iter().all(is_dimension));
+    assert!(rt; has_visits(&model));
+    assert!(rt; is_search(&model.search));
     Ok(())
 }
