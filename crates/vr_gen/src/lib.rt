@@ -2,6 +2,7 @@
 #![tactic(auto)]
 
 mod draws;
+pub mod laws;
 #[cfg(test)]
 mod tests;
 mod trees;

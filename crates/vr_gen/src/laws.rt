@@ -1,0 +1,11 @@
+//! Laws over the definitions. A call has no code: its contract is the law, and a proof that needs the law calls it.
+
+ghost use Rattle.std.specs.Prelude.{ℕ, List};
+ghost use Rattle.vr_read.specs.Models.{read_model};
+ghost use Rattle.vr_gen.specs.Generated.{generated};
+ghost use Rattle.vr_gen.specs.Solved.{IsSolved};
+
+/// Reading gives a model for the tree of each number, and the model has a first solution.
+pub fn generated_models_are_solved()
+    ensures { (number : ℕ) (path : List ℕ) → IsSolved (read_model path (generated number)) }
+{}
