@@ -1,12 +1,12 @@
 -- Readings of numbers and arrays that are written out: a reader gives what was written.
-use Rattle.std.proofs.Common.{◌≡◌, ◌∙◌, ℕ, zero, suc, ◌+◌, ◌<◌, ◌≤◌, Bool, true, false, List, [], ◌∷◌, ◌++◌, map, length, Some, None, Result, Ok, Err, refl, sym, ap, arith, append_assoc, append-nil}
+use Rattle.std.proofs.Common.{◌≡◌, ◌∙◌, ℕ, zero, suc, ◌+◌, ◌<◌, ◌≤◌, Bool, true, false, List, [], ◌∷◌, ◌++◌, map, length, get_or, Some, None, Result, Ok, Err, refl, sym, ap, subst, arith, append_assoc, append-nil}
 use Rattle.std.specs.Prelude.{ℤ, pos, ◌-ℤ◌, ◌^◌, nat_lt, ◌≤ℤ◌, if◌then◌else◌}
 use Rattle.std.specs.List.{All, range_with_len}
 use Rattle.std.specs.Option.{ok_or}
 use Rattle.std.proofs.lemmas.Bool.{lt-ltb, le-leb, and_from}
 use Rattle.std.proofs.lemmas.Int.{ints}
 use Rattle.std.proofs.lemmas.List.{length-map}
-use Rattle.std.proofs.lemmas.List.FromFn.{length-range_with_len}
+use Rattle.std.proofs.lemmas.List.FromFn.{length-range_with_len, get_or-range_with_len}
 use Rattle.std.proofs.lemmas.List.Elements.{All-head, All-tail}
 use Rattle.serde_json.specs.Data.{Data, array}
 use Rattle.serde_json.specs.View.{items_of}
@@ -27,11 +27,11 @@ step f h k = ap (λ r. and_then r f) h ∙ k
 
 -- ---- numbers
 
-module _ (n : ℕ) (few : n ≤ 20000) where
+module _ (n : ℕ) (few : n < 2 ^ 63) where
   whole_is : (lo hi : ℤ) → lo ≤ℤ pos n → pos n ≤ℤ hi → whole_in lo hi (count n) ≡ Ok (pos n)
   unfolding and_then
   whole_is lo hi low high =
-      let small : nat_lt n (2 ^ 63) ≡ true = lt-ltb n (2 ^ 63) (omega (arith, few)) in
+      let small : nat_lt n (2 ^ 63) ≡ true = lt-ltb n (2 ^ 63) few in
       step _ (ap (λ b. ok_or (if b then Some (pos n) else None) NotWhole) small) (ap (λ b. if b then Ok (pos n) else Err OutOfRange) (test_of_within lo hi (pos n) low high))
 
   -- a number in its range
@@ -95,6 +95,14 @@ module _ {B : Type 0} (read : List B → ReaderOf B) (f : ℕ → Data) (g : ℕ
   array_below lo hi path low high =
       let count : length (map f (below n)) ≡ n = length-map (below n) f ∙ length-range_with_len 0 n in
       array_by read lo hi path (map f (below n)) (omega (arith, low, count)) (omega (arith, high, count)) (entries_below path n 0 (omega arith) ∙ ap (λ i. Ok (map g (below i))) (omega arith))
+
+-- ---- numbers below a bound
+
+pub All-below : (P : ℕ → Type 0) (n : ℕ) → ((i : ℕ) → i < n → P i) → All P (below n)
+All-below P n h i d low =
+    let here : i < n = omega (arith, low, length-range_with_len 0 n) in
+    let there : get_or (below n) i d ≡ i = get_or-range_with_len 0 n i d here ∙ omega arith in
+    subst P (sym there) (h i here)
 
 -- ---- rules
 

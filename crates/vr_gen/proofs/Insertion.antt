@@ -1,5 +1,5 @@
 -- Where no visit must be served, parallel cheapest insertion ends at valid lists.
-use Rattle.std.proofs.Common.{◌≡◌, ◌∙◌, ℕ, zero, suc, ◌+◌, ◌<◌, ◌≤◌, Bool, true, false, cond, not, ◌&&◌, ◌||◌, List, [], ◌∷◌, map, length, replicate, filter, Option, Some, None, refl, sym, ap, ap₂, subst, arith, eq-eqb, inl, inr, ◌⊎◌}
+use Rattle.std.proofs.Common.{◌≡◌, ◌∙◌, ℕ, zero, suc, ◌<◌, Bool, true, false, cond, not, ◌&&◌, ◌||◌, List, [], ◌∷◌, map, length, replicate, filter, Option, Some, None, refl, sym, ap, ap₂, subst, arith, eq-eqb, inl, inr}
 use Rattle.std.specs.Prelude.{ℤ, IsTrue, MatchOption, ◌==◌, nat_le, nat_lt, count_by, find}
 use Rattle.std.specs.List.{list_all, concat}
 use Rattle.std.proofs.lemmas.List.{length-replicate}

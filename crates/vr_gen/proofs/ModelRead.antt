@@ -1,15 +1,15 @@
 -- The model that a generated tree is read as: its table, and the rules on the whole model.
-use Rattle.std.proofs.Common.{◌≡◌, ◌∙◌, ℕ, zero, suc, ◌+◌, ◌*◌, ◌<◌, ◌≤◌, Bool, true, false, not, ◌&&◌, ◌||◌, List, [], ◌∷◌, map, length, Option, Some, None, Result, Ok, refl, sym, ap, ap₂, arith}
-use Rattle.std.specs.Prelude.{ℤ, pos, ◌+ℤ◌, ◌≤ℤ◌, codes, flat_map, int_lt, slice_index_or, ◌==◌, ⊤}
-use Rattle.std.specs.List.{All, list_any, range_with_len}
+use Rattle.std.proofs.Common.{◌≡◌, ℕ, zero, suc, ◌+◌, ◌*◌, Bool, true, false, not, ◌&&◌, ◌||◌, List, [], ◌∷◌, map, length, Option, Some, None, Result, Ok, refl, arith}
+use Rattle.std.specs.Prelude.{ℤ, pos, ◌+ℤ◌, ◌≤ℤ◌, flat_map, int_lt, slice_index_or, ◌==◌, ⊤}
+use Rattle.std.specs.List.{All, range_with_len}
 use Rattle.std.proofs.lemmas.Int.{ints}
-use Rattle.std.proofs.lemmas.List.Elements.{All-nil, All-cons, All-head, All-tail, All-append, All-map, All-weaker, All-replicate}
+use Rattle.std.proofs.lemmas.List.Elements.{All-nil, All-cons, All-head, All-tail, All-append, All-map, All-weaker}
 use Rattle.std.proofs.lemmas.List.Folds.{list_any_none}
 use Rattle.vr_json.specs.declared.fault.Fault.{Fault}
 use Rattle.vr_json.specs.declared.fault.Cause.TheVariants.{NegativeCost, LargeTransit, NegativeTransit, UnlikeVehicles}
 use Rattle.vr_model.specs.tables.Numbers.{below, number_at}
-use Rattle.vr_model.specs.tables.Tables.{matrix_at, no_matrix, vehicle_at, dimension_at, no_dimension, no_evaluator, entry, matrix_part, evaluated, evaluator_of, evaluator_number, transit}
-use Rattle.vr_model.specs.tables.ModelRules.{is_negative, has_negative_cost, greatest_entry, evaluator_at, is_large, has_negative_transit, has_breaks, has_span_costs, goes_back, cannot_save}
+use Rattle.vr_model.specs.tables.Tables.{matrix_at, no_matrix, vehicle_at, dimension_at, no_dimension, no_evaluator, matrix_part, evaluator_number, transit}
+use Rattle.vr_model.specs.tables.ModelRules.{is_negative, has_negative_cost, greatest_entry, evaluator_at, is_large, has_negative_transit, has_breaks, has_span_costs, cannot_save}
 use Rattle.vr_model.specs.tables.WellFormed.{IsIn}
 use Rattle.vr_model.specs.declared.records.Model.{Model}
 use Rattle.vr_model.specs.declared.records.Matrix.{Matrix}

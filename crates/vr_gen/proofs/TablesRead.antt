@@ -1,13 +1,11 @@
 -- What the tables of a generated model are read as.
-use Rattle.std.proofs.Common.{◌≡◌, ◌∙◌, ℕ, zero, suc, ◌+◌, ◌-◌, ◌<◌, ◌≤◌, Bool, true, false, ◌||◌, List, [], ◌∷◌, map, length, replicate, get_or, Some, None, Ok, refl, sym, ap, ap₂, subst, arith}
-use Rattle.std.specs.Prelude.{ℤ, pos, ◌≤ℤ◌, codes, flat_map, int_lt, slice_index_or, ◌==◌, if◌then◌else◌}
+use Rattle.std.proofs.Common.{◌≡◌, ◌∙◌, ℕ, ◌+◌, ◌<◌, ◌≤◌, Bool, true, false, ◌||◌, List, [], ◌∷◌, map, length, replicate, Some, None, Ok, refl, ap, arith}
+use Rattle.std.specs.Prelude.{ℤ, pos, ◌≤ℤ◌, codes, flat_map, int_lt, slice_index_or, ◌==◌}
 use Rattle.std.specs.List.{All, list_any}
 use Rattle.std.proofs.lemmas.Int.{ints}
 use Rattle.std.proofs.lemmas.List.{length-map}
 use Rattle.std.proofs.lemmas.List.Elements.{All-weaker, All-map, All-cons, All-replicate}
 use Rattle.std.proofs.lemmas.List.Folds.{list_any_none}
-use Rattle.std.proofs.lemmas.List.FromFn.{length-range_with_len, get_or-range_with_len}
-use Rattle.serde_json.specs.Data.{Data}
 use Rattle.vr_json.proofs.Lists.{list_any-map}
 use Rattle.vr_json.specs.declared.fault.Cause.TheVariants.{Repeated, Reversed, NotAVisit}
 use Rattle.vr_json.specs.Reading.{ReaderOf, and_then, at_path, field, if_present, required, optional, present, maybe, known, if_unknown, list, array as array_of, entries, first_two, two_entries, for_each, refuse_if}
@@ -36,16 +34,10 @@ use Rattle.vr_read.specs.Visits.{group_node, group as group_of}
 use Rattle.vr_read.specs.Searches.{choices, search_row as search_of}
 use Rattle.vr_gen.specs.declared.draws.Site.{Site}
 use Rattle.vr_gen.specs.declared.draws.Customer.{Customer}
-use Rattle.vr_gen.specs.Generated.{count, listed, one, apart, distance, row, matrix, values, vehicle, pause, rest, window, services, times, demand_of, loads, dimensions, group, search_row}
-use Rattle.vr_gen.proofs.ExactReadings.{ReadsAs, step, whole_reads, below_reads, array_each, array_below, refuse_none}
+use Rattle.vr_gen.specs.Generated.{count, listed, apart, distance, row, matrix, values, vehicle, pause, rest, window, services, times, demand_of, loads, dimensions, group, search_row}
+use Rattle.vr_gen.proofs.ExactReadings.{All-below, ReadsAs, step, whole_reads, below_reads, array_each, array_below, refuse_none}
 
 -- ---- numbers below a bound
-
-All-below : (P : ℕ → Type 0) (n : ℕ) → ((i : ℕ) → i < n → P i) → All P (below n)
-All-below P n h i d low =
-    let here : i < n = omega (arith, low, length-range_with_len 0 n) in
-    let there : get_or (below n) i d ≡ i = get_or-range_with_len 0 n i d here ∙ omega arith in
-    subst P (sym there) (h i here)
 
 -- no entry of a table by number passes a test
 none_below : {A : Type 0} (p : A → Bool) (g : ℕ → A) (n : ℕ) → ((i : ℕ) → i < n → p (g i) ≡ false) → list_any p (map g (below n)) ≡ false
@@ -176,7 +168,7 @@ values_read_as : (n : ℕ) (lo : ℤ) (others : List ℕ) (path : List ℕ) → 
     → array_of n n (λ so_far. whole lo greatest_value) path (values others) ≡ Ok (values_read others)
 values_read_as n lo others path all low few =
     array_each (λ so_far. whole lo greatest_value) count pos n n path (0 ∷ others) (omega (arith, all)) (omega (arith, all))
-    (All-weaker (λ m. m ≤ 20000) (ReadsAs (λ so_far. whole lo greatest_value) count pos) (λ m h so_far path. whole_reads m h lo greatest_value path (omega (arith, ints, low)) (omega (arith, ints, h))) (0 ∷ others)
+    (All-weaker (λ m. m ≤ 20000) (ReadsAs (λ so_far. whole lo greatest_value) count pos) (λ m h so_far path. whole_reads m (omega (arith, h)) lo greatest_value path (omega (arith, ints, low)) (omega (arith, ints, h))) (0 ∷ others)
     (All-cons (λ m. m ≤ 20000) 0 others (omega arith) few))
 
 -- the dimension of times

@@ -2,18 +2,16 @@
 
 use crate::generate;
 use serde_json::Value;
-use std::alloc::Global;
 use std::test::Fail;
 
-// The number at a path of the model of 7.
-fn number_at(alloc: Global, path: &str) -> Result<Option<u64>, Fail> {
-    let tree = generate(alloc, 7).map_err(|_| "memory")?;
-    Ok(tree.pointer(path).and_then(Value::as_u64))
+// Whether the number at a path is this one, or none.
+fn holds(tree: &Value, path: &str, wanted: Option<u64>) -> bool {
+    tree.pointer(path).and_then(Value::as_u64) == wanted
 }
 
-#[test]
-fn trees_hold_the_drawn_numbers(rt: HostRuntime) -> Result<(), Fail> {
-    let alloc = rt.alloc();
+// Whether the tree of the model of 7 holds what was drawn.
+fn holds_all(tree: &Value) -> bool {
+    let mut all = true;
     for (path, wanted) in [
         ("/nodes", Some(61)),
         ("/matrices/0/0/1", Some(54)),
@@ -29,7 +27,14 @@ fn trees_hold_the_drawn_numbers(rt: HostRuntime) -> Result<(), Fail> {
         ("/groups/60/nodes/0", None),
         ("/vehicles/5/end", Some(0)),
     ] {
-        assert!(rt; number_at(alloc, path)? == wanted);
+        all = all && holds(tree, path, wanted);
     }
+    all
+}
+
+#[test]
+fn trees_hold_the_drawn_numbers(rt: HostRuntime) -> Result<(), Fail> {
+    let tree = generate(rt.alloc(), 7).map_err(|_| "memory")?;
+    assert!(rt; holds_all(&tree));
     Ok(())
 }

@@ -4,7 +4,7 @@ ghost use Rattle.std.specs.Prelude.{◌≡◌, ◌∷◌, ◌+◌, [], map, leng
 ghost use Rattle.serde_json.specs.Data.{string};
 ghost use Rattle.serde_json.specs.View.{view};
 ghost use Rattle.vr_model.specs.tables.Numbers.{below};
-ghost use Rattle.vr_gen.specs.Generated.{apart as apart_of, count, demand_of, dimensions as dimensions_of, distance as distance_of, generated, group as group_of, listed, loads as loads_of, matrix as matrix_of, model_of, one as one_of, rest as rest_of, row as row_of, search_row as search_row_of, times as times_of, values as values_of, vehicle as vehicle_of, window as window_of};
+ghost use Rattle.vr_gen.specs.Generated as trees;
 
 use crate::draws::{Customer, Site, customers, sites, words_of};
 use serde_json::{Value, json};
@@ -14,21 +14,21 @@ use vr_model::{NoMemory, Seq};
 
 // How far two numbers are apart.
 fn apart(m: u32, n: u32) -> u32
-    ensures { result ≡ apart_of m n }
+    ensures { result ≡ trees.apart m n }
 {
     if m < n { n - m } else { m - n }
 }
 
 // How far two sites are apart.
 fn distance(a: Site, b: Site) -> u64
-    ensures { result ≡ apart_of a.x b.x + apart_of a.y b.y }
+    ensures { result ≡ trees.apart a.x b.x + trees.apart a.y b.y }
 {
     u64::from(apart(a.x, b.x)) + u64::from(apart(a.y, b.y))
 }
 
 // The distances from a site.
 fn row(alloc: Global, sites: &[Site], from: Site) -> Result<Value, NoMemory>
-    ensures { IfOk result (λ v. view v ≡ row_of sites.now from) }
+    ensures { IfOk result (λ v. view v ≡ trees.row sites.now from) }
 {
     let mut entries = Vec::new(alloc);
     for &to in sites {
@@ -39,7 +39,7 @@ fn row(alloc: Global, sites: &[Site], from: Site) -> Result<Value, NoMemory>
 
 // The matrix of distances.
 fn matrix(alloc: Global, sites: &[Site]) -> Result<Value, NoMemory>
-    ensures { IfOk result (λ v. view v ≡ matrix_of sites.now) }
+    ensures { IfOk result (λ v. view v ≡ trees.matrix sites.now) }
 {
     let mut rows = Vec::new(alloc);
     for &from in sites {
@@ -50,14 +50,14 @@ fn matrix(alloc: Global, sites: &[Site]) -> Result<Value, NoMemory>
 
 // A vehicle from node 0 to node 0.
 fn vehicle(alloc: Global) -> Result<Value, NoMemory>
-    ensures { IfOk result (λ tree. view tree ≡ vehicle_of) }
+    ensures { IfOk result (λ tree. view tree ≡ trees.vehicle) }
 {
     Ok(json!(in alloc; {"end": 0, "start": 0})?)
 }
 
 // The break of a vehicle.
 fn rest(alloc: Global, v: u64) -> Result<Value, NoMemory>
-    ensures { IfOk result (λ tree. view tree ≡ rest_of v) }
+    ensures { IfOk result (λ tree. view tree ≡ trees.rest v) }
 {
     let pause = json!(in alloc; {"duration": 600, "from": 6000, "to": 9000})?;
     Ok(json!(in alloc; {"breaks": [pause], "vehicle": v})?)
@@ -66,7 +66,7 @@ fn rest(alloc: Global, v: u64) -> Result<Value, NoMemory>
 // The penalty for leaving out a node.
 fn group(alloc: Global, k: u64) -> Result<Value, NoMemory>
     requires { k < 2 ^ 32 }
-    ensures { IfOk result (λ tree. view tree ≡ group_of k) }
+    ensures { IfOk result (λ tree. view tree ≡ trees.group k) }
 {
     let node = k + 1;
     Ok(json!(in alloc; {"nodes": [node], "penalty": 10000})?)
@@ -75,7 +75,7 @@ fn group(alloc: Global, k: u64) -> Result<Value, NoMemory>
 // What is asked of the search.
 #[tactic(auto, unfolding(crate::specs::Generated::search_row))]
 fn search_row(alloc: Global) -> Result<Value, NoMemory>
-    ensures { IfOk result (λ tree. view tree ≡ search_row_of) }
+    ensures { IfOk result (λ tree. view tree ≡ trees.search_row) }
 {
     let first = "PARALLEL_CHEAPEST_INSERTION";
     let improve = "GUIDED_LOCAL_SEARCH";
@@ -84,7 +84,7 @@ fn search_row(alloc: Global) -> Result<Value, NoMemory>
 
 // The vehicles.
 fn vehicles(alloc: Global) -> Result<Value, NoMemory>
-    ensures { IfOk result (λ tree. view tree ≡ listed (λ v. vehicle_of) (below 6)) }
+    ensures { IfOk result (λ tree. view tree ≡ trees.listed (λ v. trees.vehicle) (below 6)) }
 {
     let mut all = Vec::new(alloc);
     for _v in 0..6u64 {
@@ -95,7 +95,7 @@ fn vehicles(alloc: Global) -> Result<Value, NoMemory>
 
 // The break of each vehicle.
 fn rests(alloc: Global) -> Result<Value, NoMemory>
-    ensures { IfOk result (λ tree. view tree ≡ listed rest_of (below 6)) }
+    ensures { IfOk result (λ tree. view tree ≡ trees.listed trees.rest (below 6)) }
 {
     let mut all = Vec::new(alloc);
     for v in 0..6u64 {
@@ -106,7 +106,7 @@ fn rests(alloc: Global) -> Result<Value, NoMemory>
 
 // The group of each node but 0.
 fn groups(alloc: Global) -> Result<Value, NoMemory>
-    ensures { IfOk result (λ tree. view tree ≡ listed group_of (below 60)) }
+    ensures { IfOk result (λ tree. view tree ≡ trees.listed trees.group (below 60)) }
 {
     let mut all = Vec::new(alloc);
     for k in 0..60u64 {
@@ -117,7 +117,7 @@ fn groups(alloc: Global) -> Result<Value, NoMemory>
 
 // Numbers as an array.
 fn counts(alloc: Global, numbers: &[u32]) -> Result<Vec<Value>, NoMemory>
-    ensures { IfOk result (λ values. map view values.items ≡ map count numbers.now) }
+    ensures { IfOk result (λ values. map view values.items ≡ map trees.count numbers.now) }
 {
     let mut values = Vec::new(alloc);
     for &number in numbers {
@@ -128,7 +128,7 @@ fn counts(alloc: Global, numbers: &[u32]) -> Result<Vec<Value>, NoMemory>
 
 // 0 for node 0, and a number for each other node.
 fn values(alloc: Global, others: &[u32]) -> Result<Value, NoMemory>
-    ensures { IfOk result (λ tree. view tree ≡ values_of others.now) }
+    ensures { IfOk result (λ tree. view tree ≡ trees.values others.now) }
 {
     let mut all = counts(alloc, others)?;
     all.insert(0, Value::from(0u32))?;
@@ -139,7 +139,7 @@ fn values(alloc: Global, others: &[u32]) -> Result<Value, NoMemory>
 fn window(alloc: Global, customers: &[Customer], k: usize) -> Result<Value, NoMemory>
     requires place { k < length customers.now }
     requires few { length customers.now ≤ 60 }
-    ensures { IfOk result (λ tree. view tree ≡ window_of customers.now k) }
+    ensures { IfOk result (λ tree. view tree ≡ trees.window customers.now k) }
 {
     let node = k as u64 + 1;
     let lo = u64::from(customers[k].lo);
@@ -150,7 +150,7 @@ fn window(alloc: Global, customers: &[Customer], k: usize) -> Result<Value, NoMe
 // The windows of all nodes but 0.
 fn windows(alloc: Global, customers: &[Customer]) -> Result<Value, NoMemory>
     requires { length customers.now ≤ 60 }
-    ensures { IfOk result (λ tree. view tree ≡ listed (window_of customers.now) (below (length customers.now))) }
+    ensures { IfOk result (λ tree. view tree ≡ trees.listed (trees.window customers.now) (below (length customers.now))) }
 {
     let mut all = Vec::new(alloc);
     for k in 0..customers.len() {
@@ -161,7 +161,7 @@ fn windows(alloc: Global, customers: &[Customer]) -> Result<Value, NoMemory>
 
 // The demands of customers.
 fn demands(alloc: Global, customers: &[Customer]) -> Result<Vec<u32>, NoMemory>
-    ensures { IfOk result (λ demands. demands.items ≡ map demand_of customers.now) }
+    ensures { IfOk result (λ demands. demands.items ≡ map trees.demand_of customers.now) }
 {
     let mut all = Vec::new(alloc);
     for customer in customers {
@@ -172,7 +172,7 @@ fn demands(alloc: Global, customers: &[Customer]) -> Result<Vec<u32>, NoMemory>
 
 // An array of one entry.
 fn one(alloc: Global, entry: Value) -> Result<Value, NoMemory>
-    ensures { IfOk result (λ tree. view tree ≡ one_of (view entry)) }
+    ensures { IfOk result (λ tree. view tree ≡ trees.one (view entry)) }
 {
     let mut all = Vec::new(alloc);
     all.push(entry)?;
@@ -190,7 +190,7 @@ fn text(alloc: Global, text: &str) -> Result<Value, NoMemory>
 #[tactic(auto, unfolding(crate::specs::Generated::times))]
 fn times(alloc: Global, customers: &[Customer]) -> Result<Value, NoMemory>
     requires { length customers.now ≤ 60 }
-    ensures { IfOk result (λ tree. view tree ≡ times_of customers.now) }
+    ensures { IfOk result (λ tree. view tree ≡ trees.times customers.now) }
 {
     let services = [30u32; 60];
     let visit = values(alloc, &services)?;
@@ -210,7 +210,7 @@ fn times(alloc: Global, customers: &[Customer]) -> Result<Value, NoMemory>
 // The dimension of loads.
 #[tactic(auto, unfolding(crate::specs::Generated::loads))]
 fn loads(alloc: Global, customers: &[Customer]) -> Result<Value, NoMemory>
-    ensures { IfOk result (λ tree. view tree ≡ loads_of customers.now) }
+    ensures { IfOk result (λ tree. view tree ≡ trees.loads customers.now) }
 {
     let added = values(alloc, &demands(alloc, customers)?)?;
     let evaluator = json!(in alloc; {"values": added})?;
@@ -226,7 +226,7 @@ fn loads(alloc: Global, customers: &[Customer]) -> Result<Value, NoMemory>
 // The dimensions.
 fn dimensions(alloc: Global, customers: &[Customer]) -> Result<Value, NoMemory>
     requires { length customers.now ≤ 60 }
-    ensures { IfOk result (λ tree. view tree ≡ dimensions_of customers.now) }
+    ensures { IfOk result (λ tree. view tree ≡ trees.dimensions customers.now) }
 {
     let mut all = Vec::new(alloc);
     all.push(times(alloc, customers)?)?;
@@ -238,7 +238,7 @@ fn dimensions(alloc: Global, customers: &[Customer]) -> Result<Value, NoMemory>
 #[tactic(auto, unfolding(crate::specs::Generated::model_of))]
 fn model(alloc: Global, sites: &[Site], customers: &[Customer]) -> Result<Value, NoMemory>
     requires { length customers.now ≤ 60 }
-    ensures { IfOk result (λ tree. view tree ≡ model_of sites.now customers.now) }
+    ensures { IfOk result (λ tree. view tree ≡ trees.model_of sites.now customers.now) }
 {
     let matrices = one(alloc, matrix(alloc, sites)?)?;
     let mut tree = Tree::new(alloc);
@@ -255,7 +255,7 @@ fn model(alloc: Global, sites: &[Site], customers: &[Customer]) -> Result<Value,
 /// The model of a number: 61 nodes in a square, six vehicles with a break each, and customers with windows and loads,
 /// each of which may be left out at a price.
 pub fn generate(alloc: Global, number: u64) -> Result<Value, NoMemory>
-    ensures { IfOk result (λ tree. view tree ≡ generated number) }
+    ensures { IfOk result (λ tree. view tree ≡ trees.generated number) }
 {
     let mut words = words_of(number);
     let sites = sites(alloc, &mut words, 61)?;
