@@ -1,0 +1,12 @@
+pub mod Firsts
+pub mod Walks
+pub mod Lines
+pub mod Widths
+pub mod Sums
+pub mod Totalling
+pub mod Nothing
+pub mod PrintedLists
+pub mod Distinct
+pub mod Valid
+pub mod Scheduled
+pub mod AllMet

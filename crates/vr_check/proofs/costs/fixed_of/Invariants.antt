@@ -1,0 +1,11 @@
+use Rattle.std.proofs.Common.{◌≡◌, ◌*◌, ◌^◌, ◌≤ℤ◌, pos, cond}
+use Rattle.vr_model.specs.tables.Numbers.{total_by, below}
+use Rattle.vr_check.proofs.Totalling.{fixed_at}
+use Rattle.vr_check.proofs.costs.fixed_of.Given as goal
+
+abbrev pub invariant-loop-v : goal.invariant-loop-v
+invariant-loop-v l = record {
+  sum : l.total ≡ total_by (fixed_at l.model l.lists) (below l.v);
+  low : pos 0 ≤ℤ l.total;
+  high : l.total ≤ℤ pos (2 ^ 40 * l.v);
+}

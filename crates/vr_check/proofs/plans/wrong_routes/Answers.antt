@@ -1,0 +1,24 @@
+use Rattle.std.proofs.Common.{◌≡◌, [], length, sym, ap, subst, ◌∙◌, arith}
+use Rattle.std.specs.Prelude.{IsTrue}
+use Rattle.std.proofs.lemmas.List.{get_or_default}
+use Rattle.vr_printed.specs.Printed.{no_route}
+use Rattle.vr_printed.specs.Shape.{is_route_shaped}
+use Rattle.vr_check.specs.Plans.{route_broken, route_broken_at}
+use Rattle.vr_printed.specs.declared.printed.PrintedRoute.{PrintedRoute}
+use Rattle.vr_check.proofs.Firsts.{found, passed_by}
+use Rattle.vr_printed.proofs.Shaped.{route_shaped}
+use Rattle.vr_check.proofs.plans.wrong_routes.Goals as goal
+
+pub wrong_route-spot-requires-clause-shaped : goal.wrong_route-spot-requires-clause-shaped
+wrong_route-spot-requires-clause-shaped c =
+    let Shaped = λ (route : PrintedRoute). IsTrue (is_route_shaped c.args.model.now c.loop-v.v route) in
+    subst Shaped (get_or_default c.args.routes.now c.loop-v.v no_route c.index-routes-v.result c.loop-v-test.true ∙ sym c.index-routes-v.is)
+    (route_shaped c.args.model.now c.args.routes.now c.requires.shaped c.loop-v.v c.loop-v-test.true)
+
+pub loop-v-preserved : goal.loop-v-preserved
+loop-v-preserved c = passed_by (route_broken_at c.args.rule c.args.model.now c.args.routes.now) (length c.args.routes.now) c.loop-v.v c.loop-v.invariant c.loop-v-test.true
+    (c.wrong_route-spot.ensures ∙ ap (route_broken c.args.rule c.args.model.now c.loop-v.v) (c.index-routes-v.is ∙ get_or_default c.args.routes.now c.loop-v.v c.index-routes-v.result no_route c.loop-v-test.true)) (sym c.is_some.ensures ∙ c.if-is_some.false)
+
+pub returns-then-is_some : goal.returns-then-is_some
+returns-then-is_some c = found (route_broken_at c.args.rule c.args.model.now c.args.routes.now) (length c.args.routes.now) c.loop-v.v c.loop-v.invariant c.loop-v-test.true
+    (c.wrong_route-spot.ensures ∙ ap (route_broken c.args.rule c.args.model.now c.loop-v.v) (c.index-routes-v.is ∙ get_or_default c.args.routes.now c.loop-v.v c.index-routes-v.result no_route c.loop-v-test.true)) (sym c.is_some.ensures ∙ c.if-is_some.true)

@@ -1,0 +1,15 @@
+use Rattle.std.proofs.Common.{length, sym, ap, ◌∙◌, arith}
+use Rattle.vr_model.specs.schedules.Schedules.{allows}
+use Rattle.vr_check.specs.Findings.{spot}
+use Rattle.vr_printed.specs.Printed.{plan_of}
+use Rattle.vr_check.specs.Asked.{line_of}
+use Rattle.vr_check.specs.Plans.{slack_broken_at}
+use Rattle.vr_check.proofs.Firsts.{finds, goes_on, right, not_right}
+use Rattle.vr_check.proofs.Widths.{narrow}
+use Rattle.vr_check.proofs.plans.wrong_slack.Goals as goal
+
+pub loop-k-preserved : goal.loop-k-preserved
+loop-k-preserved c = goes_on (slack_broken_at (line_of c.args.asked) c.args.asked.v (plan_of c.args.plan.now)) (length c.args.plan.now.slacks) c.loop-k.k c.loop-k.invariant (omega (arith, c.loop-k-test.true, c.len-k-end.ensures)) (right (spot c.args.asked.v c.loop-k.k) (sym c.is_right_slack.ensures ∙ c.if-not-is_right_slack.false))
+
+pub returns-then-not-is_right_slack : goal.returns-then-not-is_right_slack
+returns-then-not-is_right_slack c = finds (slack_broken_at (line_of c.args.asked) c.args.asked.v (plan_of c.args.plan.now)) (length c.args.plan.now.slacks) c.loop-k.k c.loop-k.invariant (omega (arith, c.loop-k-test.true, c.len-k-end.ensures)) (not_right (sym c.is_right_slack.ensures ∙ c.if-not-is_right_slack.true) c.at.ensures)

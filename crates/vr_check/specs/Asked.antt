@@ -1,0 +1,54 @@
+-- A line of which each number is looked up where it is asked for.
+use Rattle.std.specs.Prelude.{◌≡◌, ℕ, ◌<◌, ◌+◌, ◌^◌, ◌==◌, ◌&&◌, ◌||◌, not, Bool, ℤ, pos, IsTrue, List, length, slice_index_or, Option, None}
+use Rattle.std.specs.List.{list_all}
+use Rattle.vr_model.specs.tables.Numbers.{number_at, is_same_number}
+use Rattle.vr_model.specs.tables.Tables.{is_visit, dimension_at}
+use Rattle.vr_model.specs.routes.Routes.{stops}
+use Rattle.vr_model.specs.schedules.Lines.{Line, line, stop_rows, stop_allows}
+use Rattle.vr_model.specs.tables.WellFormed.{IsWellFormed}
+use Rattle.vr_model.specs.declared.records.Model.{Model}
+use Rattle.vr_model.specs.declared.records.StopRow.{StopRow}
+use Rattle.vr_check.specs.declared.asked.Asked.{Asked}
+use Rattle.vr_printed.specs.declared.printed.PrintedPlan.{PrintedPlan}
+
+-- the line that is asked
+abbrev pub line_of : Asked → Line
+line_of it = line it.model.now it.d it.v it.list.now
+
+-- how many arcs it has
+abbrev pub arcs_of : Asked → ℕ
+arcs_of it = length it.list.now + 1
+
+-- the node at stop k
+abbrev pub stop_node : Asked → ℕ → ℕ
+stop_node it k = slice_index_or (stops it.model.now it.v it.list.now) k 0
+
+-- the rows of its stops
+abbrev pub stop_rows_of : Asked → List (Option StopRow)
+stop_rows_of it = stop_rows (dimension_at it.model.now it.d) it.v it.list.now
+
+-- the row of stop k
+abbrev pub row_at_stop : Asked → ℕ → Option StopRow
+row_at_stop it k = slice_index_or (stop_rows_of it) k None
+
+-- its model is well formed, its numbers are in range, and its list holds visits
+pub record IsAsked (it : Asked) : Type 0 where
+  pub well_formed : IsWellFormed it.model.now
+  pub dimension : it.d < length it.model.now.dimensions
+  pub vehicle : it.v < length it.model.now.vehicles
+  pub visits : IsTrue (list_all (is_visit it.model.now) it.list.now)
+  pub short : length it.list.now < 2 ^ 61
+
+-- a plan has a cumul for each stop, a slack for each arc, and a start for each break
+pub record FitsLine (it : Asked) (plan : PrintedPlan) : Type 0 where
+  pub cumuls : length plan.cumuls ≡ arcs_of it + 1
+  pub slacks : length plan.slacks ≡ arcs_of it
+  pub breaks : length plan.breaks ≡ length (line_of it).breaks
+
+-- the start is 0 where the dimension fixes it
+abbrev pub is_start_free : Asked → ℕ → ℤ → Bool
+is_start_free it k x = not (k == 0) || (not (dimension_at it.model.now it.d).fix_start || is_same_number x (pos 0))
+
+-- what stop k allows, by its row
+abbrev pub allows_by_row : Asked → ℕ → ℤ → Bool
+allows_by_row it k x = stop_allows (number_at (dimension_at it.model.now it.d).capacities it.v) (row_at_stop it k) x && is_start_free it k x

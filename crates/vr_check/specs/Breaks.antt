@@ -1,0 +1,21 @@
+-- Breaks of a line as a plan takes them.
+use Rattle.std.specs.Prelude.{◌≡◌, ℕ, ℤ, pos, cond}
+use Rattle.vr_model.specs.schedules.Lines.{Line}
+use Rattle.vr_model.specs.schedules.Schedules.{Plan, is_inside, break_at}
+use Rattle.vr_printed.specs.Printed.{plan_of}
+use Rattle.vr_check.specs.Asked.{FitsLine, IsAsked, line_of}
+use Rattle.vr_check.specs.declared.breaks.Taken.{Taken}
+
+-- the plan
+abbrev pub plan_of_taken : Taken → Plan
+plan_of_taken it = plan_of it.plan.now
+
+-- its rows are the breaks of its line, and its plan fits the line
+pub record IsTaken (it : Taken) : Type 0 where
+  pub asked : IsAsked it.asked
+  pub rows : it.rows.now ≡ (line_of it.asked).breaks
+  pub fits : FitsLine it.asked it.plan.now
+
+-- how long break i lies inside arc k
+abbrev pub time_inside : Line → Plan → ℕ → ℕ → ℤ
+time_inside line plan k i = cond (is_inside line plan i k) (break_at line i).duration (pos 0)

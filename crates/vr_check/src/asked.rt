@@ -1,0 +1,197 @@
+//! A line of which each number is looked up where it is asked for.
+
+ghost use Rattle.std.specs.Prelude.{◌≡◌, ◌<◌, ◌≤◌, ◌+◌, ◌^◌, ◌≤ℤ◌, neg_ℤ, pos, not, length, slice_index_or};
+ghost use Rattle.std.specs.List.{list_all};
+ghost use Rattle.std.specs.Option.{option_copied};
+ghost use Rattle.vr_model.specs.tables.Numbers.{number_at, within};
+ghost use Rattle.vr_model.specs.tables.Tables.{no_dimension};
+ghost use Rattle.vr_model.specs.schedules.Lines.{in_window, row_allows, stop_allows};
+ghost use Rattle.vr_model.specs.schedules.Schedules.{allows as is_allowed, arc_at};
+ghost use Rattle.vr_model.specs.tables.WellFormed.{IsStopRow, WherePresent};
+ghost use Rattle.vr_check.specs.Asked.{IsAsked, arcs_of, is_start_free as is_start_free_of, line_of, row_at_stop, stop_node as node_of_stop};
+
+use vr_model::{BreakRow, Dimension, Interval, Model, StopRow};
+
+/// The line of a vehicle with a list in a dimension.
+#[derive(Clone, Copy)]
+pub(crate) struct Asked<'a> {
+    pub(crate) model: &'a Model,
+    pub(crate) d: usize,
+    pub(crate) v: usize,
+    pub(crate) list: &'a [u32],
+}
+
+// Whether a number lies in an interval.
+fn is_within(interval: Interval, x: i64) -> bool
+    ensures { result ≡ within interval.lo interval.hi x }
+{
+    interval.lo <= x && x <= interval.hi
+}
+
+// Whether a number lies in a window, where there is one.
+fn is_in_window(window: Option<Interval>, x: i64) -> bool
+    ensures { result ≡ in_window window x }
+{
+    match window {
+        None => true,
+        Some(window) => is_within(window, x),
+    }
+}
+
+// Whether a number lies in none of some intervals.
+fn is_outside(intervals: &[Interval], x: i64) -> bool
+    ensures { result ≡ list_all (λ interval. not (within interval.lo interval.hi x)) intervals.now }
+{
+    intervals
+        .iter()
+        .all(|&interval| !is_within(interval, x))
+}
+
+// Whether the row of a stop lets a number be its cumul.
+fn row_lets(row: Option<&StopRow>, x: i64) -> bool
+    ensures { result ≡ row_allows (option_copied row.entry) x }
+{
+    match row {
+        None => true,
+        Some(row) => is_in_window(row.window, x) && is_outside(row.forbidden.as_slice(), x),
+    }
+}
+
+// Whether a stop of this capacity and row allows a cumul.
+fn stop_lets(capacity: i64, row: Option<&StopRow>, x: i64) -> bool
+    ensures { result ≡ stop_allows capacity (option_copied row.entry) x }
+{
+    0 <= x && x <= capacity && row_lets(row, x)
+}
+
+// The visit time of a node.
+fn visit_of(dimension: &Dimension, node: u32) -> i64
+    requires { node < length dimension.now.visit }
+    ensures { result ≡ number_at dimension.now.visit node }
+{
+    *dimension.visit.get(node as usize)
+}
+
+// The capacity of a vehicle.
+fn capacity_of(dimension: &Dimension, v: usize) -> i64
+    requires { v < length dimension.now.capacities }
+    ensures { result ≡ number_at dimension.now.capacities v }
+{
+    *dimension.capacities.get(v)
+}
+
+impl<'a> Asked<'a> {
+    // The number of the vehicle.
+    fn vehicle(&self) -> u32
+        requires { IsAsked self.now }
+        ensures { result ≡ self.now.v }
+    {
+        self.v as u32
+    }
+
+    // The dimension.
+    fn dimension(&self) -> &'a Dimension
+        requires { self.now.d < length self.now.model.now.dimensions }
+        ensures { result.now ≡ slice_index_or self.now.model.now.dimensions self.now.d no_dimension }
+    {
+        self.model.dimensions.get(self.d)
+    }
+
+    /// The row of a stop.
+    pub(crate) fn row(&self, k: usize) -> Option<&'a StopRow>
+        requires asked { IsAsked self.now }
+        requires stop { k ≤ arcs_of self.now }
+        ensures value { option_copied result ≡ row_at_stop self.now k }
+        ensures valid { WherePresent IsStopRow (option_copied result) }
+    {
+        let dimension = self.dimension();
+        if k == 0 {
+            StopRow::of_key(&dimension.starts, self.vehicle())
+        } else if k <= self.list.len() {
+            StopRow::of_key(&dimension.nodes, self.list[k - 1])
+        } else {
+            StopRow::of_key(&dimension.ends, self.vehicle())
+        }
+    }
+
+    // Whether a cumul is 0 where it must be.
+    fn is_start_free(&self, k: usize, x: i64) -> bool
+        requires { IsAsked self.now }
+        ensures { result ≡ is_start_free_of self.now k x }
+    {
+        k != 0 || !self.dimension().fix_start || x == 0
+    }
+
+    /// Whether a stop allows a cumul.
+    pub(crate) fn allows(&self, k: usize, x: i64) -> bool
+        requires asked { IsAsked self.now }
+        requires stop { k ≤ arcs_of self.now }
+        ensures { result ≡ is_allowed (line_of self.now) k x }
+    {
+        let capacity = capacity_of(self.dimension(), self.v);
+        stop_lets(capacity, self.row(k), x) && self.is_start_free(k, x)
+    }
+
+    /// How many arcs there are.
+    pub(crate) fn arcs(&self) -> usize
+        requires asked { IsAsked self.now }
+        ensures count { result ≡ arcs_of self.now }
+        ensures line { result ≡ length (line_of self.now).arcs }
+    {
+        self.list.len() + 1
+    }
+
+    // The node at a stop.
+    fn node(&self, k: usize) -> u32
+        requires asked { IsAsked self.now }
+        requires stop { k ≤ arcs_of self.now }
+        ensures value { result ≡ node_of_stop self.now k }
+        ensures within { result < self.now.model.now.nodes }
+    {
+        if k == 0 {
+            self.model.vehicles.get(self.v).start
+        } else if k <= self.list.len() {
+            self.list[k - 1]
+        } else {
+            self.model.vehicles.get(self.v).end
+        }
+    }
+
+    /// The transit of an arc.
+    pub(crate) fn transit(&self, k: usize) -> i64
+        requires asked { IsAsked self.now }
+        requires arc { k < arcs_of self.now }
+        ensures value { result ≡ (arc_at (line_of self.now) k).transit }
+        ensures least { neg_ℤ (pos (2 ^ 31)) ≤ℤ result }
+        ensures greatest { result ≤ℤ pos (2 ^ 31) }
+    {
+        let d = self.d as u32;
+        self.model
+            .transit(d, self.vehicle(), self.node(k), self.node(k + 1))
+    }
+
+    /// The visit time at the start of an arc.
+    pub(crate) fn visit(&self, k: usize) -> i64
+        requires asked { IsAsked self.now }
+        requires arc { k < arcs_of self.now }
+        ensures value { result ≡ (arc_at (line_of self.now) k).visit }
+    {
+        visit_of(self.dimension(), self.node(k))
+    }
+
+    /// The breaks, in order.
+    pub(crate) fn breaks(&self) -> &'a [BreakRow]
+        requires asked { IsAsked self.now }
+        ensures { result.now ≡ (line_of self.now).breaks }
+    {
+        self.dimension().breaks_of(self.vehicle())
+    }
+
+    /// The greatest slack.
+    pub(crate) fn slack_max(&self) -> i64
+        requires asked { IsAsked self.now }
+        ensures { result ≡ (line_of self.now).slack_max }
+    {
+        self.dimension().slack_max
+    }
+}

@@ -1,0 +1,138 @@
+//! The check of a printed solution.
+
+ghost use Rattle.std.specs.Prelude.{◌≡◌, IfOk, IsTrue};
+ghost use Rattle.serde_json.specs.View.{view};
+ghost use Rattle.vr_model.specs.routes.Routes.{are_lists};
+ghost use Rattle.vr_model.specs.tables.WellFormed.{IsWellFormed};
+ghost use Rattle.vr_printed.specs.Printed.{lists_of};
+ghost use Rattle.vr_printed.specs.Shape.{are_routes_shaped};
+ghost use Rattle.vr_check.specs.Check as findings;
+ghost use Rattle.vr_check.specs.Check.{finding};
+
+use crate::finding::Spot;
+use crate::lists::{repeated, wrong_ends};
+use crate::numbers::{wrong_cost, wrong_first_cost, wrong_limits, wrong_parts};
+use crate::pairs::{refused, wrong_pair, wrong_policy};
+use crate::plans::{PlanRule, wrong_routes};
+use crate::visits::{missing, wrong_dropped, wrong_group};
+use crate::{Finding, Rule};
+use serde_json::Value;
+use std::alloc::Global;
+use vr_model::{Model, NoMemory, Seq};
+use vr_printed::{Printed, printed_lists, read_printed};
+
+/// Whether the solution that a tree prints keeps each rule of its model: the cost where it does, else the first rule that is
+/// broken in the order of `Rule`, with its vehicle and place. Any schedule is accepted, and not the chosen one alone.
+/// `NoMemory` where there was no memory.
+pub fn check(alloc: Global, model: &Model, solution: &Value) -> Result<Finding, NoMemory>
+    requires { IsWellFormed model.now }
+    ensures { IfOk result (λ found. found ≡ finding model.now (view solution.now)) }
+{
+    match read_printed(alloc, model, solution)? {
+        None => Ok(Rule::Shape.broken(Spot::nowhere())),
+        Some(printed) => {
+            let lists = printed_lists(alloc, printed.routes.as_slice())?;
+            let found = lists_finding(alloc, model, &printed, lists.as_slice())?;
+            Ok(found)
+        }
+    }
+}
+
+// What the rules on lists find, and those behind them.
+fn lists_finding(
+    alloc: Global,
+    model: &Model,
+    printed: &Printed,
+    lists: &[Seq<u32>],
+) -> Result<Finding, NoMemory>
+    requires well_formed { IsWellFormed model.now }
+    requires lists { lists.now ≡ lists_of printed.now.routes }
+    requires shaped { IsTrue (are_routes_shaped model.now printed.now.routes) }
+    ensures { IfOk result (λ found. found ≡ findings.lists_finding model.now printed.now lists.now) }
+{
+    if let Some(spot) = wrong_ends(model, printed.routes.as_slice()) {
+        return Ok(Rule::Ends.broken(spot));
+    }
+    if let Some(spot) = repeated(lists) {
+        return Ok(Rule::Once.broken(spot));
+    }
+    visits_finding(alloc, model, printed, lists)
+}
+
+// What the rules on active visits, pairs and vehicles find, and those behind them.
+fn visits_finding(
+    alloc: Global,
+    model: &Model,
+    printed: &Printed,
+    lists: &[Seq<u32>],
+) -> Result<Finding, NoMemory>
+    requires well_formed { IsWellFormed model.now }
+    requires lists { lists.now ≡ lists_of printed.now.routes }
+    requires visits { IsTrue (are_lists model.now lists.now) }
+    requires shaped { IsTrue (are_routes_shaped model.now printed.now.routes) }
+    ensures { IfOk result (λ found. found ≡ findings.visits_finding model.now printed.now lists.now) }
+{
+    if let Some(spot) = wrong_dropped(model, lists, printed.dropped.as_slice()) {
+        return Ok(Rule::Dropped.broken(spot));
+    }
+    if let Some(spot) = missing(model, lists) {
+        return Ok(Rule::Required.broken(spot));
+    }
+    if let Some(spot) = wrong_group(model, lists) {
+        return Ok(Rule::Group.broken(spot));
+    }
+    if let Some(spot) = wrong_pair(model, lists) {
+        return Ok(Rule::Pair.broken(spot));
+    }
+    if let Some(spot) = wrong_policy(alloc, model, lists)? {
+        return Ok(Rule::Policy.broken(spot));
+    }
+    if let Some(spot) = refused(model, lists) {
+        return Ok(Rule::Allowed.broken(spot));
+    }
+    Ok(plans_finding(model, printed, lists))
+}
+
+// What the rules on plans find, and those behind them.
+fn plans_finding(model: &Model, printed: &Printed, lists: &[Seq<u32>]) -> Finding
+    requires well_formed { IsWellFormed model.now }
+    requires lists { lists.now ≡ lists_of printed.now.routes }
+    requires shaped { IsTrue (are_routes_shaped model.now printed.now.routes) }
+    requires visits { IsTrue (are_lists model.now lists.now) }
+    ensures { result ≡ findings.plans_finding model.now printed.now }
+{
+    let routes = printed.routes.as_slice();
+    if let Some(spot) = wrong_routes(PlanRule::Cumul, model, lists, routes) {
+        return Rule::Cumul.broken(spot);
+    }
+    if let Some(spot) = wrong_routes(PlanRule::Slack, model, lists, routes) {
+        return Rule::Slack.broken(spot);
+    }
+    if let Some(spot) = wrong_routes(PlanRule::Break, model, lists, routes) {
+        return Rule::Break.broken(spot);
+    }
+    numbers_finding(model, printed, lists)
+}
+
+// What the rules on numbers find.
+fn numbers_finding(model: &Model, printed: &Printed, lists: &[Seq<u32>]) -> Finding
+    requires well_formed { IsWellFormed model.now }
+    requires lists { lists.now ≡ lists_of printed.now.routes }
+    requires shaped { IsTrue (are_routes_shaped model.now printed.now.routes) }
+    requires visits { IsTrue (are_lists model.now lists.now) }
+    ensures { result ≡ findings.numbers_finding model.now printed.now }
+{
+    if let Some(spot) = wrong_parts(model, printed, lists) {
+        return Rule::Parts.broken(spot);
+    }
+    if let Some(spot) = wrong_cost(printed) {
+        return Rule::Cost.broken(spot);
+    }
+    if let Some(spot) = wrong_first_cost(printed) {
+        return Rule::FirstCost.broken(spot);
+    }
+    if let Some(spot) = wrong_limits(model, printed) {
+        return Rule::Limits.broken(spot);
+    }
+    Finding::Meets { cost: printed.cost }
+}

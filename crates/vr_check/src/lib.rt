@@ -1,0 +1,23 @@
+//! The checker: whether a printed solution keeps every rule of its model.
+//!
+//! It shares no code with the search and its judges: each rule is asked of the printed lists, plans and numbers
+//! themselves, one pass for each.
+#![tactic(auto)]
+
+mod asked;
+mod breaks;
+mod checking;
+mod costs;
+mod finding;
+mod held;
+pub mod laws;
+mod lists;
+mod numbers;
+mod pairs;
+mod plans;
+mod softs;
+mod spans;
+mod visits;
+
+pub use checking::check;
+pub use finding::{Finding, Rule};

@@ -1,0 +1,92 @@
+//! The rules on the printed nodes: ends, and that no visit stands twice.
+
+ghost use Rattle.std.specs.Prelude.{◌≡◌, ◌<◌, ◌≤◌, length};
+ghost use Rattle.vr_check.specs.Lists as rules;
+ghost use Rattle.vr_check.specs.Lists.{ends_broken, ends_broken_of, once_broken, once_broken_of};
+
+use crate::held::{holds, is_active};
+use crate::finding::Spot;
+use vr_model::{Model, Seq};
+use vr_printed::PrintedRoute;
+
+// Whether the node at a place of a route is one that may stand there.
+fn is_right_node(model: &Model, vehicle: usize, nodes: &[u32], k: usize) -> bool
+    requires vehicle { vehicle < length model.now.vehicles }
+    requires place { k < length nodes.now }
+    ensures { result ≡ rules.is_right_node model.now vehicle nodes.now k }
+{
+    let node = nodes[k];
+    if k == 0 {
+        node == model.vehicles.get(vehicle).start
+    } else if k + 1 == nodes.len() {
+        node == model.vehicles.get(vehicle).end
+    } else {
+        model.is_visit(node)
+    }
+}
+
+// The first place of a route where another node should stand.
+fn wrong_node(model: &Model, vehicle: usize, nodes: &[u32]) -> Option<Spot>
+    requires vehicle { vehicle < length model.now.vehicles }
+    requires few { length model.now.vehicles ≤ 100 }
+    ensures { result ≡ ends_broken_of model.now vehicle nodes.now }
+{
+    for k in 0..nodes.len() {
+        if !is_right_node(model, vehicle, nodes, k) {
+            return Some(Spot::at(vehicle, k));
+        }
+    }
+    None
+}
+
+/// Where a route does not begin at its start or end at its end, or another entry is no visit.
+pub(crate) fn wrong_ends(model: &Model, routes: &[PrintedRoute]) -> Option<Spot>
+    requires vehicles { length routes.now ≤ length model.now.vehicles }
+    requires few { length model.now.vehicles ≤ 100 }
+    ensures { result ≡ ends_broken model.now routes.now }
+{
+    for v in 0..routes.len() {
+        let spot = wrong_node(model, v, routes[v].nodes.as_slice());
+        if spot.is_some() {
+            return spot;
+        }
+    }
+    None
+}
+
+// Whether the visit at a place stands in an earlier list, or earlier in its list.
+fn stands_before(lists: &[Seq<u32>], vehicle: usize, list: &[u32], k: usize) -> bool
+    requires vehicle { vehicle < length lists.now }
+    requires place { k < length list.now }
+    ensures { result ≡ rules.stands_before lists.now vehicle list.now k }
+{
+    is_active(&lists[..vehicle], list[k]) || holds(&list[..k], list[k])
+}
+
+// The first place of a list whose visit stood earlier.
+fn repeated_visit(lists: &[Seq<u32>], vehicle: usize, list: &[u32]) -> Option<Spot>
+    requires vehicle { vehicle < length lists.now }
+    requires few { length lists.now ≤ 100 }
+    ensures { result ≡ once_broken_of lists.now vehicle list.now }
+{
+    for k in 0..list.len() {
+        if stands_before(lists, vehicle, list, k) {
+            return Some(Spot::at(vehicle, k + 1));
+        }
+    }
+    None
+}
+
+/// Where a visit stands that stood earlier.
+pub(crate) fn repeated(lists: &[Seq<u32>]) -> Option<Spot>
+    requires few { length lists.now ≤ 100 }
+    ensures { result ≡ once_broken lists.now }
+{
+    for v in 0..lists.len() {
+        let spot = repeated_visit(lists, v, lists[v].as_slice());
+        if spot.is_some() {
+            return spot;
+        }
+    }
+    None
+}

@@ -1,0 +1,142 @@
+//! The rules on numbers: parts, cost, cost of the first solution, and limits.
+
+ghost use Rattle.std.specs.Prelude.{◌≡◌, ◌<◌, ◌^◌, ◌+ℤ◌, ◌*ℤ◌, ◌≤ℤ◌, pos, IsTrue};
+ghost use Rattle.vr_model.specs.tables.Numbers.{is_same_number, within};
+ghost use Rattle.vr_model.specs.tables.WellFormed.{IsIn, IsWellFormed, greatest_cost};
+ghost use Rattle.vr_model.specs.routes.Costs.{sum_of};
+ghost use Rattle.vr_model.specs.routes.Routes.{are_lists};
+ghost use Rattle.vr_printed.specs.Printed.{lists_of};
+ghost use Rattle.vr_printed.specs.Shape.{are_routes_shaped};
+ghost use Rattle.vr_check.specs.Findings.{earlier as earlier_of};
+ghost use Rattle.vr_check.specs.Parts.{IsAround, cost_broken, first_cost_broken, limits_broken, part_broken, parts_broken};
+ghost use Rattle.vr_check.specs.Parts.{is_within_limits as is_within_limits_of};
+
+use crate::costs::{arcs_of, fixed_of, penalty_of};
+use crate::finding::Spot;
+use crate::softs::soft_of;
+use crate::spans::{global_of, span_of};
+use vr_model::{Model, Parts, Seq};
+use vr_printed::Printed;
+
+/// A coefficient times a number.
+pub(crate) fn times(coefficient: i64, number: i128) -> i128
+    requires coefficient { IsIn (pos 0) greatest_cost coefficient }
+    requires number { IsAround (2 ^ 66) number }
+    ensures value { result ≡ coefficient *ℤ number }
+    ensures range { IsAround (2 ^ 106) result }
+{
+    i128::from(coefficient) * number
+}
+
+// Where a printed part is not its value.
+fn wrong_part(k: usize, printed: i64, value: i128) -> Option<Spot>
+    requires { k < 6 }
+    ensures { result ≡ part_broken k printed value }
+{
+    if is_number(printed, value) {
+        None
+    } else {
+        Some(Spot::of_none(k))
+    }
+}
+
+// The first of two spots.
+fn earlier(first: Option<Spot>, second: Option<Spot>) -> Option<Spot>
+    ensures { result ≡ earlier_of first second }
+{
+    match first {
+        Some(spot) => Some(spot),
+        None => second,
+    }
+}
+
+/// Where a printed part of the cost is not its value at the printed cumuls, the first in byte order of the names.
+pub(crate) fn wrong_parts(model: &Model, printed: &Printed, lists: &[Seq<u32>]) -> Option<Spot>
+    requires well_formed { IsWellFormed model.now }
+    requires lists { lists.now ≡ lists_of printed.now.routes }
+    requires visits { IsTrue (are_lists model.now lists.now) }
+    requires shaped { IsTrue (are_routes_shaped model.now printed.now.routes) }
+    ensures { result ≡ parts_broken model.now printed.now }
+{
+    let parts = &printed.parts;
+    let routes = printed.routes.as_slice();
+    let span = wrong_part(5, parts.span, span_of(model, routes));
+    let soft = wrong_part(4, parts.soft, soft_of(model, lists, routes));
+    let penalty = wrong_part(3, parts.penalty, penalty_of(model, lists));
+    let global = wrong_part(2, parts.global, global_of(model, routes));
+    let fixed = wrong_part(1, parts.fixed, fixed_of(model, lists));
+    let arcs = wrong_part(0, parts.arcs, arcs_of(model, lists));
+    let later = earlier(penalty, earlier(soft, span));
+    earlier(arcs, earlier(fixed, earlier(global, later)))
+}
+
+// The sum of three numbers.
+fn sum_of_three(a: i64, b: i64, c: i64) -> i128
+    ensures value { result ≡ a +ℤ (b +ℤ c) }
+    ensures range { IsAround (2 ^ 70) result }
+{
+    i128::from(a) + (i128::from(b) + i128::from(c))
+}
+
+// The sum of the printed parts.
+fn sum_of_parts(parts: &Parts) -> i128
+    ensures { result ≡ sum_of parts.now }
+{
+    sum_of_three(parts.arcs, parts.fixed, parts.global)
+        + sum_of_three(parts.penalty, parts.soft, parts.span)
+}
+
+// Whether a printed number is this one.
+fn is_number(printed: i64, value: i128) -> bool
+    ensures { result ≡ is_same_number printed value }
+{
+    i128::from(printed) == value
+}
+
+/// Where the cost is not the sum of the parts.
+pub(crate) fn wrong_cost(printed: &Printed) -> Option<Spot>
+    ensures { result ≡ cost_broken printed.now }
+{
+    if is_number(printed.cost, sum_of_parts(&printed.parts)) {
+        None
+    } else {
+        Some(Spot::nowhere())
+    }
+}
+
+/// Where the first solution costs less.
+pub(crate) fn wrong_first_cost(printed: &Printed) -> Option<Spot>
+    ensures { result ≡ first_cost_broken printed.now }
+{
+    if printed.cost <= printed.first_cost {
+        None
+    } else {
+        Some(Spot::nowhere())
+    }
+}
+
+// Whether a number lies between these, as far as they fit.
+fn is_counted(least: i64, greatest: u64, number: i64) -> bool
+    ensures { result ≡ within least (pos greatest) number }
+{
+    least <= number && i128::from(number) <= i128::from(greatest)
+}
+
+// Whether tries and solutions are within the limits of the model.
+fn is_within_limits(model: &Model, printed: &Printed) -> bool
+    ensures { result ≡ is_within_limits_of model.now printed.now }
+{
+    is_counted(0, model.search.tries, printed.tries)
+        && is_counted(1, model.search.solutions, printed.solutions)
+}
+
+/// Where tries or solutions are outside the limits of the model.
+pub(crate) fn wrong_limits(model: &Model, printed: &Printed) -> Option<Spot>
+    ensures { result ≡ limits_broken model.now printed.now }
+{
+    if is_within_limits(model, printed) {
+        None
+    } else {
+        Some(Spot::nowhere())
+    }
+}

@@ -1,0 +1,174 @@
+//! The rules on pairs, policies and allowed vehicles.
+
+ghost use Rattle.std.specs.Prelude.{◌≡◌, ◌<◌, ◌≤◌, ◌^◌, ◌==◌, find, length, map, IfOk};
+ghost use Rattle.std.specs.List.{list_all};
+ghost use Rattle.vr_model.specs.moves.Moves.{comes_before as comes_before_of};
+ghost use Rattle.vr_model.specs.routes.Rules.{allows_vehicle as allows_vehicle_of, keeps_policy as keeps_policy_of, pairs_in, place_of as place_in, serves_pair as serves_pair_of};
+ghost use Rattle.vr_check.specs.Pairs.{allowed_broken, allowed_broken_of, are_in_order as are_in_order_of, is_in_order as is_in_order_of, is_served as is_served_of, pair_broken, policy_broken, places_of};
+
+use crate::finding::Spot;
+use crate::held::holds;
+use std::alloc::Global;
+use vr_model::{Model, NoMemory, Pair, Policy, Seq};
+
+// Whether a node stands in a list and another one behind it.
+fn comes_before(list: &[u32], first: u32, second: u32) -> bool
+    ensures { result ≡ comes_before_of list.now first second }
+{
+    for (k, &node) in list.iter().enumerate() {
+        if node == first {
+            return holds(&list[k + 1..], second);
+        }
+    }
+    false
+}
+
+// Whether no node of a pair stands in a list, or both do, the pickup first.
+fn serves_pair(list: &[u32], pair: &Pair) -> bool
+    ensures { result ≡ serves_pair_of list.now pair.now }
+{
+    !(holds(list, pair.pickup) || holds(list, pair.delivery))
+        || comes_before(list, pair.pickup, pair.delivery)
+}
+
+// Whether each list serves a pair.
+fn is_served(lists: &[Seq<u32>], pair: &Pair) -> bool
+    ensures { result ≡ is_served_of lists.now pair.now }
+{
+    lists.iter().all(|list| serves_pair(list.as_slice(), pair))
+}
+
+/// Where one node of a pair is active and the other is not, or stands in another list, or before the pickup.
+pub(crate) fn wrong_pair(model: &Model, lists: &[Seq<u32>]) -> Option<Spot>
+    requires { length model.now.pairs ≤ 500 }
+    ensures { result ≡ pair_broken model.now lists.now }
+{
+    for p in 0..model.pairs.len() {
+        if !is_served(lists, model.pairs.get(p)) {
+            return Some(Spot::of_none(p));
+        }
+    }
+    None
+}
+
+/// The places of a pair in a list.
+#[derive(Clone, Copy)]
+pub(crate) struct Places {
+    pub(crate) pickup: usize,
+    pub(crate) delivery: usize,
+}
+
+// The place of a node in a list, its length where it is absent.
+fn place_of(list: &[u32], node: u32) -> usize
+    ensures { result ≡ place_in list.now node }
+{
+    for (k, &other) in list.iter().enumerate() {
+        if other == node {
+            return k;
+        }
+    }
+    list.len()
+}
+
+// The places of the pairs that are picked up in a list.
+fn places_in(alloc: Global, model: &Model, list: &[u32]) -> Result<Seq<Places>, NoMemory>
+    ensures { IfOk result (λ places. places ≡ map (places_of list.now) (pairs_in model.now list.now)) }
+{
+    let mut places = Seq::new(alloc);
+    for pair in model.pairs.as_slice() {
+        if holds(list, pair.pickup) {
+            places.push(Places {
+                pickup: place_of(list, pair.pickup),
+                delivery: place_of(list, pair.delivery),
+            })?;
+        }
+    }
+    Ok(places)
+}
+
+// Whether a policy lets two pairs stand at these places.
+fn are_in_order(policy: Policy, x: Places, y: Places) -> bool
+    ensures { result ≡ are_in_order_of policy x y }
+{
+    match policy {
+        Policy::Any => true,
+        Policy::Lifo => {
+            !(x.pickup < y.pickup && y.pickup < x.delivery) || y.delivery < x.delivery
+        }
+        Policy::Fifo => !(x.pickup < y.pickup) || x.delivery < y.delivery,
+    }
+}
+
+// Whether a policy lets a pair and each of some others stand at their places.
+fn is_in_order(policy: Policy, x: Places, places: &[Places]) -> bool
+    ensures { result ≡ is_in_order_of policy places.now x }
+{
+    places.iter().all(|&y| are_in_order(policy, x, y))
+}
+
+// Whether a policy lets each two of some pairs stand at their places.
+fn all_in_order(policy: Policy, places: &[Places]) -> bool
+    ensures { result ≡ list_all (is_in_order_of policy places.now) places.now }
+{
+    places.iter().all(|&x| is_in_order(policy, x, places))
+}
+
+// Whether the policy of a vehicle holds of each two pairs of its list.
+fn keeps_policy(
+    alloc: Global,
+    model: &Model,
+    vehicle: usize,
+    list: &[u32],
+) -> Result<bool, NoMemory>
+    requires { vehicle < length model.now.vehicles }
+    ensures { IfOk result (λ keeps. keeps ≡ keeps_policy_of model.now vehicle list.now) }
+{
+    let places = places_in(alloc, model, list)?;
+    let policy = model.vehicles.get(vehicle).policy;
+    Ok(all_in_order(policy, places.as_slice()))
+}
+
+/// Where the policy of a vehicle fails.
+pub(crate) fn wrong_policy(
+    alloc: Global,
+    model: &Model,
+    lists: &[Seq<u32>],
+) -> Result<Option<Spot>, NoMemory>
+    requires vehicles { length lists.now ≤ length model.now.vehicles }
+    requires few { length lists.now ≤ 100 }
+    ensures { IfOk result (λ spot. spot ≡ policy_broken model.now lists.now) }
+{
+    for v in 0..lists.len() {
+        if !keeps_policy(alloc, model, v, lists[v].as_slice())? {
+            return Ok(Some(Spot::of_vehicle(v)));
+        }
+    }
+    Ok(None)
+}
+
+// The first place of a list whose visit does not allow the vehicle.
+fn refused_visit(model: &Model, vehicle: usize, list: &[u32]) -> Option<Spot>
+    requires { vehicle < 2 ^ 32 }
+    ensures { result ≡ allowed_broken_of model.now vehicle list.now }
+{
+    for (k, &node) in list.iter().enumerate() {
+        if !model.allows_vehicle(vehicle as u32, node) {
+            return Some(Spot::at(vehicle, k + 1));
+        }
+    }
+    None
+}
+
+/// Where a visit stands on a vehicle that it does not allow.
+pub(crate) fn refused(model: &Model, lists: &[Seq<u32>]) -> Option<Spot>
+    requires { length lists.now ≤ 100 }
+    ensures { result ≡ allowed_broken model.now lists.now }
+{
+    for v in 0..lists.len() {
+        let spot = refused_visit(model, v, lists[v].as_slice());
+        if spot.is_some() {
+            return spot;
+        }
+    }
+    None
+}

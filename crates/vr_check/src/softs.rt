@@ -1,0 +1,102 @@
+//! What printed cumuls cost above soft upper bounds, in 128 bits.
+
+ghost use Rattle.std.specs.Prelude.{◌≡◌, ◌<◌, ◌≤◌, ◌^◌, ◌-ℤ◌, pos, length, IsTrue};
+ghost use Rattle.std.specs.Int.{int_max};
+ghost use Rattle.std.specs.List.{list_all};
+ghost use Rattle.std.specs.Option.{option_copied};
+ghost use Rattle.vr_model.specs.tables.Numbers.{below, total_by};
+ghost use Rattle.vr_model.specs.tables.Tables.{is_visit};
+ghost use Rattle.vr_model.specs.tables.WellFormed.{IsSoft, IsStopRow, IsWellFormed, WherePresent};
+ghost use Rattle.vr_model.specs.routes.Costs.{row_cost as row_cost_of, soft_cost as soft_cost_of, soft_part};
+ghost use Rattle.vr_model.specs.routes.Routes.{are_lists};
+ghost use Rattle.vr_printed.specs.Printed.{assignment_of, lists_of, visits_of};
+ghost use Rattle.vr_printed.specs.Shape.{are_routes_shaped, is_route_shaped};
+ghost use Rattle.vr_check.specs.Asked.{FitsLine, IsAsked, stop_rows_of};
+ghost use Rattle.vr_check.specs.Parts.{IsAround, soft_along, soft_in};
+
+use crate::asked::Asked;
+use crate::numbers::times;
+use vr_model::{Model, Seq, Soft, StopRow};
+use vr_printed::{PrintedPlan, PrintedRoute};
+
+// How far a cumul is above a bound.
+fn above(cumul: i64, bound: i64) -> i128
+    ensures value { result ≡ int_max (pos 0) (cumul -ℤ bound) }
+    ensures range { IsAround (2 ^ 66) result }
+{
+    let above = i128::from(cumul) - i128::from(bound);
+    if above <= 0 { 0 } else { above }
+}
+
+// What a cumul costs above a soft bound.
+fn soft_cost(soft: Option<Soft>, cumul: i64) -> i128
+    requires { WherePresent IsSoft soft }
+    ensures value { result ≡ soft_cost_of soft cumul }
+    ensures range { IsAround (2 ^ 106) result }
+{
+    match soft {
+        None => 0,
+        Some(soft) => times(soft.coefficient, above(cumul, soft.bound)),
+    }
+}
+
+// What a cumul costs by the row of its stop.
+fn row_cost(row: Option<&StopRow>, cumul: i64) -> i128
+    requires { WherePresent IsStopRow (option_copied row) }
+    ensures value { result ≡ row_cost_of (option_copied row.entry) cumul }
+    ensures range { IsAround (2 ^ 106) result }
+{
+    match row {
+        None => 0,
+        Some(row) => soft_cost(row.soft, cumul),
+    }
+}
+
+// What the cumuls of a plan cost by the rows of their stops.
+fn soft_of_plan(asked: Asked<'_>, plan: &PrintedPlan) -> i128
+    requires asked { IsAsked asked }
+    requires few { length asked.list.now ≤ 1000 }
+    requires fits { FitsLine asked plan.now }
+    ensures value { result ≡ soft_along (stop_rows_of asked.entry) plan.now.cumuls }
+    ensures range { IsAround (2 ^ 116) result }
+{
+    let mut total: i128 = 0;
+    for k in 0..plan.cumuls.len() {
+        total += row_cost(asked.row(k), *plan.cumuls.get(k));
+    }
+    total
+}
+
+// What the cumuls of a route cost by the rows of their stops.
+fn soft_of_route(model: &Model, v: usize, list: &[u32], route: &PrintedRoute) -> i128
+    requires well_formed { IsWellFormed model.now }
+    requires vehicle { v < length model.now.vehicles }
+    requires list { list.now ≡ visits_of route.now }
+    requires visits { IsTrue (list_all (is_visit model.now) list.now) }
+    requires few { length list.now ≤ 1000 }
+    requires shaped { IsTrue (is_route_shaped model.now v route.now) }
+    ensures value { result ≡ total_by (soft_in model.now v route.now) (below (length route.now.plans)) }
+    ensures range { IsAround (2 ^ 118) result }
+{
+    let mut total: i128 = 0;
+    for d in 0..route.plans.len() {
+        let asked = Asked { model, d, v, list };
+        total += soft_of_plan(asked, route.plans.get(d));
+    }
+    total
+}
+
+/// The soft part.
+pub(crate) fn soft_of(model: &Model, lists: &[Seq<u32>], routes: &[PrintedRoute]) -> i128
+    requires well_formed { IsWellFormed model.now }
+    requires lists { lists.now ≡ lists_of routes.now }
+    requires visits { IsTrue (are_lists model.now lists.now) }
+    requires shaped { IsTrue (are_routes_shaped model.now routes.now) }
+    ensures { result ≡ soft_part model.now (assignment_of routes.now) }
+{
+    let mut total: i128 = 0;
+    for v in 0..routes.len() {
+        total += soft_of_route(model, v, lists[v].as_slice(), &routes[v]);
+    }
+    total
+}

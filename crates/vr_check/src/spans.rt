@@ -1,0 +1,164 @@
+//! What the spans of printed plans cost, in 128 bits.
+
+ghost use Rattle.std.specs.Prelude.{◌≡◌, ◌<◌, ◌^◌, length, IsTrue};
+ghost use Rattle.vr_model.specs.tables.Numbers.{below, total_by};
+ghost use Rattle.vr_model.specs.tables.WellFormed.{IsWellFormed};
+ghost use Rattle.vr_model.specs.routes.Costs.{global_part, global_span, span_part};
+ghost use Rattle.vr_printed.specs.Printed.{assignment_of};
+ghost use Rattle.vr_printed.specs.Shape.{are_routes_shaped, is_route_shaped, plan_in};
+ghost use Rattle.vr_check.specs.Parts as parts;
+ghost use Rattle.vr_check.specs.Parts.{IsAround, span_along, span_in};
+
+use crate::numbers::times;
+use vr_model::Model;
+use vr_printed::{PrintedPlan, PrintedRoute};
+
+// The first cumul.
+fn first_of(plan: &PrintedPlan) -> i64
+    requires { 0 < length plan.now.cumuls }
+    ensures { result ≡ parts.first_cumul plan.now.cumuls }
+{
+    *plan.cumuls.get(0)
+}
+
+// The last cumul.
+fn last_of(plan: &PrintedPlan) -> i64
+    requires { 0 < length plan.now.cumuls }
+    ensures { result ≡ parts.last_cumul plan.now.cumuls }
+{
+    *plan.cumuls.get(plan.cumuls.len() - 1)
+}
+
+// The cumul of the end less that of the start.
+fn span_of_plan(plan: &PrintedPlan) -> i128
+    requires { 0 < length plan.now.cumuls }
+    ensures value { result ≡ span_along plan.now.cumuls }
+    ensures range { IsAround (2 ^ 66) result }
+{
+    i128::from(last_of(plan)) - i128::from(first_of(plan))
+}
+
+// What the span of a plan of a route costs.
+fn span_cost(model: &Model, v: usize, route: &PrintedRoute, d: usize) -> i128
+    requires well_formed { IsWellFormed model.now }
+    requires vehicle { v < length model.now.vehicles }
+    requires dimension { d < length model.now.dimensions }
+    requires plan { d < length route.now.plans }
+    requires cumuls { 0 < length (plan_in route.now d).cumuls }
+    ensures value { result ≡ span_in model.now v route.now d }
+    ensures range { IsAround (2 ^ 106) result }
+{
+    let coefficient = *model.dimensions.get(d).span_costs.get(v);
+    times(coefficient, span_of_plan(route.plans.get(d)))
+}
+
+// What the spans of a route cost.
+fn span_of_route(model: &Model, v: usize, route: &PrintedRoute) -> i128
+    requires well_formed { IsWellFormed model.now }
+    requires vehicle { v < length model.now.vehicles }
+    requires shaped { IsTrue (is_route_shaped model.now v route.now) }
+    ensures value { result ≡ total_by (span_in model.now v route.now) (below (length route.now.plans)) }
+    ensures range { IsAround (2 ^ 108) result }
+{
+    let mut total: i128 = 0;
+    for d in 0..route.plans.len() {
+        total += span_cost(model, v, route, d);
+    }
+    total
+}
+
+/// The span part.
+pub(crate) fn span_of(model: &Model, routes: &[PrintedRoute]) -> i128
+    requires well_formed { IsWellFormed model.now }
+    requires shaped { IsTrue (are_routes_shaped model.now routes.now) }
+    ensures { result ≡ span_part model.now (assignment_of routes.now) }
+{
+    let mut total: i128 = 0;
+    for v in 0..routes.len() {
+        total += span_of_route(model, v, &routes[v]);
+    }
+    total
+}
+
+/// The least start and the greatest end of some routes in a dimension.
+#[derive(Clone, Copy)]
+pub(crate) struct Ends {
+    pub(crate) first: i64,
+    pub(crate) last: i64,
+}
+
+// The ends with a further start and end.
+fn widened(ends: Option<Ends>, first: i64, last: i64) -> Ends
+    ensures { result ≡ parts.widened ends first last }
+{
+    match ends {
+        None => Ends { first, last },
+        Some(ends) => Ends {
+            first: ends.first.min(first),
+            last: ends.last.max(last),
+        },
+    }
+}
+
+// The ends with a further route, where it is used.
+fn ends_with(ends: Option<Ends>, route: &PrintedRoute, d: usize) -> Option<Ends>
+    requires { d < length route.now.plans → 0 < length (plan_in route.now d).cumuls }
+    ensures { result ≡ parts.ends_with d ends route.now }
+{
+    if d < route.plans.len() {
+        let plan = route.plans.get(d);
+        Some(widened(ends, first_of(plan), last_of(plan)))
+    } else {
+        ends
+    }
+}
+
+// From the least start to the greatest end, 0 where there is no route.
+fn span_of_ends(ends: Option<Ends>) -> i128
+    ensures value { result ≡ parts.span_of_ends ends }
+    ensures range { IsAround (2 ^ 66) result }
+{
+    match ends {
+        None => 0,
+        Some(ends) => i128::from(ends.last) - i128::from(ends.first),
+    }
+}
+
+// The span of all routes in a dimension: from the least start to the greatest end.
+fn global_span_of(model: &Model, routes: &[PrintedRoute], d: usize) -> i128
+    requires dimension { d < length model.now.dimensions }
+    requires shaped { IsTrue (are_routes_shaped model.now routes.now) }
+    ensures value { result ≡ global_span (assignment_of routes.now) d }
+    ensures range { IsAround (2 ^ 66) result }
+{
+    let mut ends = None;
+    for v in 0..routes.len() {
+        ends = ends_with(ends, &routes[v], d);
+    }
+    span_of_ends(ends)
+}
+
+// What the span of all routes costs in a dimension.
+fn global_cost(model: &Model, routes: &[PrintedRoute], d: usize) -> i128
+    requires well_formed { IsWellFormed model.now }
+    requires dimension { d < length model.now.dimensions }
+    requires shaped { IsTrue (are_routes_shaped model.now routes.now) }
+    ensures value { result ≡ parts.global_cost model.now (assignment_of routes.now) d }
+    ensures range { IsAround (2 ^ 106) result }
+{
+    let coefficient = model.dimensions.get(d).global_span_cost;
+    times(coefficient, global_span_of(model, routes, d))
+}
+
+/// The global part.
+pub(crate) fn global_of(model: &Model, routes: &[PrintedRoute]) -> i128
+    requires well_formed { IsWellFormed model.now }
+    requires shaped { IsTrue (are_routes_shaped model.now routes.now) }
+    ensures { result ≡ global_part model.now (assignment_of routes.now) }
+{
+    let mut total: i128 = 0;
+    for d in 0..model.dimensions.len() {
+        total += global_cost(model, routes, d);
+    }
+    total
+}

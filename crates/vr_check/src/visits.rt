@@ -1,0 +1,109 @@
+//! The rules on which visits are active.
+
+ghost use Rattle.std.specs.Prelude.{◌≡◌, ◌≤◌, length};
+ghost use Rattle.vr_model.specs.routes.Rules.{active_in as active_in_of, is_grouped as is_grouped_of};
+ghost use Rattle.vr_check.specs.Visits.{dropped_broken, group_broken, has_right_number as has_right_number_of, is_missing as is_missing_of, is_next as is_next_of, is_inactive as is_inactive_of, required_broken};
+
+use crate::finding::Spot;
+use crate::held::{holds, is_active};
+use vr_model::{Group, Model, Seq};
+
+// Whether a visit stands in no list.
+fn is_inactive(model: &Model, lists: &[Seq<u32>], node: u32) -> bool
+    ensures { result ≡ is_inactive_of model.now lists.now node }
+{
+    model.is_visit(node) && !is_active(lists, node)
+}
+
+// Whether a node stands at a place of a list.
+fn is_next(list: &[u32], k: usize, node: u32) -> bool
+    ensures { result ≡ is_next_of list.now k node }
+{
+    k < list.len() && list[k] == node
+}
+
+/// Where the list of dropped visits is not that of the inactive ones, ascending.
+pub(crate) fn wrong_dropped(model: &Model, lists: &[Seq<u32>], dropped: &[u32]) -> Option<Spot>
+    ensures { result ≡ dropped_broken model.now lists.now dropped.now }
+{
+    let mut k = 0;
+    for node in 0..model.nodes {
+        if is_inactive(model, lists, node) {
+            if !is_next(dropped, k, node) {
+                return Some(Spot::nowhere());
+            }
+            k += 1;
+        }
+    }
+    if k == dropped.len() {
+        None
+    } else {
+        Some(Spot::nowhere())
+    }
+}
+
+// Whether a node stands in a group.
+fn is_grouped(model: &Model, node: u32) -> bool
+    ensures { result ≡ is_grouped_of model.now node }
+{
+    model
+        .groups
+        .as_slice()
+        .iter()
+        .any(|group| holds(group.nodes.as_slice(), node))
+}
+
+// Whether a node is an inactive visit that stands in no group.
+fn is_missing(model: &Model, lists: &[Seq<u32>], node: u32) -> bool
+    ensures { result ≡ is_missing_of model.now lists.now node }
+{
+    is_inactive(model, lists, node) && !is_grouped(model, node)
+}
+
+/// Where a visit in no group is inactive: the least such node.
+pub(crate) fn missing(model: &Model, lists: &[Seq<u32>]) -> Option<Spot>
+    ensures { result ≡ required_broken model.now lists.now }
+{
+    for node in 0..model.nodes {
+        if is_missing(model, lists, node) {
+            return Some(Spot::of_none(node as usize));
+        }
+    }
+    None
+}
+
+// How many nodes of a group are active.
+pub(crate) fn active_in(lists: &[Seq<u32>], group: &Group) -> usize
+    ensures { result ≡ active_in_of lists.now group.now }
+{
+    group
+        .nodes
+        .as_slice()
+        .iter()
+        .filter(|&&node| is_active(lists, node))
+        .count()
+}
+
+// Whether as many nodes of a group are active as must be.
+fn has_right_number(lists: &[Seq<u32>], group: &Group) -> bool
+    ensures { result ≡ has_right_number_of lists.now group.now }
+{
+    let active = active_in(lists, group);
+    match group.penalty {
+        None => active == group.max as usize,
+        Some(_) => active <= group.max as usize,
+    }
+}
+
+/// Where too many nodes of a group are active, or without a penalty not exactly as many as may be.
+pub(crate) fn wrong_group(model: &Model, lists: &[Seq<u32>]) -> Option<Spot>
+    requires { length model.now.groups ≤ 1000 }
+    ensures { result ≡ group_broken model.now lists.now }
+{
+    for k in 0..model.groups.len() {
+        if !has_right_number(lists, model.groups.get(k)) {
+            return Some(Spot::of_none(k));
+        }
+    }
+    None
+}
