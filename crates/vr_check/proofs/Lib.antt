@@ -9,4 +9,5 @@ pub mod PrintedLists
 pub mod Distinct
 pub mod Valid
 pub mod Scheduled
+pub mod PlanSums
 pub mod AllMet

@@ -58,7 +58,11 @@ plan_is [] (suc d) = refl
 plan_is (p ∷ plans) zero = refl
 plan_is (p ∷ plans) (suc d) = plan_is plans d
 
-long_enough : (list : List ℕ) → is_empty list ≡ false → 0 < length list
+-- the plan of a vehicle in the assignment is the one that is printed
+pub plan_is_printed : (routes : List PrintedRoute) (d v : ℕ) → plan_at (assignment_of routes) d v ≡ plan_of (plan_in (slice_index_or routes v no_route) d)
+plan_is_printed routes d v = ap (λ plans. slice_index_or plans d (plan_of no_printed_plan)) (plans_is routes v) ∙ plan_is (slice_index_or routes v no_route).plans d
+
+pub long_enough : (list : List ℕ) → is_empty list ≡ false → 0 < length list
 long_enough [] e = absurd (cc)
 long_enough (x ∷ xs) e = omega arith
 
@@ -78,7 +82,7 @@ module _ (model : Model) (routes : List PrintedRoute) (shaped : IsTrue (are_rout
           (lengths.cumuls ∙ omega (arith, lengths.nodes, long, line_stops model d v (visits_of r)))
           (lengths.slacks ∙ omega (arith, lengths.nodes, long, line_arcs model d v (visits_of r)))
           lengths.breaks (found plan.Cumul cumuls) (found plan.Slack slacks) (found plan.Break breaks) in
-      let same_plan : plan_at (assignment_of routes) d v ≡ plan_of (plan_in r d) = ap (λ plans. slice_index_or plans d (plan_of no_printed_plan)) (plans_is routes v) ∙ plan_is r.plans d in
+      let same_plan : plan_at (assignment_of routes) d v ≡ plan_of (plan_in r d) = plan_is_printed routes d v in
       subst (λ list. IsSchedule (line model d v list) (plan_at (assignment_of routes) d v)) (sym (route_is routes v)) (subst (IsSchedule (line model d v (visits_of r))) (sym same_plan) made)
 
   pub lines_feasible : (d v : ℕ) → d < length model.dimensions → v < length (lists_of routes) → is_empty (route (lists_of routes) v) ≡ false → IsTrue (is_feasible (line model d v (route (lists_of routes) v)))

@@ -50,8 +50,8 @@ fn slack_at(plan: &PrintedPlan, k: usize) -> i64
     *plan.slacks.get(k)
 }
 
-// A cumul.
-fn cumul_at(plan: &PrintedPlan, k: usize) -> i64
+/// A cumul.
+pub(crate) fn cumul_at(plan: &PrintedPlan, k: usize) -> i64
     requires { k < length plan.now.cumuls }
     ensures { result ≡ cumul (plan_of plan.now) k }
 {

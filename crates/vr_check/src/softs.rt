@@ -16,6 +16,7 @@ ghost use Rattle.vr_check.specs.Parts.{IsAround, soft_along, soft_in};
 
 use crate::asked::Asked;
 use crate::numbers::times;
+use crate::plans::cumul_at;
 use vr_model::{Model, Seq, Soft, StopRow};
 use vr_printed::{PrintedPlan, PrintedRoute};
 
@@ -62,7 +63,7 @@ fn soft_of_plan(asked: Asked<'_>, plan: &PrintedPlan) -> i128
 {
     let mut total: i128 = 0;
     for k in 0..plan.cumuls.len() {
-        total += row_cost(asked.row(k), *plan.cumuls.get(k));
+        total += row_cost(asked.row(k), cumul_at(plan, k));
     }
     total
 }

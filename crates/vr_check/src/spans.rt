@@ -1,8 +1,9 @@
 //! What the spans of printed plans cost, in 128 bits.
 
-ghost use Rattle.std.specs.Prelude.{◌≡◌, ◌<◌, ◌^◌, length, IsTrue};
-ghost use Rattle.vr_model.specs.tables.Numbers.{below, total_by};
-ghost use Rattle.vr_model.specs.tables.WellFormed.{IsWellFormed};
+ghost use Rattle.std.specs.Prelude.{◌≡◌, ◌<◌, ◌^◌, length, pos, IsTrue};
+ghost use Rattle.vr_model.specs.tables.Numbers.{below, number_at, total_by};
+ghost use Rattle.vr_model.specs.tables.WellFormed.{IsIn, IsWellFormed, greatest_cost};
+ghost use Rattle.vr_model.specs.tables.Tables.{dimension_at};
 ghost use Rattle.vr_model.specs.routes.Costs.{global_part, global_span, span_part};
 ghost use Rattle.vr_printed.specs.Printed.{assignment_of};
 ghost use Rattle.vr_printed.specs.Shape.{are_routes_shaped, is_route_shaped, plan_in};
@@ -10,6 +11,7 @@ ghost use Rattle.vr_check.specs.Parts as parts;
 ghost use Rattle.vr_check.specs.Parts.{IsAround, span_along, span_in};
 
 use crate::numbers::times;
+use crate::plans::cumul_at;
 use vr_model::Model;
 use vr_printed::{PrintedPlan, PrintedRoute};
 
@@ -18,7 +20,7 @@ fn first_of(plan: &PrintedPlan) -> i64
     requires { 0 < length plan.now.cumuls }
     ensures { result ≡ parts.first_cumul plan.now.cumuls }
 {
-    *plan.cumuls.get(0)
+    cumul_at(plan, 0)
 }
 
 // The last cumul.
@@ -26,7 +28,7 @@ fn last_of(plan: &PrintedPlan) -> i64
     requires { 0 < length plan.now.cumuls }
     ensures { result ≡ parts.last_cumul plan.now.cumuls }
 {
-    *plan.cumuls.get(plan.cumuls.len() - 1)
+    cumul_at(plan, plan.cumuls.len() - 1)
 }
 
 // The cumul of the end less that of the start.
@@ -36,6 +38,17 @@ fn span_of_plan(plan: &PrintedPlan) -> i128
     ensures range { IsAround (2 ^ 66) result }
 {
     i128::from(last_of(plan)) - i128::from(first_of(plan))
+}
+
+// The coefficient of the span of a vehicle.
+fn span_coefficient(model: &Model, v: usize, d: usize) -> i64
+    requires well_formed { IsWellFormed model.now }
+    requires vehicle { v < length model.now.vehicles }
+    requires dimension { d < length model.now.dimensions }
+    ensures value { result ≡ number_at (dimension_at model.now d).span_costs v }
+    ensures range { IsIn (pos 0) greatest_cost result }
+{
+    *model.dimensions.get(d).span_costs.get(v)
 }
 
 // What the span of a plan of a route costs.
@@ -48,7 +61,7 @@ fn span_cost(model: &Model, v: usize, route: &PrintedRoute, d: usize) -> i128
     ensures value { result ≡ span_in model.now v route.now d }
     ensures range { IsAround (2 ^ 106) result }
 {
-    let coefficient = *model.dimensions.get(d).span_costs.get(v);
+    let coefficient = span_coefficient(model, v, d);
     times(coefficient, span_of_plan(route.plans.get(d)))
 }
 
@@ -138,6 +151,16 @@ fn global_span_of(model: &Model, routes: &[PrintedRoute], d: usize) -> i128
     span_of_ends(ends)
 }
 
+// The coefficient of the span of all routes.
+fn global_coefficient(model: &Model, d: usize) -> i64
+    requires well_formed { IsWellFormed model.now }
+    requires dimension { d < length model.now.dimensions }
+    ensures value { result ≡ (dimension_at model.now d).global_span_cost }
+    ensures range { IsIn (pos 0) greatest_cost result }
+{
+    model.dimensions.get(d).global_span_cost
+}
+
 // What the span of all routes costs in a dimension.
 fn global_cost(model: &Model, routes: &[PrintedRoute], d: usize) -> i128
     requires well_formed { IsWellFormed model.now }
@@ -146,7 +169,7 @@ fn global_cost(model: &Model, routes: &[PrintedRoute], d: usize) -> i128
     ensures value { result ≡ parts.global_cost model.now (assignment_of routes.now) d }
     ensures range { IsAround (2 ^ 106) result }
 {
-    let coefficient = model.dimensions.get(d).global_span_cost;
+    let coefficient = global_coefficient(model, d);
     times(coefficient, global_span_of(model, routes, d))
 }
 

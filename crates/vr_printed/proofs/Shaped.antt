@@ -1,9 +1,9 @@
 -- What the shape of a route says of its lengths.
-use Rattle.std.proofs.Common.{◌≡◌, ℕ, zero, suc, ◌+◌, ◌-◌, ◌<◌, ◌≤◌, Bool, true, false, cond, ◌&&◌, List, [], ◌∷◌, length, take, drop, Option, Some, None, Result, Ok, Err, refl, sym, subst, ap, ◌∙◌, arith}
+use Rattle.std.proofs.Common.{◌≡◌, ℕ, zero, suc, ◌+◌, ◌-◌, ◌<◌, ◌≤◌, Bool, true, false, cond, ◌&&◌, List, [], ◌∷◌, length, take, drop, Option, Some, None, Result, Ok, Err, refl, sym, subst, ap, ◌∙◌, inl, inr, arith}
 use Rattle.std.specs.Prelude.{IsTrue, ◌==◌, nat_le, pos}
 use Rattle.std.specs.List.{list_all}
 use Rattle.std.specs.Str.{bytes_eq}
-use Rattle.std.proofs.lemmas.Bool.{eqb-true, eqb-false}
+use Rattle.std.proofs.lemmas.Bool.{cases_lt, eqb-true}
 use Rattle.std.proofs.lemmas.Bool.Decides.{nat_tests}
 use Rattle.std.proofs.lemmas.List.{length-take-le, length-drop}
 use Rattle.vr_model.specs.tables.Numbers.{below, is_same_number}
@@ -60,6 +60,13 @@ module _ (model : Model) (v : ℕ) (route : PrintedRoute) (shaped : IsTrue (is_r
         slacks = eq_of_test _ _ (and_left (length plan.slacks == length route.nodes - 1) _ others);
         breaks = eq_of_test _ _ (and_right (length plan.slacks == length route.nodes - 1) _ others);
       }
+
+  -- there are no more plans than dimensions
+  pub plans_few : length route.plans ≤ length model.dimensions
+  plans_few = elim (cases_lt 0 (length route.plans)) [
+    | inl some ↦ (let last = (lengths_of (length route.plans - 1) (omega (arith, some))).dimension in omega (arith, last))
+    | inr none ↦ omega (arith, none)
+  ]
 
 -- the visits of a route with nodes
 pub visits_long : (nodes : List ℕ) → length (visits_between nodes) ≡ length nodes - 2

@@ -1,11 +1,20 @@
-use Rattle.std.proofs.Common.{◌≡◌, ◌∙◌, [], length, arith, sym, ap}
+use Rattle.std.proofs.Common.{◌≡◌, ◌∙◌, [], length, arith, sym, ap, subst}
 use Rattle.std.proofs.lemmas.Int.{ints}
 use Rattle.std.proofs.lemmas.List.{get_or_default}
+use Rattle.std.specs.Prelude.{IsTrue}
+use Rattle.std.specs.List.{list_all}
+use Rattle.vr_model.specs.tables.Tables.{is_visit}
+use Rattle.vr_model.proofs.routes.Lists.{route-visits}
 use Rattle.vr_model.specs.tables.Numbers.{total_by, below}
 use Rattle.vr_model.specs.routes.Routes.{route_cost}
 use Rattle.vr_model.proofs.tables.Totals.{total_by-more}
 use Rattle.vr_check.proofs.Totalling.{arcs_at}
 use Rattle.vr_check.proofs.costs.arcs_of.Goals as goal
+
+pub arcs_of_route-total-requires-clause-visits : goal.arcs_of_route-total-requires-clause-visits
+arcs_of_route-total-requires-clause-visits c =
+    let list = c.as_slice.ensures ∙ (c.index-lists-v.is ∙ get_or_default c.args.lists.now c.loop-v.v c.index-lists-v.result [] c.loop-v-test.true) in
+    subst (λ list. IsTrue (list_all (is_visit c.args.model.now) list)) (sym list) (route-visits c.args.model.now c.args.lists.now c.loop-v.v c.requires.visits)
 
 pub loop-v-preserved : goal.loop-v-preserved
 loop-v-preserved c =

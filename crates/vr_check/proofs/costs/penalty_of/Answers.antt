@@ -24,7 +24,9 @@ loop-g-preserved c =
     let so_far = c.loop-g.invariant in
     let few = c.requires.number_of_groups in
     record {
-      sum = omega (arith, ints, value, more, cost.low, cost.high, so_far.sum, so_far.low, so_far.high, low, few);
-      low = omega (arith, ints, cost.low, cost.high, so_far.low, so_far.high, low, few);
-      high = omega (arith, ints, cost.low, cost.high, so_far.low, so_far.high, low, few);
+      sum = omega (arith, ints, value, more, cost.range.at_least, cost.range.at_most, so_far.sum, so_far.range.at_least, so_far.range.at_most, low, few);
+      range = record {
+        at_least = omega (arith, ints, cost.range.at_least, cost.range.at_most, so_far.range.at_least, so_far.range.at_most, low, few);
+        at_most = omega (arith, ints, cost.range.at_least, cost.range.at_most, so_far.range.at_least, so_far.range.at_most, low, few);
+      };
     }

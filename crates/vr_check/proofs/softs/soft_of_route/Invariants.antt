@@ -1,0 +1,11 @@
+use Rattle.std.proofs.Common.{◌≡◌, ◌*◌, ◌^◌}
+use Rattle.vr_model.specs.tables.Numbers.{total_by, below}
+use Rattle.vr_check.specs.Parts.{IsAround}
+use Rattle.vr_check.specs.Parts.{soft_in}
+use Rattle.vr_check.proofs.softs.soft_of_route.Given as goal
+
+abbrev pub invariant-loop-d : goal.invariant-loop-d
+invariant-loop-d l = record {
+  sum : l.total ≡ total_by (soft_in l.model l.v l.route) (below l.d);
+  range : IsAround (2 ^ 116 * l.d) l.total;
+}
