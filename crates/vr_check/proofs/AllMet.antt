@@ -1,12 +1,10 @@
 -- What it means that a printed solution meets all rules.
-use Rattle.std.proofs.Common.{◌≡◌, ℕ, ◌<◌, Bool, true, false, cond, ◌&&◌, [], length, Option, Some, None, Result, Ok, Err, refl, sym, ap, ◌∙◌, arith}
-use Rattle.std.specs.Prelude.{ℤ, ◌≤ℤ◌, IsTrue, int_le}
+use Rattle.std.proofs.Common.{◌≡◌, ℕ, length, Option, Some, None, refl, ◌∙◌}
+use Rattle.std.specs.Prelude.{ℤ, IsTrue, int_le}
 use Rattle.std.proofs.lemmas.List.{length-map}
-use Rattle.serde_json.specs.Data.{Data}
 use Rattle.vr_model.specs.tables.Numbers.{is_same_number}
 use Rattle.vr_model.specs.routes.Costs.{parts_at, sum_of}
 use Rattle.vr_model.specs.deciding.Testing.{eq_of_tests, le_of_test}
-use Rattle.vr_model.specs.tables.WellFormed.{IsWellFormed}
 use Rattle.vr_model.specs.declared.records.Model.{Model}
 use Rattle.vr_model.specs.declared.records.Parts.{Parts}
 use Rattle.vr_check.specs.Findings.{spot_of_none, nowhere}
@@ -15,7 +13,6 @@ use Rattle.vr_printed.specs.Shape.{are_routes_shaped, printed_in}
 use Rattle.vr_check.specs.Parts.{part_broken, parts_differ}
 use Rattle.vr_check.specs.Check.{finding, finding_in, lists_finding}
 use Rattle.vr_check.specs.Laws.{KeepsAllRules, MetKeepsAllRules}
-use Rattle.vr_check.specs.declared.finding.Finding.{Finding}
 use Rattle.vr_check.specs.declared.finding.Finding.TheVariants.{Meets}
 use Rattle.vr_printed.specs.declared.printed.Printed.{Printed}
 use Rattle.vr_check.proofs.Nothing.{through, both_none, is_right}

@@ -1,6 +1,6 @@
 -- Lists in which no visit stood earlier hold no visit twice.
-use Rattle.std.proofs.Common.{◌≡◌, ℕ, zero, suc, ◌+◌, ◌<◌, ◌≤◌, Bool, true, false, not, ◌&&◌, ◌||◌, ◌==◌, List, [], ◌∷◌, ◌++◌, length, get_or, take, refl, sym, subst, ap, ap₂, ◌∙◌, append_assoc, append-nil, arith}
-use Rattle.std.specs.List.{list_any, concat}
+use Rattle.std.proofs.Common.{◌≡◌, ℕ, suc, ◌<◌, Bool, true, false, ◌||◌, ◌==◌, List, [], ◌∷◌, ◌++◌, length, get_or, take, refl, sym, ap, ap₂, ◌∙◌, append_assoc, append-nil, arith}
+use Rattle.std.specs.List.{concat}
 use Rattle.std.proofs.lemmas.List.Folds.{list_any-append}
 use Rattle.vr_model.specs.routes.Routes.{holds, is_active, is_distinct, route}
 use Rattle.vr_model.proofs.tables.Tests.{or-false_left, or-false_right}
@@ -15,7 +15,7 @@ add_list done [] d outside inside = ap is_distinct (append-nil done) ∙ d
 add_list done (x ∷ xs) d outside inside =
     ap is_distinct (sym (append_assoc done (x ∷ []) xs)) ∙ add_list (done ++ x ∷ []) xs (is_distinct-push done x d (outside 0 (omega arith)))
     (λ k low. list_any-append (λ z. get_or xs k 0 == z) done (x ∷ []) ∙ or_both_false (holds done (get_or xs k 0)) ((get_or xs k 0 == x) || false) (outside (suc k) (omega (arith, low)))
-        (or_both_false (get_or xs k 0 == x) false (or-false_left (get_or xs k 0 == x) (holds (take k xs) (get_or xs k 0)) (inside (suc k) (omega (arith, low)))) refl))
+    (or_both_false (get_or xs k 0 == x) false (or-false_left (get_or xs k 0 == x) (holds (take k xs) (get_or xs k 0)) (inside (suc k) (omega (arith, low)))) refl))
     (λ k low. or-false_right (get_or xs k 0 == x) (holds (take k xs) (get_or xs k 0)) (inside (suc k) (omega (arith, low))))
 
 -- lists behind others
@@ -29,7 +29,7 @@ add_lists done (list ∷ lists) d outside earlier inside =
     ap is_distinct (sym (append_assoc done list (concat lists))) ∙ add_lists (done ++ list) lists
     (add_list done list d (λ k low. outside 0 k (omega arith) low) (λ k low. inside 0 k (omega arith) low))
     (λ v k low less. list_any-append (λ z. get_or (route lists v) k 0 == z) done list ∙ or_both_false (holds done (get_or (route lists v) k 0)) (holds list (get_or (route lists v) k 0)) (outside (suc v) k (omega (arith, low)) less)
-        (or-false_left (holds list (get_or (route lists v) k 0)) (is_active (take v lists) (get_or (route lists v) k 0)) (earlier (suc v) k (omega (arith, low)) less)))
+    (or-false_left (holds list (get_or (route lists v) k 0)) (is_active (take v lists) (get_or (route lists v) k 0)) (earlier (suc v) k (omega (arith, low)) less)))
     (λ v k low less. or-false_right (holds list (get_or (route lists v) k 0)) (is_active (take v lists) (get_or (route lists v) k 0)) (earlier (suc v) k (omega (arith, low)) less))
     (λ v k low less. inside (suc v) k (omega (arith, low)) less)
 

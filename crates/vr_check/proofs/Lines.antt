@@ -1,13 +1,13 @@
 -- A line, place by place.
-use Rattle.std.proofs.Common.{◌≡◌, ℕ, zero, suc, ◌+◌, ◌<◌, ◌≤◌, Bool, true, false, not, ◌&&◌, ◌||◌, List, [], ◌∷◌, ◌++◌, length, get_or, map, Option, Some, None, refl, sym, ap, ap₂, ◌∙◌, arith}
-use Rattle.std.specs.Prelude.{ℤ, pos, ◌≤ℤ◌, IsTrue, slice_index_or, ◌==◌, int_le}
+use Rattle.std.proofs.Common.{◌≡◌, ℕ, zero, suc, ◌+◌, ◌<◌, ◌≤◌, Bool, true, false, not, ◌&&◌, ◌||◌, List, [], ◌∷◌, ◌++◌, length, get_or, map, Option, None, refl, sym, ap, ◌∙◌, arith}
+use Rattle.std.specs.Prelude.{ℤ, pos, ◌≤ℤ◌, slice_index_or, ◌==◌}
 use Rattle.std.proofs.lemmas.Int.{ints}
 use Rattle.std.proofs.lemmas.List.{length-map, length-append}
 use Rattle.vr_model.specs.tables.Numbers.{within, horizon, number_at, is_same_number}
 use Rattle.vr_model.specs.tables.Tables.{no_dimension, dimension_at, vehicle_at, row_of}
 use Rattle.vr_model.specs.tables.WellFormed.{IsWellFormed}
 use Rattle.vr_model.specs.routes.Routes.{UsedArc, arcs_from, stops}
-use Rattle.vr_model.specs.schedules.Lines.{Line, Arc, line, line_arc, stop_allows, start_allows, stop_rows, row_allows}
+use Rattle.vr_model.specs.schedules.Lines.{Arc, line, line_arc, stop_allows, start_allows, stop_rows, row_allows}
 use Rattle.vr_model.specs.schedules.Schedules.{allows, arc_at, no_arc}
 use Rattle.vr_model.specs.deciding.Testing.{within_is, test_of_within}
 use Rattle.vr_model.specs.declared.records.Model.{Model}

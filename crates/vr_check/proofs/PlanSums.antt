@@ -8,8 +8,8 @@ use Rattle.std.proofs.lemmas.Bool.{cases_lt}
 use Rattle.std.proofs.lemmas.List.{length-map}
 use Rattle.vr_model.specs.tables.Numbers.{number_at, total_by, below, from_to}
 use Rattle.vr_model.specs.tables.Tables.{dimension_at}
-use Rattle.vr_model.specs.routes.Routes.{route, is_empty, used_vehicles}
-use Rattle.vr_model.specs.routes.Costs.{Assignment, plan_at, start_at, end_at, greatest, least, global_span, over_plans, soft_costs, soft_part, span_part, row_cost}
+use Rattle.vr_model.specs.routes.Routes.{route, is_empty}
+use Rattle.vr_model.specs.routes.Costs.{Assignment, start_at, end_at, greatest, least, global_span, over_plans, soft_costs, soft_part, span_part, row_cost}
 use Rattle.vr_model.specs.schedules.Lines.{stop_rows}
 use Rattle.vr_model.specs.schedules.Schedules.{cumul}
 use Rattle.vr_model.specs.declared.records.Model.{Model}
@@ -21,7 +21,7 @@ use Rattle.vr_printed.specs.Printed.{no_route, visits_of, lists_of, assignment_o
 use Rattle.vr_printed.specs.Shape.{plan_in, are_routes_shaped, is_route_shaped}
 use Rattle.vr_printed.specs.declared.printed.PrintedRoute.{PrintedRoute}
 use Rattle.vr_printed.proofs.Shaped.{lengths_of, plans_there, visits_long, route_shaped}
-use Rattle.vr_check.specs.Parts.{soft_at, soft_along, soft_in, first_cumul, last_cumul, span_along, span_in, widened, ends_with, span_of_ends}
+use Rattle.vr_check.specs.Parts.{soft_at, soft_along, soft_in, first_cumul, last_cumul, span_in, widened, ends_with, span_of_ends}
 use Rattle.vr_check.specs.declared.spans.Ends.{Ends}
 use Rattle.vr_check.proofs.PrintedLists.{route_is}
 use Rattle.vr_check.proofs.Scheduled.{plan_is_printed, long_enough}

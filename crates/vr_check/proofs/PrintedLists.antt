@@ -1,18 +1,15 @@
 -- The printed lists, where the rules on them find nothing.
-use Rattle.std.proofs.Common.{◌≡◌, ℕ, zero, suc, ◌+◌, ◌-◌, ◌<◌, ◌≤◌, Bool, true, false, not, ◌&&◌, ◌||◌, ◌==◌, List, [], ◌∷◌, ◌++◌, length, get_or, take, drop, map, refl, sym, subst, ap, ap₂, ◌∙◌, append_assoc, arith}
+use Rattle.std.proofs.Common.{◌≡◌, ℕ, zero, suc, ◌+◌, ◌-◌, ◌<◌, true, ◌==◌, List, [], ◌∷◌, length, get_or, drop, refl, sym, subst, ◌∙◌, arith}
 use Rattle.std.specs.Prelude.{IsTrue, None, slice_index_or}
-use Rattle.std.specs.List.{list_all, list_any, concat}
-use Rattle.std.proofs.lemmas.Bool.{eqb-false, ne_eqb}
+use Rattle.std.specs.List.{list_all}
+use Rattle.std.proofs.lemmas.Bool.{ne_eqb}
 use Rattle.std.proofs.lemmas.List.{get_or-take, get_or-drop, length-map}
-use Rattle.std.proofs.lemmas.List.Folds.{list_all-append, list_any-append}
-use Rattle.vr_model.specs.tables.Numbers.{below}
 use Rattle.vr_model.specs.tables.Tables.{vehicle_at, is_visit}
-use Rattle.vr_model.specs.routes.Routes.{route, holds, is_active, is_distinct}
-use Rattle.vr_model.specs.deciding.Testing.{and_both}
+use Rattle.vr_model.specs.routes.Routes.{route}
 use Rattle.vr_model.specs.declared.records.Model.{Model}
 use Rattle.vr_check.specs.Findings.{spot}
 use Rattle.vr_printed.specs.Printed.{no_route, visits_between, visits_of, lists_of, nodes_at}
-use Rattle.vr_check.specs.Lists.{node_at, is_right_node, ends_broken_at, ends_broken_of, ends_broken_in, ends_broken}
+use Rattle.vr_check.specs.Lists.{node_at, is_right_node, ends_broken_at, ends_broken_in, ends_broken}
 use Rattle.vr_printed.specs.declared.printed.PrintedRoute.{PrintedRoute}
 use Rattle.vr_check.proofs.Nothing.{at_none, is_right, third_case, all_from_places}
 use Rattle.vr_printed.proofs.Shaped.{visits_long}
@@ -46,5 +43,5 @@ ends_visits model routes h v low = subst (λ list. IsTrue (list_all (is_visit mo
         let here = at_none (ends_broken_at model v (nodes_at routes v)) (length (nodes_at routes v)) found (1 + k) (omega (arith, short)) in
         let good = is_right (is_right_node model v (nodes_at routes v) (1 + k)) (spot v (1 + k)) here in
         let visit = third_case (1 + k == 0) (1 + k + 1 == length (nodes_at routes v)) (node_at (nodes_at routes v) (1 + k) == (vehicle_at model v).start) (node_at (nodes_at routes v) (1 + k) == (vehicle_at model v).end) (is_visit model (node_at (nodes_at routes v) (1 + k))) good
-            (ne_eqb (1 + k) 0 (λ e. absurd (omega (arith, e)))) (ne_eqb (1 + k + 1) (length (nodes_at routes v)) (λ e. absurd (omega (arith, e, short)))) in
+        (ne_eqb (1 + k) 0 (λ e. absurd (omega (arith, e)))) (ne_eqb (1 + k + 1) (length (nodes_at routes v)) (λ e. absurd (omega (arith, e, short)))) in
         subst (λ node. is_visit model node ≡ true) (sym (between (nodes_at routes v) k short)) visit

@@ -1,23 +1,22 @@
 -- The printed plans are schedules of their lines, where the rules on plans find nothing.
-use Rattle.std.proofs.Common.{◌≡◌, ℕ, zero, suc, ◌+◌, ◌-◌, ◌<◌, ◌≤◌, Bool, true, false, cond, ◌&&◌, List, [], ◌∷◌, length, map, refl, sym, subst, ap, ap₂, ◌∙◌, arith}
-use Rattle.std.specs.Prelude.{IsTrue, None, slice_index_or, pos, int_le, ◌==◌}
+use Rattle.std.proofs.Common.{◌≡◌, ℕ, zero, suc, ◌-◌, ◌<◌, true, false, List, [], ◌∷◌, length, map, refl, sym, subst, ap, ◌∙◌, arith}
+use Rattle.std.specs.Prelude.{IsTrue, None, slice_index_or, pos}
 use Rattle.std.specs.List.{list_all}
 use Rattle.std.proofs.lemmas.List.{length-map}
-use Rattle.vr_model.specs.tables.Numbers.{below, within, is_same_number}
+use Rattle.vr_model.specs.tables.Numbers.{below, within}
 use Rattle.vr_model.specs.routes.Routes.{route, is_empty}
 use Rattle.vr_model.specs.schedules.Lines.{Line, line}
-use Rattle.vr_model.specs.schedules.Schedules.{Plan, both_sides, IsSchedule, allows, cumul, slack, break_at, break_start}
+use Rattle.vr_model.specs.schedules.Schedules.{Plan, both_sides, IsSchedule, allows, cumul, slack}
 use Rattle.vr_model.specs.deciding.ScheduleTests.{rule_tests, slack_is, is_placed, keeps_rules-sound}
 use Rattle.vr_model.specs.schedules.Choices.{is_feasible}
 use Rattle.vr_model.specs.routes.Costs.{plan_at}
 use Rattle.vr_model.specs.routes.AssignmentLaws.{MeetsItsLines}
-use Rattle.vr_model.proofs.tables.Tests.{clash}
-use Rattle.vr_model.specs.deciding.Testing.{and_left, and_right, eq_of_test, test_of_eq, range_list_all, all_passed}
+use Rattle.vr_model.specs.deciding.Testing.{and_left, and_right, test_of_eq, range_list_all, all_passed}
 use Rattle.vr_model.specs.declared.records.Model.{Model}
 use Rattle.vr_model.proofs.schedules.ChoiceLaws.{chosen_where_feasible}
 use Rattle.vr_check.specs.Findings.{spot}
-use Rattle.vr_printed.specs.Printed.{no_route, plan_of, plans_of, visits_between, visits_of, lists_of, assignment_of}
-use Rattle.vr_printed.specs.Shape.{no_printed_plan, plan_in, is_route_shaped, is_shaped_at, are_routes_shaped}
+use Rattle.vr_printed.specs.Printed.{no_route, plan_of, plans_of, visits_of, lists_of, assignment_of}
+use Rattle.vr_printed.specs.Shape.{no_printed_plan, plan_in, are_routes_shaped}
 use Rattle.vr_check.specs.Plans.{cumul_broken_at, cumul_broken, is_right_slack, slack_broken_at, slack_broken, starts_in_range, ends_in_time, carries_breaks, are_breaks_right, break_broken, plan_broken_in, route_broken_at, routes_broken}
 use Rattle.vr_check.specs.declared.plans.PlanRule.{PlanRule}
 use Rattle.vr_check.specs.declared.plans.PlanRule.TheVariants as plan
@@ -37,14 +36,36 @@ schedule_from line v d plan stops arcs breaks cumuls slacks taken =
     let rest = and_right (list_all (starts_in_range line plan) (below (length line.breaks))) _ good in
     let last = and_right (list_all (ends_in_time line plan) (below (length line.breaks - 1))) _ rest in
     keeps_rules-sound both_sides line plan (all_passed (rule_tests both_sides line plan) (
-      test_of_eq _ _ stops, (test_of_eq _ _ arcs, (test_of_eq _ _ breaks, (
-        range_list_all (λ k. allows line k (cumul plan k)) 0 (length line.allowed) (λ k from low. is_right (allows line k (cumul plan k)) (spot v k) (at_none (cumul_broken_at line v plan) (length plan.cumuls) cumuls k (omega (arith, low, stops)))), (
-          range_list_all (slack_is line plan) 0 (length line.arcs) (λ k from low. and_left (slack_is line plan k) _ (slack_at k (omega (arith, low)))), (
-            range_list_all (λ k. within (pos 0) line.slack_max (slack plan k)) 0 (length line.arcs) (λ k from low. and_right (slack_is line plan k) _ (slack_at k (omega (arith, low)))), (
-              and_left (list_all (starts_in_range line plan) (below (length line.breaks))) _ good, (
-                and_left (list_all (ends_in_time line plan) (below (length line.breaks - 1))) _ rest, (
-                  and_left (list_all (is_placed both_sides line plan) (below (length line.breaks))) _ last, (
-                    subst (λ n. list_all (carries_breaks line plan) (below n) ≡ true) arcs (and_right (list_all (is_placed both_sides line plan) (below (length line.breaks))) _ last), tt)))))))))))
+      test_of_eq _ _ stops,
+      (
+        test_of_eq _ _ arcs,
+        (
+          test_of_eq _ _ breaks,
+          (
+            range_list_all (λ k. allows line k (cumul plan k)) 0 (length line.allowed) (λ k from low. is_right (allows line k (cumul plan k)) (spot v k) (at_none (cumul_broken_at line v plan) (length plan.cumuls) cumuls k (omega (arith, low, stops)))),
+            (
+              range_list_all (slack_is line plan) 0 (length line.arcs) (λ k from low. and_left (slack_is line plan k) _ (slack_at k (omega (arith, low)))),
+              (
+                range_list_all (λ k. within (pos 0) line.slack_max (slack plan k)) 0 (length line.arcs) (λ k from low. and_right (slack_is line plan k) _ (slack_at k (omega (arith, low)))),
+                (
+                  and_left (list_all (starts_in_range line plan) (below (length line.breaks))) _ good,
+                  (
+                    and_left (list_all (ends_in_time line plan) (below (length line.breaks - 1))) _ rest,
+                    (
+                      and_left (list_all (is_placed both_sides line plan) (below (length line.breaks))) _ last,
+                      (
+                        subst (λ n. list_all (carries_breaks line plan) (below n) ≡ true) arcs (and_right (list_all (is_placed both_sides line plan) (below (length line.breaks))) _ last),
+                        tt,
+                      ),
+                    ),
+                  ),
+                ),
+              ),
+            ),
+          ),
+        ),
+      ),
+    ))
 
 plans_is : (routes : List PrintedRoute) (v : ℕ) → slice_index_or (map plans_of routes) v [] ≡ plans_of (slice_index_or routes v no_route)
 plans_is [] zero = refl
@@ -79,9 +100,9 @@ module _ (model : Model) (routes : List PrintedRoute) (shaped : IsTrue (are_rout
       let long = visits_long r.nodes in
       let found = λ (rule : PlanRule) (none : routes_broken rule model routes ≡ None). at_none (plan_broken_in rule model v r) (length r.plans) (at_none (route_broken_at rule model routes) (length routes) none v there) d planned in
       let made = schedule_from (line model d v (visits_of r)) v d (plan_of (plan_in r d))
-          (lengths.cumuls ∙ omega (arith, lengths.nodes, long, line_stops model d v (visits_of r)))
-          (lengths.slacks ∙ omega (arith, lengths.nodes, long, line_arcs model d v (visits_of r)))
-          lengths.breaks (found plan.Cumul cumuls) (found plan.Slack slacks) (found plan.Break breaks) in
+      (lengths.cumuls ∙ omega (arith, lengths.nodes, long, line_stops model d v (visits_of r)))
+      (lengths.slacks ∙ omega (arith, lengths.nodes, long, line_arcs model d v (visits_of r)))
+      lengths.breaks (found plan.Cumul cumuls) (found plan.Slack slacks) (found plan.Break breaks) in
       let same_plan : plan_at (assignment_of routes) d v ≡ plan_of (plan_in r d) = plan_is_printed routes d v in
       subst (λ list. IsSchedule (line model d v list) (plan_at (assignment_of routes) d v)) (sym (route_is routes v)) (subst (IsSchedule (line model d v (visits_of r))) (sym same_plan) made)
 

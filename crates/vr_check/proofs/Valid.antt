@@ -1,23 +1,20 @@
 -- The printed lists are valid, where the rules on lists and plans find nothing.
-use Rattle.std.proofs.Common.{◌≡◌, ℕ, zero, suc, ◌+◌, ◌<◌, ◌≤◌, Bool, true, false, cond, not, ◌&&◌, ◌||◌, ◌==◌, List, [], ◌∷◌, ◌++◌, length, get_or, take, map, refl, sym, subst, ap, ap₂, ◌∙◌, arith}
+use Rattle.std.proofs.Common.{◌≡◌, ℕ, zero, suc, ◌+◌, ◌<◌, ◌≤◌, Bool, true, false, cond, not, ◌&&◌, ◌||◌, ◌==◌, List, [], ◌∷◌, length, get_or, refl, ap, ◌∙◌, arith}
 use Rattle.std.specs.Prelude.{IsTrue, None, filter, slice_index_or}
-use Rattle.std.specs.List.{list_all, list_any, concat, range_with_len}
+use Rattle.std.specs.List.{list_all, concat, range_with_len}
 use Rattle.std.proofs.lemmas.List.Folds.{list_all-append}
-use Rattle.std.proofs.lemmas.List.{length-map}
 use Rattle.vr_model.specs.tables.Numbers.{below}
 use Rattle.vr_model.specs.tables.Tables.{is_visit, pair_at, visits}
-use Rattle.vr_model.specs.routes.Routes.{route, holds, is_active, is_distinct, are_lists, is_empty, vehicles}
+use Rattle.vr_model.specs.routes.Routes.{route, is_active, is_distinct, are_lists, is_empty, vehicles}
 use Rattle.vr_model.specs.schedules.Lines.{line}
 use Rattle.vr_model.specs.schedules.Choices.{is_feasible}
 use Rattle.vr_model.specs.routes.Rules.{serves_pair, keeps_policy, allows_vehicle, is_route_open, fits_group, active_in, is_open, is_grouped, has_enough, has_required, is_valid}
-use Rattle.vr_model.specs.deciding.Testing.{and_left, and_right, and_both, test_of_eq, list_all_range, range_list_all}
+use Rattle.vr_model.specs.deciding.Testing.{and_left, and_right, and_both, test_of_eq, range_list_all}
 use Rattle.vr_model.specs.declared.records.Model.{Model}
-use Rattle.vr_model.specs.declared.records.Pair.{Pair}
-use Rattle.vr_model.specs.declared.records.Group.{Group}
-use Rattle.vr_check.specs.Findings.{spot, spot_of_vehicle, spot_of_none, where_wrong}
-use Rattle.vr_check.specs.Lists.{node_at, stands_before, once_broken_at, once_broken_of, once_broken_in, once_broken}
-use Rattle.vr_check.specs.Visits.{is_missing, is_inactive, required_broken_at, required_broken, has_right_number, no_group, group_broken_at, group_broken}
-use Rattle.vr_check.specs.Pairs.{is_served, pair_broken_at, pair_broken, policy_broken_in, policy_broken, allowed_broken_at, allowed_broken_of, allowed_broken_in, allowed_broken}
+use Rattle.vr_check.specs.Findings.{spot, spot_of_vehicle, spot_of_none}
+use Rattle.vr_check.specs.Lists.{node_at, stands_before, once_broken_at, once_broken_in, once_broken}
+use Rattle.vr_check.specs.Visits.{is_missing, required_broken_at, required_broken, has_right_number, no_group, group_broken_at, group_broken}
+use Rattle.vr_check.specs.Pairs.{is_served, pair_broken_at, pair_broken, policy_broken_in, policy_broken, allowed_broken_at, allowed_broken_in, allowed_broken}
 use Rattle.vr_check.proofs.Nothing.{at_none, is_right, is_not_wrong, all_from_places}
 use Rattle.vr_check.proofs.PrintedLists.{HasVisits}
 use Rattle.vr_check.proofs.Distinct.{all_distinct}
@@ -58,7 +55,7 @@ module _ (model : Model) (lists : List (List ℕ)) where
   lists_are count visits once =
       and_both (length lists == length model.vehicles) _ (test_of_eq _ _ count)
       (and_both (list_all (is_visit model) (concat lists)) (is_distinct (concat lists)) (concat_all (is_visit model) lists visits)
-          (all_distinct lists (λ v k low less. is_not_wrong (stands_before lists v (route lists v) k) (spot v (k + 1)) (at_none (once_broken_at lists v (route lists v)) (length (route lists v)) (at_none (once_broken_in lists) (length lists) once v low) k less))))
+      (all_distinct lists (λ v k low less. is_not_wrong (stands_before lists v (route lists v) k) (spot v (k + 1)) (at_none (once_broken_at lists v (route lists v)) (length (route lists v)) (at_none (once_broken_in lists) (length lists) once v low) k less))))
 
   -- the list of a vehicle is open
   pub route_is_open : pair_broken model lists ≡ None → policy_broken model lists ≡ None → allowed_broken model lists ≡ None
@@ -76,8 +73,8 @@ module _ (model : Model) (lists : List (List ℕ)) where
       go false e = ap (λ b. b || (list_all (λ d. is_feasible (line model d v (route lists v))) (below (length model.dimensions)) && (list_all (serves_pair (route lists v)) model.pairs && (keeps_policy model v (route lists v) && list_all (allows_vehicle model v) (route lists v))))) e
           ∙ and_both (list_all (λ d. is_feasible (line model d v (route lists v))) (below (length model.dimensions))) _ (range_list_all (λ d. is_feasible (line model d v (route lists v))) 0 (length model.dimensions) (λ d from less. feasible e d (omega (arith, less))))
           (and_both (list_all (serves_pair (route lists v)) model.pairs) _ (all_at (serves_pair (route lists v)) (record { pickup = 0; delivery = 0 }) model.pairs served)
-              (and_both (keeps_policy model v (route lists v)) _ (is_right (keeps_policy model v (route lists v)) (spot_of_vehicle v) (at_none (policy_broken_in model lists) (length lists) policies v low))
-                  (all_from_places (allows_vehicle model v) (route lists v) allows)))
+          (and_both (keeps_policy model v (route lists v)) _ (is_right (keeps_policy model v (route lists v)) (spot_of_vehicle v) (at_none (policy_broken_in model lists) (length lists) policies v low))
+          (all_from_places (allows_vehicle model v) (route lists v) allows)))
 
   groups_right : group_broken model lists ≡ None → (g : ℕ) → g < length model.groups → has_right_number lists (slice_index_or model.groups g no_group) ≡ true
   groups_right groups g less = is_right (has_right_number lists (slice_index_or model.groups g no_group)) (spot_of_none g) (at_none (group_broken_at model lists) (length model.groups) groups g less)
@@ -88,11 +85,11 @@ module _ (model : Model) (lists : List (List ℕ)) where
   lists_valid_from count visits once required groups each =
       and_both (are_lists model lists) _ (lists_are count visits once)
       (and_both (list_all (λ v. is_route_open model v (route lists v)) (vehicles lists) && list_all (fits_group lists) model.groups) _
-          (and_both (list_all (λ v. is_route_open model v (route lists v)) (vehicles lists)) (list_all (fits_group lists) model.groups)
-              (range_list_all (λ v. is_route_open model v (route lists v)) 0 (length lists) (λ v from less. each v (omega (arith, less))))
-              (all_at (fits_group lists) no_group model.groups (λ g less. and_left (fits_group lists (slice_index_or model.groups g no_group)) _ (groups_right groups g less))))
-          (and_both (has_required model lists) _ all_required
-              (all_at (λ group. has_enough group.penalty group.max (active_in lists group)) no_group model.groups (λ g less. and_right (fits_group lists (slice_index_or model.groups g no_group)) _ (groups_right groups g less)))))
+      (and_both (list_all (λ v. is_route_open model v (route lists v)) (vehicles lists)) (list_all (fits_group lists) model.groups)
+      (range_list_all (λ v. is_route_open model v (route lists v)) 0 (length lists) (λ v from less. each v (omega (arith, less))))
+      (all_at (fits_group lists) no_group model.groups (λ g less. and_left (fits_group lists (slice_index_or model.groups g no_group)) _ (groups_right groups g less))))
+      (and_both (has_required model lists) _ all_required
+      (all_at (λ group. has_enough group.penalty group.max (active_in lists group)) no_group model.groups (λ g less. and_right (fits_group lists (slice_index_or model.groups g no_group)) _ (groups_right groups g less)))))
     where
       all_required : IsTrue (has_required model lists)
       all_required = filtered (λ node. is_grouped model node || is_active lists node) (is_visit model) 0 model.nodes

@@ -1,7 +1,7 @@
 -- Walks along lists, from place k on.
 use Rattle.std.proofs.Common.{◌≡◌, ℕ, zero, suc, ◌+◌, ◌-◌, ◌<◌, ◌≤◌, Bool, true, false, not, cond, ◌&&◌, ◌==◌, List, [], ◌∷◌, length, get_or, take, drop, map, refl, sym, ap, ap₂, ◌∙◌, arith}
 use Rattle.std.specs.Prelude.{filter, nat_lt, slice_index_or}
-use Rattle.std.specs.List.{list_all, list_any, range_with_len}
+use Rattle.std.specs.List.{list_all}
 use Rattle.std.proofs.lemmas.List.{drop_more, drop_all, take_all, length-drop}
 use Rattle.std.proofs.lemmas.List.Folds.{list_all-map}
 use Rattle.vr_model.specs.tables.Numbers.{from_to}
@@ -109,4 +109,4 @@ policy_by_places policy list pairs =
     list_all-map (is_in_order policy (map (places_of list) pairs)) (places_of list) pairs
     ∙ list_all_same (λ x. is_in_order policy (map (places_of list) pairs) (places_of list x)) (λ x. list_all (λ y. policy_allows policy list x y) pairs)
     (λ x. list_all-map (are_in_order policy (places_of list x)) (places_of list) pairs
-        ∙ list_all_same (λ y. are_in_order policy (places_of list x) (places_of list y)) (λ y. policy_allows policy list x y) (by_places policy list x) pairs) pairs
+    ∙ list_all_same (λ y. are_in_order policy (places_of list x) (places_of list y)) (λ y. policy_allows policy list x y) (by_places policy list x) pairs) pairs

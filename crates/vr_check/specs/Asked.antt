@@ -6,7 +6,6 @@ use Rattle.vr_model.specs.tables.Tables.{is_visit, dimension_at}
 use Rattle.vr_model.specs.routes.Routes.{stops}
 use Rattle.vr_model.specs.schedules.Lines.{Line, line, stop_rows, stop_allows}
 use Rattle.vr_model.specs.tables.WellFormed.{IsWellFormed}
-use Rattle.vr_model.specs.declared.records.Model.{Model}
 use Rattle.vr_model.specs.declared.records.StopRow.{StopRow}
 use Rattle.vr_check.specs.declared.asked.Asked.{Asked}
 use Rattle.vr_printed.specs.declared.printed.PrintedPlan.{PrintedPlan}

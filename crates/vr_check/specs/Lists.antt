@@ -1,6 +1,5 @@
 -- The rules on printed nodes: the ends of a route, and that no visit stands twice.
-use Rattle.std.specs.Prelude.{ℕ, ◌+◌, ◌<◌, IsTrue, Bool, not, ◌||◌, ◌==◌, if◌then◌else◌, List, length, take, slice_index_or, Option}
-use Rattle.std.specs.List.{list_all}
+use Rattle.std.specs.Prelude.{ℕ, ◌+◌, Bool, not, ◌||◌, ◌==◌, if◌then◌else◌, List, length, take, slice_index_or, Option}
 use Rattle.vr_model.specs.tables.Numbers.{below}
 use Rattle.vr_model.specs.tables.Tables.{vehicle_at, is_visit}
 use Rattle.vr_model.specs.routes.Routes.{route, holds, is_active}

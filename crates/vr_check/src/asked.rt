@@ -42,9 +42,7 @@ fn is_in_window(window: Option<Interval>, x: i64) -> bool
 fn is_outside(intervals: &[Interval], x: i64) -> bool
     ensures { result ≡ list_all (λ interval. not (within interval.lo interval.hi x)) intervals.now }
 {
-    intervals
-        .iter()
-        .all(|&interval| !is_within(interval, x))
+    intervals.iter().all(|&interval| !is_within(interval, x))
 }
 
 // Whether the row of a stop lets a number be its cumul.

@@ -7,7 +7,7 @@ ghost use Rattle.vr_model.specs.schedules.Schedules.{cumul as cumul_of, slack as
 ghost use Rattle.vr_model.specs.deciding.ScheduleTests.{is_placed as is_placed_of};
 ghost use Rattle.vr_check.specs.Asked.{IsAsked, line_of};
 ghost use Rattle.vr_check.specs.Asked.{FitsLine};
-ghost use Rattle.vr_check.specs.Plans.{ are_breaks_right as are_breaks_right_of, carries_breaks, ends_in_time as ends_in_time_of, starts_in_range as starts_in_range_of};
+ghost use Rattle.vr_check.specs.Plans.{are_breaks_right as are_breaks_right_of, carries_breaks, ends_in_time as ends_in_time_of, starts_in_range as starts_in_range_of};
 ghost use Rattle.vr_check.specs.Breaks.{IsTaken, plan_of_taken, time_inside as time_inside_of};
 ghost use Rattle.vr_printed.specs.Printed.{plan_of};
 

@@ -9,7 +9,9 @@ ghost use Rattle.vr_check.specs.Findings.{nowhere as nowhere_of, spot as spot_of
 #[derive(Clone, Copy)]
 pub enum Finding {
     /// No rule is broken, and this is the cost.
-    Meets { cost: i64 },
+    Meets {
+        cost: i64,
+    },
     /// The first rule that is broken, and where: -1 stands where a number does not apply.
     Broken {
         rule: Rule,

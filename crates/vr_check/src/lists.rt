@@ -4,8 +4,8 @@ ghost use Rattle.std.specs.Prelude.{◌≡◌, ◌<◌, ◌≤◌, length};
 ghost use Rattle.vr_check.specs.Lists as rules;
 ghost use Rattle.vr_check.specs.Lists.{ends_broken, ends_broken_of, once_broken, once_broken_of};
 
-use crate::held::{holds, is_active};
 use crate::finding::Spot;
+use crate::held::{holds, is_active};
 use vr_model::{Model, Seq};
 use vr_printed::PrintedRoute;
 

@@ -1,22 +1,20 @@
 -- What the shape of a route says of its lengths.
-use Rattle.std.proofs.Common.{◌≡◌, ℕ, zero, suc, ◌+◌, ◌-◌, ◌<◌, ◌≤◌, Bool, true, false, cond, ◌&&◌, List, [], ◌∷◌, length, take, drop, Option, Some, None, Result, Ok, Err, refl, sym, subst, ap, ◌∙◌, inl, inr, arith}
+use Rattle.std.proofs.Common.{◌≡◌, ℕ, ◌-◌, ◌<◌, ◌≤◌, Bool, true, false, cond, List, [], length, drop, Some, None, Result, Ok, Err, refl, sym, ap, ◌∙◌, inl, inr, arith}
 use Rattle.std.specs.Prelude.{IsTrue, ◌==◌, nat_le, pos}
-use Rattle.std.specs.List.{list_all}
 use Rattle.std.specs.Str.{bytes_eq}
 use Rattle.std.proofs.lemmas.Bool.{cases_lt, eqb-true}
 use Rattle.std.proofs.lemmas.Bool.Decides.{nat_tests}
 use Rattle.std.proofs.lemmas.List.{length-take-le, length-drop}
-use Rattle.vr_model.specs.tables.Numbers.{below, is_same_number}
+use Rattle.vr_model.specs.tables.Numbers.{is_same_number}
 use Rattle.vr_model.specs.tables.Tables.{dimension_at, breaks_of}
-use Rattle.vr_model.proofs.tables.Tests.{clash}
 use Rattle.vr_model.specs.deciding.Testing.{and_left, and_right, list_all_range, eq_of_test}
 use Rattle.vr_model.specs.declared.records.Model.{Model}
-use Rattle.vr_printed.specs.Printed.{no_route, visits_between, visits_of}
+use Rattle.vr_printed.specs.Printed.{visits_between, visits_of}
 use Rattle.serde_json.specs.Data.{Data}
 use Rattle.vr_json.specs.declared.fault.Fault.{Fault}
 use Rattle.vr_printed.specs.Tables.{solution}
 use Rattle.vr_printed.specs.declared.printed.Printed.{Printed}
-use Rattle.vr_printed.specs.Shape.{where_shaped, printed_in, plan_in, is_plan_shaped, is_shaped_in, are_plans_shaped, is_used_shaped, is_route_shaped, is_shaped_at, are_routes_shaped}
+use Rattle.vr_printed.specs.Shape.{where_shaped, printed_in, plan_in, is_shaped_in, is_used_shaped, is_route_shaped, is_shaped_at, are_routes_shaped}
 use Rattle.vr_printed.specs.declared.printed.PrintedRoute.{PrintedRoute}
 
 -- a plan beside its route: the lengths of both

@@ -1,8 +1,7 @@
 -- What a printed solution says: the lists, the plans, and the assignment.
-use Rattle.std.specs.Prelude.{ℕ, ◌-◌, List, [], ◌∷◌, map, length, take, drop, pos, slice_index_or}
+use Rattle.std.specs.Prelude.{ℕ, ◌-◌, List, [], map, length, take, drop, pos, slice_index_or}
 use Rattle.vr_model.specs.schedules.Schedules.{Plan}
 use Rattle.vr_model.specs.routes.Costs.{Assignment}
-use Rattle.vr_printed.specs.declared.printed.Printed.{Printed}
 use Rattle.vr_printed.specs.declared.printed.PrintedRoute.{PrintedRoute}
 use Rattle.vr_printed.specs.declared.printed.PrintedPlan.{PrintedPlan}
 

@@ -6,7 +6,6 @@ use Rattle.serde_json.specs.Data.{Data}
 use Rattle.vr_json.specs.declared.fault.Fault.{Fault}
 use Rattle.vr_model.specs.tables.Numbers.{below, is_same_number}
 use Rattle.vr_model.specs.tables.Tables.{dimension_at, breaks_of}
-use Rattle.vr_model.specs.routes.Routes.{is_empty}
 use Rattle.vr_model.specs.declared.records.Model.{Model}
 use Rattle.vr_model.specs.declared.records.Dimension.{Dimension}
 use Rattle.vr_printed.specs.Printed.{no_route}

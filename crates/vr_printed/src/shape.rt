@@ -18,12 +18,7 @@ use vr_json::{Path, ReadFail, Reader};
 use vr_model::{Dimension, Model, NoMemory};
 
 // Whether a plan of a vehicle in a dimension has its name and the right lengths.
-fn is_plan_shaped(
-    dimension: &Dimension,
-    vehicle: usize,
-    stops: usize,
-    plan: &PrintedPlan,
-) -> bool
+fn is_plan_shaped(dimension: &Dimension, vehicle: usize, stops: usize, plan: &PrintedPlan) -> bool
     requires vehicle { vehicle < 100 }
     requires stops { 0 < stops }
     ensures { result ≡ shapes.is_plan_shaped dimension.now vehicle stops plan.now }

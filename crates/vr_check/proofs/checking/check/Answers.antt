@@ -1,4 +1,4 @@
-use Rattle.std.proofs.Common.{Some, map, sym, ap, subst, ◌∙◌}
+use Rattle.std.proofs.Common.{map, sym, ap, ◌∙◌}
 use Rattle.serde_json.specs.View.{view}
 use Rattle.vr_printed.specs.Printed.{visits_of}
 use Rattle.vr_check.specs.Findings.{broken_at}

@@ -1,6 +1,4 @@
 use Rattle.std.proofs.Common.{length, sym, ap, subst, ◌∙◌}
-use Rattle.vr_model.specs.routes.Routes.{are_lists}
-use Rattle.std.specs.Prelude.{IsTrue}
 use Rattle.std.proofs.lemmas.List.{length-map}
 use Rattle.vr_printed.specs.Printed.{visits_of}
 use Rattle.vr_printed.proofs.Shaped.{routes_count}

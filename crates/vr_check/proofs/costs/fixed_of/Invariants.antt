@@ -1,4 +1,4 @@
-use Rattle.std.proofs.Common.{◌≡◌, ◌*◌, ◌^◌, ◌≤ℤ◌, pos, cond}
+use Rattle.std.proofs.Common.{◌≡◌, ◌*◌, ◌^◌, ◌≤ℤ◌, pos}
 use Rattle.vr_model.specs.tables.Numbers.{total_by, below}
 use Rattle.vr_check.proofs.Totalling.{fixed_at}
 use Rattle.vr_check.proofs.costs.fixed_of.Given as goal

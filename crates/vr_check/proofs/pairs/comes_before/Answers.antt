@@ -1,4 +1,4 @@
-use Rattle.std.proofs.Common.{◌+◌, length, sym, ap, ◌∙◌, arith}
+use Rattle.std.proofs.Common.{◌+◌, sym, ap, ◌∙◌}
 use Rattle.vr_model.specs.deciding.Testing.{test_of_eq}
 use Rattle.std.proofs.lemmas.Bool.{ne_eqb}
 use Rattle.vr_model.specs.routes.Routes.{holds}

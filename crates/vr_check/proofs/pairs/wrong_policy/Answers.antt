@@ -3,7 +3,7 @@ use Rattle.std.proofs.lemmas.List.{get_or_default}
 use Rattle.vr_model.specs.routes.Rules.{keeps_policy}
 use Rattle.vr_check.specs.Findings.{spot_of_vehicle}
 use Rattle.vr_check.specs.Pairs.{policy_broken_in}
-use Rattle.vr_check.proofs.Firsts.{goes_on, finds, right, not_right}
+use Rattle.vr_check.proofs.Firsts.{goes_on, right}
 use Rattle.vr_check.proofs.pairs.wrong_policy.Goals as goal
 
 pub loop-v-preserved : goal.loop-v-preserved

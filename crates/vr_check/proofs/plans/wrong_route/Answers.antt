@@ -1,4 +1,4 @@
-use Rattle.std.proofs.Common.{◌≡◌, ◌-◌, List, ℕ, length, sym, ap, ap₂, ◌∙◌, arith}
+use Rattle.std.proofs.Common.{◌≡◌, List, ℕ, length, sym, ap, ap₂, ◌∙◌, arith}
 use Rattle.vr_model.specs.schedules.Lines.{line}
 use Rattle.vr_printed.specs.Printed.{plan_of}
 use Rattle.vr_printed.specs.Shape.{no_printed_plan, plan_in}

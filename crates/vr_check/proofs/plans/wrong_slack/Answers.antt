@@ -1,11 +1,9 @@
-use Rattle.std.proofs.Common.{length, sym, ap, ◌∙◌, arith}
-use Rattle.vr_model.specs.schedules.Schedules.{allows}
+use Rattle.std.proofs.Common.{length, sym, ◌∙◌, arith}
 use Rattle.vr_check.specs.Findings.{spot}
 use Rattle.vr_printed.specs.Printed.{plan_of}
 use Rattle.vr_check.specs.Asked.{line_of}
 use Rattle.vr_check.specs.Plans.{slack_broken_at}
 use Rattle.vr_check.proofs.Firsts.{finds, goes_on, right, not_right}
-use Rattle.vr_check.proofs.Widths.{narrow}
 use Rattle.vr_check.proofs.plans.wrong_slack.Goals as goal
 
 pub loop-k-preserved : goal.loop-k-preserved

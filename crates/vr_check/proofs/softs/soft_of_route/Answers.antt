@@ -1,6 +1,5 @@
-use Rattle.std.proofs.Common.{◌≡◌, ◌∙◌, ◌<◌, ◌≤◌, ◌+◌, [], length, arith, sym, ap, ap₂, subst}
+use Rattle.std.proofs.Common.{◌≡◌, ◌∙◌, ◌<◌, ◌≤◌, length, arith, sym, ap, ap₂}
 use Rattle.std.proofs.lemmas.Int.{ints}
-use Rattle.vr_model.specs.tables.Numbers.{total_by, below}
 use Rattle.vr_model.proofs.tables.Totals.{total_by-more}
 use Rattle.vr_model.specs.tables.Tables.{dimension_at}
 use Rattle.vr_model.specs.schedules.Lines.{stop_rows}
@@ -29,7 +28,7 @@ pub loop-d-preserved : goal.loop-d-preserved
 loop-d-preserved c =
     let cost = c.soft_of_plan-total.ensures in
     let value : c.soft_of_plan-total.result ≡ soft_in c.args.model.now c.args.v c.args.route.now c.loop-d.d = c.soft_of_plan-total.ensures.value
-        ∙ ap₂ (λ list plan. soft_along (stop_rows (dimension_at c.args.model.now c.loop-d.d) c.args.v list) plan.cumuls) c.requires.list (sym (c.get.ensures.value no_printed_plan)) in
+    ∙ ap₂ (λ list plan. soft_along (stop_rows (dimension_at c.args.model.now c.loop-d.d) c.args.v list) plan.cumuls) c.requires.list (sym (c.get.ensures.value no_printed_plan)) in
     let more = total_by-more (soft_in c.args.model.now c.args.v c.args.route.now) c.loop-d.d in
     let so_far = c.loop-d.invariant in
     let few : c.loop-d.d < 4 = omega (arith, c.loop-d-test.true, c.len-d-end.ensures, plans_few c.args.model.now c.args.v c.args.route.now c.requires.shaped, c.requires.well_formed.number_of_dimensions) in

@@ -1,4 +1,4 @@
-use Rattle.std.proofs.Common.{◌≡◌, ◌∙◌, sym, ap, ap₂}
+use Rattle.std.proofs.Common.{◌∙◌, sym, ap, ap₂}
 use Rattle.std.specs.Prelude.{◌*ℤ◌}
 use Rattle.vr_printed.specs.Shape.{no_printed_plan}
 use Rattle.vr_check.specs.Parts.{span_along}

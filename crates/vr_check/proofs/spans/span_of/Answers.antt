@@ -1,4 +1,4 @@
-use Rattle.std.proofs.Common.{◌≡◌, ◌∙◌, ◌<◌, ◌≤◌, ◌+◌, [], length, arith, sym, ap, ap₂, subst}
+use Rattle.std.proofs.Common.{◌≡◌, ◌∙◌, length, arith, sym, ap, subst}
 use Rattle.std.proofs.lemmas.Int.{ints}
 use Rattle.vr_model.specs.tables.Numbers.{total_by, below}
 use Rattle.vr_model.proofs.tables.Totals.{total_by-more}

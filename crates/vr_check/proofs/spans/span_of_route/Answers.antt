@@ -1,6 +1,5 @@
-use Rattle.std.proofs.Common.{◌≡◌, ◌∙◌, ◌<◌, ◌≤◌, ◌+◌, [], length, arith, sym, ap, ap₂, subst}
+use Rattle.std.proofs.Common.{◌≡◌, ◌<◌, ◌≤◌, arith}
 use Rattle.std.proofs.lemmas.Int.{ints}
-use Rattle.vr_model.specs.tables.Numbers.{total_by, below}
 use Rattle.vr_model.proofs.tables.Totals.{total_by-more}
 use Rattle.vr_printed.proofs.Shaped.{lengths_of, plans_few}
 use Rattle.vr_check.specs.Parts.{span_in}

@@ -1,4 +1,4 @@
-use Rattle.std.proofs.Common.{◌≡◌, length}
+use Rattle.std.proofs.Common.{◌≡◌}
 use Rattle.vr_model.specs.tables.Numbers.{from_to}
 use Rattle.vr_check.specs.Findings.{first_of}
 use Rattle.vr_check.specs.Visits.{required_broken_at, required_broken}

@@ -1,4 +1,4 @@
-use Rattle.std.proofs.Common.{◌≡◌, ◌<◌, length, sym, ap, ap₂, ◌∙◌, arith}
+use Rattle.std.proofs.Common.{length, sym, ap, ap₂, ◌∙◌, arith}
 use Rattle.vr_model.specs.tables.Tables.{no_dimension}
 use Rattle.vr_printed.specs.Shape.{no_printed_plan, is_plan_shaped, is_shaped_in}
 use Rattle.vr_printed.specs.declared.printed.PrintedPlan.{PrintedPlan}

@@ -1,4 +1,4 @@
-use Rattle.std.proofs.Common.{◌≡◌, ◌∙◌, ap₂, sym, ap, List, ℤ, ℕ, arith}
+use Rattle.std.proofs.Common.{◌∙◌, ap₂, sym, ap, arith}
 use Rattle.vr_model.specs.tables.Numbers.{number_at}
 use Rattle.vr_check.proofs.Lines.{arc_is}
 use Rattle.vr_check.proofs.Widths.{narrow}

@@ -1,8 +1,8 @@
-use Rattle.std.proofs.Common.{length, ◌-◌, sym, ap, ◌∙◌, arith}
+use Rattle.std.proofs.Common.{length, sym, ◌∙◌, arith}
 use Rattle.vr_check.specs.Asked.{line_of}
 use Rattle.vr_check.specs.Breaks.{plan_of_taken}
 use Rattle.vr_check.specs.Plans.{carries_breaks}
-use Rattle.vr_model.proofs.tables.Ranges.{all_go_on, all_stop, all_end}
+use Rattle.vr_model.proofs.tables.Ranges.{all_go_on, all_stop}
 use Rattle.vr_check.proofs.breaks.Taken.all_carried.Goals as goal
 
 pub loop-k-preserved : goal.loop-k-preserved

@@ -2,7 +2,7 @@ use Rattle.std.proofs.Common.{length, ◌-◌, sym, ap, ◌∙◌, arith}
 use Rattle.vr_check.specs.Asked.{line_of}
 use Rattle.vr_check.specs.Breaks.{plan_of_taken}
 use Rattle.vr_check.specs.Plans.{ends_in_time}
-use Rattle.vr_model.proofs.tables.Ranges.{all_go_on, all_stop, all_end}
+use Rattle.vr_model.proofs.tables.Ranges.{all_go_on, all_stop}
 use Rattle.vr_check.proofs.breaks.Taken.all_in_time.Goals as goal
 
 pub loop-i-preserved : goal.loop-i-preserved

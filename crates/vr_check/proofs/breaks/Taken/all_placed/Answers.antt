@@ -1,9 +1,9 @@
-use Rattle.std.proofs.Common.{length, ◌-◌, sym, ap, ◌∙◌, arith}
+use Rattle.std.proofs.Common.{length, sym, ap, ◌∙◌, arith}
 use Rattle.vr_check.specs.Asked.{line_of}
 use Rattle.vr_check.specs.Breaks.{plan_of_taken}
 use Rattle.vr_model.specs.schedules.Schedules.{both_sides}
 use Rattle.vr_model.specs.deciding.ScheduleTests.{is_placed}
-use Rattle.vr_model.proofs.tables.Ranges.{all_go_on, all_stop, all_end}
+use Rattle.vr_model.proofs.tables.Ranges.{all_go_on, all_stop}
 use Rattle.vr_check.proofs.breaks.Taken.all_placed.Goals as goal
 
 pub loop-i-preserved : goal.loop-i-preserved

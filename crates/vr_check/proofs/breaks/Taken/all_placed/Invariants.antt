@@ -1,5 +1,5 @@
-use Rattle.std.proofs.Common.{◌≡◌, ◌-◌, length}
-use Rattle.std.specs.List.{list_all, list_any}
+use Rattle.std.proofs.Common.{◌≡◌, length}
+use Rattle.std.specs.List.{list_all}
 use Rattle.vr_model.specs.tables.Numbers.{below, from_to}
 use Rattle.vr_check.specs.Asked.{line_of}
 use Rattle.vr_check.specs.Breaks.{plan_of_taken}

@@ -1,4 +1,4 @@
-use Rattle.std.proofs.Common.{◌≡◌, ◌*◌, ◌^◌, pos}
+use Rattle.std.proofs.Common.{◌≡◌, ◌*◌, pos}
 use Rattle.std.specs.Prelude.{◌≤ℤ◌, neg_ℤ}
 use Rattle.vr_model.specs.tables.Numbers.{total_by, below}
 use Rattle.vr_check.specs.Asked.{line_of}
