@@ -10,7 +10,9 @@ use Rattle.vr_model.specs.declared.records.Parts.{Parts}
 use Rattle.vr_check.specs.Findings.{spot_of_none, nowhere}
 use Rattle.vr_printed.specs.Printed.{visits_of, lists_of, assignment_of}
 use Rattle.vr_printed.specs.Shape.{are_routes_shaped, printed_in}
-use Rattle.vr_check.specs.Parts.{part_broken, parts_differ}
+use Rattle.vr_model.specs.routes.Routes.{is_same, inactive}
+use Rattle.vr_model.proofs.routes.Lists.{same_of_test}
+use Rattle.vr_check.specs.Parts.{part_broken, parts_differ, is_within_limits}
 use Rattle.vr_check.specs.Check.{finding, finding_in, lists_finding}
 use Rattle.vr_check.specs.Laws.{KeepsAllRules, MetKeepsAllRules}
 use Rattle.vr_check.specs.declared.finding.Finding.TheVariants.{Meets}
@@ -63,6 +65,7 @@ keeps model printed cost shaped h =
     let limits = through _ _ _ cost first.1 in
     let count : length lists ≡ length model.vehicles = length-map routes visits_of ∙ routes_count model routes shaped in
     record {
+      dropped_are_inactive = same_of_test printed.dropped (inactive model lists) (is_right (is_same printed.dropped (inactive model lists)) nowhere dropped.0);
       lists_valid = lists_valid_from model lists count (ends_visits model routes ends.0) once.0 required.0 group.0
           (λ v low. route_is_open model lists pair.0 policy.0 allowed.0 v low (λ some d less. lines_feasible model routes shaped cumul.0 slack.0 taken.0 d v less low some));
       plans_are_schedules = plans_scheduled model routes shaped cumul.0 slack.0 taken.0;
@@ -70,6 +73,7 @@ keeps model printed cost shaped h =
       cost_is_printed = same_cost printed.cost cost limits.1;
       cost_is_sum = eq_of_tests _ _ (is_right (is_same_number printed.cost (sum_of printed.parts)) nowhere sum.0);
       cost_at_most_first = le_of_test _ _ (is_right (int_le printed.cost printed.first_cost) nowhere first.0);
+      within_limits = is_right (is_within_limits model printed) nowhere limits.0;
     }
 
 pub met_keeps_all_rules : MetKeepsAllRules

@@ -1,5 +1,6 @@
 -- A line of which each number is looked up where it is asked for.
-use Rattle.std.specs.Prelude.{◌≡◌, ℕ, ◌<◌, ◌+◌, ◌^◌, ◌==◌, ◌&&◌, ◌||◌, not, Bool, ℤ, pos, IsTrue, List, length, slice_index_or, Option, None}
+use Rattle.std.specs.Prelude.{◌≡◌, ℕ, ◌<◌, ◌+◌, ◌^◌, ◌==◌, ◌&&◌, ◌||◌, not, Bool, ℤ, pos, IsTrue, List, length}
+use Rattle.std.specs.Prelude.{slice_index_or, Option, None}
 use Rattle.std.specs.List.{list_all}
 use Rattle.vr_model.specs.tables.Numbers.{number_at, is_same_number}
 use Rattle.vr_model.specs.tables.Tables.{is_visit, dimension_at}
@@ -47,7 +48,3 @@ pub record FitsLine (it : Asked) (plan : PrintedPlan) : Type 0 where
 -- the start is 0 where the dimension fixes it
 abbrev pub is_start_free : Asked → ℕ → ℤ → Bool
 is_start_free it k x = not (k == 0) || (not (dimension_at it.model.now it.d).fix_start || is_same_number x (pos 0))
-
--- what stop k allows, by its row
-abbrev pub allows_by_row : Asked → ℕ → ℤ → Bool
-allows_by_row it k x = stop_allows (number_at (dimension_at it.model.now it.d).capacities it.v) (row_at_stop it k) x && is_start_free it k x

@@ -17,7 +17,8 @@ node_at nodes k = slice_index_or nodes k 0
 abbrev pub is_right_node : Model → ℕ → List ℕ → ℕ → Bool
 is_right_node model v nodes k =
     if k == 0 then node_at nodes k == (vehicle_at model v).start
-    else (if k + 1 == length nodes then node_at nodes k == (vehicle_at model v).end else is_visit model (node_at nodes k))
+    else (if k + 1 == length nodes then node_at nodes k == (vehicle_at model v).end
+    else is_visit model (node_at nodes k))
 
 abbrev pub ends_broken_at : Model → ℕ → List ℕ → ℕ → Option Spot
 ends_broken_at model v nodes k = where_wrong (not (is_right_node model v nodes k)) (spot v k)

@@ -1,5 +1,6 @@
 -- The rules on numbers: parts, cost, cost of the first solution, and limits.
-use Rattle.std.specs.Prelude.{neg_ℤ, nat_lt, cond, Some, ℕ, ◌-◌, Bool, not, ◌&&◌, List, length, ℤ, pos, ◌-ℤ◌, ◌*ℤ◌, int_le, Option, None, slice_index_or}
+use Rattle.std.specs.Prelude.{neg_ℤ, nat_lt, cond, Some, ℕ, ◌-◌, Bool, not, ◌&&◌, List, length, ℤ, pos, ◌-ℤ◌}
+use Rattle.std.specs.Prelude.{◌*ℤ◌, int_le, Option, None, slice_index_or}
 use Rattle.vr_model.specs.tables.Numbers.{within, is_same_number, number_at, total_by, below}
 use Rattle.vr_model.specs.tables.Tables.{dimension_at}
 use Rattle.vr_model.specs.schedules.Lines.{stop_rows}
@@ -44,7 +45,9 @@ first_cost_broken printed = where_wrong (not (int_le printed.cost printed.first_
 
 -- tries and solutions are within the limits of the model
 abbrev pub is_within_limits : Model → Printed → Bool
-is_within_limits model printed = within (pos 0) (pos model.search.tries) printed.tries && within (pos 1) (pos model.search.solutions) printed.solutions
+is_within_limits model printed =
+    within (pos 0) (pos model.search.tries) printed.tries
+    && within (pos 1) (pos model.search.solutions) printed.solutions
 
 -- the rule on limits
 abbrev pub limits_broken : Model → Printed → Option Spot

@@ -3,7 +3,8 @@ use Rattle.std.specs.Prelude.{ℕ, suc, ◌-◌, Bool, not, ◌&&◌, List, leng
 use Rattle.std.specs.List.{list_all}
 use Rattle.vr_model.specs.tables.Numbers.{below, within}
 use Rattle.vr_model.specs.schedules.Lines.{Line, line}
-use Rattle.vr_model.specs.schedules.Schedules.{Plan, both_sides, allows, cumul, slack, arc_at, break_at, break_start, break_end, break_time}
+use Rattle.vr_model.specs.schedules.Schedules.{Plan, both_sides, allows, cumul, slack, arc_at, break_at}
+use Rattle.vr_model.specs.schedules.Schedules.{break_start, break_end, break_time}
 use Rattle.vr_model.specs.deciding.ScheduleTests.{slack_is, is_placed}
 use Rattle.vr_model.specs.declared.records.Model.{Model}
 use Rattle.vr_check.specs.Findings.{spot, where_wrong, first_of}
@@ -48,12 +49,26 @@ ends_in_time line plan i = int_le (break_end line plan i) (break_start plan (suc
 abbrev pub carries_breaks : Line → Plan → ℕ → Bool
 carries_breaks line plan k = int_le (break_time line plan k) (slack plan k)
 
--- breaks start in range, end in time, stand in a place that a break may have, and fit into the slacks
+-- each break starts in its range
+abbrev pub all_in_range : Line → Plan → Bool
+all_in_range line plan = list_all (starts_in_range line plan) (below (length line.breaks))
+
+-- each break ends before the next one starts
+abbrev pub all_in_time : Line → Plan → Bool
+all_in_time line plan = list_all (ends_in_time line plan) (below (length line.breaks - 1))
+
+-- each break stands in a place that it may have
+abbrev pub all_placed : Line → Plan → Bool
+all_placed line plan = list_all (is_placed both_sides line plan) (below (length line.breaks))
+
+-- each slack is enough for the breaks inside its arc
+abbrev pub all_carried : Line → Plan → Bool
+all_carried line plan = list_all (carries_breaks line plan) (below (length plan.slacks))
+
+-- all rules on breaks hold
 abbrev pub are_breaks_right : Line → Plan → Bool
-are_breaks_right line plan = list_all (starts_in_range line plan) (below (length line.breaks))
-    && (list_all (ends_in_time line plan) (below (length line.breaks - 1))
-    && (list_all (is_placed both_sides line plan) (below (length line.breaks))
-    && list_all (carries_breaks line plan) (below (length plan.slacks))))
+are_breaks_right line plan =
+    all_in_range line plan && (all_in_time line plan && (all_placed line plan && all_carried line plan))
 
 -- what is said of breaks names the dimension
 abbrev pub break_broken : Line → ℕ → ℕ → Plan → Option Spot
@@ -66,7 +81,8 @@ plan_broken Slack line d v plan = slack_broken line v plan
 plan_broken Break line d v plan = break_broken line d v plan
 
 abbrev pub plan_broken_in : PlanRule → Model → ℕ → PrintedRoute → ℕ → Option Spot
-plan_broken_in rule model v route d = plan_broken rule (line model d v (visits_of route)) d v (plan_of (plan_in route d))
+plan_broken_in rule model v route d =
+    plan_broken rule (line model d v (visits_of route)) d v (plan_of (plan_in route d))
 
 -- dimension after dimension
 abbrev pub route_broken : PlanRule → Model → ℕ → PrintedRoute → Option Spot

@@ -39,8 +39,12 @@ has_right_number lists group = fits_group lists group && has_enough group.penalt
 abbrev pub no_group : Group
 no_group = record { nodes = []; penalty = None; max = 0 }
 
+-- the group of number g
+abbrev pub group_at : Model → ℕ → Group
+group_at model g = slice_index_or model.groups g no_group
+
 abbrev pub group_broken_at : Model → List (List ℕ) → ℕ → Option Spot
-group_broken_at model lists g = where_wrong (not (has_right_number lists (slice_index_or model.groups g no_group))) (spot_of_none g)
+group_broken_at model lists g = where_wrong (not (has_right_number lists (group_at model g))) (spot_of_none g)
 
 -- the rule on groups
 abbrev pub group_broken : Model → List (List ℕ) → Option Spot

@@ -6,9 +6,11 @@ ghost use Rattle.std.specs.Option.{option_copied};
 ghost use Rattle.vr_model.specs.tables.Numbers.{number_at, within};
 ghost use Rattle.vr_model.specs.tables.Tables.{no_dimension};
 ghost use Rattle.vr_model.specs.schedules.Lines.{in_window, row_allows, stop_allows};
-ghost use Rattle.vr_model.specs.schedules.Schedules.{allows as is_allowed, arc_at};
+ghost use Rattle.vr_model.specs.schedules.Schedules as schedules;
+ghost use Rattle.vr_model.specs.schedules.Schedules.{arc_at};
 ghost use Rattle.vr_model.specs.tables.WellFormed.{IsStopRow, WherePresent};
-ghost use Rattle.vr_check.specs.Asked.{IsAsked, arcs_of, is_start_free as is_start_free_of, line_of, row_at_stop, stop_node as node_of_stop};
+ghost use Rattle.vr_check.specs.Asked as asked_lines;
+ghost use Rattle.vr_check.specs.Asked.{IsAsked, arcs_of, line_of, row_at_stop};
 
 use vr_model::{BreakRow, Dimension, Interval, Model, StopRow};
 
@@ -115,7 +117,7 @@ impl<'a> Asked<'a> {
     // Whether a cumul is 0 where it must be.
     fn is_start_free(&self, k: usize, x: i64) -> bool
         requires { IsAsked self.now }
-        ensures { result ≡ is_start_free_of self.now k x }
+        ensures { result ≡ asked_lines.is_start_free self.now k x }
     {
         k != 0 || !self.dimension().fix_start || x == 0
     }
@@ -124,7 +126,7 @@ impl<'a> Asked<'a> {
     pub(crate) fn allows(&self, k: usize, x: i64) -> bool
         requires asked { IsAsked self.now }
         requires stop { k ≤ arcs_of self.now }
-        ensures { result ≡ is_allowed (line_of self.now) k x }
+        ensures { result ≡ schedules.allows (line_of self.now) k x }
     {
         let capacity = capacity_of(self.dimension(), self.v);
         stop_lets(capacity, self.row(k), x) && self.is_start_free(k, x)
@@ -143,7 +145,7 @@ impl<'a> Asked<'a> {
     fn node(&self, k: usize) -> u32
         requires asked { IsAsked self.now }
         requires stop { k ≤ arcs_of self.now }
-        ensures value { result ≡ node_of_stop self.now k }
+        ensures value { result ≡ asked_lines.stop_node self.now k }
         ensures within { result < self.now.model.now.nodes }
     {
         if k == 0 {

@@ -1,14 +1,13 @@
 //! The rules on breaks.
 
-ghost use Rattle.std.specs.Prelude.{◌≡◌, ◌<◌, ◌+◌, ◌-◌, suc, ℤ, pos, length, cond};
-ghost use Rattle.std.specs.List.{list_all, list_any};
-ghost use Rattle.vr_model.specs.tables.Numbers.{below};
-ghost use Rattle.vr_model.specs.schedules.Schedules.{cumul as cumul_of, slack as slack_of, both_sides, break_at, break_end, break_start, break_time, is_after as is_after_of, is_before as is_before_of, is_inside as is_inside_of};
-ghost use Rattle.vr_model.specs.deciding.ScheduleTests.{is_placed as is_placed_of};
-ghost use Rattle.vr_check.specs.Asked.{IsAsked, line_of};
-ghost use Rattle.vr_check.specs.Asked.{FitsLine};
-ghost use Rattle.vr_check.specs.Plans.{are_breaks_right as are_breaks_right_of, carries_breaks, ends_in_time as ends_in_time_of, starts_in_range as starts_in_range_of};
-ghost use Rattle.vr_check.specs.Breaks.{IsTaken, plan_of_taken, time_inside as time_inside_of};
+ghost use Rattle.std.specs.Prelude.{◌≡◌, ◌<◌, ◌+◌, length};
+ghost use Rattle.vr_model.specs.schedules.Schedules as schedules;
+ghost use Rattle.vr_model.specs.schedules.Schedules.{both_sides, break_at, break_end, break_start, break_time};
+ghost use Rattle.vr_model.specs.deciding.ScheduleTests as schedule_tests;
+ghost use Rattle.vr_check.specs.Asked.{FitsLine, IsAsked, line_of};
+ghost use Rattle.vr_check.specs.Plans as plans;
+ghost use Rattle.vr_check.specs.Breaks as breaks;
+ghost use Rattle.vr_check.specs.Breaks.{IsTaken, plan_of_taken};
 ghost use Rattle.vr_printed.specs.Printed.{plan_of};
 
 use crate::asked::Asked;
@@ -55,7 +54,7 @@ impl Taken<'_> {
     fn cumul(&self, k: usize) -> i64
         requires taken { IsTaken self.now }
         requires stop { k < length self.now.plan.now.cumuls }
-        ensures { result ≡ cumul_of (plan_of_taken self.now) k }
+        ensures { result ≡ schedules.cumul (plan_of_taken self.now) k }
     {
         *self.plan.cumuls.get(k)
     }
@@ -64,7 +63,7 @@ impl Taken<'_> {
     fn slack(&self, k: usize) -> i64
         requires taken { IsTaken self.now }
         requires arc { k < length self.now.plan.now.slacks }
-        ensures { result ≡ slack_of (plan_of_taken self.now) k }
+        ensures { result ≡ schedules.slack (plan_of_taken self.now) k }
     {
         *self.plan.slacks.get(k)
     }
@@ -73,7 +72,7 @@ impl Taken<'_> {
     fn starts_in_range(&self, i: usize) -> bool
         requires taken { IsTaken self.now }
         requires break_number { i < length self.now.rows.now }
-        ensures { result ≡ starts_in_range_of (line_of self.now.asked) (plan_of_taken self.now) i }
+        ensures { result ≡ plans.starts_in_range (line_of self.now.asked) (plan_of_taken self.now) i }
     {
         self.rows[i].from <= self.start(i) && self.start(i) <= self.rows[i].to
     }
@@ -82,7 +81,7 @@ impl Taken<'_> {
     fn ends_in_time(&self, i: usize) -> bool
         requires taken { IsTaken self.now }
         requires next { i + 1 < length self.now.rows.now }
-        ensures { result ≡ ends_in_time_of (line_of self.now.asked) (plan_of_taken self.now) i }
+        ensures { result ≡ plans.ends_in_time (line_of self.now.asked) (plan_of_taken self.now) i }
     {
         self.end(i) <= i128::from(self.start(i + 1))
     }
@@ -92,7 +91,7 @@ impl Taken<'_> {
         requires taken { IsTaken self.now }
         requires break_number { i < length self.now.rows.now }
         requires arc { k < length self.now.plan.now.slacks }
-        ensures { result ≡ is_inside_of (line_of self.now.asked) (plan_of_taken self.now) i k }
+        ensures { result ≡ schedules.is_inside (line_of self.now.asked) (plan_of_taken self.now) i k }
     {
         let free = i128::from(self.cumul(k)) + i128::from(self.asked.visit(k));
         free <= i128::from(self.start(i)) && self.end(i) <= i128::from(self.cumul(k + 1))
@@ -102,7 +101,7 @@ impl Taken<'_> {
     fn is_inside_some(&self, i: usize) -> bool
         requires taken { IsTaken self.now }
         requires break_number { i < length self.now.rows.now }
-        ensures { result ≡ list_any (is_inside_of (line_of self.now.asked) (plan_of_taken self.now) i) (below (length (line_of self.now.asked).arcs)) }
+        ensures { result ≡ breaks.is_inside_some (line_of self.now.asked) (plan_of_taken self.now) i }
     {
         for k in 0..self.asked.arcs() {
             if self.is_inside(i, k) {
@@ -116,7 +115,7 @@ impl Taken<'_> {
     fn is_before(&self, i: usize) -> bool
         requires taken { IsTaken self.now }
         requires break_number { i < length self.now.rows.now }
-        ensures { result ≡ is_before_of (line_of self.now.asked) (plan_of_taken self.now) i }
+        ensures { result ≡ schedules.is_before (line_of self.now.asked) (plan_of_taken self.now) i }
     {
         self.end(i) <= i128::from(self.cumul(0))
     }
@@ -125,7 +124,7 @@ impl Taken<'_> {
     fn is_after(&self, i: usize) -> bool
         requires taken { IsTaken self.now }
         requires break_number { i < length self.now.rows.now }
-        ensures { result ≡ is_after_of (line_of self.now.asked) (plan_of_taken self.now) i }
+        ensures { result ≡ schedules.is_after (line_of self.now.asked) (plan_of_taken self.now) i }
     {
         self.cumul(self.asked.arcs()) <= self.start(i)
     }
@@ -134,7 +133,7 @@ impl Taken<'_> {
     fn is_placed(&self, i: usize) -> bool
         requires taken { IsTaken self.now }
         requires break_number { i < length self.now.rows.now }
-        ensures { result ≡ is_placed_of both_sides (line_of self.now.asked) (plan_of_taken self.now) i }
+        ensures { result ≡ schedule_tests.is_placed both_sides (line_of self.now.asked) (plan_of_taken self.now) i }
     {
         self.is_before(i) || self.is_after(i) || self.is_inside_some(i)
     }
@@ -144,7 +143,7 @@ impl Taken<'_> {
         requires taken { IsTaken self.now }
         requires break_number { i < length self.now.rows.now }
         requires arc { k < length self.now.plan.now.slacks }
-        ensures { result ≡ time_inside_of (line_of self.now.asked) (plan_of_taken self.now) k i }
+        ensures { result ≡ breaks.time_inside (line_of self.now.asked) (plan_of_taken self.now) k i }
     {
         if self.is_inside(i, k) {
             self.duration(i)
@@ -170,7 +169,7 @@ impl Taken<'_> {
     fn carries(&self, k: usize) -> bool
         requires taken { IsTaken self.now }
         requires arc { k < length self.now.plan.now.slacks }
-        ensures { result ≡ carries_breaks (line_of self.now.asked) (plan_of_taken self.now) k }
+        ensures { result ≡ plans.carries_breaks (line_of self.now.asked) (plan_of_taken self.now) k }
     {
         self.time(k) <= i128::from(self.slack(k))
     }
@@ -178,7 +177,7 @@ impl Taken<'_> {
     // Whether each break starts in its range.
     fn all_in_range(&self) -> bool
         requires { IsTaken self.now }
-        ensures { result ≡ list_all (starts_in_range_of (line_of self.now.asked) (plan_of_taken self.now)) (below (length (line_of self.now.asked).breaks)) }
+        ensures { result ≡ plans.all_in_range (line_of self.now.asked) (plan_of_taken self.now) }
     {
         for i in 0..self.rows.len() {
             if !self.starts_in_range(i) {
@@ -191,7 +190,7 @@ impl Taken<'_> {
     // Whether each break ends before the next one starts.
     fn all_in_time(&self) -> bool
         requires { IsTaken self.now }
-        ensures { result ≡ list_all (ends_in_time_of (line_of self.now.asked) (plan_of_taken self.now)) (below (length (line_of self.now.asked).breaks - 1)) }
+        ensures { result ≡ plans.all_in_time (line_of self.now.asked) (plan_of_taken self.now) }
     {
         for i in 0..self.rows.len().saturating_sub(1) {
             if !self.ends_in_time(i) {
@@ -204,7 +203,7 @@ impl Taken<'_> {
     // Whether each break stands in a place that it may have.
     fn all_placed(&self) -> bool
         requires { IsTaken self.now }
-        ensures { result ≡ list_all (is_placed_of both_sides (line_of self.now.asked) (plan_of_taken self.now)) (below (length (line_of self.now.asked).breaks)) }
+        ensures { result ≡ plans.all_placed (line_of self.now.asked) (plan_of_taken self.now) }
     {
         for i in 0..self.rows.len() {
             if !self.is_placed(i) {
@@ -217,7 +216,7 @@ impl Taken<'_> {
     // Whether each slack is enough for the breaks inside its arc.
     fn all_carried(&self) -> bool
         requires { IsTaken self.now }
-        ensures { result ≡ list_all (carries_breaks (line_of self.now.asked) (plan_of_taken self.now)) (below (length self.now.plan.now.slacks)) }
+        ensures { result ≡ plans.all_carried (line_of self.now.asked) (plan_of_taken self.now) }
     {
         for k in 0..self.plan.slacks.len() {
             if !self.carries(k) {
@@ -230,7 +229,7 @@ impl Taken<'_> {
     // Whether all rules on breaks hold.
     fn are_right(&self) -> bool
         requires { IsTaken self.now }
-        ensures { result ≡ are_breaks_right_of (line_of self.now.asked) (plan_of_taken self.now) }
+        ensures { result ≡ plans.are_breaks_right (line_of self.now.asked) (plan_of_taken self.now) }
     {
         self.all_in_range() && self.all_in_time() && self.all_placed() && self.all_carried()
     }
@@ -240,7 +239,7 @@ impl Taken<'_> {
 pub(crate) fn are_breaks_right(asked: Asked<'_>, plan: &PrintedPlan) -> bool
     requires asked { IsAsked asked }
     requires fits { FitsLine asked plan.now }
-    ensures { result ≡ are_breaks_right_of (line_of asked.entry) (plan_of plan.now) }
+    ensures { result ≡ plans.are_breaks_right (line_of asked.entry) (plan_of plan.now) }
 {
     let taken = Taken {
         asked,

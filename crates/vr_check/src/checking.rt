@@ -6,7 +6,7 @@ ghost use Rattle.vr_model.specs.routes.Routes.{are_lists};
 ghost use Rattle.vr_model.specs.tables.WellFormed.{IsWellFormed};
 ghost use Rattle.vr_printed.specs.Printed.{lists_of};
 ghost use Rattle.vr_printed.specs.Shape.{are_routes_shaped};
-ghost use Rattle.vr_check.specs.Check as findings;
+ghost use Rattle.vr_check.specs.Check as checks;
 ghost use Rattle.vr_check.specs.Check.{finding};
 
 use crate::finding::Spot;
@@ -21,9 +21,10 @@ use std::alloc::Global;
 use vr_model::{Model, NoMemory, Seq};
 use vr_printed::{Printed, printed_lists, read_printed};
 
-/// Whether the solution that a tree prints keeps each rule of its model: the cost where it does, else the first rule that is
-/// broken in the order of `Rule`, with its vehicle and place. Any schedule is accepted, and not the chosen one alone.
-/// `NoMemory` where there was no memory.
+/// What the check finds in the solution that a tree prints: its cost where it keeps each rule of the model, else the
+/// first rule that is broken, in the order of `Rule`, with its vehicle and place. A tree of another shape breaks the
+/// first rule. Each printed plan has to be a schedule, and need not be the chosen one. `NoMemory` where there was no
+/// memory.
 pub fn check(alloc: Global, model: &Model, solution: &Value) -> Result<Finding, NoMemory>
     requires { IsWellFormed model.now }
     ensures { IfOk result (λ found. found ≡ finding model.now (view solution.now)) }
@@ -48,7 +49,7 @@ fn lists_finding(
     requires well_formed { IsWellFormed model.now }
     requires lists { lists.now ≡ lists_of printed.now.routes }
     requires shaped { IsTrue (are_routes_shaped model.now printed.now.routes) }
-    ensures { IfOk result (λ found. found ≡ findings.lists_finding model.now printed.now lists.now) }
+    ensures { IfOk result (λ found. found ≡ checks.lists_finding model.now printed.now lists.now) }
 {
     if let Some(spot) = wrong_ends(model, printed.routes.as_slice()) {
         return Ok(Rule::Ends.broken(spot));
@@ -70,7 +71,7 @@ fn visits_finding(
     requires lists { lists.now ≡ lists_of printed.now.routes }
     requires visits { IsTrue (are_lists model.now lists.now) }
     requires shaped { IsTrue (are_routes_shaped model.now printed.now.routes) }
-    ensures { IfOk result (λ found. found ≡ findings.visits_finding model.now printed.now lists.now) }
+    ensures { IfOk result (λ found. found ≡ checks.visits_finding model.now printed.now lists.now) }
 {
     if let Some(spot) = wrong_dropped(model, lists, printed.dropped.as_slice()) {
         return Ok(Rule::Dropped.broken(spot));
@@ -99,7 +100,7 @@ fn plans_finding(model: &Model, printed: &Printed, lists: &[Seq<u32>]) -> Findin
     requires lists { lists.now ≡ lists_of printed.now.routes }
     requires shaped { IsTrue (are_routes_shaped model.now printed.now.routes) }
     requires visits { IsTrue (are_lists model.now lists.now) }
-    ensures { result ≡ findings.plans_finding model.now printed.now }
+    ensures { result ≡ checks.plans_finding model.now printed.now }
 {
     let routes = printed.routes.as_slice();
     if let Some(spot) = wrong_routes(PlanRule::Cumul, model, lists, routes) {
@@ -120,7 +121,7 @@ fn numbers_finding(model: &Model, printed: &Printed, lists: &[Seq<u32>]) -> Find
     requires lists { lists.now ≡ lists_of printed.now.routes }
     requires shaped { IsTrue (are_routes_shaped model.now printed.now.routes) }
     requires visits { IsTrue (are_lists model.now lists.now) }
-    ensures { result ≡ findings.numbers_finding model.now printed.now }
+    ensures { result ≡ checks.numbers_finding model.now printed.now }
 {
     if let Some(spot) = wrong_parts(model, printed, lists) {
         return Rule::Parts.broken(spot);

@@ -3,7 +3,7 @@
 ghost use Rattle.std.specs.Prelude.{◌≡◌, ◌<◌, ◌^◌};
 ghost use Rattle.vr_check.specs.Check.{word_of};
 ghost use Rattle.vr_check.specs.Findings.{broken_at, spot_of_none, spot_of_vehicle};
-ghost use Rattle.vr_check.specs.Findings.{nowhere as nowhere_of, spot as spot_of};
+ghost use Rattle.vr_check.specs.Findings as findings;
 
 /// What a check finds.
 #[derive(Clone, Copy)]
@@ -69,7 +69,7 @@ impl Spot {
     pub(crate) fn at(vehicle: usize, place: usize) -> Spot
         requires vehicle { vehicle < 2 ^ 62 }
         requires place { place < 2 ^ 62 }
-        ensures { result ≡ spot_of vehicle place }
+        ensures { result ≡ findings.spot vehicle place }
     {
         Spot {
             vehicle: vehicle as i64,
@@ -101,7 +101,7 @@ impl Spot {
 
     /// No vehicle and no place.
     pub(crate) fn nowhere() -> Spot
-        ensures { result ≡ nowhere_of }
+        ensures { result ≡ findings.nowhere }
     {
         Spot {
             vehicle: -1,

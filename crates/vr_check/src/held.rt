@@ -1,20 +1,20 @@
 //! Tests of lists.
 
 ghost use Rattle.std.specs.Prelude.{◌≡◌};
-ghost use Rattle.vr_model.specs.routes.Routes.{holds as is_held, is_active as is_active_in};
+ghost use Rattle.vr_model.specs.routes.Routes as routes;
 
 use vr_model::Seq;
 
 /// Whether a node stands in a list.
 pub(crate) fn holds(list: &[u32], node: u32) -> bool
-    ensures { result ≡ is_held list.now node }
+    ensures { result ≡ routes.holds list.now node }
 {
     list.iter().any(|&other| node == other)
 }
 
 /// Whether a node stands in some list.
 pub(crate) fn is_active(lists: &[Seq<u32>], node: u32) -> bool
-    ensures { result ≡ is_active_in lists.now node }
+    ensures { result ≡ routes.is_active lists.now node }
 {
     lists.iter().any(|list| holds(list.as_slice(), node))
 }

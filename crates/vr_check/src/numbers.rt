@@ -7,9 +7,10 @@ ghost use Rattle.vr_model.specs.routes.Costs.{sum_of};
 ghost use Rattle.vr_model.specs.routes.Routes.{are_lists};
 ghost use Rattle.vr_printed.specs.Printed.{lists_of};
 ghost use Rattle.vr_printed.specs.Shape.{are_routes_shaped};
-ghost use Rattle.vr_check.specs.Findings.{earlier as earlier_of};
-ghost use Rattle.vr_check.specs.Parts.{IsAround, cost_broken, first_cost_broken, limits_broken, part_broken, parts_broken};
-ghost use Rattle.vr_check.specs.Parts.{is_within_limits as is_within_limits_of};
+ghost use Rattle.vr_check.specs.Findings as findings;
+ghost use Rattle.vr_check.specs.Parts.{IsAround, cost_broken, first_cost_broken, limits_broken, part_broken};
+ghost use Rattle.vr_check.specs.Parts.{parts_broken};
+ghost use Rattle.vr_check.specs.Parts as part_rules;
 
 use crate::costs::{arcs_of, fixed_of, penalty_of};
 use crate::finding::Spot;
@@ -42,7 +43,7 @@ fn wrong_part(k: usize, printed: i64, value: i128) -> Option<Spot>
 
 // The first of two spots.
 fn earlier(first: Option<Spot>, second: Option<Spot>) -> Option<Spot>
-    ensures { result ≡ earlier_of first second }
+    ensures { result ≡ findings.earlier first second }
 {
     match first {
         Some(spot) => Some(spot),
@@ -124,7 +125,7 @@ fn is_counted(least: i64, greatest: u64, number: i64) -> bool
 
 // Whether tries and solutions are within the limits of the model.
 fn is_within_limits(model: &Model, printed: &Printed) -> bool
-    ensures { result ≡ is_within_limits_of model.now printed.now }
+    ensures { result ≡ part_rules.is_within_limits model.now printed.now }
 {
     is_counted(0, model.search.tries, printed.tries)
         && is_counted(1, model.search.solutions, printed.solutions)

@@ -2,9 +2,11 @@
 
 ghost use Rattle.std.specs.Prelude.{◌≡◌, ◌<◌, ◌≤◌, ◌^◌, ◌==◌, find, length, map, IfOk};
 ghost use Rattle.std.specs.List.{list_all};
-ghost use Rattle.vr_model.specs.moves.Moves.{comes_before as comes_before_of};
-ghost use Rattle.vr_model.specs.routes.Rules.{allows_vehicle as allows_vehicle_of, keeps_policy as keeps_policy_of, pairs_in, place_of as place_in, serves_pair as serves_pair_of};
-ghost use Rattle.vr_check.specs.Pairs.{allowed_broken, allowed_broken_of, are_in_order as are_in_order_of, is_in_order as is_in_order_of, is_served as is_served_of, pair_broken, policy_broken, places_of};
+ghost use Rattle.vr_model.specs.moves.Moves as moves;
+ghost use Rattle.vr_model.specs.routes.Rules as rules;
+ghost use Rattle.vr_model.specs.routes.Rules.{pairs_in};
+ghost use Rattle.vr_check.specs.Pairs as pairs;
+ghost use Rattle.vr_check.specs.Pairs.{allowed_broken, allowed_broken_of, pair_broken, policy_broken, places_of};
 
 use crate::finding::Spot;
 use crate::held::holds;
@@ -13,7 +15,7 @@ use vr_model::{Model, NoMemory, Pair, Policy, Seq};
 
 // Whether a node stands in a list and another one behind it.
 fn comes_before(list: &[u32], first: u32, second: u32) -> bool
-    ensures { result ≡ comes_before_of list.now first second }
+    ensures { result ≡ moves.comes_before list.now first second }
 {
     for (k, &node) in list.iter().enumerate() {
         if node == first {
@@ -25,7 +27,7 @@ fn comes_before(list: &[u32], first: u32, second: u32) -> bool
 
 // Whether no node of a pair stands in a list, or both do, the pickup first.
 fn serves_pair(list: &[u32], pair: &Pair) -> bool
-    ensures { result ≡ serves_pair_of list.now pair.now }
+    ensures { result ≡ rules.serves_pair list.now pair.now }
 {
     !(holds(list, pair.pickup) || holds(list, pair.delivery))
         || comes_before(list, pair.pickup, pair.delivery)
@@ -33,7 +35,7 @@ fn serves_pair(list: &[u32], pair: &Pair) -> bool
 
 // Whether each list serves a pair.
 fn is_served(lists: &[Seq<u32>], pair: &Pair) -> bool
-    ensures { result ≡ is_served_of lists.now pair.now }
+    ensures { result ≡ pairs.is_served lists.now pair.now }
 {
     lists.iter().all(|list| serves_pair(list.as_slice(), pair))
 }
@@ -60,7 +62,7 @@ pub(crate) struct Places {
 
 // The place of a node in a list, its length where it is absent.
 fn place_of(list: &[u32], node: u32) -> usize
-    ensures { result ≡ place_in list.now node }
+    ensures { result ≡ rules.place_of list.now node }
 {
     for (k, &other) in list.iter().enumerate() {
         if other == node {
@@ -88,7 +90,7 @@ fn places_in(alloc: Global, model: &Model, list: &[u32]) -> Result<Seq<Places>, 
 
 // Whether a policy lets two pairs stand at these places.
 fn are_in_order(policy: Policy, x: Places, y: Places) -> bool
-    ensures { result ≡ are_in_order_of policy x y }
+    ensures { result ≡ pairs.are_in_order policy x y }
 {
     match policy {
         Policy::Any => true,
@@ -101,14 +103,14 @@ fn are_in_order(policy: Policy, x: Places, y: Places) -> bool
 
 // Whether a policy lets a pair and each of some others stand at their places.
 fn is_in_order(policy: Policy, x: Places, places: &[Places]) -> bool
-    ensures { result ≡ is_in_order_of policy places.now x }
+    ensures { result ≡ pairs.is_in_order policy places.now x }
 {
     places.iter().all(|&y| are_in_order(policy, x, y))
 }
 
 // Whether a policy lets each two of some pairs stand at their places.
 fn all_in_order(policy: Policy, places: &[Places]) -> bool
-    ensures { result ≡ list_all (is_in_order_of policy places.now) places.now }
+    ensures { result ≡ list_all (pairs.is_in_order policy places.now) places.now }
 {
     places.iter().all(|&x| is_in_order(policy, x, places))
 }
@@ -121,7 +123,7 @@ fn keeps_policy(
     list: &[u32],
 ) -> Result<bool, NoMemory>
     requires { vehicle < length model.now.vehicles }
-    ensures { IfOk result (λ keeps. keeps ≡ keeps_policy_of model.now vehicle list.now) }
+    ensures { IfOk result (λ keeps. keeps ≡ rules.keeps_policy model.now vehicle list.now) }
 {
     let places = places_in(alloc, model, list)?;
     let policy = model.vehicles.get(vehicle).policy;

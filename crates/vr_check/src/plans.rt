@@ -9,7 +9,9 @@ ghost use Rattle.vr_model.specs.routes.Routes.{are_lists};
 ghost use Rattle.vr_model.specs.schedules.Schedules.{cumul, slack};
 ghost use Rattle.vr_model.specs.deciding.ScheduleTests.{slack_is};
 ghost use Rattle.vr_check.specs.Asked.{FitsLine, IsAsked, line_of};
-ghost use Rattle.vr_check.specs.Plans.{break_broken, cumul_broken, is_right_slack as is_right_slack_of, left_over as left_over_of, plan_broken, route_broken, routes_broken, slack_broken};
+ghost use Rattle.vr_check.specs.Plans as plans;
+ghost use Rattle.vr_check.specs.Plans.{break_broken, cumul_broken, plan_broken, route_broken, routes_broken};
+ghost use Rattle.vr_check.specs.Plans.{slack_broken};
 ghost use Rattle.vr_printed.specs.Printed.{lists_of, plan_of, visits_of};
 ghost use Rattle.vr_printed.specs.Shape.{are_routes_shaped, is_route_shaped};
 
@@ -63,7 +65,7 @@ fn left_over(asked: Asked<'_>, plan: &PrintedPlan, k: usize) -> i128
     requires asked { IsAsked asked }
     requires fits { FitsLine asked plan.now }
     requires arc { k < length plan.now.slacks }
-    ensures { result ≡ left_over_of (line_of asked.entry) (plan_of plan.now) k }
+    ensures { result ≡ plans.left_over (line_of asked.entry) (plan_of plan.now) k }
 {
     let span = i128::from(cumul_at(plan, k + 1)) - i128::from(cumul_at(plan, k));
     span - i128::from(asked.transit(k))
@@ -91,7 +93,7 @@ fn is_right_slack(asked: Asked<'_>, plan: &PrintedPlan, k: usize) -> bool
     requires asked { IsAsked asked }
     requires fits { FitsLine asked plan.now }
     requires arc { k < length plan.now.slacks }
-    ensures { result ≡ is_right_slack_of (line_of asked.entry) (plan_of plan.now) k }
+    ensures { result ≡ plans.is_right_slack (line_of asked.entry) (plan_of plan.now) k }
 {
     is_left(asked, plan, k) && is_bounded(asked.slack_max(), slack_at(plan, k))
 }

@@ -7,7 +7,8 @@ ghost use Rattle.std.specs.Option.{option_copied};
 ghost use Rattle.vr_model.specs.tables.Numbers.{below, total_by};
 ghost use Rattle.vr_model.specs.tables.Tables.{is_visit};
 ghost use Rattle.vr_model.specs.tables.WellFormed.{IsSoft, IsStopRow, IsWellFormed, WherePresent};
-ghost use Rattle.vr_model.specs.routes.Costs.{row_cost as row_cost_of, soft_cost as soft_cost_of, soft_part};
+ghost use Rattle.vr_model.specs.routes.Costs as costs;
+ghost use Rattle.vr_model.specs.routes.Costs.{soft_part};
 ghost use Rattle.vr_model.specs.routes.Routes.{are_lists};
 ghost use Rattle.vr_printed.specs.Printed.{assignment_of, lists_of, visits_of};
 ghost use Rattle.vr_printed.specs.Shape.{are_routes_shaped, is_route_shaped};
@@ -32,7 +33,7 @@ fn above(cumul: i64, bound: i64) -> i128
 // What a cumul costs above a soft bound.
 fn soft_cost(soft: Option<Soft>, cumul: i64) -> i128
     requires { WherePresent IsSoft soft }
-    ensures value { result ≡ soft_cost_of soft cumul }
+    ensures value { result ≡ costs.soft_cost soft cumul }
     ensures range { IsAround (2 ^ 106) result }
 {
     match soft {
@@ -44,7 +45,7 @@ fn soft_cost(soft: Option<Soft>, cumul: i64) -> i128
 // What a cumul costs by the row of its stop.
 fn row_cost(row: Option<&StopRow>, cumul: i64) -> i128
     requires { WherePresent IsStopRow (option_copied row) }
-    ensures value { result ≡ row_cost_of (option_copied row.entry) cumul }
+    ensures value { result ≡ costs.row_cost (option_copied row.entry) cumul }
     ensures range { IsAround (2 ^ 106) result }
 {
     match row {

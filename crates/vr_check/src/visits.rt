@@ -1,8 +1,9 @@
 //! The rules on which visits are active.
 
 ghost use Rattle.std.specs.Prelude.{◌≡◌, ◌≤◌, length};
-ghost use Rattle.vr_model.specs.routes.Rules.{active_in as active_in_of, is_grouped as is_grouped_of};
-ghost use Rattle.vr_check.specs.Visits.{dropped_broken, group_broken, has_right_number as has_right_number_of, is_missing as is_missing_of, is_next as is_next_of, is_inactive as is_inactive_of, required_broken};
+ghost use Rattle.vr_model.specs.routes.Rules as rules;
+ghost use Rattle.vr_check.specs.Visits as visits;
+ghost use Rattle.vr_check.specs.Visits.{dropped_broken, group_broken, required_broken};
 
 use crate::finding::Spot;
 use crate::held::{holds, is_active};
@@ -10,14 +11,14 @@ use vr_model::{Group, Model, Seq};
 
 // Whether a visit stands in no list.
 fn is_inactive(model: &Model, lists: &[Seq<u32>], node: u32) -> bool
-    ensures { result ≡ is_inactive_of model.now lists.now node }
+    ensures { result ≡ visits.is_inactive model.now lists.now node }
 {
     model.is_visit(node) && !is_active(lists, node)
 }
 
 // Whether a node stands at a place of a list.
 fn is_next(list: &[u32], k: usize, node: u32) -> bool
-    ensures { result ≡ is_next_of list.now k node }
+    ensures { result ≡ visits.is_next list.now k node }
 {
     k < list.len() && list[k] == node
 }
@@ -44,7 +45,7 @@ pub(crate) fn wrong_dropped(model: &Model, lists: &[Seq<u32>], dropped: &[u32]) 
 
 // Whether a node stands in a group.
 fn is_grouped(model: &Model, node: u32) -> bool
-    ensures { result ≡ is_grouped_of model.now node }
+    ensures { result ≡ rules.is_grouped model.now node }
 {
     model
         .groups
@@ -55,7 +56,7 @@ fn is_grouped(model: &Model, node: u32) -> bool
 
 // Whether a node is an inactive visit that stands in no group.
 fn is_missing(model: &Model, lists: &[Seq<u32>], node: u32) -> bool
-    ensures { result ≡ is_missing_of model.now lists.now node }
+    ensures { result ≡ visits.is_missing model.now lists.now node }
 {
     is_inactive(model, lists, node) && !is_grouped(model, node)
 }
@@ -74,7 +75,7 @@ pub(crate) fn missing(model: &Model, lists: &[Seq<u32>]) -> Option<Spot>
 
 // How many nodes of a group are active.
 pub(crate) fn active_in(lists: &[Seq<u32>], group: &Group) -> usize
-    ensures { result ≡ active_in_of lists.now group.now }
+    ensures { result ≡ rules.active_in lists.now group.now }
 {
     group
         .nodes
@@ -86,7 +87,7 @@ pub(crate) fn active_in(lists: &[Seq<u32>], group: &Group) -> usize
 
 // Whether as many nodes of a group are active as must be.
 fn has_right_number(lists: &[Seq<u32>], group: &Group) -> bool
-    ensures { result ≡ has_right_number_of lists.now group.now }
+    ensures { result ≡ visits.has_right_number lists.now group.now }
 {
     let active = active_in(lists, group);
     match group.penalty {

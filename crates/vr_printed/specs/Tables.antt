@@ -42,6 +42,10 @@ printed_route n path d = do
   others ← known (codes "dimensions" ∷ codes "nodes" ∷ codes "vehicle" ∷ []) path d
   Ok (record { vehicle = vehicle; nodes = nodes; plans = plans })
 
+-- the names of the parts of a cost
+abbrev pub parts_fields : List (List ℕ)
+parts_fields = codes "arcs" ∷ codes "fixed" ∷ codes "global" ∷ codes "penalty" ∷ codes "soft" ∷ codes "span" ∷ []
+
 -- the parts of a cost
 unfoldable pub printed_parts : ReaderOf Parts
 printed_parts path d = do
@@ -51,7 +55,7 @@ printed_parts path d = do
   penalty ← required (codes "penalty") any_whole path d
   soft ← required (codes "soft") any_whole path d
   span ← required (codes "span") any_whole path d
-  others ← known (codes "arcs" ∷ codes "fixed" ∷ codes "global" ∷ codes "penalty" ∷ codes "soft" ∷ codes "span" ∷ []) path d
+  others ← known parts_fields path d
   Ok (record { arcs = arcs; fixed = fixed; global = global; penalty = penalty; soft = soft; span = span })
 
 -- the words of the fields `status` and `stop`
@@ -60,6 +64,11 @@ status_words = (codes "ROUTING_SUCCESS", tt) ∷ []
 
 abbrev pub stop_words : List (List ℕ × ⊤)
 stop_words = (codes "first", tt) ∷ (codes "optimum", tt) ∷ (codes "tries", tt) ∷ (codes "solutions", tt) ∷ []
+
+-- the names of the fields of a solution
+abbrev pub solution_fields : List (List ℕ)
+solution_fields = codes "cost" ∷ codes "dropped" ∷ codes "first_cost" ∷ codes "parts" ∷ codes "routes"
+    ∷ codes "solutions" ∷ codes "status" ∷ codes "stop" ∷ codes "tries" ∷ []
 
 -- a solution, in a model of n nodes
 unfoldable pub solution : ℕ → ReaderOf Printed
@@ -73,5 +82,13 @@ solution n path d = do
   status ← required (codes "status") (one_of status_words) path d
   stop ← required (codes "stop") (one_of stop_words) path d
   tries ← required (codes "tries") any_whole path d
-  others ← known (codes "cost" ∷ codes "dropped" ∷ codes "first_cost" ∷ codes "parts" ∷ codes "routes" ∷ codes "solutions" ∷ codes "status" ∷ codes "stop" ∷ codes "tries" ∷ []) path d
-  Ok (record { cost = cost; dropped = dropped; first_cost = first_cost; parts = parts; routes = routes; solutions = solutions; tries = tries })
+  others ← known solution_fields path d
+  Ok (record {
+    cost = cost;
+    dropped = dropped;
+    first_cost = first_cost;
+    parts = parts;
+    routes = routes;
+    solutions = solutions;
+    tries = tries;
+  })

@@ -1,7 +1,7 @@
 //! A printed solution, read from its tree into plain records.
 //!
-//! A tree has the right shape where it has the fields, kinds, words and lengths of a solution's text for its model. What is
-//! read is as the tree says it: whether it keeps the rules of the model is asked above.
+//! A tree has the right shape where it has the fields, kinds, words and lengths of a solution's text for its model.
+//! What is read is as the tree says it: whether it keeps the rules of the model is asked above.
 #![tactic(auto)]
 
 mod lists;

@@ -18,7 +18,8 @@ fn visits_of(alloc: Global, nodes: &[u32]) -> Result<Seq<u32>, NoMemory>
     Ok(list)
 }
 
-/// The visits of each route in order, without the ends; no visits of an unused vehicle. `NoMemory` where there was no memory.
+/// The visits of each route in order, without its ends; none of an unused vehicle. `NoMemory` where there was no
+/// memory.
 pub fn printed_lists(alloc: Global, routes: &[PrintedRoute]) -> Result<Seq<Seq<u32>>, NoMemory>
     ensures { IfOk result (λ lists. lists ≡ lists_of routes.now) }
 {
