@@ -10,7 +10,7 @@ use Rattle.std.proofs.lemmas.List.Folds.{list_all-append, list_any-append}
 use Rattle.vr_model.specs.declared.records.Model.{Model}
 use Rattle.vr_model.specs.tables.Numbers.{below}
 use Rattle.vr_model.specs.tables.Tables.{is_visit, arc_cost}
-use Rattle.vr_model.specs.routes.Routes.{route, holds, is_active}
+use Rattle.vr_model.specs.routes.Routes.{route, holds, is_active, is_empty}
 use Rattle.vr_model.specs.routes.Rules.{is_open, is_route_open}
 use Rattle.vr_model.specs.first.Items.{items, first_node, unplaced}
 use Rattle.vr_model.specs.first.Choosing.{better, least_by}
@@ -28,7 +28,8 @@ use Rattle.vr_rules.proofs.LocalOpenness.{is_open-local}
 use Rattle.vr_rules.proofs.LazyLeast.{IsBest, IsBest-none, IsBest-more}
 use Rattle.vr_rules.proofs.PlacingLemmas.{IsAdded, item-inactive, inactive-route, is_distinct-both, fits_beside-marks, built-visits, built-distinct}
 use Rattle.vr_first_arc.specs.declared.choice.Choice.{Choice}
-use Rattle.vr_first_arc.specs.Choices.{all_filled, key_of, item_of_choice, nodes_of_choice, choice_of, chosen_beside, may_append, tail, IsLonger, MayBeAppended}
+use Rattle.vr_first_arc.specs.Choices.{all_filled, key_of, item_of_choice, nodes_of_choice, choice_of, chosen_beside, may_append, MayBeAppended}
+use Rattle.vr_rules.specs.Fronts.{tail, IsDriven}
 
 -- one more item is appended
 filled-more : (model : Model) (v more : ℕ) (lists : List (List ℕ)) (item : List ℕ) → next_appended model lists v ≡ Some item
@@ -62,6 +63,11 @@ inactive_by model lists marks are item valid free = sym (are.each (first_node (n
 
 -- ---- a list with an item at its end
 
+some_behind : (list : List ℕ) (item : Item) → is_empty (list ++ nodes_of item) ≡ false
+some_behind [] (Visit n) = refl
+some_behind [] (PickupAndDelivery p d) = refl
+some_behind (n ∷ ns) item = refl
+
 module _ (model : Model) (lists : List (List ℕ)) (v : ℕ) (built : AreBuilt model lists) (low : v < length lists) where
   pub IsAdded-appended : (item : Item) → IsItem model item → is_active lists (first_node (nodes_of item)) ≡ false
       → IsAdded model lists v (nodes_of item) (route lists v ++ nodes_of item)
@@ -81,8 +87,8 @@ module _ (model : Model) (lists : List (List ℕ)) (v : ℕ) (built : AreBuilt m
       by x there true e none = absurd (clash (holds (route lists v) x) there (inactive-route lists x v (none e)))
       by x there false e none = e
 
-  pub IsLonger-item : (item : Item) → IsItem model item → is_active lists (first_node (nodes_of item)) ≡ false → IsLonger model (route lists v) (nodes_of item)
-  IsLonger-item item valid first = let added = IsAdded-appended item valid first in record { visits = added.visits; distinct = added.distinct }
+  pub IsDriven-item : (item : Item) → IsItem model item → is_active lists (first_node (nodes_of item)) ≡ false → IsDriven model (route lists v ++ nodes_of item)
+  IsDriven-item item valid first = let added = IsAdded-appended item valid first in record { some = some_behind (route lists v) item; visits = added.visits; distinct = added.distinct }
 
   -- ---- the choice
 

@@ -12,6 +12,7 @@ use Rattle.vr_model.specs.first.PathCheapestArc.{appended, filled}
 use Rattle.vr_model.specs.declared.records.Model.{Model}
 use Rattle.vr_rules.specs.declared.items.Item.{Item}
 use Rattle.vr_rules.specs.declared.items.Candidate.{Candidate}
+use Rattle.vr_rules.specs.Fronts.{tail}
 use Rattle.vr_rules.specs.Placing.{nodes_of, has_room, is_marked, IsItem}
 use Rattle.vr_first_arc.specs.declared.choice.Choice.{Choice}
 
@@ -27,10 +28,6 @@ item_of_choice choice = choice.item
 abbrev pub nodes_of_choice : Choice → List ℕ
 nodes_of_choice choice = nodes_of choice.item
 
--- where the next arc begins: at the last visit of the list, at the start of vehicle v where it is empty
-abbrev pub tail : Model → ℕ → List ℕ → ℕ
-tail model v list = cond (is_empty list) (vehicle_at model v).start (last_node list)
-
 -- the choice of a candidate behind a node
 abbrev pub choice_of : Model → ℕ → ℕ → Candidate → Choice
 choice_of model v at candidate = record {
@@ -43,11 +40,6 @@ choice_of model v at candidate = record {
 abbrev pub may_append : Model → ℕ → List ℕ → List Bool → Item → Bool
 may_append model v list marks item = is_route_open model v (list ++ nodes_of item)
     && list_all (has_room marks item) model.groups
-
--- a list may be read with nodes at its end: they are visits, and none stands twice
-pub record IsLonger (model : Model) (list nodes : List ℕ) : Type 0 where
-  pub visits : IsTrue (list_all (is_visit model) (list ++ nodes))
-  pub distinct : IsTrue (is_distinct (list ++ nodes))
 
 -- an item that may be appended to the list of vehicle v: it stands in no list, and the lists stay open
 pub record MayBeAppended (model : Model) (lists : List (List ℕ)) (v : ℕ) (item : Item) : Type 0 where

@@ -11,7 +11,7 @@ use crate::fill::fill_all;
 use std::alloc::Global;
 use vr_model::{Model, NoMemory, Seq};
 use vr_routes::Routes;
-use vr_rules::{candidates, complete_routes, empty_lists};
+use vr_rules::{Room, candidates, complete_routes, empty_lists};
 
 // The lists at which the construction ends.
 fn filled_lists(alloc: Global, model: &Model) -> Result<Vec<Seq<u32>>, NoMemory>
@@ -22,7 +22,8 @@ fn filled_lists(alloc: Global, model: &Model) -> Result<Vec<Seq<u32>>, NoMemory>
     let candidates = candidates(alloc, model)?;
     let mut lists = empty_lists(alloc, model)?;
     let mut marks = vec![in alloc; false; model.nodes as usize]?;
-    fill_all(alloc, model, &candidates, &mut lists, &mut marks)?;
+    let mut room = Room::new(alloc);
+    fill_all(&mut room, model, &candidates, &mut lists, &mut marks)?;
     Ok(lists)
 }
 
@@ -30,7 +31,7 @@ fn filled_lists(alloc: Global, model: &Model) -> Result<Vec<Seq<u32>>, NoMemory>
 /// list as long as the lists stay open, each time the item of the least class, and of those the one to which the arc
 /// costs least, and of those the one of the least number.
 ///
-/// `None` exactly where the lists at which this ends are not valid. `NoMemory` comes only where memory is refused.
+/// `None` exactly where the lists at which this ends are not valid; `NoMemory` where there was no memory.
 pub fn first(alloc: Global, model: &Model) -> Result<Option<Routes>, NoMemory>
     requires well_formed { IsWellFormed model.now }
     ensures first { IfOk result (λ first. lists_in first

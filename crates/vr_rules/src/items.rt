@@ -4,7 +4,7 @@ ghost use Rattle.std.specs.Prelude.{◌≡◌, ◌||◌, ◌==◌, [], find, opt
 ghost use Rattle.vr_model.specs.tables.Tables.{is_visit};
 ghost use Rattle.vr_model.specs.routes.Routes.{holds};
 ghost use Rattle.vr_model.specs.routes.Rules.{is_grouped as is_grouped_of};
-ghost use Rattle.vr_model.specs.first.Items.{class, empty_lists as empty_lists_of, first_node};
+ghost use Rattle.vr_model.specs.first.Items.{class, empty_lists as empty_lists_of, first_node, last_node};
 ghost use Rattle.vr_model.specs.first.Items.{items_at, must_fill as must_fill_of, node_class as node_class_of};
 ghost use Rattle.vr_model.specs.first.Items.{pair_of as pair_of_node};
 ghost use Rattle.vr_model.specs.tables.WellFormed.{IsWellFormed};
@@ -30,6 +30,16 @@ impl Item {
         match self {
             Item::Visit(node) => node,
             Item::PickupAndDelivery(pickup, _) => pickup,
+        }
+    }
+
+    /// Its last node.
+    pub fn last(self) -> u32
+        ensures { result ≡ last_node (nodes_of self) }
+    {
+        match self {
+            Item::Visit(node) => node,
+            Item::PickupAndDelivery(_, delivery) => delivery,
         }
     }
 

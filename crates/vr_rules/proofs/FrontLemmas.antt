@@ -1,0 +1,164 @@
+-- What a vehicle reaches at the end of a list, from what it reaches one visit before.
+use Rattle.std.proofs.Common.{◌≡◌, ◌∙◌, ◌+◌, ◌<◌, ℕ, zero, suc, List, [], ◌∷◌, ◌++◌, Bool, true, false, cond, refl, ap, sym, subst, arith, length, get_or, map, ℤ, append_assoc}
+use Rattle.std.specs.List.{list_all}
+use Rattle.std.proofs.lemmas.List.Folds.{list_all-append}
+use Rattle.vr_model.specs.tables.Tables.{is_visit}
+use Rattle.vr_model.specs.deciding.Testing.{and_left, and_right}
+use Rattle.vr_model.proofs.routes.Lists.{visit_below}
+use Rattle.std.proofs.lemmas.List.{append-nil, length-append, length-map}
+use Rattle.vr_spans.specs.declared.runs.Run.{Run}
+use Rattle.vr_model.specs.tables.Tables.{breaks_of, dimension_at, vehicle_at, row_of}
+use Rattle.vr_model.specs.tables.Numbers.{number_at}
+use Rattle.vr_model.specs.tables.WellFormed.{IsWellFormed}
+use Rattle.vr_model.specs.routes.Routes.{UsedArc, arcs_from, is_empty}
+use Rattle.vr_model.specs.schedules.Lines.{Arc, line, line_arc, stop_allows}
+use Rattle.vr_model.specs.schedules.SoundLines.{IsSound, LinesAreSound}
+use Rattle.vr_model.specs.schedules.Schedules.{no_arc}
+use Rattle.vr_model.specs.first.Items.{last_node}
+use Rattle.vr_model.specs.declared.records.Model.{Model}
+use Rattle.vr_model.specs.declared.records.BreakRow.{BreakRow}
+use Rattle.vr_steps.specs.declared.hops.Hop.{Hop}
+use Rattle.vr_steps.specs.declared.stops.StopName.TheVariants.{Start, End, Visit}
+use Rattle.vr_steps.specs.Levels.{AreCrossed, AreStartLevels}
+use Rattle.vr_steps.specs.Lines.{hop_between, hop_of}
+use Rattle.vr_steps.specs.Reached.{AreReached, IsAllowedSet, ReachedBehindArc, StartIsReached, hop_at}
+use Rattle.vr_reach.specs.Walks.{EndsAt}
+use Rattle.vr_rules.specs.Fronts.{tail, AreReachedBehind, IsDriven, IsStopSet}
+
+-- the last of a list, or what stands before it
+abbrev pub last_of : ℕ → List ℕ → ℕ
+last_of origin [] = origin
+last_of origin (n ∷ ns) = last_of n ns
+
+last_from : (n : ℕ) (ns : List ℕ) → last_node (n ∷ ns) ≡ last_of n ns
+last_from n [] = refl
+last_from n (m ∷ ms) = last_from m ms
+
+pub tail_is : (model : Model) (v : ℕ) (list : List ℕ) → tail model v list ≡ last_of (vehicle_at model v).start list
+tail_is model v [] = refl
+tail_is model v (n ∷ ns) = last_from n ns
+
+-- the last of two lists, one behind the other
+pub last_behind : (origin : ℕ) (xs ys : List ℕ) → last_of origin (xs ++ ys) ≡ last_of (last_of origin xs) ys
+last_behind origin [] ys = refl
+last_behind origin (x ∷ xs) ys = last_behind x xs ys
+
+-- the last of visits is a node
+pub last_below : (model : Model) (origin : ℕ) (list : List ℕ) → origin < model.nodes → list_all (is_visit model) list ≡ true → last_of origin list < model.nodes
+last_below model origin [] low visits = low
+last_below model origin (n ∷ ns) low visits = last_below model n ns (visit_below model n (and_left (is_visit model n) _ visits)) (and_right (is_visit model n) _ visits)
+
+-- the visits of two lists, one behind the other
+pub visits_before : (model : Model) (xs ys : List ℕ) → list_all (is_visit model) (xs ++ ys) ≡ true → list_all (is_visit model) xs ≡ true
+visits_before model xs ys visits = and_left (list_all (is_visit model) xs) _ (sym (list_all-append (is_visit model) xs ys) ∙ visits)
+
+pub visits_after : (model : Model) (xs ys : List ℕ) → list_all (is_visit model) (xs ++ ys) ≡ true → list_all (is_visit model) ys ≡ true
+visits_after model xs ys visits = and_right (list_all (is_visit model) xs) _ (sym (list_all-append (is_visit model) xs ys) ∙ visits)
+
+-- what holds of each entry at its place holds with one entry more
+pub each_push : {A : Type 0} (P : ℕ → A → Type 0) (xs : List A) (x : A) → ((k : ℕ) (d : A) → k < length xs → P k (get_or xs k d)) → P (length xs) x → (k : ℕ) (d : A) → k < length (xs ++ x ∷ []) → P k (get_or (xs ++ x ∷ []) k d)
+each_push P [] x each last zero d lt = last
+each_push P [] x each last (suc k) d lt = absurd (omega (arith, lt))
+each_push P (y ∷ ys) x each last zero d lt = each zero d (omega arith)
+each_push P (y ∷ ys) x each last (suc k) d lt = each_push (λ j. P (suc j)) ys x (λ j e less. each (suc j) e (omega (arith, less))) last k d (omega (arith, lt))
+
+length_arcs : (v origin : ℕ) (nodes : List ℕ) → length (arcs_from v origin nodes) ≡ length nodes
+length_arcs v origin [] = refl
+length_arcs v origin (n ∷ ns) = ap suc (length_arcs v n ns)
+
+-- the arc behind a list
+arc_behind : (f : UsedArc → Arc) (v origin : ℕ) (list : List ℕ) (node : ℕ) (rest : List ℕ) (d : Arc)
+    → get_or (map f (arcs_from v origin (list ++ node ∷ rest))) (length list) d ≡ f (record { vehicle = v; origin = last_of origin list; target = node })
+arc_behind f v origin [] node rest d = refl
+arc_behind f v origin (n ∷ ns) node rest d = arc_behind f v n ns node rest d
+
+-- what the stop behind a list allows
+stop_behind : {B : Type 0} (f : ℕ → B) (list : List ℕ) (node : ℕ) (rest : List ℕ) (last d : B)
+    → get_or (map f (list ++ node ∷ rest) ++ last ∷ []) (length list) d ≡ f node
+stop_behind f [] node rest last d = refl
+stop_behind f (n ∷ ns) node rest last d = stop_behind f ns node rest last d
+
+end_behind : {B : Type 0} (f : ℕ → B) (list : List ℕ) (last d : B) → get_or (map f list ++ last ∷ []) (length list) d ≡ last
+end_behind f [] last d = refl
+end_behind f (n ∷ ns) last d = end_behind f ns last d
+
+-- the number of arcs of a line
+pub number_of_arcs : (model : Model) (d v : ℕ) (list : List ℕ) → length (line model d v list).arcs ≡ suc (length list)
+number_of_arcs model d v list =
+    let ends : List ℕ = (vehicle_at model v).end ∷ [] in
+    let first = length-map (arcs_from v (vehicle_at model v).start (list ++ ends)) (line_arc model d v) in
+    let second = length_arcs v (vehicle_at model v).start (list ++ ends) in
+    let third = length-append list ends in
+    omega (arith, first, second, third)
+
+module _ (lines : LinesAreSound) (model : Model) (well_formed : IsWellFormed model) (d v : ℕ) (low_d : d < length model.dimensions) (low_v : v < length model.vehicles) where
+  pub sound_line : (list : List ℕ) → IsDriven model list → IsSound (line model d v list)
+  sound_line list driven = lines model well_formed d v low_d low_v list driven.some driven.visits driven.distinct
+
+  -- the levels of the start, whatever comes behind
+  pub behind_start : StartIsReached → (set : List Run) (levels : List (List Run)) → IsStopSet model d v Start set → AreStartLevels set (breaks_of (dimension_at model d) v) levels → AreReachedBehind model d v [] levels
+  behind_start law set levels is are rest driven = law (line model d v rest) (sound_line rest driven) set levels (record { exact = is.exact; cumuls = is.cumuls }) are
+
+  module _ (law : ReachedBehindArc) (list : List ℕ) (from new : List (List Run)) (hop : Hop) (set : List Run) (breaks : List BreakRow) (reached : AreReachedBehind model d v list from) (breaks_are : breaks ≡ breaks_of (dimension_at model d) v) (crossed : AreCrossed from hop set breaks new) where
+    -- the levels behind an arc, in a line where the arc and the stop behind it are these
+    in_line : (whole : List ℕ) → IsDriven model whole → AreReached (line model d v whole) (length list) from → length list < suc (length whole)
+        → hop ≡ hop_at (line model d v whole) (length list) → IsAllowedSet (line model d v whole) (suc (length list)) set → AreReached (line model d v whole) (suc (length list)) new
+    in_line whole driven before few hop_is allowed =
+        law (line model d v whole) (sound_line whole driven) (length list) (let n = number_of_arcs model d v whole in omega (arith, few, n)) set from new allowed before
+        (subst (λ h. AreCrossed from h set (breaks_of (dimension_at model d) v) new) hop_is (subst (λ rows. AreCrossed from hop set rows new) breaks_are crossed))
+
+    -- one visit more
+    pub behind_visit : (node : ℕ) → hop ≡ hop_between model d v (last_of (vehicle_at model v).start list) node → IsStopSet model d v (Visit node) set → AreReachedBehind model d v (list ++ node ∷ []) new
+    behind_visit node hop_is is rest driven =
+        let same : (list ++ node ∷ []) ++ rest ≡ list ++ node ∷ rest = append_assoc list (node ∷ []) rest in
+        let more : length (list ++ node ∷ []) ≡ suc (length list) = let n = length-append list (node ∷ []) in omega (arith, n) in
+        subst (λ k. AreReached (line model d v ((list ++ node ∷ []) ++ rest)) k new) (sym more)
+        (subst (λ whole. AreReached (line model d v whole) (suc (length list)) new) (sym same) (there (subst (IsDriven model) same driven)))
+      where
+        whole : List ℕ
+        whole = list ++ node ∷ rest
+
+        stops : (whole ++ (vehicle_at model v).end ∷ []) ≡ list ++ node ∷ (rest ++ (vehicle_at model v).end ∷ [])
+        stops = append_assoc list (node ∷ rest) ((vehicle_at model v).end ∷ [])
+
+        arc : get_or (line model d v whole).arcs (length list) no_arc ≡ line_arc model d v (record { vehicle = v; origin = last_of (vehicle_at model v).start list; target = node })
+        arc = ap (λ nodes. get_or (map (line_arc model d v) (arcs_from v (vehicle_at model v).start nodes)) (length list) no_arc) stops
+            ∙ arc_behind (line_arc model d v) v (vehicle_at model v).start list node (rest ++ (vehicle_at model v).end ∷ []) no_arc
+
+        allows : ℕ → ℤ → Bool
+        allows n = stop_allows (number_at (dimension_at model d).capacities v) (row_of (dimension_at model d).nodes n)
+
+        last : ℤ → Bool
+        last = stop_allows (number_at (dimension_at model d).capacities v) (row_of (dimension_at model d).ends v)
+
+        stop : get_or (line model d v whole).allowed (suc (length list)) (λ _. false) ≡ allows node
+        stop = stop_behind allows list node rest last (λ _. false)
+
+        there : IsDriven model whole → AreReached (line model d v whole) (suc (length list)) new
+        there driven = in_line whole driven (reached (node ∷ rest) driven) (let n = length-append list (node ∷ rest) in omega (arith, n))
+            (hop_is ∙ ap (hop_of (dimension_at model d).slack_max) (sym arc)) (record { exact = λ x. is.exact x ∙ ap (λ f. f x) (sym stop); cumuls = is.cumuls })
+
+    -- the end
+    pub at_end : hop ≡ hop_between model d v (last_of (vehicle_at model v).start list) (vehicle_at model v).end → IsStopSet model d v End set → IsDriven model list → EndsAt (line model d v list) breaks new
+    at_end hop_is is driven = record {
+      sound = sound_line list driven;
+      breaks_are = sym breaks_are;
+      reached = subst (λ k. AreReached (line model d v list) k new) (sym (number_of_arcs model d v list))
+          (in_line list driven (subst (λ whole. AreReached (line model d v whole) (length list) from) whole_is (reached [] (subst (IsDriven model) (sym whole_is) driven))) (omega arith)
+          (hop_is ∙ ap (hop_of (dimension_at model d).slack_max) (sym arc)) (record { exact = λ x. is.exact x ∙ ap (λ f. f x) (sym stop); cumuls = is.cumuls }));
+    }
+      where
+        whole_is : list ++ [] ≡ list
+        whole_is = append-nil list
+
+        arc : get_or (line model d v list).arcs (length list) no_arc ≡ line_arc model d v (record { vehicle = v; origin = last_of (vehicle_at model v).start list; target = (vehicle_at model v).end })
+        arc = arc_behind (line_arc model d v) v (vehicle_at model v).start list (vehicle_at model v).end [] no_arc
+
+        allows : ℕ → ℤ → Bool
+        allows n = stop_allows (number_at (dimension_at model d).capacities v) (row_of (dimension_at model d).nodes n)
+
+        last : ℤ → Bool
+        last = stop_allows (number_at (dimension_at model d).capacities v) (row_of (dimension_at model d).ends v)
+
+        stop : get_or (line model d v list).allowed (suc (length list)) (λ _. false) ≡ last
+        stop = end_behind allows list last (λ _. false)

@@ -1,0 +1,477 @@
+//! What a vehicle reaches at the end of a list that grows: whether an item may stand there, without going along the
+//! list anew.
+
+ghost use Rattle.std.specs.Prelude.{◌≡◌, ◌<◌, ◌&&◌, ◌++◌, [], ◌∷◌, IfOk, IsTrue, OnOk, length};
+ghost use Rattle.std.specs.List.{list_all};
+ghost use Rattle.vr_model.specs.tables.Tables.{is_visit as is_visit_of};
+ghost use Rattle.vr_model.specs.tables.WellFormed.{IsWellFormed};
+ghost use Rattle.vr_model.specs.schedules.Lines.{line};
+ghost use Rattle.vr_model.specs.schedules.Choices.{is_feasible};
+ghost use Rattle.vr_steps.specs.Levels.{AreLevels};
+ghost use Rattle.vr_rules.specs.Fronts.{tail as tail_of, AreFronts, AreReachedBehind, AreVisitSets, IsDriven, IsFront};
+ghost use Rattle.vr_rules.specs.Fronts.{AreFrontsOf, IsFrontOf, IsStopSet};
+ghost use Rattle.vr_model.specs.routes.Rules.{allows_vehicle as allows_vehicle_of, is_route_open, keeps_policy, serves_pair};
+ghost use Rattle.vr_rules.specs.Placing.{nodes_of};
+ghost use Rattle.vr_rules.specs.RoutesOpen.{is_feasible_in_each};
+ghost use Rattle.vr_steps.specs.declared.stops.StopName.TheVariants.{Visit};
+
+use crate::items::Item;
+use crate::pairs::keeps_pairs;
+use std::alloc::Global;
+use std::marker::Brand;
+use std::sync::ledger::{Blank, Ledger};
+use vr_model::{Model, NoMemory, Steps};
+use vr_reach::Walk;
+use vr_spans::Spans;
+use vr_steps::{Breaks, Levels, StopName, allowed_at, hop, start_levels};
+
+// What a vehicle reaches in one dimension at the end of its list, and what the stops allow that may come behind.
+#[derive(Drop)]
+pub(crate) struct Front {
+    dimension: u32,
+    vehicle: u32,
+    breaks: Breaks,
+    // of each node that is a visit
+    visits: Vec<Spans>,
+    ending: Spans,
+    // at the last visit, or at the start of an empty list
+    here: Levels,
+}
+
+/// Where the next arc begins: at the last visit of the list, at the start of vehicle `v` where the list is empty.
+pub fn last_stop(model: &Model, v: u32, list: &[u32]) -> u32
+    requires { v < length model.now.vehicles }
+    ensures { result ≡ tail_of model.now v list.now }
+{
+    match list.last() {
+        Some(&node) => node,
+        None => model.vehicles.get(v as usize).start,
+    }
+}
+
+// What a node allows, where it is a visit.
+fn visit_set(alloc: Global, model: &Model, d: u32, v: u32, node: u32) -> Result<Spans, NoMemory>
+    requires well_formed { IsWellFormed model.now }
+    requires dimension { d < length model.now.dimensions }
+    requires vehicle { v < length model.now.vehicles }
+    ensures { IfOk result (λ set. IsTrue (is_visit_of model.now node) → IsStopSet model.now d v (Visit node) set) }
+{
+    if !model.is_visit(node) {
+        return Ok(Spans::new(alloc));
+    }
+    let set = allowed_at(alloc, model, d, v, StopName::Visit(node))?;
+    Ok(set)
+}
+
+// What each visit allows.
+fn visit_sets(alloc: Global, model: &Model, d: u32, v: u32) -> Result<Vec<Spans>, NoMemory>
+    requires well_formed { IsWellFormed model.now }
+    requires dimension { d < length model.now.dimensions }
+    requires vehicle { v < length model.now.vehicles }
+    ensures { IfOk result (λ sets. AreVisitSets model.now d v sets.items) }
+{
+    let mut sets = Vec::with_capacity(alloc, model.nodes as usize)?;
+    for node in 0..model.nodes {
+        sets.push(visit_set(alloc, model, d, v, node)?)?;
+    }
+    Ok(sets)
+}
+
+impl Front {
+    // At the start of the vehicle.
+    fn at_start(alloc: Global, model: &Model, d: u32, v: u32) -> Result<Front, NoMemory>
+        requires well_formed { IsWellFormed model.now }
+        requires dimension { d < length model.now.dimensions }
+        requires vehicle { v < length model.now.vehicles }
+        ensures { IfOk result (IsFrontOf model.now d v []) }
+    {
+        vr_model::laws::lines_are_sound();
+        vr_steps::laws::start_is_reached();
+        let breaks = Breaks::of(model.dimensions.get(d as usize), v);
+        let start = allowed_at(alloc, model, d, v, StopName::Start)?;
+        let ending = allowed_at(alloc, model, d, v, StopName::End)?;
+        let here = start_levels(alloc, &start, &breaks)?;
+        let visits = visit_sets(alloc, model, d, v)?;
+        Ok(Front {
+            dimension: d,
+            vehicle: v,
+            breaks,
+            visits,
+            ending,
+            here,
+        })
+    }
+
+    // Lets a walk stand behind the arc from the end of the list to a visit.
+    fn leave<L: Ledger>(
+        &self,
+        walk: &mut Walk,
+        model: &Model,
+        list: &[u32],
+        node: u32,
+        steps: &mut Steps<L>,
+    ) -> Result<(), NoMemory>
+        requires well_formed { IsWellFormed model.now }
+        requires front { IsFront model.now list.now self.now }
+        requires visits { IsTrue (list_all (is_visit_of model.now) list.now) }
+        requires visit { IsTrue (is_visit_of model.now node) }
+        ensures reached { OnOk result (AreReachedBehind model.now self.now.dimension self.now.vehicle
+            (list.now ++ node ∷ []) walk.new) }
+        ensures levels { OnOk result (AreLevels self.now.breaks walk.new) }
+    {
+        vr_model::laws::lines_are_sound();
+        vr_steps::laws::reached_behind_arc();
+        let origin = last_stop(model, self.vehicle, list);
+        let arc = hop(model, self.dimension, self.vehicle, origin, node);
+        let next = &self.visits[node as usize];
+        walk.leave(&self.here, arc, next, &self.breaks, steps)?;
+        Ok(())
+    }
+
+    // Lets a walk go on from a visit behind the list to another.
+    fn go_on<L: Ledger>(
+        &self,
+        walk: &mut Walk,
+        model: &Model,
+        list: &[u32],
+        before: u32,
+        node: u32,
+        steps: &mut Steps<L>,
+    ) -> Result<(), NoMemory>
+        requires well_formed { IsWellFormed model.now }
+        requires front { IsFront model.now list.now self.now }
+        requires before { IsTrue (is_visit_of model.now before) }
+        requires visit { IsTrue (is_visit_of model.now node) }
+        requires here { AreReachedBehind model.now self.now.dimension self.now.vehicle
+            (list.now ++ before ∷ []) walk.old }
+        requires form { AreLevels self.now.breaks walk.old }
+        ensures reached { OnOk result (AreReachedBehind model.now self.now.dimension self.now.vehicle
+            (list.now ++ before ∷ node ∷ []) walk.new) }
+        ensures levels { OnOk result (AreLevels self.now.breaks walk.new) }
+    {
+        vr_model::laws::lines_are_sound();
+        vr_steps::laws::reached_behind_arc();
+        let arc = hop(model, self.dimension, self.vehicle, before, node);
+        let next = &self.visits[node as usize];
+        walk.step(arc, next, &self.breaks, steps)?;
+        Ok(())
+    }
+
+    // Lets a walk stand at the last node of an item behind the list.
+    fn walk_item<L: Ledger>(
+        &self,
+        walk: &mut Walk,
+        model: &Model,
+        list: &[u32],
+        item: Item,
+        steps: &mut Steps<L>,
+    ) -> Result<(), NoMemory>
+        requires well_formed { IsWellFormed model.now }
+        requires front { IsFront model.now list.now self.now }
+        requires visits { IsTrue (list_all (is_visit_of model.now) list.now) }
+        requires item { IsTrue (list_all (is_visit_of model.now) (nodes_of item)) }
+        ensures reached { OnOk result (AreReachedBehind model.now self.now.dimension self.now.vehicle
+            (list.now ++ nodes_of item) walk.new) }
+        ensures levels { OnOk result (AreLevels self.now.breaks walk.new) }
+    {
+        match item {
+            Item::Visit(node) => self.leave(walk, model, list, node, steps)?,
+            Item::PickupAndDelivery(pickup, delivery) => {
+                self.leave(walk, model, list, pickup, steps)?;
+                self.go_on(walk, model, list, pickup, delivery, steps)?
+            }
+        }
+        Ok(())
+    }
+
+    // Whether the line of the list with an item at its end has a schedule, where the walk stands at the last node of
+    // the item.
+    fn ends<L: Ledger>(
+        &self,
+        walk: &mut Walk,
+        model: &Model,
+        list: &[u32],
+        item: Item,
+        steps: &mut Steps<L>,
+    ) -> Result<bool, NoMemory>
+        requires well_formed { IsWellFormed model.now }
+        requires front { IsFront model.now list.now self.now }
+        requires driven { IsDriven model.now (list.now ++ nodes_of item) }
+        requires item { IsTrue (list_all (is_visit_of model.now) (nodes_of item)) }
+        requires here { AreReachedBehind model.now self.now.dimension self.now.vehicle
+            (list.now ++ nodes_of item) walk.old }
+        requires form { AreLevels self.now.breaks walk.old }
+        ensures { IfOk result (λ ends. ends
+            ≡ is_feasible (line model.now self.now.dimension self.now.vehicle (list.now ++ nodes_of item))) }
+    {
+        vr_model::laws::lines_are_sound();
+        vr_model::laws::chosen_where_feasible();
+        vr_steps::laws::reached_behind_arc();
+        let end = model.vehicles.get(self.vehicle as usize).end;
+        let arc = hop(model, self.dimension, self.vehicle, item.last(), end);
+        walk.step(arc, &self.ending, &self.breaks, steps)?;
+        Ok(walk.ends(&self.breaks))
+    }
+
+    // Whether the line of the list with an item at its end has a schedule.
+    fn feasible_with<L: Ledger>(
+        &self,
+        walk: &mut Walk,
+        model: &Model,
+        list: &[u32],
+        item: Item,
+        blank: Blank,
+    ) -> Result<bool, NoMemory>
+        requires name { blank.name ≡ L.name }
+        requires parts { blank.parts ≡ L.parts }
+        requires some { 0 < blank.parts }
+        requires well_formed { IsWellFormed model.now }
+        requires front { IsFront model.now list.now self.now }
+        requires driven { IsDriven model.now (list.now ++ nodes_of item) }
+        requires visits { IsTrue (list_all (is_visit_of model.now) list.now) }
+        requires item { IsTrue (list_all (is_visit_of model.now) (nodes_of item)) }
+        ensures { IfOk result (λ feasible. feasible
+            ≡ is_feasible (line model.now self.now.dimension self.now.vehicle (list.now ++ nodes_of item))) }
+    {
+        let mut steps = Steps::<L>::new(blank);
+        self.walk_item(walk, model, list, item, &mut steps)?;
+        let feasible = self.ends(walk, model, list, item, &mut steps)?;
+        Ok(feasible)
+    }
+
+    // Moves to the end of the list with an item at its end.
+    fn advance<L: Ledger>(
+        &mut self,
+        walk: &mut Walk,
+        model: &Model,
+        list: &[u32],
+        item: Item,
+        blank: Blank,
+    ) -> Result<(), NoMemory>
+        requires name { blank.name ≡ L.name }
+        requires parts { blank.parts ≡ L.parts }
+        requires some { 0 < blank.parts }
+        requires well_formed { IsWellFormed model.now }
+        requires front { IsFront model.now list.now self.old }
+        requires visits { IsTrue (list_all (is_visit_of model.now) list.now) }
+        requires item { IsTrue (list_all (is_visit_of model.now) (nodes_of item)) }
+        ensures front { OnOk result (IsFront model.now (list.now ++ nodes_of item) self.new) }
+        ensures dimension { OnOk result (self.new.dimension ≡ self.old.dimension) }
+        ensures vehicle { OnOk result (self.new.vehicle ≡ self.old.vehicle) }
+    {
+        let mut steps = Steps::<L>::new(blank);
+        self.walk_item(walk, model, list, item, &mut steps)?;
+        walk.hand_over(&mut self.here);
+        Ok(())
+    }
+}
+
+// Whether the line of the list with an item at its end has a schedule in each dimension.
+fn is_feasible_with(
+    fronts: &Vec<Front>,
+    walk: &mut Walk,
+    model: &Model,
+    v: u32,
+    list: &[u32],
+    item: Item,
+) -> Result<bool, NoMemory>
+    requires well_formed { IsWellFormed model.now }
+    requires fronts { AreFronts model.now v list.now fronts.now.items }
+    requires driven { IsDriven model.now (list.now ++ nodes_of item) }
+    requires visits { IsTrue (list_all (is_visit_of model.now) list.now) }
+    requires item { IsTrue (list_all (is_visit_of model.now) (nodes_of item)) }
+    ensures { IfOk result (λ answer. answer ≡ is_feasible_in_each model.now v (list.now ++ nodes_of item)) }
+{
+    for d in 0..fronts.len() {
+        if !fronts[d].feasible_with::<Brand>(walk, model, list, item, Blank::new(1))? {
+            return Ok(false);
+        }
+    }
+    Ok(true)
+}
+
+// Moves each front to the end of the list with an item at its end.
+fn advance_each(
+    fronts: &mut Vec<Front>,
+    walk: &mut Walk,
+    model: &Model,
+    v: u32,
+    list: &[u32],
+    item: Item,
+) -> Result<(), NoMemory>
+    requires well_formed { IsWellFormed model.now }
+    requires fronts { AreFronts model.now v list.now fronts.old.items }
+    requires visits { IsTrue (list_all (is_visit_of model.now) list.now) }
+    requires item { IsTrue (list_all (is_visit_of model.now) (nodes_of item)) }
+    ensures { OnOk result (AreFronts model.now v (list.now ++ nodes_of item) fronts.new.items) }
+{
+    for d in 0..fronts.len() {
+        fronts[d].advance::<Brand>(walk, model, list, item, Blank::new(1))?;
+    }
+    Ok(())
+}
+
+// The fronts at the start of a vehicle.
+fn fronts_at_start(alloc: Global, model: &Model, v: u32) -> Result<Vec<Front>, NoMemory>
+    requires well_formed { IsWellFormed model.now }
+    requires vehicle { v < length model.now.vehicles }
+    ensures { IfOk result (λ fronts. AreFronts model.now v [] fronts.items) }
+{
+    let mut fronts = Vec::with_capacity(alloc, model.dimensions.len())?;
+    for d in 0..model.dimensions.len() {
+        fronts.push(Front::at_start(alloc, model, d as u32, v)?)?;
+    }
+    Ok(fronts)
+}
+
+// Moves each front along a list.
+fn go_along(
+    fronts: &mut Vec<Front>,
+    walk: &mut Walk,
+    model: &Model,
+    v: u32,
+    list: &[u32],
+) -> Result<(), NoMemory>
+    requires well_formed { IsWellFormed model.now }
+    requires fronts { AreFronts model.now v [] fronts.old.items }
+    requires visits { IsTrue (list_all (is_visit_of model.now) list.now) }
+    ensures { OnOk result (AreFronts model.now v list.now fronts.new.items) }
+{
+    for k in 0..list.len() {
+        advance_each(fronts, walk, model, v, &list[..k], Item::Visit(list[k]))?;
+    }
+    Ok(())
+}
+
+// Whether a vehicle may visit each node of an item.
+fn allows_item(model: &Model, v: u32, item: Item) -> bool
+    ensures { result ≡ list_all (allows_vehicle_of model.now v) (nodes_of item) }
+{
+    match item {
+        Item::Visit(node) => model.allows_vehicle(v, node),
+        Item::PickupAndDelivery(pickup, delivery) => {
+            model.allows_vehicle(v, pickup) && model.allows_vehicle(v, delivery)
+        }
+    }
+}
+
+// A list with an item at its end.
+fn longer(alloc: Global, list: &[u32], item: Item) -> Result<Vec<u32>, NoMemory>
+    ensures { IfOk result (λ longer. longer.items ≡ list.now ++ nodes_of item) }
+{
+    let mut longer = Vec::with_capacity(alloc, list.len() + 2)?;
+    longer.extend_from_slice(list)?;
+    match item {
+        Item::Visit(node) => longer.push(node)?,
+        Item::PickupAndDelivery(pickup, delivery) => {
+            longer.extend_from_slice(&[pickup, delivery])?
+        }
+    }
+    Ok(longer)
+}
+
+// Whether the list with an item at its end serves each pair in order, and keeps the policy of the vehicle. It takes no
+// memory where the model has no pairs.
+fn keeps_pairs_with(
+    alloc: Global,
+    model: &Model,
+    v: u32,
+    list: &[u32],
+    item: Item,
+) -> Result<bool, NoMemory>
+    requires well_formed { IsWellFormed model.now }
+    requires vehicle { v < length model.now.vehicles }
+    requires driven { IsDriven model.now (list.now ++ nodes_of item) }
+    ensures { IfOk result (λ keeps. keeps ≡ (list_all (serves_pair (list.now ++ nodes_of item)) model.now.pairs
+        && keeps_policy model.now v (list.now ++ nodes_of item))) }
+{
+    if model.pairs.is_empty() {
+        return Ok(true);
+    }
+    let longer = longer(alloc, list, item)?;
+    let keeps = keeps_pairs(alloc, model, v, &longer)?;
+    Ok(keeps)
+}
+
+/// What is written over while items are tried at the end of a list.
+#[derive(Drop)]
+pub struct Room {
+    alloc: Global,
+    walk: Walk,
+}
+
+impl Room {
+    /// It takes no memory.
+    pub fn new(alloc: Global) -> Room {
+        Room {
+            alloc,
+            walk: Walk::new(alloc),
+        }
+    }
+}
+
+/// What a vehicle reaches in each dimension at the end of its list. It is kept while the list grows, so that an item is
+/// tried there without going along the list anew.
+#[derive(Drop)]
+pub struct Fronts {
+    each: Vec<Front>,
+}
+
+impl Fronts {
+    /// Those of vehicle `v` with a list.
+    pub fn open(room: &mut Room, model: &Model, v: u32, list: &[u32]) -> Result<Fronts, NoMemory>
+        requires well_formed { IsWellFormed model.now }
+        requires vehicle { v < length model.now.vehicles }
+        requires visits { IsTrue (list_all (is_visit_of model.now) list.now) }
+        ensures { IfOk result (AreFrontsOf model.now v list.now) }
+    {
+        let mut each = fronts_at_start(room.alloc, model, v)?;
+        go_along(&mut each, &mut room.walk, model, v, list)?;
+        Ok(Fronts { each })
+    }
+
+    /// Whether vehicle `v`, which may drive its list, may drive it with an item at its end, as `route_open` says it. It
+    /// takes no memory where the model has no pairs, a vehicle no breaks, and a set of cumuls at most four runs.
+    pub fn may_append(
+        &self,
+        room: &mut Room,
+        model: &Model,
+        v: u32,
+        list: &[u32],
+        item: Item,
+    ) -> Result<bool, NoMemory>
+        requires well_formed { IsWellFormed model.now }
+        requires vehicle { v < length model.now.vehicles }
+        requires fronts { AreFrontsOf model.now v list.now self.now }
+        requires stands { IsTrue (is_route_open model.now v list.now) }
+        requires driven { IsDriven model.now (list.now ++ nodes_of item) }
+        ensures { IfOk result (λ may. may ≡ is_route_open model.now v (list.now ++ nodes_of item)) }
+    {
+        if !allows_item(model, v, item) {
+            return Ok(false);
+        }
+        if !is_feasible_with(&self.each, &mut room.walk, model, v, list, item)? {
+            return Ok(false);
+        }
+        let keeps = keeps_pairs_with(room.alloc, model, v, list, item)?;
+        Ok(keeps)
+    }
+
+    /// Moves to the end of the list with an item at its end. After `NoMemory` nothing is said of what is reached.
+    pub fn append(
+        &mut self,
+        room: &mut Room,
+        model: &Model,
+        v: u32,
+        list: &[u32],
+        item: Item,
+    ) -> Result<(), NoMemory>
+        requires well_formed { IsWellFormed model.now }
+        requires fronts { AreFrontsOf model.now v list.now self.old }
+        requires driven { IsDriven model.now (list.now ++ nodes_of item) }
+        ensures { OnOk result (AreFrontsOf model.now v (list.now ++ nodes_of item) self.new) }
+    {
+        advance_each(&mut self.each, &mut room.walk, model, v, list, item)?;
+        Ok(())
+    }
+}
