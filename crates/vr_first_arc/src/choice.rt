@@ -7,7 +7,7 @@ ghost use Rattle.vr_first_arc.specs.Choices.{key_of, item_of_choice};
 
 use vr_rules::Item;
 
-/// An item that may be next, its class, and the cost of the arc to its first node.
+// An item that may be next, its class, and the cost of the arc to its first node.
 #[derive(Clone, Copy)]
 pub(crate) struct Choice {
     pub(crate) item: Item,
@@ -25,7 +25,7 @@ fn comes_before(one: Choice, other: Choice) -> bool
             && (one.cost < other.cost || (one.cost <= other.cost && number < others)))
 }
 
-/// Whether a choice is better than the best so far, or the first.
+// Whether a choice is better than the best so far, or the first.
 pub(crate) fn improves(best: Option<Choice>, next: Choice) -> bool
     ensures { result ≡ improves_by key_of best next }
 {
@@ -35,7 +35,7 @@ pub(crate) fn improves(best: Option<Choice>, next: Choice) -> bool
     }
 }
 
-/// The item of a choice, where there is one.
+// The item of a choice, where there is one.
 pub(crate) fn item_of(best: Option<Choice>) -> Option<Item>
     ensures { result ≡ option_map item_of_choice best }
 {

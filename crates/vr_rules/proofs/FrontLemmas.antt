@@ -1,11 +1,16 @@
 -- What a vehicle reaches at the end of a list, from what it reaches one visit before.
-use Rattle.std.proofs.Common.{◌≡◌, ◌∙◌, ◌+◌, ◌<◌, ℕ, zero, suc, List, [], ◌∷◌, ◌++◌, Bool, true, false, cond, refl, ap, sym, subst, arith, length, get_or, map, ℤ, append_assoc}
+use Rattle.std.proofs.Common.{◌≡◌, ◌∙◌, ◌+◌, ◌-◌, ◌<◌, ℕ, zero, suc, List, [], ◌∷◌, ◌++◌, Bool, true, false, cond, refl, ap, sym, subst, arith, length, get_or, set, take, map, ℤ, inl, inr, append_assoc}
+use Rattle.std.specs.Prelude.{◌≤◌, ◌&&◌, ◌||◌, slice_index}
+use Rattle.vr_model.specs.routes.Rules.{allows_vehicle, is_route_open, keeps_policy, serves_pair}
+use Rattle.vr_rules.specs.RoutesOpen.{is_feasible_in_each}
+use Rattle.std.proofs.lemmas.Bool.{cases_lt}
+use Rattle.vr_rules.specs.declared.fronts.Front.{Front}
 use Rattle.std.specs.List.{list_all}
 use Rattle.std.proofs.lemmas.List.Folds.{list_all-append}
 use Rattle.vr_model.specs.tables.Tables.{is_visit}
-use Rattle.vr_model.specs.deciding.Testing.{and_left, and_right}
+use Rattle.vr_model.specs.deciding.Testing.{and_both, and_left, and_right}
 use Rattle.vr_model.proofs.routes.Lists.{visit_below}
-use Rattle.std.proofs.lemmas.List.{append-nil, length-append, length-map}
+use Rattle.std.proofs.lemmas.List.{append-nil, get_or-set_other, get_or-set_same, length-append, length-map, length-set}
 use Rattle.vr_spans.specs.declared.runs.Run.{Run}
 use Rattle.vr_model.specs.tables.Tables.{breaks_of, dimension_at, vehicle_at, row_of}
 use Rattle.vr_model.specs.tables.Numbers.{number_at}
@@ -23,7 +28,10 @@ use Rattle.vr_steps.specs.Levels.{AreCrossed, AreStartLevels}
 use Rattle.vr_steps.specs.Lines.{hop_between, hop_of}
 use Rattle.vr_steps.specs.Reached.{AreReached, IsAllowedSet, ReachedBehindArc, StartIsReached, hop_at}
 use Rattle.vr_reach.specs.Walks.{EndsAt}
-use Rattle.vr_rules.specs.Fronts.{tail, AreReachedBehind, IsDriven, IsStopSet}
+use Rattle.vr_rules.specs.Fronts.{tail, AreFronts, AreReachedBehind, AreVisitSets, IsDriven, IsFrontOf, IsStopSet}
+use Rattle.vr_rules.specs.declared.items.Item.{Item}
+use Rattle.vr_rules.specs.declared.items.Item.TheVariants.{Visit as Visited, PickupAndDelivery}
+use Rattle.vr_rules.specs.Placing.{nodes_of}
 
 -- the last of a list, or what stands before it
 abbrev pub last_of : ℕ → List ℕ → ℕ
@@ -32,16 +40,11 @@ last_of origin (n ∷ ns) = last_of n ns
 
 last_from : (n : ℕ) (ns : List ℕ) → last_node (n ∷ ns) ≡ last_of n ns
 last_from n [] = refl
-last_from n (m ∷ ms) = last_from m ms
+last_from n (m ∷ ms) = let e : length (n ∷ m ∷ ms) - 1 ≡ suc (length (m ∷ ms) - 1) = omega arith in ap (slice_index (n ∷ m ∷ ms)) e ∙ last_from m ms
 
 pub tail_is : (model : Model) (v : ℕ) (list : List ℕ) → tail model v list ≡ last_of (vehicle_at model v).start list
 tail_is model v [] = refl
 tail_is model v (n ∷ ns) = last_from n ns
-
--- the last of two lists, one behind the other
-pub last_behind : (origin : ℕ) (xs ys : List ℕ) → last_of origin (xs ++ ys) ≡ last_of (last_of origin xs) ys
-last_behind origin [] ys = refl
-last_behind origin (x ∷ xs) ys = last_behind x xs ys
 
 -- the last of visits is a node
 pub last_below : (model : Model) (origin : ℕ) (list : List ℕ) → origin < model.nodes → list_all (is_visit model) list ≡ true → last_of origin list < model.nodes
@@ -55,12 +58,58 @@ visits_before model xs ys visits = and_left (list_all (is_visit model) xs) _ (sy
 pub visits_after : (model : Model) (xs ys : List ℕ) → list_all (is_visit model) (xs ++ ys) ≡ true → list_all (is_visit model) ys ≡ true
 visits_after model xs ys visits = and_right (list_all (is_visit model) xs) _ (sym (list_all-append (is_visit model) xs ys) ∙ visits)
 
+pub visits_taken : (model : Model) (list : List ℕ) (k : ℕ) → list_all (is_visit model) list ≡ true → list_all (is_visit model) (take k list) ≡ true
+visits_taken model list zero visits = refl
+visits_taken model [] (suc k) visits = refl
+visits_taken model (n ∷ ns) (suc k) visits = and_both (is_visit model n) _ (and_left (is_visit model n) _ visits) (visits_taken model ns k (and_right (is_visit model n) _ visits))
+
 -- what holds of each entry at its place holds with one entry more
 pub each_push : {A : Type 0} (P : ℕ → A → Type 0) (xs : List A) (x : A) → ((k : ℕ) (d : A) → k < length xs → P k (get_or xs k d)) → P (length xs) x → (k : ℕ) (d : A) → k < length (xs ++ x ∷ []) → P k (get_or (xs ++ x ∷ []) k d)
 each_push P [] x each last zero d lt = last
 each_push P [] x each last (suc k) d lt = absurd (omega (arith, lt))
 each_push P (y ∷ ys) x each last zero d lt = each zero d (omega arith)
 each_push P (y ∷ ys) x each last (suc k) d lt = each_push (λ j. P (suc j)) ys x (λ j e less. each (suc j) e (omega (arith, less))) last k d (omega (arith, lt))
+
+-- what was made of the entries before a place, and what stays of those behind it
+pub moved_more : {A : Type 0} (P : ℕ → A → Type 0) (xs : List A) (n : ℕ) (x : A) → n < length xs → ((k : ℕ) (d : A) → k < n → k < length xs → P k (get_or xs k d)) → P n x
+    → (k : ℕ) (d : A) → k < n + 1 → k < length (set xs n x) → P k (get_or (set xs n x) k d)
+moved_more P xs n x within before new k d low lt = elim (cases_lt k n) [
+  | inl earlier ↦ subst (P k) (sym (get_or-set_other xs n k x d (omega (arith, earlier)))) (before k d earlier (omega (arith, earlier, within)))
+  | inr at ↦ (let e : n ≡ k = omega (arith, low, at) in subst (λ j. P j (get_or (set xs n x) j d)) e (subst (P n) (sym (get_or-set_same xs n x d within)) new))
+]
+
+pub left_behind : {A : Type 0} (P : ℕ → A → Type 0) (xs : List A) (n : ℕ) (x : A) → ((k : ℕ) (d : A) → n ≤ k → k < length xs → P k (get_or xs k d))
+    → (k : ℕ) (d : A) → n + 1 ≤ k → k < length (set xs n x) → P k (get_or (set xs n x) k d)
+left_behind P xs n x left k d low lt =
+    let more = length-set xs n x in
+    subst (P k) (sym (get_or-set_other xs n k x d (omega (arith, low)))) (left k d (omega (arith, low)) (omega (arith, lt, more)))
+
+-- what passes below a number, and at it
+pub one_more : (p : ℕ → Bool) (n : ℕ) → ((k : ℕ) → k < n → p k ≡ true) → p n ≡ true → (k : ℕ) → k < n + 1 → p k ≡ true
+one_more p n before here k lt = elim (cases_lt k n) [
+  | inl earlier ↦ before k earlier
+  | inr at ↦ (let e : n ≡ k = omega (arith, lt, at) in subst (λ j. p j ≡ true) e here)
+]
+
+-- the front of a dimension, as code reads it
+pub front_at : (model : Model) (v : ℕ) (list : List ℕ) (fronts : List Front) → AreFronts model v list fronts → (d : ℕ) (front : Front) → front ≡ get_or fronts d front → d < length fronts → IsFrontOf model d v list front
+front_at model v list fronts are d front is lt = subst (IsFrontOf model d v list) (sym is) (are.each d front lt)
+
+-- the last of two lists, one behind the other
+pub last_behind : (origin : ℕ) (xs ys : List ℕ) → last_of origin (xs ++ ys) ≡ last_of (last_of origin xs) ys
+last_behind origin [] ys = refl
+last_behind origin (x ∷ xs) ys = last_behind x xs ys
+
+-- what a visit allows, as code reads it
+pub visit_set_at : (model : Model) (d v : ℕ) (sets : List (List Run)) → AreVisitSets model d v sets → (node : ℕ) (set : List Run) → set ≡ get_or sets node set → is_visit model node ≡ true → IsStopSet model d v (Visit node) set
+visit_set_at model d v sets are node set is visit =
+    let low = visit_below model node visit in
+    subst (IsStopSet model d v (Visit node)) (sym is) (are.each node set (omega (arith, low, are.one_of_each)) visit)
+
+-- the last node of an item is that of a list with the item at its end
+pub item_last : (origin : ℕ) (list : List ℕ) (item : Item) → last_node (nodes_of item) ≡ last_of origin (list ++ nodes_of item)
+item_last origin list (Visited n) = sym (last_behind origin list (n ∷ []))
+item_last origin list (PickupAndDelivery p d) = sym (last_behind origin list (p ∷ d ∷ []))
 
 length_arcs : (v origin : ℕ) (nodes : List ℕ) → length (arcs_from v origin nodes) ≡ length nodes
 length_arcs v origin [] = refl
@@ -162,3 +211,39 @@ module _ (lines : LinesAreSound) (model : Model) (well_formed : IsWellFormed mod
 
         stop : get_or (line model d v list).allowed (suc (length list)) (λ _. false) ≡ last
         stop = end_behind allows list last (λ _. false)
+
+-- ---- what an item asks at the end of a list
+
+module _ (model : Model) (v : ℕ) (list nodes : List ℕ) (stands : is_route_open model v list ≡ true) (some : is_empty (list ++ nodes) ≡ false) where
+  allowed_so_far : (list : List ℕ) → is_route_open model v list ≡ true → list_all (allows_vehicle model v) list ≡ true
+  allowed_so_far [] h = refl
+  allowed_so_far (n ∷ ns) h = and_right (keeps_policy model v (n ∷ ns)) _ (and_right (list_all (serves_pair (n ∷ ns)) model.pairs) _ (and_right (is_feasible_in_each model v (n ∷ ns)) _ h))
+
+  all_parts : is_route_open model v (list ++ nodes)
+      ≡ (is_feasible_in_each model v (list ++ nodes) && (list_all (serves_pair (list ++ nodes)) model.pairs && (keeps_policy model v (list ++ nodes) && list_all (allows_vehicle model v) nodes)))
+  all_parts =
+      ap (λ b. b || (is_feasible_in_each model v (list ++ nodes) && (list_all (serves_pair (list ++ nodes)) model.pairs && (keeps_policy model v (list ++ nodes) && list_all (allows_vehicle model v) (list ++ nodes))))) some
+      ∙ ap (λ b. is_feasible_in_each model v (list ++ nodes) && (list_all (serves_pair (list ++ nodes)) model.pairs && (keeps_policy model v (list ++ nodes) && b)))
+      (list_all-append (allows_vehicle model v) list nodes ∙ ap (λ b. b && list_all (allows_vehicle model v) nodes) (allowed_so_far list stands))
+
+  pub closed_by_vehicle : list_all (allows_vehicle model v) nodes ≡ false → is_route_open model v (list ++ nodes) ≡ false
+  closed_by_vehicle h = all_parts ∙ ap (λ b. is_feasible_in_each model v (list ++ nodes) && (list_all (serves_pair (list ++ nodes)) model.pairs && (keeps_policy model v (list ++ nodes) && b))) h ∙ last (is_feasible_in_each model v (list ++ nodes)) (list_all (serves_pair (list ++ nodes)) model.pairs) (keeps_policy model v (list ++ nodes))
+    where
+      last : (a b c : Bool) → (a && (b && (c && false))) ≡ false
+      last true true true = refl
+      last true true false = refl
+      last true false c = refl
+      last false b c = refl
+
+  pub closed_by_dimension : is_feasible_in_each model v (list ++ nodes) ≡ false → is_route_open model v (list ++ nodes) ≡ false
+  closed_by_dimension h = all_parts ∙ ap (λ b. b && (list_all (serves_pair (list ++ nodes)) model.pairs && (keeps_policy model v (list ++ nodes) && list_all (allows_vehicle model v) nodes))) h
+
+  pub open_by_pairs : list_all (allows_vehicle model v) nodes ≡ true → is_feasible_in_each model v (list ++ nodes) ≡ true
+      → is_route_open model v (list ++ nodes) ≡ (list_all (serves_pair (list ++ nodes)) model.pairs && keeps_policy model v (list ++ nodes))
+  open_by_pairs h g =
+      all_parts ∙ (λ t. g t && (list_all (serves_pair (list ++ nodes)) model.pairs && (keeps_policy model v (list ++ nodes) && h t))) ∙ both (list_all (serves_pair (list ++ nodes)) model.pairs) (keeps_policy model v (list ++ nodes))
+    where
+      both : (a b : Bool) → (true && (a && (b && true))) ≡ (a && b)
+      both true true = refl
+      both true false = refl
+      both false b = refl

@@ -34,7 +34,7 @@ fn has_required(model: &Model, marks: &[bool]) -> bool
     true
 }
 
-/// How many nodes are marked.
+// How many nodes are marked.
 pub(crate) fn marked(marks: &[bool], nodes: &[u32]) -> usize
     requires { All (λ node. node < length marks.now) nodes.now }
     ensures { result ≡ count_by (is_marked marks.now) nodes.now }
@@ -84,7 +84,7 @@ pub fn is_complete(model: &Model, marks: &[bool]) -> bool
 }
 
 /// Routes with these open lists of the model; `None` exactly where they are not valid, since something is missing in
-/// them. `NoMemory` comes only where memory is refused.
+/// them. `NoMemory` where there was no memory.
 pub fn complete_routes(
     alloc: Global,
     model: &Model,

@@ -54,10 +54,12 @@ impl Item {
     }
 }
 
-/// An item with its class: 0 where it must be placed, 1 where it is in a group without a penalty, 2 in another.
+/// An item of a model, with its class.
 #[derive(Clone, Copy)]
 pub struct Candidate {
+    /// What is placed.
     pub item: Item,
+    /// 0 where it must be placed, 1 where it is in a group without a penalty, 2 in another: the least of its nodes.
     pub class: u32,
 }
 
@@ -68,7 +70,7 @@ fn has_node(group: &Group, node: u32) -> bool
     group.nodes.as_slice().contains(&node)
 }
 
-/// Whether a node is in a group.
+// Whether a node is in a group.
 pub(crate) fn is_grouped(model: &Model, node: u32) -> bool
     ensures { result ≡ is_grouped_of model.now node }
 {

@@ -114,10 +114,10 @@ fn allows_all(policy: Policy, served: &[Served]) -> bool
     served.iter().all(|&x| allows_each(policy, served, x))
 }
 
-/// Whether a list serves each pair in order, and keeps the policy of vehicle `v`.
-///
-/// It marks the place of each node once, and then looks at each pair of the model, and at each two pairs of the list
-/// where the policy asks something of them. A model without pairs costs nothing.
+// Whether a list serves each pair in order, and keeps the policy of vehicle `v`.
+//
+// It marks the place of each node once, and then looks at each pair of the model, and at each two pairs of the list
+// where the policy asks something of them. A model without pairs costs nothing.
 pub(crate) fn keeps_pairs(
     alloc: Global,
     model: &Model,

@@ -64,7 +64,7 @@ fn timed_of(alloc: Global, model: &Model, routes: &Routes) -> Result<Timed, NoMe
 }
 
 /// What valid routes cost at their chosen schedules: the six parts of the cost, none of them negative, with a sum below
-/// 2^63. `NoMemory` comes only where memory is refused.
+/// 2^63. `NoMemory` where there was no memory.
 pub fn cost(alloc: Global, model: &Model, routes: &Routes) -> Result<Parts, NoMemory>
     requires well_formed { IsWellFormed model.now }
     requires valid { IsTrue (is_valid model.now routes.now.lists) }

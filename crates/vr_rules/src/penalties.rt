@@ -59,8 +59,8 @@ fn penalty_of_groups(model: &Model, marks: &[bool]) -> i64
     total
 }
 
-/// The penalty part of the cost of routes: for each group with a penalty, the penalty times how many nodes fewer are
-/// active than may be.
+// The penalty part of the cost of routes: for each group with a penalty, the penalty times how many nodes fewer are
+// active than may be.
 pub(crate) fn penalty_of_routes(
     alloc: Global,
     model: &Model,

@@ -20,7 +20,7 @@ use vr_steps::Line;
 /// Whether vehicle `v` may drive a list: the list is empty, or its line in each dimension has a schedule, it serves
 /// each pair in order and as the vehicle's policy asks, and the vehicle may visit each of its nodes.
 ///
-/// The list holds distinct visits. `NoMemory` comes only where memory is refused.
+/// The list holds distinct visits. `NoMemory` where there was no memory.
 pub fn route_open(alloc: Global, model: &Model, v: u32, list: &[u32]) -> Result<bool, NoMemory>
     requires well_formed { IsWellFormed model.now }
     requires vehicle { v < length model.now.vehicles }
@@ -41,7 +41,7 @@ pub fn route_open(alloc: Global, model: &Model, v: u32, list: &[u32]) -> Result<
     Ok(feasible)
 }
 
-/// Whether the line of a list has a schedule in each dimension.
+// Whether the line of a list has a schedule in each dimension.
 fn is_feasible_in_each(alloc: Global, model: &Model, v: u32, list: &[u32]) -> Result<bool, NoMemory>
     requires well_formed { IsWellFormed model.now }
     requires vehicle { v < length model.now.vehicles }
@@ -58,7 +58,7 @@ fn is_feasible_in_each(alloc: Global, model: &Model, v: u32, list: &[u32]) -> Re
     Ok(true)
 }
 
-/// Whether the line of a list has a schedule in one dimension.
+// Whether the line of a list has a schedule in one dimension.
 fn is_feasible_in(
     alloc: Global,
     model: &Model,

@@ -17,14 +17,14 @@ use std::alloc::Global;
 use vr_model::{Dimension, Model, NoMemory, StopRow};
 use vr_routes::Routes;
 
-/// The least cumul of a start and the greatest of an end.
+// The least cumul of a start and the greatest of an end.
 #[derive(Clone, Copy)]
 pub(crate) struct Extent {
     pub(crate) start: i64,
     pub(crate) last: i64,
 }
 
-/// What soft upper bounds and spans cost, and the extent of all routes, `None` where no vehicle is used.
+// What soft upper bounds and spans cost, and the extent of all routes, `None` where no vehicle is used.
 #[derive(Clone, Copy)]
 pub(crate) struct Sums {
     pub(crate) soft: i64,
@@ -155,7 +155,7 @@ fn with_vehicle(
     Ok(with_timing(dimension, v, timing, sums))
 }
 
-/// What the chosen schedules of routes come to in dimension `d`.
+// What the chosen schedules of routes come to in dimension `d`.
 pub(crate) fn sums_of(
     alloc: Global,
     model: &Model,
@@ -178,7 +178,7 @@ pub(crate) fn sums_of(
     Ok(sums)
 }
 
-/// What the extent of all routes costs.
+// What the extent of all routes costs.
 pub(crate) fn global_cost(dimension: &Dimension, extent: Option<Extent>) -> i64
     requires coefficient { IsIn (pos 0) (pos 10000) dimension.now.global_span_cost }
     requires range { IfSome extent IsExtentInRange }

@@ -19,14 +19,17 @@ use vr_steps::Line;
 /// What the soft upper bounds of a list cost at its chosen schedule, and the cumuls of its start and end.
 #[derive(Clone, Copy)]
 pub struct Timing {
+    /// What the soft upper bounds of all stops cost together, 0 or more.
     pub soft: i64,
+    /// The cumul of the start, in `0..=2^36`.
     pub start: i64,
+    /// The cumul of the end, in `0..=2^36`.
     pub last: i64,
 }
 
 /// What the chosen schedule of a list of vehicle `v` comes to in dimension `d`. Where there is no schedule, all is 0.
 ///
-/// The list holds distinct visits. `NoMemory` comes only where memory is refused.
+/// The list holds distinct visits. `NoMemory` where there was no memory.
 pub fn timing_of(
     alloc: Global,
     model: &Model,
@@ -97,7 +100,7 @@ fn row_cost(row: Option<&StopRow>, x: i64) -> i64
     times(soft.coefficient, 0_i64.max(x - soft.bound))
 }
 
-/// A coefficient times a number of at most the horizon.
+// A coefficient times a number of at most the horizon.
 pub(crate) fn times(coefficient: i64, x: i64) -> i64
     requires coefficient { IsIn (pos 0) (pos 10000) coefficient }
     requires range { IsAround 68719476736 x }

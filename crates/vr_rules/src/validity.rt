@@ -52,7 +52,7 @@ fn groups_fit(model: &Model, marks: &[bool]) -> bool
 }
 
 /// Whether routes of the model are open: each vehicle may drive its list, and no group has more active nodes than it
-/// may have. `NoMemory` comes only where memory is refused.
+/// may have. `NoMemory` where there was no memory.
 pub fn open(alloc: Global, model: &Model, routes: &Routes) -> Result<bool, NoMemory>
     requires well_formed { IsWellFormed model.now }
     requires lists { IsTrue (are_lists model.now routes.now.lists) }
@@ -67,7 +67,7 @@ pub fn open(alloc: Global, model: &Model, routes: &Routes) -> Result<bool, NoMem
 }
 
 /// Whether routes of the model are valid: they are open, each visit in no group is active, and each group without a
-/// penalty has exactly as many active nodes as it may have. `NoMemory` comes only where memory is refused.
+/// penalty has exactly as many active nodes as it may have. `NoMemory` where there was no memory.
 pub fn valid(alloc: Global, model: &Model, routes: &Routes) -> Result<bool, NoMemory>
     requires well_formed { IsWellFormed model.now }
     requires lists { IsTrue (are_lists model.now routes.now.lists) }

@@ -29,7 +29,7 @@ fn extent(levels: &Levels, b: usize) -> Extent
 }
 
 // The cumuls from `lo` to `hi`.
-fn from_to(alloc: Global, lo: i64, hi: i64) -> Result<Spans, NoMemory>
+fn from_to(alloc: Global, lo: i64, hi: i64) -> Result<Spans, vr_spans::NoMemory>
     requires low { pos 0 ≤ℤ lo }
     requires in_order { lo ≤ℤ hi }
     requires high { hi ≤ℤ pos 100 }
@@ -39,11 +39,11 @@ fn from_to(alloc: Global, lo: i64, hi: i64) -> Result<Spans, NoMemory>
 }
 
 // The set of these runs of cumuls.
-fn cumuls(alloc: Global, runs: &[Run]) -> Result<Spans, NoMemory>
+fn cumuls(alloc: Global, runs: &[Run]) -> Result<Spans, vr_spans::NoMemory>
     requires { All IsCumulRun runs.now }
     ensures { IfOk result IsCumuls }
 {
-    Spans::from_runs(alloc, runs).map_err(|_| NoMemory)
+    Spans::from_runs(alloc, runs)
 }
 
 // An arc of transit 5 and slack 3.
@@ -142,7 +142,7 @@ fn behind<L: Ledger>(
 }
 
 // What the short arc leads to from 0..=last, in 0..=4 and 9..=100.
-fn short_ahead(alloc: Global, last: i64) -> Result<Extent, NoMemory>
+fn short_ahead(alloc: Global, last: i64) -> Result<Extent, Fail>
     requires { (pos 0 ≤ℤ last) × (last ≤ℤ pos 100) }
 {
     let here = from_to(alloc, 0, last)?;
@@ -166,7 +166,7 @@ fn an_arc_leads_ahead(rt: HostRuntime) -> Result<(), Fail> {
 }
 
 // From where in 0..=last the short arc leads to 0..=4 and 9..=100.
-fn short_behind(alloc: Global, last: i64) -> Result<Extent, NoMemory>
+fn short_behind(alloc: Global, last: i64) -> Result<Extent, Fail>
     requires { (pos 0 ≤ℤ last) × (last ≤ℤ pos 100) }
 {
     let here = from_to(alloc, 0, last)?;
@@ -197,7 +197,7 @@ fn extents(levels: &Levels) -> (Extent, Extent)
 }
 
 // The levels of a start at 0, and whether a copy of them has the same sets.
-fn break_at_start(alloc: Global) -> Result<((Extent, Extent), bool), NoMemory> {
+fn break_at_start(alloc: Global) -> Result<((Extent, Extent), bool), Fail> {
     let zero = from_to(alloc, 0, 0)?;
     let start = start_levels(alloc, &zero, &one_break())?;
     let same = start.copy(alloc)?;
@@ -211,7 +211,7 @@ fn a_break_is_taken_before_the_start(rt: HostRuntime) -> Result<(), Fail> {
     Ok(())
 }
 
-fn break_at_end(alloc: Global) -> Result<(Extent, Extent), NoMemory> {
+fn break_at_end(alloc: Global) -> Result<(Extent, Extent), Fail> {
     let all = from_to(alloc, 0, 100)?;
     let end = end_levels(alloc, &all, &one_break())?;
     Ok(extents(&end))
@@ -225,7 +225,7 @@ fn a_break_is_taken_after_the_end(rt: HostRuntime) -> Result<(), Fail> {
 }
 
 // The levels behind the long arc from a start at 0.
-fn break_ahead(alloc: Global) -> Result<(Extent, Extent), NoMemory> {
+fn break_ahead(alloc: Global) -> Result<(Extent, Extent), Fail> {
     let zero = from_to(alloc, 0, 0)?;
     let all = from_to(alloc, 0, 100)?;
     let reached = ahead::<Brand>(alloc, &zero, long_arc(), &all, &one_break(), Blank::new(1))?;
@@ -240,7 +240,7 @@ fn a_break_is_taken_on_the_way_ahead(rt: HostRuntime) -> Result<(), Fail> {
 }
 
 // The levels before the long arc.
-fn break_behind(alloc: Global) -> Result<(Extent, Extent), NoMemory> {
+fn break_behind(alloc: Global) -> Result<(Extent, Extent), Fail> {
     let all = from_to(alloc, 0, 100)?;
     let reached = behind::<Brand>(alloc, &all, long_arc(), &all, &one_break(), Blank::new(1))?;
     Ok(extents(&reached))

@@ -1,0 +1,17 @@
+use Rattle.std.proofs.Common.{◌≡◌, ℕ, ◌<◌, ◌≤◌, ◌++◌, length}
+use Rattle.std.specs.Prelude.{slice_index_or}
+use Rattle.vr_rules.specs.declared.fronts.Front.{Front}
+use Rattle.vr_rules.specs.Fronts.{IsFrontOf}
+use Rattle.vr_rules.specs.Placing.{nodes_of}
+use Rattle.vr_rules.proofs.fronts.advance_each.Given as goal
+
+-- the fronts of the dimensions so far stand behind the item, the others do not yet
+abbrev pub invariant-loop-d : goal.invariant-loop-d
+invariant-loop-d l = record {
+  long : length l.fronts.items ≡ length l.initial.fronts.items;
+  moved : (d : ℕ) (other : Front) → d < l.d → d < length l.fronts.items → IsFrontOf l.model d l.v (l.list ++ nodes_of l.item) (slice_index_or l.fronts.items d other);
+  left : (d : ℕ) (other : Front) → l.d ≤ d → d < length l.fronts.items → IsFrontOf l.model d l.v l.list (slice_index_or l.fronts.items d other);
+}
+
+abbrev pub ghosts-advance : goal.ghosts-advance
+ghosts-advance a = record { name = a.blank.name; parts = a.blank.parts }
