@@ -3,11 +3,11 @@ use Rattle.std.specs.Prelude.{◌≡◌, ℕ, ◌&&◌, Bool, false, List, [], �
 use Rattle.std.specs.Prelude.{length}
 use Rattle.std.specs.List.{list_all}
 use Rattle.vr_model.specs.tables.Numbers.{below}
-use Rattle.vr_model.specs.tables.Tables.{is_visit, arc_cost, vehicle_at}
-use Rattle.vr_model.specs.routes.Routes.{is_active, is_distinct, is_empty}
+use Rattle.vr_model.specs.tables.Tables.{arc_cost}
+use Rattle.vr_model.specs.routes.Routes.{is_active}
 use Rattle.vr_model.specs.routes.Rules.{is_open, is_route_open}
 use Rattle.vr_model.specs.first.Choosing.{better}
-use Rattle.vr_model.specs.first.Items.{first_node, last_node, items}
+use Rattle.vr_model.specs.first.Items.{first_node, items}
 use Rattle.vr_model.specs.first.PathCheapestArc.{appended, filled}
 use Rattle.vr_model.specs.declared.records.Model.{Model}
 use Rattle.vr_rules.specs.declared.items.Item.{Item}

@@ -1,5 +1,5 @@
 -- What a vehicle reaches at the end of a list, from what it reaches one visit before.
-use Rattle.std.proofs.Common.{◌≡◌, ◌∙◌, ◌+◌, ◌-◌, ◌<◌, ℕ, zero, suc, List, [], ◌∷◌, ◌++◌, Bool, true, false, cond, refl, ap, sym, subst, arith, length, get_or, set, take, map, ℤ, inl, inr, append_assoc}
+use Rattle.std.proofs.Common.{◌≡◌, ◌∙◌, ◌+◌, ◌-◌, ◌<◌, ℕ, zero, suc, List, [], ◌∷◌, ◌++◌, Bool, true, false, refl, ap, sym, subst, arith, length, get_or, set, take, map, ℤ, inl, inr, append_assoc}
 use Rattle.std.specs.Prelude.{◌≤◌, ◌&&◌, ◌||◌, slice_index}
 use Rattle.vr_model.specs.routes.Rules.{allows_vehicle, is_route_open, keeps_policy, serves_pair}
 use Rattle.vr_rules.specs.RoutesOpen.{is_feasible_in_each}

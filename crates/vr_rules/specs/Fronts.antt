@@ -1,5 +1,5 @@
 -- What a vehicle reaches at the end of a list that grows.
-use Rattle.std.specs.Prelude.{◌≡◌, ℕ, ◌<◌, ◌≤◌, false, IsTrue, List, [], ◌∷◌, ◌++◌, length, cond, slice_index_or, All}
+use Rattle.std.specs.Prelude.{◌≡◌, ℕ, ◌<◌, ◌≤◌, false, IsTrue, List, ◌++◌, length, cond, slice_index_or, All}
 use Rattle.std.specs.List.{list_all}
 use Rattle.vr_spans.specs.declared.runs.Run.{Run}
 use Rattle.vr_model.specs.tables.Tables.{breaks_of, dimension_at, is_visit, vehicle_at}

@@ -1,5 +1,7 @@
 use Rattle.std.proofs.Common.{◌≡◌, ◌-◌, length}
 use Rattle.vr_model.specs.first.PathCheapestArc.{filled}
+use Rattle.vr_model.specs.routes.Routes.{route}
+use Rattle.vr_rules.specs.Fronts.{AreFrontsOf}
 use Rattle.vr_rules.specs.Placing.{AreBuilt, AreMarks}
 use Rattle.vr_first_arc.proofs.fill.fill.Given as goal
 
@@ -8,6 +10,7 @@ abbrev pub invariant-loop-step : goal.invariant-loop-step
 invariant-loop-step l = record {
   fills : filled l.model l.v (length l.candidates - l._step) l.lists ≡ filled l.model l.v (length l.candidates) l.initial.lists;
   count : length l.lists ≡ length l.initial.lists;
+  fronts : AreFrontsOf l.model l.v (route l.lists l.v) l.fronts;
   built : AreBuilt l.model l.lists;
   marked : AreMarks l.model.nodes l.lists l.marks;
 }

@@ -1,4 +1,4 @@
-use Rattle.std.proofs.Common.{◌≡◌, ◌∙◌, ℕ, ◌+◌, [], ap, subst, sym, arith}
+use Rattle.std.proofs.Common.{◌∙◌, ℕ, ◌+◌, [], ap, subst, sym}
 use Rattle.std.proofs.lemmas.List.{length-append}
 use Rattle.vr_rules.specs.declared.fronts.Front.{Front}
 use Rattle.vr_rules.specs.Fronts.{IsFrontOf}

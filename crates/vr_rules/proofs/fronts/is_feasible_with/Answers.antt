@@ -1,4 +1,4 @@
-use Rattle.std.proofs.Common.{◌≡◌, ◌∙◌, ◌++◌, ap₂, sym, arith, length}
+use Rattle.std.proofs.Common.{◌∙◌, ◌++◌, ap₂, sym, arith, length}
 use Rattle.vr_model.specs.schedules.Lines.{line}
 use Rattle.vr_model.specs.schedules.Choices.{is_feasible}
 use Rattle.vr_rules.specs.Placing.{nodes_of}

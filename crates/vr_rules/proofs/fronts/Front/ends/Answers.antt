@@ -1,4 +1,4 @@
-use Rattle.std.proofs.Common.{◌≡◌, ◌∙◌, ◌++◌, ap, sym}
+use Rattle.std.proofs.Common.{◌∙◌, ◌++◌, ap, sym}
 use Rattle.vr_model.specs.declared.records.Vehicle.{Vehicle}
 use Rattle.vr_model.specs.tables.Tables.{no_vehicle, vehicle_at}
 use Rattle.vr_model.specs.schedules.Lines.{line}

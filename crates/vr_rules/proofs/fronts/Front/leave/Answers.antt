@@ -1,5 +1,4 @@
 use Rattle.std.proofs.Common.{◌∙◌, ap}
-use Rattle.vr_model.specs.tables.Tables.{vehicle_at}
 use Rattle.vr_steps.specs.Lines.{hop_between}
 use Rattle.vr_rules.proofs.FrontLemmas.{behind_visit, tail_is, visit_set_at}
 use Rattle.vr_rules.proofs.fronts.Front.leave.Goals as goal
