@@ -1,6 +1,7 @@
 -- A line, place by place.
 use Rattle.std.proofs.Common.{◌≡◌, ℕ, zero, suc, ◌+◌, ◌<◌, ◌≤◌, Bool, true, false, not, ◌&&◌, ◌||◌, List, [], ◌∷◌, ◌++◌, length, get_or, map, Option, None, refl, sym, ap, ◌∙◌, arith}
 use Rattle.std.specs.Prelude.{ℤ, pos, ◌≤ℤ◌, slice_index_or, ◌==◌}
+use Rattle.std.proofs.Math.Bool.{and-false, and-true, and_assoc}
 use Rattle.std.proofs.lemmas.Int.{ints}
 use Rattle.std.proofs.lemmas.List.{length-map, length-append}
 use Rattle.vr_model.specs.tables.Numbers.{within, horizon, number_at, is_same_number}
@@ -29,25 +30,13 @@ ends_and_middle f list first last = omega (arith, length-append (map f list) (la
 
 -- ---- what a stop allows
 
-and_false : (b : Bool) → (b && false) ≡ false
-and_false true = refl
-and_false false = refl
-
-and_true : (b : Bool) → b ≡ (b && true)
-and_true true = refl
-and_true false = refl
-
-and_together : (a b c : Bool) → ((a && b) && c) ≡ (a && (b && c))
-and_together true b c = refl
-and_together false b c = refl
-
 -- no capacity is above the horizon
 within_horizon : (capacity x : ℤ) (b : Bool) → capacity ≤ℤ horizon → (within (pos 0) horizon x && (within (pos 0) capacity x && b)) ≡ (within (pos 0) capacity x && b)
 within_horizon capacity x b high = go (within (pos 0) capacity x) refl
   where
     go : (w : Bool) → within (pos 0) capacity x ≡ w → (within (pos 0) horizon x && (w && b)) ≡ (w && b)
     go true e = let r = within_is (pos 0) capacity x e in ap (λ h. h && b) (test_of_within (pos 0) horizon x r.0 (omega (arith, ints, r.1, high)))
-    go false e = and_false (within (pos 0) horizon x)
+    go false e = and-false (within (pos 0) horizon x)
 
 stop_in_list : (capacity : ℤ) (rows : List StopRow) (last : Option StopRow) (list : List ℕ) (j : ℕ) → j ≤ length list
     → slice_index_or (map (λ node. stop_allows capacity (row_of rows node)) list ++ stop_allows capacity last ∷ []) j (λ x. false) ≡ stop_allows capacity (slice_index_or (map (row_of rows) list ++ last ∷ []) j None)
@@ -79,12 +68,12 @@ module _ (model : Model) (d v : ℕ) (list : List ℕ) where
       let capacity = number_at (dimension_at model d).capacities v in
       let lets = row_allows (row_of (dimension_at model d).starts v) x in
       let free = not (dimension_at model d).fix_start || is_same_number x (pos 0) in
-      and_together (within (pos 0) capacity x) lets free ∙ sym (within_horizon capacity x (lets && free) high) ∙ ap (λ b. within (pos 0) horizon x && b) (sym (and_together (within (pos 0) capacity x) lets free))
+      and_assoc (within (pos 0) capacity x) lets free ∙ sym (within_horizon capacity x (lets && free) high) ∙ ap (λ b. within (pos 0) horizon x && b) (sym (and_assoc (within (pos 0) capacity x) lets free))
   allows_by_its_row high (suc j) x low =
       let capacity = number_at (dimension_at model d).capacities v in
       let row = slice_index_or (map (row_of (dimension_at model d).nodes) list ++ row_of (dimension_at model d).ends v ∷ []) j None in
       let free = not (dimension_at model d).fix_start || is_same_number x (pos 0) in
-      ap (λ b. stop_allows capacity row x && (not b || free)) (not_start j) ∙ sym (and_true (stop_allows capacity row x)) ∙ sym (within_horizon capacity x (row_allows row x) high)
+      ap (λ b. stop_allows capacity row x && (not b || free)) (not_start j) ∙ and-true (stop_allows capacity row x) ∙ sym (within_horizon capacity x (row_allows row x) high)
       ∙ ap (λ test. within (pos 0) horizon x && test x) (sym (stop_in_list capacity (dimension_at model d).nodes (row_of (dimension_at model d).ends v) list j (omega arith)))
 
 -- no capacity of a well-formed model is above the horizon

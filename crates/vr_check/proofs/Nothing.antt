@@ -1,6 +1,6 @@
 -- What it says that a rule finds nothing.
 use Rattle.std.proofs.Common.{◌≡◌, ℕ, zero, suc, ◌+◌, ◌<◌, ◌≤◌, Bool, true, false, not, List, [], ◌∷◌, length, get_or, Option, Some, None, refl, subst, inl, inr, arith}
-use Rattle.std.specs.Prelude.{ℤ, if◌then◌else◌}
+use Rattle.std.specs.Prelude.{slice_index_or, ℤ, if◌then◌else◌}
 use Rattle.std.specs.List.{list_all, range_with_len}
 use Rattle.std.proofs.lemmas.Bool.{cases_lt}
 use Rattle.vr_model.specs.tables.Numbers.{below}
@@ -52,6 +52,6 @@ third_case false true x y z h e f = absurd (cc)
 third_case false false x y z h e f = h
 
 -- a test that passes at each place of a list
-pub all_from_places : (p : ℕ → Bool) (xs : List ℕ) → ((k : ℕ) → k < length xs → p (get_or xs k 0) ≡ true) → list_all p xs ≡ true
-all_from_places p [] h = refl
-all_from_places p (x ∷ xs) h = and_both (p x) (list_all p xs) (h 0 (omega arith)) (all_from_places p xs (λ k low. h (suc k) (omega (arith, low))))
+pub all_at : {A : Type 0} (p : A → Bool) (d : A) (xs : List A) → ((k : ℕ) → k < length xs → p (slice_index_or xs k d) ≡ true) → list_all p xs ≡ true
+all_at p d [] h = refl
+all_at p d (x ∷ xs) h = and_both (p x) (list_all p xs) (h 0 (omega arith)) (all_at p d xs (λ k low. h (suc k) (omega (arith, low))))

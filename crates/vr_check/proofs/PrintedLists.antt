@@ -2,6 +2,7 @@
 use Rattle.std.proofs.Common.{◌≡◌, ℕ, zero, suc, ◌+◌, ◌-◌, ◌<◌, true, ◌==◌, List, [], ◌∷◌, length, get_or, drop, refl, sym, subst, ◌∙◌, arith}
 use Rattle.std.specs.Prelude.{IsTrue, None, slice_index_or}
 use Rattle.std.specs.List.{list_all}
+use Rattle.std.proofs.Math.ListN.{get_or-map}
 use Rattle.std.proofs.lemmas.Bool.{ne_eqb}
 use Rattle.std.proofs.lemmas.List.{get_or-take, get_or-drop, length-map}
 use Rattle.vr_model.specs.tables.Tables.{vehicle_at, is_visit}
@@ -11,15 +12,12 @@ use Rattle.vr_check.specs.Findings.{spot}
 use Rattle.vr_printed.specs.Printed.{no_route, visits_between, visits_of, lists_of, nodes_at}
 use Rattle.vr_check.specs.Lists.{node_at, is_right_node, ends_broken_at, ends_broken_in, ends_broken}
 use Rattle.vr_printed.specs.declared.printed.PrintedRoute.{PrintedRoute}
-use Rattle.vr_check.proofs.Nothing.{at_none, is_right, third_case, all_from_places}
+use Rattle.vr_check.proofs.Nothing.{at_none, is_right, third_case, all_at}
 use Rattle.vr_printed.proofs.Shaped.{visits_long}
 
 -- the list of vehicle v is what its route has between its ends
 pub route_is : (routes : List PrintedRoute) (v : ℕ) → route (lists_of routes) v ≡ visits_of (slice_index_or routes v no_route)
-route_is [] zero = refl
-route_is [] (suc v) = refl
-route_is (r ∷ routes) zero = refl
-route_is (r ∷ routes) (suc v) = route_is routes v
+route_is routes v = get_or-map visits_of routes v no_route
 
 -- a visit at a place of a list stands one place behind in the nodes
 pub between : (nodes : List ℕ) (j : ℕ) → j < length nodes - 2 → get_or (visits_between nodes) j 0 ≡ get_or nodes (1 + j) 0
@@ -31,7 +29,7 @@ HasVisits model lists = (v : ℕ) → v < length lists → IsTrue (list_all (is_
 
 -- where the ends are right, the entries between them are visits
 pub ends_visits : (model : Model) (routes : List PrintedRoute) → ends_broken model routes ≡ None → HasVisits model (lists_of routes)
-ends_visits model routes h v low = subst (λ list. IsTrue (list_all (is_visit model) list)) (sym (route_is routes v)) (all_from_places (is_visit model) (visits_between nodes) there)
+ends_visits model routes h v low = subst (λ list. IsTrue (list_all (is_visit model) list)) (sym (route_is routes v)) (all_at (is_visit model) 0 (visits_between nodes) there)
   where
     nodes : List ℕ
     nodes = nodes_at routes v

@@ -2,6 +2,7 @@
 use Rattle.std.proofs.Common.{◌≡◌, ℕ, zero, suc, ◌-◌, ◌<◌, true, false, List, [], ◌∷◌, length, map, refl, sym, subst, ap, ◌∙◌, arith}
 use Rattle.std.specs.Prelude.{IsTrue, None, slice_index_or, pos}
 use Rattle.std.specs.List.{list_all}
+use Rattle.std.proofs.Math.ListN.{get_or-map}
 use Rattle.std.proofs.lemmas.List.{length-map}
 use Rattle.vr_model.specs.tables.Numbers.{below, within}
 use Rattle.vr_model.specs.routes.Routes.{route, is_empty}
@@ -67,21 +68,9 @@ schedule_from line v d plan stops arcs breaks cumuls slacks taken =
       ),
     ))
 
-plans_is : (routes : List PrintedRoute) (v : ℕ) → slice_index_or (map plans_of routes) v [] ≡ plans_of (slice_index_or routes v no_route)
-plans_is [] zero = refl
-plans_is [] (suc v) = refl
-plans_is (r ∷ routes) zero = refl
-plans_is (r ∷ routes) (suc v) = plans_is routes v
-
-plan_is : (plans : List PrintedPlan) (d : ℕ) → slice_index_or (map plan_of plans) d (plan_of no_printed_plan) ≡ plan_of (slice_index_or plans d no_printed_plan)
-plan_is [] zero = refl
-plan_is [] (suc d) = refl
-plan_is (p ∷ plans) zero = refl
-plan_is (p ∷ plans) (suc d) = plan_is plans d
-
 -- the plan of a vehicle in the assignment is the one that is printed
 pub plan_is_printed : (routes : List PrintedRoute) (d v : ℕ) → plan_at (assignment_of routes) d v ≡ plan_of (plan_in (slice_index_or routes v no_route) d)
-plan_is_printed routes d v = ap (λ plans. slice_index_or plans d (plan_of no_printed_plan)) (plans_is routes v) ∙ plan_is (slice_index_or routes v no_route).plans d
+plan_is_printed routes d v = ap (λ plans. slice_index_or plans d (plan_of no_printed_plan)) (get_or-map plans_of routes v no_route) ∙ get_or-map plan_of (slice_index_or routes v no_route).plans d no_printed_plan
 
 pub long_enough : (list : List ℕ) → is_empty list ≡ false → 0 < length list
 long_enough [] e = absurd (cc)

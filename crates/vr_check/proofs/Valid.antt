@@ -11,11 +11,12 @@ use Rattle.vr_model.specs.schedules.Choices.{is_feasible}
 use Rattle.vr_model.specs.routes.Rules.{serves_pair, keeps_policy, allows_vehicle, is_route_open, fits_group, active_in, is_open, is_grouped, has_enough, has_required, is_valid}
 use Rattle.vr_model.specs.deciding.Testing.{and_left, and_right, and_both, test_of_eq, range_list_all}
 use Rattle.vr_model.specs.declared.records.Model.{Model}
+use Rattle.vr_model.proofs.tables.Tests.{all-from_list_all}
 use Rattle.vr_check.specs.Findings.{spot, spot_of_vehicle, spot_of_none}
 use Rattle.vr_check.specs.Lists.{node_at, stands_before, once_broken_at, once_broken_in, once_broken}
 use Rattle.vr_check.specs.Visits.{is_missing, required_broken_at, required_broken, has_right_number, no_group, group_broken_at, group_broken}
 use Rattle.vr_check.specs.Pairs.{is_served, pair_broken_at, pair_broken, policy_broken_in, policy_broken, allowed_broken_at, allowed_broken_in, allowed_broken}
-use Rattle.vr_check.proofs.Nothing.{at_none, is_right, is_not_wrong, all_from_places}
+use Rattle.vr_check.proofs.Nothing.{at_none, is_right, is_not_wrong, all_at}
 use Rattle.vr_check.proofs.PrintedLists.{HasVisits}
 use Rattle.vr_check.proofs.Distinct.{all_distinct}
 
@@ -23,15 +24,6 @@ use Rattle.vr_check.proofs.Distinct.{all_distinct}
 concat_all : (p : ℕ → Bool) (lists : List (List ℕ)) → ((v : ℕ) → v < length lists → list_all p (route lists v) ≡ true) → list_all p (concat lists) ≡ true
 concat_all p [] h = refl
 concat_all p (list ∷ lists) h = list_all-append p list (concat lists) ∙ and_both (list_all p list) (list_all p (concat lists)) (h 0 (omega arith)) (concat_all p lists (λ v low. h (suc v) (omega (arith, low))))
-
-all_at : {A : Type 0} (p : A → Bool) (d : A) (xs : List A) → ((k : ℕ) → k < length xs → p (slice_index_or xs k d) ≡ true) → list_all p xs ≡ true
-all_at p d [] h = refl
-all_at p d (x ∷ xs) h = and_both (p x) (list_all p xs) (h 0 (omega arith)) (all_at p d xs (λ k low. h (suc k) (omega (arith, low))))
-
-of_list : {A : Type 0} (p : A → Bool) (xs : List A) → list_all p xs ≡ true → (v : ℕ) (d : A) → v < length xs → p (slice_index_or xs v d) ≡ true
-of_list p [] h v d low = absurd (omega arith)
-of_list p (x ∷ xs) h zero d low = and_left (p x) (list_all p xs) h
-of_list p (x ∷ xs) h (suc v) d low = of_list p xs (and_right (p x) (list_all p xs) h) v d (omega arith)
 
 -- what a filter keeps passes where each number does or fails the filter
 filtered : (p q : ℕ → Bool) (a n : ℕ) → ((k : ℕ) → a ≤ k → k < a + n → (q k && not (p k)) ≡ false) → list_all p (filter q (range_with_len a n)) ≡ true
@@ -63,7 +55,7 @@ module _ (model : Model) (lists : List (List ℕ)) where
   route_is_open pairs policies allowed v low feasible = go (is_empty (route lists v)) refl
     where
       served : (p : ℕ) → p < length model.pairs → serves_pair (route lists v) (pair_at model p) ≡ true
-      served p less = of_list (λ list. serves_pair list (pair_at model p)) lists (is_right (is_served lists (pair_at model p)) (spot_of_none p) (at_none (pair_broken_at model lists) (length model.pairs) pairs p less)) v [] low
+      served p less = all-from_list_all (λ list. serves_pair list (pair_at model p)) lists (is_right (is_served lists (pair_at model p)) (spot_of_none p) (at_none (pair_broken_at model lists) (length model.pairs) pairs p less)) v [] low
 
       allows : (k : ℕ) → k < length (route lists v) → allows_vehicle model v (get_or (route lists v) k 0) ≡ true
       allows k less = is_right (allows_vehicle model v (node_at (route lists v) k)) (spot v (k + 1)) (at_none (allowed_broken_at model v (route lists v)) (length (route lists v)) (at_none (allowed_broken_in model lists) (length lists) allowed v low) k less)
@@ -74,7 +66,7 @@ module _ (model : Model) (lists : List (List ℕ)) where
           ∙ and_both (list_all (λ d. is_feasible (line model d v (route lists v))) (below (length model.dimensions))) _ (range_list_all (λ d. is_feasible (line model d v (route lists v))) 0 (length model.dimensions) (λ d from less. feasible e d (omega (arith, less))))
           (and_both (list_all (serves_pair (route lists v)) model.pairs) _ (all_at (serves_pair (route lists v)) (record { pickup = 0; delivery = 0 }) model.pairs served)
           (and_both (keeps_policy model v (route lists v)) _ (is_right (keeps_policy model v (route lists v)) (spot_of_vehicle v) (at_none (policy_broken_in model lists) (length lists) policies v low))
-          (all_from_places (allows_vehicle model v) (route lists v) allows)))
+          (all_at (allows_vehicle model v) 0 (route lists v) allows)))
 
   groups_right : group_broken model lists ≡ None → (g : ℕ) → g < length model.groups → has_right_number lists (slice_index_or model.groups g no_group) ≡ true
   groups_right groups g less = is_right (has_right_number lists (slice_index_or model.groups g no_group)) (spot_of_none g) (at_none (group_broken_at model lists) (length model.groups) groups g less)
