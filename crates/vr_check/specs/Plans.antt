@@ -53,7 +53,7 @@ carries_breaks line plan k = int_le (break_time line plan k) (slack plan k)
 abbrev pub all_in_range : Line → Plan → Bool
 all_in_range line plan = list_all (starts_in_range line plan) (below (length line.breaks))
 
--- each break ends before the next one starts
+-- each break ends at or before the start of the next one
 abbrev pub all_in_time : Line → Plan → Bool
 all_in_time line plan = list_all (ends_in_time line plan) (below (length line.breaks - 1))
 

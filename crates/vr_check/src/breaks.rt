@@ -187,7 +187,7 @@ impl Taken<'_> {
         true
     }
 
-    // Whether each break ends before the next one starts.
+    // Whether each break ends at or before the start of the next one.
     fn all_in_time(&self) -> bool
         requires { IsTaken self.now }
         ensures { result ≡ plans.all_in_time (line_of self.now.asked) (plan_of_taken self.now) }

@@ -8,11 +8,11 @@ ghost use Rattle.vr_check.specs.Findings as findings;
 /// What a check finds.
 #[derive(Clone, Copy)]
 pub enum Finding {
-    /// No rule is broken, and this is the cost.
+    /// No rule is broken, and this is the printed cost.
     Meets {
         cost: i64,
     },
-    /// The first rule that is broken, and where: -1 stands where a number does not apply.
+    /// The first rule that is broken, and where, as `Rule` says; -1 stands where a number does not apply.
     Broken {
         rule: Rule,
         vehicle: i64,
@@ -20,40 +20,45 @@ pub enum Finding {
     },
 }
 
-/// The rules of a printed solution, in the order in which they are asked.
+/// The rules of a printed solution, in the order in which they are asked. Beside each stands what vehicle and place say
+/// where it is broken; places in the nodes of a route count its start, so the first visit stands at place 1.
 #[derive(Clone, Copy)]
 pub enum Rule {
-    /// The tree has the fields, kinds, words and lengths of a solution's text.
+    /// The tree has the fields, kinds, words and lengths of a solution's text, nodes of the model, and the vehicles and
+    /// dimensions of the model in their order. Neither vehicle nor place.
     Shape,
-    /// A used route begins at its start and ends at its end, with visits between them.
+    /// A used route begins at its start and ends at its end, with visits between them. The vehicle, and the place in
+    /// its nodes.
     Ends,
-    /// No visit stands twice.
+    /// No visit stands twice. The vehicle and the place of the later one.
     Once,
-    /// The inactive visits are listed as dropped, ascending.
+    /// The inactive visits are listed as dropped, ascending. Neither vehicle nor place.
     Dropped,
-    /// Each visit in no group is active.
+    /// Each visit in no group is active. The place is the least node that is not.
     Required,
-    /// Each group has as many active nodes as it must.
+    /// Each group has no more active nodes than it may have, and exactly as many without a penalty. The place is the
+    /// number of the group.
     Group,
-    /// Both nodes of a pair are active or neither, in one list, the pickup first.
+    /// Both nodes of a pair are active or neither, in one list, the pickup first. The place is the number of the pair.
     Pair,
-    /// The vehicle's policy on its pairs holds.
+    /// The vehicle's policy on its pairs holds. The vehicle alone.
     Policy,
-    /// Each visit allows its vehicle.
+    /// Each visit allows its vehicle. The vehicle, and the place in its nodes.
     Allowed,
-    /// Each stop allows its cumul.
+    /// Each stop allows its cumul. The vehicle and the stop.
     Cumul,
-    /// Each slack is what its cumuls leave, and within its bounds.
+    /// Each slack is what its cumuls leave, and within its bounds. The vehicle and the arc.
     Slack,
-    /// Breaks are in range, in order and in place, and fit into the slacks.
+    /// Breaks are in range, in order and in place, and fit into the slacks. The vehicle, and the number of the dimension.
     Break,
-    /// Each part of the cost is its value at the printed cumuls.
+    /// Each part of the cost is its value at the printed cumuls. The place is the number of the part, from 0, in byte
+    /// order of the names.
     Parts,
-    /// The cost is the sum of the parts.
+    /// The cost is the sum of the parts. Neither vehicle nor place.
     Cost,
-    /// The cost is at most that of the first solution.
+    /// The cost is at most that of the first solution. Neither vehicle nor place.
     FirstCost,
-    /// Tries and solutions are within the limits of the model.
+    /// Tries and solutions are within the limits of the model. Neither vehicle nor place.
     Limits,
 }
 

@@ -1,7 +1,7 @@
 //! The checker: whether a printed solution keeps every rule of its model.
 //!
-//! It shares no code with the search and its judges: each rule is asked of the printed lists, plans and numbers
-//! themselves, one pass for each.
+//! It shares only the look-ups of the model with the search and its judges: each rule is asked of the printed lists,
+//! plans and numbers themselves, one pass for each.
 #![tactic(auto)]
 
 mod asked;

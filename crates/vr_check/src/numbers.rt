@@ -116,7 +116,7 @@ pub(crate) fn wrong_first_cost(printed: &Printed) -> Option<Spot>
     }
 }
 
-// Whether a number lies between these, as far as they fit.
+// Whether a number lies in `least..=greatest`.
 fn is_counted(least: i64, greatest: u64, number: i64) -> bool
     ensures { result ≡ within least (pos greatest) number }
 {

@@ -85,7 +85,7 @@ pub(crate) fn active_in(lists: &[Seq<u32>], group: &Group) -> usize
         .count()
 }
 
-// Whether as many nodes of a group are active as must be.
+// Whether no more nodes of a group are active than may be, and without a penalty exactly as many.
 fn has_right_number(lists: &[Seq<u32>], group: &Group) -> bool
     ensures { result ≡ visits.has_right_number lists.now group.now }
 {

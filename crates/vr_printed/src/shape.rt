@@ -111,7 +111,8 @@ fn shaped(model: &Model, printed: Printed) -> Option<Printed>
 }
 
 /// The solution that a tree prints, `None` where the tree has not the fields, kinds, words and lengths of a solution of
-/// the model. `NoMemory` where there was no memory.
+/// the model, a node that the model does not have, or not its vehicles and dimensions in order. `NoMemory` where there
+/// was no memory.
 pub fn read_printed(
     alloc: Global,
     model: &Model,
