@@ -77,7 +77,7 @@ fn tree_of(
 /// each vehicle its nodes from start to end and, in each dimension, the cumuls, slacks and break starts of its chosen
 /// schedule; beside these what the first solution cost and how the search went.
 ///
-/// `NoMemory` comes only where memory is refused.
+/// `NoMemory` where there was no memory.
 pub fn solution_tree(
     alloc: Global,
     model: &Model,
@@ -101,7 +101,7 @@ pub fn solution_tree(
 
 /// The line of valid routes of a model: the text of their tree, and a line feed. Reading it gives the tree back.
 ///
-/// `NoMemory` comes only where memory is refused.
+/// `NoMemory` where there was no memory.
 pub fn solution_line(
     alloc: Global,
     model: &Model,

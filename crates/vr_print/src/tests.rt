@@ -1,13 +1,14 @@
-//! That there is a text with ample memory, and its bytes.
+//! That there are a tree and a line with ample memory, and their bytes.
 
-ghost use Rattle.std.specs.Prelude.{IfOk};
+ghost use Rattle.std.specs.Prelude.{IfOk, IfSome, IsTrue};
+ghost use Rattle.vr_model.specs.routes.Rules.{is_valid};
 ghost use Rattle.vr_model.specs.tables.WellFormed.{IsWellFormed};
 
-use crate::solution_line;
+use crate::{solution_line, solution_tree};
 use serde_json::Value;
 use std::alloc::Global;
 use std::test::Fail;
-use vr_json::Path;
+use vr_json::{Path, to_line};
 use vr_model::{End, Model, NoMemory, Report, Seq};
 use vr_read::read_model;
 use vr_routes::Routes;
@@ -29,9 +30,10 @@ fn model_of(alloc: Global, text: &str) -> Result<Model, NoMemory>
     Ok(model)
 }
 
-// The line of routes in which vehicle 0 visits node 1 alone, none where they are not valid.
-fn line_of_one_visit(alloc: Global, model: &Model) -> Result<Option<Seq<u8>>, NoMemory>
+// Routes in which vehicle 0 visits node 1 alone, none where they are not valid.
+fn one_visit(alloc: Global, model: &Model) -> Result<Option<Routes>, NoMemory>
     requires { IsWellFormed model.now }
+    ensures { IfOk result (λ answer. IfSome answer (λ routes. IsTrue (is_valid model.now routes.lists))) }
 {
     let mut list = Seq::new(alloc);
     list.push(1)?;
@@ -42,19 +44,38 @@ fn line_of_one_visit(alloc: Global, model: &Model) -> Result<Option<Seq<u8>>, No
     if !valid(alloc, model, &routes)? {
         return Ok(None);
     }
-    let report = Report {
-        tries: 5,
-        solutions: 3,
-        end: End::Tries,
-    };
-    Ok(Some(solution_line(alloc, model, &routes, 80, report)?))
+    Ok(Some(routes))
+}
+
+const REPORT: Report = Report {
+    tries: 5,
+    solutions: 3,
+    end: End::Tries,
+};
+
+// Whether these bytes are the line.
+fn is_line(bytes: Seq<u8>) -> bool {
+    bytes.as_slice() == LINE.as_bytes()
+}
+
+// The text of the tree of routes.
+fn text_of_tree(alloc: Global, model: &Model, routes: &Routes) -> Result<Seq<u8>, NoMemory>
+    requires well_formed { IsWellFormed model.now }
+    requires valid { IsTrue (is_valid model.now routes.now.lists) }
+{
+    let tree = solution_tree(alloc, model, routes, 80, REPORT)?;
+    let line = to_line(alloc, &tree)?;
+    Ok(line)
 }
 
 #[test]
 fn breaks_cumuls_and_slacks_are_printed(rt: HostRuntime) -> Result<(), Fail> {
     let alloc = rt.alloc();
     let model = model_of(alloc, MODEL)?;
-    let line = line_of_one_visit(alloc, &model)?;
-    assert!(rt; line.is_some_and(|line| line.as_slice() == LINE.as_bytes()));
+    let Some(routes) = one_visit(alloc, &model)? else {
+        return Err("they are not valid".into());
+    };
+    assert!(rt; is_line(solution_line(alloc, &model, &routes, 80, REPORT)?));
+    assert!(rt; is_line(text_of_tree(alloc, &model, &routes)?));
     Ok(())
 }
