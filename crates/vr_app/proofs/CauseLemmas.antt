@@ -11,10 +11,13 @@ use Rattle.vr_app.specs.Causes.{HasFault, HasFirst, HasNoFirst, IsModel, IsNotJs
 use Rattle.vr_app.specs.Found.{found_from}
 use Rattle.vr_app.specs.Input.{max_input, model_of, value_of}
 use Rattle.vr_app.specs.Reply.{reply, reply_in, reply_to_found, reply_to_input, reply_to_model, reply_to_value, too_long}
-use Rattle.vr_app.specs.Runs.{IsAccepted}
+use Rattle.vr_app.specs.Runs.{IsRead}
 use Rattle.vr_app.specs.Texts.{refused_tree}
-use Rattle.vr_app.specs.Words.{mode_of}
+use Rattle.vr_app.specs.Words.{is_read, request_of}
 use Rattle.vr_app.specs.declared.words.Mode.{Mode}
+use Rattle.vr_app.specs.declared.words.Request.{Request}
+use Rattle.vr_app.specs.declared.words.Request.TheVariants as request
+use Rattle.vr_model.specs.declared.search.Event.{Event}
 use Rattle.vr_app.proofs.InputLemmas.{reply-short}
 
 -- which inputs have this status
@@ -73,15 +76,16 @@ module _ (bytes : List ℕ) (d : Data) (short : length bytes ≤ max_input) (som
         not_both-from : HasFault bytes h.0 → ⊥
         not_both-from k = let both = sym is ∙ same_model k.value k.is_value ∙ k.is_fault in absurd cc
 
-    found-tells : (mode : Mode) (o : Option (List (List ℕ))) → first_lists model ≡ o → Tells bytes (reply_to_found model (option_map (found_from mode model) o)).status
-    found-tells mode None none = record {
+    found-tells : (mode : Mode) (reports : List Event → List ℕ) (o : Option (List (List ℕ))) → first_lists model ≡ o
+        → Tells bytes (reply_to_found mode reports model (option_map (found_from mode model) o)).status
+    found-tells mode reports None none = record {
       too_long = (λ e. absurd (omega arith), λ h. absurd (omega arith));
       not_json = (λ e. absurd (omega arith), λ h. let same = sym some ∙ h.no_value in absurd cc);
       refused = (λ e. absurd (omega arith), λ h. absurd (not_refused h));
       done = (λ e. absurd (omega arith), λ h. let k = subst IsSome (ap first_lists (sym (only_model model h.0 is h.1)) ∙ none) h.2 in absurd cc);
       none_found = (λ e. (model, is-model, none), λ h. refl);
     }
-    found-tells mode (Some lists) first = record {
+    found-tells mode reports (Some lists) first = record {
       too_long = (λ e. absurd (omega arith), λ h. absurd (omega arith));
       not_json = (λ e. absurd (omega arith), λ h. let same = sym some ∙ h.no_value in absurd cc);
       refused = (λ e. absurd (omega arith), λ h. absurd (not_refused h));
@@ -89,34 +93,45 @@ module _ (bytes : List ℕ) (d : Data) (short : length bytes ≤ max_input) (som
       none_found = (λ e. absurd (omega arith), λ h. let k = sym first ∙ ap first_lists (only_model model h.0 is h.1) ∙ h.2 in absurd cc);
     }
 
-  value-tells : (mode : Mode) (m : Result Model Fault) → model_of d ≡ m → Tells bytes (reply_to_model mode m).status
-  value-tells mode (Err fault) is = fault-tells fault is
-  value-tells mode (Ok model) is = found-tells model is mode (first_lists model) refl
+  value-tells : (mode : Mode) (reports : List Event → List ℕ) (m : Result Model Fault) → model_of d ≡ m → Tells bytes (reply_to_model mode reports m).status
+  value-tells mode reports (Err fault) is = fault-tells fault is
+  value-tells mode reports (Ok model) is = found-tells model is mode reports (first_lists model) refl
 
-short-tells : (mode : Mode) (bytes : List ℕ) → length bytes ≤ max_input → (o : Option Data) → value_of bytes ≡ o → Tells bytes (reply_to_value mode o).status
-short-tells mode bytes short None e = no_value-tells bytes short e
-short-tells mode bytes short (Some d) e = value-tells bytes d short e mode (model_of d) refl
+-- of words that ask this
+module _ (mode : Mode) (reports : List Event → List ℕ) (bytes : List ℕ) where
+  short-tells : length bytes ≤ max_input → (o : Option Data) → value_of bytes ≡ o → Tells bytes (reply_to_value mode reports o).status
+  short-tells short None e = no_value-tells bytes short e
+  short-tells short (Some d) e = value-tells bytes d short e mode reports (model_of d) refl
 
-input-tells : (mode : Mode) (bytes : List ℕ) → Tells bytes (reply_to_input mode bytes).status
-unfolding reply_to_input
-input-tells mode bytes = by (nat_lt max_input (length bytes)) refl
-  where
-    by : (b : Bool) → nat_lt max_input (length bytes) ≡ b → Tells bytes (cond b too_long (reply_to_value mode (value_of bytes))).status
-    by true e = long-tells bytes (grind (arith, nat_tests))
-    by false e = short-tells mode bytes (grind (arith, nat_tests)) (value_of bytes) refl
+  input-tells : Tells bytes (reply_to_input mode reports bytes).status
+  unfolding reply_to_input
+  input-tells = by (nat_lt max_input (length bytes)) refl
+    where
+      by : (b : Bool) → nat_lt max_input (length bytes) ≡ b → Tells bytes (cond b too_long (reply_to_value mode reports (value_of bytes))).status
+      by true e = long-tells bytes (grind (arith, nat_tests))
+      by false e = short-tells (grind (arith, nat_tests)) (value_of bytes) refl
 
--- of accepted words
-pub reply-tells : (words : List (List ℕ)) (bytes : List ℕ) → IsAccepted words → Tells bytes (reply words bytes).status
-reply-tells words bytes h = by (mode_of words) h
-  where
-    by : (o : Option Mode) → IsSome o → Tells bytes (reply_in o bytes).status
-    by None h = absurd cc
-    by (Some mode) h = input-tells mode bytes
+  input-refused : (fault : Fault) → HasFault bytes fault → (reply_to_input mode reports bytes).text ≡ line_of (refused_tree fault)
+  input-refused fault r =
+      ap (λ reply. reply.text) (reply-short mode reports bytes r.short ∙ ap (reply_to_value mode reports) r.is_value ∙ ap (reply_to_model mode reports) r.is_fault)
 
--- a refusal tells the fault
-pub reply-refused : (words : List (List ℕ)) (bytes : List ℕ) (fault : Fault) → (reply words bytes).status ≡ 5 → HasFault bytes fault → (reply words bytes).text ≡ line_of (refused_tree fault)
-reply-refused words bytes fault e r = by (mode_of words) e
-  where
-    by : (o : Option Mode) → (reply_in o bytes).status ≡ 5 → (reply_in o bytes).text ≡ line_of (refused_tree fault)
-    by None e = absurd (omega arith)
-    by (Some mode) e = ap (λ reply. reply.text) (reply-short mode bytes r.short ∙ ap (reply_to_value mode) r.is_value ∙ ap (reply_to_model mode) r.is_fault)
+module _ (reports : List Event → List ℕ) (words : List (List ℕ)) (bytes : List ℕ) where
+  -- of words that read
+  pub reply-tells : IsRead words → Tells bytes (reply reports words bytes).status
+  reply-tells h = by (request_of words) h
+    where
+      by : (o : Option Request) → is_read o ≡ true → Tells bytes (reply_in reports o bytes).status
+      by None h = absurd cc
+      by (Some (request.Read mode)) h = input-tells mode reports bytes
+      by (Some (request.Generate n)) h = absurd cc
+      by (Some (request.Demo n)) h = absurd cc
+
+  -- a refusal tells the fault
+  pub reply-refused : (fault : Fault) → IsRead words → HasFault bytes fault → (reply reports words bytes).text ≡ line_of (refused_tree fault)
+  reply-refused fault h r = by (request_of words) h
+    where
+      by : (o : Option Request) → is_read o ≡ true → (reply_in reports o bytes).text ≡ line_of (refused_tree fault)
+      by None h = absurd cc
+      by (Some (request.Read mode)) h = input-refused mode reports bytes fault r
+      by (Some (request.Generate n)) h = absurd cc
+      by (Some (request.Demo n)) h = absurd cc

@@ -10,6 +10,7 @@ use Rattle.vr_io.specs.Edges.{Gave}
 use Rattle.vr_app.specs.Input.{max_input, value_of}
 use Rattle.vr_app.specs.Reply.{reply_to_input, reply_to_value, too_long}
 use Rattle.vr_app.specs.declared.words.Mode.{Mode}
+use Rattle.vr_model.specs.declared.search.Event.{Event}
 
 -- a text that is read
 pub value_of-some : (bytes : List ℕ) (d : Data) → IsUtf8 bytes → read bytes ≡ Some d → value_of bytes ≡ Some d
@@ -25,19 +26,20 @@ value_of-none bytes h = by (is_utf8 bytes) refl
     by true e = h (IsUtf8-from_is_utf8 bytes e)
     by false e = refl
 
--- the reply to an input that is not too long
-pub reply-short : (mode : Mode) (bytes : List ℕ) → length bytes ≤ max_input → reply_to_input mode bytes ≡ reply_to_value mode (value_of bytes)
-unfolding reply_to_input
-reply-short mode bytes h = let e : nat_lt max_input (length bytes) ≡ false = grind (arith, nat_tests) in ap (λ b. cond b too_long (reply_to_value mode (value_of bytes))) e
+module _ (mode : Mode) (reports : List Event → List ℕ) (bytes : List ℕ) where
+  -- the reply to an input that is not too long
+  pub reply-short : length bytes ≤ max_input → reply_to_input mode reports bytes ≡ reply_to_value mode reports (value_of bytes)
+  unfolding reply_to_input
+  reply-short h = let e : nat_lt max_input (length bytes) ≡ false = grind (arith, nat_tests) in ap (λ b. cond b too_long (reply_to_value mode reports (value_of bytes))) e
 
--- the same, where its value is known
-pub reply-value : (mode : Mode) (bytes : List ℕ) (o : Option Data) → length bytes ≤ max_input → o ≡ value_of bytes → reply_to_value mode o ≡ reply_to_input mode bytes
-reply-value mode bytes o h e = ap (reply_to_value mode) e ∙ sym (reply-short mode bytes h)
+  -- the same, where its value is known
+  pub reply-value : (o : Option Data) → length bytes ≤ max_input → o ≡ value_of bytes → reply_to_value mode reports o ≡ reply_to_input mode reports bytes
+  reply-value o h e = ap (reply_to_value mode reports) e ∙ sym (reply-short h)
 
--- the reply to one that is too long
-pub reply-long : (mode : Mode) (bytes : List ℕ) → max_input < length bytes → reply_to_input mode bytes ≡ too_long
-unfolding reply_to_input
-reply-long mode bytes h = let e : nat_lt max_input (length bytes) ≡ true = grind (arith, nat_tests) in ap (λ b. cond b too_long (reply_to_value mode (value_of bytes))) e
+  -- the reply to one that is too long
+  pub reply-long : max_input < length bytes → reply_to_input mode reports bytes ≡ too_long
+  unfolding reply_to_input
+  reply-long h = let e : nat_lt max_input (length bytes) ≡ true = grind (arith, nat_tests) in ap (λ b. cond b too_long (reply_to_value mode reports (value_of bytes))) e
 
 -- a source from which too many bytes came
 pub long-gave : (old new : Option (List ℕ)) (taken bytes : List ℕ) → max_input < length taken → Gave old new taken → old ≡ Some bytes → max_input < length bytes

@@ -2,3 +2,5 @@ pub mod InputLemmas
 pub mod CauseLemmas
 pub mod SolutionLemmas
 pub mod ReplyLemmas
+pub mod GeneratedLemmas
+pub mod NumberLemmas

@@ -1,21 +1,34 @@
 -- Replies.
-use Rattle.std.proofs.Common.{◌≡◌, ◌≤◌, ℕ, List, Bool, true, false, cond, Option, Some, None, Result, Ok, Err, refl, arith, option_map, length}
-use Rattle.std.specs.Prelude.{nat_lt}
+use Rattle.std.proofs.Common.{◌≡◌, ◌∙◌, ◌++◌, ◌≤◌, ℕ, ℤ, pos, negsuc, List, [], Bool, true, false, cond, Option, Some, None, Result, Ok, Err, refl, ap, sym, subst, arith, option_map, length}
+use Rattle.std.specs.Prelude.{flat_map, nat_lt}
+use Rattle.std.proofs.lemmas.List.{append-nil}
+use Rattle.std.proofs.lemmas.List.Folds.{flat_map-map}
 use Rattle.std.proofs.lemmas.Bool.Decides.{nat_tests}
 use Rattle.serde_json.specs.Data.{Data, depth}
+use Rattle.serde_json.specs.Find.{is_float, of_integer}
 use Rattle.serde_json.specs.Read.{max_depth}
 use Rattle.serde_json.specs.Written.{has_float}
 use Rattle.vr_json.specs.declared.fault.Fault.{Fault}
 use Rattle.vr_model.specs.declared.records.Model.{Model}
 use Rattle.vr_model.specs.first.FirstSolutions.{first_lists}
 use Rattle.vr_read.proofs.WellFormedModels.{well_formed_from_read}
-use Rattle.vr_app.specs.Causes.{IsSolvedBy}
-use Rattle.vr_app.specs.Found.{found_from}
+use Rattle.vr_model.specs.declared.search.Event.{Event}
+use Rattle.vr_watch.specs.Told.{Told}
+use Rattle.vr_app.specs.Answers.{Answers, AnswersReply}
+use Rattle.vr_app.specs.Causes.{IsAnsweredBy}
+use Rattle.vr_app.specs.Found.{Found, events_of, found_from, line_of_found}
 use Rattle.vr_app.specs.Input.{max_input, model_of, value_of}
-use Rattle.vr_app.specs.Reply.{Reply, reply, reply_in, reply_to_found, reply_to_input, reply_to_model, reply_to_value, too_long}
-use Rattle.vr_app.specs.Texts.{refused_tree, status_tree}
-use Rattle.vr_app.specs.Words.{mode_of}
+use Rattle.vr_app.specs.Reply.{Reply, reply, reply_in, reply_to_found, reply_to_input, reply_to_model, reply_to_value, too_long, with_reports}
+use Rattle.vr_app.specs.Reports.{joined}
+use Rattle.vr_app.specs.Runs.{IsAskedFor}
+use Rattle.vr_app.specs.Texts.{refused_tree, status_tree, summary_tree}
+use Rattle.vr_app.specs.Status.{number_of}
+use Rattle.vr_app.specs.declared.answer.Answer.{Answer}
+use Rattle.vr_app.specs.declared.status.Status.TheVariants as all
+use Rattle.vr_app.specs.declared.texts.Summary.{Summary}
 use Rattle.vr_app.specs.declared.words.Mode.{Mode}
+use Rattle.vr_app.specs.declared.words.Mode.TheVariants as mode
+use Rattle.vr_app.specs.declared.words.Request.{Request}
 use Rattle.vr_app.proofs.SolutionLemmas.{found-printed}
 
 -- a tree that may be printed: no float stands in it, and it is not too deep
@@ -31,37 +44,78 @@ pub refused-printable : (fault : Fault) → IsPrintable (refused_tree fault)
 unfolding refused_tree
 refused-printable fault = record { whole = refl; nested = omega arith }
 
+is_float-whole : (z : ℤ) → is_float (of_integer z) ≡ false
+is_float-whole (pos n) = refl
+is_float-whole (negsuc n) = refl
+
+pub summary-printable : (summary : Summary) → IsPrintable (summary_tree summary)
+unfolding summary_tree
+summary-printable summary = record { whole = simp is_float-whole; nested = omega arith }
+
 -- ---- a reply of status 0 has the text of a solution
 
-abbrev SolvedWhere : List ℕ → Reply → Type 0
-SolvedWhere bytes reply = reply.status ≡ 0 → IsSolvedBy bytes reply.text
+module _ (asked : Mode) (reports : List Event → List ℕ) (bytes : List ℕ) where
+  abbrev AnsweredWhere : Reply → Type 0
+  AnsweredWhere reply = reply.status ≡ 0 → IsAnsweredBy asked reports bytes reply.text
 
-found-solved : (asked : Mode) (bytes : List ℕ) (d : Data) (model : Model) → length bytes ≤ max_input → value_of bytes ≡ Some d → model_of d ≡ Ok model
-    → (o : Option (List (List ℕ))) → first_lists model ≡ o → SolvedWhere bytes (reply_to_found model (option_map (found_from asked model) o))
-found-solved asked bytes d model short some is None e zero = absurd (omega arith)
-found-solved asked bytes d model short some is (Some lists) e zero =
-    (model, record { short = short; value = d; is_value = some; is_model = is }, found-printed asked model lists (well_formed_from_read _ d model is) e)
+  found-answered : (d : Data) (model : Model) → length bytes ≤ max_input → value_of bytes ≡ Some d → model_of d ≡ Ok model
+      → (o : Option (List (List ℕ))) → first_lists model ≡ o → AnsweredWhere (reply_to_found asked reports model (option_map (found_from asked model) o))
+  found-answered d model short some is None e zero = absurd (omega arith)
+  found-answered d model short some is (Some lists) e zero = record {
+    model = model;
+    found = found_from asked model lists;
+    is_model = record { short = short; value = d; is_value = some; is_model = is };
+    is_found = ap (option_map (found_from asked model)) e;
+    prints = found-printed asked model lists (well_formed_from_read _ d model is) e;
+    text_is = refl;
+  }
 
-model-solved : (asked : Mode) (bytes : List ℕ) (d : Data) → length bytes ≤ max_input → value_of bytes ≡ Some d
-    → (m : Result Model Fault) → model_of d ≡ m → SolvedWhere bytes (reply_to_model asked m)
-model-solved asked bytes d short some (Err fault) is zero = absurd (omega arith)
-model-solved asked bytes d short some (Ok model) is zero = found-solved asked bytes d model short some is (first_lists model) refl zero
+  model-answered : (d : Data) → length bytes ≤ max_input → value_of bytes ≡ Some d
+      → (m : Result Model Fault) → model_of d ≡ m → AnsweredWhere (reply_to_model asked reports m)
+  model-answered d short some (Err fault) is zero = absurd (omega arith)
+  model-answered d short some (Ok model) is zero = found-answered d model short some is (first_lists model) refl zero
 
-value-solved : (asked : Mode) (bytes : List ℕ) → length bytes ≤ max_input → (o : Option Data) → value_of bytes ≡ o → SolvedWhere bytes (reply_to_value asked o)
-value-solved asked bytes short None e zero = absurd (omega arith)
-value-solved asked bytes short (Some d) e zero = model-solved asked bytes d short e (model_of d) refl zero
+  value-answered : length bytes ≤ max_input → (o : Option Data) → value_of bytes ≡ o → AnsweredWhere (reply_to_value asked reports o)
+  value-answered short None e zero = absurd (omega arith)
+  value-answered short (Some d) e zero = model-answered d short e (model_of d) refl zero
 
-input-solved : (asked : Mode) (bytes : List ℕ) → SolvedWhere bytes (reply_to_input asked bytes)
-unfolding reply_to_input
-input-solved asked bytes = by (nat_lt max_input (length bytes)) refl
-  where
-    by : (b : Bool) → nat_lt max_input (length bytes) ≡ b → SolvedWhere bytes (cond b too_long (reply_to_value asked (value_of bytes)))
-    by true e zero = absurd (omega arith)
-    by false e zero = value-solved asked bytes (grind (arith, nat_tests)) (value_of bytes) refl zero
+  input-answered : AnsweredWhere (reply_to_input asked reports bytes)
+  unfolding reply_to_input
+  input-answered = by (nat_lt max_input (length bytes)) refl
+    where
+      by : (b : Bool) → nat_lt max_input (length bytes) ≡ b → AnsweredWhere (cond b too_long (reply_to_value asked reports (value_of bytes)))
+      by true e zero = absurd (omega arith)
+      by false e zero = value-answered (grind (arith, nat_tests)) (value_of bytes) refl zero
 
-pub reply-solved : (words : List (List ℕ)) (bytes : List ℕ) → (reply words bytes).status ≡ 0 → IsSolvedBy bytes (reply words bytes).text
-reply-solved words bytes = by (mode_of words)
-  where
-    by : (o : Option Mode) → (reply_in o bytes).status ≡ 0 → IsSolvedBy bytes (reply_in o bytes).text
-    by None e = absurd (omega arith)
-    by (Some asked) e = input-solved asked bytes e
+  pub reply-answered : (words : List (List ℕ)) → IsAskedFor asked words → (reply reports words bytes).status ≡ 0 → IsAnsweredBy asked reports bytes (reply reports words bytes).text
+  reply-answered words is =
+      let P : Option Request → Type 0 = λ o. AnsweredWhere (reply_in reports o bytes) in
+      subst P (sym is) input-answered
+
+-- ---- what watchers report
+
+-- after they were told of all events, it is what they would have reported of these
+pub told-joined : {W : Type 0} (after : W → List Event → List ℕ) (old new : List W) (events : List Event)
+    → Told after old new events → joined after new [] ≡ joined after old events
+told-joined after old new events told =
+    sym (flat_map-map (λ text. text) (λ w. after w []) new)
+    ∙ ap (flat_map (λ text. text)) (told.heard [])
+    ∙ flat_map-map (λ text. text) (λ w. after w (events ++ [])) old
+    ∙ ap (joined after old) (append-nil events)
+
+-- reports count where they are asked for alone
+pub same-reports : (asked : Mode) (line old new : List ℕ) → (asked ≡ mode.Log → new ≡ old) → with_reports asked line new ≡ with_reports asked line old
+same-reports mode.First line old new same = refl
+same-reports mode.Solve line old new same = refl
+same-reports mode.Log line old new same = ap (λ reports. line ++ reports) (same refl)
+
+-- the answer that has the line of what was found, and behind it what watchers report now, is the reply
+pub done-replies : (asked : Mode) (reports : List Event → List ℕ) (model : Model) (line now : List ℕ) (given : Answer)
+    → (o : Option Found) → Some line ≡ option_map (line_of_found model) o → (asked ≡ mode.Log → now ≡ reports (events_of o))
+    → Answers all.Done (with_reports asked line now) given → AnswersReply (reply_to_found asked reports model o) given
+done-replies asked reports model line now given None found same is = absurd cc
+done-replies asked reports model line now given (Some found) line_is same is =
+    let e : line ≡ line_of_found model found = cc in record {
+      status_is = ap number_of is.status_is;
+      text_is = is.text_is ∙ ap (λ text. with_reports asked text now) e ∙ same-reports asked (line_of_found model found) (reports found.outcome.events) now same;
+    }

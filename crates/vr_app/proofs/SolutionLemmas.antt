@@ -1,12 +1,14 @@
 -- Solutions that are printed.
-use Rattle.std.proofs.Common.{◌≡◌, ◌∙◌, ℕ, List, Bool, true, false, cond, Option, Some, None, refl, ap, sym, subst, arith}
+use Rattle.std.proofs.Common.{◌≡◌, ◌∙◌, ℕ, List, Bool, true, false, cond, Option, Some, None, ℤ, length, refl, ap, sym, subst, arith}
 use Rattle.std.specs.Prelude.{IsTrue, is_some, unwrap_or, ◌≤ℤ◌}
 use Rattle.std.proofs.lemmas.Int.{ints}
+use Rattle.vr_model.specs.declared.records.Improve.{Improve}
+use Rattle.vr_model.specs.declared.records.Improve.TheVariants as improve
 use Rattle.vr_model.specs.declared.records.Model.{Model}
 use Rattle.vr_model.specs.search.Outcomes.{Outcome}
 use Rattle.vr_model.specs.first.FirstSolutions.{build, first_lists}
 use Rattle.vr_model.specs.routes.Costs.{assigned, cost, no_plan, parts_at, sum_of}
-use Rattle.vr_model.specs.routes.Routes.{route}
+use Rattle.vr_model.specs.routes.Routes.{inactive, route}
 use Rattle.vr_model.specs.routes.Rules.{is_open, is_valid}
 use Rattle.vr_model.specs.schedules.Choices.{chosen}
 use Rattle.vr_model.specs.schedules.Lines.{Line, line}
@@ -15,9 +17,14 @@ use Rattle.vr_model.specs.tables.WellFormed.{IsWellFormed}
 use Rattle.vr_model.specs.deciding.Testing.{and_left, and_right}
 use Rattle.vr_model.proofs.routes.Assigned.{chosen_plans_are_there, open_meets_its_lines}
 use Rattle.vr_model.proofs.schedules.ChoiceLaws.{chosen_is, chosen_where_feasible}
+use Rattle.vr_descent.specs.Answering.{IsSoundAnswer}
+use Rattle.vr_descent.proofs.AnswerLemmas.{descent_is_sound}
+use Rattle.vr_guided.proofs.AnswerLemmas.{guided_is_sound}
 use Rattle.vr_print.proofs.TreeLemmas.{plan-at}
-use Rattle.vr_app.specs.Found.{found_from, line_of_found, searched}
+use Rattle.vr_app.specs.Found.{Found, found_from, improved, lambda_of, limit_of, line_of_found, searched, untried}
 use Rattle.vr_app.specs.Solutions.{HasChosenPlans, IsInLimits, IsSolution, PrintsSolution}
+use Rattle.vr_app.specs.Texts.{summary_of, used}
+use Rattle.vr_app.specs.declared.texts.Summary.{Summary}
 use Rattle.vr_app.specs.declared.words.Mode.{Mode}
 use Rattle.vr_app.specs.declared.words.Mode.TheVariants as mode
 
@@ -67,12 +74,31 @@ pub record IsSound (model : Model) (first : List (List ℕ)) (outcome : Outcome)
   pub no_dearer : cost model outcome.best ≤ℤ cost model first
   pub in_limits : IsInLimits model outcome.report
 
-pub searched-sound : (asked : Mode) (model : Model) (first : List (List ℕ)) → IsWellFormed model → IsTrue (is_valid model first) → IsSound model first (searched asked model first)
-searched-sound mode.First model first well_formed valid = record {
+untried-sound : (model : Model) (first : List (List ℕ)) → IsWellFormed model → IsTrue (is_valid model first) → IsSound model first (untried first)
+untried-sound model first well_formed valid = record {
   valid = valid;
   no_dearer = omega (arith, ints);
   in_limits = record { tries = omega arith; some_solution = omega arith; solutions = well_formed.search_in_range.solutions_in_range.0 };
 }
+
+answer-sound : (model : Model) (first : List (List ℕ)) (outcome : Outcome) → IsSoundAnswer model first (limit_of model) outcome → IsSound model first outcome
+answer-sound model first outcome is = record {
+  valid = is.best_valid;
+  no_dearer = is.no_dearer;
+  in_limits = record { tries = is.tries; some_solution = is.some_solution; solutions = is.solutions };
+}
+
+pub improved-sound : (how : Improve) (model : Model) (first : List (List ℕ)) → IsWellFormed model → IsTrue (is_valid model first) → IsSound model first (improved how model first)
+improved-sound improve.None model first well_formed valid = untried-sound model first well_formed valid
+improved-sound improve.GreedyDescent model first well_formed valid =
+    answer-sound model first _ (descent_is_sound model first (limit_of model) valid well_formed.search_in_range.solutions_in_range.0)
+improved-sound improve.GuidedLocalSearch model first well_formed valid =
+    answer-sound model first _ (guided_is_sound model first (limit_of model) (lambda_of model) valid well_formed.search_in_range.solutions_in_range.0)
+
+pub searched-sound : (asked : Mode) (model : Model) (first : List (List ℕ)) → IsWellFormed model → IsTrue (is_valid model first) → IsSound model first (searched asked model first)
+searched-sound mode.First model first well_formed valid = untried-sound model first well_formed valid
+searched-sound mode.Solve model first well_formed valid = improved-sound model.search.improve model first well_formed valid
+searched-sound mode.Log model first well_formed valid = improved-sound model.search.improve model first well_formed valid
 
 -- what is found is printed as a solution
 pub found-printed : (asked : Mode) (model : Model) (first : List (List ℕ)) → IsWellFormed model → first_lists model ≡ Some first → PrintsSolution model (line_of_found model (found_from asked model first))
@@ -88,3 +114,18 @@ found-printed asked model first well_formed e =
       is_in_limits = sound.in_limits;
       text_is = refl;
     }
+
+-- a summary of these numbers
+abbrev pub summary_with : ℕ → ℤ → ℤ → ℕ → ℕ → ℕ → Summary
+summary_with n total first dropped busy tries = record { number = n; cost = total; first_cost = first; dropped = dropped; used = busy; tries = tries }
+
+-- it is that of what was found, where each number is
+pub summary-is : (n : ℕ) (model : Model) (found : Found) (total first : ℤ) (dropped busy tries : ℕ) → total ≡ cost model found.outcome.best → first ≡ cost model found.first
+    → dropped ≡ length (inactive model found.outcome.best) → busy ≡ used found.outcome.best → tries ≡ found.outcome.report.tries
+    → summary_with n total first dropped busy tries ≡ summary_of n model found
+summary-is n model found total first dropped busy tries a b c d e =
+    ap (λ z. summary_with n z first dropped busy tries) a
+    ∙ ap (λ z. summary_with n (cost model found.outcome.best) z dropped busy tries) b
+    ∙ ap (λ k. summary_with n (cost model found.outcome.best) (cost model found.first) k busy tries) c
+    ∙ ap (λ k. summary_with n (cost model found.outcome.best) (cost model found.first) (length (inactive model found.outcome.best)) k tries) d
+    ∙ ap (summary_with n (cost model found.outcome.best) (cost model found.first) (length (inactive model found.outcome.best)) (used found.outcome.best)) e

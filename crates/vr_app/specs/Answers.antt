@@ -31,3 +31,7 @@ IsOfInput status = IsOfShort status ⊎ (status ≡ all.TooLong)
 -- the status of an answer
 abbrev pub IsOfAnswer : Status → Type 0
 IsOfAnswer status = (status ≡ all.Usage) ⊎ IsOfInput status
+
+-- the status of an answer to a number
+abbrev pub IsOfNumber : Status → Type 0
+IsOfNumber status = IsOfModel status ⊎ (status ≡ all.Refused)

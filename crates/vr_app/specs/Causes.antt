@@ -4,8 +4,12 @@ use Rattle.serde_json.specs.Data.{Data}
 use Rattle.vr_json.specs.declared.fault.Fault.{Fault}
 use Rattle.vr_model.specs.first.FirstSolutions.{first_lists}
 use Rattle.vr_model.specs.declared.records.Model.{Model}
+use Rattle.vr_model.specs.declared.search.Event.{Event}
 use Rattle.vr_app.specs.Input.{max_input, value_of, model_of}
+use Rattle.vr_app.specs.Found.{Found, answer, line_of_found}
+use Rattle.vr_app.specs.Reply.{with_reports}
 use Rattle.vr_app.specs.Solutions.{PrintsSolution}
+use Rattle.vr_app.specs.declared.words.Mode.{Mode}
 
 -- it has too many bytes
 abbrev pub IsTooLong : List ℕ → Type 0
@@ -42,6 +46,12 @@ HasFirst bytes = (model : Model) × IsModel bytes model × IsSome (first_lists m
 abbrev pub HasNoFirst : List ℕ → Type 0
 HasNoFirst bytes = (model : Model) × IsModel bytes model × (first_lists model ≡ None)
 
--- it is a model, and the text is the line of a solution of it
-abbrev pub IsSolvedBy : List ℕ → List ℕ → Type 0
-IsSolvedBy bytes text = (model : Model) × IsModel bytes model × PrintsSolution model text
+-- it is a model, and the text is the line of the solution that is asked for, and behind it the reports of the watchers
+-- where these are asked for
+pub record IsAnsweredBy (asked : Mode) (reports : List Event → List ℕ) (bytes text : List ℕ) : Type 0 where
+  pub model : Model
+  pub found : Found
+  pub is_model : IsModel bytes model
+  pub is_found : answer asked model ≡ Some found
+  pub prints : PrintsSolution model (line_of_found model found)
+  pub text_is : text ≡ with_reports asked (line_of_found model found) (reports found.outcome.events)

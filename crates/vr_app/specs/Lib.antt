@@ -1,8 +1,10 @@
 pub mod Words
 pub mod Status
 pub mod Input
-pub mod Texts
 pub mod Found
+pub mod Texts
+pub mod Endings
+pub mod Reports
 pub mod Reply
 pub mod Solutions
 pub mod Causes

@@ -1,15 +1,21 @@
 -- What the program answers.
-use Rattle.std.specs.Prelude.{◌≡◌, ℕ, List, Option, Some, None, Result, Ok, Err, codes, nat_lt, length, if◌then◌else◌}
+use Rattle.std.specs.Prelude.{◌≡◌, ◌++◌, ℕ, List, Option, Some, None, Result, Ok, Err, codes, nat_lt, length}
+use Rattle.std.specs.Prelude.{if◌then◌else◌}
 use Rattle.serde_json.specs.Data.{Data}
 use Rattle.vr_json.specs.Trees.{line_of}
 use Rattle.vr_json.specs.declared.fault.Fault.{Fault}
 use Rattle.vr_model.specs.declared.records.Model.{Model}
+use Rattle.vr_model.specs.declared.search.Event.{Event}
 use Rattle.vr_io.specs.Edges.{Took}
-use Rattle.vr_app.specs.Words.{mode_of}
+use Rattle.vr_app.specs.Words.{request_of}
 use Rattle.vr_app.specs.Input.{max_input, value_of, model_of}
-use Rattle.vr_app.specs.Texts.{status_tree, refused_tree}
+use Rattle.vr_app.specs.Texts.{status_tree, refused_tree, summary_of, summary_tree}
 use Rattle.vr_app.specs.Found.{Found, answer, line_of_found}
 use Rattle.vr_app.specs.declared.words.Mode.{Mode}
+use Rattle.vr_app.specs.declared.words.Mode.TheVariants as mode
+use Rattle.vr_app.specs.declared.words.Request.{Request}
+use Rattle.vr_app.specs.declared.words.Request.TheVariants as request
+use Rattle.vr_gen.specs.Generated.{generated}
 
 -- a status and a text
 pub record Reply : Type 0 where
@@ -40,32 +46,63 @@ refused fault = record { status = 5; text = line_of (refused_tree fault) }
 abbrev pub none_found : Reply
 none_found = told 6 (codes "ROUTING_FAIL")
 
--- the reply to what was found for a model
-abbrev pub reply_to_found : Model → Option Found → Reply
-reply_to_found model None = none_found
-reply_to_found model (Some found) = record { status = 0; text = line_of_found model found }
+-- the whole of what was asked for, in this text
+abbrev pub done : List ℕ → Reply
+done text = record { status = 0; text = text }
+
+-- the line of a solution, and behind it the reports of the watchers where these are asked for
+abbrev pub with_reports : Mode → List ℕ → List ℕ → List ℕ
+with_reports mode.First line reports = line
+with_reports mode.Solve line reports = line
+with_reports mode.Log line reports = line ++ reports
+
+-- the reply to what was found for a model; `reports` is what the watchers report after events
+abbrev pub reply_to_found : Mode → (List Event → List ℕ) → Model → Option Found → Reply
+reply_to_found asked reports model None = none_found
+reply_to_found asked reports model (Some found) =
+    done (with_reports asked (line_of_found model found) (reports found.outcome.events))
 
 -- the reply to a model, or to the first fault
-abbrev pub reply_to_model : Mode → Result Model Fault → Reply
-reply_to_model asked (Err fault) = refused fault
-reply_to_model asked (Ok model) = reply_to_found model (answer asked model)
+abbrev pub reply_to_model : Mode → (List Event → List ℕ) → Result Model Fault → Reply
+reply_to_model asked reports (Err fault) = refused fault
+reply_to_model asked reports (Ok model) = reply_to_found asked reports model (answer asked model)
 
 -- the reply to a value, if there is one
-abbrev pub reply_to_value : Mode → Option Data → Reply
-reply_to_value asked None = not_json
-reply_to_value asked (Some d) = reply_to_model asked (model_of d)
+abbrev pub reply_to_value : Mode → (List Event → List ℕ) → Option Data → Reply
+reply_to_value asked reports None = not_json
+reply_to_value asked reports (Some d) = reply_to_model asked reports (model_of d)
 
 -- the reply to the bytes of an input
-unfoldable pub reply_to_input : Mode → List ℕ → Reply
-reply_to_input asked bytes = if nat_lt max_input (length bytes) then too_long else reply_to_value asked (value_of bytes)
+unfoldable pub reply_to_input : Mode → (List Event → List ℕ) → List ℕ → Reply
+reply_to_input asked reports bytes =
+    if nat_lt max_input (length bytes) then too_long else reply_to_value asked reports (value_of bytes)
 
-abbrev pub reply_in : Option Mode → List ℕ → Reply
-reply_in None bytes = usage
-reply_in (Some asked) bytes = reply_to_input asked bytes
+-- the reply that is the model of a number
+unfoldable pub reply_generated : ℕ → Reply
+reply_generated n = done (line_of (generated n))
+
+-- the reply that tells of the search of the model of number n
+abbrev pub summary_of_found : ℕ → Model → Option Found → Reply
+summary_of_found n model None = none_found
+summary_of_found n model (Some found) = done (line_of (summary_tree (summary_of n model found)))
+
+abbrev pub summary_of_model : ℕ → Result Model Fault → Reply
+summary_of_model n (Err fault) = refused fault
+summary_of_model n (Ok model) = summary_of_found n model (answer mode.Solve model)
+
+unfoldable pub reply_of_demo : ℕ → Reply
+reply_of_demo n = summary_of_model n (model_of (generated n))
+
+-- the reply to a request, or to words that are not accepted
+abbrev pub reply_in : (List Event → List ℕ) → Option Request → List ℕ → Reply
+reply_in reports None bytes = usage
+reply_in reports (Some (request.Read asked)) bytes = reply_to_input asked reports bytes
+reply_in reports (Some (request.Generate n)) bytes = reply_generated n
+reply_in reports (Some (request.Demo n)) bytes = reply_of_demo n
 
 -- the reply to words and the bytes of an input
-abbrev pub reply : List (List ℕ) → List ℕ → Reply
-reply words bytes = reply_in (mode_of words) bytes
+abbrev pub reply : (List Event → List ℕ) → List (List ℕ) → List ℕ → Reply
+reply reports words bytes = reply_in reports (request_of words) bytes
 
 -- the status is that of the reply, and its text was written
 pub record Replies (answer : Reply) (old new : Option (List ℕ)) (given : ℕ) : Type 0 where

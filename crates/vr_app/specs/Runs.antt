@@ -1,19 +1,29 @@
 -- Of which runs a clause speaks.
-use Rattle.std.specs.Prelude.{◌≡◌, ◌≢◌, ℕ, List, Option, Some, None, IsSome, String, map, string_bytes}
+use Rattle.std.specs.Prelude.{◌≡◌, ◌≢◌, ℕ, List, true, false, Option, Some, None, String, map, string_bytes}
 use Rattle.std.specs.declared.alloc.Global.{Global}
-use Rattle.vr_app.specs.Words.{mode_of}
+use Rattle.vr_app.specs.Words.{is_read, request_of}
+use Rattle.vr_app.specs.declared.words.Mode.{Mode}
+use Rattle.vr_app.specs.declared.words.Request.TheVariants as request
 
 -- the words, as bytes
 abbrev pub bytes_of : List (String Global) → List (List ℕ)
 bytes_of words = map string_bytes words
 
--- the words are accepted
-abbrev pub IsAccepted : List (List ℕ) → Type 0
-IsAccepted words = IsSome (mode_of words)
-
 -- the words are not accepted
 abbrev pub IsNotAccepted : List (List ℕ) → Type 0
-IsNotAccepted words = mode_of words ≡ None
+IsNotAccepted words = request_of words ≡ None
+
+-- the words ask for a solution of the input
+abbrev pub IsAskedFor : Mode → List (List ℕ) → Type 0
+IsAskedFor asked words = request_of words ≡ Some (request.Read asked)
+
+-- the words are accepted, and the input is read
+abbrev pub IsRead : List (List ℕ) → Type 0
+IsRead words = is_read (request_of words) ≡ true
+
+-- the words are not accepted, or the input is not read
+abbrev pub IsUnread : List (List ℕ) → Type 0
+IsUnread words = is_read (request_of words) ≡ false
 
 -- a status that tells of an answer: no fault of source or sink, and no want of memory
 pub record IsSettled (status : ℕ) : Type 0 where
@@ -25,11 +35,6 @@ pub record IsSettled (status : ℕ) : Type 0 where
 abbrev pub WhereTold : Option (List ℕ) → (List ℕ → Type 0) → Type 0
 WhereTold left P = (bytes : List ℕ) → left ≡ Some bytes → P bytes
 
--- what is said of the input of a run that was settled, with words that are accepted
+-- what is said of the input of a run that was settled, where it is read
 abbrev pub WhereAnswered : List (List ℕ) → Option (List ℕ) → ℕ → (List ℕ → Type 0) → Type 0
-WhereAnswered words left status P = IsSettled status → IsAccepted words → WhereTold left P
-
--- a reply of this status comes after the input was read to its end
-pub record ReadsToTheEnd (status : ℕ) : Type 0 where
-  pub no_usage : status ≢ 1
-  pub not_too_long : status ≢ 8
+WhereAnswered words left status P = IsSettled status → IsRead words → WhereTold left P

@@ -1,15 +1,24 @@
 //! The whole of what the program does: from the words and the bytes of a source to a status and the bytes of a sink.
 //!
 //! [`run`] is the only public item. `words` says what is asked for, `input` reads the bytes, `first` builds a first
-//! solution, `search` improves it, `answer` works the answer out, `texts` makes the trees that tell no solution, and
-//! `reply` ties these to the source and the sink.
+//! solution, `search` improves it, `answer` works the answer out, `logs` puts the reports of watchers behind it,
+//! `numbered` answers what reads nothing, `texts` makes the trees that tell no solution, and `reply` ties these to the
+//! source and the sink.
 #![tactic(auto)]
 
 mod answer;
 mod first;
 mod input;
+#[cfg(test)]
+mod log_tests;
+mod logs;
+#[cfg(test)]
+mod number_tests;
+mod numbered;
 mod reply;
 mod search;
+#[cfg(test)]
+mod solve_tests;
 mod status;
 #[cfg(test)]
 mod tests;

@@ -1,27 +1,32 @@
 //! What the program does with the source and the sink.
 
-ghost use Rattle.std.specs.Prelude.{◌≡◌, ◌≢◌, ◌⊎◌, ◌↔◌, ◌≤◌, List, ℕ, [], Some, None, IfOk, IsErrOf, length};
+ghost use Rattle.std.specs.Prelude.{◌≡◌, ◌≢◌, ◌⊎◌, ◌↔◌, ◌≤◌, List, ℕ, [], Some, IfOk, IsErrOf, length};
 ghost use Rattle.vr_io.specs.Edges.{Rose, Took};
 ghost use Rattle.vr_io.specs.Whole.{TookFront};
 ghost use Rattle.vr_json.specs.Trees.{line_of};
 ghost use Rattle.vr_json.specs.declared.fault.Fault.{Fault};
 ghost use Rattle.vr_app.specs.Answers.{AnswersReply, IsOfAnswer, IsOfInput};
-ghost use Rattle.vr_app.specs.Causes.{HasFault, HasFirst, HasNoFirst, IsNotJson, IsRefused, IsSolvedBy, IsTooLong};
+ghost use Rattle.vr_app.specs.Causes.{HasFault, HasFirst, HasNoFirst, IsAnsweredBy, IsNotJson, IsRefused, IsTooLong};
 ghost use Rattle.vr_app.specs.Input.{max_input};
 ghost use Rattle.vr_app.specs.Reply as replies;
 ghost use Rattle.vr_app.specs.Reply.{Replies};
-ghost use Rattle.vr_app.specs.Runs.{IsAccepted, IsNotAccepted, IsSettled, ReadsToTheEnd, bytes_of};
+ghost use Rattle.vr_app.specs.Reports.{joined};
+ghost use Rattle.vr_app.specs.Runs.{IsAskedFor, IsNotAccepted, IsRead, IsSettled, IsUnread, bytes_of};
 ghost use Rattle.vr_app.specs.Runs.{WhereAnswered, WhereTold};
 ghost use Rattle.vr_app.specs.Status.{IsStatus};
 ghost use Rattle.vr_app.specs.Texts as texts;
+ghost use Rattle.vr_app.specs.declared.words.Mode.{Mode as Asked};
 
 use crate::answer::{Answer, answer_input, too_long, usage};
+use crate::numbered::{demo, generated};
+use crate::search::Watchers;
 use crate::status::Status;
-use crate::words::{Mode, mode_of};
+use crate::words::{Mode, Request, request_of};
 use std::alloc::Global;
 use vr_io::{ReadError, Sink, Source, read_all, write_all};
 use vr_model::NoMemory;
 use vr_model::limits::MOST_INPUT_BYTES;
+use vr_watch::Watch;
 
 // Why there is no answer to write.
 #[derive(Clone, Copy)]
@@ -41,16 +46,22 @@ impl From<NoMemory> for Stop {
 }
 
 // The answer of a mode to what the source gives.
-fn respond_to_input<S: Source>(alloc: Global, mode: Mode, source: &mut S) -> Result<Answer, Stop>
-    ensures reply { IfOk result (λ a. WhereTold (S.left source.old) (λ bytes.
-        AnswersReply (replies.reply_to_input mode bytes) a)) }
+fn respond_to_input<S: Source>(
+    alloc: Global,
+    mode: Mode,
+    source: &mut S,
+    watch: &mut Watchers,
+) -> Result<Answer, Stop>
+    ensures reply { let reports = joined (λ w later. after w later) watch.old.items in
+        IfOk result (λ a. WhereTold (S.left source.old) (λ bytes.
+        AnswersReply (replies.reply_to_input mode reports bytes) a)) }
     ensures emptied { IfOk result (λ a. a.status ≢ Status.TooLong
         → WhereTold (S.left source.old) (λ bytes. S.left source.new ≡ Some [])) }
     ensures status { IfOk result (λ a. IsOfInput a.status) }
     ensures fault { IsErrOf result Stop.ReadFault → Rose (S.faults source.old) (S.faults source.new) }
 {
     match read_all(alloc, source, MOST_INPUT_BYTES) {
-        Ok(bytes) => Ok(answer_input(alloc, mode, bytes)?),
+        Ok(bytes) => Ok(answer_input(alloc, mode, bytes, watch)?),
         Err(ReadError::TooLong) => Ok(too_long(alloc)?),
         Err(ReadError::ReadFault) => Err(Stop::ReadFault),
         Err(ReadError::NoMemory) => Err(Stop::NoMemory),
@@ -58,32 +69,52 @@ fn respond_to_input<S: Source>(alloc: Global, mode: Mode, source: &mut S) -> Res
 }
 
 // The answer to words and what the source gives.
-fn respond<S: Source>(alloc: Global, words: &[String], source: &mut S) -> Result<Answer, Stop>
-    ensures reply { IfOk result (λ a. WhereTold (S.left source.old) (λ bytes.
-        AnswersReply (replies.reply (bytes_of words.now) bytes) a)) }
-    ensures usage { IfOk result (λ a. IsNotAccepted (bytes_of words.now) → AnswersReply replies.usage a) }
+fn respond<S: Source>(
+    alloc: Global,
+    words: &[String],
+    source: &mut S,
+    watch: &mut Watchers,
+) -> Result<Answer, Stop>
+    ensures reply { let reports = joined (λ w later. after w later) watch.old.items in
+        IfOk result (λ a. WhereTold (S.left source.old) (λ bytes.
+        AnswersReply (replies.reply reports (bytes_of words.now) bytes) a)) }
+    ensures unread { let reports = joined (λ w later. after w later) watch.old.items in
+        IfOk result (λ a. IsUnread (bytes_of words.now) → (bytes : List ℕ)
+        → AnswersReply (replies.reply reports (bytes_of words.now) bytes) a) }
     ensures usage_only { IfOk result (λ a. a.status ≡ Status.Usage → IsNotAccepted (bytes_of words.now)) }
-    ensures untouched { IsNotAccepted (bytes_of words.now) → source.new ≡ source.old }
-    ensures emptied { IfOk result (λ a. a.status ≢ Status.Usage → a.status ≢ Status.TooLong
+    ensures untouched { IsUnread (bytes_of words.now) → source.new ≡ source.old }
+    ensures emptied { IfOk result (λ a. IsRead (bytes_of words.now) → a.status ≢ Status.TooLong
         → WhereTold (S.left source.old) (λ bytes. S.left source.new ≡ Some [])) }
     ensures status { IfOk result (λ a. IsOfAnswer a.status) }
     ensures fault { IsErrOf result Stop.ReadFault → Rose (S.faults source.old) (S.faults source.new) }
-    ensures accepted { IsErrOf result Stop.ReadFault → IsAccepted (bytes_of words.now) }
+    ensures reads { IsErrOf result Stop.ReadFault → IsRead (bytes_of words.now) }
 {
-    match mode_of(words) {
+    match request_of(words) {
         None => Ok(usage(alloc)?),
-        Some(mode) => respond_to_input(alloc, mode, source),
+        Some(Request::Read(mode)) => respond_to_input(alloc, mode, source, watch),
+        Some(Request::Generate(number)) => Ok(generated(alloc, number)?),
+        Some(Request::Demo(number)) => Ok(demo(alloc, number)?),
     }
 }
 
 /// Does all that the program does, and gives its status.
 ///
-/// `words` are the words after the program's name; `first` alone is accepted. Where they are, the model is read from
-/// the source to its end, and the line of its first solution is written to the sink.
+/// `words` are the words after the program's name. These are accepted, and no others:
+///
+/// | words | reads | writes on status 0 |
+/// |---|---|---|
+/// | `first` | a model | the line of its first solution |
+/// | `solve` | a model | the line of the best solution that the model's search finds from there |
+/// | `solve --log` | a model | the same, and behind it what each watcher reports of the search, in order |
+/// | `generate N` | nothing | the line of the model of number N |
+/// | `demo N` | nothing | the line of a summary of the whole search of that model |
+///
+/// N is written in decimal digits, with no 0 in front of others, and is at most 2^64 - 1. What is read is the source to
+/// its end.
 ///
 /// | status | comes | written |
 /// |---|---|---|
-/// | 0 | exactly where the input is a model with a first solution | that solution |
+/// | 0 | of words that read, exactly where the input is a model with a first solution; else always | as above |
 /// | 1 | exactly where the words are not accepted; nothing is read | `{"status":"USAGE"}` |
 /// | 2 | only where the source failed in this call | nothing |
 /// | 3 | only where the sink failed in this call; it stands in place of the status of the text | a front of the text |
@@ -95,53 +126,75 @@ fn respond<S: Source>(alloc: Global, words: &[String], source: &mut S) -> Result
 ///
 /// An input is JSON where it is UTF-8 and `serde_json` reads a value from it, which may nest at most 127 deep. C is the
 /// code and P the path of the first fault of reading a model. A model has a first solution where the lists at which its
-/// construction ends are valid.
+/// construction ends are valid. The causes of 4, 5, 6 and 8 are said of the words that read.
+///
+/// Only with `--log` is an event of the search noted, to every watcher in order; a watcher that finds no memory for it
+/// ends the run with status 7. All watchers are dropped at the end.
 ///
 /// The words are looked at first, then the source is read, then come the length, the JSON, the model, the construction
 /// and the writing; the first that fails gives the status. "Exactly where" is said of calls that end with none of 2, 3
 /// and 7.
-pub fn run<S: Source, K: Sink>(alloc: Global, words: &[String], source: &mut S, sink: &mut K) -> u8
-    // The status is one of the table, whatever the source tells.
+pub fn run<S: Source, K: Sink>(
+    alloc: Global,
+    words: &[String],
+    source: &mut S,
+    sink: &mut K,
+    watch: Vec<Box<dyn Watch>>,
+) -> u8
     ensures status { IsStatus result }
 
-    // Where the source tells what is left, the status and what is written are those of the reply.
-    ensures reply { IsSettled result → WhereTold (S.left source.old) (λ bytes.
-        Replies (replies.reply (bytes_of words.now) bytes) (K.written sink.old) (K.written sink.new) result) }
+    // The status and the whole text, where the run was settled.
+    ensures reply { let reports = joined (λ w later. after w later) watch.items in
+        IsSettled result → WhereTold (S.left source.old) (λ bytes.
+        Replies (replies.reply reports (bytes_of words.now) bytes)
+        (K.written sink.old) (K.written sink.new) result) }
 
-    // 0 comes exactly where the input is a model with a first solution. What is written is a solution: valid lists with
-    // their chosen schedules and their cost.
+    // Of words that read, 0 comes exactly where the input is a model with a first solution. What is written is a
+    // solution: valid lists with their chosen schedules and their cost; with `--log` the watchers' reports follow.
     ensures done { WhereAnswered (bytes_of words.now) (S.left source.old) result (λ bytes.
         (result ≡ 0) ↔ HasFirst bytes) }
-    ensures solution { result ≡ 0 → WhereTold (S.left source.old) (λ bytes.
-        (text : List ℕ) × IsSolvedBy bytes text × Took (K.written sink.old) (K.written sink.new) text) }
+    ensures solution { let reports = joined (λ w later. after w later) watch.items in
+        result ≡ 0 → (asked : Asked) → IsAskedFor asked (bytes_of words.now) → WhereTold (S.left source.old) (λ bytes.
+        (text : List ℕ) × IsAnsweredBy asked reports bytes text
+        × Took (K.written sink.old) (K.written sink.new) text) }
 
-    // 1 comes exactly where the words are not accepted, and then nothing is read.
-    ensures usage { IsSettled result → IsNotAccepted (bytes_of words.now)
-        → Replies replies.usage (K.written sink.old) (K.written sink.new) result }
+    // Of words that read nothing the reply is the same whatever the source has. It has status 0 where they are accepted.
+    ensures unread { let reports = joined (λ w later. after w later) watch.items in
+        IsSettled result → IsUnread (bytes_of words.now) → (bytes : List ℕ)
+        → Replies (replies.reply reports (bytes_of words.now) bytes) (K.written sink.old) (K.written sink.new) result }
+    ensures unread_front { let reports = joined (λ w later. after w later) watch.items in
+        result ≡ 3 → IsUnread (bytes_of words.now) → (bytes : List ℕ)
+        → TookFront (K.written sink.old) (K.written sink.new) (replies.reply reports (bytes_of words.now) bytes).text }
+    ensures untouched { IsUnread (bytes_of words.now) → source.new ≡ source.old }
+    ensures numbered { IsSettled result → IsUnread (bytes_of words.now)
+        → IsNotAccepted (bytes_of words.now) ⊎ (result ≡ 0) }
+
+    // 1 comes exactly where the words are not accepted.
+    ensures usage { IsSettled result → IsNotAccepted (bytes_of words.now) → result ≡ 1 }
     ensures usage_only { result ≡ 1 → IsNotAccepted (bytes_of words.now) }
-    ensures usage_front { result ≡ 3 → IsNotAccepted (bytes_of words.now)
-        → TookFront (K.written sink.old) (K.written sink.new) replies.usage.text }
-    ensures untouched { IsNotAccepted (bytes_of words.now) → source.new ≡ source.old }
 
     // 2 comes only where the source failed, and then nothing is written.
     ensures read_fault { result ≡ 2 → Rose (S.faults source.old) (S.faults source.new) }
-    ensures reads { result ≡ 2 → IsAccepted (bytes_of words.now) }
+    ensures reads { result ≡ 2 → IsRead (bytes_of words.now) }
     ensures nothing_answered { result ≡ 2 → sink.new ≡ sink.old }
 
     // 3 comes only where the sink failed, and then a front of the text is written.
     ensures write_fault { result ≡ 3 → Rose (K.faults sink.old) (K.faults sink.new) }
-    ensures front { result ≡ 3 → WhereTold (S.left source.old) (λ bytes.
-        TookFront (K.written sink.old) (K.written sink.new) (replies.reply (bytes_of words.now) bytes).text) }
+    ensures front { let reports = joined (λ w later. after w later) watch.items in
+        result ≡ 3 → WhereTold (S.left source.old) (λ bytes.
+        TookFront (K.written sink.old) (K.written sink.new)
+        (replies.reply reports (bytes_of words.now) bytes).text) }
 
-    // 8, 4, 5 and 6 come exactly where the input is too long, is no JSON, is refused, or is a model without a first
-    // solution; 5 tells code and path.
+    // Of words that read, 8, 4, 5 and 6 come exactly where the input is too long, is no JSON, is refused, or is a model
+    // without a first solution; 5 tells code and path.
     ensures too_long { WhereAnswered (bytes_of words.now) (S.left source.old) result (λ bytes.
         (result ≡ 8) ↔ IsTooLong bytes) }
     ensures not_json { WhereAnswered (bytes_of words.now) (S.left source.old) result (λ bytes.
         (result ≡ 4) ↔ IsNotJson bytes) }
     ensures refused { WhereAnswered (bytes_of words.now) (S.left source.old) result (λ bytes.
         (result ≡ 5) ↔ IsRefused bytes) }
-    ensures refusal { result ≡ 5 → WhereTold (S.left source.old) (λ bytes. (fault : Fault) → HasFault bytes fault
+    ensures refusal { result ≡ 5 → IsRead (bytes_of words.now) → WhereTold (S.left source.old) (λ bytes.
+        (fault : Fault) → HasFault bytes fault
         → Took (K.written sink.old) (K.written sink.new) (line_of (texts.refused_tree fault))) }
     ensures none_found { WhereAnswered (bytes_of words.now) (S.left source.old) result (λ bytes.
         (result ≡ 6) ↔ HasNoFirst bytes) }
@@ -150,18 +203,27 @@ pub fn run<S: Source, K: Sink>(alloc: Global, words: &[String], source: &mut S, 
     ensures memory { result ≡ 7 → sink.new ≡ sink.old }
 
     // Accepted words, an input of at most 64 MiB, and no failure of source or sink: the whole reply, or want of memory.
-    ensures complete { IsAccepted (bytes_of words.now) → WhereTold (S.left source.old) (λ bytes.
-        length bytes ≤ max_input
+    ensures complete { let reports = joined (λ w later. after w later) watch.items in
+        IsRead (bytes_of words.now) → WhereTold (S.left source.old) (λ bytes. length bytes ≤ max_input
         → ¬ Rose (S.faults source.old) (S.faults source.new) → ¬ Rose (K.faults sink.old) (K.faults sink.new)
         → (result ≡ 7)
-        ⊎ Replies (replies.reply (bytes_of words.now) bytes) (K.written sink.old) (K.written sink.new) result) }
+        ⊎ Replies (replies.reply reports (bytes_of words.now) bytes)
+        (K.written sink.old) (K.written sink.new) result) }
+    ensures complete_unread { let reports = joined (λ w later. after w later) watch.items in
+        IsUnread (bytes_of words.now) → ¬ Rose (K.faults sink.old) (K.faults sink.new) → (bytes : List ℕ)
+        → (result ≡ 7)
+        ⊎ Replies (replies.reply reports (bytes_of words.now) bytes)
+        (K.written sink.old) (K.written sink.new) result }
 
-    // On every status but 1, 2, 7 and 8 the input is read to its end; on 3 where the reply has none of these.
-    ensures emptied { result ≢ 1 → result ≢ 2 → result ≢ 7 → result ≢ 8 → WhereTold (S.left source.old) (λ bytes.
-        (result ≡ 3 → ReadsToTheEnd (replies.reply (bytes_of words.now) bytes).status)
+    // Where the input is read, it is read to its end on every status but 2, 7 and 8; on 3 where the reply is not 8.
+    ensures emptied { let reports = joined (λ w later. after w later) watch.items in
+        IsRead (bytes_of words.now) → result ≢ 2 → result ≢ 7 → result ≢ 8
+        → WhereTold (S.left source.old) (λ bytes.
+        (result ≡ 3 → (replies.reply reports (bytes_of words.now) bytes).status ≢ 8)
         → S.left source.new ≡ Some []) }
 {
-    match respond(alloc, words, source) {
+    let mut watch = watch;
+    match respond(alloc, words, source, &mut watch) {
         Ok(answer) => match write_all(sink, answer.text.as_slice()) {
             Ok(()) => answer.status.number(),
             Err(_) => Status::WriteFault.number(),

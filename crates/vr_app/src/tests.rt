@@ -12,25 +12,47 @@ const THREE_NODES: &str =
 
 const VEHICLES: &str = "[{\"start\":0,\"end\":0}]";
 
-fn words_of(alloc: Global, word: &str) -> Result<Vec<String>, Fail> {
+const ONE_NODE: &str =
+    "{\"format\":1,\"nodes\":1,\"matrices\":[[[0]]],\"vehicles\":[{\"start\":0,\"end\":0}]}";
+
+const FIRST: &str = "{\"cost\":18,\"dropped\":[],\"first_cost\":18,\
+    \"parts\":{\"arcs\":18,\"fixed\":0,\"global\":0,\"penalty\":0,\"soft\":0,\"span\":0},\
+    \"routes\":[{\"dimensions\":[],\"nodes\":[0,1,2,0],\"vehicle\":0}],\
+    \"solutions\":1,\"status\":\"ROUTING_SUCCESS\",\"stop\":\"first\",\"tries\":0}\n";
+
+const FIRST_OF_FIXED: &str = "{\"cost\":25,\"dropped\":[],\"first_cost\":25,\
+    \"parts\":{\"arcs\":18,\"fixed\":7,\"global\":0,\"penalty\":0,\"soft\":0,\"span\":0},\
+    \"routes\":[{\"dimensions\":[],\"nodes\":[0,1,2,0],\"vehicle\":0}],\
+    \"solutions\":1,\"status\":\"ROUTING_SUCCESS\",\"stop\":\"first\",\"tries\":0}\n";
+
+const FIRST_OF_ONE: &str = "{\"cost\":0,\"dropped\":[],\"first_cost\":0,\
+    \"parts\":{\"arcs\":0,\"fixed\":0,\"global\":0,\"penalty\":0,\"soft\":0,\"span\":0},\
+    \"routes\":[{\"dimensions\":[],\"nodes\":[],\"vehicle\":0}],\
+    \"solutions\":1,\"status\":\"ROUTING_SUCCESS\",\"stop\":\"first\",\"tries\":0}\n";
+
+/// Words that are parted by spaces.
+pub(crate) fn words_of(alloc: Global, line: &str) -> Result<Vec<String>, Fail> {
     let mut words = Vec::new(alloc);
-    words.push(String::from_str(alloc, word)?)?;
+    for word in line.split(' ') {
+        words.push(String::from_str(alloc, word)?)?;
+    }
     Ok(words)
 }
 
-// Asserts what the word `first` and an input are answered.
-fn assert_answer(
+/// Asserts what words and an input are answered, where nothing watches.
+pub(crate) fn assert_answer(
     rt: &impl Abort,
     alloc: Global,
+    line: &str,
     input: &str,
     status: u8,
     text: &str,
 ) -> Result<(), Fail> {
-    let words = words_of(alloc, "first")?;
+    let words = words_of(alloc, line)?;
     let mut source = PureSource::new(Vec::from_slice(alloc, input.as_bytes())?);
     let mut sink = PureSink::new(Vec::from_slice(alloc, &[0; 1000])?);
     assert_eq!(rt;
-        run(alloc, &words, &mut source, &mut sink),
+        run(alloc, &words, &mut source, &mut sink, Vec::new(alloc)),
         status,
         "{input}"
     );
@@ -51,40 +73,26 @@ fn assert_refused(
         text,
         "{{\"code\":{code},\"path\":\"{path}\",\"status\":\"ROUTING_INVALID\"}}"
     )?;
-    assert_answer(rt, alloc, input, 5, &text)
+    assert_answer(rt, alloc, "first", input, 5, &text)
 }
 
 #[test]
 fn models_are_answered(rt: HostRuntime) -> Result<(), Fail> {
     let alloc = rt.alloc();
     for (from, to, status, text) in [
-        (
-            "",
-            "",
-            0,
-            "{\"cost\":18,\"dropped\":[],\"first_cost\":18,\"parts\":{\"arcs\":18,\"fixed\":0,\"global\":0,\"penalty\":0,\"soft\":0,\"span\":0},\"routes\":[{\"dimensions\":[],\"nodes\":[0,1,2,0],\"vehicle\":0}],\"solutions\":1,\"status\":\"ROUTING_SUCCESS\",\"stop\":\"first\",\"tries\":0}\n",
-        ),
-        (
-            "\"end\":0",
-            "\"end\":0,\"fixed\":7",
-            0,
-            "{\"cost\":25,\"dropped\":[],\"first_cost\":25,\"parts\":{\"arcs\":18,\"fixed\":7,\"global\":0,\"penalty\":0,\"soft\":0,\"span\":0},\"routes\":[{\"dimensions\":[],\"nodes\":[0,1,2,0],\"vehicle\":0}],\"solutions\":1,\"status\":\"ROUTING_SUCCESS\",\"stop\":\"first\",\"tries\":0}\n",
-        ),
-        (
-            THREE_NODES,
-            "{\"format\":1,\"nodes\":1,\"matrices\":[[[0]]],\"vehicles\":[{\"start\":0,\"end\":0}]}",
-            0,
-            "{\"cost\":0,\"dropped\":[],\"first_cost\":0,\"parts\":{\"arcs\":0,\"fixed\":0,\"global\":0,\"penalty\":0,\"soft\":0,\"span\":0},\"routes\":[{\"dimensions\":[],\"nodes\":[],\"vehicle\":0}],\"solutions\":1,\"status\":\"ROUTING_SUCCESS\",\"stop\":\"first\",\"tries\":0}\n",
-        ),
+        ("", "", 0, FIRST),
+        ("\"end\":0", "\"end\":0,\"fixed\":7", 0, FIRST_OF_FIXED),
+        (THREE_NODES, ONE_NODE, 0, FIRST_OF_ONE),
         (
             "\"format\":1",
-            "\"format\":1,\"dimensions\":[{\"name\":\"t\",\"evaluators\":[{\"matrix\":0}],\"slack_max\":0,\"capacity\":3}]",
+            "\"format\":1,\"dimensions\":[{\"name\":\"t\",\"evaluators\":[{\"matrix\":0}],\
+                \"slack_max\":0,\"capacity\":3}]",
             6,
             "{\"status\":\"ROUTING_FAIL\"}\n",
         ),
     ] {
         let input = THREE_NODES.replace(alloc, from, to)?;
-        assert_answer(&rt, alloc, &input, status, text)?;
+        assert_answer(&rt, alloc, "first", &input, status, text)?;
     }
     Ok(())
 }
@@ -112,13 +120,15 @@ fn faults_are_refused(rt: HostRuntime) -> Result<(), Fail> {
         ),
         (
             "\"format\":1",
-            "\"format\":1,\"dimensions\":[{\"name\":\"t\",\"evaluators\":[{}],\"slack_max\":0,\"capacity\":9223372036854775808}]",
+            "\"format\":1,\"dimensions\":[{\"name\":\"t\",\"evaluators\":[{}],\"slack_max\":0,\
+                \"capacity\":9223372036854775808}]",
             12,
             "/dimensions/0/capacity",
         ),
         (
             VEHICLES,
-            "[{\"start\":0,\"end\":0,\"fixed\":0},{\"start\":0,\"end\":0,\"fixed\":5}],\"search\":{\"first\":\"SAVINGS\"}",
+            "[{\"start\":0,\"end\":0,\"fixed\":0},{\"start\":0,\"end\":0,\"fixed\":5}],\
+                \"search\":{\"first\":\"SAVINGS\"}",
             23,
             "/search/first",
         ),
@@ -133,7 +143,7 @@ fn faults_are_refused(rt: HostRuntime) -> Result<(), Fail> {
 fn what_is_no_json_is_told(rt: HostRuntime) -> Result<(), Fail> {
     let alloc = rt.alloc();
     for input in ["", " ", "{", "[1e999]"] {
-        assert_answer(&rt, alloc, input, 4, "{\"status\":\"NOT_JSON\"}\n")?;
+        assert_answer(&rt, alloc, "first", input, 4, "{\"status\":\"NOT_JSON\"}\n")?;
     }
     Ok(())
 }
@@ -149,7 +159,10 @@ fn the_limit_is_kept(rt: HostRuntime) -> Result<(), Fail> {
         let words = words_of(alloc, "first")?;
         let mut source = PureSource::new(Vec::from_elem(alloc, b' ', bytes)?);
         let mut sink = PureSink::new(Vec::from_slice(alloc, &[0; 100])?);
-        assert_eq!(rt; run(alloc, &words, &mut source, &mut sink), status);
+        assert_eq!(rt;
+            run(alloc, &words, &mut source, &mut sink, Vec::new(alloc)),
+            status
+        );
         assert!(rt; sink.bytes() == text.as_bytes());
     }
     Ok(())
@@ -173,7 +186,10 @@ fn failures_are_told(rt: HostRuntime) -> Result<(), Fail> {
         let mut source = MemSource::new(bytes, 10, fails);
         let fails = Vec::from_slice(alloc, &[sink_fails])?;
         let mut sink = MemSink::new(alloc, 7, fails).expect(&rt, "memory");
-        assert_eq!(rt; run(alloc, &words, &mut source, &mut sink), status);
+        assert_eq!(rt;
+            run(alloc, &words, &mut source, &mut sink, Vec::new(alloc)),
+            status
+        );
         assert!(rt; sink.bytes() == text.as_bytes());
     }
     Ok(())
@@ -185,7 +201,7 @@ fn no_words_are_a_usage_fault(rt: HostRuntime) -> Result<(), Fail> {
     let alloc = rt.alloc();
     let mut source = PureSource::new(Vec::from_slice(alloc, b"left")?);
     let mut sink = PureSink::new(Vec::from_slice(alloc, &[0; 100])?);
-    assert_eq!(rt; run(alloc, &[], &mut source, &mut sink), 1);
+    assert_eq!(rt; run(alloc, &[], &mut source, &mut sink, Vec::new(alloc)), 1);
     assert!(rt; sink.bytes() == b"{\"status\":\"USAGE\"}\n".as_slice());
     let mut buf = [0; 9];
     assert_eq!(rt; source.read(&mut buf), Ok(4));

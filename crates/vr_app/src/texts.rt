@@ -6,7 +6,7 @@ ghost use Rattle.vr_app.specs.Texts as texts;
 
 use serde_json::{Value, json};
 use std::alloc::Global;
-use vr_json::Fault;
+use vr_json::{Fault, Tree};
 use vr_model::NoMemory;
 
 /// The tree of a status alone.
@@ -24,4 +24,34 @@ pub(crate) fn refused_tree(alloc: Global, fault: &Fault) -> Result<Value, NoMemo
 {
     let path = fault.path.as_str();
     Ok(json!(in alloc; {"code": fault.code as u64, "path": path, "status": "ROUTING_INVALID"})?)
+}
+
+/// What the search of the model of a number gave, in short.
+#[derive(Clone, Copy)]
+pub(crate) struct Summary {
+    pub number: u64,
+    pub cost: i64,
+    pub first_cost: i64,
+    /// How many visits are dropped.
+    pub dropped: u64,
+    /// How many vehicles are used.
+    pub used: u64,
+    pub tries: u64,
+}
+
+/// The tree of a summary.
+#[tactic(auto, unfolding(crate::specs::Texts::summary_tree))]
+pub(crate) fn summary_tree(alloc: Global, summary: &Summary) -> Result<Value, NoMemory>
+    ensures { IfOk result (λ v. view v ≡ texts.summary_tree summary.now) }
+{
+    let word = Value::String(String::from_str(alloc, "DEMO")?);
+    let mut tree = Tree::new(alloc);
+    tree.put("cost", Value::from(summary.cost))?;
+    tree.put("dropped", Value::from(summary.dropped))?;
+    tree.put("first_cost", Value::from(summary.first_cost))?;
+    tree.put("number", Value::from(summary.number))?;
+    tree.put("status", word)?;
+    tree.put("tries", Value::from(summary.tries))?;
+    tree.put("used", Value::from(summary.used))?;
+    Ok(tree.finish())
 }

@@ -1,41 +1,82 @@
-use Rattle.std.proofs.Common.{◌∙◌, sym, subst, ℕ, List}
+use Rattle.std.proofs.Common.{◌∙◌, [], ap, inr, sym, subst, ℕ, List}
 use Rattle.vr_io.specs.Edges.{Took}
-use Rattle.vr_app.specs.Causes.{IsSolvedBy}
+use Rattle.vr_io.specs.Whole.{TookFront}
+use Rattle.vr_app.specs.Causes.{IsAnsweredBy}
+use Rattle.vr_app.specs.Reply.{reply_in}
+use Rattle.vr_app.specs.Reports.{joined}
 use Rattle.vr_app.specs.Runs.{bytes_of}
+use Rattle.vr_app.specs.Words.{is_read}
 use Rattle.vr_app.proofs.CauseLemmas.{Tells, reply-tells, reply-refused}
-use Rattle.vr_app.proofs.ReplyLemmas.{reply-solved}
+use Rattle.vr_app.proofs.GeneratedLemmas.{or-else, unread-done}
+use Rattle.vr_app.proofs.ReplyLemmas.{reply-answered}
 use Rattle.vr_app.proofs.reply.run.Goals as goal
 
 pub returns-in-Ok-write_all-clause-too_long : goal.returns-in-Ok-write_all-clause-too_long
-returns-in-Ok-write_all-clause-too_long g c = λ settled accepted bytes told.
-    (subst (Tells bytes) (sym (c.number.ensures.number ∙ (c.in-Ok.ensures.reply bytes told).status_is)) (reply-tells (bytes_of c.args.words.now) bytes accepted)).too_long
+returns-in-Ok-write_all-clause-too_long g c = λ settled reads bytes told.
+    let reports = joined (λ w. (goal.Watch-dyn g (w.vtable, w.value)).after w.value) c.args.watch.items in
+    (subst (Tells bytes) (sym (c.number.ensures.number ∙ (c.in-Ok.ensures.reply bytes told).status_is)) (reply-tells reports (bytes_of c.args.words.now) bytes reads)).too_long
 
 pub returns-in-Ok-write_all-clause-not_json : goal.returns-in-Ok-write_all-clause-not_json
-returns-in-Ok-write_all-clause-not_json g c = λ settled accepted bytes told.
-    (subst (Tells bytes) (sym (c.number.ensures.number ∙ (c.in-Ok.ensures.reply bytes told).status_is)) (reply-tells (bytes_of c.args.words.now) bytes accepted)).not_json
+returns-in-Ok-write_all-clause-not_json g c = λ settled reads bytes told.
+    let reports = joined (λ w. (goal.Watch-dyn g (w.vtable, w.value)).after w.value) c.args.watch.items in
+    (subst (Tells bytes) (sym (c.number.ensures.number ∙ (c.in-Ok.ensures.reply bytes told).status_is)) (reply-tells reports (bytes_of c.args.words.now) bytes reads)).not_json
 
 pub returns-in-Ok-write_all-clause-refused : goal.returns-in-Ok-write_all-clause-refused
-returns-in-Ok-write_all-clause-refused g c = λ settled accepted bytes told.
-    (subst (Tells bytes) (sym (c.number.ensures.number ∙ (c.in-Ok.ensures.reply bytes told).status_is)) (reply-tells (bytes_of c.args.words.now) bytes accepted)).refused
+returns-in-Ok-write_all-clause-refused g c = λ settled reads bytes told.
+    let reports = joined (λ w. (goal.Watch-dyn g (w.vtable, w.value)).after w.value) c.args.watch.items in
+    (subst (Tells bytes) (sym (c.number.ensures.number ∙ (c.in-Ok.ensures.reply bytes told).status_is)) (reply-tells reports (bytes_of c.args.words.now) bytes reads)).refused
 
 pub returns-in-Ok-write_all-clause-done : goal.returns-in-Ok-write_all-clause-done
-returns-in-Ok-write_all-clause-done g c = λ settled accepted bytes told.
-    (subst (Tells bytes) (sym (c.number.ensures.number ∙ (c.in-Ok.ensures.reply bytes told).status_is)) (reply-tells (bytes_of c.args.words.now) bytes accepted)).done
+returns-in-Ok-write_all-clause-done g c = λ settled reads bytes told.
+    let reports = joined (λ w. (goal.Watch-dyn g (w.vtable, w.value)).after w.value) c.args.watch.items in
+    (subst (Tells bytes) (sym (c.number.ensures.number ∙ (c.in-Ok.ensures.reply bytes told).status_is)) (reply-tells reports (bytes_of c.args.words.now) bytes reads)).done
 
 pub returns-in-Ok-write_all-clause-none_found : goal.returns-in-Ok-write_all-clause-none_found
-returns-in-Ok-write_all-clause-none_found g c = λ settled accepted bytes told.
-    (subst (Tells bytes) (sym (c.number.ensures.number ∙ (c.in-Ok.ensures.reply bytes told).status_is)) (reply-tells (bytes_of c.args.words.now) bytes accepted)).none_found
+returns-in-Ok-write_all-clause-none_found g c = λ settled reads bytes told.
+    let reports = joined (λ w. (goal.Watch-dyn g (w.vtable, w.value)).after w.value) c.args.watch.items in
+    (subst (Tells bytes) (sym (c.number.ensures.number ∙ (c.in-Ok.ensures.reply bytes told).status_is)) (reply-tells reports (bytes_of c.args.words.now) bytes reads)).none_found
+
+pub returns-in-Ok-write_all-clause-usage : goal.returns-in-Ok-write_all-clause-usage
+returns-in-Ok-write_all-clause-usage g c = λ settled none.
+    let reports = joined (λ w. (goal.Watch-dyn g (w.vtable, w.value)).after w.value) c.args.watch.items in
+    c.number.ensures.number ∙ (c.in-Ok.ensures.unread (ap is_read none) []).status_is ∙ ap (λ o. (reply_in reports o []).status) none
 
 pub returns-in-Ok-write_all-clause-solution : goal.returns-in-Ok-write_all-clause-solution
-returns-in-Ok-write_all-clause-solution g c = λ e bytes told.
+returns-in-Ok-write_all-clause-solution g c = λ e asked is bytes told.
+    let reports = joined (λ w. (goal.Watch-dyn g (w.vtable, w.value)).after w.value) c.args.watch.items in
     let answers = c.in-Ok.ensures.reply bytes told in
     let text = c.as_slice.ensures ∙ answers.text_is in
-    let solved = reply-solved (bytes_of c.args.words.now) bytes (sym (c.number.ensures.number ∙ answers.status_is) ∙ e) in
-    (c.as_slice.result.now, subst (IsSolvedBy bytes) (sym text) solved, c.in-Ok-write_all.ensures.ok)
+    let answered = reply-answered asked reports bytes (bytes_of c.args.words.now) is (sym (c.number.ensures.number ∙ answers.status_is) ∙ e) in
+    (c.as_slice.result.now, subst (IsAnsweredBy asked reports bytes) (sym text) answered, c.in-Ok-write_all.ensures.ok)
 
 pub returns-in-Ok-write_all-clause-refusal : goal.returns-in-Ok-write_all-clause-refusal
-returns-in-Ok-write_all-clause-refusal g c = λ e bytes told fault refused.
+returns-in-Ok-write_all-clause-refusal g c = λ e reads bytes told fault refused.
+    let reports = joined (λ w. (goal.Watch-dyn g (w.vtable, w.value)).after w.value) c.args.watch.items in
     let answers = c.in-Ok.ensures.reply bytes told in
-    let text = c.as_slice.ensures ∙ answers.text_is ∙ reply-refused (bytes_of c.args.words.now) bytes fault (sym (c.number.ensures.number ∙ answers.status_is) ∙ e) refused in
+    let text = c.as_slice.ensures ∙ answers.text_is ∙ reply-refused reports (bytes_of c.args.words.now) bytes fault reads refused in
     let P : List ℕ → Type 0 = Took (g.K.Sink.written c.args.sink.now) (g.K.Sink.written c.write_all.new.sink) in
     subst P text c.in-Ok-write_all.ensures.ok
+
+pub returns-in-Ok-write_all-clause-numbered : goal.returns-in-Ok-write_all-clause-numbered
+returns-in-Ok-write_all-clause-numbered g c = λ settled unread.
+    let reports = joined (λ w. (goal.Watch-dyn g (w.vtable, w.value)).after w.value) c.args.watch.items in
+    let status = c.number.ensures.number ∙ (c.in-Ok.ensures.unread unread []).status_is in
+    or-else (λ e. status ∙ e) (unread-done reports (bytes_of c.args.words.now) [] unread)
+
+pub returns-in-Ok-write_all-clause-unread : goal.returns-in-Ok-write_all-clause-unread
+returns-in-Ok-write_all-clause-unread g c = λ settled unread bytes.
+    let answers = c.in-Ok.ensures.unread unread bytes in
+    let P : List ℕ → Type 0 = Took (g.K.Sink.written c.args.sink.now) (g.K.Sink.written c.write_all.new.sink) in
+    record { status = c.number.ensures.number ∙ answers.status_is; written = subst P (c.as_slice.ensures ∙ answers.text_is) c.in-Ok-write_all.ensures.ok }
+
+pub returns-in-Ok-write_all-clause-complete_unread : goal.returns-in-Ok-write_all-clause-complete_unread
+returns-in-Ok-write_all-clause-complete_unread g c = λ unread faultless bytes.
+    let answers = c.in-Ok.ensures.unread unread bytes in
+    let P : List ℕ → Type 0 = Took (g.K.Sink.written c.args.sink.now) (g.K.Sink.written c.write_all.new.sink) in
+    inr (record { status = c.number.ensures.number ∙ answers.status_is; written = subst P (c.as_slice.ensures ∙ answers.text_is) c.in-Ok-write_all.ensures.ok })
+
+pub returns-in-Ok-clause-unread_front : goal.returns-in-Ok-clause-unread_front
+returns-in-Ok-clause-unread_front g c = λ e unread bytes.
+    let answers = c.in-Ok.ensures.unread unread bytes in
+    let P : List ℕ → Type 0 = TookFront (g.K.Sink.written c.args.sink.now) (g.K.Sink.written c.write_all.new.sink) in
+    subst P (c.as_slice.ensures ∙ answers.text_is) c.in-Err.ensures.err

@@ -1,0 +1,47 @@
+//! The reports of watchers behind a line.
+
+ghost use Rattle.std.specs.Prelude.{◌≡◌, ◌++◌, [], IfOk, OnOk};
+ghost use Rattle.vr_app.specs.Reply as replies;
+ghost use Rattle.vr_app.specs.Reports.{joined};
+
+use crate::search::Watchers;
+use crate::words::Mode;
+use vr_model::{NoMemory, Seq};
+use vr_watch::Watch;
+
+type Watcher = Box<dyn Watch>;
+
+// Puts what a watcher reports behind a text.
+fn push_report(text: &mut Seq<u8>, watcher: &Watcher) -> Result<(), NoMemory>
+    ensures { OnOk result (text.new ≡ text.old ++ after watcher.now []) }
+{
+    let report = watcher.report()?;
+    text.extend_from_slice(report.as_slice())?;
+    Ok(())
+}
+
+// Puts what each watcher reports behind a text, in order.
+fn push_reports(text: &mut Seq<u8>, watch: &Watchers) -> Result<(), NoMemory>
+    ensures { OnOk result (text.new ≡ text.old ++ joined (λ w later. after w later) watch.now.items []) }
+{
+    for watcher in watch {
+        push_report(text, watcher)?;
+    }
+    Ok(())
+}
+
+/// The line, and behind it what each watcher reports, in order, where this is asked for.
+pub(crate) fn with_reports(mode: Mode, line: Seq<u8>, watch: &Watchers) -> Result<Seq<u8>, NoMemory>
+    ensures { let reports = joined (λ w later. after w later) watch.now.items [] in
+        IfOk result (λ text. text ≡ replies.with_reports mode line reports) }
+{
+    match mode {
+        Mode::First => Ok(line),
+        Mode::Solve => Ok(line),
+        Mode::Log => {
+            let mut text = line;
+            push_reports(&mut text, watch)?;
+            Ok(text)
+        }
+    }
+}

@@ -1,0 +1,60 @@
+//! Answers that need no input.
+
+use crate::numbered::summary_of_tree;
+use crate::run;
+use crate::tests::{assert_answer, words_of};
+use serde_json::Value;
+use std::alloc::Global;
+use std::test::Fail;
+use vr_io::{PureSink, PureSource};
+
+const DROPPED: &str = "{\"format\":1,\"nodes\":3,\"matrices\":[[[0,5,9],[5,0,4],[9,4,0]]],\
+    \"vehicles\":[{\"start\":0,\"end\":0}],\
+    \"groups\":[{\"nodes\":[2],\"penalty\":3}]}";
+
+const SUMMARY: &str =
+    "{\"cost\":13,\"dropped\":1,\"first_cost\":18,\"number\":7,\"status\":\"DEMO\",\
+    \"tries\":10,\"used\":1}\n";
+
+const USAGE: &str = "{\"status\":\"USAGE\"}\n";
+
+// What `generate` writes.
+fn generated(alloc: Global, line: &str) -> Result<PureSink, Fail> {
+    let words = words_of(alloc, line)?;
+    let mut source = PureSource::new(Vec::new(alloc));
+    let mut sink = PureSink::new(Vec::from_elem(alloc, 0, 100000)?);
+    let _status = run(alloc, &words, &mut source, &mut sink, Vec::new(alloc));
+    Ok(sink)
+}
+
+#[test]
+fn numbers_are_written_one_way(rt: HostRuntime) -> Result<(), Fail> {
+    let alloc = rt.alloc();
+    assert_answer(&rt, alloc, "generate 007", "", 1, USAGE)?;
+    assert_answer(&rt, alloc, "generate +7", "", 1, USAGE)?;
+    assert_answer(&rt, alloc, "generate -7", "", 1, USAGE)?;
+    assert_answer(&rt, alloc, "generate ", "", 1, USAGE)?;
+    assert_answer(&rt, alloc, "demo 7.0", "", 1, USAGE)?;
+    assert_answer(&rt, alloc, "demo 18446744073709551616", "", 1, USAGE)?;
+    assert_answer(&rt, alloc, "solve 7", "", 1, USAGE)?;
+    assert_answer(&rt, alloc, "solve --log --log", "", 1, USAGE)
+}
+
+#[test]
+fn generated_models_are_the_same_each_time(rt: HostRuntime) -> Result<(), Fail> {
+    let alloc = rt.alloc();
+    let first = generated(alloc, "generate 18446744073709551615")?;
+    let second = generated(alloc, "generate 18446744073709551615")?;
+    assert!(rt; first.bytes().len() > 10000);
+    assert!(rt; first.bytes() == second.bytes());
+    Ok(())
+}
+
+#[test]
+fn a_search_is_summarised(rt: HostRuntime) -> Result<(), Fail> {
+    let alloc = rt.alloc();
+    let tree = Value::from_str(alloc, DROPPED).map_err(|_| "a value")?;
+    let answer = summary_of_tree(alloc, 7, tree)?;
+    assert!(rt; answer.text.as_slice() == SUMMARY.as_bytes());
+    Ok(())
+}
