@@ -7,5 +7,4 @@ pub mod laws;
 mod tests;
 mod trees;
 
-pub use draws::{Customer, Site};
 pub use trees::generate;
