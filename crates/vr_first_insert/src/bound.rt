@@ -53,3 +53,21 @@ pub(crate) fn least_behind(
     let apart = visit_increase(model, v, list, pickup, s) + least;
     together.min(apart)
 }
+
+/// The least that a pair adds to the list of vehicle `v`.
+pub(crate) fn least_pair(model: &Model, v: u32, list: &[u32], pickup: u32, delivery: u32) -> i64
+    requires well_formed { IsWellFormed model.now }
+    requires vehicle { v < length model.now.vehicles }
+    requires nodes { All (λ node. node < model.now.nodes) list.now }
+    requires pickup { pickup < model.now.nodes }
+    requires delivery { delivery < model.now.nodes }
+    ensures { (s t : ℕ) → s ≤ length list.now → t ≤ length list.now
+        → result ≤ℤ pair_increase_of model.now v list.now pickup delivery s t }
+{
+    let alone = least_visit(model, v, list, delivery);
+    let mut least = least_behind(model, v, list, pickup, delivery, 0, alone);
+    for s in 1..list.len() + 1 {
+        least = least.min(least_behind(model, v, list, pickup, delivery, s, alone));
+    }
+    least
+}

@@ -10,6 +10,7 @@ ghost use Rattle.vr_model.specs.routes.Routes.{route};
 ghost use Rattle.vr_model.specs.tables.WellFormed.{IsWellFormed};
 ghost use Rattle.vr_rules.specs.Placing.{nodes_of, AreBuilt, AreCandidates, AreMarks};
 ghost use Rattle.vr_rules.specs.declared.items.Item.TheVariants.{Visit, PickupAndDelivery};
+ghost use Rattle.vr_first_insert.specs.Kept.{AreKnown, AreRows};
 ghost use Rattle.vr_first_insert.specs.Placings.{best_beside, best_in, best_in_lists as best_in_lists_of};
 ghost use Rattle.vr_first_insert.specs.Placings.{counts as counts_of, insertion_of, item_in, pair_choice};
 ghost use Rattle.vr_first_insert.specs.Placings.{visit_choice, weigh, AreWithin, IsLeast, MayBeInserted, MayHold};
@@ -17,6 +18,7 @@ ghost use Rattle.vr_first_insert.specs.Placings.{visit_choice, weigh, AreWithin,
 use crate::bound::{least_behind, least_visit};
 use crate::choice::{Choice, Placing, improves, may_improve};
 use crate::increase::{pair_increase, visit_increase};
+use crate::known::{Known, asked, better_of, forget};
 use crate::place::{place_in, placed};
 use std::alloc::Global;
 use vr_model::{Model, NoMemory, Seq};
@@ -148,8 +150,8 @@ fn best_pair(
     Ok(best)
 }
 
-// The best beside an item in the list of vehicle `v`.
-fn best_in_list(
+/// The best beside an item in the list of vehicle `v`.
+pub(crate) fn best_in_list(
     alloc: Global,
     model: &Model,
     v: u32,
@@ -172,22 +174,29 @@ fn best_in_list(
     Ok(best)
 }
 
-// The best beside an item in each list.
+// The best beside an item in each list, where `row` has what is known of the item in each.
 fn best_in_lists(
     alloc: Global,
     model: &Model,
     lists: &[Seq<u32>],
     candidate: Candidate,
+    row: &mut Seq<Known>,
     best: Option<Choice>,
 ) -> Result<Option<Choice>, NoMemory>
     requires well_formed { IsWellFormed model.now }
     requires vehicles { length lists.now ≡ length model.now.vehicles }
     requires may_hold { (v : ℕ) → v < length lists.now → MayHold model.now (route lists.now v) candidate.item }
-    ensures { IfOk result (λ chosen. chosen ≡ best_in_lists_of model.now lists.now candidate (length lists.now) best) }
+    requires row { AreKnown model.now lists.now candidate row.old }
+    ensures best { IfOk result (λ chosen. chosen
+        ≡ best_in_lists_of model.now lists.now candidate (length lists.now) best) }
+    ensures row { OnOk result (AreKnown model.now lists.now candidate row.new) }
 {
     let mut best = best;
     for v in 0..lists.len() {
-        best = best_in_list(alloc, model, v as u32, lists[v].as_slice(), candidate, best)?;
+        let list = lists[v].as_slice();
+        let known = asked(alloc, model, v as u32, list, candidate, *row.get(v), best)?;
+        row.set(v, known);
+        best = better_of(best, known);
     }
     Ok(best)
 }
@@ -213,6 +222,7 @@ fn beside(
     lists: &[Seq<u32>],
     marks: &[bool],
     candidate: Candidate,
+    row: &mut Seq<Known>,
     best: Option<Choice>,
 ) -> Result<Option<Choice>, NoMemory>
     requires well_formed { IsWellFormed model.now }
@@ -221,12 +231,14 @@ fn beside(
     requires first { first_node (nodes_of candidate.item) < model.now.nodes }
     requires may_hold { counts_of model.now marks.now candidate ≡ true → (v : ℕ) → v < length lists.now
         → MayHold model.now (route lists.now v) candidate.item }
-    ensures { IfOk result (λ chosen. chosen ≡ best_beside model.now lists.now marks.now candidate best) }
+    requires row { AreKnown model.now lists.now candidate row.old }
+    ensures best { IfOk result (λ chosen. chosen ≡ best_beside model.now lists.now marks.now candidate best) }
+    ensures row { OnOk result (AreKnown model.now lists.now candidate row.new) }
 {
     if !counts(model, marks, candidate) {
         return Ok(best);
     }
-    let best = best_in_lists(alloc, model, lists, candidate, best)?;
+    let best = best_in_lists(alloc, model, lists, candidate, row, best)?;
     Ok(best)
 }
 
@@ -237,17 +249,21 @@ fn next_insertion(
     candidates: &[Candidate],
     marks: &[bool],
     lists: &[Seq<u32>],
+    rows: &mut [Seq<Known>],
 ) -> Result<Option<Choice>, NoMemory>
     requires well_formed { IsWellFormed model.now }
     requires candidates { AreCandidates model.now candidates.now }
     requires built { AreBuilt model.now lists.now }
     requires marks { AreMarks model.now.nodes lists.now marks.now }
+    requires rows { AreRows model.now lists.now candidates.now rows.old }
     ensures next { IfOk result (λ next. option_map insertion_of next ≡ next_inserted model.now lists.now) }
     ensures may { IfOk result (λ next. IfSome next (MayBeInserted model.now lists.now)) }
+    ensures rows { OnOk result (AreRows model.now lists.now candidates.now rows.new) }
 {
     let mut best: Option<Choice> = None;
-    for &candidate in candidates {
-        best = beside(alloc, model, lists, marks, candidate, best)?;
+    for i in 0..candidates.len() {
+        let candidate = candidates[i];
+        best = beside(alloc, model, lists, marks, candidate, &mut rows[i], best)?;
     }
     Ok(best)
 }
@@ -262,20 +278,23 @@ pub(crate) fn insert_all(
     candidates: &[Candidate],
     lists: &mut [Seq<u32>],
     marks: &mut [bool],
+    rows: &mut [Seq<Known>],
 ) -> Result<(), NoMemory>
     requires well_formed { IsWellFormed model.now }
     requires candidates { AreCandidates model.now candidates.now }
     requires built { AreBuilt model.now lists.now }
     requires marks { AreMarks model.now.nodes lists.now marks.now }
+    requires rows { AreRows model.now lists.now candidates.now rows.old }
     ensures rebuilt { OnOk result (lists.new ≡ rebuilt model.now (length (items model.now)) lists.old) }
     ensures built { OnOk result (AreBuilt model.now lists.new) }
     ensures marked { OnOk result (AreMarks model.now.nodes lists.new marks.new) }
 {
     for _step in 0..candidates.len() {
-        match next_insertion(alloc, model, candidates, marks, lists)? {
+        match next_insertion(alloc, model, candidates, marks, lists, rows)? {
             Some(choice) => {
                 place_in(alloc, lists, choice.vehicle, choice.placing)?;
                 mark_item(marks, choice.placing.item());
+                forget(rows, choice.vehicle);
             }
             None => return Ok(()),
         }

@@ -9,6 +9,7 @@ ghost use Rattle.vr_model.specs.tables.Tables.{visits};
 ghost use Rattle.vr_model.specs.tables.WellFormed.{IsWellFormed};
 ghost use Rattle.vr_rules.specs.Placing.{lists_in, AreBuilt};
 
+use crate::known::rows_of;
 use crate::search::insert_all;
 use std::alloc::Global;
 use vr_model::{Model, NoMemory, Seq};
@@ -38,7 +39,8 @@ fn rebuilt_lists(alloc: Global, model: &Model, routes: &Routes) -> Result<Vec<Se
     let candidates = candidates(alloc, model)?;
     let mut marks = active_marks(alloc, model, routes)?;
     let mut built = copies(alloc, routes)?;
-    insert_all(alloc, model, &candidates, &mut built, &mut marks)?;
+    let mut rows = rows_of(alloc, candidates.len(), model.vehicles.len())?;
+    insert_all(alloc, model, &candidates, &mut built, &mut marks, &mut rows)?;
     Ok(built)
 }
 
@@ -46,7 +48,7 @@ fn rebuilt_lists(alloc: Global, model: &Model, routes: &Routes) -> Result<Vec<Se
 /// be inserted into some list so that the lists stay open, the insertion of the least class is made, of those the one
 /// that adds least to the arc costs, and of those the first by item, vehicle and places.
 ///
-/// `NoMemory` comes only where memory is refused.
+/// `NoMemory` where there was no memory.
 pub fn rebuild(alloc: Global, model: &Model, routes: &Routes) -> Result<Routes, NoMemory>
     requires well_formed { IsWellFormed model.now }
     requires lists { IsTrue (are_lists model.now routes.now.lists) }
@@ -65,7 +67,7 @@ pub fn rebuild(alloc: Global, model: &Model, routes: &Routes) -> Result<Routes, 
 /// The first solution of a model by parallel cheapest insertion (`PARALLEL_CHEAPEST_INSERTION` in OR-Tools): empty
 /// routes, rebuilt.
 ///
-/// `None` exactly where the lists at which this ends are not valid. `NoMemory` comes only where memory is refused.
+/// `None` exactly where the lists at which this ends are not valid. `NoMemory` where there was no memory.
 pub fn first(alloc: Global, model: &Model) -> Result<Option<Routes>, NoMemory>
     requires well_formed { IsWellFormed model.now }
     ensures first { IfOk result (λ first. lists_in first

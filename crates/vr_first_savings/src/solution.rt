@@ -28,10 +28,10 @@ fn lists_by_savings(alloc: Global, model: &Model) -> Result<Vec<Seq<u32>>, NoMem
 }
 
 /// The first solution of a model by savings (`SAVINGS` in OR-Tools, after Clarke and Wright): each item begins as a
-/// route of its own, and routes are joined where that saves most. The model asks for this construction, so its
-/// vehicles are alike.
+/// route of its own, and routes are joined where that saves most. Routes are built as if vehicle 0 drove each. A model
+/// that names this construction has vehicles that are alike; of another model it gives what it can.
 ///
-/// `None` exactly where the lists at which this ends are not valid. `NoMemory` comes only where memory is refused.
+/// `None` exactly where the lists at which this ends are not valid. `NoMemory` where there was no memory.
 pub fn first(alloc: Global, model: &Model) -> Result<Option<Routes>, NoMemory>
     requires well_formed { IsWellFormed model.now }
     ensures first { IfOk result (λ first. lists_in first

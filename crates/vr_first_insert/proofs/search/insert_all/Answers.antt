@@ -12,6 +12,8 @@ use Rattle.vr_first_insert.specs.declared.choice.Choice.{Choice}
 use Rattle.vr_first_insert.specs.Placings.{insertion_of, item_in, placed, MayBeInserted}
 use Rattle.vr_first_insert.proofs.PlacedLemmas.{IsAdded-placed}
 use Rattle.vr_first_insert.proofs.BestLemmas.{rebuilt-stops, rebuilt-next, candidates-count, inserted-choice}
+use Rattle.vr_first_insert.specs.Kept.{AreRows}
+use Rattle.vr_first_insert.proofs.KeptLemmas.{rows-forgotten}
 use Rattle.vr_first_insert.proofs.search.insert_all.Goals as goal
 
 pub returns-in-None-clause-rebuilt : goal.returns-in-None-clause-rebuilt
@@ -48,4 +50,18 @@ loop-step-preserved c =
       marked = subst (λ lists. AreMarks model.nodes lists c.mark_item.new.marks) (sym is)
           (AreMarks-added model lists v list nodes c.loop-step.marks c.mark_item.new.marks c.loop-step.invariant.marked may.vehicle added.nodes_are c.mark_item.ensures.count
           (λ node d low. c.mark_item.ensures.each node d low ∙ ap (λ item. holds (nodes_of item) node || slice_index_or c.loop-step.marks node d) c.item.ensures));
+      rows = subst (λ lists. AreRows model lists c.args.candidates.now c.forget.new.rows) (sym is)
+          (rows-forgotten model lists c.args.candidates.now c.next_insertion.new.rows c.forget.new.rows v list may.vehicle c.in_ok-choice.ensures.rows c.forget.ensures.many c.forget.ensures.each);
+    }
+
+pub forget-requires : goal.forget-requires
+forget-requires c =
+    let may : MayBeInserted c.args.model.now c.loop-step.lists c.in-Some.choice = rw c.in-Some.is at c.in_ok-choice.ensures.may in
+    let there = may.vehicle in
+    record {
+      vehicle = λ i low.
+          let rows = c.in_ok-choice.ensures.rows in
+          let many = rows.many in
+          let row = (rows.each i (omega (arith, low, many))).many in
+          omega (arith, there, row);
     }

@@ -1,6 +1,7 @@
 use Rattle.std.proofs.Common.{◌≡◌, ◌-◌, length}
 use Rattle.vr_model.specs.first.CheapestInsertion.{rebuilt}
 use Rattle.vr_rules.specs.Placing.{AreBuilt, AreMarks}
+use Rattle.vr_first_insert.specs.Kept.{AreRows}
 use Rattle.vr_first_insert.proofs.search.insert_all.Given as goal
 
 -- what is rebuilt from here with the steps that are left is what is rebuilt from the start with all of them
@@ -9,4 +10,5 @@ invariant-loop-step l = record {
   rebuilds : rebuilt l.model (length l.candidates - l._step) l.lists ≡ rebuilt l.model (length l.candidates) l.initial.lists;
   built : AreBuilt l.model l.lists;
   marked : AreMarks l.model.nodes l.lists l.marks;
+  rows : AreRows l.model l.lists l.candidates l.rows;
 }

@@ -1,0 +1,115 @@
+-- What is known of items in lists.
+use Rattle.std.proofs.Common.{◌≡◌, ◌≢◌, ◌∙◌, ◌<◌, ◌≤◌, ◌+◌, ℕ, zero, suc, List, [], ◌∷◌, true, false, cond, Option, Some, None, ℤ, ◌≤ℤ◌, refl, ap, sym, subst, inl, inr, arith, length, length-set}
+use Rattle.std.specs.Prelude.{map, replicate, slice_index_or, slice_set}
+use Rattle.std.proofs.lemmas.Bool.Decides.{eqb_tells}
+use Rattle.std.proofs.lemmas.List.{get_or-set_same, get_or-set_other}
+use Rattle.vr_model.specs.tables.Numbers.{from_to}
+use Rattle.vr_model.specs.routes.Routes.{route}
+use Rattle.vr_model.specs.moves.Moves.{with_route, gaps}
+use Rattle.vr_model.specs.routes.Rules.{is_route_open}
+use Rattle.vr_model.specs.declared.records.Model.{Model}
+use Rattle.vr_model.proofs.routes.Lists.{route_set_other}
+use Rattle.vr_model.proofs.tables.Members.{In, from_each, from_map, of_below, of_from_to}
+use Rattle.vr_rules.specs.Placing.{improves}
+use Rattle.vr_rules.specs.declared.items.Item.{Item}
+use Rattle.vr_rules.specs.declared.items.Item.TheVariants.{Visit, PickupAndDelivery}
+use Rattle.vr_rules.specs.declared.items.Candidate.{Candidate}
+use Rattle.vr_first_insert.specs.declared.choice.Choice.{Choice}
+use Rattle.vr_first_insert.specs.declared.known.Known.{Known}
+use Rattle.vr_first_insert.specs.declared.known.Known.TheVariants.{Nothing, AtLeast, Best}
+use Rattle.vr_first_insert.specs.Kept.{best_of, row_at, unread, AddsAtLeast, AreKnown, AreRows, IsKnown}
+use Rattle.vr_first_insert.specs.Placings.{best_in, choices_in, key_of, may_improve, pair_choice, placed, visit_choice}
+use Rattle.vr_first_insert.proofs.BoundLemmas.{none-improves, passed-over}
+use Rattle.vr_first_insert.proofs.LeastMerged.{merged_best, weighed-merged}
+
+-- an item whose bound is not better than the best so far
+pub item-passed_over : (model : Model) (v : ℕ) (list : List ℕ) (candidate : Candidate) (best : Option Choice) (least : ℤ) → AddsAtLeast model v list candidate.item least
+    → may_improve best candidate.class least ≡ false → best ≡ best_in model v list candidate best
+item-passed_over model v list candidate best least = by candidate.item
+  where
+    not-better : may_improve best candidate.class least ≡ false → (next : Choice) → next.class ≡ candidate.class → least ≤ℤ next.increase → improves key_of best next ≡ false
+    not-better h next = none-improves best candidate.class least h next
+
+    by : (item : Item) → AddsAtLeast model v list item least → may_improve best candidate.class least ≡ false → best ≡ best_in model v list (record { item = item; class = candidate.class }) best
+    by (Visit node) adds h = passed-over model list best (choices_in model v list candidate.class (Visit node)) (λ choice there.
+        from_map (visit_choice model v list candidate.class node) (gaps list) choice there (λ t low is.
+        not-better h choice (ap (λ c. c.class) is) (subst (λ x. least ≤ℤ x) (sym (ap (λ c. c.increase) is)) (adds t (let l = of_below (suc (length list)) t low in omega (arith, l))))))
+    by (PickupAndDelivery pickup delivery) adds h = passed-over model list best (choices_in model v list candidate.class (PickupAndDelivery pickup delivery)) (λ choice there.
+        from_each (λ s. map (pair_choice model v list candidate.class pickup delivery s) (from_to s (suc (length list)))) (gaps list) choice there (λ s s_in inner.
+        from_map (pair_choice model v list candidate.class pickup delivery s) (from_to s (suc (length list))) choice inner (λ t t_in is.
+        let l = of_below (suc (length list)) s s_in in let b = of_from_to s (suc (length list)) t t_in in let high = b.1 in
+        not-better h choice (ap (λ c. c.class) is) (subst (λ x. least ≤ℤ x) (sym (ap (λ c. c.increase) is)) (adds s t (omega (arith, l)) (omega (arith, high)))))))
+
+best_of-merged : (found best : Option Choice) → best_of (Best found) best ≡ merged_best key_of best found
+best_of-merged None best = refl
+best_of-merged (Some next) best = refl
+
+-- the best in a list beside the best so far
+pub best-merged : (model : Model) (v : ℕ) (list : List ℕ) (candidate : Candidate) (found best : Option Choice) → found ≡ best_in model v list candidate None → best_of (Best found) best ≡ best_in model v list candidate best
+best-merged model v list candidate found best e =
+    best_of-merged found best ∙ ap (merged_best key_of best) e
+    ∙ sym (weighed-merged key_of (λ next. is_route_open model next.vehicle (placed list next.placing)) best (choices_in model v list candidate.class candidate.item))
+
+-- what is known of one list is written
+pub known-written : (model : Model) (lists : List (List ℕ)) (candidate : Candidate) (row : List Known) (v : ℕ) (known : Known) → AreKnown model lists candidate row → IsKnown model v (route lists v) candidate known
+    → AreKnown model lists candidate (slice_set row v known)
+known-written model lists candidate row v known are is = record {
+  many = length-set row v known ∙ are.many;
+  each = λ w low. elim (eqb_tells w v) [
+    | inl same ↦ subst (λ u. IsKnown model u (route lists u) candidate (slice_index_or (slice_set row v known) u Nothing)) (sym same.1)
+        (subst (IsKnown model v (route lists v) candidate) (sym (get_or-set_same row v known Nothing (let m = are.many in let e = same.1 in omega (arith, low, m, e)))) is)
+    | inr other ↦ subst (IsKnown model w (route lists w) candidate) (sym (get_or-set_other row v w known Nothing other.1)) (are.each w low)
+  ];
+}
+
+-- a list has changed, and nothing is known of it
+pub known-forgotten : (model : Model) (lists : List (List ℕ)) (candidate : Candidate) (row : List Known) (v : ℕ) (list : List ℕ) → v < length lists → AreKnown model lists candidate row
+    → AreKnown model (with_route lists v list) candidate (slice_set row v Nothing)
+known-forgotten model lists candidate row v list there are = record {
+  many = length-set row v Nothing ∙ are.many ∙ sym (length-set lists v list);
+  each = λ w low. elim (eqb_tells w v) [
+    | inl same ↦ subst (λ u. IsKnown model u (route (with_route lists v list) u) candidate (slice_index_or (slice_set row v Nothing) u Nothing)) (sym same.1)
+        (subst (IsKnown model v (route (with_route lists v list) v) candidate) (sym (get_or-set_same row v Nothing Nothing (let m = are.many in omega (arith, there, m)))) tt)
+    | inr other ↦ subst (λ l. IsKnown model w l candidate (slice_index_or (slice_set row v Nothing) w Nothing)) (sym (route_set_other lists v w list other.1))
+        (subst (IsKnown model w (route lists w) candidate) (sym (get_or-set_other row v w Nothing Nothing other.1)) (are.each w (let m = length-set lists v list in omega (arith, low, m))))
+  ];
+}
+
+pub rows-forgotten : (model : Model) (lists : List (List ℕ)) (candidates : List Candidate) (rows after : List (List Known)) (v : ℕ) (list : List ℕ) → v < length lists → AreRows model lists candidates rows
+    → length after ≡ length rows → ((i : ℕ) → i < length rows → row_at after i ≡ slice_set (row_at rows i) v Nothing) → AreRows model (with_route lists v list) candidates after
+rows-forgotten model lists candidates rows after v list there are many each = record {
+  many = many ∙ are.many;
+  each = λ i low. subst (AreKnown model (with_route lists v list) (slice_index_or candidates i unread)) (sym (each i (let m = are.many in omega (arith, low, m))))
+      (known-forgotten model lists (slice_index_or candidates i unread) (row_at rows i) v list there (are.each i low));
+}
+
+-- one row is written
+pub row-written : (model : Model) (lists : List (List ℕ)) (candidates : List Candidate) (rows : List (List Known)) (i : ℕ) (row : List Known) → AreRows model lists candidates rows
+    → AreKnown model lists (slice_index_or candidates i unread) row → AreRows model lists candidates (slice_set rows i row)
+row-written model lists candidates rows i row are is = record {
+  many = length-set rows i row ∙ are.many;
+  each = λ k low. elim (eqb_tells k i) [
+    | inl same ↦ subst (λ j. AreKnown model lists (slice_index_or candidates j unread) (row_at (slice_set rows i row) j)) (sym same.1)
+        (subst (AreKnown model lists (slice_index_or candidates i unread)) (sym (get_or-set_same rows i row [] (let m = are.many in let e = same.1 in omega (arith, low, m, e)))) is)
+    | inr other ↦ subst (AreKnown model lists (slice_index_or candidates k unread)) (sym (get_or-set_other rows i k row [] other.1)) (are.each k low)
+  ];
+}
+
+replicated : {A : Type 0} (n k : ℕ) (x d : A) → k < n → slice_index_or (replicate n x) k d ≡ x
+replicated zero k x d low = absurd (omega (arith, low))
+replicated (suc n) zero x d low = refl
+replicated (suc n) (suc k) x d low = replicated n k x d (omega (arith, low))
+
+many-replicated : {A : Type 0} (n : ℕ) (x : A) → length (replicate n x) ≡ n
+many-replicated zero x = refl
+many-replicated (suc n) x = ap suc (many-replicated n x)
+
+-- nothing is known of any list
+pub rows-begun : (model : Model) (lists : List (List ℕ)) (candidates : List Candidate) (vehicles : ℕ) → length lists ≡ vehicles → AreRows model lists candidates (replicate (length candidates) (replicate vehicles Nothing))
+rows-begun model lists candidates vehicles many = record {
+  many = many-replicated (length candidates) (replicate vehicles Nothing);
+  each = λ i low. subst (AreKnown model lists (slice_index_or candidates i unread)) (sym (replicated (length candidates) i (replicate vehicles Nothing) [] low)) (record {
+    many = many-replicated vehicles Nothing ∙ sym many;
+    each = λ v v_low. subst (IsKnown model v (route lists v) (slice_index_or candidates i unread)) (sym (replicated vehicles v Nothing Nothing (omega (arith, v_low, many)))) tt;
+  });
+}

@@ -1,0 +1,6 @@
+use Rattle.std.proofs.Common.{◌≡◌, replicate}
+use Rattle.vr_first_insert.specs.declared.known.Known.TheVariants.{Nothing}
+use Rattle.vr_first_insert.proofs.known.row_of.Given as goal
+
+abbrev pub invariant-loop-v : goal.invariant-loop-v
+invariant-loop-v l = l.row ≡ replicate l._v Nothing

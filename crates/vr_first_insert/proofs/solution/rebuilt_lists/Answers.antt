@@ -1,0 +1,21 @@
+use Rattle.std.proofs.Common.{◌≡◌, ◌∙◌, ℕ, List, length, ap, sym, subst, arith}
+use Rattle.std.specs.Prelude.{◌==◌, replicate}
+use Rattle.vr_model.specs.deciding.Testing.{and_left, eq_of_test}
+use Rattle.vr_first_insert.specs.declared.known.Known.TheVariants.{Nothing}
+use Rattle.vr_first_insert.specs.Kept.{AreRows}
+use Rattle.vr_first_insert.proofs.KeptLemmas.{rows-begun}
+use Rattle.vr_first_insert.proofs.solution.rebuilt_lists.Goals as goal
+
+pub insert_all-requires-clause-rows : goal.insert_all-requires-clause-rows
+insert_all-requires-clause-rows c =
+    let model = c.args.model.now in
+    let vehicles : ℕ = length model.vehicles in
+    let lists : List (List ℕ) = c.args.routes.now.lists in
+    let same : c.deref_mut.result.now ≡ lists = c.deref_mut.ensures.value ∙ c.in_ok-built.ensures in
+    let many : length lists ≡ vehicles = eq_of_test (length lists) vehicles (and_left (length lists == vehicles) _ c.requires.lists) in
+    let count : c.len.result ≡ length c.deref.result.now = omega (arith, c.len.ensures, c.deref.ensures.len) in
+    let rows : c.deref_mut-3.result.now ≡ replicate (length c.deref.result.now) (replicate vehicles Nothing) =
+    c.deref_mut-3.ensures.value ∙ c.in_ok-rows.ensures ∙ ap (λ n. replicate n (replicate c.len-2.result Nothing)) count
+    ∙ ap (λ n. replicate (length c.deref.result.now) (replicate n Nothing)) c.len-2.ensures in
+    subst (λ lists. AreRows model lists c.deref.result.now c.deref_mut-3.result.now) (sym same)
+    (subst (AreRows model lists c.deref.result.now) (sym rows) (rows-begun model lists c.deref.result.now vehicles many))

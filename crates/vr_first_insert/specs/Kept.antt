@@ -1,0 +1,54 @@
+-- What is known of items in lists.
+use Rattle.std.specs.Prelude.{◌≡◌, ℕ, ◌<◌, ◌≤◌, ⊤, List, [], length, ℤ, ◌≤ℤ◌, slice_index_or, Option, Some, None}
+use Rattle.vr_model.specs.routes.Routes.{route}
+use Rattle.vr_model.specs.first.Choosing.{better}
+use Rattle.vr_model.specs.declared.records.Model.{Model}
+use Rattle.vr_rules.specs.declared.items.Item.{Item}
+use Rattle.vr_rules.specs.declared.items.Item.TheVariants.{Visit, PickupAndDelivery}
+use Rattle.vr_rules.specs.declared.items.Candidate.{Candidate}
+use Rattle.vr_first_insert.specs.declared.choice.Choice.{Choice}
+use Rattle.vr_first_insert.specs.declared.known.Known.{Known}
+use Rattle.vr_first_insert.specs.declared.known.Known.TheVariants.{Nothing, AtLeast, Best}
+use Rattle.vr_first_insert.specs.Increases.{pair_increase}
+use Rattle.vr_first_insert.specs.Placings.{key_of, best_in, IsLeast}
+
+-- the better of two choices, the first of equal ones
+abbrev pub better_choice : Option Choice → Choice → Option Choice
+better_choice best next = better key_of best next
+
+-- the better of the best so far and what is known to be best
+abbrev pub best_of : Known → Option Choice → Option Choice
+best_of Nothing best = best
+best_of (AtLeast least) best = best
+best_of (Best None) best = best
+best_of (Best (Some next)) best = better_choice best next
+
+-- an item adds at least so much, wherever it is put in the list of vehicle v
+abbrev pub AddsAtLeast : Model → ℕ → List ℕ → Item → ℤ → Type 0
+AddsAtLeast model v list (Visit node) least = IsLeast model v list node least
+AddsAtLeast model v list (PickupAndDelivery pickup delivery) least = (s t : ℕ) → s ≤ length list → t ≤ length list
+    → least ≤ℤ pair_increase model v list pickup delivery s t
+
+-- what is known of a candidate in the list of vehicle v is so
+abbrev pub IsKnown : Model → ℕ → List ℕ → Candidate → Known → Type 0
+IsKnown model v list candidate Nothing = ⊤
+IsKnown model v list candidate (AtLeast least) = AddsAtLeast model v list candidate.item least
+IsKnown model v list candidate (Best best) = best ≡ best_in model v list candidate None
+
+-- what is known of a candidate in each list is so
+pub record AreKnown (model : Model) (lists : List (List ℕ)) (candidate : Candidate) (row : List Known) : Type 0 where
+  pub many : length row ≡ length lists
+  pub each : (v : ℕ) → v < length lists → IsKnown model v (route lists v) candidate (slice_index_or row v Nothing)
+
+-- row i of rows
+abbrev pub row_at : List (List Known) → ℕ → List Known
+row_at rows i = slice_index_or rows i []
+
+-- the candidate that is read where there is none
+abbrev pub unread : Candidate
+unread = record { item = Visit 0; class = 0 }
+
+-- what is known of each candidate in each list is so
+pub record AreRows (model : Model) (lists : List (List ℕ)) (candidates : List Candidate) (rows : List (List Known)) : Type 0 where
+  pub many : length rows ≡ length candidates
+  pub each : (i : ℕ) → i < length candidates → AreKnown model lists (slice_index_or candidates i unread) (row_at rows i)

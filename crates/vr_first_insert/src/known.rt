@@ -1,0 +1,150 @@
+//! What is known of items in lists that have not changed since.
+
+ghost use Rattle.std.specs.Prelude.{◌≡◌, ℕ, ◌<◌, IfOk, length, replicate, slice_set};
+ghost use Rattle.vr_model.specs.tables.WellFormed.{IsWellFormed};
+ghost use Rattle.vr_first_insert.specs.Kept.{best_of, better_choice, row_at, AddsAtLeast, IsKnown};
+ghost use Rattle.vr_first_insert.specs.Placings.{best_in, MayHold};
+ghost use Rattle.vr_first_insert.specs.declared.known.Known.TheVariants.{Nothing};
+
+use crate::bound::{least_pair, least_visit};
+use crate::choice::{Choice, improves, may_improve};
+use crate::search::best_in_list;
+use std::alloc::Global;
+use vr_model::{Model, NoMemory, Seq};
+use vr_rules::{Candidate, Item};
+
+/// What is known of an item in a list.
+#[derive(Clone, Copy, Drop)]
+pub(crate) enum Known {
+    /// Nothing yet.
+    Nothing,
+    /// The item adds at least so much, wherever it is put.
+    AtLeast(i64),
+    /// The best choice, `None` where none is allowed.
+    Best(Option<Choice>),
+}
+
+/// The better of the best so far and what is known to be best.
+pub(crate) fn better_of(best: Option<Choice>, known: Known) -> Option<Choice>
+    ensures { result ≡ best_of known best }
+{
+    match known {
+        Known::Best(Some(next)) => better(best, next),
+        _ => best,
+    }
+}
+
+fn better(best: Option<Choice>, next: Choice) -> Option<Choice>
+    ensures { result ≡ better_choice best next }
+{
+    if improves(best, next) {
+        Some(next)
+    } else {
+        best
+    }
+}
+
+// What an item adds at least to the list of vehicle `v`.
+fn least_in(model: &Model, v: u32, list: &[u32], item: Item) -> i64
+    requires well_formed { IsWellFormed model.now }
+    requires vehicle { v < length model.now.vehicles }
+    requires may_hold { MayHold model.now list.now item }
+    ensures { AddsAtLeast model.now v list.now item result }
+{
+    match item {
+        Item::Visit(node) => least_visit(model, v, list, node),
+        Item::PickupAndDelivery(pickup, delivery) => least_pair(model, v, list, pickup, delivery),
+    }
+}
+
+/// What is known of an item in the list of vehicle `v` once it was asked whether it is better than the best so far.
+pub(crate) fn asked(
+    alloc: Global,
+    model: &Model,
+    v: u32,
+    list: &[u32],
+    candidate: Candidate,
+    known: Known,
+    best: Option<Choice>,
+) -> Result<Known, NoMemory>
+    requires well_formed { IsWellFormed model.now }
+    requires vehicle { v < length model.now.vehicles }
+    requires may_hold { MayHold model.now list.now candidate.item }
+    requires known { IsKnown model.now v list.now candidate known }
+    ensures known { IfOk result (IsKnown model.now v list.now candidate) }
+    ensures better { IfOk result (λ known. best_of known best ≡ best_in model.now v list.now candidate best) }
+{
+    match known {
+        Known::Best(_) => Ok(known),
+        Known::AtLeast(least) => {
+            let known = tried(alloc, model, v, list, candidate, least, best)?;
+            Ok(known)
+        }
+        Known::Nothing => {
+            let least = least_in(model, v, list, candidate.item);
+            let known = tried(alloc, model, v, list, candidate, least, best)?;
+            Ok(known)
+        }
+    }
+}
+
+// The same of an item that adds `least` at least: where that is not better than the best so far, it is all that is
+// known.
+fn tried(
+    alloc: Global,
+    model: &Model,
+    v: u32,
+    list: &[u32],
+    candidate: Candidate,
+    least: i64,
+    best: Option<Choice>,
+) -> Result<Known, NoMemory>
+    requires well_formed { IsWellFormed model.now }
+    requires vehicle { v < length model.now.vehicles }
+    requires may_hold { MayHold model.now list.now candidate.item }
+    requires least { AddsAtLeast model.now v list.now candidate.item least }
+    ensures known { IfOk result (IsKnown model.now v list.now candidate) }
+    ensures better { IfOk result (λ known. best_of known best ≡ best_in model.now v list.now candidate best) }
+{
+    if !may_improve(best, candidate.class, least) {
+        return Ok(Known::AtLeast(least));
+    }
+    let found = best_in_list(alloc, model, v, list, candidate, None)?;
+    Ok(Known::Best(found))
+}
+
+/// A row for each of `count` items, in which nothing is known of any of `vehicles` lists.
+pub(crate) fn rows_of(
+    alloc: Global,
+    count: usize,
+    vehicles: usize,
+) -> Result<Vec<Seq<Known>>, NoMemory>
+    ensures { IfOk result (λ rows. rows.items ≡ replicate count (replicate vehicles Nothing)) }
+{
+    let mut rows = Vec::with_capacity(alloc, count)?;
+    for _i in 0..count {
+        rows.push(row_of(alloc, vehicles)?)?;
+    }
+    Ok(rows)
+}
+
+fn row_of(alloc: Global, vehicles: usize) -> Result<Seq<Known>, NoMemory>
+    ensures { IfOk result (λ row. row ≡ replicate vehicles Nothing) }
+{
+    let mut row = Seq::with_capacity(alloc, vehicles)?;
+    for _v in 0..vehicles {
+        row.push(Known::Nothing)?;
+    }
+    Ok(row)
+}
+
+/// Nothing is known of the list of vehicle `v` any more.
+pub(crate) fn forget(rows: &mut [Seq<Known>], v: u32)
+    requires vehicle { (i : ℕ) → i < length rows.old → v < length (row_at rows.old i) }
+    ensures many { length rows.new ≡ length rows.old }
+    ensures each { (i : ℕ) → i < length rows.old → row_at rows.new i ≡ slice_set (row_at rows.old i) v Nothing }
+{
+    for i in 0..rows.len() {
+        rows[i].set(v as usize, Known::Nothing);
+    }
+}
