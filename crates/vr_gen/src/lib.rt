@@ -7,4 +7,5 @@ pub mod laws;
 mod tests;
 mod trees;
 
+pub use draws::{Customer, Site};
 pub use trees::generate;
