@@ -16,26 +16,40 @@ use vr_read::read_model;
 const THREE_NODES: &str =
     r#"{"format":1,"nodes":3,"matrices":[[[0,5,9],[5,0,4],[9,4,0]]],"vehicles":[{"start":0,"end":0}],"groups":[]}"#;
 
-const OF_THREE: &str =
-    r#"{"cost":18,"dropped":[],"first_cost":18,"parts":{"arcs":18,"fixed":0,"global":0,"penalty":0,"soft":0,"span":0},"routes":[{"dimensions":[],"nodes":[0,1,2,0],"vehicle":0}],"solutions":1,"status":"ROUTING_SUCCESS","stop":"first","tries":0}"#;
+const OF_THREE: &str = r#"{"cost":18,"dropped":[],"first_cost":18,
+"parts":{"arcs":18,"fixed":0,"global":0,"penalty":0,"soft":0,"span":0},
+"routes":[{"dimensions":[],"nodes":[0,1,2,0],"vehicle":0}],
+"solutions":1,"status":"ROUTING_SUCCESS","stop":"first","tries":0}"#;
 
 // The same with node 2 dropped.
-const OF_TWO: &str =
-    r#"{"cost":13,"dropped":[2],"first_cost":18,"parts":{"arcs":10,"fixed":0,"global":0,"penalty":3,"soft":0,"span":0},"routes":[{"dimensions":[],"nodes":[0,1,0],"vehicle":0}],"solutions":2,"status":"ROUTING_SUCCESS","stop":"optimum","tries":10}"#;
+const OF_TWO: &str = r#"{"cost":13,"dropped":[2],"first_cost":18,
+"parts":{"arcs":10,"fixed":0,"global":0,"penalty":3,"soft":0,"span":0},
+"routes":[{"dimensions":[],"nodes":[0,1,0],"vehicle":0}],
+"solutions":2,"status":"ROUTING_SUCCESS","stop":"optimum","tries":10}"#;
 
 // Two pairs, and two vehicles of which the second may not visit node 4.
 const TWO_PAIRS: &str =
-    r#"{"format":1,"nodes":5,"matrices":[[[0,1,1,1,1],[1,0,1,1,1],[1,1,0,1,1],[1,1,1,0,1],[1,1,1,1,0]]],"vehicles":[{"start":0,"end":0,"policy":"any"},{"start":0,"end":0}],"pairs":[{"pickup":1,"delivery":2},{"pickup":3,"delivery":4}],"allowed":[{"node":4,"vehicles":[0]}]}"#;
+    r#"{"format":1,"nodes":5,"matrices":[[[0,1,1,1,1],[1,0,1,1,1],[1,1,0,1,1],[1,1,1,0,1],[1,1,1,1,0]]],
+"vehicles":[{"start":0,"end":0,"policy":"any"},{"start":0,"end":0}],
+"pairs":[{"pickup":1,"delivery":2},{"pickup":3,"delivery":4}],"allowed":[{"node":4,"vehicles":[0]}]}"#;
 
-const OF_PAIRS: &str =
-    r#"{"cost":5,"dropped":[],"first_cost":5,"parts":{"arcs":5,"fixed":0,"global":0,"penalty":0,"soft":0,"span":0},"routes":[{"dimensions":[],"nodes":[0,1,3,2,4,0],"vehicle":0},{"dimensions":[],"nodes":[],"vehicle":1}],"solutions":1,"status":"ROUTING_SUCCESS","stop":"first","tries":0}"#;
+const OF_PAIRS: &str = r#"{"cost":5,"dropped":[],"first_cost":5,
+"parts":{"arcs":5,"fixed":0,"global":0,"penalty":0,"soft":0,"span":0},
+"routes":[{"dimensions":[],"nodes":[0,1,3,2,4,0],"vehicle":0},{"dimensions":[],"nodes":[],"vehicle":1}],
+"solutions":1,"status":"ROUTING_SUCCESS","stop":"first","tries":0}"#;
 
 // One visit with a soft bound, and a break on the way to it.
-const TIMED: &str =
-    r#"{"format":1,"nodes":2,"matrices":[[[0,10],[10,0]]],"vehicles":[{"start":0,"end":0,"fixed":7}],"dimensions":[{"name":"time","evaluators":[{"matrix":0}],"capacity":100,"slack_max":20,"fix_start":true,"visit":[2,2],"span_cost":2,"global_span_cost":1,"nodes":[{"node":1,"soft":{"bound":4,"coefficient":3}}],"breaks":[{"vehicle":0,"breaks":[{"from":4,"to":6,"duration":5}]}]}]}"#;
+const TIMED: &str = r#"{"format":1,"nodes":2,"matrices":[[[0,10],[10,0]]],
+"vehicles":[{"start":0,"end":0,"fixed":7}],
+"dimensions":[{"name":"time","evaluators":[{"matrix":0}],"capacity":100,"slack_max":20,
+"fix_start":true,"visit":[2,2],"span_cost":2,"global_span_cost":1,
+"nodes":[{"node":1,"soft":{"bound":4,"coefficient":3}}],
+"breaks":[{"vehicle":0,"breaks":[{"from":4,"to":6,"duration":5}]}]}]}"#;
 
-const OF_TIMED: &str =
-    r#"{"cost":135,"dropped":[],"first_cost":135,"parts":{"arcs":20,"fixed":7,"global":25,"penalty":0,"soft":33,"span":50},"routes":[{"dimensions":[{"breaks":[4],"cumuls":[0,15,25],"name":"time","slacks":[5,0]}],"nodes":[0,1,0],"vehicle":0}],"solutions":1,"status":"ROUTING_SUCCESS","stop":"first","tries":0}"#;
+const OF_TIMED: &str = r#"{"cost":135,"dropped":[],"first_cost":135,
+"parts":{"arcs":20,"fixed":7,"global":25,"penalty":0,"soft":33,"span":50},
+"routes":[{"dimensions":[{"breaks":[4],"cumuls":[0,15,25],"name":"time","slacks":[5,0]}],"nodes":[0,1,0],"vehicle":0}],
+"solutions":1,"status":"ROUTING_SUCCESS","stop":"first","tries":0}"#;
 
 // A text, and what stands in place of which part of it.
 type Changed<'a> = (&'a str, &'a str, &'a str);

@@ -15,11 +15,21 @@ use vr_routes::Routes;
 use vr_rules::valid;
 
 // Two nodes, two vehicles and two dimensions, one of them with a break; the line is of one used vehicle.
-const MODEL: &str =
-    "{\"format\":1,\"nodes\":3,\"matrices\":[[[0,10,9],[10,0,9],[9,9,0]]],\"vehicles\":[{\"start\":0,\"end\":0},{\"start\":0,\"end\":0}],\"groups\":[{\"nodes\":[2],\"penalty\":7}],\"dimensions\":[{\"name\":\"time\",\"evaluators\":[{\"matrix\":0}],\"slack_max\":20,\"capacity\":100,\"fix_start\":true,\"visit\":[2,2,2],\"breaks\":[{\"vehicle\":0,\"breaks\":[{\"from\":4,\"to\":6,\"duration\":5}]}],\"span_cost\":2},{\"name\":\"load\",\"evaluators\":[{\"values\":[0,3,0]}],\"slack_max\":0,\"capacity\":5}]}";
+const MODEL: &str = "{\"format\":1,\"nodes\":3,\"matrices\":[[[0,10,9],[10,0,9],[9,9,0]]],\
+\"vehicles\":[{\"start\":0,\"end\":0},{\"start\":0,\"end\":0}],\
+\"groups\":[{\"nodes\":[2],\"penalty\":7}],\
+\"dimensions\":[{\"name\":\"time\",\"evaluators\":[{\"matrix\":0}],\"slack_max\":20,\"capacity\":100,\
+\"fix_start\":true,\"visit\":[2,2,2],\
+\"breaks\":[{\"vehicle\":0,\"breaks\":[{\"from\":4,\"to\":6,\"duration\":5}]}],\"span_cost\":2},\
+{\"name\":\"load\",\"evaluators\":[{\"values\":[0,3,0]}],\"slack_max\":0,\"capacity\":5}]}";
 
-const LINE: &str =
-    "{\"cost\":77,\"dropped\":[2],\"first_cost\":80,\"parts\":{\"arcs\":20,\"fixed\":0,\"global\":0,\"penalty\":7,\"soft\":0,\"span\":50},\"routes\":[{\"dimensions\":[{\"breaks\":[4],\"cumuls\":[0,15,25],\"name\":\"time\",\"slacks\":[5,0]},{\"breaks\":[],\"cumuls\":[0,0,3],\"name\":\"load\",\"slacks\":[0,0]}],\"nodes\":[0,1,0],\"vehicle\":0},{\"dimensions\":[],\"nodes\":[],\"vehicle\":1}],\"solutions\":3,\"status\":\"ROUTING_SUCCESS\",\"stop\":\"tries\",\"tries\":5}\n";
+const LINE: &str = "{\"cost\":77,\"dropped\":[2],\"first_cost\":80,\
+\"parts\":{\"arcs\":20,\"fixed\":0,\"global\":0,\"penalty\":7,\"soft\":0,\"span\":50},\
+\"routes\":[{\"dimensions\":[{\"breaks\":[4],\"cumuls\":[0,15,25],\"name\":\"time\",\
+\"slacks\":[5,0]},\
+{\"breaks\":[],\"cumuls\":[0,0,3],\"name\":\"load\",\"slacks\":[0,0]}],\
+\"nodes\":[0,1,0],\"vehicle\":0},{\"dimensions\":[],\"nodes\":[],\"vehicle\":1}],\
+\"solutions\":3,\"status\":\"ROUTING_SUCCESS\",\"stop\":\"tries\",\"tries\":5}\n";
 
 // The model of a text.
 fn model_of(alloc: Global, text: &str) -> Result<Model, NoMemory>
