@@ -1,0 +1,6 @@
+pub mod LineParts
+pub mod Transfer
+pub mod Sharing
+pub mod Stretching
+pub mod Counting
+pub mod Tables

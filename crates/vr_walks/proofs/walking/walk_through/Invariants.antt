@@ -1,0 +1,15 @@
+use Rattle.std.proofs.Common.{◌+◌, ◌≤◌}
+use Rattle.vr_model.specs.schedules.Lines.{line}
+use Rattle.vr_steps.specs.Levels.{AreLevels}
+use Rattle.vr_steps.specs.Reached.{AreReached}
+use Rattle.vr_walks.proofs.Counting.{steps_between}
+use Rattle.vr_walks.proofs.walking.walk_through.Given as goal
+
+-- the walk stands at stop k; what it counted and what is left are within the whole
+abbrev pub invariant-loop-k : goal.invariant-loop-k
+invariant-loop-k g l = record {
+  within : l.k ≤ l.last;
+  form : AreLevels l.ends.breaks l.walk;
+  reached : AreReached (line l.model l.d l.v l.list) l.k l.walk;
+  count : l.steps + steps_between (line l.model l.d l.v l.list) l.k l.last ≤ l.fn.steps + steps_between (line l.model l.d l.v l.list) l.begin l.last;
+}

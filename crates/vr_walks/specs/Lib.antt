@@ -1,0 +1,5 @@
+pub mod Lists
+pub mod VisitSets
+pub mod Stops
+pub mod Stretches
+pub mod KnownRows

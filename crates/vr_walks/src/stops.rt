@@ -1,0 +1,100 @@
+//! What the stops of one dimension ask.
+
+ghost use Rattle.std.specs.Prelude.{◌≡◌, ◌+◌, suc, ◌<◌, ◌≤◌, length, IfOk};
+ghost use Rattle.vr_model.specs.schedules.Lines.{line};
+ghost use Rattle.vr_model.specs.tables.WellFormed.{IsWellFormed};
+ghost use Rattle.vr_steps.specs.Arcs.{IsSoundHop};
+ghost use Rattle.vr_steps.specs.Reached.{hop_at, IsAllowedSet};
+ghost use Rattle.vr_walks.specs.Lists.{node_at_stop, IsTour};
+ghost use Rattle.vr_walks.specs.Stops.{AreEndsOf, AreStops};
+ghost use Rattle.vr_walks.specs.VisitSets.{AreVisitSets};
+
+use crate::ends::{Ends, ends_of_each};
+use crate::visits::VisitSets;
+use std::alloc::Global;
+use vr_model::{Model, NoMemory};
+use vr_spans::Spans;
+use vr_steps::{Hop, hop};
+
+/// What all stops that vehicles may have in one dimension ask, looked up once for all lists: of each vehicle its breaks
+/// and what its start and its end allow, and the cumuls that each visit allows under the capacity of each vehicle.
+#[derive(Drop)]
+pub struct Stops {
+    pub(crate) ends: Vec<Ends>,
+    pub(crate) visits: VisitSets,
+}
+
+impl Stops {
+    /// The stops of dimension `d`. The only refusal is want of memory.
+    pub fn build(alloc: Global, model: &Model, d: u32) -> Result<Stops, NoMemory>
+        requires well_formed { IsWellFormed model.now }
+        requires dimension { d < length model.now.dimensions }
+        ensures { IfOk result (AreStops model.now d) }
+    {
+        Ok(Stops {
+            ends: ends_of_each(alloc, model, d)?,
+            visits: VisitSets::build(alloc, model, d)?,
+        })
+    }
+}
+
+// The cumuls that stop `k` of vehicle `v` with a list allows.
+#[inline]
+pub(crate) fn set_at<'a>(
+    model: &Model,
+    d: u32,
+    v: u32,
+    ends: &'a Ends,
+    visits: &'a [Spans],
+    list: &[u32],
+    k: usize,
+) -> &'a Spans
+    requires ends { AreEndsOf model.now d v ends.now }
+    requires visits { AreVisitSets model.now d v visits.now }
+    requires tour { IsTour model.now list.now }
+    requires stop { k ≤ suc (length list.now) }
+    ensures { IsAllowedSet (line model.now d v list.now) k result.now }
+{
+    if k == 0 {
+        return &ends.start_set;
+    }
+    if k > list.len() {
+        return &ends.end_set;
+    }
+    &visits[list[k - 1] as usize]
+}
+
+// The node at a stop of vehicle `v` with a list.
+#[inline]
+fn node_at(model: &Model, v: u32, list: &[u32], k: usize) -> u32
+    requires well_formed { IsWellFormed model.now }
+    requires vehicle { v < length model.now.vehicles }
+    requires tour { IsTour model.now list.now }
+    requires stop { k ≤ suc (length list.now) }
+    ensures node { result ≡ node_at_stop model.now v list.now k }
+    ensures below { result < model.now.nodes }
+{
+    if k == 0 {
+        return model.vehicles.get(v as usize).start;
+    }
+    if k > list.len() {
+        return model.vehicles.get(v as usize).end;
+    }
+    list[k - 1]
+}
+
+// The arc from a stop of vehicle `v` with a list to the next one.
+#[inline]
+pub(crate) fn hop_from(model: &Model, d: u32, v: u32, list: &[u32], k: usize) -> Hop
+    requires well_formed { IsWellFormed model.now }
+    requires dimension { d < length model.now.dimensions }
+    requires vehicle { v < length model.now.vehicles }
+    requires tour { IsTour model.now list.now }
+    requires stop { k ≤ length list.now }
+    ensures exact { result ≡ hop_at (line model.now d v list.now) k }
+    ensures sound { IsSoundHop result }
+{
+    let origin = node_at(model, v, list, k);
+    let target = node_at(model, v, list, k + 1);
+    hop(model, d, v, origin, target)
+}

@@ -1,0 +1,278 @@
+//! Walks along a list, and through what changed in one.
+
+ghost use Rattle.std.specs.Prelude.{◌≡◌, ◌+◌, ◌-◌, ◌<◌, ◌≤◌, suc, false, IsTrue, length, IfOk};
+ghost use Rattle.std.specs.List.{list_all};
+ghost use Rattle.vr_model.specs.tables.Tables.{is_visit};
+ghost use Rattle.vr_model.specs.tables.WellFormed.{IsWellFormed};
+ghost use Rattle.vr_model.specs.routes.Routes.{is_distinct};
+ghost use Rattle.vr_model.specs.schedules.Lines.{line};
+ghost use Rattle.vr_model.specs.schedules.Choices.{is_feasible};
+ghost use Rattle.vr_model.specs.schedules.Weights.{walk_weight, list_weight};
+ghost use Rattle.vr_steps.specs.Levels.{AreLevels};
+ghost use Rattle.vr_steps.specs.Reached.{AreReached, AreReachingEnd};
+ghost use Rattle.vr_reach.specs.Rows.{row_at};
+ghost use Rattle.vr_walks.specs.Lists.{is_feasible_list, IsTour, IsUsed};
+ghost use Rattle.vr_walks.specs.KnownRows.{AreRowsIfUsed};
+ghost use Rattle.vr_walks.specs.Stops.{AreEndsOf, AreStops};
+ghost use Rattle.vr_walks.specs.VisitSets.{AreVisitSets};
+
+use crate::ends::Ends;
+use crate::stops::{Stops, hop_from, set_at};
+use crate::stretches::Stretch;
+use std::marker::Brand;
+use std::sync::ledger::{Blank, Ledger};
+use vr_model::{Model, NoMemory, Steps, laws};
+use vr_reach::{Rows, Walk};
+use vr_spans::Spans;
+use vr_steps::Levels;
+
+// Whether the line of a list is feasible, found by a walk from stop `begin`, which is reached at the levels `from`, to
+// stop `last`, from which the end is reached at the levels `to`.
+fn walk_through<L: Ledger>(
+    model: &Model,
+    d: u32,
+    v: u32,
+    ends: &Ends,
+    visits: &[Spans],
+    list: &[u32],
+    begin: usize,
+    last: usize,
+    from: &Levels,
+    to: &Levels,
+    walk: &mut Walk,
+    steps: &mut Steps<L>,
+) -> Result<bool, NoMemory>
+    requires well_formed { IsWellFormed model.now }
+    requires dimension { d < length model.now.dimensions }
+    requires vehicle { v < length model.now.vehicles }
+    requires ends { AreEndsOf model.now d v ends.now }
+    requires visits { AreVisitSets model.now d v visits.now }
+    requires used { IsUsed model.now list.now }
+    requires order { begin < last }
+    requires within { last ≤ suc (length list.now) }
+    requires from_form { AreLevels ends.now.breaks from.now }
+    requires from { AreReached (line model.now d v list.now) begin from.now }
+    requires to_form { AreLevels ends.now.breaks to.now }
+    requires to { AreReachingEnd (line model.now d v list.now) last to.now }
+    ensures exact { IfOk result (λ passed. passed ≡ is_feasible (line model.now d v list.now)) }
+    ensures count { steps.new ≤ steps.old + walk_weight (line model.now d v list.now) begin last }
+{
+    laws::lines_are_sound();
+    laws::chosen_where_feasible();
+    laws::reached_as_tested();
+    laws::end_reached_as_tested();
+    vr_steps::laws::runs_are_counted();
+    vr_steps::laws::reached_behind_arc();
+    let hop = hop_from(model, d, v, list, begin);
+    let next = set_at(model, d, v, ends, visits, list, begin + 1);
+    walk.leave(from, hop, next, &ends.breaks, steps)?;
+    for k in begin + 1..last {
+        let hop = hop_from(model, d, v, list, k);
+        let next = set_at(model, d, v, ends, visits, list, k + 1);
+        walk.step(hop, next, &ends.breaks, steps)?;
+    }
+    let passed = walk.meets(to, steps);
+    Ok(passed)
+}
+
+/// Whether a list of vehicle `v` is empty or its line feasible, found by a walk through what differs from the list before,
+/// whose rows are known. It counts each crossing that it makes, at most as many as the definition of the weight of a
+/// changed list says.
+///
+/// It takes memory only where a set has more than four runs, or where there are breaks and the walk is new.
+pub fn passes_along<L: Ledger>(
+    model: &Model,
+    d: u32,
+    v: u32,
+    stops: &Stops,
+    rows: &Rows,
+    old: &[u32],
+    new: &[u32],
+    walk: &mut Walk,
+    steps: &mut Steps<L>,
+) -> Result<bool, NoMemory>
+    requires well_formed { IsWellFormed model.now }
+    requires dimension { d < length model.now.dimensions }
+    requires vehicle { v < length model.now.vehicles }
+    requires stops { AreStops model.now d stops.now }
+    requires rows { AreRowsIfUsed model.now d v old.now rows.now }
+    requires old_tour { IsTour model.now old.now }
+    requires tour { IsTour model.now new.now }
+    requires passed { IsTrue (is_feasible_list model.now d v old.now) }
+    ensures exact { IfOk result (λ passed. passed ≡ is_feasible_list model.now d v new.now) }
+    ensures count { steps.new ≤ steps.old + list_weight model.now d v old.now new.now }
+{
+    if new.is_empty() {
+        return Ok(true);
+    }
+    let stretch = Stretch::of(old, new);
+    if stretch.front == old.len() && stretch.front == new.len() {
+        return Ok(true);
+    }
+    let ends = &stops.ends[v as usize];
+    let visits = stops.visits.of(model, d, v);
+    let last = new.len() - stretch.back + 1;
+    let from = levels_before(ends, rows, stretch.front);
+    let to = levels_behind(ends, rows, old.len(), stretch.back);
+    let passed = walk_through(
+        model,
+        d,
+        v,
+        ends,
+        visits,
+        new,
+        stretch.front,
+        last,
+        from,
+        to,
+        walk,
+        steps,
+    )?;
+    Ok(passed)
+}
+
+/// The same as `passes_along`, where nobody counts.
+pub fn goes_beside(
+    model: &Model,
+    d: u32,
+    v: u32,
+    stops: &Stops,
+    rows: &Rows,
+    old: &[u32],
+    new: &[u32],
+    walk: &mut Walk,
+) -> Result<bool, NoMemory>
+    requires well_formed { IsWellFormed model.now }
+    requires dimension { d < length model.now.dimensions }
+    requires vehicle { v < length model.now.vehicles }
+    requires stops { AreStops model.now d stops.now }
+    requires rows { AreRowsIfUsed model.now d v old.now rows.now }
+    requires old_tour { IsTour model.now old.now }
+    requires tour { IsTour model.now new.now }
+    requires passed { IsTrue (is_feasible_list model.now d v old.now) }
+    ensures { IfOk result (λ goes. goes ≡ is_feasible_list model.now d v new.now) }
+{
+    let goes = uncounted::<Brand>(model, d, v, stops, rows, old, new, walk, Blank::new(1))?;
+    Ok(goes)
+}
+
+fn uncounted<L: Ledger>(
+    model: &Model,
+    d: u32,
+    v: u32,
+    stops: &Stops,
+    rows: &Rows,
+    old: &[u32],
+    new: &[u32],
+    walk: &mut Walk,
+    blank: Blank,
+) -> Result<bool, NoMemory>
+    requires name { blank.name ≡ L.name }
+    requires parts { blank.parts ≡ L.parts }
+    requires some { 0 < blank.parts }
+    requires well_formed { IsWellFormed model.now }
+    requires dimension { d < length model.now.dimensions }
+    requires vehicle { v < length model.now.vehicles }
+    requires stops { AreStops model.now d stops.now }
+    requires rows { AreRowsIfUsed model.now d v old.now rows.now }
+    requires old_tour { IsTour model.now old.now }
+    requires tour { IsTour model.now new.now }
+    requires passed { IsTrue (is_feasible_list model.now d v old.now) }
+    ensures { IfOk result (λ goes. goes ≡ is_feasible_list model.now d v new.now) }
+{
+    let mut steps = Steps::<L>::new(blank);
+    let goes = passes_along(model, d, v, stops, rows, old, new, walk, &mut steps)?;
+    Ok(goes)
+}
+
+/// Whether vehicle `v` has a schedule with a list in dimension `d`: goes along the list from its start to its end.
+///
+/// It takes memory only where a set has more than four runs, or where there are breaks and the walk is new.
+pub fn goes_through(
+    model: &Model,
+    d: u32,
+    v: u32,
+    stops: &Stops,
+    list: &[u32],
+    walk: &mut Walk,
+) -> Result<bool, NoMemory>
+    requires well_formed { IsWellFormed model.now }
+    requires dimension { d < length model.now.dimensions }
+    requires vehicle { v < length model.now.vehicles }
+    requires stops { AreStops model.now d stops.now }
+    requires some { 0 < length list.now }
+    requires visits { IsTrue (list_all (is_visit model.now) list.now) }
+    requires distinct { IsTrue (is_distinct list.now) }
+    ensures { IfOk result (λ goes. goes ≡ is_feasible (line model.now d v list.now)) }
+{
+    let ends = &stops.ends[v as usize];
+    let visits = stops.visits.of(model, d, v);
+    let goes = walk_all::<Brand>(model, d, v, ends, visits, list, walk, Blank::new(1))?;
+    Ok(goes)
+}
+
+// Whether the line of a list is feasible, found by a walk from its start to its end.
+fn walk_all<L: Ledger>(
+    model: &Model,
+    d: u32,
+    v: u32,
+    ends: &Ends,
+    visits: &[Spans],
+    list: &[u32],
+    walk: &mut Walk,
+    blank: Blank,
+) -> Result<bool, NoMemory>
+    requires name { blank.name ≡ L.name }
+    requires parts { blank.parts ≡ L.parts }
+    requires some { 0 < blank.parts }
+    requires well_formed { IsWellFormed model.now }
+    requires dimension { d < length model.now.dimensions }
+    requires vehicle { v < length model.now.vehicles }
+    requires ends { AreEndsOf model.now d v ends.now }
+    requires visits { AreVisitSets model.now d v visits.now }
+    requires used { IsUsed model.now list.now }
+    ensures { IfOk result (λ goes. goes ≡ is_feasible (line model.now d v list.now)) }
+{
+    let mut steps = Steps::<L>::new(blank);
+    let goes = walk_through(
+        model,
+        d,
+        v,
+        ends,
+        visits,
+        list,
+        0,
+        list.len() + 1,
+        &ends.start_levels,
+        &ends.end_levels,
+        walk,
+        &mut steps,
+    )?;
+    Ok(goes)
+}
+
+// The levels at which the last stop is reached that a list shares at the front with the one whose rows are known.
+fn levels_before<'a>(ends: &'a Ends, rows: &'a Rows, front: usize) -> &'a Levels
+    requires row { 0 < front → front < length rows.now.forward }
+    ensures start { front ≡ 0 → result.now ≡ ends.now.start_levels }
+    ensures row { 0 < front → result.now ≡ row_at rows.now.forward front }
+{
+    if front == 0 {
+        return &ends.start_levels;
+    }
+    rows.forward(front)
+}
+
+// The levels from which the end is reached at the first stop that a list shares at the back with the one of `n` visits
+// whose rows are known.
+fn levels_behind<'a>(ends: &'a Ends, rows: &'a Rows, n: usize, back: usize) -> &'a Levels
+    requires few { back ≤ n }
+    requires row { 0 < back → n - back + 1 < length rows.now.backward }
+    ensures end { back ≡ 0 → result.now ≡ ends.now.end_levels }
+    ensures row { 0 < back → result.now ≡ row_at rows.now.backward (n - back + 1) }
+{
+    if back == 0 {
+        return &ends.end_levels;
+    }
+    rows.backward(n - back + 1)
+}
