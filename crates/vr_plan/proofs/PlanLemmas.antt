@@ -1,6 +1,7 @@
 -- The plan of the chosen cumuls and break starts of a line.
 use Rattle.std.proofs.Common.{◌≡◌, suc, ◌<◌, true, List, [], ◌∷◌, length, get_or, ℤ, pos, Option, Some, None, refl, sym, ap, ◌∙◌, arith}
-use Rattle.std.specs.Prelude.{is_some, IfSome, IsNone}
+use Rattle.std.specs.Prelude.{is_some, Bool, false, IfSome}
+use Rattle.std.specs.Bool.{then_some}
 use Rattle.std.specs.Option.{option_map}
 use Rattle.std.proofs.lemmas.Int.{ints}
 use Rattle.std.proofs.lemmas.List.{ext_get_or}
@@ -18,7 +19,7 @@ use Rattle.vr_plan.specs.declared.plans.Plan.{Plan}
 use Rattle.vr_plan.specs.Plans.{AreSlacks, cumuls_of, no_hop, seen}
 use Rattle.vr_plan.specs.Narrow.{AreOnly, fixed}
 use Rattle.vr_plan.proofs.FixedLemmas.{fixed_line, to_fixed, of_fixed}
-use Rattle.vr_plan.specs.Settled.{HaveChosenCumuls, IsUnfeasible}
+use Rattle.vr_plan.specs.Settled.{Goes, HaveChosenCumuls, IsUnfeasible}
 use Rattle.vr_plan.specs.Starts.{HaveChosenStarts, HaveStarts, HaveCumuls}
 
 none_where_unfeasible : (found : Option Wanted) → (is_some found ≡ true → ⊥) → None ≡ found
@@ -30,11 +31,16 @@ pub chosen_none : ChosenWhereFeasible → (line : Line) → IsUnfeasible line �
 chosen_none feasible line none defined of = none_where_unfeasible (chosen defined) (λ is. none defined of ((feasible defined).0 is))
 
 -- the cumuls that were found are those of the chosen plan
-pub chosen_numbers : ChosenWhereFeasible → ChosenIsLeast → (line : Line) → (found : Option (List ℤ)) → IfSome found (HaveChosenCumuls line) → (IsNone found → IsUnfeasible line) → (defined : Defined) → IsLineOf defined line → found ≡ option_map cumuls_of (chosen defined)
-chosen_numbers feasible least line None have none defined of = ap (option_map cumuls_of) (chosen_none feasible line (none refl) defined of)
-chosen_numbers feasible least line (Some xs) have none defined of =
-    let plan = have.chosen defined of in
+pub chosen_numbers : ChosenWhereFeasible → ChosenIsLeast → (line : Line) (goes : Bool) (cumuls : List ℤ) → Goes (HaveChosenCumuls line cumuls) goes → (goes ≡ false → IsUnfeasible line) → (defined : Defined) → IsLineOf defined line → then_some goes cumuls ≡ option_map cumuls_of (chosen defined)
+chosen_numbers feasible least line false cumuls have none defined of = ap (option_map cumuls_of) (chosen_none feasible line (none refl) defined of)
+chosen_numbers feasible least line true cumuls have none defined of =
+    let plan = (have refl).chosen defined of in
     ap Some (sym plan.2) ∙ ap (option_map cumuls_of) (sym ((least defined plan.0).1 plan.1))
+
+-- a fact of a value that is there where it goes on
+pub some_where : {A : Type 0} (goes : Bool) (x : A) (P : A → Type 0) → Goes (P x) goes → IfSome (then_some goes x) P
+some_where false x P h = tt
+some_where true x P h = h refl
 
 no_numbers : (zs : List ℤ) → length zs ≡ 0 → zs ≡ []
 no_numbers [] e = refl

@@ -18,10 +18,21 @@ use vr_steps::{Levels, Line, cross_into, start_levels_into};
 
 // Sets that are written over while cumuls are settled.
 #[derive(Drop)]
-struct Room {
+pub(crate) struct Room {
     only: Spans,
     here: Levels,
     next: Levels,
+}
+
+impl Room {
+    // Empty sets. They take no memory.
+    pub(crate) fn new(alloc: Global) -> Room {
+        Room {
+            only: Spans::new(alloc),
+            here: Levels::new(alloc),
+            next: Levels::new(alloc),
+        }
+    }
 }
 
 // The cumuls of the chosen schedule of a line, by what its end is reached from; `None` exactly where the line has no
@@ -40,11 +51,7 @@ pub(crate) fn settled_cumuls<L: Ledger>(
     ensures some { IfOk result (λ found. IfSome found (HaveChosenCumuls line.now)) }
     ensures none { IfOk result (λ found. IsNone found → IsUnfeasible line.now) }
 {
-    let mut room = Room {
-        only: Spans::new(alloc),
-        here: Levels::new(alloc),
-        next: Levels::new(alloc),
-    };
+    let mut room = Room::new(alloc);
     let mut cumuls = Seq::new(alloc);
     let goes = settle::<L>(line, behind, &mut room, &mut cumuls, blank)?;
     Ok(goes.then_some(cumuls))
@@ -82,7 +89,7 @@ fn begin(
 
 // Settles the cumul of each stop, one after another: the least that schedules with the cumuls before it have there.
 // Answers whether there is a schedule.
-fn settle<L: Ledger>(
+pub(crate) fn settle<L: Ledger>(
     line: &Line,
     behind: &Sweep,
     room: &mut Room,

@@ -7,10 +7,10 @@ ghost use Rattle.vr_steps.specs.Lines.{IsSoundLine};
 ghost use Rattle.vr_reach.specs.Rows.{AreBackward, AreRows};
 ghost use Rattle.vr_plan.specs.Plans.{AreChosenCumuls, IsChosenPlan};
 
-use crate::Plan;
 use crate::cumuls::settled_cumuls;
 use crate::plans::slacks_left;
 use crate::starts::chosen_starts;
+use crate::{Chooser, Plan};
 use std::alloc::Global;
 use std::marker::Brand;
 use std::sync::ledger::Blank;
@@ -49,12 +49,10 @@ pub fn chosen_cumuls(alloc: Global, line: &Line) -> Result<Option<Seq<i64>>, NoM
     ensures stops { IfOk result (λ found. IfSome found (λ cumuls. length cumuls ≡ length line.now.allowed)) }
     ensures range { IfOk result (λ found. IfSome found (All (IsIn (pos 0) horizon))) }
 {
-    vr_model::laws::chosen_where_feasible();
-    vr_model::laws::chosen_is_least();
-    let mut behind = Sweep::new(alloc);
-    behind.backward(alloc, line)?;
-    let cumuls = settled_cumuls::<Brand>(alloc, line, &behind, Blank::new(1))?;
-    Ok(cumuls)
+    let mut chooser = Chooser::new(alloc);
+    let goes = chooser.choose(alloc, line)?;
+    let cumuls = chooser.into_cumuls();
+    Ok(goes.then_some(cumuls))
 }
 
 // The chosen schedule of a line, by what its end is reached from.

@@ -7,7 +7,7 @@ ghost use Rattle.vr_steps.specs.Levels.{IsCumuls};
 ghost use Rattle.vr_steps.specs.Lines.{IsSoundLine};
 ghost use Rattle.vr_steps.specs.Samples.{IsCumulRun};
 
-use crate::{Plan, chosen_cumuls, schedule, schedule_over};
+use crate::{Chooser, Plan, chosen_cumuls, schedule, schedule_over};
 use arrayvec::ArrayVec;
 use std::alloc::Global;
 use std::test::Fail;
@@ -240,5 +240,24 @@ fn has_cumuls(alloc: Global, wanted: &[i64]) -> Result<bool, Fail> {
 fn cumuls_are_those_of_the_schedule(rt: HostRuntime) -> Result<(), Fail> {
     assert!(rt; has_cumuls(rt.alloc(), &[0, HORIZON, HORIZON])?);
     assert!(rt; !has_cumuls(rt.alloc(), &[0, HORIZON])?);
+    Ok(())
+}
+
+// Whether a chooser that found no schedule of one line chooses these cumuls of the longest one.
+fn chooses_again(alloc: Global, wanted: &[i64]) -> Result<bool, Fail> {
+    let mut chooser = Chooser::new(alloc);
+    let unfeasible = line_of(alloc, &ZERO, &SPLIT, &ALL, short_arc(3), &[])?;
+    if chooser.choose(alloc, &unfeasible)? {
+        return Ok(false);
+    }
+    let line = longest_line(alloc)?;
+    let goes = chooser.choose(alloc, &line)?;
+    Ok(goes && chooser.cumuls() == wanted)
+}
+
+#[test]
+fn a_chooser_is_written_over(rt: HostRuntime) -> Result<(), Fail> {
+    assert!(rt; chooses_again(rt.alloc(), &[0, HORIZON, HORIZON])?);
+    assert!(rt; !chooses_again(rt.alloc(), &[0, HORIZON])?);
     Ok(())
 }

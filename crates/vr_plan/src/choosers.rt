@@ -1,0 +1,87 @@
+//! Places in which the cumuls of lines are chosen.
+
+ghost use Rattle.std.specs.Prelude.{◌≡◌, IfOk, [], All, pos, length};
+ghost use Rattle.std.specs.Bool.{then_some};
+ghost use Rattle.vr_model.specs.tables.Numbers.{horizon};
+ghost use Rattle.vr_model.specs.tables.WellFormed.{IsIn};
+ghost use Rattle.vr_steps.specs.Lines.{IsSoundLine};
+ghost use Rattle.vr_plan.specs.Plans.{AreChosenCumuls};
+ghost use Rattle.vr_plan.specs.Settled.{Goes};
+
+use crate::cumuls::{Room, settle};
+use std::alloc::Global;
+use std::marker::{Brand, Model};
+use std::sync::ledger::Blank;
+use vr_model::{NoMemory, Seq};
+use vr_reach::Sweep;
+use vr_steps::Line;
+
+/// The chosen cumuls of one line after another. Contracts see those that are kept.
+///
+/// They are chosen in places that are written over, which takes memory only where a line has more stops than any
+/// before, or a set more runs than its place has room for.
+#[derive(Drop)]
+pub struct Chooser {
+    // what the end of the line is reached from
+    behind: Sweep,
+    room: Room,
+    cumuls: Seq<i64>,
+}
+
+impl Model for Chooser {
+    ghost use Rattle.std.specs.Prelude.{List, ℤ};
+
+    ghost Value = { List ℤ };
+
+    ghost view = { λ c. c.cumuls };
+}
+
+impl Chooser {
+    /// No cumuls: a place for those of a line. It takes no memory.
+    pub fn new(alloc: Global) -> Chooser
+        ensures { result ≡ [] }
+    {
+        Chooser {
+            behind: Sweep::new(alloc),
+            room: Room::new(alloc),
+            cumuls: Seq::new(alloc),
+        }
+    }
+
+    /// Writes the cumuls of the chosen schedule of a line over those that are kept: one for each stop, in `0..=2^36`.
+    /// `false` exactly where the line has no schedule; then, and after `NoMemory`, nothing is said of what is kept. The
+    /// breaks are taken into account, and their starts are not looked for.
+    pub fn choose(&mut self, alloc: Global, line: &Line) -> Result<bool, NoMemory>
+        requires sound { IsSoundLine line.now }
+        ensures chosen { IfOk result (λ goes. AreChosenCumuls line.now (then_some goes self.new)) }
+        ensures stops { IfOk result (Goes (length self.new ≡ length line.now.allowed)) }
+        ensures range { IfOk result (Goes (All (IsIn (pos 0) horizon) self.new)) }
+    {
+        vr_model::laws::chosen_where_feasible();
+        vr_model::laws::chosen_is_least();
+        self.behind.backward(alloc, line)?;
+        self.cumuls.truncate(0);
+        let goes = settle::<Brand>(
+            line,
+            &self.behind,
+            &mut self.room,
+            &mut self.cumuls,
+            Blank::new(1),
+        )?;
+        Ok(goes)
+    }
+
+    /// The cumuls that are kept. It takes no memory.
+    pub fn cumuls(&self) -> &[i64]
+        ensures { result.now ≡ self.now }
+    {
+        self.cumuls.as_slice()
+    }
+
+    // The cumuls that were kept.
+    pub(crate) fn into_cumuls(self) -> Seq<i64>
+        ensures { result ≡ self }
+    {
+        self.cumuls
+    }
+}
