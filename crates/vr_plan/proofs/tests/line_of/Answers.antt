@@ -1,5 +1,4 @@
-use Rattle.std.proofs.Common.{◌≡◌, length, sym, subst, rules}
-use Rattle.vr_model.specs.declared.records.BreakRow.{BreakRow}
+use Rattle.std.proofs.Common.{◌≡◌, rules}
 use Rattle.vr_steps.proofs.SampleLines.{one_visit}
 use Rattle.vr_plan.proofs.tests.line_of.Goals as goal
 
