@@ -20,7 +20,8 @@ DifferAtFront old new a = a < length old → a < length new → slice_index old 
 
 -- the nodes before those that both lists share at the back differ, where they are not among the first a
 abbrev pub DifferAtBack : List ℕ → List ℕ → ℕ → ℕ → Type 0
-DifferAtBack old new a z = a + z < length old → a + z < length new → slice_index old (length old - 1 - z) ≢ slice_index new (length new - 1 - z)
+DifferAtBack old new a z = a + z < length old → a + z < length new
+    → slice_index old (length old - 1 - z) ≢ slice_index new (length new - 1 - z)
 
 -- the stretch between what both lists share: as many nodes at the front as they can, and then as many at the back
 pub record IsStretch (old new : List ℕ) (stretch : Stretch) : Type 0 where

@@ -75,8 +75,8 @@ fn walk_through<L: Ledger>(
     Ok(passed)
 }
 
-/// Whether a list of vehicle `v` is empty or its line feasible, found by a walk through what differs from the list before,
-/// whose rows are known. It counts each crossing that it makes, at most as many as the definition of the weight of a
+/// Whether a list of vehicle `v` is empty or its line feasible, found by a walk through what differs from the list
+/// before, whose rows are known. It counts each crossing that it makes, at most as many as the definition of the weight of a
 /// changed list says.
 ///
 /// It takes memory only where a set has more than four runs, or where there are breaks and the walk is new.

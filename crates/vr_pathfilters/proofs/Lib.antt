@@ -1,0 +1,3 @@
+pub mod PartTours
+pub mod PartWeights
+pub mod Knowing

@@ -1,0 +1,48 @@
+-- What a filter of a dimension knows of the lists at which it stands.
+use Rattle.std.specs.Prelude.{◌≡◌, ℕ, ◌<◌, Bool, true, cond, nat_lt, List, length, slice_index_or, IsTrue}
+use Rattle.vr_model.specs.moves.Moves.{with_route}
+use Rattle.vr_model.specs.routes.Routes.{route}
+use Rattle.vr_model.specs.tables.WellFormed.{IsWellFormed}
+use Rattle.vr_model.specs.declared.records.Model.{Model}
+use Rattle.vr_reach.specs.Rows.{BothWays}
+use Rattle.vr_walks.specs.KnownRows.{AreRowsIfUsed}
+use Rattle.vr_walks.specs.Lists.{is_feasible_list}
+use Rattle.vr_walks.specs.Stops.{AreStops}
+use Rattle.vr_walks.specs.declared.stops.Stops.{Stops}
+use Rattle.vr_routes.specs.Tours.{Tours}
+use Rattle.vr_routes.specs.Pieces.{ListAfter, joined, changed, part_at}
+use Rattle.vr_pathfilters.specs.Lists.{holds_of_each}
+use Rattle.vr_pathfilters.specs.TourLists.{AreTours}
+
+-- the rows of each vehicle are those of its list
+abbrev pub AreKnown : Model → ℕ → List (List ℕ) → List BothWays → Type 0
+AreKnown model d lists known = (v : ℕ) (default : BothWays) → v < length known
+    → AreRowsIfUsed model d v (route lists v) (slice_index_or known v default)
+
+-- a filter of dimension d with these stops and rows stands at the lists
+pub record StandsAt (model : Model) (d : ℕ) (stops : Stops) (known : List BothWays) (tours : Tours) : Type 0 where
+  pub well_formed : IsWellFormed model
+  pub dimension : d < length model.dimensions
+  pub stops_are : AreStops model d stops
+  pub tours_are : AreTours model tours
+  pub known_of_each : length known ≡ length model.vehicles
+  pub known_are : AreKnown model d tours.lists known
+  pub rule : IsTrue (holds_of_each (is_feasible_list model d) tours.lists)
+
+-- the rows are those of the list of part k of a change, where there is that part
+abbrev pub AreRowsOfPart : Model → ℕ → List (List ℕ) → List ListAfter → ℕ → BothWays → Type 0
+AreRowsOfPart model d lists parts k rows = k < length parts
+    → AreRowsIfUsed model d (part_at parts k).vehicle (joined lists (part_at parts k).pieces) rows
+
+-- lists with the list of part k of a change of others, where there is that part
+abbrev pub with_part : List (List ℕ) → List ListAfter → ℕ → List (List ℕ) → List (List ℕ)
+with_part old parts k lists = cond (nat_lt k (length parts))
+    (with_route lists (part_at parts k).vehicle (joined old (part_at parts k).pieces)) lists
+
+-- the rows of each part of a change were made
+pub record IsReady (model : Model) (d : ℕ) (is_prepared : Bool) (first second : BothWays) (lists : List (List ℕ))
+    (parts : List ListAfter) : Type 0 where
+  pub prepared : is_prepared ≡ true
+  pub first_are : AreRowsOfPart model d lists parts 0 first
+  pub second_are : AreRowsOfPart model d lists parts 1 second
+  pub rule : IsTrue (holds_of_each (is_feasible_list model d) (changed lists parts))

@@ -1,0 +1,343 @@
+//! The filter of the lines of one dimension.
+
+ghost use Rattle.std.specs.Prelude.{◌≡◌, ◌+◌, ◌<◌, ◌≤◌, ℕ, Bool, false, List, length, IsTrue, IfOk, OnOk, OnErr};
+ghost use Rattle.vr_model.specs.tables.Tables.{visits};
+ghost use Rattle.vr_model.specs.schedules.Weights.{weight as weight_in, list_weight};
+ghost use Rattle.vr_model.specs.routes.Routes.{route};
+ghost use Rattle.vr_model.specs.declared.records.Model.{Model as Defined};
+ghost use Rattle.vr_model.specs.tables.WellFormed.{IsWellFormed};
+ghost use Rattle.vr_routes.specs.Changes.{IsMadeOn};
+ghost use Rattle.vr_routes.specs.Pieces.{ListAfter, changed, joined, part_at};
+ghost use Rattle.vr_routes.specs.Tours.{Tours};
+ghost use Rattle.vr_filter.specs.Filters.{after};
+ghost use Rattle.vr_walks.specs.KnownRows.{AreRowsIfUsed};
+ghost use Rattle.vr_walks.specs.Lists.{is_feasible_list, IsTour};
+ghost use Rattle.vr_walks.specs.Stops.{AreStops};
+ghost use Rattle.vr_pathfilters.specs.Lists.{holds_of_each};
+ghost use Rattle.vr_pathfilters.specs.TourLists.{AreTours};
+ghost use Rattle.vr_pathfilters.specs.Known.{AreKnown, StandsAt, IsReady, AreRowsOfPart, with_part};
+
+use arrayvec::ArrayVec;
+use std::alloc::Global;
+use std::mem;
+use std::sync::ledger::Ledger;
+use vr_filter::PathFilter;
+use vr_model::{Model, NoMemory, Seq, Steps};
+use vr_reach::{Rows, Walk};
+use vr_routes::{Change, Routes, Row};
+use vr_steps::{Breaks, Line};
+use vr_walks::{Stops, passes_along, write_line};
+
+/// Lets a change pass where the line of each used vehicle in one dimension has a schedule afterwards. It keeps the rows
+/// of the committed lists, and walks only through what a change changes.
+#[derive(Drop)]
+pub struct DimensionFilter<'m> {
+    model: &'m Model,
+    d: u32,
+    alloc: Global,
+    stops: Stops,
+    // the rows of the list of each vehicle
+    known: Vec<Rows>,
+    walk: Walk,
+    list: Row,
+    line: Line,
+    // the rows of the changed lists, where a change was made ready
+    first: Rows,
+    second: Rows,
+    is_prepared: bool,
+}
+
+impl<'m> DimensionFilter<'m> {
+    /// A filter that stands at the lists of routes, whose lines in dimension `d` are feasible. The only refusal is want
+    /// of memory.
+    pub fn open(
+        alloc: Global,
+        model: &'m Model,
+        d: u32,
+        routes: &Routes,
+    ) -> Result<DimensionFilter<'m>, NoMemory>
+        requires well_formed { IsWellFormed model.now }
+        requires dimension { d < length model.now.dimensions }
+        requires visits { routes.now.visits ≡ visits model.now }
+        requires many { length routes.now.lists ≡ length model.now.vehicles }
+        requires rule { IsTrue (holds_of_each (is_feasible_list model.now d) routes.now.lists) }
+        ensures model { IfOk result (λ filter. filter.model.now ≡ model.now) }
+        ensures dimension { IfOk result (λ filter. filter.d ≡ d) }
+        ensures stands { IfOk result (λ filter. StandsAt model.now d filter.stops filter.known.items routes.now) }
+    {
+        let stops = Stops::build(alloc, model, d)?;
+        let mut line = no_line(alloc);
+        let known = know_all(alloc, model, d, &stops, routes, &mut line)?;
+        Ok(DimensionFilter {
+            model,
+            d,
+            alloc,
+            stops,
+            known,
+            walk: Walk::new(alloc),
+            list: Row::new(),
+            line,
+            first: Rows::new(alloc),
+            second: Rows::new(alloc),
+            is_prepared: false,
+        })
+    }
+}
+
+impl<'m> PathFilter for DimensionFilter<'m> {
+    ghost holds = { λ f lists. holds_of_each (is_feasible_list f.model.now f.d) lists };
+
+    ghost stands_at = { λ f tours. StandsAt f.model.now f.d f.stops f.known.items tours };
+
+    ghost ready = { λ f tours parts. IsReady f.model.now f.d f.is_prepared f.first f.second tours.lists parts };
+
+    ghost weight = { λ f before later. weight_in f.model.now f.d before later };
+
+    fn passes<L: Ledger>(
+        &mut self,
+        routes: &Routes,
+        change: &Change,
+        steps: &mut Steps<L>,
+    ) -> Result<bool, NoMemory> {
+        self.is_prepared = false;
+        let passed = all_pass(
+            self.model,
+            self.d,
+            &self.stops,
+            &self.known,
+            routes,
+            change,
+            &mut self.list,
+            &mut self.walk,
+            steps,
+        )?;
+        Ok(passed)
+    }
+
+    fn prepare(&mut self, routes: &Routes, change: &Change) -> Result<(), NoMemory> {
+        self.is_prepared = false;
+        let (alloc, model, d) = (self.alloc, self.model, self.d);
+        let (stops, list, line) = (&self.stops, &mut self.list, &mut self.line);
+        write_part(
+            alloc,
+            model,
+            d,
+            stops,
+            routes,
+            change,
+            0,
+            list,
+            line,
+            &mut self.first,
+        )?;
+        let (stops, list, line) = (&self.stops, &mut self.list, &mut self.line);
+        write_part(
+            alloc,
+            model,
+            d,
+            stops,
+            routes,
+            change,
+            1,
+            list,
+            line,
+            &mut self.second,
+        )?;
+        self.is_prepared = true;
+        Ok(())
+    }
+
+    fn commit(&mut self, routes: &Routes, change: &Change) {
+        let _lists = routes;
+        self.is_prepared = false;
+        put_part(&mut self.known, change, 0, &mut self.first);
+        put_part(&mut self.known, change, 1, &mut self.second);
+    }
+
+    ghost keeps_rule = { λ f tours stands. stands.rule };
+}
+
+// A place for lines.
+fn no_line(alloc: Global) -> Line {
+    Line {
+        allowed: Seq::new(alloc),
+        hops: Seq::new(alloc),
+        breaks: Breaks {
+            rows: ArrayVec::new(),
+        },
+    }
+}
+
+// Writes the rows of vehicle `v` with a list over others, where the list is not empty. After `NoMemory` nothing is said
+// of them.
+fn write_rows(
+    alloc: Global,
+    model: &Model,
+    d: u32,
+    v: u32,
+    stops: &Stops,
+    list: &[u32],
+    line: &mut Line,
+    rows: &mut Rows,
+) -> Result<(), NoMemory>
+    requires well_formed { IsWellFormed model.now }
+    requires dimension { d < length model.now.dimensions }
+    requires vehicle { v < length model.now.vehicles }
+    requires stops { AreStops model.now d stops.now }
+    requires tour { IsTour model.now list.now }
+    ensures { OnOk result (AreRowsIfUsed model.now d v list.now rows.new) }
+{
+    if list.is_empty() {
+        return Ok(());
+    }
+    write_line(model, d, v, stops, list, line)?;
+    rows.rebuild(alloc, line)?;
+    Ok(())
+}
+
+// Writes the rows of the list of part `k` of a change over others, where there is that part. After `NoMemory` nothing is
+// said of them.
+fn write_part(
+    alloc: Global,
+    model: &Model,
+    d: u32,
+    stops: &Stops,
+    routes: &Routes,
+    change: &Change,
+    k: usize,
+    list: &mut Row,
+    line: &mut Line,
+    rows: &mut Rows,
+) -> Result<(), NoMemory>
+    requires well_formed { IsWellFormed model.now }
+    requires dimension { d < length model.now.dimensions }
+    requires stops { AreStops model.now d stops.now }
+    requires tours { AreTours model.now routes.now }
+    requires made { IsMadeOn routes.now change.now }
+    ensures { OnOk result (AreRowsOfPart model.now d routes.now.lists change.now k rows.new) }
+{
+    if k >= change.parts() {
+        return Ok(());
+    }
+    routes.write_after(change, k, list);
+    write_rows(
+        alloc,
+        model,
+        d,
+        change.vehicle(k),
+        stops,
+        list.as_slice(),
+        line,
+        rows,
+    )?;
+    Ok(())
+}
+
+// Puts the rows of part `k` of a change in the place of those of its vehicle, where there is that part.
+fn put_part(known: &mut Vec<Rows>, change: &Change, k: usize, rows: &mut Rows)
+    requires vehicle { k < length change.now → (part_at change.now k).vehicle < length known.old.items }
+    ensures some { 0 < length change.now }
+    ensures few { length change.now ≤ 2 }
+    ensures long { length known.new.items ≡ length known.old.items }
+    ensures known { (model : Defined) (d : ℕ) (old before : List (List ℕ)) → length before ≡ length known.old.items
+        → AreKnown model d before known.old.items → AreRowsOfPart model d old change.now k rows.old
+        → AreKnown model d (with_part old change.now k before) known.new.items }
+{
+    if k >= change.parts() {
+        return;
+    }
+    mem::swap(&mut known[change.vehicle(k) as usize], rows);
+}
+
+// The rows of each vehicle with its list.
+fn know_all(
+    alloc: Global,
+    model: &Model,
+    d: u32,
+    stops: &Stops,
+    routes: &Routes,
+    line: &mut Line,
+) -> Result<Vec<Rows>, NoMemory>
+    requires well_formed { IsWellFormed model.now }
+    requires dimension { d < length model.now.dimensions }
+    requires stops { AreStops model.now d stops.now }
+    requires visits { routes.now.visits ≡ visits model.now }
+    requires many { length routes.now.lists ≡ length model.now.vehicles }
+    requires rule { IsTrue (holds_of_each (is_feasible_list model.now d) routes.now.lists) }
+    ensures { IfOk result (λ known. StandsAt model.now d stops.now known.items routes.now) }
+{
+    routes.know_once();
+    routes.know_entries();
+    let mut known = Vec::with_capacity(alloc, routes.vehicles() as usize)?;
+    for v in 0..routes.vehicles() {
+        let mut rows = Rows::new(alloc);
+        write_rows(alloc, model, d, v, stops, routes.list(v), line, &mut rows)?;
+        known.push(rows)?;
+    }
+    Ok(known)
+}
+
+// Whether the lists of all parts of a change are empty or their lines feasible.
+fn all_pass<L: Ledger>(
+    model: &Model,
+    d: u32,
+    stops: &Stops,
+    known: &[Rows],
+    routes: &Routes,
+    change: &Change,
+    list: &mut Row,
+    walk: &mut Walk,
+    steps: &mut Steps<L>,
+) -> Result<bool, NoMemory>
+    requires stands { StandsAt model.now d stops.now known.now routes.now }
+    requires made { IsMadeOn routes.now change.now }
+    ensures answer { IfOk result (λ passed. passed
+        ≡ holds_of_each (is_feasible_list model.now d) (changed routes.now.lists change.now)) }
+    ensures count { steps.new
+        ≤ steps.old + weight_in model.now d routes.now.lists (changed routes.now.lists change.now) }
+{
+    for k in 0..change.parts() {
+        if !part_passes(model, d, stops, known, routes, change, k, list, walk, steps)? {
+            return Ok(false);
+        }
+    }
+    Ok(true)
+}
+
+// Whether the list of one part of a change is empty or its line feasible.
+fn part_passes<L: Ledger>(
+    model: &Model,
+    d: u32,
+    stops: &Stops,
+    known: &[Rows],
+    routes: &Routes,
+    change: &Change,
+    k: usize,
+    list: &mut Row,
+    walk: &mut Walk,
+    steps: &mut Steps<L>,
+) -> Result<bool, NoMemory>
+    requires stands { StandsAt model.now d stops.now known.now routes.now }
+    requires made { IsMadeOn routes.now change.now }
+    requires part { k < length change.now }
+    ensures answer { IfOk result (λ passed. passed ≡ is_feasible_list model.now d (part_at change.now k).vehicle
+        (joined routes.now.lists (part_at change.now k).pieces)) }
+    ensures count { steps.new ≤ steps.old + list_weight model.now d (part_at change.now k).vehicle
+        (route routes.now.lists (part_at change.now k).vehicle)
+        (joined routes.now.lists (part_at change.now k).pieces) }
+{
+    let v = change.vehicle(k);
+    routes.write_after(change, k, list);
+    let passed = passes_along(
+        model,
+        d,
+        v,
+        stops,
+        &known[v as usize],
+        routes.list(v),
+        list.as_slice(),
+        walk,
+        steps,
+    )?;
+    Ok(passed)
+}
