@@ -1,49 +1,51 @@
 //! The best join of two routes.
 
-ghost use Rattle.std.specs.Prelude.{◌≡◌, ◌<◌, ◌++◌, ◌^◌, IfOk, IfSome, option_map, length, neg_ℤ, pos, ◌≤ℤ◌};
+ghost use Rattle.std.specs.Prelude.{◌≡◌, ◌<◌, ◌++◌, ◌^◌, IfOk, IfSome, option_map, length, map};
+ghost use Rattle.std.specs.Prelude.{neg_ℤ, pos, ◌≤ℤ◌, ◌+ℤ◌, ◌-ℤ◌};
 ghost use Rattle.vr_model.specs.first.Choosing.{least_by};
 ghost use Rattle.vr_model.specs.routes.Routes.{route};
 ghost use Rattle.vr_model.specs.first.SavingsJoins.{join_key, joins};
+ghost use Rattle.vr_model.specs.tables.Tables.{arc_cost};
 ghost use Rattle.vr_model.specs.tables.WellFormed.{IsWellFormed};
 ghost use Rattle.vr_first_savings.specs.Joins.{best_behind as best_behind_of, choice_at as choice_at_of, join_of};
-ghost use Rattle.vr_first_savings.specs.Joins.{saved as saved_of, weigh, AreApart, MayBeJoined};
+ghost use Rattle.vr_first_savings.specs.Joins.{weigh, AreApart, MayBeJoined};
+ghost use Rattle.vr_first_savings.specs.RouteEnds.{ends_of, AreEnds};
 
 use crate::choice::{Choice, improves};
+use crate::ends::{Ends, ends_of_each};
 use std::alloc::Global;
 use vr_model::{Model, NoMemory, Seq};
 use vr_rules::route_open;
 
-// What it saves to drive from one node to another, and not over the end and the start.
-fn saved(model: &Model, last: u32, first: u32) -> i64
+// What it saves to drive from the last node of one route to the first of another, and not over the end and the start.
+fn saved(model: &Model, front: Ends, back: Ends) -> i64
     requires well_formed { IsWellFormed model.now }
-    requires last { last < model.now.nodes }
-    requires first { first < model.now.nodes }
-    ensures value { result ≡ saved_of model.now last first }
+    requires front { AreEnds model.now front }
+    requires back { AreEnds model.now back }
+    ensures value { result ≡ ((front.to_end +ℤ back.from_start) -ℤ arc_cost model.now 0 front.last back.first) }
     ensures low { neg_ℤ (pos (2 ^ 40)) ≤ℤ result }
     ensures high { result ≤ℤ pos (2 ^ 41) }
 {
-    let ends = model.vehicles.get(0);
-    model.arc_cost(0, last, ends.end) + model.arc_cost(0, ends.start, first)
-        - model.arc_cost(0, last, first)
+    front.to_end + back.from_start - model.arc_cost(0, front.last, back.first)
 }
 
-// The choice of two routes.
-fn choice_at(model: &Model, routes: &[Seq<u32>], i: usize, j: usize) -> Choice
+// The choice of two routes, whose ends are known.
+fn choice_at(model: &Model, routes: &[Seq<u32>], ends: &[Ends], i: usize, j: usize) -> Choice
     requires well_formed { IsWellFormed model.now }
     requires apart { AreApart model.now routes.now }
+    requires ends { ends.now ≡ map (ends_of model.now) routes.now }
     requires front { i < length routes.now }
     requires back { j < length routes.now }
     ensures { result ≡ choice_at_of model.now routes.now i j }
 {
-    let front = routes[i].as_slice();
-    let last = front[front.len() - 1];
-    let first = routes[j].as_slice()[0];
+    let front = ends[i];
+    let back = ends[j];
     Choice {
         front: i,
         back: j,
-        saving: saved(model, last, first),
-        last,
-        first,
+        saving: saved(model, front, back),
+        last: front.last,
+        first: back.first,
     }
 }
 
@@ -79,10 +81,10 @@ fn consider(
     requires back { next.back < length routes.now }
     ensures { IfOk result (λ chosen. chosen ≡ weigh model.now routes.now best next) }
 {
-    if next.front == next.back {
+    if !improves(best, next) {
         return Ok(best);
     }
-    if !improves(best, next) {
+    if next.front == next.back {
         return Ok(best);
     }
     let longer = joined(alloc, routes, next)?;
@@ -98,17 +100,19 @@ fn best_behind(
     alloc: Global,
     model: &Model,
     routes: &[Seq<u32>],
+    ends: &[Ends],
     i: usize,
     best: Option<Choice>,
 ) -> Result<Option<Choice>, NoMemory>
     requires well_formed { IsWellFormed model.now }
     requires apart { AreApart model.now routes.now }
+    requires ends { ends.now ≡ map (ends_of model.now) routes.now }
     requires front { i < length routes.now }
     ensures { IfOk result (λ chosen. chosen ≡ best_behind_of model.now routes.now i (length routes.now) best) }
 {
     let mut best = best;
     for j in 0..routes.len() {
-        let next = choice_at(model, routes, i, j);
+        let next = choice_at(model, routes, ends, i, j);
         best = consider(alloc, model, routes, next, best)?;
     }
     Ok(best)
@@ -126,9 +130,10 @@ pub(crate) fn best_join(
         ≡ least_by (join_key model.now) (joins model.now routes.now)) }
     ensures may { IfOk result (λ best. IfSome best (MayBeJoined model.now routes.now)) }
 {
+    let ends = ends_of_each(alloc, model, routes)?;
     let mut best: Option<Choice> = None;
     for i in 0..routes.len() {
-        best = best_behind(alloc, model, routes, i, best)?;
+        best = best_behind(alloc, model, routes, &ends, i, best)?;
     }
     Ok(best)
 }

@@ -1,20 +1,37 @@
-use Rattle.std.proofs.Common.{◌≡◌, ◌<◌, ◌-◌, sym, subst, length}
-use Rattle.std.specs.Prelude.{slice_index}
+use Rattle.std.proofs.Common.{◌≡◌, ◌∙◌, sym, subst, arith, to_z, of_z, w64}
+use Rattle.std.specs.Prelude.{slice_index_or, ◌+ℤ◌, ◌-ℤ◌}
+use Rattle.std.proofs.lemmas.Int.{ints}
+use Rattle.vr_model.specs.tables.Tables.{arc_cost}
 use Rattle.vr_model.specs.routes.Routes.{route}
-use Rattle.vr_model.proofs.routes.Lists.{list_at}
-use Rattle.vr_first_savings.proofs.JoinLemmas.{last-below, first-below}
+use Rattle.vr_first_savings.specs.RouteEnds.{ends_of, unread, AreEnds}
+use Rattle.vr_first_savings.proofs.EndLemmas.{are_ends, ends_read}
 use Rattle.vr_first_savings.proofs.joins.choice_at.Goals as goal
 
-pub saved-requires-clause-last : goal.saved-requires-clause-last
-saved-requires-clause-last c =
+pub saved-requires-clause-front : goal.saved-requires-clause-front
+saved-requires-clause-front c =
     let model = c.args.model.now in
     let routes = c.args.routes.now in
-    let list : c.as_slice-front.result.now ≡ route routes c.args.i = list_at routes c.args.i c.as_slice-front.result.now c.index-routes-i.result c.as_slice-front.ensures c.index-routes-i.is c.requires.front in
-    subst (λ list. slice_index list (length list - 1) < model.nodes) (sym list) (last-below model routes c.args.i c.requires.apart c.requires.front)
+    subst (AreEnds model) (sym (ends_read model routes c.args.ends.now c.args.i c.requires.ends c.requires.front))
+    (are_ends model routes c.args.i c.requires.well_formed c.requires.apart c.requires.front)
 
-pub saved-requires-clause-first : goal.saved-requires-clause-first
-saved-requires-clause-first c =
+pub saved-requires-clause-back : goal.saved-requires-clause-back
+saved-requires-clause-back c =
     let model = c.args.model.now in
     let routes = c.args.routes.now in
-    let list : c.as_slice.result.now ≡ route routes c.args.j = list_at routes c.args.j c.as_slice.result.now c.index-routes-j.result c.as_slice.ensures c.index-routes-j.is c.requires.back in
-    subst (λ list. slice_index list 0 < model.nodes) (sym list) (first-below model routes c.args.j c.requires.apart c.requires.back)
+    subst (AreEnds model) (sym (ends_read model routes c.args.ends.now c.args.j c.requires.ends c.requires.back))
+    (are_ends model routes c.args.j c.requires.well_formed c.requires.apart c.requires.back)
+
+pub returns : goal.returns
+returns c =
+    let model = c.args.model.now in
+    let routes = c.args.routes.now in
+    let front : slice_index_or c.args.ends.now c.args.i unread ≡ ends_of model (route routes c.args.i) = ends_read model routes c.args.ends.now c.args.i c.requires.ends c.requires.front in
+    let back : slice_index_or c.args.ends.now c.args.j unread ≡ ends_of model (route routes c.args.j) = ends_read model routes c.args.ends.now c.args.j c.requires.ends c.requires.back in
+    let fits : to_z w64 (of_z w64 c.saved.result) ≡ c.saved.result = omega (arith, ints, c.saved.ensures.low, c.saved.ensures.high) in
+    λ t. record {
+      front = c.args.i;
+      back = c.args.j;
+      saving = (fits ∙ c.saved.ensures.value ∙ (λ u. ((front u).to_end +ℤ (back u).from_start) -ℤ arc_cost model 0 (front u).last (back u).first)) t;
+      last = (front t).last;
+      first = (back t).first;
+    }
