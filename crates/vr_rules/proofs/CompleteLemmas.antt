@@ -41,13 +41,18 @@ required_passes model marks h =
     list_all-filter (λ node. is_grouped model node || is_marked marks node) (is_visit model) (below model.nodes)
     ∙ range_list_all (may_stay model marks) 0 model.nodes (λ node start end. h node (omega (arith, end)))
 
-true-and : (a b c : Bool) → a ≡ true → b ≡ true → (a && (b && c)) ≡ c
-true-and a b c e f = ap₂ (λ a b. a && (b && c)) e f
+pub and-false : (a : Bool) → (a && false) ≡ false
+and-false true = refl
+and-false false = refl
 
-pub is_valid-complete : (model : Model) → IsWellFormed model → (lists : List (List ℕ)) (marks : List Bool) → AreBuilt model lists → AreMarks model.nodes lists marks
-    → is_complete model marks ≡ is_valid model lists
-unfolding is_valid
-is_valid-complete model well_formed lists marks built are =
+and-true : (a : Bool) → (a && true) ≡ a
+and-true true = refl
+and-true false = refl
+
+-- what is missing in lists, by marks
+complete-marks : (model : Model) → IsWellFormed model → (lists : List (List ℕ)) (marks : List Bool) → AreMarks model.nodes lists marks
+    → is_complete model marks ≡ (has_required model lists && list_all (λ group. has_enough group.penalty group.max (active_in lists group)) model.groups)
+complete-marks model well_formed lists marks are =
     let required : list_all (λ node. is_grouped model node || is_marked marks node) (visits model) ≡ has_required model lists =
     list_all-within (λ node. is_grouped model node || is_marked marks node) (λ node. is_grouped model node || is_active lists node) (visits model)
     (All-weaker (λ node. is_visit model node ≡ true) (λ node. (is_grouped model node || is_marked marks node) ≡ (is_grouped model node || is_active lists node))
@@ -59,7 +64,25 @@ is_valid-complete model well_formed lists marks built are =
     ap (has_enough group.penalty group.max) (count_by-within (is_marked marks) (is_active lists) group.nodes (λ k node node_low.
     are.each (get_or group.nodes k node) false (visit_below model (get_or group.nodes k node) ((well_formed.each_group g d low).each_node_is_visit k node node_low))))) in
     ap₂ (λ a b. a && b) required enough
-    ∙ sym (true-and (are_lists model lists) (is_open model lists) _ built.are_lists built.are_open)
+
+-- lists are valid where they are open and nothing is missing
+valid-by-parts : (model : Model) → IsWellFormed model → (lists : List (List ℕ)) (marks : List Bool) → AreMarks model.nodes lists marks → are_lists model lists ≡ true
+    → (is_open model lists && is_complete model marks) ≡ is_valid model lists
+unfolding is_valid
+valid-by-parts model well_formed lists marks are lists_are =
+    ap (λ b. is_open model lists && b) (complete-marks model well_formed lists marks are)
+    ∙ sym (ap (λ a. a && (is_open model lists && (has_required model lists && list_all (λ group. has_enough group.penalty group.max (active_in lists group)) model.groups))) lists_are)
+
+pub is_valid-complete : (model : Model) → IsWellFormed model → (lists : List (List ℕ)) (marks : List Bool) → AreBuilt model lists → AreMarks model.nodes lists marks
+    → is_complete model marks ≡ is_valid model lists
+is_valid-complete model well_formed lists marks built are =
+    sym (ap (λ a. a && is_complete model marks) built.are_open) ∙ valid-by-parts model well_formed lists marks are built.are_lists
+
+-- where nothing is missing
+pub valid_where_open : (model : Model) → IsWellFormed model → (lists : List (List ℕ)) (marks : List Bool) → are_lists model lists ≡ true → AreMarks model.nodes lists marks
+    → is_complete model marks ≡ true → is_open model lists ≡ is_valid model lists
+valid_where_open model well_formed lists marks lists_are are complete =
+    sym (and-true (is_open model lists)) ∙ ap (λ b. is_open model lists && b) (sym complete) ∙ valid-by-parts model well_formed lists marks are lists_are
 
 -- the answer of code on marks that it reads, of lists that are what a definition gives
 pub valid_by : (model : Model) → IsWellFormed model → (written ends : List (List ℕ)) (marks read : List Bool) (answer : Bool) → AreBuilt model written → AreMarks model.nodes written marks
@@ -82,14 +105,6 @@ pub is_open-by : (model : Model) → IsWellFormed model → (lists : List (List 
 unfolding is_open
 is_open-by model well_formed lists marks fit all are e f = ap₂ (λ a b. a && b) f (e ∙ fits-marks model well_formed lists marks are)
 
-pub and-false : (a : Bool) → (a && false) ≡ false
-and-false true = refl
-and-false false = refl
-
-and-true : (a : Bool) → (a && true) ≡ a
-and-true true = refl
-and-true false = refl
-
 -- where a group has too many nodes
 pub groups_close : (model : Model) → IsWellFormed model → (lists : List (List ℕ)) (marks : List Bool) → AreMarks model.nodes lists marks → list_all (fits_by marks) model.groups ≡ false → is_open model lists ≡ false
 groups_close model well_formed lists marks are h =
@@ -102,14 +117,13 @@ open_where_routes model well_formed lists marks are h =
     sym (and-true (are_routes_open model lists)) ∙ ap (λ b. are_routes_open model lists && b) (sym h)
     ∙ is_open-by model well_formed lists marks (list_all (fits_by marks) model.groups) (are_routes_open model lists) are refl refl
 
-false-inside : (a b c : Bool) → b ≡ false → (a && (b && c)) ≡ false
-false-inside a b c e = ap (λ b. a && (b && c)) e ∙ and-false a
-
--- lists that are not open are not valid
-pub closed-not-valid : (model : Model) (lists : List (List ℕ)) → are_lists model lists ≡ true → is_open model lists ≡ false → is_valid model lists ≡ false
+-- lists in which something is missing are not valid
+pub incomplete-not-valid : (model : Model) → IsWellFormed model → (lists : List (List ℕ)) (marks : List Bool) → AreMarks model.nodes lists marks → is_complete model marks ≡ false → is_valid model lists ≡ false
 unfolding is_valid
-closed-not-valid model lists are closed =
-    false-inside (are_lists model lists) (is_open model lists) (has_required model lists && list_all (λ group. has_enough group.penalty group.max (active_in lists group)) model.groups) closed
+incomplete-not-valid model well_formed lists marks are missing =
+    let rest : (has_required model lists && list_all (λ group. has_enough group.penalty group.max (active_in lists group)) model.groups) ≡ false =
+    sym (complete-marks model well_formed lists marks are) ∙ missing in
+    ap (λ b. are_lists model lists && (is_open model lists && b)) rest ∙ ap (λ b. are_lists model lists && b) (and-false (is_open model lists)) ∙ and-false (are_lists model lists)
 
 -- ---- routes with given lists
 

@@ -16,7 +16,7 @@ ghost use Rattle.vr_rules.specs.RoutesOpen.{is_feasible_in_each};
 ghost use Rattle.vr_steps.specs.declared.stops.StopName.TheVariants.{Visit};
 
 use crate::items::Item;
-use crate::pairs::keeps_pairs;
+use crate::pairs::{PairPlaces, keeps_pairs};
 use std::alloc::Global;
 use std::marker::Brand;
 use std::sync::ledger::{Blank, Ledger};
@@ -373,7 +373,7 @@ fn longer(alloc: Global, list: &[u32], item: Item) -> Result<Vec<u32>, NoMemory>
 // Whether the list with an item at its end serves each pair in order, and keeps the policy of the vehicle. It takes no
 // memory where the model has no pairs.
 fn keeps_pairs_with(
-    alloc: Global,
+    room: &mut Room,
     model: &Model,
     v: u32,
     list: &[u32],
@@ -388,8 +388,8 @@ fn keeps_pairs_with(
     if model.pairs.is_empty() {
         return Ok(true);
     }
-    let longer = longer(alloc, list, item)?;
-    let keeps = keeps_pairs(alloc, model, v, &longer)?;
+    let longer = longer(room.alloc, list, item)?;
+    let keeps = keeps_pairs(model, v, &longer, &mut room.pairs)?;
     Ok(keeps)
 }
 
@@ -398,6 +398,7 @@ fn keeps_pairs_with(
 pub struct Room {
     alloc: Global,
     walk: Walk,
+    pairs: PairPlaces,
 }
 
 impl Room {
@@ -406,6 +407,7 @@ impl Room {
         Room {
             alloc,
             walk: Walk::new(alloc),
+            pairs: PairPlaces::new(alloc),
         }
     }
 }
@@ -453,7 +455,7 @@ impl Fronts {
         if !is_feasible_with(&self.each, &mut room.walk, model, v, list, item)? {
             return Ok(false);
         }
-        let keeps = keeps_pairs_with(room.alloc, model, v, list, item)?;
+        let keeps = keeps_pairs_with(room, model, v, list, item)?;
         Ok(keeps)
     }
 

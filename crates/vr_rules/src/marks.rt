@@ -1,6 +1,6 @@
 //! Which nodes are active, and whether the groups have room for an item.
 
-ghost use Rattle.std.specs.Prelude.{◌≡◌, ℕ, ◌<◌, ◌||◌, Bool, All, IfOk, length, slice_index_or};
+ghost use Rattle.std.specs.Prelude.{◌≡◌, ℕ, ◌<◌, ◌||◌, Bool, All, IfOk, OnOk, length, slice_index_or};
 ghost use Rattle.std.specs.List.{list_all};
 ghost use Rattle.vr_model.specs.routes.Routes.{holds};
 ghost use Rattle.vr_model.specs.tables.WellFormed.{IsWellFormed};
@@ -64,10 +64,23 @@ pub fn active_marks(alloc: Global, model: &Model, routes: &Routes) -> Result<Vec
     ensures { IfOk result (λ marks. AreMarks model.now.nodes routes.now.lists marks.items) }
 {
     let mut marks = Vec::with_capacity(alloc, model.nodes as usize)?;
+    write_marks(model, routes, &mut marks)?;
+    Ok(marks)
+}
+
+// Writes for each node whether it is active over marks.
+pub(crate) fn write_marks(
+    model: &Model,
+    routes: &Routes,
+    marks: &mut Vec<bool>,
+) -> Result<(), NoMemory>
+    ensures { OnOk result (AreMarks model.now.nodes routes.now.lists marks.new.items) }
+{
+    marks.clear();
     for node in 0..model.nodes {
         marks.push(routes.is_active(node))?;
     }
-    Ok(marks)
+    Ok(())
 }
 
 /// Marks the nodes of an item.

@@ -1,6 +1,6 @@
 //! The pairs of one list: each is served in order, and as the policy of the vehicle asks.
 
-ghost use Rattle.std.specs.Prelude.{◌≡◌, ◌<◌, ◌≤◌, ◌&&◌, All, IfOk, IsTrue, length};
+ghost use Rattle.std.specs.Prelude.{◌≡◌, ◌<◌, ◌≤◌, ◌&&◌, All, IfOk, OnOk, IsTrue, length};
 ghost use Rattle.std.specs.List.{list_all};
 ghost use Rattle.vr_model.specs.tables.Tables.{is_visit};
 ghost use Rattle.vr_model.specs.routes.Routes.{is_distinct};
@@ -9,7 +9,7 @@ ghost use Rattle.vr_model.specs.declared.records.Policy.TheVariants.{Any};
 ghost use Rattle.vr_model.specs.tables.WellFormed.{IsWellFormed};
 ghost use Rattle.vr_rules.specs.Places.{allows_beside, places_allow, served_in, ArePlaces};
 
-use crate::places::places_of;
+use crate::places::write_places;
 use std::alloc::Global;
 use vr_model::{Model, NoMemory, Pair, Policy};
 
@@ -18,6 +18,23 @@ use vr_model::{Model, NoMemory, Pair, Policy};
 struct Served {
     pickup: u32,
     delivery: u32,
+}
+
+// Where the nodes of a model and the pairs of a list stand in the list, written over for each list.
+#[derive(Drop)]
+pub(crate) struct PairPlaces {
+    nodes: Vec<u32>,
+    served: Vec<Served>,
+}
+
+impl PairPlaces {
+    // It takes no memory.
+    pub(crate) fn new(alloc: Global) -> PairPlaces {
+        PairPlaces {
+            nodes: Vec::new(alloc),
+            served: Vec::new(alloc),
+        }
+    }
 }
 
 // Whether a pair is in the list with both nodes, the pickup first, or with neither.
@@ -53,18 +70,18 @@ fn serves_all(model: &Model, list: &[u32], places: &[u32]) -> bool
     true
 }
 
-// The pairs of the list, by their places.
-fn pairs_of_list(
-    alloc: Global,
+// Writes the pairs of the list over those that were served, by their places.
+fn write_served(
     model: &Model,
     list: &[u32],
     places: &[u32],
-) -> Result<Vec<Served>, NoMemory>
+    served: &mut Vec<Served>,
+) -> Result<(), NoMemory>
     requires well_formed { IsWellFormed model.now }
     requires places { ArePlaces model.now.nodes list.now places.now }
-    ensures { IfOk result (λ served. served.items ≡ served_in list.now model.now.pairs) }
+    ensures { OnOk result (served.new.items ≡ served_in list.now model.now.pairs) }
 {
-    let mut served = Vec::new(alloc);
+    served.clear();
     for k in 0..model.pairs.len() {
         let pair = model.pairs.get(k);
         let pickup = places[pair.pickup as usize];
@@ -73,7 +90,7 @@ fn pairs_of_list(
             served.push(Served { pickup, delivery })?;
         }
     }
-    Ok(served)
+    Ok(())
 }
 
 // Whether a policy asks nothing of two pairs.
@@ -119,10 +136,10 @@ fn allows_all(policy: Policy, served: &[Served]) -> bool
 // It marks the place of each node once, and then looks at each pair of the model, and at each two pairs of the list
 // where the policy asks something of them. A model without pairs costs nothing.
 pub(crate) fn keeps_pairs(
-    alloc: Global,
     model: &Model,
     v: u32,
     list: &[u32],
+    places: &mut PairPlaces,
 ) -> Result<bool, NoMemory>
     requires well_formed { IsWellFormed model.now }
     requires vehicle { v < length model.now.vehicles }
@@ -134,14 +151,14 @@ pub(crate) fn keeps_pairs(
     if model.pairs.is_empty() {
         return Ok(true);
     }
-    let places = places_of(alloc, model.nodes, list)?;
-    if !serves_all(model, list, &places) {
+    write_places(model.nodes, list, &mut places.nodes)?;
+    if !serves_all(model, list, &places.nodes) {
         return Ok(false);
     }
     let policy = model.vehicles.get(v as usize).policy;
     if asks_nothing(policy) {
         return Ok(true);
     }
-    let served = pairs_of_list(alloc, model, list, &places)?;
-    Ok(allows_all(policy, &served))
+    write_served(model, list, &places.nodes, &mut places.served)?;
+    Ok(allows_all(policy, &places.served))
 }

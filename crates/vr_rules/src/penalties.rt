@@ -1,19 +1,14 @@
 //! What groups cost whose nodes are not all active.
 
 ghost use Rattle.std.specs.Prelude.{◌≡◌, ◌<◌, ◌≤◌, ◌*◌, ◌^◌, ◌-ℤ◌, ◌≤ℤ◌};
-ghost use Rattle.std.specs.Prelude.{pos, All, IfOk, IsTrue, count_by, length, nat_le};
+ghost use Rattle.std.specs.Prelude.{pos, All, IsTrue, count_by, length, nat_le};
 ghost use Rattle.std.specs.List.{list_all};
-ghost use Rattle.vr_model.specs.routes.Costs.{penalty_part};
 ghost use Rattle.vr_model.specs.tables.Numbers.{total_by};
-ghost use Rattle.vr_model.specs.routes.Rules.{is_open};
 ghost use Rattle.vr_model.specs.tables.WellFormed.{greatest_cost, IsIn, IsWellFormed, WherePresent};
 ghost use Rattle.vr_rules.specs.Placing.{fits_by, is_marked, penalty_by};
 
 use crate::complete::marked;
-use crate::marks::active_marks;
-use std::alloc::Global;
-use vr_model::{Group, Model, NoMemory};
-use vr_routes::Routes;
+use vr_model::{Group, Model};
 
 // How many nodes fewer of a group are marked than may be.
 fn missing(marks: &[bool], group: &Group) -> i64
@@ -43,8 +38,9 @@ fn penalty_of_group(marks: &[bool], group: &Group) -> i64
     }
 }
 
-// What all groups cost with the marked nodes.
-fn penalty_of_groups(model: &Model, marks: &[bool]) -> i64
+// What all groups cost with the marked nodes: for each group with a penalty, the penalty times how many nodes fewer are
+// marked than may be.
+pub(crate) fn penalty_of_groups(model: &Model, marks: &[bool]) -> i64
     requires well_formed { IsWellFormed model.now }
     requires marks { length marks.now ≡ model.now.nodes }
     requires fit { IsTrue (list_all (fits_by marks.now) model.now.groups) }
@@ -57,22 +53,4 @@ fn penalty_of_groups(model: &Model, marks: &[bool]) -> i64
         total += penalty_of_group(marks, model.groups.get(k));
     }
     total
-}
-
-// The penalty part of the cost of routes: for each group with a penalty, the penalty times how many nodes fewer are
-// active than may be.
-pub(crate) fn penalty_of_routes(
-    alloc: Global,
-    model: &Model,
-    routes: &Routes,
-) -> Result<i64, NoMemory>
-    requires well_formed { IsWellFormed model.now }
-    requires open_lists { IsTrue (is_open model.now routes.now.lists) }
-    ensures value { IfOk result (λ penalty. penalty ≡ penalty_part model.now routes.now.lists) }
-    ensures low { IfOk result (λ penalty. pos 0 ≤ℤ penalty) }
-    ensures high { IfOk result (λ penalty. penalty ≤ℤ pos (2 ^ 40 * 1000 * 1000)) }
-{
-    let marks = active_marks(alloc, model, routes)?;
-    let penalty = penalty_of_groups(model, &marks);
-    Ok(penalty)
 }

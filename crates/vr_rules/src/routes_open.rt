@@ -4,29 +4,50 @@ ghost use Rattle.std.specs.Prelude.{◌≡◌, ◌<◌, IsTrue, IfOk, length};
 ghost use Rattle.std.specs.List.{list_all};
 ghost use Rattle.vr_model.specs.tables.Tables.{is_visit};
 ghost use Rattle.vr_model.specs.routes.Routes.{is_distinct};
-ghost use Rattle.vr_model.specs.schedules.Lines.{line};
-ghost use Rattle.vr_model.specs.schedules.Choices.{is_feasible};
 ghost use Rattle.vr_model.specs.tables.WellFormed.{IsWellFormed};
-ghost use Rattle.vr_model.specs.routes.Rules.{is_route_open};
+ghost use Rattle.vr_model.specs.routes.Rules.{is_route_open as is_route_open_of};
 ghost use Rattle.vr_rules.specs.RoutesOpen.{is_feasible_in_each as is_feasible_in_each_of};
+ghost use Rattle.vr_rules.specs.Tables.{AreTables};
 
 use crate::allowed::allows_each;
-use crate::pairs::keeps_pairs;
+use crate::pairs::{PairPlaces, keeps_pairs};
+use crate::tables::Table;
 use std::alloc::Global;
-use vr_model::{Model, NoMemory, laws};
-use vr_reach::Rows;
-use vr_steps::Line;
+use vr_model::{Model, NoMemory};
+use vr_reach::Walk;
+use vr_walks::goes_through;
 
-/// Whether vehicle `v` may drive a list: the list is empty, or its line in each dimension has a schedule, it serves
-/// each pair in order and as the vehicle's policy asks, and the vehicle may visit each of its nodes.
-///
-/// The list holds distinct visits. `NoMemory` where there was no memory.
-pub fn route_open(alloc: Global, model: &Model, v: u32, list: &[u32]) -> Result<bool, NoMemory>
+// What is written over while routes are driven.
+#[derive(Drop)]
+pub(crate) struct Driving {
+    walk: Walk,
+    pairs: PairPlaces,
+}
+
+impl Driving {
+    // It takes no memory.
+    pub(crate) fn new(alloc: Global) -> Driving {
+        Driving {
+            walk: Walk::new(alloc),
+            pairs: PairPlaces::new(alloc),
+        }
+    }
+}
+
+// Whether vehicle `v` may drive a list of distinct visits.
+pub(crate) fn is_route_open(
+    model: &Model,
+    tables: &[Table],
+    v: u32,
+    list: &[u32],
+    driving: &mut Driving,
+) -> Result<bool, NoMemory>
     requires well_formed { IsWellFormed model.now }
+    requires tables { AreTables model.now tables.now }
     requires vehicle { v < length model.now.vehicles }
     requires visits { IsTrue (list_all (is_visit model.now) list.now) }
     requires distinct { IsTrue (is_distinct list.now) }
-    ensures { IfOk result (λ answer. answer ≡ is_route_open model.now v list.now) }
+    ensures { IfOk result (λ answer. answer ≡ is_route_open_of model.now v list.now) }
 {
     if list.is_empty() {
         return Ok(true);
@@ -34,16 +55,23 @@ pub fn route_open(alloc: Global, model: &Model, v: u32, list: &[u32]) -> Result<
     if !allows_each(model, v, list) {
         return Ok(false);
     }
-    if !keeps_pairs(alloc, model, v, list)? {
+    if !keeps_pairs(model, v, list, &mut driving.pairs)? {
         return Ok(false);
     }
-    let feasible = is_feasible_in_each(alloc, model, v, list)?;
+    let feasible = is_feasible_in_each(model, tables, v, list, &mut driving.walk)?;
     Ok(feasible)
 }
 
 // Whether the line of a list has a schedule in each dimension.
-fn is_feasible_in_each(alloc: Global, model: &Model, v: u32, list: &[u32]) -> Result<bool, NoMemory>
+fn is_feasible_in_each(
+    model: &Model,
+    tables: &[Table],
+    v: u32,
+    list: &[u32],
+    walk: &mut Walk,
+) -> Result<bool, NoMemory>
     requires well_formed { IsWellFormed model.now }
+    requires tables { AreTables model.now tables.now }
     requires vehicle { v < length model.now.vehicles }
     requires some { 0 < length list.now }
     requires visits { IsTrue (list_all (is_visit model.now) list.now) }
@@ -51,31 +79,9 @@ fn is_feasible_in_each(alloc: Global, model: &Model, v: u32, list: &[u32]) -> Re
     ensures { IfOk result (λ answer. answer ≡ is_feasible_in_each_of model.now v list.now) }
 {
     for d in 0..model.dimensions.len() {
-        if !is_feasible_in(alloc, model, d as u32, v, list)? {
+        if !goes_through(model, d as u32, v, &tables[d].stops, list, walk)? {
             return Ok(false);
         }
     }
     Ok(true)
-}
-
-// Whether the line of a list has a schedule in one dimension.
-fn is_feasible_in(
-    alloc: Global,
-    model: &Model,
-    d: u32,
-    v: u32,
-    list: &[u32],
-) -> Result<bool, NoMemory>
-    requires well_formed { IsWellFormed model.now }
-    requires dimension { d < length model.now.dimensions }
-    requires vehicle { v < length model.now.vehicles }
-    requires some { 0 < length list.now }
-    requires visits { IsTrue (list_all (is_visit model.now) list.now) }
-    requires distinct { IsTrue (is_distinct list.now) }
-    ensures { IfOk result (λ feasible. feasible ≡ is_feasible (line model.now d v list.now)) }
-{
-    laws::chosen_where_feasible();
-    let line = Line::build(alloc, model, d, v, list)?;
-    let rows = Rows::build(alloc, &line)?;
-    Ok(rows.feasible())
 }

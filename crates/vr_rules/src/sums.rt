@@ -11,9 +11,11 @@ ghost use Rattle.vr_rules.specs.Bounds.{IsAround};
 ghost use Rattle.vr_rules.specs.Timings.{IsTimingOf};
 ghost use Rattle.vr_rules.specs.Sums.{has_soft, start_beside, last_beside, length_of};
 ghost use Rattle.vr_rules.specs.Sums.{AreFree, AreSums, IsExtentInRange, IsWider, PaysNothing};
+ghost use Rattle.vr_rules.specs.Places.{ArePlaces};
+ghost use Rattle.vr_rules.specs.Tables.{keys_of, IsTable};
 
-use crate::timings::{Timing, times, timing_of};
-use std::alloc::Global;
+use crate::tables::{Table, row_of};
+use crate::timings::{Timer, Timing, times, timing_of};
 use vr_model::{Dimension, Model, NoMemory, StopRow};
 use vr_routes::Routes;
 
@@ -43,11 +45,13 @@ fn has_soft(row: Option<&StopRow>) -> bool
 }
 
 // Whether some visit of a list has a soft upper bound.
-fn visits_soft(dimension: &Dimension, list: &[u32]) -> bool
+fn visits_soft(dimension: &Dimension, places: &[u32], list: &[u32]) -> bool
+    requires places { ArePlaces (length places.now) (keys_of dimension.now.nodes) places.now }
+    requires list { All (λ node. node < length places.now) list.now }
     ensures { result ≡ false → AreFree dimension.now list.now }
 {
     for &node in list {
-        if has_soft(StopRow::of_key(&dimension.nodes, node)) {
+        if has_soft(row_of(&dimension.nodes, places, node)) {
             return true;
         }
     }
@@ -55,8 +59,10 @@ fn visits_soft(dimension: &Dimension, list: &[u32]) -> bool
 }
 
 // Whether schedules of a list may cost anything: there is a coefficient of spans, or some stop has a soft upper bound.
-fn may_pay(dimension: &Dimension, v: u32, list: &[u32]) -> bool
+fn may_pay(dimension: &Dimension, places: &[u32], v: u32, list: &[u32]) -> bool
     requires vehicle { v < length dimension.now.span_costs }
+    requires places { ArePlaces (length places.now) (keys_of dimension.now.nodes) places.now }
+    requires list { All (λ node. node < length places.now) list.now }
     ensures { result ≡ false → PaysNothing dimension.now v list.now }
 {
     if dimension.global_span_cost != 0 {
@@ -71,7 +77,7 @@ fn may_pay(dimension: &Dimension, v: u32, list: &[u32]) -> bool
     if has_soft(StopRow::of_key(&dimension.ends, v)) {
         return true;
     }
-    visits_soft(dimension, list)
+    visits_soft(dimension, places, list)
 }
 
 // The extent with one route more.
@@ -129,15 +135,17 @@ fn with_timing(dimension: &Dimension, v: u32, timing: Timing, sums: Sums) -> Sum
 
 // The sums with one vehicle more.
 fn with_vehicle(
-    alloc: Global,
     model: &Model,
+    table: &Table,
     d: u32,
     routes: &Routes,
     v: u32,
     sums: Sums,
+    timer: &mut Timer,
 ) -> Result<Sums, NoMemory>
     requires well_formed { IsWellFormed model.now }
     requires dimension { d < length model.now.dimensions }
+    requires table { IsTable model.now d table.now }
     requires lists { IsTrue (are_lists model.now routes.now.lists) }
     requires vehicle { v < length routes.now.lists }
     requires sums { AreSums model.now routes.now.lists d v sums }
@@ -148,22 +156,24 @@ fn with_vehicle(
         return Ok(sums);
     }
     let dimension = model.dimensions.get(d as usize);
-    if !may_pay(dimension, v, list) {
+    if !may_pay(dimension, &table.rows, v, list) {
         return Ok(sums);
     }
-    let timing = timing_of(alloc, model, d, v, list)?;
+    let timing = timing_of(model, table, d, v, list, timer)?;
     Ok(with_timing(dimension, v, timing, sums))
 }
 
 // What the chosen schedules of routes come to in dimension `d`.
 pub(crate) fn sums_of(
-    alloc: Global,
     model: &Model,
+    table: &Table,
     d: u32,
     routes: &Routes,
+    timer: &mut Timer,
 ) -> Result<Sums, NoMemory>
     requires well_formed { IsWellFormed model.now }
     requires dimension { d < length model.now.dimensions }
+    requires table { IsTable model.now d table.now }
     requires lists { IsTrue (are_lists model.now routes.now.lists) }
     ensures { IfOk result (AreSums model.now routes.now.lists d (length routes.now.lists)) }
 {
@@ -173,7 +183,7 @@ pub(crate) fn sums_of(
         extent: None,
     };
     for v in 0..routes.vehicles() {
-        sums = with_vehicle(alloc, model, d, routes, v, sums)?;
+        sums = with_vehicle(model, table, d, routes, v, sums, timer)?;
     }
     Ok(sums)
 }

@@ -9,33 +9,63 @@ ghost use Rattle.vr_model.specs.routes.Routes.{is_distinct};
 ghost use Rattle.vr_model.specs.routes.Costs.{row_cost};
 ghost use Rattle.vr_model.specs.tables.WellFormed.{IsWellFormed, IsStopRow, IsIn, WherePresent};
 ghost use Rattle.vr_rules.specs.Bounds.{IsAround};
+ghost use Rattle.vr_rules.specs.Tables.{keys_of, IsTable};
+ghost use Rattle.vr_rules.specs.Places.{ArePlaces};
 ghost use Rattle.vr_rules.specs.Timings.{soft_of, IsTiming, IsTimingOf};
 
+use crate::tables::{Table, row_of};
+use arrayvec::ArrayVec;
 use std::alloc::Global;
-use vr_model::{Dimension, Model, NoMemory, StopRow};
-use vr_plan::chosen_cumuls;
-use vr_steps::Line;
+use vr_model::{Dimension, Model, NoMemory, Seq, StopRow};
+use vr_plan::Chooser;
+use vr_steps::{Breaks, Line};
+use vr_walks::write_line;
 
-/// What the soft upper bounds of a list cost at its chosen schedule, and the cumuls of its start and end.
+// What the soft upper bounds of a list cost at its chosen schedule, and the cumuls of its start and end.
 #[derive(Clone, Copy)]
-pub struct Timing {
-    /// What the soft upper bounds of all stops cost together, 0 or more.
-    pub soft: i64,
-    /// The cumul of the start, in `0..=2^36`.
-    pub start: i64,
-    /// The cumul of the end, in `0..=2^36`.
-    pub last: i64,
+pub(crate) struct Timing {
+    // what the soft upper bounds of all stops cost together, 0 or more
+    pub(crate) soft: i64,
+    // the cumul of the start, in `0..=2^36`
+    pub(crate) start: i64,
+    // the cumul of the end, in `0..=2^36`
+    pub(crate) last: i64,
 }
 
-/// What the chosen schedule of a list of vehicle `v` comes to in dimension `d`. Where there is no schedule, all is 0.
-///
-/// The list holds distinct visits. `NoMemory` where there was no memory.
-pub fn timing_of(
+// What is written over while lists are timed.
+#[derive(Drop)]
+pub(crate) struct Timer {
     alloc: Global,
+    line: Line,
+    chooser: Chooser,
+}
+
+impl Timer {
+    // It takes no memory.
+    pub(crate) fn new(alloc: Global) -> Timer {
+        Timer {
+            alloc,
+            line: Line {
+                allowed: Seq::new(alloc),
+                hops: Seq::new(alloc),
+                breaks: Breaks {
+                    rows: ArrayVec::new(),
+                },
+            },
+            chooser: Chooser::new(alloc),
+        }
+    }
+}
+
+// What the chosen schedule of a list of distinct visits of vehicle `v` comes to in dimension `d`. Where there is no
+// schedule, all is 0.
+pub(crate) fn timing_of(
     model: &Model,
+    table: &Table,
     d: u32,
     v: u32,
     list: &[u32],
+    timer: &mut Timer,
 ) -> Result<Timing, NoMemory>
     requires well_formed { IsWellFormed model.now }
     requires dimension { d < length model.now.dimensions }
@@ -44,41 +74,44 @@ pub fn timing_of(
     requires visits { IsTrue (list_all (is_visit model.now) list.now) }
     requires distinct { IsTrue (is_distinct list.now) }
     requires few { length list.now ≤ 1000 }
+    requires table { IsTable model.now d table.now }
     ensures timing { IfOk result (IsTiming model.now d v list.now) }
     ensures range { IfOk result (IsTimingOf (length list.now + 2)) }
 {
-    let line = Line::build(alloc, model, d, v, list)?;
-    let Some(cumuls) = chosen_cumuls(alloc, &line)? else {
+    write_line(model, d, v, &table.stops, list, &mut timer.line)?;
+    if !timer.chooser.choose(timer.alloc, &timer.line)? {
         return Ok(Timing {
             soft: 0,
             start: 0,
             last: 0,
         });
-    };
+    }
     let dimension = model.dimensions.get(d as usize);
-    let cumuls = cumuls.as_slice();
+    let cumuls = timer.chooser.cumuls();
     Ok(Timing {
-        soft: soft_cost(dimension, v, list, cumuls),
+        soft: soft_cost(dimension, &table.rows, v, list, cumuls),
         start: cumuls[0],
         last: cumuls[list.len() + 1],
     })
 }
 
 // What cumuls cost by the soft upper bounds of the stops.
-fn soft_cost(dimension: &Dimension, v: u32, list: &[u32], cumuls: &[i64]) -> i64
+fn soft_cost(dimension: &Dimension, places: &[u32], v: u32, list: &[u32], cumuls: &[i64]) -> i64
     requires starts { All IsStopRow dimension.now.starts }
     requires nodes { All IsStopRow dimension.now.nodes }
     requires ends { All IsStopRow dimension.now.ends }
     requires stops { length cumuls.now ≡ suc (suc (length list.now)) }
     requires range { All (IsIn (pos 0) horizon) cumuls.now }
     requires few { length list.now ≤ 1000 }
+    requires places { ArePlaces (length places.now) (keys_of dimension.now.nodes) places.now }
+    requires list { All (λ node. node < length places.now) list.now }
     ensures value { result ≡ soft_of dimension.now v list.now cumuls.now }
     ensures low { pos 0 ≤ℤ result }
     ensures high { result ≤ℤ pos (687200000000000 * (length list.now + 2)) }
 {
     let mut cost = row_cost(StopRow::of_key(&dimension.starts, v), cumuls[0]);
     for k in 0..list.len() {
-        cost += row_cost(StopRow::of_key(&dimension.nodes, list[k]), cumuls[k + 1]);
+        cost += row_cost(row_of(&dimension.nodes, places, list[k]), cumuls[k + 1]);
     }
     cost + row_cost(StopRow::of_key(&dimension.ends, v), cumuls[list.len() + 1])
 }

@@ -3,26 +3,32 @@
 ghost use Rattle.std.specs.Prelude.{◌≡◌, ◌<◌, All, IfOk, IsTrue, count_by, length, nat_le};
 ghost use Rattle.std.specs.List.{list_all};
 ghost use Rattle.vr_model.specs.routes.Routes.{are_lists};
-ghost use Rattle.vr_model.specs.routes.Rules.{is_open, is_valid};
+ghost use Rattle.vr_model.specs.routes.Rules.{is_open as is_open_of, is_valid as is_valid_of};
 ghost use Rattle.vr_model.specs.tables.WellFormed.{IsWellFormed};
-ghost use Rattle.vr_rules.specs.Placing.{fits_by};
+ghost use Rattle.vr_rules.specs.Placing.{fits_by, AreMarks};
 ghost use Rattle.vr_rules.specs.RoutesOpen.{are_routes_open as are_routes_open_of};
+ghost use Rattle.vr_rules.specs.Tables.{AreTables};
 
 use crate::complete::{is_complete, marked};
-use crate::marks::active_marks;
-use crate::routes_open::route_open;
-use std::alloc::Global;
+use crate::routes_open::{Driving, is_route_open};
+use crate::tables::Table;
 use vr_model::{Group, Model, NoMemory};
 use vr_routes::Routes;
 
 // Whether each vehicle may drive its list.
-fn are_routes_open(alloc: Global, model: &Model, routes: &Routes) -> Result<bool, NoMemory>
+fn are_routes_open(
+    model: &Model,
+    tables: &[Table],
+    routes: &Routes,
+    driving: &mut Driving,
+) -> Result<bool, NoMemory>
     requires well_formed { IsWellFormed model.now }
+    requires tables { AreTables model.now tables.now }
     requires lists { IsTrue (are_lists model.now routes.now.lists) }
     ensures { IfOk result (λ all. all ≡ are_routes_open_of model.now routes.now.lists) }
 {
     for v in 0..routes.vehicles() {
-        if !route_open(alloc, model, v, routes.list(v))? {
+        if !is_route_open(model, tables, v, routes.list(v), driving)? {
             return Ok(false);
         }
     }
@@ -51,31 +57,44 @@ fn groups_fit(model: &Model, marks: &[bool]) -> bool
     true
 }
 
-/// Whether routes of the model are open: each vehicle may drive its list, and no group has more active nodes than it
-/// may have. `NoMemory` where there was no memory.
-pub fn open(alloc: Global, model: &Model, routes: &Routes) -> Result<bool, NoMemory>
+// Whether routes of the model are open, by the marks of their active nodes.
+pub(crate) fn is_open(
+    model: &Model,
+    tables: &[Table],
+    routes: &Routes,
+    marks: &[bool],
+    driving: &mut Driving,
+) -> Result<bool, NoMemory>
     requires well_formed { IsWellFormed model.now }
+    requires tables { AreTables model.now tables.now }
     requires lists { IsTrue (are_lists model.now routes.now.lists) }
-    ensures { IfOk result (λ answer. answer ≡ is_open model.now routes.now.lists) }
+    requires marks { AreMarks model.now.nodes routes.now.lists marks.now }
+    ensures { IfOk result (λ answer. answer ≡ is_open_of model.now routes.now.lists) }
 {
-    let marks = active_marks(alloc, model, routes)?;
-    if !groups_fit(model, &marks) {
+    if !groups_fit(model, marks) {
         return Ok(false);
     }
-    let all = are_routes_open(alloc, model, routes)?;
+    let all = are_routes_open(model, tables, routes, driving)?;
     Ok(all)
 }
 
-/// Whether routes of the model are valid: they are open, each visit in no group is active, and each group without a
-/// penalty has exactly as many active nodes as it may have. `NoMemory` where there was no memory.
-pub fn valid(alloc: Global, model: &Model, routes: &Routes) -> Result<bool, NoMemory>
+// Whether routes of the model are valid, by the marks of their active nodes.
+pub(crate) fn is_valid(
+    model: &Model,
+    tables: &[Table],
+    routes: &Routes,
+    marks: &[bool],
+    driving: &mut Driving,
+) -> Result<bool, NoMemory>
     requires well_formed { IsWellFormed model.now }
+    requires tables { AreTables model.now tables.now }
     requires lists { IsTrue (are_lists model.now routes.now.lists) }
-    ensures { IfOk result (λ answer. answer ≡ is_valid model.now routes.now.lists) }
+    requires marks { AreMarks model.now.nodes routes.now.lists marks.now }
+    ensures { IfOk result (λ answer. answer ≡ is_valid_of model.now routes.now.lists) }
 {
-    if !open(alloc, model, routes)? {
+    if !is_complete(model, marks) {
         return Ok(false);
     }
-    let marks = active_marks(alloc, model, routes)?;
-    Ok(is_complete(model, &marks))
+    let valid = is_open(model, tables, routes, marks, driving)?;
+    Ok(valid)
 }

@@ -8,14 +8,14 @@ use Rattle.vr_rules.proofs.RouteLemmas.{visits-few}
 use Rattle.vr_rules.proofs.PlaceLemmas.{keeps-any, keeps_policy-places}
 use Rattle.vr_rules.proofs.pairs.keeps_pairs.Goals as goal
 
-pub places_of-requires-clause-few : goal.places_of-requires-clause-few
-places_of-requires-clause-few c = omega (arith, visits-few c.args.model.now c.args.list.now c.requires.visits c.requires.distinct, c.requires.well_formed.number_of_nodes.1)
+pub write_places-requires-clause-few : goal.write_places-requires-clause-few
+write_places-requires-clause-few c = omega (arith, visits-few c.args.model.now c.args.list.now c.requires.visits c.requires.distinct, c.requires.well_formed.number_of_nodes.1)
 
 pub returns : goal.returns
 returns c =
     let model = c.args.model.now in
     let list = c.args.list.now in
-    let served : c.deref-3.result.now ≡ served_in list model.pairs = c.deref-3.ensures.value ∙ c.in_ok-served.ensures in
+    let served : c.deref-3.result.now ≡ served_in list model.pairs = c.deref-3.ensures.value ∙ c.in_ok-write_served.ensures in
     let policy : c.get.result.now.policy ≡ (vehicle_at model c.args.v).policy = ap (λ vehicle. vehicle.policy) (sym (c.get.ensures.value no_vehicle)) in
     c.allows_all.ensures ∙ (λ t. list_all (allows_beside (policy t) (served t)) (served t)) ∙ keeps_policy-places model c.args.v list
     ∙ ap (λ b. b && keeps_policy model c.args.v list) (sym c.if-not-serves_all.false ∙ c.serves_all.ensures)

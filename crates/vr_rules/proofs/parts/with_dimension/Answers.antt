@@ -1,10 +1,16 @@
-use Rattle.std.proofs.Common.{◌≡◌, ◌∙◌, ap, sym, arith}
+use Rattle.std.proofs.Common.{◌≡◌, ◌∙◌, ap, sym, subst, arith}
 use Rattle.std.proofs.lemmas.Int.{ints}
-use Rattle.std.specs.Prelude.{◌*ℤ◌}
+use Rattle.std.specs.Prelude.{◌*ℤ◌, pos}
+use Rattle.vr_model.specs.tables.WellFormed.{IsIn}
 use Rattle.vr_model.specs.tables.Tables.{dimension_at, no_dimension}
 use Rattle.vr_rules.specs.Sums.{length_of}
 use Rattle.vr_rules.proofs.PartLemmas.{sums-bounded, AreTimed-more}
 use Rattle.vr_rules.proofs.parts.with_dimension.Goals as goal
+
+pub global_cost-requires-clause-coefficient : goal.global_cost-requires-clause-coefficient
+global_cost-requires-clause-coefficient c =
+    subst (λ x. IsIn (pos 0) (pos 10000) x.global_span_cost) (c.get-dimension.ensures.value no_dimension)
+    (c.requires.well_formed.each_dimension c.args.d no_dimension c.requires.dimension).global_span_cost_in_range
 
 pub overflow_add-result-2 : goal.overflow_add-result-2
 overflow_add-result-2 c =

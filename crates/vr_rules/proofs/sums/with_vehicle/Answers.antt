@@ -11,6 +11,7 @@ use Rattle.vr_rules.specs.Bounds.{IsAround}
 use Rattle.vr_rules.specs.Sums.{PaysNothing}
 use Rattle.vr_rules.specs.Timings.{IsTiming, IsTimingOf}
 use Rattle.vr_rules.proofs.SumLemmas.{AreSums-unused, AreSums-unpaid, AreSums-taken, visits-bound}
+use Rattle.vr_rules.proofs.TableLemmas.{nodes_here, places_here}
 use Rattle.vr_rules.proofs.sums.with_vehicle.Goals as goal
 
 pub timing_of-requires-clause-visits : goal.timing_of-requires-clause-visits
@@ -18,6 +19,13 @@ timing_of-requires-clause-visits c = ap (list_all (is_visit c.args.model.now)) c
 
 pub timing_of-requires-clause-distinct : goal.timing_of-requires-clause-distinct
 timing_of-requires-clause-distinct c = ap is_distinct c.list-list.ensures.value ∙ route-distinct c.args.model.now c.args.routes.now.lists c.args.v c.requires.lists
+
+pub may_pay-requires-clause-places : goal.may_pay-requires-clause-places
+may_pay-requires-clause-places c = places_here c.args.model.now c.args.d c.args.table.now c.requires.table c.deref.result.now c.deref.ensures.value c.get-dimension.result.now (c.get-dimension.ensures.value no_dimension)
+
+pub may_pay-requires-clause-list : goal.may_pay-requires-clause-list
+may_pay-requires-clause-list c = nodes_here c.args.model.now c.args.d c.args.table.now c.requires.table c.deref.result.now c.deref.ensures.value c.list-list.result.now
+    (ap (list_all (is_visit c.args.model.now)) c.list-list.ensures.value ∙ route-visits c.args.model.now c.args.routes.now.lists c.args.v c.requires.lists)
 
 pub returns-then-is_empty : goal.returns-then-is_empty
 returns-then-is_empty c =

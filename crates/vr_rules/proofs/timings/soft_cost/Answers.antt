@@ -19,7 +19,7 @@ loop-k-preserved c =
     let x : ℤ = number_at cumuls (k + 1) in
     let step = soft-step (row_of c.args.dimension.now.nodes) (row_of c.args.dimension.now.ends c.args.v) list cumuls k low within in
     let r = c.row_cost-cost-in-loop-k.ensures in
-    let value = r.value ∙ ap (λ o. row_cost o (to_z w64 (of_z w64 x))) c.of_key-in-loop-k.ensures.value ∙ ap (row_cost (row_of c.args.dimension.now.nodes (get_or list k 0))) (read-cumul x (c.requires.range (k + 1) (pos 0) within)) in
+    let value = r.value ∙ ap (λ o. row_cost o (to_z w64 (of_z w64 x))) c.row_of.ensures.value ∙ ap (row_cost (row_of c.args.dimension.now.nodes (get_or list k 0))) (read-cumul x (c.requires.range (k + 1) (pos 0) within)) in
     let is = c.loop-k.cost-is in
     let few = c.requires.few in
     record {

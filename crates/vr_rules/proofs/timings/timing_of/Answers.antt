@@ -1,6 +1,7 @@
 use Rattle.std.proofs.Common.{◌≡◌, ◌∙◌, ◌+◌, suc, List, ap, sym, subst, arith, length, to_z, of_z, w64}
 use Rattle.std.proofs.lemmas.Int.{ints}
-use Rattle.std.specs.Prelude.{All, IfSome, Some, ℤ, pos}
+use Rattle.std.specs.Prelude.{All, Some, ℤ, pos}
+use Rattle.std.specs.Bool.{then_some}
 use Rattle.std.proofs.lemmas.Slice.Zip.{AllZip-long}
 use Rattle.vr_model.specs.tables.Numbers.{number_at, horizon}
 use Rattle.vr_model.specs.tables.Tables.{dimension_at, no_dimension}
@@ -10,6 +11,7 @@ use Rattle.vr_model.specs.schedules.Choices.{chosen}
 use Rattle.vr_steps.specs.Levels.{HasNumbers}
 use Rattle.vr_rules.specs.Timings.{plan_of, soft_of}
 use Rattle.vr_rules.proofs.SoftLemmas.{line-stops, cumuls-seen}
+use Rattle.vr_rules.proofs.TableLemmas.{nodes_here, places_here}
 use Rattle.vr_rules.proofs.timings.timing_of.Goals as goal
 
 pub soft_cost-requires-clause-starts : goal.soft_cost-requires-clause-starts
@@ -27,16 +29,22 @@ soft_cost-requires-clause-ends c =
     let is = c.requires.well_formed.each_dimension c.args.d no_dimension c.requires.dimension in
     subst (λ x. All IsStopRow x.ends) (c.get-dimension.ensures.value no_dimension) is.rows_of_ends.each_row
 
+pub soft_cost-requires-clause-places : goal.soft_cost-requires-clause-places
+soft_cost-requires-clause-places c = places_here c.args.model.now c.args.d c.args.table.now c.requires.table c.deref.result.now c.deref.ensures.value c.get-dimension.result.now (c.get-dimension.ensures.value no_dimension)
+
+pub soft_cost-requires-clause-list : goal.soft_cost-requires-clause-list
+soft_cost-requires-clause-list c = nodes_here c.args.model.now c.args.d c.args.table.now c.requires.table c.deref.result.now c.deref.ensures.value c.args.list.now c.requires.visits
+
 -- one cumul for each stop
 pub soft_cost-requires-clause-stops : goal.soft_cost-requires-clause-stops
 soft_cost-requires-clause-stops c =
-    let stops = subst (λ o. IfSome o (λ cumuls. length cumuls ≡ length c.in_ok-line.line.allowed)) c.in-Some.is c.in_ok-cumuls.ensures.stops in
-    ap length c.as_slice-cumuls.ensures ∙ stops ∙ AllZip-long HasNumbers (line c.args.model.now c.args.d c.args.v c.args.list.now).allowed c.in_ok-line.line.allowed c.in_ok-line.ensures.exact.allowed ∙ line-stops c.args.model.now c.args.d c.args.v c.args.list.now
+    let stops = c.in_ok-choose.ensures.stops c.if-not-branch.false in
+    ap length c.cumuls-cumuls.ensures ∙ stops ∙ AllZip-long HasNumbers (line c.args.model.now c.args.d c.args.v c.args.list.now).allowed c.write_line.new.out.allowed c.in_ok-write_line.ensures.exact.allowed ∙ line-stops c.args.model.now c.args.d c.args.v c.args.list.now
 
 pub bounds-cumuls-list : goal.bounds-cumuls-list
 bounds-cumuls-list c =
-    let stops = subst (λ o. IfSome o (λ cumuls. length cumuls ≡ length c.in_ok-line.line.allowed)) c.in-Some.is c.in_ok-cumuls.ensures.stops in
-    let many = ap length c.as_slice-cumuls.ensures ∙ stops ∙ AllZip-long HasNumbers (line c.args.model.now c.args.d c.args.v c.args.list.now).allowed c.in_ok-line.line.allowed c.in_ok-line.ensures.exact.allowed ∙ line-stops c.args.model.now c.args.d c.args.v c.args.list.now in
+    let stops = c.in_ok-choose.ensures.stops c.if-not-branch.false in
+    let many = ap length c.cumuls-cumuls.ensures ∙ stops ∙ AllZip-long HasNumbers (line c.args.model.now c.args.d c.args.v c.args.list.now).allowed c.write_line.new.out.allowed c.in_ok-write_line.ensures.exact.allowed ∙ line-stops c.args.model.now c.args.d c.args.v c.args.list.now in
     omega (arith, many)
 
 pub returns-clause-timing : goal.returns-clause-timing
@@ -45,13 +53,13 @@ returns-clause-timing c =
     let d = c.args.d in
     let v = c.args.v in
     let list = c.args.list.now in
-    let cumuls : List ℤ = c.as_slice-cumuls.result.now in
+    let cumuls : List ℤ = c.cumuls-cumuls.result.now in
     let defined = line model d v list in
-    let stops = subst (λ o. IfSome o (λ found. length found ≡ length c.in_ok-line.line.allowed)) c.in-Some.is c.in_ok-cumuls.ensures.stops in
-    let many = ap length c.as_slice-cumuls.ensures ∙ stops ∙ AllZip-long HasNumbers defined.allowed c.in_ok-line.line.allowed c.in_ok-line.ensures.exact.allowed ∙ line-stops model d v list in
-    let known = subst (λ o. IfSome o (All (IsIn (pos 0) horizon))) c.in-Some.is c.in_ok-cumuls.ensures.range in
-    let each = subst (All (IsIn (pos 0) horizon)) (sym c.as_slice-cumuls.ensures) known in
-    let seen : cumuls ≡ (plan_of model d v list).cumuls = c.as_slice-cumuls.ensures ∙ sym (cumuls-seen (chosen defined) (Some c.in-Some.cumuls) (sym c.in-Some.is ∙ c.in_ok-cumuls.ensures.chosen defined c.in_ok-line.ensures.exact)) in
+    let stops = c.in_ok-choose.ensures.stops c.if-not-branch.false in
+    let many = ap length c.cumuls-cumuls.ensures ∙ stops ∙ AllZip-long HasNumbers defined.allowed c.write_line.new.out.allowed c.in_ok-write_line.ensures.exact.allowed ∙ line-stops model d v list in
+    let known = c.in_ok-choose.ensures.range c.if-not-branch.false in
+    let each = subst (All (IsIn (pos 0) horizon)) (sym c.cumuls-cumuls.ensures) known in
+    let seen : cumuls ≡ (plan_of model d v list).cumuls = c.cumuls-cumuls.ensures ∙ sym (cumuls-seen (chosen defined) (Some c.choose.new.self) (ap (λ goes. then_some goes c.choose.new.self) (sym c.if-not-branch.false) ∙ c.in_ok-choose.ensures.chosen defined c.in_ok-write_line.ensures.exact)) in
     let soft = c.soft_cost.ensures in
     let few = c.requires.few in
     let first = each 0 (pos 0) (omega (arith, many)) in
@@ -72,10 +80,10 @@ returns-clause-range c =
     let d = c.args.d in
     let v = c.args.v in
     let list = c.args.list.now in
-    let stops = subst (λ o. IfSome o (λ found. length found ≡ length c.in_ok-line.line.allowed)) c.in-Some.is c.in_ok-cumuls.ensures.stops in
-    let many = ap length c.as_slice-cumuls.ensures ∙ stops ∙ AllZip-long HasNumbers (line model d v list).allowed c.in_ok-line.line.allowed c.in_ok-line.ensures.exact.allowed ∙ line-stops model d v list in
-    let known = subst (λ o. IfSome o (All (IsIn (pos 0) horizon))) c.in-Some.is c.in_ok-cumuls.ensures.range in
-    let each = subst (All (IsIn (pos 0) horizon)) (sym c.as_slice-cumuls.ensures) known in
+    let stops = c.in_ok-choose.ensures.stops c.if-not-branch.false in
+    let many = ap length c.cumuls-cumuls.ensures ∙ stops ∙ AllZip-long HasNumbers (line model d v list).allowed c.write_line.new.out.allowed c.in_ok-write_line.ensures.exact.allowed ∙ line-stops model d v list in
+    let known = c.in_ok-choose.ensures.range c.if-not-branch.false in
+    let each = subst (All (IsIn (pos 0) horizon)) (sym c.cumuls-cumuls.ensures) known in
     let soft = c.soft_cost.ensures in
     let few = c.requires.few in
     let first = each 0 (pos 0) (omega (arith, many)) in

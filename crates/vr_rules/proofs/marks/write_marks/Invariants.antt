@@ -1,5 +1,5 @@
 use Rattle.vr_rules.specs.Placing.{AreMarks}
-use Rattle.vr_rules.proofs.marks.active_marks.Given as goal
+use Rattle.vr_rules.proofs.marks.write_marks.Given as goal
 
 abbrev pub invariant-loop-node : goal.invariant-loop-node
 invariant-loop-node l = AreMarks l.node l.routes.lists l.marks.items

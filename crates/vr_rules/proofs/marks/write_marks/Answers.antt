@@ -1,7 +1,7 @@
 use Rattle.std.proofs.Common.{◌+◌, sym, subst}
 use Rattle.vr_rules.specs.Placing.{AreMarks}
 use Rattle.vr_rules.proofs.PlacingLemmas.{AreMarks-more}
-use Rattle.vr_rules.proofs.marks.active_marks.Goals as goal
+use Rattle.vr_rules.proofs.marks.write_marks.Goals as goal
 
 pub loop-node-preserved : goal.loop-node-preserved
 loop-node-preserved c =

@@ -1,7 +1,7 @@
 use Rattle.std.proofs.Common.{◌≡◌, ◌+◌, ◌<◌, ◌≤◌, ℕ, length, drop}
 use Rattle.std.specs.Prelude.{slice_index_or}
 use Rattle.vr_model.specs.routes.Rules.{place_of}
-use Rattle.vr_rules.proofs.places.places_of.Given as goal
+use Rattle.vr_rules.proofs.places.write_places.Given as goal
 
 -- the places from here on are marked
 abbrev pub invariant-loop-place : goal.invariant-loop-place

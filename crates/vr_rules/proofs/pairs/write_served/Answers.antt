@@ -4,8 +4,8 @@ use Rattle.vr_model.specs.tables.WellFormed.{IsPair}
 use Rattle.vr_model.specs.declared.records.Pair.{Pair}
 use Rattle.vr_model.proofs.routes.Lists.{visit_below}
 use Rattle.vr_rules.proofs.PlaceLemmas.{served_in-there, served_in-absent}
-use Rattle.vr_rules.proofs.pairs.pairs_of_list.Goals.{then-pickup-list+in_ok-push, else-pickup-list}
-use Rattle.vr_rules.proofs.pairs.pairs_of_list.Goals as goal
+use Rattle.vr_rules.proofs.pairs.write_served.Goals.{then-pickup-list+in_ok-push, else-pickup-list}
+use Rattle.vr_rules.proofs.pairs.write_served.Goals as goal
 
 pub loop-k-preserved : goal.loop-k-preserved
 loop-k-preserved c =

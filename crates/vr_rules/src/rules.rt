@@ -1,0 +1,196 @@
+//! The rules of one model, ready to be asked.
+
+ghost use Rattle.std.specs.Prelude.{◌≡◌, ◌<◌, IfOk, IsTrue, length};
+ghost use Rattle.std.specs.List.{list_all};
+ghost use Rattle.vr_model.specs.routes.Costs.{assigned, parts_at};
+ghost use Rattle.vr_model.specs.routes.Routes.{are_lists, is_distinct};
+ghost use Rattle.vr_model.specs.routes.Rules.{is_open as is_open_of, is_route_open as is_route_open_of};
+ghost use Rattle.vr_model.specs.routes.Rules.{is_valid as is_valid_of};
+ghost use Rattle.vr_model.specs.tables.Tables.{is_visit};
+ghost use Rattle.vr_model.specs.tables.WellFormed.{IsWellFormed};
+ghost use Rattle.vr_rules.specs.Totals.{HasTotal};
+
+use crate::marks::write_marks;
+use crate::parts::parts_of;
+use crate::routes_open::{Driving, is_route_open};
+use crate::tables::{Table, tables_of};
+use crate::timings::Timer;
+use crate::validity::{is_open, is_valid};
+use std::alloc::Global;
+use std::marker::Model;
+use vr_model::{Model as RoutingModel, NoMemory, Parts};
+use vr_routes::Routes;
+
+/// The rules of a model, ready to be asked of any lists. Contracts see the model, which no call changes.
+///
+/// What its stops ask is looked up once, and all that a question needs is kept and written over: after the first
+/// questions an answer takes memory only where a set of cumuls has more than four runs, or a list is longer than any
+/// before.
+#[derive(Drop)]
+pub struct Rules<'m> {
+    model: &'m RoutingModel,
+    tables: Vec<Table>,
+    marks: Vec<bool>,
+    driving: Driving,
+    timer: Timer,
+}
+
+impl<'m> Model for Rules<'m> {
+    ghost use Rattle.vr_model.specs.declared.records.Model.{Model as Defined};
+    ghost use Rattle.vr_rules.specs.Tables.{AreRules};
+
+    ghost Value = { Defined };
+
+    ghost view = { λ rules. rules.model.now };
+
+    ghost invariant = { λ rules. AreRules rules.model.now rules.tables.items };
+}
+
+impl<'m> Rules<'m> {
+    /// The rules of a model. The only refusal is want of memory, as of each question.
+    pub fn open(alloc: Global, model: &'m RoutingModel) -> Result<Rules<'m>, NoMemory>
+        requires { IsWellFormed model.now }
+        ensures { IfOk result (λ rules. rules ≡ model.now) }
+    {
+        Ok(Rules {
+            model,
+            tables: tables_of(alloc, model)?,
+            marks: Vec::new(alloc),
+            driving: Driving::new(alloc),
+            timer: Timer::new(alloc),
+        })
+    }
+
+    /// The model. It takes no memory.
+    pub fn model(&self) -> &'m RoutingModel
+        ensures model { result.now ≡ self.now }
+        ensures well_formed { IsWellFormed self.now }
+    {
+        let _ = &self.tables;
+        self.model
+    }
+
+    /// Whether vehicle `v` may drive a list: the list is empty, or its line in each dimension has a schedule, it serves
+    /// each pair in order and as the vehicle's policy asks, and the vehicle may visit each of its nodes.
+    ///
+    /// The list holds distinct visits.
+    pub fn route_open(&mut self, v: u32, list: &[u32]) -> Result<bool, NoMemory>
+        requires vehicle { v < length self.old.vehicles }
+        requires visits { IsTrue (list_all (is_visit self.old) list.now) }
+        requires distinct { IsTrue (is_distinct list.now) }
+        ensures answer { IfOk result (λ answer. answer ≡ is_route_open_of self.old v list.now) }
+        ensures model { self.new ≡ self.old }
+    {
+        let answer = is_route_open(self.model, &self.tables, v, list, &mut self.driving)?;
+        Ok(answer)
+    }
+
+    /// Whether routes of the model are open: each vehicle may drive its list, and no group has more active nodes than
+    /// it may have.
+    pub fn open_routes(&mut self, routes: &Routes) -> Result<bool, NoMemory>
+        requires lists { IsTrue (are_lists self.old routes.now.lists) }
+        ensures answer { IfOk result (λ answer. answer ≡ is_open_of self.old routes.now.lists) }
+        ensures model { self.new ≡ self.old }
+    {
+        write_marks(self.model, routes, &mut self.marks)?;
+        let answer = is_open(
+            self.model,
+            &self.tables,
+            routes,
+            &self.marks,
+            &mut self.driving,
+        )?;
+        Ok(answer)
+    }
+
+    /// Whether routes of the model are valid: they are open, each visit in no group is active, and each group without a
+    /// penalty has exactly as many active nodes as it may have.
+    pub fn valid(&mut self, routes: &Routes) -> Result<bool, NoMemory>
+        requires lists { IsTrue (are_lists self.old routes.now.lists) }
+        ensures answer { IfOk result (λ answer. answer ≡ is_valid_of self.old routes.now.lists) }
+        ensures model { self.new ≡ self.old }
+    {
+        write_marks(self.model, routes, &mut self.marks)?;
+        let answer = is_valid(
+            self.model,
+            &self.tables,
+            routes,
+            &self.marks,
+            &mut self.driving,
+        )?;
+        Ok(answer)
+    }
+
+    /// What valid routes cost at their chosen schedules: the six parts of the cost, none of them negative, with a sum
+    /// below 2^63.
+    pub fn cost(&mut self, routes: &Routes) -> Result<Parts, NoMemory>
+        requires valid { IsTrue (is_valid_of self.old routes.now.lists) }
+        ensures parts { IfOk result (λ parts. parts ≡ parts_at self.old (assigned self.old routes.now.lists)) }
+        ensures total { IfOk result HasTotal }
+        ensures model { self.new ≡ self.old }
+    {
+        write_marks(self.model, routes, &mut self.marks)?;
+        let parts = parts_of(
+            self.model,
+            &self.tables,
+            routes,
+            &self.marks,
+            &mut self.timer,
+        )?;
+        Ok(parts)
+    }
+}
+
+/// Whether vehicle `v` may drive a list, as `Rules::route_open` answers it.
+///
+/// The list holds distinct visits. `NoMemory` where there was no memory.
+pub fn route_open(
+    alloc: Global,
+    model: &RoutingModel,
+    v: u32,
+    list: &[u32],
+) -> Result<bool, NoMemory>
+    requires well_formed { IsWellFormed model.now }
+    requires vehicle { v < length model.now.vehicles }
+    requires visits { IsTrue (list_all (is_visit model.now) list.now) }
+    requires distinct { IsTrue (is_distinct list.now) }
+    ensures { IfOk result (λ answer. answer ≡ is_route_open_of model.now v list.now) }
+{
+    let mut rules = Rules::open(alloc, model)?;
+    let answer = rules.route_open(v, list)?;
+    Ok(answer)
+}
+
+/// Whether routes of the model are open, as `Rules::open_routes` answers it. `NoMemory` where there was no memory.
+pub fn open(alloc: Global, model: &RoutingModel, routes: &Routes) -> Result<bool, NoMemory>
+    requires well_formed { IsWellFormed model.now }
+    requires lists { IsTrue (are_lists model.now routes.now.lists) }
+    ensures { IfOk result (λ answer. answer ≡ is_open_of model.now routes.now.lists) }
+{
+    let mut rules = Rules::open(alloc, model)?;
+    let answer = rules.open_routes(routes)?;
+    Ok(answer)
+}
+
+/// Whether routes of the model are valid, as `Rules::valid` answers it. `NoMemory` where there was no memory.
+pub fn valid(alloc: Global, model: &RoutingModel, routes: &Routes) -> Result<bool, NoMemory>
+    requires well_formed { IsWellFormed model.now }
+    requires lists { IsTrue (are_lists model.now routes.now.lists) }
+    ensures { IfOk result (λ answer. answer ≡ is_valid_of model.now routes.now.lists) }
+{
+    let mut rules = Rules::open(alloc, model)?;
+    let answer = rules.valid(routes)?;
+    Ok(answer)
+}
+
+/// What valid routes cost, as `Rules::cost` answers it. `NoMemory` where there was no memory.
+pub fn cost(alloc: Global, model: &RoutingModel, routes: &Routes) -> Result<Parts, NoMemory>
+    requires well_formed { IsWellFormed model.now }
+    requires valid { IsTrue (is_valid_of model.now routes.now.lists) }
+    ensures parts { IfOk result (λ parts. parts ≡ parts_at model.now (assigned model.now routes.now.lists)) }
+    ensures total { IfOk result HasTotal }
+{
+    let mut rules = Rules::open(alloc, model)?;
+    let parts = rules.cost(routes)?;
+    Ok(parts)
+}
