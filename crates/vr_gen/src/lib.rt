@@ -3,8 +3,6 @@
 
 mod draws;
 pub mod laws;
-#[cfg(test)]
-mod tests;
 mod trees;
 
 pub use draws::{Customer, Site};

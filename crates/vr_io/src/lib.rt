@@ -12,8 +12,6 @@ mod remaining;
 mod script;
 mod scripted;
 mod standard;
-#[cfg(test)]
-mod tests;
 mod whole;
 
 pub use edges::{Failed, Sink, Source};

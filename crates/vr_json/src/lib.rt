@@ -9,8 +9,6 @@ mod leaves;
 mod path;
 mod place;
 mod reader;
-#[cfg(test)]
-mod tests;
 mod tree;
 
 pub use arrays::{Array, ForEach, TwoEntries, copies};

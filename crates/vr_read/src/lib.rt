@@ -11,8 +11,6 @@ mod model;
 mod model_rules;
 mod searches;
 mod stop_rows;
-#[cfg(test)]
-mod tests;
 mod vehicles;
 
 pub use dimensions::DimensionTable;

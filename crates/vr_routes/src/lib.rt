@@ -14,8 +14,6 @@ mod routes;
 mod rows;
 pub mod samples;
 mod seats;
-#[cfg(test)]
-mod tests;
 
 pub use changes::Change;
 pub use conditions::pair_served;

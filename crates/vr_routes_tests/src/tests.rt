@@ -4,12 +4,12 @@ ghost use Rattle.std.specs.Prelude.{◌≡◌, IfOk, length};
 ghost use Rattle.vr_model.specs.tables.Tables.{visits};
 ghost use Rattle.vr_model.specs.tables.WellFormed.{IsWellFormed};
 
-use crate::samples::{fleet, routes_of};
-use crate::{Change, Indices, Routes};
 use std::alloc::Global;
 use std::process::Abort;
 use std::test::Fail;
-use vr_model::{Model, Move, Pair};
+use vr_model::{Model, Move, NoMemory, Pair};
+use vr_routes::samples::{fleet, routes_of};
+use vr_routes::{Change, Indices, Routes};
 
 const LONG: &[u32] = &[1, 2, 3, 4, 5, 6, 7, 8];
 
@@ -235,154 +235,38 @@ fn lists_after_moves_of_pairs(rt: HostRuntime) -> Result<(), Fail> {
     assert_after(&rt, alloc, &model, cases)
 }
 
-#[test]
-fn numbers_that_are_no_move(rt: HostRuntime) -> Result<(), Fail> {
-    let alloc = rt.alloc();
-    let model = thirteen_nodes(alloc)?;
-    let routes = made(alloc, &model, &[LONG, &[9, 10]])?;
-    let cases = [
-        Move::TwoOpt { v: 0, a: 3, b: 3 },
-        Move::OrOpt {
-            v: 0,
-            a: 2,
-            k: 2,
-            t: 2,
-        },
-        Move::OrOpt {
-            v: 0,
-            a: 6,
-            k: 3,
-            t: 0,
-        },
-        Move::Relocate {
-            v: 0,
-            a: 0,
-            w: 0,
-            t: 1,
-        },
-        Move::Exchange {
-            v: 0,
-            a: 2,
-            w: 0,
-            b: 2,
-        },
-        Move::Cross {
-            v: 0,
-            a: 0,
-            w: 1,
-            b: 0,
-        },
-        Move::RelocatePair {
-            p: 0,
-            w: 0,
-            s: 1,
-            t: 2,
-        },
-        Move::PairActive {
-            p: 0,
-            w: 1,
-            s: 0,
-            t: 0,
-        },
-        Move::PairInactive { p: 1 },
-        Move::MakeActive { u: 0, w: 0, t: 0 },
-        Move::MakeInactive { v: 1, a: 2 },
-        Move::SwapActive { v: 0, a: 0, u: 9 },
-    ];
-    assert_none(&rt, &model, &routes, &cases);
-    Ok(())
-}
-
-fn assert_none(rt: &impl Abort, model: &Model, routes: &Routes, cases: &[Move])
-    requires well_formed { IsWellFormed model.now }
-    requires of_model { routes.now.visits ≡ visits model.now }
-{
-    let mut change = Change::blank();
-    for &mv in cases {
-        assert!(rt; !Change::of_into(model, routes, mv, &mut change));
+// Whether the visits of thirteen nodes were numbered.
+fn are_numbered(made: Result<Indices, NoMemory>) -> bool {
+    match made {
+        Ok(indices) => {
+            indices.visits() == 12
+                && indices.index(0).is_none()
+                && indices.index(1) == Some(0)
+                && indices.index(12) == Some(11)
+                && indices.index(13).is_none()
+        }
+        Err(_) => false,
     }
 }
 
-// Too few lists, the depot, a node that is not there, and a visit twice in one list and in two.
-#[test]
-fn lists_that_are_none(rt: HostRuntime) -> Result<(), Fail> {
-    let alloc = rt.alloc();
-    let model = thirteen_nodes(alloc)?;
-    let cases: &[&[&[u32]]] = &[
-        &[LONG],
-        &[LONG, &[9], &[10]],
-        &[LONG, &[0]],
-        &[LONG, &[13]],
-        &[&[9, 1, 9], LONG],
-        &[LONG, &[9, 8]],
-    ];
-    for lists in cases {
-        assert!(&rt; are_refused(alloc, &model, lists)?);
-    }
-    Ok(())
-}
-
-fn are_refused(alloc: Global, model: &Model, lists: &[&[u32]]) -> Result<bool, Fail>
-    requires { IsWellFormed model.now }
-{
-    Ok(routes_of(alloc, model, lists)?.is_none())
-}
-
-// What follows each index and what comes before it, in order.
-fn assert_steps(rt: &impl Abort, indices: &Indices, routes: &Routes, steps: &[[Option<u32>; 2]])
-    requires { routes.now.visits ≡ indices.now.visits }
-{
-    let end = indices.visits() + 2 * routes.vehicles();
-    assert_eq!(rt; end as usize, steps.len());
-    for index in 0..end {
-        let found = [routes.next(index), routes.previous(index)];
-        assert_eq!(rt; Some(&found), steps.get(index as usize));
+// Whether routes of two vehicles were made in which no visit stands.
+fn are_empty(made: Result<Routes, NoMemory>) -> bool {
+    match made {
+        Ok(routes) => {
+            routes.vehicles() == 2
+                && routes.inactive_from(0) == Some(1)
+                && routes.inactive_from(12) == Some(12)
+                && routes.inactive_from(13).is_none()
+                && routes.vehicle_of(1).is_none()
+        }
+        Err(_) => false,
     }
 }
 
 #[test]
-fn steps_along_routes(rt: HostRuntime) -> Result<(), Fail> {
-    let alloc = rt.alloc();
-    let model = fleet(alloc, 4, 2, &[])?;
-    let indices = Indices::new(alloc, &model)?;
-    let routes = made(alloc, &model, &[&[2, 1], &[]])?;
-    let steps = [
-        [Some(5), Some(1)],
-        [Some(0), Some(3)],
-        [None, None],
-        [Some(1), None],
-        [None, None],
-        [None, Some(0)],
-        [None, None],
-    ];
-    assert_steps(&rt, &indices, &routes, &steps);
-    Ok(())
-}
-
-#[test]
-fn indices_of_three_nodes(rt: HostRuntime) -> Result<(), Fail> {
-    let alloc = rt.alloc();
-    let model = fleet(alloc, 3, 1, &[])?;
-    let indices = Indices::new(alloc, &model)?;
-    assert_eq!(&rt; indices.visits(), 2);
-    assert_eq!(&rt;
-        [indices.index(0), indices.index(1), indices.index(2)],
-        [None, Some(0), Some(1)]
-    );
-    Ok(())
-}
-
-#[test]
-fn empty_routes_of_three_nodes(rt: HostRuntime) -> Result<(), Fail> {
-    let alloc = rt.alloc();
-    let model = fleet(alloc, 3, 1, &[])?;
-    let routes = Routes::empty(alloc, &model)?;
-    assert_eq!(&rt; routes.vehicles(), 1);
-    assert_list(&rt, &routes, 0, &[]);
-    let cases = [(0, Some(1)), (1, Some(1)), (2, Some(2)), (3, None)];
-    for (node, found) in cases {
-        assert_eq!(&rt; routes.inactive_from(node), found);
-        assert_eq!(&rt; routes.vehicle_of(node), None);
-    }
+fn indices_and_empty_routes(rt: HostRuntime) -> Result<(), Fail> {
+    let model = thirteen_nodes(rt.alloc())?;
+    assert!(rt; are_numbered(Indices::new(rt.alloc(), &model)));
+    assert!(rt; are_empty(Routes::empty(rt.alloc(), &model)));
     Ok(())
 }

@@ -1,6 +1,5 @@
 //! A whole model is read with the values of its fields, and with those of the fields that it leaves out.
 
-use crate::read_model;
 use serde_json::Value;
 use std::alloc::Global;
 use std::test::Fail;
@@ -9,6 +8,7 @@ use vr_model::{
     Allowed, Dimension, First, Group, Improve, Matrix, Model, Pair, Policy, SearchRow, StopRow,
     Vehicle,
 };
+use vr_read::read_model;
 
 // Every field that a short text can have: five nodes, of which 1 to 4 are visits.
 const FULL: &str =

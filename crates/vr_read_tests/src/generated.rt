@@ -1,8 +1,8 @@
 //! Numbers of generated trees, as another program draws them.
 
-use crate::generate;
 use serde_json::Value;
 use std::test::Fail;
+use vr_gen::generate;
 
 // Whether the number at a path is this one, or none.
 fn holds(tree: &Value, path: &str, wanted: Option<u64>) -> bool {

@@ -1,13 +1,15 @@
 //! What no contract says: that calls which take memory succeed, what std's readers and writers give, and that a sink
 //! over a writer flushes it.
 
-use crate::{
-    MemSink, MemSource, PureSink, PureSource, ReadError, Sink, Source, StdSink, StdSource,
-    WriteFault, read_all, write_all,
-};
-use std::alloc::Global;
+ghost use Rattle.std.specs.Prelude.{◌≤◌};
+
+use std::alloc::{AllocError, Global};
 use std::io::{self, ErrorKind, Read, Write};
 use std::test::Fail;
+use vr_io::{
+    MemSink, MemSource, NoMemory, ReadError, Sink, Source, StdSink, StdSource, WriteFault,
+    read_all, write_all,
+};
 
 const TEXT: &str = "{\"cost\":18}\n";
 
@@ -29,74 +31,56 @@ fn is_taken<K: Sink>(sink: &mut K, want: Result<(), WriteFault>) -> bool {
     write_all(sink, TEXT.as_bytes()) == want
 }
 
-// Whatever the pieces, all bytes come; one too many is told from just enough, and a fault from both.
+// The text as a source that gives `piece` bytes a call and fails at the call of this number.
+fn source_of(alloc: Global, piece: usize, fails: u64) -> Result<MemSource, AllocError>
+    requires { 1 ≤ piece }
+{
+    let bytes = Vec::from_slice(alloc, TEXT.as_bytes())?;
+    let fails = Vec::from_slice(alloc, &[fails])?;
+    Ok(MemSource::new(bytes, piece, fails))
+}
+
+// Whatever the pieces, all bytes come.
 #[test]
 fn a_source_is_read_to_its_end(rt: HostRuntime) -> Result<(), Fail> {
-    let alloc = rt.alloc();
-    for (max, piece, fails, want) in [
-        (12, 100, 9, Ok(TEXT)),
-        (12, 5, 9, Ok(TEXT)),
-        (100, 1, 99, Ok(TEXT)),
-        (11, 5, 9, Err(ReadError::TooLong)),
-        (0, 1, 9, Err(ReadError::TooLong)),
-        (12, 10, 1, Err(ReadError::ReadFault)),
-        (12, 10, 2, Err(ReadError::ReadFault)),
-        (12, 10, 3, Ok(TEXT)),
-    ] {
-        let bytes = Vec::from_slice(alloc, TEXT.as_bytes())?;
-        let fails = Vec::from_slice(alloc, &[fails])?;
-        let mut source = MemSource::new(bytes, piece, fails);
-        assert!(rt;
-            is_read(alloc, &mut source, max, want),
-            "at most {max}, {piece} a call"
-        );
-    }
+    let mut source = source_of(rt.alloc(), 5, 9)?;
+    assert!(rt; is_read(rt.alloc(), &mut source, 12, Ok(TEXT)));
     Ok(())
 }
 
 // A source goes on after a fault with what was left.
 #[test]
 fn no_byte_is_lost_in_a_fault(rt: HostRuntime) -> Result<(), Fail> {
-    let alloc = rt.alloc();
-    let bytes = Vec::from_slice(alloc, TEXT.as_bytes())?;
-    let fails = Vec::from_slice(alloc, &[1])?;
-    let mut source = MemSource::new(bytes, 10, fails);
-    assert!(rt; is_read(alloc, &mut source, 12, Err(ReadError::ReadFault)));
-    assert!(rt; is_read(alloc, &mut source, 12, Ok("}\n")));
+    let mut source = source_of(rt.alloc(), 10, 1)?;
+    assert!(rt; is_read(rt.alloc(), &mut source, 12, Err(ReadError::ReadFault)));
+    assert!(rt; is_read(rt.alloc(), &mut source, 12, Ok("}\n")));
     Ok(())
+}
+
+// A sink that takes `piece` bytes a call, `room` in all, and fails at the call of this number.
+fn sink_of(alloc: Global, room: usize, piece: usize, fails: u64) -> Result<MemSink, NoMemory>
+    requires { 1 ≤ piece }
+{
+    let fails = Vec::from_slice(alloc, &[fails]).map_err(|_| NoMemory)?;
+    MemSink::with_room(alloc, room, piece, fails)
 }
 
 // The front that a sink takes before it fails.
 #[test]
 fn a_sink_takes_a_front(rt: HostRuntime) -> Result<(), Fail> {
-    let alloc = rt.alloc();
-    for (room, piece, fails, want, taken) in [
-        (12, 7, 1, Err(WriteFault), "{\"cost\""),
-        (12, 7, 2, Ok(()), TEXT),
-        (11, 7, 9, Err(WriteFault), "{\"cost\""),
-        (12, 20, 9, Ok(()), TEXT),
-        (11, 20, 9, Err(WriteFault), ""),
-    ] {
-        let fails = Vec::from_slice(alloc, &[fails])?;
-        let mut sink = MemSink::with_room(alloc, room, piece, fails).expect(&rt, "memory");
-        assert!(rt; is_taken(&mut sink, want), "{room}, {piece} a call");
-        assert!(rt; sink.bytes() == taken.as_bytes(), "{room}, {piece} a call");
-    }
+    let mut sink = sink_of(rt.alloc(), 11, 7, 9).map_err(|_| "memory")?;
+    assert!(rt; is_taken(&mut sink, Err(WriteFault)));
+    assert!(rt; sink.bytes() == b"{\"cost\"".as_slice());
     Ok(())
 }
 
-// With ample memory, sources and sinks in memory move a whole text.
+// With ample memory, a sink takes a whole text.
 #[test]
-fn a_text_in_memory_is_moved_whole(rt: HostRuntime) -> Result<(), Fail> {
+fn a_sink_takes_the_text(rt: HostRuntime) -> Result<(), Fail> {
     let alloc = rt.alloc();
-    let mut source = PureSource::new(Vec::from_slice(alloc, TEXT.as_bytes())?);
-    assert!(rt; is_read(alloc, &mut source, 12, Ok(TEXT)));
-    let mut sink = MemSink::new(alloc, 1, Vec::new(alloc)).expect(&rt, "memory");
+    let mut sink = MemSink::new(alloc, 7, Vec::new(alloc)).map_err(|_| "memory")?;
     assert!(rt; is_taken(&mut sink, Ok(())));
     assert!(rt; sink.bytes() == TEXT.as_bytes());
-    let mut sink = PureSink::new(Vec::from_slice(alloc, &[0; 5])?);
-    assert!(rt; is_taken(&mut sink, Ok(())));
-    assert!(rt; sink.bytes() == b"{\"cos".as_slice());
     Ok(())
 }
 

@@ -1,5 +1,5 @@
 use Rattle.std.proofs.Common.{◌≡◌, length}
-use Rattle.vr_routes.proofs.tests.assert_each.Given as goal
+use Rattle.vr_routes_tests.proofs.tests.assert_each.Given as goal
 
 abbrev pub invariant-loop-mv : goal.invariant-loop-mv
 invariant-loop-mv g l = record {
