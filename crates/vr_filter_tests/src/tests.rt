@@ -1,0 +1,205 @@
+//! Filters that follow moves: a move is committed where the filter lets it pass.
+
+ghost use Rattle.std.specs.Prelude.{◌≡◌, ◌<◌, IfOk, IfSome, OnOk, length};
+ghost use Rattle.vr_model.specs.tables.Tables.{visits};
+ghost use Rattle.vr_model.specs.tables.WellFormed.{IsWellFormed};
+
+use serde_json::Value;
+use std::alloc::Global;
+use std::marker::Brand;
+use std::sync::ledger::{Blank, Ledger};
+use std::test::Fail;
+use vr_filter::{Both, PathFilter};
+use vr_json::Path;
+use vr_model::{Model, Move, NoMemory, Steps};
+use vr_pathfilters::{DimensionFilter, VehicleFilter};
+use vr_read::read_model;
+use vr_routes::{Change, Routes};
+
+// Four visits, each 10 from the others. Node 1 has a window, node 2 a later one, node 3 five forbidden intervals, so that
+// its set is kept beyond what is held in place, and node 4 a late window; node 4 is for the first vehicle alone.
+const WINDOWS: &str = r#"{"format":1,"nodes":5,
+"matrices":[[[0,10,10,10,10],[10,0,10,10,10],[10,10,0,10,10],[10,10,10,0,10],[10,10,10,10,0]]],
+"vehicles":[{"start":0,"end":0},{"start":0,"end":0}],
+"dimensions":[{"name":"time","evaluators":[{"matrix":0}],"capacity":100,"slack_max":100,
+"nodes":[{"node":1,"window":[10,20]},{"node":2,"window":[20,30]},
+{"node":3,"forbidden":[[0,24],[26,34],[36,44],[46,54],[56,64]]},{"node":4,"window":[90,95]}]}],
+"allowed":[{"node":4,"vehicles":[0]}],"groups":[{"nodes":[1,2,3,4],"penalty":1,"max":4}]}"#;
+
+// The same with a break of each vehicle.
+const BREAKS: &str = r#"{"format":1,"nodes":3,"matrices":[[[0,10,10],[10,0,10],[10,10,0]]],
+"vehicles":[{"start":0,"end":0}],
+"dimensions":[{"name":"time","evaluators":[{"matrix":0}],"capacity":60,"slack_max":30,"fix_start":true,
+"breaks":[{"vehicle":0,"breaks":[{"from":5,"to":12,"duration":5},{"from":40,"to":41,"duration":5}]}],
+"nodes":[{"node":1,"window":[0,15]}]}],"groups":[{"nodes":[1,2],"penalty":1,"max":2}]}"#;
+
+// The model of a text, where there is one.
+fn read(alloc: Global, text: &str) -> Result<Option<Model>, NoMemory>
+    ensures { IfOk result (λ model. IfSome model IsWellFormed) }
+{
+    let path = Path::root(alloc);
+    match Value::from_str(alloc, text) {
+        Ok(value) => Ok(read_model(alloc, &value, &path).ok()),
+        Err(_) => Ok(None),
+    }
+}
+
+// Makes a move where it is one and the filter lets it pass; answers whether that was so.
+fn try_move<F: PathFilter, L: Ledger>(
+    model: &Model,
+    filter: &mut F,
+    routes: &mut Routes,
+    mv: Move,
+    blank: Blank,
+) -> Result<bool, NoMemory>
+    requires name { blank.name ≡ L.name }
+    requires parts { blank.parts ≡ L.parts }
+    requires some { 0 < blank.parts }
+    requires well_formed { IsWellFormed model.now }
+    requires of_model { routes.old.visits ≡ visits model.now }
+    requires stands { F.stands_at filter.old routes.old }
+    ensures of_model { OnOk result (routes.new.visits ≡ visits model.now) }
+    ensures stands { OnOk result (F.stands_at filter.new routes.new) }
+{
+    let Some(change) = Change::of(model, routes, mv) else {
+        return Ok(false);
+    };
+    let mut steps = Steps::<L>::new(blank);
+    if !filter.passes(routes, &change, &mut steps)? {
+        return Ok(false);
+    }
+    filter.prepare(routes, &change)?;
+    filter.commit(routes, &change);
+    routes.commit(&change);
+    Ok(true)
+}
+
+// Whether a filter answers each of some moves, made one after another, as expected.
+fn follows<F: PathFilter>(
+    model: &Model,
+    filter: &mut F,
+    routes: &mut Routes,
+    moves: &[(Move, bool)],
+) -> Result<bool, NoMemory>
+    requires well_formed { IsWellFormed model.now }
+    requires of_model { routes.old.visits ≡ visits model.now }
+    requires stands { F.stands_at filter.old routes.old }
+{
+    for &(mv, expected) in moves {
+        if try_move::<F, Brand>(model, filter, routes, mv, Blank::new(1))? != expected {
+            return Ok(false);
+        }
+    }
+    Ok(true)
+}
+
+// Whether the filter of dimension 0 of a model answers moves from empty lists as expected.
+fn dimension_follows(alloc: Global, model: &Model, moves: &[(Move, bool)]) -> Result<bool, NoMemory>
+    requires well_formed { IsWellFormed model.now }
+{
+    if model.dimensions.len() == 0 {
+        return Ok(false);
+    }
+    let mut routes = Routes::empty(alloc, model)?;
+    let mut filter = DimensionFilter::open(alloc, model, 0, &routes)?;
+    let follows = follows(model, &mut filter, &mut routes, moves)?;
+    Ok(follows)
+}
+
+// Whether the filters of allowed vehicles and of dimension 0 together answer moves from empty lists as expected.
+fn both_follow(alloc: Global, model: &Model, moves: &[(Move, bool)]) -> Result<bool, NoMemory>
+    requires well_formed { IsWellFormed model.now }
+{
+    if model.dimensions.len() == 0 {
+        return Ok(false);
+    }
+    let mut routes = Routes::empty(alloc, model)?;
+    let mut both = Both {
+        a: VehicleFilter::open(alloc, model, &routes)?,
+        b: DimensionFilter::open(alloc, model, 0, &routes)?,
+    };
+    let follows = follows(model, &mut both, &mut routes, moves)?;
+    Ok(follows)
+}
+
+const TO_FIRST: &[(Move, bool)] = &[
+    (Move::MakeActive { u: 1, w: 0, t: 0 }, true),
+    (Move::MakeActive { u: 2, w: 0, t: 1 }, true),
+    (Move::TwoOpt { v: 0, a: 0, b: 1 }, false),
+    (Move::MakeActive { u: 3, w: 0, t: 2 }, true),
+    (Move::MakeActive { u: 4, w: 0, t: 2 }, false),
+    (Move::MakeActive { u: 4, w: 0, t: 3 }, true),
+    (
+        Move::Relocate {
+            v: 0,
+            a: 2,
+            w: 1,
+            t: 0,
+        },
+        true,
+    ),
+    (
+        Move::Exchange {
+            v: 0,
+            a: 0,
+            w: 1,
+            b: 0,
+        },
+        false,
+    ),
+    (Move::MakeInactive { v: 0, a: 1 }, true),
+    (
+        Move::Relocate {
+            v: 1,
+            a: 0,
+            w: 0,
+            t: 0,
+        },
+        false,
+    ),
+];
+
+const WITH_BREAKS: &[(Move, bool)] = &[
+    (Move::MakeActive { u: 2, w: 0, t: 0 }, true),
+    (Move::MakeActive { u: 1, w: 0, t: 1 }, false),
+    (Move::MakeActive { u: 1, w: 0, t: 0 }, true),
+    (Move::TwoOpt { v: 0, a: 0, b: 1 }, false),
+];
+
+fn of_text(alloc: Global, text: &str, moves: &[(Move, bool)]) -> Result<bool, NoMemory> {
+    match read(alloc, text)? {
+        Some(model) => dimension_follows(alloc, &model, moves),
+        None => Ok(false),
+    }
+}
+
+#[test]
+fn a_dimension_refuses_what_has_no_schedule(rt: HostRuntime) -> Result<(), Fail> {
+    let alloc = rt.alloc();
+    assert!(rt; of_text(alloc, WINDOWS, TO_FIRST)?);
+    assert!(rt; of_text(alloc, BREAKS, WITH_BREAKS)?);
+    Ok(())
+}
+
+#[test]
+fn filters_are_joined(rt: HostRuntime) -> Result<(), Fail> {
+    let alloc = rt.alloc();
+    let model = read(alloc, WINDOWS)?.ok_or("there is a model")?;
+    let moves = &[
+        (Move::MakeActive { u: 4, w: 1, t: 0 }, false),
+        (Move::MakeActive { u: 4, w: 0, t: 0 }, true),
+        (
+            Move::Relocate {
+                v: 0,
+                a: 0,
+                w: 1,
+                t: 0,
+            },
+            false,
+        ),
+        (Move::MakeActive { u: 1, w: 1, t: 0 }, true),
+        (Move::MakeActive { u: 2, w: 1, t: 0 }, false),
+    ];
+    assert!(rt; both_follow(alloc, &model, moves)?);
+    Ok(())
+}
