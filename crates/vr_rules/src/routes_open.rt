@@ -17,16 +17,16 @@ use vr_model::{Model, NoMemory};
 use vr_reach::Walk;
 use vr_walks::goes_through;
 
-// What is written over while routes are driven.
+/// What is written over while routes are driven.
 #[derive(Drop)]
-pub(crate) struct Driving {
+pub struct Driving {
     walk: Walk,
     pairs: PairPlaces,
 }
 
 impl Driving {
-    // It takes no memory.
-    pub(crate) fn new(alloc: Global) -> Driving {
+    /// It takes no memory.
+    pub fn new(alloc: Global) -> Driving {
         Driving {
             walk: Walk::new(alloc),
             pairs: PairPlaces::new(alloc),
@@ -34,8 +34,10 @@ impl Driving {
     }
 }
 
-// Whether vehicle `v` may drive a list of distinct visits.
-pub(crate) fn is_route_open(
+/// Whether vehicle `v` may drive a list, as `Rules::route_open` answers it, over tables that the caller keeps.
+///
+/// The list holds distinct visits. `NoMemory` where there was no memory.
+pub fn is_route_open(
     model: &Model,
     tables: &[Table],
     v: u32,

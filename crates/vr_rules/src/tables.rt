@@ -13,9 +13,9 @@ use std::alloc::Global;
 use vr_model::{Model, NoMemory, Seq, StopRow};
 use vr_walks::Stops;
 
-// What is looked up of one dimension.
+/// What is looked up of one dimension.
 #[derive(Drop)]
-pub(crate) struct Table {
+pub struct Table {
     // what its stops ask
     pub(crate) stops: Stops,
     // for each node the place of its row among the rows of visits
@@ -68,8 +68,8 @@ fn table_of(alloc: Global, model: &Model, d: u32) -> Result<Table, NoMemory>
     })
 }
 
-// What is looked up of all dimensions.
-pub(crate) fn tables_of(alloc: Global, model: &Model) -> Result<Vec<Table>, NoMemory>
+/// What is looked up of all dimensions. The only refusal is want of memory.
+pub fn tables_of(alloc: Global, model: &Model) -> Result<Vec<Table>, NoMemory>
     requires { IsWellFormed model.now }
     ensures { IfOk result (λ tables. AreTables model.now tables.items) }
 {
