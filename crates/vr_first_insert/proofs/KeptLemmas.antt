@@ -1,5 +1,5 @@
 -- What is known of items in lists.
-use Rattle.std.proofs.Common.{◌≡◌, ◌≢◌, ◌∙◌, ◌<◌, ◌≤◌, ◌+◌, ℕ, zero, suc, List, [], ◌∷◌, true, false, cond, Option, Some, None, ℤ, ◌≤ℤ◌, refl, ap, sym, subst, inl, inr, arith, length, length-set}
+use Rattle.std.proofs.Common.{◌≡◌, ◌∙◌, ◌<◌, ℕ, zero, suc, List, [], false, Option, Some, None, ℤ, ◌≤ℤ◌, refl, ap, sym, subst, inl, inr, arith, length, length-set}
 use Rattle.std.specs.Prelude.{map, replicate, slice_index_or, slice_set}
 use Rattle.std.proofs.lemmas.Bool.Decides.{eqb_tells}
 use Rattle.std.proofs.lemmas.List.{get_or-set_same, get_or-set_other}
@@ -9,14 +9,14 @@ use Rattle.vr_model.specs.moves.Moves.{with_route, gaps}
 use Rattle.vr_model.specs.routes.Rules.{is_route_open}
 use Rattle.vr_model.specs.declared.records.Model.{Model}
 use Rattle.vr_model.proofs.routes.Lists.{route_set_other}
-use Rattle.vr_model.proofs.tables.Members.{In, from_each, from_map, of_below, of_from_to}
+use Rattle.vr_model.proofs.tables.Members.{from_each, from_map, of_below, of_from_to}
 use Rattle.vr_rules.specs.Placing.{improves}
 use Rattle.vr_rules.specs.declared.items.Item.{Item}
 use Rattle.vr_rules.specs.declared.items.Item.TheVariants.{Visit, PickupAndDelivery}
 use Rattle.vr_rules.specs.declared.items.Candidate.{Candidate}
 use Rattle.vr_first_insert.specs.declared.choice.Choice.{Choice}
 use Rattle.vr_first_insert.specs.declared.known.Known.{Known}
-use Rattle.vr_first_insert.specs.declared.known.Known.TheVariants.{Nothing, AtLeast, Best}
+use Rattle.vr_first_insert.specs.declared.known.Known.TheVariants.{Nothing, Best}
 use Rattle.vr_first_insert.specs.Kept.{best_of, row_at, unread, AddsAtLeast, AreKnown, AreRows, IsKnown}
 use Rattle.vr_first_insert.specs.Placings.{best_in, choices_in, key_of, may_improve, pair_choice, placed, visit_choice}
 use Rattle.vr_first_insert.proofs.BoundLemmas.{none-improves, passed-over}

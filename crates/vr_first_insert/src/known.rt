@@ -2,16 +2,18 @@
 
 ghost use Rattle.std.specs.Prelude.{◌≡◌, ℕ, ◌<◌, IfOk, length, replicate, slice_set};
 ghost use Rattle.vr_model.specs.tables.WellFormed.{IsWellFormed};
+ghost use Rattle.vr_rules.specs.Tables.{AreTables};
 ghost use Rattle.vr_first_insert.specs.Kept.{best_of, better_choice, row_at, AddsAtLeast, IsKnown};
 ghost use Rattle.vr_first_insert.specs.Placings.{best_in, MayHold};
 ghost use Rattle.vr_first_insert.specs.declared.known.Known.TheVariants.{Nothing};
 
 use crate::bound::{least_pair, least_visit};
 use crate::choice::{Choice, improves, may_improve};
+use crate::room::Room;
 use crate::search::best_in_list;
 use std::alloc::Global;
 use vr_model::{Model, NoMemory, Seq};
-use vr_rules::{Candidate, Item};
+use vr_rules::{Candidate, Item, Table};
 
 /// What is known of an item in a list.
 #[derive(Clone, Copy, Drop)]
@@ -59,8 +61,9 @@ fn least_in(model: &Model, v: u32, list: &[u32], item: Item) -> i64
 
 /// What is known of an item in the list of vehicle `v` once it was asked whether it is better than the best so far.
 pub(crate) fn asked(
-    alloc: Global,
+    room: &mut Room,
     model: &Model,
+    tables: &[Table],
     v: u32,
     list: &[u32],
     candidate: Candidate,
@@ -68,6 +71,7 @@ pub(crate) fn asked(
     best: Option<Choice>,
 ) -> Result<Known, NoMemory>
     requires well_formed { IsWellFormed model.now }
+    requires tables { AreTables model.now tables.now }
     requires vehicle { v < length model.now.vehicles }
     requires may_hold { MayHold model.now list.now candidate.item }
     requires known { IsKnown model.now v list.now candidate known }
@@ -77,12 +81,12 @@ pub(crate) fn asked(
     match known {
         Known::Best(_) => Ok(known),
         Known::AtLeast(least) => {
-            let known = tried(alloc, model, v, list, candidate, least, best)?;
+            let known = tried(room, model, tables, v, list, candidate, least, best)?;
             Ok(known)
         }
         Known::Nothing => {
             let least = least_in(model, v, list, candidate.item);
-            let known = tried(alloc, model, v, list, candidate, least, best)?;
+            let known = tried(room, model, tables, v, list, candidate, least, best)?;
             Ok(known)
         }
     }
@@ -91,8 +95,9 @@ pub(crate) fn asked(
 // The same of an item that adds `least` at least: where that is not better than the best so far, it is all that is
 // known.
 fn tried(
-    alloc: Global,
+    room: &mut Room,
     model: &Model,
+    tables: &[Table],
     v: u32,
     list: &[u32],
     candidate: Candidate,
@@ -100,6 +105,7 @@ fn tried(
     best: Option<Choice>,
 ) -> Result<Known, NoMemory>
     requires well_formed { IsWellFormed model.now }
+    requires tables { AreTables model.now tables.now }
     requires vehicle { v < length model.now.vehicles }
     requires may_hold { MayHold model.now list.now candidate.item }
     requires least { AddsAtLeast model.now v list.now candidate.item least }
@@ -109,7 +115,7 @@ fn tried(
     if !may_improve(best, candidate.class, least) {
         return Ok(Known::AtLeast(least));
     }
-    let found = best_in_list(alloc, model, v, list, candidate, None)?;
+    let found = best_in_list(room, model, tables, v, list, candidate, None)?;
     Ok(Known::Best(found))
 }
 

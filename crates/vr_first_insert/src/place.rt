@@ -1,6 +1,6 @@
 //! Lists with an item placed in them.
 
-ghost use Rattle.std.specs.Prelude.{◌≡◌, ◌<◌, ◌≤◌, IfOk, OnOk, length};
+ghost use Rattle.std.specs.Prelude.{◌≡◌, ◌<◌, ◌≤◌, OnOk, length};
 ghost use Rattle.vr_model.specs.moves.Moves.{with_route};
 ghost use Rattle.vr_model.specs.routes.Routes.{route};
 ghost use Rattle.vr_first_insert.specs.Placings.{placed as placed_of, AreWithin};
@@ -9,13 +9,17 @@ use crate::choice::Placing;
 use std::alloc::Global;
 use vr_model::{NoMemory, Seq};
 
-/// The list with an item placed in it.
-pub(crate) fn placed(alloc: Global, list: &[u32], placing: Placing) -> Result<Vec<u32>, NoMemory>
+/// Writes the list with an item placed in it over another list.
+pub(crate) fn write_placed(
+    list: &[u32],
+    placing: Placing,
+    longer: &mut Seq<u32>,
+) -> Result<(), NoMemory>
     requires within { AreWithin list.now placing }
     requires few { length list.now ≤ 1000 }
-    ensures { IfOk result (λ longer. longer.items ≡ placed_of list.now placing) }
+    ensures { OnOk result (longer.new ≡ placed_of list.now placing) }
 {
-    let mut longer = Vec::with_capacity(alloc, list.len() + 2)?;
+    longer.truncate(0);
     match placing {
         Placing::One(node, t) => {
             longer.extend_from_slice(&list[..t as usize])?;
@@ -30,7 +34,7 @@ pub(crate) fn placed(alloc: Global, list: &[u32], placing: Placing) -> Result<Ve
             longer.extend_from_slice(&list[t as usize..])?;
         }
     }
-    Ok(longer)
+    Ok(())
 }
 
 /// Places an item in a list among lists.
@@ -45,7 +49,9 @@ pub(crate) fn place_in(
     requires few { length (route lists.now v) ≤ 1000 }
     ensures { OnOk result (lists.new ≡ with_route lists.old v (placed_of (route lists.old v) placing)) }
 {
-    let longer = placed(alloc, lists[v as usize].as_slice(), placing)?;
-    lists[v as usize] = Seq::from(longer);
+    let list = lists[v as usize].as_slice();
+    let mut longer = Seq::with_capacity(alloc, list.len() + 2)?;
+    write_placed(list, placing, &mut longer)?;
+    lists[v as usize] = longer;
     Ok(())
 }

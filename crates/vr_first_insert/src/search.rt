@@ -10,6 +10,7 @@ ghost use Rattle.vr_model.specs.routes.Routes.{route};
 ghost use Rattle.vr_model.specs.tables.WellFormed.{IsWellFormed};
 ghost use Rattle.vr_rules.specs.Placing.{nodes_of, AreBuilt, AreCandidates, AreMarks};
 ghost use Rattle.vr_rules.specs.declared.items.Item.TheVariants.{Visit, PickupAndDelivery};
+ghost use Rattle.vr_rules.specs.Tables.{AreTables};
 ghost use Rattle.vr_first_insert.specs.Kept.{AreKnown, AreRows};
 ghost use Rattle.vr_first_insert.specs.Placings.{best_beside, best_in, best_in_lists as best_in_lists_of};
 ghost use Rattle.vr_first_insert.specs.Placings.{counts as counts_of, insertion_of, item_in, pair_choice};
@@ -19,20 +20,22 @@ use crate::bound::{least_behind, least_visit};
 use crate::choice::{Choice, Placing, improves, may_improve};
 use crate::increase::{pair_increase, visit_increase};
 use crate::known::{Known, asked, better_of, forget};
-use crate::place::{place_in, placed};
-use std::alloc::Global;
+use crate::place::{place_in, write_placed};
+use crate::room::Room;
 use vr_model::{Model, NoMemory, Seq};
-use vr_rules::{Candidate, Item, groups_have_room, mark_item, route_open};
+use vr_rules::{Candidate, Item, Table, groups_have_room, is_route_open, mark_item};
 
 // The better of the best so far and a choice in a list, which is tested only where it improves.
 fn consider(
-    alloc: Global,
+    room: &mut Room,
     model: &Model,
+    tables: &[Table],
     list: &[u32],
     next: Choice,
     best: Option<Choice>,
 ) -> Result<Option<Choice>, NoMemory>
     requires well_formed { IsWellFormed model.now }
+    requires tables { AreTables model.now tables.now }
     requires vehicle { next.vehicle < length model.now.vehicles }
     requires may_hold { MayHold model.now list.now (item_in next.placing) }
     requires within { AreWithin list.now next.placing }
@@ -41,8 +44,9 @@ fn consider(
     if !improves(best, next) {
         return Ok(best);
     }
-    let longer = placed(alloc, list, next.placing)?;
-    if route_open(alloc, model, next.vehicle, &longer)? {
+    write_placed(list, next.placing, &mut room.longer)?;
+    let longer = room.longer.as_slice();
+    if is_route_open(model, tables, next.vehicle, longer, &mut room.driving)? {
         Ok(Some(next))
     } else {
         Ok(best)
@@ -51,8 +55,9 @@ fn consider(
 
 // The best beside a visit before each place of the list of vehicle `v`.
 fn best_visit(
-    alloc: Global,
+    room: &mut Room,
     model: &Model,
+    tables: &[Table],
     v: u32,
     list: &[u32],
     class: u32,
@@ -60,6 +65,7 @@ fn best_visit(
     best: Option<Choice>,
 ) -> Result<Option<Choice>, NoMemory>
     requires well_formed { IsWellFormed model.now }
+    requires tables { AreTables model.now tables.now }
     requires vehicle { v < length model.now.vehicles }
     requires may_hold { MayHold model.now list.now (Visit node) }
     ensures { IfOk result (λ chosen. chosen ≡ fold (weigh model.now list.now) best
@@ -73,7 +79,7 @@ fn best_visit(
             vehicle: v,
             increase: visit_increase(model, v, list, node, t),
         };
-        best = consider(alloc, model, list, next, best)?;
+        best = consider(room, model, tables, list, next, best)?;
     }
     Ok(best)
 }
@@ -81,8 +87,9 @@ fn best_visit(
 // The best beside a pickup before place `s` and its delivery before each place from there on, where the delivery
 // alone adds `least` at least: then no place is looked at where none can be better.
 fn best_delivery(
-    alloc: Global,
+    room: &mut Room,
     model: &Model,
+    tables: &[Table],
     v: u32,
     list: &[u32],
     class: u32,
@@ -93,6 +100,7 @@ fn best_delivery(
     best: Option<Choice>,
 ) -> Result<Option<Choice>, NoMemory>
     requires well_formed { IsWellFormed model.now }
+    requires tables { AreTables model.now tables.now }
     requires vehicle { v < length model.now.vehicles }
     requires may_hold { MayHold model.now list.now (PickupAndDelivery pickup delivery) }
     requires within { s ≤ length list.now }
@@ -117,15 +125,16 @@ fn best_delivery(
             vehicle: v,
             increase: pair_increase(model, v, list, pickup, delivery, s, t),
         };
-        best = consider(alloc, model, list, next, best)?;
+        best = consider(room, model, tables, list, next, best)?;
     }
     Ok(best)
 }
 
 // The best beside a pair before each two places of the list of vehicle `v`.
 fn best_pair(
-    alloc: Global,
+    room: &mut Room,
     model: &Model,
+    tables: &[Table],
     v: u32,
     list: &[u32],
     class: u32,
@@ -134,6 +143,7 @@ fn best_pair(
     best: Option<Choice>,
 ) -> Result<Option<Choice>, NoMemory>
     requires well_formed { IsWellFormed model.now }
+    requires tables { AreTables model.now tables.now }
     requires vehicle { v < length model.now.vehicles }
     requires may_hold { MayHold model.now list.now (PickupAndDelivery pickup delivery) }
     ensures { IfOk result (λ chosen. chosen ≡ fold (weigh model.now list.now) best
@@ -144,7 +154,7 @@ fn best_pair(
     let mut best = best;
     for s in 0..list.len() + 1 {
         best = best_delivery(
-            alloc, model, v, list, class, pickup, delivery, s, least, best,
+            room, model, tables, v, list, class, pickup, delivery, s, least, best,
         )?;
     }
     Ok(best)
@@ -152,23 +162,25 @@ fn best_pair(
 
 /// The best beside an item in the list of vehicle `v`.
 pub(crate) fn best_in_list(
-    alloc: Global,
+    room: &mut Room,
     model: &Model,
+    tables: &[Table],
     v: u32,
     list: &[u32],
     candidate: Candidate,
     best: Option<Choice>,
 ) -> Result<Option<Choice>, NoMemory>
     requires well_formed { IsWellFormed model.now }
+    requires tables { AreTables model.now tables.now }
     requires vehicle { v < length model.now.vehicles }
     requires may_hold { MayHold model.now list.now candidate.item }
     ensures { IfOk result (λ chosen. chosen ≡ best_in model.now v list.now candidate best) }
 {
     let class = candidate.class;
     let best = match candidate.item {
-        Item::Visit(node) => best_visit(alloc, model, v, list, class, node, best)?,
+        Item::Visit(node) => best_visit(room, model, tables, v, list, class, node, best)?,
         Item::PickupAndDelivery(pickup, delivery) => best_pair(
-            alloc, model, v, list, class, pickup, delivery, best,
+            room, model, tables, v, list, class, pickup, delivery, best,
         )?,
     };
     Ok(best)
@@ -176,14 +188,16 @@ pub(crate) fn best_in_list(
 
 // The best beside an item in each list, where `row` has what is known of the item in each.
 fn best_in_lists(
-    alloc: Global,
+    room: &mut Room,
     model: &Model,
+    tables: &[Table],
     lists: &[Seq<u32>],
     candidate: Candidate,
     row: &mut Seq<Known>,
     best: Option<Choice>,
 ) -> Result<Option<Choice>, NoMemory>
     requires well_formed { IsWellFormed model.now }
+    requires tables { AreTables model.now tables.now }
     requires vehicles { length lists.now ≡ length model.now.vehicles }
     requires may_hold { (v : ℕ) → v < length lists.now → MayHold model.now (route lists.now v) candidate.item }
     requires row { AreKnown model.now lists.now candidate row.old }
@@ -194,7 +208,16 @@ fn best_in_lists(
     let mut best = best;
     for v in 0..lists.len() {
         let list = lists[v].as_slice();
-        let known = asked(alloc, model, v as u32, list, candidate, *row.get(v), best)?;
+        let known = asked(
+            room,
+            model,
+            tables,
+            v as u32,
+            list,
+            candidate,
+            *row.get(v),
+            best,
+        )?;
         row.set(v, known);
         best = better_of(best, known);
     }
@@ -217,8 +240,9 @@ fn counts(model: &Model, marks: &[bool], candidate: Candidate) -> bool
 
 // The best beside all insertions of a candidate.
 fn beside(
-    alloc: Global,
+    room: &mut Room,
     model: &Model,
+    tables: &[Table],
     lists: &[Seq<u32>],
     marks: &[bool],
     candidate: Candidate,
@@ -226,6 +250,7 @@ fn beside(
     best: Option<Choice>,
 ) -> Result<Option<Choice>, NoMemory>
     requires well_formed { IsWellFormed model.now }
+    requires tables { AreTables model.now tables.now }
     requires vehicles { length lists.now ≡ length model.now.vehicles }
     requires marks { length marks.now ≡ model.now.nodes }
     requires first { first_node (nodes_of candidate.item) < model.now.nodes }
@@ -238,20 +263,22 @@ fn beside(
     if !counts(model, marks, candidate) {
         return Ok(best);
     }
-    let best = best_in_lists(alloc, model, lists, candidate, row, best)?;
+    let best = best_in_lists(room, model, tables, lists, candidate, row, best)?;
     Ok(best)
 }
 
 // The insertion to make next, if any may be made.
 fn next_insertion(
-    alloc: Global,
+    room: &mut Room,
     model: &Model,
+    tables: &[Table],
     candidates: &[Candidate],
     marks: &[bool],
     lists: &[Seq<u32>],
     rows: &mut [Seq<Known>],
 ) -> Result<Option<Choice>, NoMemory>
     requires well_formed { IsWellFormed model.now }
+    requires tables { AreTables model.now tables.now }
     requires candidates { AreCandidates model.now candidates.now }
     requires built { AreBuilt model.now lists.now }
     requires marks { AreMarks model.now.nodes lists.now marks.now }
@@ -263,7 +290,16 @@ fn next_insertion(
     let mut best: Option<Choice> = None;
     for i in 0..candidates.len() {
         let candidate = candidates[i];
-        best = beside(alloc, model, lists, marks, candidate, &mut rows[i], best)?;
+        best = beside(
+            room,
+            model,
+            tables,
+            lists,
+            marks,
+            candidate,
+            &mut rows[i],
+            best,
+        )?;
     }
     Ok(best)
 }
@@ -273,14 +309,16 @@ fn next_insertion(
 ///
 /// After want of memory nothing is said of the lists.
 pub(crate) fn insert_all(
-    alloc: Global,
+    room: &mut Room,
     model: &Model,
+    tables: &[Table],
     candidates: &[Candidate],
     lists: &mut [Seq<u32>],
     marks: &mut [bool],
     rows: &mut [Seq<Known>],
 ) -> Result<(), NoMemory>
     requires well_formed { IsWellFormed model.now }
+    requires tables { AreTables model.now tables.now }
     requires candidates { AreCandidates model.now candidates.now }
     requires built { AreBuilt model.now lists.now }
     requires marks { AreMarks model.now.nodes lists.now marks.now }
@@ -290,9 +328,9 @@ pub(crate) fn insert_all(
     ensures marked { OnOk result (AreMarks model.now.nodes lists.new marks.new) }
 {
     for _step in 0..candidates.len() {
-        match next_insertion(alloc, model, candidates, marks, lists, rows)? {
+        match next_insertion(room, model, tables, candidates, marks, lists, rows)? {
             Some(choice) => {
-                place_in(alloc, lists, choice.vehicle, choice.placing)?;
+                place_in(room.alloc, lists, choice.vehicle, choice.placing)?;
                 mark_item(marks, choice.placing.item());
                 forget(rows, choice.vehicle);
             }

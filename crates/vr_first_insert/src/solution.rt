@@ -10,11 +10,12 @@ ghost use Rattle.vr_model.specs.tables.WellFormed.{IsWellFormed};
 ghost use Rattle.vr_rules.specs.Placing.{lists_in, AreBuilt};
 
 use crate::known::rows_of;
+use crate::room::Room;
 use crate::search::insert_all;
 use std::alloc::Global;
 use vr_model::{Model, NoMemory, Seq};
 use vr_routes::Routes;
-use vr_rules::{active_marks, candidates, is_complete};
+use vr_rules::{active_marks, candidates, is_complete, tables_of};
 
 // Copies of the lists of routes.
 fn copies(alloc: Global, routes: &Routes) -> Result<Vec<Seq<u32>>, NoMemory>
@@ -40,7 +41,17 @@ fn rebuilt_lists(alloc: Global, model: &Model, routes: &Routes) -> Result<Vec<Se
     let mut marks = active_marks(alloc, model, routes)?;
     let mut built = copies(alloc, routes)?;
     let mut rows = rows_of(alloc, candidates.len(), model.vehicles.len())?;
-    insert_all(alloc, model, &candidates, &mut built, &mut marks, &mut rows)?;
+    let tables = tables_of(alloc, model)?;
+    let mut room = Room::new(alloc);
+    insert_all(
+        &mut room,
+        model,
+        &tables,
+        &candidates,
+        &mut built,
+        &mut marks,
+        &mut rows,
+    )?;
     Ok(built)
 }
 

@@ -6,13 +6,13 @@ use Rattle.vr_rules.proofs.RouteLemmas.{visits-few}
 use Rattle.vr_first_insert.proofs.PlacedLemmas.{placed-visits, placed-distinct}
 use Rattle.vr_first_insert.proofs.search.consider.Goals as goal
 
-pub placed-requires-clause-few : goal.placed-requires-clause-few
-placed-requires-clause-few c = omega (arith, visits-few c.args.model.now c.args.list.now c.requires.may_hold.visits c.requires.may_hold.distinct, c.requires.well_formed.number_of_nodes.1)
+pub write_placed-requires-clause-few : goal.write_placed-requires-clause-few
+write_placed-requires-clause-few c = omega (arith, visits-few c.args.model.now c.args.list.now c.requires.may_hold.visits c.requires.may_hold.distinct, c.requires.well_formed.number_of_nodes.1)
 
-pub route_open-requires-clause-visits : goal.route_open-requires-clause-visits
-route_open-requires-clause-visits c =
-    ap (list_all (is_visit c.args.model.now)) (c.deref.ensures.value ∙ c.in_ok-longer.ensures) ∙ placed-visits c.args.model.now c.args.list.now c.args.next.placing c.requires.within c.requires.may_hold
+pub is_route_open-requires-clause-visits : goal.is_route_open-requires-clause-visits
+is_route_open-requires-clause-visits c =
+    ap (list_all (is_visit c.args.model.now)) (c.as_slice-longer.ensures ∙ c.in_ok-write_placed.ensures) ∙ placed-visits c.args.model.now c.args.list.now c.args.next.placing c.requires.within c.requires.may_hold
 
-pub route_open-requires-clause-distinct : goal.route_open-requires-clause-distinct
-route_open-requires-clause-distinct c =
-    ap is_distinct (c.deref.ensures.value ∙ c.in_ok-longer.ensures) ∙ placed-distinct c.args.model.now c.args.list.now c.args.next.placing c.requires.within c.requires.may_hold
+pub is_route_open-requires-clause-distinct : goal.is_route_open-requires-clause-distinct
+is_route_open-requires-clause-distinct c =
+    ap is_distinct (c.as_slice-longer.ensures ∙ c.in_ok-write_placed.ensures) ∙ placed-distinct c.args.model.now c.args.list.now c.args.next.placing c.requires.within c.requires.may_hold

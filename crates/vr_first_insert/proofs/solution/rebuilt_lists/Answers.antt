@@ -13,9 +13,9 @@ insert_all-requires-clause-rows c =
     let lists : List (List ℕ) = c.args.routes.now.lists in
     let same : c.deref_mut.result.now ≡ lists = c.deref_mut.ensures.value ∙ c.in_ok-built.ensures in
     let many : length lists ≡ vehicles = eq_of_test (length lists) vehicles (and_left (length lists == vehicles) _ c.requires.lists) in
-    let count : c.len.result ≡ length c.deref.result.now = omega (arith, c.len.ensures, c.deref.ensures.len) in
-    let rows : c.deref_mut-3.result.now ≡ replicate (length c.deref.result.now) (replicate vehicles Nothing) =
+    let count : c.len.result ≡ length c.deref-2.result.now = omega (arith, c.len.ensures, c.deref-2.ensures.len) in
+    let rows : c.deref_mut-3.result.now ≡ replicate (length c.deref-2.result.now) (replicate vehicles Nothing) =
     c.deref_mut-3.ensures.value ∙ c.in_ok-rows.ensures ∙ ap (λ n. replicate n (replicate c.len-2.result Nothing)) count
-    ∙ ap (λ n. replicate (length c.deref.result.now) (replicate n Nothing)) c.len-2.ensures in
-    subst (λ lists. AreRows model lists c.deref.result.now c.deref_mut-3.result.now) (sym same)
-    (subst (AreRows model lists c.deref.result.now) (sym rows) (rows-begun model lists c.deref.result.now vehicles many))
+    ∙ ap (λ n. replicate (length c.deref-2.result.now) (replicate n Nothing)) c.len-2.ensures in
+    subst (λ lists. AreRows model lists c.deref-2.result.now c.deref_mut-3.result.now) (sym same)
+    (subst (AreRows model lists c.deref-2.result.now) (sym rows) (rows-begun model lists c.deref-2.result.now vehicles many))
