@@ -7,6 +7,7 @@ ghost use Rattle.vr_model.specs.routes.Routes.{route};
 ghost use Rattle.vr_model.specs.first.SavingsJoins.{join_key, joins};
 ghost use Rattle.vr_model.specs.tables.Tables.{arc_cost};
 ghost use Rattle.vr_model.specs.tables.WellFormed.{IsWellFormed};
+ghost use Rattle.vr_rules.specs.Tables.{AreTables};
 ghost use Rattle.vr_first_savings.specs.Joins.{best_behind as best_behind_of, choice_at as choice_at_of, join_of};
 ghost use Rattle.vr_first_savings.specs.Joins.{weigh, AreApart, MayBeJoined};
 ghost use Rattle.vr_first_savings.specs.RouteEnds.{ends_of, AreEnds};
@@ -15,7 +16,7 @@ use crate::choice::{Choice, improves};
 use crate::ends::{Ends, ends_of_each};
 use std::alloc::Global;
 use vr_model::{Model, NoMemory, Seq};
-use vr_rules::route_open;
+use vr_rules::{Driving, Table, is_route_open};
 
 // What it saves to drive from the last node of one route to the first of another, and not over the end and the start.
 fn saved(model: &Model, front: Ends, back: Ends) -> i64
@@ -71,11 +72,14 @@ pub(crate) fn joined(
 fn consider(
     alloc: Global,
     model: &Model,
+    tables: &[Table],
     routes: &[Seq<u32>],
     next: Choice,
     best: Option<Choice>,
+    driving: &mut Driving,
 ) -> Result<Option<Choice>, NoMemory>
     requires well_formed { IsWellFormed model.now }
+    requires tables { AreTables model.now tables.now }
     requires apart { AreApart model.now routes.now }
     requires front { next.front < length routes.now }
     requires back { next.back < length routes.now }
@@ -88,7 +92,7 @@ fn consider(
         return Ok(best);
     }
     let longer = joined(alloc, routes, next)?;
-    if route_open(alloc, model, 0, &longer)? {
+    if is_route_open(model, tables, 0, &longer, driving)? {
         Ok(Some(next))
     } else {
         Ok(best)
@@ -99,12 +103,15 @@ fn consider(
 fn best_behind(
     alloc: Global,
     model: &Model,
+    tables: &[Table],
     routes: &[Seq<u32>],
     ends: &[Ends],
     i: usize,
     best: Option<Choice>,
+    driving: &mut Driving,
 ) -> Result<Option<Choice>, NoMemory>
     requires well_formed { IsWellFormed model.now }
+    requires tables { AreTables model.now tables.now }
     requires apart { AreApart model.now routes.now }
     requires ends { ends.now ≡ map (ends_of model.now) routes.now }
     requires front { i < length routes.now }
@@ -113,7 +120,7 @@ fn best_behind(
     let mut best = best;
     for j in 0..routes.len() {
         let next = choice_at(model, routes, ends, i, j);
-        best = consider(alloc, model, routes, next, best)?;
+        best = consider(alloc, model, tables, routes, next, best, driving)?;
     }
     Ok(best)
 }
@@ -122,9 +129,12 @@ fn best_behind(
 pub(crate) fn best_join(
     alloc: Global,
     model: &Model,
+    tables: &[Table],
     routes: &[Seq<u32>],
+    driving: &mut Driving,
 ) -> Result<Option<Choice>, NoMemory>
     requires well_formed { IsWellFormed model.now }
+    requires tables { AreTables model.now tables.now }
     requires apart { AreApart model.now routes.now }
     ensures best { IfOk result (λ best. option_map (join_of routes.now) best
         ≡ least_by (join_key model.now) (joins model.now routes.now)) }
@@ -133,7 +143,7 @@ pub(crate) fn best_join(
     let ends = ends_of_each(alloc, model, routes)?;
     let mut best: Option<Choice> = None;
     for i in 0..routes.len() {
-        best = best_behind(alloc, model, routes, &ends, i, best)?;
+        best = best_behind(alloc, model, tables, routes, &ends, i, best, driving)?;
     }
     Ok(best)
 }

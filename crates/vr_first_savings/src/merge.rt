@@ -6,12 +6,14 @@ ghost use Rattle.vr_model.specs.first.Items.{first_node};
 ghost use Rattle.vr_model.specs.routes.Routes.{route};
 ghost use Rattle.vr_model.specs.first.SavingsJoins.{joined as joined_by, merged as merged_of};
 ghost use Rattle.vr_model.specs.tables.WellFormed.{IsWellFormed};
+ghost use Rattle.vr_rules.specs.Tables.{AreTables};
 ghost use Rattle.vr_first_savings.specs.Joins.{join_of, AreApart};
 
 use crate::choice::Choice;
 use crate::joins::{best_join, joined};
 use std::alloc::Global;
 use vr_model::{Model, NoMemory, Seq};
+use vr_rules::{Driving, Table};
 
 // Puts a copy of a route behind others, where its first node is neither of two.
 fn keep_other(
@@ -70,16 +72,19 @@ fn is_wanted(model: &Model, routes: usize, choice: Choice) -> bool
 pub(crate) fn merged(
     alloc: Global,
     model: &Model,
+    tables: &[Table],
     routes: Vec<Seq<u32>>,
+    driving: &mut Driving,
 ) -> Result<Vec<Seq<u32>>, NoMemory>
     requires well_formed { IsWellFormed model.now }
+    requires tables { AreTables model.now tables.now }
     requires apart { AreApart model.now routes.items }
     ensures merged { IfOk result (λ after. after.items ≡ merged_of model.now (length routes.items) routes.items) }
     ensures apart { IfOk result (λ after. AreApart model.now after.items) }
 {
     let mut routes = routes;
     for _step in 0..routes.len() {
-        match best_join(alloc, model, &routes)? {
+        match best_join(alloc, model, tables, &routes, driving)? {
             Some(choice) => {
                 if !is_wanted(model, routes.len(), choice) {
                     return Ok(routes);

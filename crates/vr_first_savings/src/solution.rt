@@ -14,7 +14,7 @@ use crate::singles::single_routes;
 use std::alloc::Global;
 use vr_model::{Model, NoMemory, Seq};
 use vr_routes::Routes;
-use vr_rules::valid;
+use vr_rules::{Driving, tables_of, valid};
 
 // The lists at which the construction ends.
 fn lists_by_savings(alloc: Global, model: &Model) -> Result<Vec<Seq<u32>>, NoMemory>
@@ -22,7 +22,10 @@ fn lists_by_savings(alloc: Global, model: &Model) -> Result<Vec<Seq<u32>>, NoMem
     ensures savings { IfOk result (λ lists. lists.items ≡ savings model.now) }
     ensures lists { IfOk result (λ lists. IsTrue (are_lists model.now lists.items)) }
 {
-    let routes = merged(alloc, model, single_routes(alloc, model)?)?;
+    let tables = tables_of(alloc, model)?;
+    let mut driving = Driving::new(alloc);
+    let singles = single_routes(alloc, model, &tables, &mut driving)?;
+    let routes = merged(alloc, model, &tables, singles, &mut driving)?;
     let lists = lists_of(alloc, model, ranked(alloc, model, &routes)?)?;
     Ok(lists)
 }

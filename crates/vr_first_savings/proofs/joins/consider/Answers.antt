@@ -9,12 +9,12 @@ use Rattle.vr_first_savings.specs.Joins.{key_of, join_of}
 use Rattle.vr_first_savings.proofs.JoinLemmas.{joined-visits, joined-distinct, where-open}
 use Rattle.vr_first_savings.proofs.joins.consider.Goals as goal
 
-pub route_open-requires-clause-visits : goal.route_open-requires-clause-visits
-route_open-requires-clause-visits c =
+pub is_route_open-requires-clause-visits : goal.is_route_open-requires-clause-visits
+is_route_open-requires-clause-visits c =
     ap (list_all (is_visit c.args.model.now)) (c.deref.ensures.value ∙ c.in_ok-longer.ensures) ∙ joined-visits c.args.model.now c.args.routes.now c.args.next.front c.args.next.back c.requires.apart
 
-pub route_open-requires-clause-distinct : goal.route_open-requires-clause-distinct
-route_open-requires-clause-distinct c =
+pub is_route_open-requires-clause-distinct : goal.is_route_open-requires-clause-distinct
+is_route_open-requires-clause-distinct c =
     ap is_distinct (c.deref.ensures.value ∙ c.in_ok-longer.ensures) ∙ joined-distinct c.args.model.now c.args.routes.now c.args.next.front c.args.next.back c.requires.apart c.if-next.false
 
 pub returns-then-branch : goal.returns-then-branch
@@ -23,5 +23,5 @@ returns-then-branch c =
     let routes = c.args.routes.now in
     let may : may_join model (join_of routes c.args.next) ≡ true =
     where-open model routes c.args.next c.requires.apart c.requires.front c.requires.back c.if-next.false
-    ∙ ap (is_route_open model 0) (sym (c.deref.ensures.value ∙ c.in_ok-longer.ensures)) ∙ sym c.in_ok-route_open.ensures ∙ c.if-branch.true in
+    ∙ ap (is_route_open model 0) (sym (c.deref.ensures.value ∙ c.in_ok-longer.ensures)) ∙ sym c.in_ok-is_route_open.ensures ∙ c.if-branch.true in
     taken key_of c.args.best c.args.next (may_join model (join_of routes c.args.next)) (sym c.improves.ensures ∙ c.if-not-improves.false) may

@@ -10,5 +10,5 @@ returns-clause-lists c =
     let model = c.args.model.now in
     let routes : List (List ℕ) = c.in_ok-routes.routes.items in
     let is : c.in_ok-lists.lists.items ≡ take (length model.vehicles) (ranked model routes ++ empty_lists model) =
-    c.in_ok-lists.ensures ∙ ap (λ routes. take (length model.vehicles) (routes ++ empty_lists model)) (c.in_ok-ranked.ensures ∙ ap (ranked model) c.deref.ensures.value) in
+    c.in_ok-lists.ensures ∙ ap (λ routes. take (length model.vehicles) (routes ++ empty_lists model)) (c.in_ok-ranked.ensures ∙ ap (ranked model) c.deref-3.ensures.value) in
     ap (are_lists model) is ∙ are_lists-first model (ranked model routes) (AreApart-ranked model routes c.in_ok-routes.ensures.apart)
