@@ -11,16 +11,17 @@ use vr_model::{NoMemory, Steps};
 use vr_routes::{Change, Routes};
 
 /// Tells which changes of routes keep a rule (`LocalSearchFilter` in OR-Tools). It stands at the lists that it has
-/// committed, so that it need only look at what a change changes; a change that passed is made ready, and then committed
-/// without taking memory.
+/// committed, so that it need only look at what a change changes; a change that passed is made ready, and then
+/// committed without taking memory.
 pub trait PathFilter {
     /// The rule holds of lists.
     ghost holds: { Self → List (List ℕ) → Bool };
 
-    /// These are the lists that were committed, and the visits of the filter's model.
+    /// It may be asked at these lists: what it keeps of the committed lists is so of them, and their visits are those of
+    /// its model.
     ghost stands_at: { Self → Tours → Type 0 };
 
-    /// This change of these routes was made ready.
+    /// Whatever a commit of this change of these routes needs is there.
     ghost ready: { Self → Tours → List ListAfter → Type 0 };
 
     /// How many steps a change of lists may cost: the lists before it and after it.

@@ -16,8 +16,8 @@ use vr_pathfilters::{DimensionFilter, VehicleFilter};
 use vr_read::read_model;
 use vr_routes::{Change, Routes};
 
-// Four visits, each 10 from the others. Node 1 has a window, node 2 a later one, node 3 five forbidden intervals, so that
-// its set is kept beyond what is held in place, and node 4 a late window; node 4 is for the first vehicle alone.
+// Four visits, each 10 from the others. Node 1 has a window, node 2 a later one, node 3 five forbidden intervals, so
+// that its set is kept beyond what is held in place, and node 4 a late window; node 4 is for the first vehicle alone.
 const WINDOWS: &str = r#"{"format":1,"nodes":5,
 "matrices":[[[0,10,10,10,10],[10,0,10,10,10],[10,10,0,10,10],[10,10,10,0,10],[10,10,10,10,0]]],
 "vehicles":[{"start":0,"end":0},{"start":0,"end":0}],
@@ -26,9 +26,9 @@ const WINDOWS: &str = r#"{"format":1,"nodes":5,
 {"node":3,"forbidden":[[0,24],[26,34],[36,44],[46,54],[56,64]]},{"node":4,"window":[90,95]}]}],
 "allowed":[{"node":4,"vehicles":[0]}],"groups":[{"nodes":[1,2,3,4],"penalty":1,"max":4}]}"#;
 
-// The same with a break of each vehicle.
+// Two visits, 10 from one another. The first vehicle has two breaks, the second none.
 const BREAKS: &str = r#"{"format":1,"nodes":3,"matrices":[[[0,10,10],[10,0,10],[10,10,0]]],
-"vehicles":[{"start":0,"end":0}],
+"vehicles":[{"start":0,"end":0},{"start":0,"end":0}],
 "dimensions":[{"name":"time","evaluators":[{"matrix":0}],"capacity":60,"slack_max":30,"fix_start":true,
 "breaks":[{"vehicle":0,"breaks":[{"from":5,"to":12,"duration":5},{"from":40,"to":41,"duration":5}]}],
 "nodes":[{"node":1,"window":[0,15]}]}],"groups":[{"nodes":[1,2],"penalty":1,"max":2}]}"#;
@@ -164,6 +164,55 @@ const WITH_BREAKS: &[(Move, bool)] = &[
     (Move::MakeActive { u: 1, w: 0, t: 1 }, false),
     (Move::MakeActive { u: 1, w: 0, t: 0 }, true),
     (Move::TwoOpt { v: 0, a: 0, b: 1 }, false),
+    (
+        Move::Relocate {
+            v: 0,
+            a: 0,
+            w: 1,
+            t: 0,
+        },
+        true,
+    ),
+    (
+        Move::Relocate {
+            v: 0,
+            a: 0,
+            w: 1,
+            t: 1,
+        },
+        true,
+    ),
+    (
+        Move::Relocate {
+            v: 1,
+            a: 1,
+            w: 0,
+            t: 0,
+        },
+        true,
+    ),
+    (
+        Move::Exchange {
+            v: 0,
+            a: 0,
+            w: 1,
+            b: 0,
+        },
+        true,
+    ),
+];
+
+// Two visits, 5 from one another, no waiting, and a single forbidden cumul at node 2, between two runs.
+const GAP: &str =
+    r#"{"format":1,"nodes":3,"matrices":[[[0,5,5],[5,0,5],[5,5,0]]],"vehicles":[{"start":0,"end":0}],
+"dimensions":[{"name":"time","evaluators":[{"matrix":0}],"capacity":100,"slack_max":0,"fix_start":true,
+"nodes":[{"node":2,"forbidden":[[10,10]]}]}],"groups":[{"nodes":[1,2],"penalty":1,"max":2}]}"#;
+
+const INTO_THE_GAP: &[(Move, bool)] = &[
+    (Move::MakeActive { u: 1, w: 0, t: 0 }, true),
+    (Move::MakeActive { u: 2, w: 0, t: 1 }, false),
+    (Move::MakeActive { u: 2, w: 0, t: 0 }, true),
+    (Move::TwoOpt { v: 0, a: 0, b: 1 }, false),
 ];
 
 fn of_text(alloc: Global, text: &str, moves: &[(Move, bool)]) -> Result<bool, NoMemory> {
@@ -178,6 +227,7 @@ fn a_dimension_refuses_what_has_no_schedule(rt: HostRuntime) -> Result<(), Fail>
     let alloc = rt.alloc();
     assert!(rt; of_text(alloc, WINDOWS, TO_FIRST)?);
     assert!(rt; of_text(alloc, BREAKS, WITH_BREAKS)?);
+    assert!(rt; of_text(alloc, GAP, INTO_THE_GAP)?);
     Ok(())
 }
 

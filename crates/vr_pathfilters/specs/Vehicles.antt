@@ -16,11 +16,11 @@ pub record AllowsAsKept (model : Model) (v : ℕ) (marks : List Bool) : Type 0 w
   pub each : (node : ℕ) → node < model.nodes → slice_index_or marks node false ≡ allows_vehicle model v node
 
 -- the same for each vehicle
-pub record AreMarks (model : Model) (marks : List (List Bool)) : Type 0 where
+pub record AreVehicleMarks (model : Model) (marks : List (List Bool)) : Type 0 where
   pub long : length marks ≡ length model.vehicles
   pub each : (v : ℕ) → v < length model.vehicles → AllowsAsKept model v (slice_index_or marks v [])
 
 -- the marks are those of the model of the tours
 pub record KnowsVehicles (model : Model) (marks : List (List Bool)) (tours : Tours) : Type 0 where
   pub tours_are : AreTours model tours
-  pub marks_are : AreMarks model marks
+  pub marks_are : AreVehicleMarks model marks

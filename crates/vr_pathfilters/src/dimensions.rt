@@ -28,8 +28,9 @@ use vr_routes::{Change, Routes, Row};
 use vr_steps::{Breaks, Line};
 use vr_walks::{Stops, passes_along, write_line};
 
-/// Lets a change pass where the line of each used vehicle in one dimension has a schedule afterwards. It keeps the rows
-/// of the committed lists, and walks only through what a change changes.
+/// Lets a change pass where the line of each used vehicle in one dimension has a schedule afterwards (the path cumul
+/// filter of a `RoutingDimension` in OR-Tools). It keeps the rows of the committed lists, and walks only through what a
+/// change changes: `passes` takes memory only where a set has more than four runs, or where there are breaks.
 #[derive(Drop)]
 pub struct DimensionFilter<'m> {
     model: &'m Model,
@@ -61,9 +62,12 @@ impl<'m> DimensionFilter<'m> {
         requires visits { routes.now.visits ≡ visits model.now }
         requires many { length routes.now.lists ≡ length model.now.vehicles }
         requires rule { IsTrue (holds_of_each (is_feasible_list model.now d) routes.now.lists) }
-        ensures model { IfOk result (λ filter. filter.model.now ≡ model.now) }
-        ensures dimension { IfOk result (λ filter. filter.d ≡ d) }
-        ensures stands { IfOk result (λ filter. StandsAt model.now d filter.stops filter.known.items routes.now) }
+        ensures holds { IfOk result (λ filter. ⟦<DimensionFilter<'static> as PathFilter>⟧.holds filter
+            ≡ holds_of_each (is_feasible_list model.now d)) }
+        ensures weight { IfOk result (λ filter. ⟦<DimensionFilter<'static> as PathFilter>⟧.weight filter
+            ≡ weight_in model.now d) }
+        ensures stands { IfOk result (λ filter.
+            ⟦<DimensionFilter<'static> as PathFilter>⟧.stands_at filter routes.now) }
     {
         let stops = Stops::build(alloc, model, d)?;
         let mut line = no_line(alloc);
@@ -148,6 +152,7 @@ impl<'m> PathFilter for DimensionFilter<'m> {
     }
 
     fn commit(&mut self, routes: &Routes, change: &Change) {
+        // the rows do not name the lists that they are of
         let _lists = routes;
         self.is_prepared = false;
         put_part(&mut self.known, change, 0, &mut self.first);

@@ -6,5 +6,4 @@ mod lists;
 mod vehicles;
 
 pub use dimensions::DimensionFilter;
-pub use lists::{ListFilter, ListRule};
 pub use vehicles::VehicleFilter;

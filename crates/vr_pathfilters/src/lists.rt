@@ -15,7 +15,7 @@ use vr_model::{NoMemory, Steps};
 use vr_routes::{Change, Routes};
 
 /// A rule of the list of each vehicle by itself, and a test of what a change makes of one list.
-pub trait ListRule {
+pub(crate) trait ListRule {
     /// The rule holds of the list of a vehicle.
     ghost rule: { Self → ℕ → List ℕ → Bool };
 
@@ -41,7 +41,7 @@ pub trait ListRule {
 
 /// Lets a change pass where a rule holds of each list afterwards. It takes no memory, and counts no steps.
 #[derive(Drop)]
-pub struct ListFilter<R> {
+pub(crate) struct ListFilter<R> {
     pub(crate) rule: R,
     pub(crate) is_prepared: bool,
 }

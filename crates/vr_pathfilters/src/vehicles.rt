@@ -13,7 +13,7 @@ ghost use Rattle.vr_filter.specs.Filters.{after};
 ghost use Rattle.vr_pathfilters.specs.Lists.{holds_of_each};
 ghost use Rattle.vr_pathfilters.specs.TourLists.{AreTours};
 ghost use Rattle.vr_pathfilters.specs.ListFilters.{StandsBy};
-ghost use Rattle.vr_pathfilters.specs.Vehicles.{AllowsAsKept, AreMarks, KnowsVehicles, is_allowed_list};
+ghost use Rattle.vr_pathfilters.specs.Vehicles.{AllowsAsKept, AreVehicleMarks, KnowsVehicles, is_allowed_list};
 ghost use Rattle.vr_pathfilters.specs.AfterChanges.{vehicles_known_after};
 
 use crate::lists::{ListFilter, ListRule};
@@ -25,9 +25,9 @@ use vr_routes::{Change, Routes, Row};
 
 /// The rule that each visit of a list allows its vehicle.
 #[derive(Drop)]
-pub struct VehicleRule<'m> {
+pub(crate) struct VehicleRule<'m> {
     model: &'m Model,
-    // for each vehicle, whether each node allows it.
+    // for each vehicle, whether each node allows it
     marks: Seq<Seq<bool>>,
     list: Row,
 }
@@ -53,6 +53,7 @@ fn all_allow(model: &Model, v: u32, marks: &Seq<bool>, nodes: &[u32]) -> bool
     requires visits { IsTrue (list_all (is_visit model.now) nodes.now) }
     ensures { result ≡ is_allowed_list model.now v nodes.now }
 {
+    // the model is that of the clauses alone
     let _model = model;
     for i in 0..nodes.len() {
         if !*marks.get(nodes[i] as usize) {
@@ -76,7 +77,7 @@ fn marks_of(alloc: Global, model: &Model, v: u32) -> Result<Seq<bool>, NoMemory>
 // The marks of all vehicles.
 fn all_marks(alloc: Global, model: &Model) -> Result<Seq<Seq<bool>>, NoMemory>
     requires well_formed { IsWellFormed model.now }
-    ensures { IfOk result (AreMarks model.now) }
+    ensures { IfOk result (AreVehicleMarks model.now) }
 {
     let mut marks = Seq::new(alloc);
     for v in 0..model.vehicles.len() {
@@ -85,7 +86,8 @@ fn all_marks(alloc: Global, model: &Model) -> Result<Seq<Seq<bool>>, NoMemory>
     Ok(marks)
 }
 
-/// Lets a change pass where each visit of each list allows its vehicle afterwards. It takes no memory.
+/// Lets a change pass where each visit of each list allows its vehicle afterwards (`SetAllowedVehiclesForIndex` in
+/// OR-Tools). It takes no memory.
 #[derive(Drop)]
 pub struct VehicleFilter<'m> {
     lists: ListFilter<VehicleRule<'m>>,
@@ -103,9 +105,10 @@ impl<'m> VehicleFilter<'m> {
         requires visits { routes.now.visits ≡ visits model.now }
         requires many { length routes.now.lists ≡ length model.now.vehicles }
         requires rule { IsTrue (holds_of_each (is_allowed_list model.now) routes.now.lists) }
-        ensures model { IfOk result (λ filter. filter.lists.rule.model.now ≡ model.now) }
-        ensures stands { IfOk result (λ filter. StandsBy (is_allowed_list model.now)
-            (KnowsVehicles model.now filter.lists.rule.marks) routes.now) }
+        ensures holds { IfOk result (λ filter. ⟦<VehicleFilter<'static> as PathFilter>⟧.holds filter
+            ≡ holds_of_each (is_allowed_list model.now)) }
+        ensures stands { IfOk result (λ filter.
+            ⟦<VehicleFilter<'static> as PathFilter>⟧.stands_at filter routes.now) }
     {
         routes.know_once();
         routes.know_entries();
