@@ -30,6 +30,14 @@ use vr_routes::Routes;
 pub struct Rules<'m> {
     model: &'m RoutingModel,
     tables: Vec<Table>,
+    // on the heap, since it is large
+    kept: Box<Kept>,
+}
+
+// What is written over for each question.
+#[derive(Drop)]
+struct Kept {
+    // for each node whether it is active
     marks: Vec<bool>,
     driving: Driving,
     timer: Timer,
@@ -55,9 +63,14 @@ impl<'m> Rules<'m> {
         Ok(Rules {
             model,
             tables: tables_of(alloc, model)?,
-            marks: Vec::new(alloc),
-            driving: Driving::new(alloc),
-            timer: Timer::new(alloc),
+            kept: Box::new(
+                alloc,
+                Kept {
+                    marks: Vec::new(alloc),
+                    driving: Driving::new(alloc),
+                    timer: Timer::new(alloc),
+                },
+            )?,
         })
     }
 
@@ -66,6 +79,7 @@ impl<'m> Rules<'m> {
         ensures model { result.now ≡ self.now }
         ensures well_formed { IsWellFormed self.now }
     {
+        // what holds of the model is known where the tables are read too
         let _ = &self.tables;
         self.model
     }
@@ -81,7 +95,7 @@ impl<'m> Rules<'m> {
         ensures answer { IfOk result (λ answer. answer ≡ is_route_open_of self.old v list.now) }
         ensures model { self.new ≡ self.old }
     {
-        let answer = is_route_open(self.model, &self.tables, v, list, &mut self.driving)?;
+        let answer = is_route_open(self.model, &self.tables, v, list, &mut self.kept.driving)?;
         Ok(answer)
     }
 
@@ -92,13 +106,14 @@ impl<'m> Rules<'m> {
         ensures answer { IfOk result (λ answer. answer ≡ is_open_of self.old routes.now.lists) }
         ensures model { self.new ≡ self.old }
     {
-        write_marks(self.model, routes, &mut self.marks)?;
+        let kept = &mut *self.kept;
+        write_marks(self.model, routes, &mut kept.marks)?;
         let answer = is_open(
             self.model,
             &self.tables,
             routes,
-            &self.marks,
-            &mut self.driving,
+            &kept.marks,
+            &mut kept.driving,
         )?;
         Ok(answer)
     }
@@ -110,13 +125,14 @@ impl<'m> Rules<'m> {
         ensures answer { IfOk result (λ answer. answer ≡ is_valid_of self.old routes.now.lists) }
         ensures model { self.new ≡ self.old }
     {
-        write_marks(self.model, routes, &mut self.marks)?;
+        let kept = &mut *self.kept;
+        write_marks(self.model, routes, &mut kept.marks)?;
         let answer = is_valid(
             self.model,
             &self.tables,
             routes,
-            &self.marks,
-            &mut self.driving,
+            &kept.marks,
+            &mut kept.driving,
         )?;
         Ok(answer)
     }
@@ -129,13 +145,14 @@ impl<'m> Rules<'m> {
         ensures total { IfOk result HasTotal }
         ensures model { self.new ≡ self.old }
     {
-        write_marks(self.model, routes, &mut self.marks)?;
+        let kept = &mut *self.kept;
+        write_marks(self.model, routes, &mut kept.marks)?;
         let parts = parts_of(
             self.model,
             &self.tables,
             routes,
-            &self.marks,
-            &mut self.timer,
+            &kept.marks,
+            &mut kept.timer,
         )?;
         Ok(parts)
     }
