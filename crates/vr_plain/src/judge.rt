@@ -15,14 +15,16 @@ use std::marker::Model;
 use std::sync::ledger::Ledger;
 use vr_model::{Model as RoutingModel, Move, NoMemory, Steps};
 use vr_routes::{Change, Judge, Routes, Verdict};
-use vr_rules::{cost, total_cost, valid};
+use vr_rules::{Rules, total_cost};
 
 /// Judges a move by the rules and the cost of the whole lists after it, which it builds anew each time. It counts no
 /// questions and no steps: both of its numbers are 0.
+///
+/// All that a judged move needs is kept and written over: after the first moves one takes memory only where a set of
+/// cumuls has more than four runs, or a list is longer than any before.
 #[derive(Drop)]
 pub struct PlainJudge<'m> {
-    alloc: Global,
-    model: &'m RoutingModel,
+    rules: Rules<'m>,
     // the lists that are committed, and what they cost
     held: Routes,
     total: i64,
@@ -36,9 +38,9 @@ impl<'m> Model for PlainJudge<'m> {
 
     ghost Value = { Held };
 
-    ghost view = { λ judge. record { model = judge.model.now; lists = judge.held.lists } };
+    ghost view = { λ judge. record { model = judge.rules; lists = judge.held.lists } };
 
-    ghost invariant = { λ judge. AreKept judge.model.now judge.held judge.scratch judge.total };
+    ghost invariant = { λ judge. AreKept judge.rules judge.held judge.scratch judge.total };
 }
 
 impl<'m> PlainJudge<'m> {
@@ -56,10 +58,10 @@ impl<'m> PlainJudge<'m> {
     {
         let held = routes.copy(alloc)?;
         let scratch = routes.copy(alloc)?;
-        let total = total_of(alloc, model, routes)?;
+        let mut rules = Rules::open(alloc, model)?;
+        let total = total_of(&mut rules, routes)?;
         Ok(PlainJudge {
-            alloc,
-            model,
+            rules,
             held,
             total,
             scratch,
@@ -77,25 +79,37 @@ impl<'m> Judge for PlainJudge<'m> {
 
     ghost weight = { λ judge mv. 0 };
 
-    /// Memory is taken by the rules and the cost alone.
+    /// Memory is taken by the rules alone.
     fn judge<L: Ledger>(
         &mut self,
         routes: &Routes,
         mv: Move,
         _steps: &mut Steps<L>,
     ) -> Result<Verdict, NoMemory> {
-        rebuild(self.model, routes, mv, &mut self.change, &mut self.scratch);
-        if !valid(self.alloc, self.model, &self.scratch)? {
+        rebuild(
+            self.rules.model(),
+            routes,
+            mv,
+            &mut self.change,
+            &mut self.scratch,
+        );
+        if !self.rules.valid(&self.scratch)? {
             return Ok(Verdict::Refused);
         }
-        let total = total_of(self.alloc, self.model, &self.scratch)?;
+        let total = total_of(&mut self.rules, &self.scratch)?;
         Ok(Verdict::Difference(total - self.total))
     }
 
     /// The cost is worked out first; then routes and judge are changed, which takes no memory.
     fn commit(&mut self, routes: &mut Routes, mv: Move) -> Result<(), NoMemory> {
-        rebuild(self.model, routes, mv, &mut self.change, &mut self.scratch);
-        let total = total_of(self.alloc, self.model, &self.scratch)?;
+        rebuild(
+            self.rules.model(),
+            routes,
+            mv,
+            &mut self.change,
+            &mut self.scratch,
+        );
+        let total = total_of(&mut self.rules, &self.scratch)?;
         routes.commit(&self.change);
         self.held.commit(&self.change);
         self.total = total;
@@ -122,17 +136,14 @@ fn rebuild(model: &RoutingModel, routes: &Routes, mv: Move, change: &mut Change,
     after.commit(change);
 }
 
-/// What valid lists cost. The only refusal is want of memory.
-pub(crate) fn total_of(
-    alloc: Global,
-    model: &RoutingModel,
-    routes: &Routes,
-) -> Result<i64, NoMemory>
-    requires well_formed { IsWellFormed model.now }
-    requires valid { IsTrue (is_valid model.now routes.now.lists) }
-    ensures value { IfOk result (λ total. total ≡ cost model.now routes.now.lists) }
+// What valid lists cost. The only refusal is want of memory.
+pub(crate) fn total_of(rules: &mut Rules<'_>, routes: &Routes) -> Result<i64, NoMemory>
+    requires well_formed { IsWellFormed rules.old }
+    requires valid { IsTrue (is_valid rules.old routes.now.lists) }
+    ensures value { IfOk result (λ total. total ≡ cost rules.old routes.now.lists) }
     ensures least { IfOk result (λ total. pos 0 ≤ℤ total) }
+    ensures model { rules.new ≡ rules.old }
 {
-    let parts = cost(alloc, model, routes)?;
+    let parts = rules.cost(routes)?;
     Ok(total_cost(&parts))
 }

@@ -1,7 +1,8 @@
 //! The searches over a plain judge. No clause says that they find memory, nor that they ask about each move that they
 //! count.
 
-ghost use Rattle.std.specs.Prelude.{◌≡◌, ◌<◌, ◌≤◌, ◌≤ℤ◌, IsTrue, pos};
+ghost use Rattle.std.specs.Prelude.{◌≡◌, ◌<◌, ◌≤◌, ◌≤ℤ◌, IfOk, IsTrue, pos};
+ghost use Rattle.vr_model.specs.routes.Costs.{cost};
 ghost use Rattle.vr_model.specs.routes.Rules.{is_valid};
 ghost use Rattle.vr_model.specs.tables.Tables.{visits};
 ghost use Rattle.vr_model.specs.tables.WellFormed.{IsWellFormed};
@@ -18,6 +19,7 @@ use vr_descent::descend;
 use vr_guided::guide;
 use vr_model::{End, Lambda, Limit, Model, NoMemory, Report, Steps};
 use vr_routes::Routes;
+use vr_rules::Rules;
 use vr_watch::{Stopper, Tally, Trace, Watch};
 
 type Watchers = Vec<Box<dyn Watch>>;
@@ -62,6 +64,18 @@ fn lambda_of(model: &Model) -> Lambda
     }
 }
 
+// What valid routes cost, by rules of their own.
+fn cost_of(alloc: Global, model: &Model, routes: &Routes) -> Result<i64, NoMemory>
+    requires well_formed { IsWellFormed model.now }
+    requires valid { IsTrue (is_valid model.now routes.now.lists) }
+    ensures value { IfOk result (λ total. total ≡ cost model.now routes.now.lists) }
+    ensures least { IfOk result (λ total. pos 0 ≤ℤ total) }
+{
+    let mut rules = Rules::open(alloc, model)?;
+    let total = total_of(&mut rules, routes)?;
+    Ok(total)
+}
+
 fn descended<L: Ledger>(
     alloc: Global,
     model: &Model,
@@ -76,7 +90,7 @@ fn descended<L: Ledger>(
     requires parts { blank.parts ≡ L.parts }
     requires some { 0 < blank.parts }
 {
-    let first_cost = total_of(alloc, model, routes)?;
+    let first_cost = cost_of(alloc, model, routes)?;
     let mut judge = Counting {
         judge: PlainJudge::open(alloc, model, routes)?,
         asked: 0,
@@ -86,7 +100,7 @@ fn descended<L: Ledger>(
     let report = descend(
         model, &mut judge, routes, first_cost, limit, watch, &mut steps,
     )?;
-    let cost = total_of(alloc, model, routes)?;
+    let cost = cost_of(alloc, model, routes)?;
     Ok(told(report, cost, judge.asked))
 }
 
@@ -104,7 +118,7 @@ fn guided<L: Ledger>(
     requires parts { blank.parts ≡ L.parts }
     requires some { 0 < blank.parts }
 {
-    let first_cost = total_of(alloc, model, routes)?;
+    let first_cost = cost_of(alloc, model, routes)?;
     let mut judge = Counting {
         judge: PlainJudge::open(alloc, model, routes)?,
         asked: 0,
@@ -115,7 +129,7 @@ fn guided<L: Ledger>(
     let guided = guide(
         alloc, model, &mut judge, routes, first_cost, limit, lambda, watch, &mut steps,
     )?;
-    let cost = total_of(alloc, model, &guided.best)?;
+    let cost = cost_of(alloc, model, &guided.best)?;
     Ok(told(guided.report, cost, judge.asked))
 }
 
@@ -140,69 +154,109 @@ fn search_text(
     Ok(found)
 }
 
+// A descent on the model of a text with further fields, without watchers.
+fn descent(alloc: Global, start: &str, rest: &str) -> Result<Told, Fail> {
+    let told = search_text(alloc, start, rest, false, &mut Vec::new(alloc))?;
+    Ok(told)
+}
+
+// The three kinds of moves that need no groups and no pairs.
+const THREE_KINDS: &str = "\"search\":{\"neighbourhoods\":[\"two_opt\",\"or_opt\",\"relocate\"]}";
+
+const THREE_TRIES: &str =
+    "\"search\":{\"neighbourhoods\":[\"two_opt\",\"or_opt\",\"relocate\"],\"tries\":3}";
+
+const TWO_SOLUTIONS: &str =
+    "\"search\":{\"neighbourhoods\":[\"two_opt\",\"or_opt\",\"relocate\"],\"solutions\":2}";
+
 #[test]
 fn descents_ask_as_often_as_they_try(rt: HostRuntime) -> Result<(), Fail> {
     let alloc = rt.alloc();
-    let three = "\"search\":{\"neighbourhoods\":[\"two_opt\",\"or_opt\",\"relocate\"]";
-    let pair = "\"pairs\":[{\"pickup\":1,\"delivery\":2}]";
-    for (start, fields, rest, tries, solutions, end, cost) in [
-        (THREE, three, "}", 3, 1, "optimum", 18),
-        (TWO_VANS, three, "}", 8, 2, "optimum", 120),
-        (TWO_VANS, three, ",\"tries\":3}", 3, 1, "tries", 165),
-        (TWO_VANS, three, ",\"solutions\":2}", 4, 2, "solutions", 120),
-        (TWO_VANS, "\"search\":{}", "", 14, 2, "optimum", 120),
-        (THREE, "\"search\":{\"tries\":0}", "", 0, 1, "tries", 18),
-        (THREE, "\"search\":{\"tries\":1}", "", 1, 1, "tries", 18),
-        (THREE, "\"search\":{\"tries\":5}", "", 5, 1, "tries", 18),
-        (THREE, "\"search\":{\"tries\":6}", "", 6, 1, "optimum", 18),
-        (
-            THREE,
-            "\"search\":{\"solutions\":1}",
-            "",
-            0,
-            1,
-            "solutions",
-            18,
-        ),
-        (
-            THREE,
-            "\"groups\":[{\"nodes\":[2],\"penalty\":8}]",
-            "",
-            6,
-            1,
-            "optimum",
-            18,
-        ),
-        (THREE, pair, "", 7, 1, "optimum", 18),
-        (
-            THREE,
-            pair,
-            ",\"groups\":[{\"nodes\":[1],\"penalty\":1},{\"nodes\":[2],\"penalty\":1}]",
-            8,
-            2,
-            "optimum",
-            2,
-        ),
-    ] {
-        let mut text = String::new(alloc);
-        write!(text, "{fields}{rest}")?;
-        let found = search_text(alloc, start, text.as_str(), false, &mut Vec::new(alloc))?;
-        assert_eq!(rt; found, (tries, solutions, end, cost, tries), "{text}");
-    }
+    assert_eq!(rt;
+        descent(alloc, THREE, THREE_KINDS)?,
+        (3, 1, "optimum", 18, 3)
+    );
+    assert_eq!(rt;
+        descent(alloc, TWO_VANS, THREE_KINDS)?,
+        (8, 2, "optimum", 120, 8)
+    );
+    assert_eq!(rt;
+        descent(alloc, TWO_VANS, "\"search\":{}")?,
+        (14, 2, "optimum", 120, 14)
+    );
     Ok(())
+}
+
+#[test]
+fn descents_end_at_their_limits(rt: HostRuntime) -> Result<(), Fail> {
+    let alloc = rt.alloc();
+    assert_eq!(rt;
+        descent(alloc, TWO_VANS, THREE_TRIES)?,
+        (3, 1, "tries", 165, 3)
+    );
+    assert_eq!(rt;
+        descent(alloc, TWO_VANS, TWO_SOLUTIONS)?,
+        (4, 2, "solutions", 120, 4)
+    );
+    assert_eq!(rt;
+        descent(alloc, THREE, "\"search\":{\"tries\":0}")?,
+        (0, 1, "tries", 18, 0)
+    );
+    assert_eq!(rt;
+        descent(alloc, THREE, "\"search\":{\"tries\":5}")?,
+        (5, 1, "tries", 18, 5)
+    );
+    assert_eq!(rt;
+        descent(alloc, THREE, "\"search\":{\"tries\":6}")?,
+        (6, 1, "optimum", 18, 6)
+    );
+    assert_eq!(rt;
+        descent(alloc, THREE, "\"search\":{\"solutions\":1}")?,
+        (0, 1, "solutions", 18, 0)
+    );
+    Ok(())
+}
+
+const OPTIONAL: &str = "\"groups\":[{\"nodes\":[2],\"penalty\":8}]";
+
+const PAIR: &str = "\"pairs\":[{\"pickup\":1,\"delivery\":2}]";
+
+const OPTIONAL_PAIR: &str = "\"pairs\":[{\"pickup\":1,\"delivery\":2}],\
+    \"groups\":[{\"nodes\":[1],\"penalty\":1},{\"nodes\":[2],\"penalty\":1}]";
+
+#[test]
+fn descents_try_optional_visits_and_pairs(rt: HostRuntime) -> Result<(), Fail> {
+    let alloc = rt.alloc();
+    assert_eq!(rt; descent(alloc, THREE, OPTIONAL)?, (6, 1, "optimum", 18, 6));
+    assert_eq!(rt; descent(alloc, THREE, PAIR)?, (7, 1, "optimum", 18, 7));
+    assert_eq!(rt;
+        descent(alloc, THREE, OPTIONAL_PAIR)?,
+        (8, 2, "optimum", 2, 8)
+    );
+    Ok(())
+}
+
+// A guided search on the model of a text with further fields, without watchers.
+fn guided_search(alloc: Global, start: &str, rest: &str) -> Result<Told, Fail> {
+    let told = search_text(alloc, start, rest, true, &mut Vec::new(alloc))?;
+    Ok(told)
 }
 
 #[test]
 fn guided_searches_ask_as_often_as_they_try(rt: HostRuntime) -> Result<(), Fail> {
     let alloc = rt.alloc();
-    for (start, rest, tries, solutions, end, cost) in [
-        (THREE, "\"search\":{\"tries\":20}", 20, 3, "tries", 18),
-        (THREE, "\"search\":{\"tries\":6}", 6, 1, "tries", 18),
-        (ONE, "\"search\":{}", 0, 1, "optimum", 0),
-    ] {
-        let found = search_text(alloc, start, rest, true, &mut Vec::new(alloc))?;
-        assert_eq!(rt; found, (tries, solutions, end, cost, tries), "{rest}");
-    }
+    assert_eq!(rt;
+        guided_search(alloc, THREE, "\"search\":{\"tries\":20}")?,
+        (20, 3, "tries", 18, 20)
+    );
+    assert_eq!(rt;
+        guided_search(alloc, THREE, "\"search\":{\"tries\":6}")?,
+        (6, 1, "tries", 18, 6)
+    );
+    assert_eq!(rt;
+        guided_search(alloc, ONE, "\"search\":{}")?,
+        (0, 1, "optimum", 0, 0)
+    );
     Ok(())
 }
 

@@ -11,7 +11,7 @@ as_sum model lists = refl
 
 pub returns-clause-value : goal.returns-clause-value
 returns-clause-value c =
-    let model = c.args.model.now in
+    let model = c.args.rules.now in
     let lists = c.args.routes.now.lists in
     let bounds = costs_are_bounded model c.requires.well_formed lists c.requires.valid in
     let value : c.total_cost.result ≡ cost model lists = c.total_cost.ensures ∙ (ap sum_of c.in_ok-parts.ensures.parts ∙ as_sum model lists) in
