@@ -24,8 +24,8 @@ use vr_routes::Routes;
 /// The rules of a model, ready to be asked of any lists. Contracts see the model, which no call changes.
 ///
 /// What its stops ask is looked up once, and all that a question needs is kept and written over: after the first
-/// questions an answer takes memory only where a set of cumuls has more than four runs, or a list is longer than any
-/// before.
+/// questions an answer takes memory only where a set of cumuls has more than four runs, or a list is longer, has more
+/// pairs, or its vehicle more breaks, than any before.
 #[derive(Drop)]
 pub struct Rules<'m> {
     model: &'m RoutingModel,

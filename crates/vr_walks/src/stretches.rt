@@ -6,7 +6,9 @@ ghost use Rattle.vr_walks.specs.Stretches.{SharesFront, SharesBack, DifferAtFron
 /// How many nodes two lists share at the front and at the back.
 #[derive(Clone, Copy, Debug, PartialEq, Eq)]
 pub struct Stretch {
+    /// The nodes that both begin with.
     pub front: usize,
+    /// The nodes that both end with, beside those.
     pub back: usize,
 }
 
@@ -21,7 +23,7 @@ impl Stretch {
     }
 }
 
-/// How many nodes two lists share at the front.
+// How many nodes two lists share at the front.
 fn shared_front(old: &[u32], new: &[u32]) -> usize
     ensures shares { SharesFront old.now new.now result }
     ensures most { DifferAtFront old.now new.now result }
@@ -34,7 +36,7 @@ fn shared_front(old: &[u32], new: &[u32]) -> usize
     front
 }
 
-/// How many nodes two lists share at the back, beside those that they share at the front.
+// How many nodes two lists share at the back, beside those that they share at the front.
 fn shared_back(old: &[u32], new: &[u32], front: usize) -> usize
     requires front { SharesFront old.now new.now front }
     ensures shares { SharesBack old.now new.now result }

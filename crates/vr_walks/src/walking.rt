@@ -76,10 +76,12 @@ fn walk_through<L: Ledger>(
 }
 
 /// Whether a list of vehicle `v` is empty or its line feasible, found by a walk through what differs from the list
-/// before, whose rows are known. It counts each crossing that it makes, at most as many as the definition of the weight of a
-/// changed list says.
+/// before, which passes itself and whose rows are known. It counts a step for each run that it carries over an arc, once
+/// for each number of further breaks, and one for each run on both sides where it joins the rows: at most the weight
+/// that the definitions give the changed list. Afterwards nothing is said of where the walk stands.
 ///
-/// It takes memory only where a set has more than four runs, or where there are breaks and the walk is new.
+/// `NoMemory` where there was no memory: it is taken only where a set has more than four runs, or a vehicle more breaks
+/// than any before.
 pub fn passes_along<L: Ledger>(
     model: &Model,
     d: u32,
@@ -131,7 +133,7 @@ pub fn passes_along<L: Ledger>(
     Ok(passed)
 }
 
-/// The same as `passes_along`, where nobody counts.
+/// The same as `passes_along`, where nobody counts steps.
 pub fn goes_beside(
     model: &Model,
     d: u32,
@@ -186,8 +188,9 @@ fn uncounted<L: Ledger>(
 }
 
 /// Whether vehicle `v` has a schedule with a list in dimension `d`: goes along the list from its start to its end.
+/// Afterwards nothing is said of where the walk stands.
 ///
-/// It takes memory only where a set has more than four runs, or where there are breaks and the walk is new.
+/// `NoMemory` as of `passes_along`.
 pub fn goes_through(
     model: &Model,
     d: u32,
