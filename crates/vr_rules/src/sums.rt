@@ -26,8 +26,8 @@ pub(crate) struct Extent {
     pub(crate) last: i64,
 }
 
-// What soft upper bounds and spans cost, and the extent of the routes that may pay, `None` where none does. It is that of
-// all routes where the coefficient of the global span is not 0, and asked for only then.
+// What soft upper bounds and spans cost, and the extent of the routes that may pay, `None` where none does. It is that
+// of all routes where the coefficient of the global span is not 0, and asked for only then.
 #[derive(Clone, Copy)]
 pub(crate) struct Sums {
     pub(crate) soft: i64,

@@ -76,9 +76,9 @@ fn walk_through<L: Ledger>(
 }
 
 /// Whether a list of vehicle `v` is empty or its line feasible, found by a walk through what differs from the list
-/// before, which passes itself and whose rows are known. It counts a step for each run that it carries over an arc, once
-/// for each number of further breaks, and one for each run on both sides where it joins the rows: at most the weight
-/// that the definitions give the changed list. Afterwards nothing is said of where the walk stands.
+/// before, which passes itself and whose rows are known. It counts a step for each run that it carries over an arc,
+/// once for each number of further breaks, and one for each run on both sides where it joins the rows: at most the
+/// weight that the definitions give the changed list. Afterwards nothing is said of where the walk stands.
 ///
 /// `NoMemory` where there was no memory: it is taken only where a set has more than four runs, or a vehicle more breaks
 /// than any before.
