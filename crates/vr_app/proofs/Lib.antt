@@ -1,5 +1,6 @@
 pub mod InputLemmas
 pub mod CauseLemmas
+pub mod MetLemmas
 pub mod SolutionLemmas
 pub mod ReplyLemmas
 pub mod GeneratedLemmas

@@ -14,6 +14,7 @@ use Rattle.vr_model.specs.first.FirstSolutions.{first_lists}
 use Rattle.vr_read.proofs.WellFormedModels.{well_formed_from_read}
 use Rattle.vr_model.specs.declared.search.Event.{Event}
 use Rattle.vr_watch.specs.Told.{Told}
+use Rattle.vr_check.specs.declared.finding.Rule.{Rule}
 use Rattle.vr_app.specs.Answers.{Answers, AnswersReply}
 use Rattle.vr_app.specs.Causes.{IsAnsweredBy}
 use Rattle.vr_app.specs.Found.{Found, events_of, found_from, line_of_found}
@@ -21,7 +22,7 @@ use Rattle.vr_app.specs.Input.{max_input, model_of, value_of}
 use Rattle.vr_app.specs.Reply.{Reply, reply, reply_in, reply_to_found, reply_to_input, reply_to_model, reply_to_value, too_long, with_reports}
 use Rattle.vr_app.specs.Reports.{joined}
 use Rattle.vr_app.specs.Runs.{IsAskedFor}
-use Rattle.vr_app.specs.Texts.{refused_tree, status_tree, summary_tree}
+use Rattle.vr_app.specs.Texts.{met_tree, not_met_tree, refused_tree, status_tree, summary_tree}
 use Rattle.vr_app.specs.Status.{number_of}
 use Rattle.vr_app.specs.declared.answer.Answer.{Answer}
 use Rattle.vr_app.specs.declared.status.Status.TheVariants as all
@@ -29,6 +30,8 @@ use Rattle.vr_app.specs.declared.texts.Summary.{Summary}
 use Rattle.vr_app.specs.declared.words.Mode.{Mode}
 use Rattle.vr_app.specs.declared.words.Mode.TheVariants as mode
 use Rattle.vr_app.specs.declared.words.Request.{Request}
+use Rattle.vr_app.specs.declared.words.Task.TheVariants as task
+use Rattle.vr_app.proofs.InputLemmas.{of_input}
 use Rattle.vr_app.proofs.SolutionLemmas.{found-printed}
 
 -- a tree that may be printed: no float stands in it, and it is not too deep
@@ -48,6 +51,14 @@ is_float-whole : (z : ℤ) → is_float (of_integer z) ≡ false
 is_float-whole (pos n) = refl
 is_float-whole (negsuc n) = refl
 
+pub met-printable : (cost : ℤ) → IsPrintable (met_tree cost)
+unfolding met_tree
+met-printable cost = record { whole = simp is_float-whole; nested = omega arith }
+
+pub not_met-printable : (rule : Rule) (vehicle place : ℤ) → IsPrintable (not_met_tree rule vehicle place)
+unfolding not_met_tree
+not_met-printable rule vehicle place = record { whole = simp is_float-whole; nested = omega arith }
+
 pub summary-printable : (summary : Summary) → IsPrintable (summary_tree summary)
 unfolding summary_tree
 summary-printable summary = record { whole = simp is_float-whole; nested = omega arith }
@@ -64,7 +75,7 @@ module _ (asked : Mode) (reports : List Event → List ℕ) (bytes : List ℕ) w
   found-answered d model short some is (Some lists) e zero = record {
     model = model;
     found = found_from asked model lists;
-    is_model = record { short = short; value = d; is_value = some; is_model = is };
+    is_model = record { short = short; value = d; is_value = some; is_read = is };
     is_found = ap (option_map (found_from asked model)) e;
     prints = found-printed asked model lists (well_formed_from_read _ d model is) e;
     text_is = refl;
@@ -75,17 +86,9 @@ module _ (asked : Mode) (reports : List Event → List ℕ) (bytes : List ℕ) w
   model-answered d short some (Err fault) is zero = absurd (omega arith)
   model-answered d short some (Ok model) is zero = found-answered d model short some is (first_lists model) refl zero
 
-  value-answered : length bytes ≤ max_input → (o : Option Data) → value_of bytes ≡ o → AnsweredWhere (reply_to_value asked reports o)
-  value-answered short None e zero = absurd (omega arith)
-  value-answered short (Some d) e zero = model-answered d short e (model_of d) refl zero
-
-  input-answered : AnsweredWhere (reply_to_input asked reports bytes)
-  unfolding reply_to_input
-  input-answered = by (nat_lt max_input (length bytes)) refl
-    where
-      by : (b : Bool) → nat_lt max_input (length bytes) ≡ b → AnsweredWhere (cond b too_long (reply_to_value asked reports (value_of bytes)))
-      by true e zero = absurd (omega arith)
-      by false e zero = value-answered (grind (arith, nat_tests)) (value_of bytes) refl zero
+  input-answered : AnsweredWhere (reply_to_input (task.Find asked) reports bytes)
+  input-answered = of_input (task.Find asked) reports bytes AnsweredWhere (λ long zero. absurd (omega arith)) (λ short none zero. absurd (omega arith))
+      (λ d short some. model-answered d short some (model_of d) refl)
 
   pub reply-answered : (words : List (List ℕ)) → IsAskedFor asked words → (reply reports words bytes).status ≡ 0 → IsAnsweredBy asked reports bytes (reply reports words bytes).text
   reply-answered words is =

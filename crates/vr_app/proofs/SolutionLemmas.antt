@@ -15,12 +15,14 @@ use Rattle.vr_model.specs.schedules.Lines.{Line, line}
 use Rattle.vr_model.specs.schedules.Schedules.{IsChosen, IsSchedule, Plan}
 use Rattle.vr_model.specs.tables.WellFormed.{IsWellFormed}
 use Rattle.vr_model.specs.deciding.Testing.{and_left, and_right}
+use Rattle.vr_model.proofs.routes.CostFits.{costs_are_bounded}
 use Rattle.vr_model.proofs.routes.Assigned.{chosen_plans_are_there, open_meets_its_lines}
 use Rattle.vr_model.proofs.schedules.ChoiceLaws.{chosen_is, chosen_where_feasible}
 use Rattle.vr_descent.specs.Answering.{IsSoundAnswer}
 use Rattle.vr_descent.proofs.AnswerLemmas.{descent_is_sound}
 use Rattle.vr_guided.proofs.AnswerLemmas.{guided_is_sound}
 use Rattle.vr_print.proofs.TreeLemmas.{plan-at}
+use Rattle.vr_laws.proofs.AllMet.{printed_meets}
 use Rattle.vr_app.specs.Found.{Found, found_from, improved, lambda_of, limit_of, line_of_found, searched, untried}
 use Rattle.vr_app.specs.Solutions.{HasChosenPlans, IsInLimits, IsSolution, PrintsSolution}
 use Rattle.vr_app.specs.Texts.{summary_of, used}
@@ -104,7 +106,10 @@ searched-sound mode.Log model first well_formed valid = improved-sound model.sea
 pub found-printed : (asked : Mode) (model : Model) (first : List (List ℕ)) → IsWellFormed model → first_lists model ≡ Some first → PrintsSolution model (line_of_found model (found_from asked model first))
 unfolding line_of_found
 found-printed asked model first well_formed e =
-    let sound = searched-sound asked model first well_formed (first_lists-valid model first e) in
+    let valid = first_lists-valid model first e in
+    let sound = searched-sound asked model first well_formed valid in
+    let bounds = costs_are_bounded model well_formed first valid in
+    let limits = sound.in_limits in
     record {
       first = first;
       assignment = assigned model (searched asked model first).best;
@@ -113,6 +118,8 @@ found-printed asked model first well_formed e =
       is_solution = is-solution model first (searched asked model first).best sound.valid sound.no_dearer;
       is_in_limits = sound.in_limits;
       text_is = refl;
+      meets = printed_meets model well_formed (searched asked model first).best sound.valid (cost model first) sound.no_dearer (omega (arith, ints, bounds.greatest))
+          (searched asked model first).report limits.tries limits.some_solution limits.solutions;
     }
 
 -- a summary of these numbers

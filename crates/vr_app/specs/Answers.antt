@@ -20,9 +20,17 @@ pub record AnswersReply (reply : Reply) (answer : Answer) : Type 0 where
 abbrev pub IsOfModel : Status → Type 0
 IsOfModel status = (status ≡ all.Done) ⊎ (status ≡ all.NoneFound)
 
+-- the status of an answer to a value that should be a model
+abbrev pub IsOfSolving : Status → Type 0
+IsOfSolving status = IsOfModel status ⊎ (status ≡ all.Refused)
+
+-- the status of an answer to a value whose solution is checked
+abbrev pub IsOfChecking : Status → Type 0
+IsOfChecking status = (status ≡ all.Done) ⊎ (status ≡ all.NotMet) ⊎ (status ≡ all.Refused)
+
 -- the status of an answer to an input that is not too long
 abbrev pub IsOfShort : Status → Type 0
-IsOfShort status = IsOfModel status ⊎ (status ≡ all.NotJson) ⊎ (status ≡ all.Refused)
+IsOfShort status = IsOfSolving status ⊎ (status ≡ all.NotJson) ⊎ (status ≡ all.NotMet)
 
 -- the status of an answer to an input
 abbrev pub IsOfInput : Status → Type 0
@@ -31,7 +39,3 @@ IsOfInput status = IsOfShort status ⊎ (status ≡ all.TooLong)
 -- the status of an answer
 abbrev pub IsOfAnswer : Status → Type 0
 IsOfAnswer status = (status ≡ all.Usage) ⊎ IsOfInput status
-
--- the status of an answer to a number
-abbrev pub IsOfNumber : Status → Type 0
-IsOfNumber status = IsOfModel status ⊎ (status ≡ all.Refused)

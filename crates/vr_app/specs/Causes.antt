@@ -1,5 +1,5 @@
 -- What an input is, for each status of an accepted call.
-use Rattle.std.specs.Prelude.{◌≡◌, ◌<◌, ◌≤◌, ℕ, List, Some, None, Ok, Err, IsSome, length}
+use Rattle.std.specs.Prelude.{◌≡◌, ◌<◌, ◌≤◌, ℕ, List, Some, None, Result, Ok, Err, IsSome, length}
 use Rattle.serde_json.specs.Data.{Data}
 use Rattle.vr_json.specs.declared.fault.Fault.{Fault}
 use Rattle.vr_model.specs.first.FirstSolutions.{first_lists}
@@ -20,23 +20,27 @@ pub record IsNotJson (bytes : List ℕ) : Type 0 where
   pub short : length bytes ≤ max_input
   pub no_value : value_of bytes ≡ None
 
--- it is JSON, and this is the first fault of its value
-pub record HasFault (bytes : List ℕ) (fault : Fault) : Type 0 where
+-- it is JSON, and this is the first fault of reading its value
+pub record HasFault {A : Type 0} (read : Data → Result A Fault) (bytes : List ℕ) (fault : Fault) : Type 0 where
   pub short : length bytes ≤ max_input
   pub value : Data
   pub is_value : value_of bytes ≡ Some value
-  pub is_fault : model_of value ≡ Err fault
+  pub is_fault : read value ≡ Err fault
 
--- it is JSON, and its value is this model
-pub record IsModel (bytes : List ℕ) (model : Model) : Type 0 where
+-- it is JSON, and this is read of its value
+pub record IsReadAs {A : Type 0} (read : Data → Result A Fault) (bytes : List ℕ) (x : A) : Type 0 where
   pub short : length bytes ≤ max_input
   pub value : Data
   pub is_value : value_of bytes ≡ Some value
-  pub is_model : model_of value ≡ Ok model
+  pub is_read : read value ≡ Ok x
 
 -- it is JSON whose value is refused
-abbrev pub IsRefused : List ℕ → Type 0
-IsRefused bytes = (fault : Fault) × HasFault bytes fault
+abbrev pub IsRefused : {A : Type 0} → (Data → Result A Fault) → List ℕ → Type 0
+IsRefused read bytes = (fault : Fault) × HasFault read bytes fault
+
+-- it is this model
+abbrev pub IsModel : List ℕ → Model → Type 0
+IsModel bytes model = IsReadAs model_of bytes model
 
 -- it is a model for which the construction gives a first solution
 abbrev pub HasFirst : List ℕ → Type 0

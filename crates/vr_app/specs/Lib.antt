@@ -2,11 +2,13 @@ pub mod Words
 pub mod Status
 pub mod Input
 pub mod Found
+pub mod Checked
 pub mod Texts
 pub mod Endings
 pub mod Reports
 pub mod Reply
 pub mod Solutions
 pub mod Causes
+pub mod Met
 pub mod Answers
 pub mod Runs

@@ -7,14 +7,19 @@ use Rattle.vr_json.specs.declared.fault.Fault.{Fault}
 use Rattle.vr_model.specs.declared.records.Model.{Model}
 use Rattle.vr_model.specs.declared.search.Event.{Event}
 use Rattle.vr_io.specs.Edges.{Took}
+use Rattle.vr_check.specs.declared.finding.Finding.{Finding}
+use Rattle.vr_check.specs.declared.finding.Finding.TheVariants.{Meets, Broken}
 use Rattle.vr_app.specs.Words.{request_of}
 use Rattle.vr_app.specs.Input.{max_input, value_of, model_of}
-use Rattle.vr_app.specs.Texts.{status_tree, refused_tree, summary_of, summary_tree}
+use Rattle.vr_app.specs.Texts.{status_tree, refused_tree, met_tree, not_met_tree, summary_of, summary_tree}
+use Rattle.vr_app.specs.Checked.{Checked, checked_of, found_in}
 use Rattle.vr_app.specs.Found.{Found, answer, line_of_found}
 use Rattle.vr_app.specs.declared.words.Mode.{Mode}
 use Rattle.vr_app.specs.declared.words.Mode.TheVariants as mode
 use Rattle.vr_app.specs.declared.words.Request.{Request}
 use Rattle.vr_app.specs.declared.words.Request.TheVariants as request
+use Rattle.vr_app.specs.declared.words.Task.{Task}
+use Rattle.vr_app.specs.declared.words.Task.TheVariants as task
 use Rattle.vr_gen.specs.Generated.{generated}
 
 -- a status and a text
@@ -38,7 +43,7 @@ too_long = told 8 (codes "TOO_LONG")
 abbrev pub not_json : Reply
 not_json = told 4 (codes "NOT_JSON")
 
--- the input is no model
+-- the input is refused
 abbrev pub refused : Fault → Reply
 refused fault = record { status = 5; text = line_of (refused_tree fault) }
 
@@ -67,15 +72,31 @@ abbrev pub reply_to_model : Mode → (List Event → List ℕ) → Result Model 
 reply_to_model asked reports (Err fault) = refused fault
 reply_to_model asked reports (Ok model) = reply_to_found asked reports model (answer asked model)
 
+-- the reply to what a check finds
+abbrev pub reply_to_finding : Finding → Reply
+reply_to_finding (Meets cost) = done (line_of (met_tree cost))
+reply_to_finding (Broken rule vehicle place) =
+    record { status = 9; text = line_of (not_met_tree rule vehicle place) }
+
+-- the reply to a model and the solution that is checked against it, or to the first fault
+abbrev pub reply_to_checked : Result Checked Fault → Reply
+reply_to_checked (Err fault) = refused fault
+reply_to_checked (Ok it) = reply_to_finding (found_in it)
+
+-- the reply to a tree
+abbrev pub reply_to_tree : Task → (List Event → List ℕ) → Data → Reply
+reply_to_tree (task.Find asked) reports d = reply_to_model asked reports (model_of d)
+reply_to_tree task.Check reports d = reply_to_checked (checked_of d)
+
 -- the reply to a value, if there is one
-abbrev pub reply_to_value : Mode → (List Event → List ℕ) → Option Data → Reply
-reply_to_value asked reports None = not_json
-reply_to_value asked reports (Some d) = reply_to_model asked reports (model_of d)
+abbrev pub reply_to_value : Task → (List Event → List ℕ) → Option Data → Reply
+reply_to_value it reports None = not_json
+reply_to_value it reports (Some d) = reply_to_tree it reports d
 
 -- the reply to the bytes of an input
-unfoldable pub reply_to_input : Mode → (List Event → List ℕ) → List ℕ → Reply
-reply_to_input asked reports bytes =
-    if nat_lt max_input (length bytes) then too_long else reply_to_value asked reports (value_of bytes)
+unfoldable pub reply_to_input : Task → (List Event → List ℕ) → List ℕ → Reply
+reply_to_input it reports bytes =
+    if nat_lt max_input (length bytes) then too_long else reply_to_value it reports (value_of bytes)
 
 -- the reply that is the model of a number
 unfoldable pub reply_generated : ℕ → Reply
@@ -96,7 +117,7 @@ reply_of_demo n = summary_of_model n (model_of (generated n))
 -- the reply to a request, or to words that are not accepted
 abbrev pub reply_in : (List Event → List ℕ) → Option Request → List ℕ → Reply
 reply_in reports None bytes = usage
-reply_in reports (Some (request.Read asked)) bytes = reply_to_input asked reports bytes
+reply_in reports (Some (request.Read it)) bytes = reply_to_input it reports bytes
 reply_in reports (Some (request.Generate n)) bytes = reply_generated n
 reply_in reports (Some (request.Demo n)) bytes = reply_of_demo n
 

@@ -4,6 +4,7 @@ use Rattle.std.specs.declared.alloc.Global.{Global}
 use Rattle.vr_app.specs.Words.{is_read, request_of}
 use Rattle.vr_app.specs.declared.words.Mode.{Mode}
 use Rattle.vr_app.specs.declared.words.Request.TheVariants as request
+use Rattle.vr_app.specs.declared.words.Task.TheVariants as task
 
 -- the words, as bytes
 abbrev pub bytes_of : List (String Global) → List (List ℕ)
@@ -13,9 +14,17 @@ bytes_of words = map string_bytes words
 abbrev pub IsNotAccepted : List (List ℕ) → Type 0
 IsNotAccepted words = request_of words ≡ None
 
--- the words ask for a solution of the input
+-- the words ask for this solution of the input
 abbrev pub IsAskedFor : Mode → List (List ℕ) → Type 0
-IsAskedFor asked words = request_of words ≡ Some (request.Read asked)
+IsAskedFor asked words = request_of words ≡ Some (request.Read (task.Find asked))
+
+-- the words ask for a solution of the input
+abbrev pub IsSolved : List (List ℕ) → Type 0
+IsSolved words = (asked : Mode) × IsAskedFor asked words
+
+-- the words ask whether the solution in the input meets the rules of its model
+abbrev pub IsChecked : List (List ℕ) → Type 0
+IsChecked words = request_of words ≡ Some (request.Read task.Check)
 
 -- the words are accepted, and the input is read
 abbrev pub IsRead : List (List ℕ) → Type 0
@@ -38,3 +47,11 @@ WhereTold left P = (bytes : List ℕ) → left ≡ Some bytes → P bytes
 -- what is said of the input of a run that was settled, where it is read
 abbrev pub WhereAnswered : List (List ℕ) → Option (List ℕ) → ℕ → (List ℕ → Type 0) → Type 0
 WhereAnswered words left status P = IsSettled status → IsRead words → WhereTold left P
+
+-- the same, where a solution of it is asked for
+abbrev pub WhereSolved : List (List ℕ) → Option (List ℕ) → ℕ → (List ℕ → Type 0) → Type 0
+WhereSolved words left status P = IsSettled status → IsSolved words → WhereTold left P
+
+-- the same, where its solution is checked
+abbrev pub WhereChecked : List (List ℕ) → Option (List ℕ) → ℕ → (List ℕ → Type 0) → Type 0
+WhereChecked words left status P = IsSettled status → IsChecked words → WhereTold left P

@@ -11,6 +11,8 @@ use Rattle.vr_model.specs.schedules.Schedules.{IsChosen}
 use Rattle.vr_model.specs.declared.records.Model.{Model}
 use Rattle.vr_model.specs.declared.records.Report.{Report}
 use Rattle.vr_print.specs.Solution.{assignment_tree}
+use Rattle.vr_check.specs.Check.{finding}
+use Rattle.vr_check.specs.declared.finding.Finding.TheVariants.{Meets}
 
 -- the plan of each used vehicle in each dimension is the chosen schedule of its line
 abbrev pub HasChosenPlans : Model → Assignment → Type 0
@@ -33,7 +35,8 @@ pub record IsInLimits (model : Model) (report : Report) : Type 0 where
   pub some_solution : 1 ≤ report.solutions
   pub solutions : report.solutions ≤ model.search.solutions
 
--- the text is the line of a solution, of what the first solution cost, and of a report
+-- the text is the line of a solution, of what the first solution cost, and of a report; a check finds that it meets all
+-- rules, with its cost
 pub record PrintsSolution (model : Model) (text : List ℕ) : Type 0 where
   pub first : List (List ℕ)
   pub assignment : Assignment
@@ -42,3 +45,5 @@ pub record PrintsSolution (model : Model) (text : List ℕ) : Type 0 where
   pub is_solution : IsSolution model first assignment
   pub is_in_limits : IsInLimits model report
   pub text_is : text ≡ line_of (assignment_tree model assignment (cost model first) report)
+  pub meets : finding model (assignment_tree model assignment (cost model first) report)
+      ≡ Meets (cost model assignment.lists)

@@ -14,6 +14,7 @@ number_of all.Refused = 5
 number_of all.NoneFound = 6
 number_of all.NoMemory = 7
 number_of all.TooLong = 8
+number_of all.NotMet = 9
 
 -- a number is that of a status
 abbrev pub IsStatus : ℕ → Type 0

@@ -1,11 +1,13 @@
 -- The trees of the lines that the program writes, but for solutions.
-use Rattle.std.specs.Prelude.{ℕ, suc, List, [], ◌∷◌, cond, codes, length}
+use Rattle.std.specs.Prelude.{ℕ, suc, ℤ, List, [], ◌∷◌, cond, codes, length}
 use Rattle.serde_json.specs.Data.{Data, number, string, object, unsigned, no_members, member}
 use Rattle.vr_json.specs.declared.fault.Fault.{Fault}
 use Rattle.vr_model.specs.routes.Costs.{cost}
 use Rattle.vr_model.specs.routes.Routes.{inactive, is_empty}
 use Rattle.vr_model.specs.declared.records.Model.{Model}
 use Rattle.vr_print.specs.Numbers.{count, whole}
+use Rattle.vr_check.specs.Check.{word_of}
+use Rattle.vr_check.specs.declared.finding.Rule.{Rule}
 use Rattle.vr_app.specs.Found.{Found}
 use Rattle.vr_app.specs.declared.texts.Summary.{Summary}
 
@@ -19,6 +21,20 @@ refused_tree fault = object
     (member (codes "code") (number (unsigned fault.code))
     (member (codes "path") (string fault.path)
     (member (codes "status") (string (codes "ROUTING_INVALID")) no_members)))
+
+-- a solution that meets the rules of its model, and its cost
+unfoldable pub met_tree : ℤ → Data
+met_tree cost = object
+    (member (codes "cost") (whole cost)
+    (member (codes "status") (string (codes "MEETS")) no_members))
+
+-- the first rule that a solution breaks, and its vehicle and place
+unfoldable pub not_met_tree : Rule → ℤ → ℤ → Data
+not_met_tree rule vehicle place = object
+    (member (codes "place") (whole place)
+    (member (codes "rule") (string (word_of rule))
+    (member (codes "status") (string (codes "NOT_MET"))
+    (member (codes "vehicle") (whole vehicle) no_members))))
 
 -- how many lists are not empty
 abbrev pub used : List (List ℕ) → ℕ

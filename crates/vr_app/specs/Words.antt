@@ -9,6 +9,7 @@ use Rattle.vr_model.specs.routes.Routes.{is_empty}
 use Rattle.vr_app.specs.declared.words.Mode.TheVariants as mode
 use Rattle.vr_app.specs.declared.words.Request.{Request}
 use Rattle.vr_app.specs.declared.words.Request.TheVariants as request
+use Rattle.vr_app.specs.declared.words.Task.TheVariants as task
 
 -- a 0 stands in front of others
 abbrev pub has_leading_zero : List ℕ → Bool
@@ -27,12 +28,13 @@ number_in word =
 
 -- what one word asks for
 abbrev pub one_word : List ℕ → Option Request
-one_word word = if bytes_eq word (codes "first") then Some (request.Read mode.First)
-    else if bytes_eq word (codes "solve") then Some (request.Read mode.Solve) else None
+one_word word = if bytes_eq word (codes "first") then Some (request.Read (task.Find mode.First))
+    else if bytes_eq word (codes "solve") then Some (request.Read (task.Find mode.Solve))
+    else if bytes_eq word (codes "check") then Some (request.Read task.Check) else None
 
 -- what the word behind `solve` asks for
 abbrev pub logged : List ℕ → Option Request
-logged word = if bytes_eq word (codes "--log") then Some (request.Read mode.Log) else None
+logged word = if bytes_eq word (codes "--log") then Some (request.Read (task.Find mode.Log)) else None
 
 -- what two words ask for
 abbrev pub two_words : List ℕ → List ℕ → Option Request
@@ -50,6 +52,6 @@ request_of (word ∷ more ∷ other ∷ words) = None
 -- whether the input is read
 abbrev pub is_read : Option Request → Bool
 is_read None = false
-is_read (Some (request.Read asked)) = true
+is_read (Some (request.Read it)) = true
 is_read (Some (request.Generate n)) = false
 is_read (Some (request.Demo n)) = false

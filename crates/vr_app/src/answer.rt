@@ -13,20 +13,21 @@ ghost use Rattle.vr_model.specs.routes.Rules.{is_valid};
 ghost use Rattle.vr_model.specs.tables.Tables.{visits};
 ghost use Rattle.vr_model.specs.tables.WellFormed.{IsWellFormed};
 ghost use Rattle.vr_watch.specs.Told.{Told};
-ghost use Rattle.vr_app.specs.Answers.{Answers, AnswersReply, IsOfModel, IsOfShort};
+ghost use Rattle.vr_app.specs.Answers.{Answers, AnswersReply, IsOfShort, IsOfSolving};
 ghost use Rattle.vr_app.specs.Found.{answer as wanted, events_of, found_from, line_of_found};
 ghost use Rattle.vr_app.specs.Input.{max_input, model_of, value_of};
 ghost use Rattle.vr_app.specs.Reply as replies;
 ghost use Rattle.vr_app.specs.Reports.{joined};
 ghost use Rattle.vr_app.specs.Texts as texts;
 
+use crate::checked::answer_checked;
 use crate::first::first_routes;
 use crate::input::parse;
 use crate::logs::with_reports;
 use crate::search::{Watchers, search};
 use crate::status::Status;
 use crate::texts::{refused_tree, status_tree};
-use crate::words::Mode;
+use crate::words::{Mode, Task};
 use serde_json::Value;
 use std::alloc::Global;
 use vr_json::{Fault, Path, ReadFail, to_line};
@@ -162,8 +163,8 @@ pub(crate) fn read_owned(alloc: Global, value: Value) -> Result<Model, ReadFail>
     read_model(alloc, &value, &Path::root(alloc))
 }
 
-// The answer to a value.
-fn answer_value(
+// The answer of a mode to a value.
+fn answer_solved(
     alloc: Global,
     mode: Mode,
     value: Value,
@@ -171,7 +172,7 @@ fn answer_value(
 ) -> Result<Answer, NoMemory>
     ensures reply { let reports = joined (λ w later. after w later) watch.old.items in
         IfOk result (AnswersReply (replies.reply_to_model mode reports (model_of (view value)))) }
-    ensures status { IfOk result (λ a. IsOfShort a.status) }
+    ensures status { IfOk result (λ a. IsOfSolving a.status) }
 {
     match read_owned(alloc, value) {
         Ok(model) => match line_found(alloc, mode, &model, watch)? {
@@ -198,6 +199,24 @@ fn done(mode: Mode, line: Seq<u8>, watch: &Watchers) -> Result<Answer, NoMemory>
     })
 }
 
+// The answer to a value.
+fn answer_value(
+    alloc: Global,
+    task: Task,
+    value: Value,
+    watch: &mut Watchers,
+) -> Result<Answer, NoMemory>
+    ensures reply { let reports = joined (λ w later. after w later) watch.old.items in
+        IfOk result (AnswersReply (replies.reply_to_tree task reports (view value))) }
+    ensures status { IfOk result (λ a. IsOfShort a.status) }
+    ensures not_met_only { IfOk result (λ a. a.status ≡ Status.NotMet → task ≡ Task.Check) }
+{
+    match task {
+        Task::Find(mode) => answer_solved(alloc, mode, value, watch),
+        Task::Check => answer_checked(alloc, value),
+    }
+}
+
 // The value of an input, whose bytes are let go.
 fn parse_owned(alloc: Global, bytes: Vec<u8>) -> Result<Option<Value>, NoMemory>
     ensures { IfOk result (λ value. option_map view value ≡ value_of bytes.items) }
@@ -209,16 +228,17 @@ fn parse_owned(alloc: Global, bytes: Vec<u8>) -> Result<Option<Value>, NoMemory>
 /// value before the model is solved.
 pub(crate) fn answer_input(
     alloc: Global,
-    mode: Mode,
+    task: Task,
     bytes: Vec<u8>,
     watch: &mut Watchers,
 ) -> Result<Answer, NoMemory>
     ensures reply { let reports = joined (λ w later. after w later) watch.old.items in
-        length bytes.items ≤ max_input → IfOk result (AnswersReply (replies.reply_to_input mode reports bytes.items)) }
+        length bytes.items ≤ max_input → IfOk result (AnswersReply (replies.reply_to_input task reports bytes.items)) }
     ensures status { IfOk result (λ a. IsOfShort a.status) }
+    ensures not_met_only { IfOk result (λ a. a.status ≡ Status.NotMet → task ≡ Task.Check) }
 {
     match parse_owned(alloc, bytes)? {
         None => not_json(alloc),
-        Some(value) => answer_value(alloc, mode, value, watch),
+        Some(value) => answer_value(alloc, task, value, watch),
     }
 }

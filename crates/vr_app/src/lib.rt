@@ -2,11 +2,14 @@
 //!
 //! [`run`] is the only public item. `words` says what is asked for, `input` reads the bytes, `first` builds a first
 //! solution, `search` improves it, `answer` works the answer out, `logs` puts the reports of watchers behind it,
-//! `numbered` answers what reads nothing, `texts` makes the trees that tell no solution, and `reply` ties these to the
-//! source and the sink.
+//! `checked` answers what is checked, `numbered` answers what reads nothing, `texts` makes the trees that tell no
+//! solution, and `reply` ties these to the source and the sink.
 #![tactic(auto)]
 
 mod answer;
+#[cfg(test)]
+mod check_tests;
+mod checked;
 mod first;
 mod input;
 #[cfg(test)]

@@ -5,7 +5,7 @@ ghost use Rattle.serde_json.specs.View.{view};
 ghost use Rattle.vr_model.specs.first.FirstSolutions.{first_lists};
 ghost use Rattle.vr_model.specs.tables.Tables.{visits};
 ghost use Rattle.vr_model.specs.tables.WellFormed.{IsWellFormed};
-ghost use Rattle.vr_app.specs.Answers.{AnswersReply, IsOfNumber};
+ghost use Rattle.vr_app.specs.Answers.{AnswersReply, IsOfSolving};
 ghost use Rattle.vr_app.specs.Found.{found_from};
 ghost use Rattle.vr_app.specs.Input.{model_of};
 ghost use Rattle.vr_app.specs.Reply as replies;
@@ -38,7 +38,7 @@ pub(crate) fn generated(alloc: Global, number: u64) -> Result<Answer, NoMemory>
 /// were read, in short: it does not rest on a law that this model is read and solved.
 pub(crate) fn demo(alloc: Global, number: u64) -> Result<Answer, NoMemory>
     ensures reply { IfOk result (AnswersReply (replies.reply_of_demo number)) }
-    ensures status { IfOk result (λ a. IsOfNumber a.status) }
+    ensures status { IfOk result (λ a. IsOfSolving a.status) }
 {
     let tree = generate(alloc, number)?;
     summary_of_tree(alloc, number, tree)
@@ -47,7 +47,7 @@ pub(crate) fn demo(alloc: Global, number: u64) -> Result<Answer, NoMemory>
 /// The answer that tells of the search of the model of this tree.
 pub(crate) fn summary_of_tree(alloc: Global, number: u64, tree: Value) -> Result<Answer, NoMemory>
     ensures reply { IfOk result (AnswersReply (replies.summary_of_model number (model_of (view tree)))) }
-    ensures status { IfOk result (λ a. IsOfNumber a.status) }
+    ensures status { IfOk result (λ a. IsOfSolving a.status) }
 {
     match read_owned(alloc, tree) {
         Ok(model) => summary_of_model(alloc, number, &model),
@@ -60,7 +60,7 @@ pub(crate) fn summary_of_tree(alloc: Global, number: u64, tree: Value) -> Result
 fn summary_of_model(alloc: Global, number: u64, model: &Model) -> Result<Answer, NoMemory>
     requires { IsWellFormed model.now }
     ensures reply { IfOk result (AnswersReply (replies.summary_of_model number (Ok model.now))) }
-    ensures status { IfOk result (λ a. IsOfNumber a.status) }
+    ensures status { IfOk result (λ a. IsOfSolving a.status) }
 {
     match first_routes(alloc, model)? {
         None => none_found(alloc),

@@ -7,12 +7,14 @@ ghost use Rattle.vr_json.specs.Trees.{line_of};
 ghost use Rattle.vr_json.specs.declared.fault.Fault.{Fault};
 ghost use Rattle.vr_app.specs.Answers.{AnswersReply, IsOfAnswer, IsOfInput};
 ghost use Rattle.vr_app.specs.Causes.{HasFault, HasFirst, HasNoFirst, IsAnsweredBy, IsNotJson, IsRefused, IsTooLong};
-ghost use Rattle.vr_app.specs.Input.{max_input};
+ghost use Rattle.vr_app.specs.Checked.{checked_of};
+ghost use Rattle.vr_app.specs.Input.{max_input, model_of};
+ghost use Rattle.vr_app.specs.Met.{IsBrokenBy, IsMet, IsMetBy, IsNotMet};
 ghost use Rattle.vr_app.specs.Reply as replies;
 ghost use Rattle.vr_app.specs.Reply.{Replies};
 ghost use Rattle.vr_app.specs.Reports.{joined};
-ghost use Rattle.vr_app.specs.Runs.{IsAskedFor, IsNotAccepted, IsRead, IsSettled, IsUnread, bytes_of};
-ghost use Rattle.vr_app.specs.Runs.{WhereAnswered, WhereTold};
+ghost use Rattle.vr_app.specs.Runs.{IsAskedFor, IsChecked, IsNotAccepted, IsRead, IsSettled, IsSolved, IsUnread};
+ghost use Rattle.vr_app.specs.Runs.{WhereAnswered, WhereChecked, WhereSolved, WhereTold, bytes_of};
 ghost use Rattle.vr_app.specs.Status.{IsStatus};
 ghost use Rattle.vr_app.specs.Texts as texts;
 ghost use Rattle.vr_app.specs.declared.words.Mode.{Mode as Asked};
@@ -21,7 +23,7 @@ use crate::answer::{Answer, answer_input, too_long, usage};
 use crate::numbered::{demo, generated};
 use crate::search::Watchers;
 use crate::status::Status;
-use crate::words::{Mode, Request, request_of};
+use crate::words::{Request, Task, request_of};
 use std::alloc::Global;
 use vr_io::{ReadError, Sink, Source, read_all, write_all};
 use vr_model::NoMemory;
@@ -45,23 +47,24 @@ impl From<NoMemory> for Stop {
     }
 }
 
-// The answer of a mode to what the source gives.
+// The answer to what the source gives.
 fn respond_to_input<S: Source>(
     alloc: Global,
-    mode: Mode,
+    task: Task,
     source: &mut S,
     watch: &mut Watchers,
 ) -> Result<Answer, Stop>
     ensures reply { let reports = joined (λ w later. after w later) watch.old.items in
         IfOk result (λ a. WhereTold (S.left source.old) (λ bytes.
-        AnswersReply (replies.reply_to_input mode reports bytes) a)) }
+        AnswersReply (replies.reply_to_input task reports bytes) a)) }
     ensures emptied { IfOk result (λ a. a.status ≢ Status.TooLong
         → WhereTold (S.left source.old) (λ bytes. S.left source.new ≡ Some [])) }
     ensures status { IfOk result (λ a. IsOfInput a.status) }
+    ensures not_met_only { IfOk result (λ a. a.status ≡ Status.NotMet → task ≡ Task.Check) }
     ensures fault { IsErrOf result Stop.ReadFault → Rose (S.faults source.old) (S.faults source.new) }
 {
     match read_all(alloc, source, MOST_INPUT_BYTES) {
-        Ok(bytes) => Ok(answer_input(alloc, mode, bytes, watch)?),
+        Ok(bytes) => Ok(answer_input(alloc, task, bytes, watch)?),
         Err(ReadError::TooLong) => Ok(too_long(alloc)?),
         Err(ReadError::ReadFault) => Err(Stop::ReadFault),
         Err(ReadError::NoMemory) => Err(Stop::NoMemory),
@@ -82,6 +85,7 @@ fn respond<S: Source>(
         IfOk result (λ a. IsUnread (bytes_of words.now) → (bytes : List ℕ)
         → AnswersReply (replies.reply reports (bytes_of words.now) bytes) a) }
     ensures usage_only { IfOk result (λ a. a.status ≡ Status.Usage → IsNotAccepted (bytes_of words.now)) }
+    ensures not_met_only { IfOk result (λ a. a.status ≡ Status.NotMet → IsChecked (bytes_of words.now)) }
     ensures untouched { IsUnread (bytes_of words.now) → source.new ≡ source.old }
     ensures emptied { IfOk result (λ a. IsRead (bytes_of words.now) → a.status ≢ Status.TooLong
         → WhereTold (S.left source.old) (λ bytes. S.left source.new ≡ Some [])) }
@@ -91,7 +95,7 @@ fn respond<S: Source>(
 {
     match request_of(words) {
         None => Ok(usage(alloc)?),
-        Some(Request::Read(mode)) => respond_to_input(alloc, mode, source, watch),
+        Some(Request::Read(task)) => respond_to_input(alloc, task, source, watch),
         Some(Request::Generate(number)) => Ok(generated(alloc, number)?),
         Some(Request::Demo(number)) => Ok(demo(alloc, number)?),
     }
@@ -106,34 +110,38 @@ fn respond<S: Source>(
 /// | `first` | a model | the line of its first solution |
 /// | `solve` | a model | the line of the best solution that the model's search finds from there |
 /// | `solve --log` | a model | the same, and behind it what each watcher reports of the search, in order |
+/// | `check` | an object of a `model` and a `solution` | `{"cost":C,"status":"MEETS"}` |
 /// | `generate N` | nothing | the line of the model of number N |
 /// | `demo N` | nothing | the line of a summary of the whole search of that model |
 ///
 /// N is written in decimal digits, with no 0 in front of others, and is at most 2^64 - 1. What is read is the source to
-/// its end.
+/// its end. C is the cost of the solution, which keeps all rules of its model.
 ///
 /// | status | comes | written |
 /// |---|---|---|
-/// | 0 | of words that read, exactly where the input is a model with a first solution; else always | as above |
+/// | 0 | exactly where the input is what the words ask for; of `generate` and `demo` always | as above |
 /// | 1 | exactly where the words are not accepted; nothing is read | `{"status":"USAGE"}` |
 /// | 2 | only where the source failed in this call | nothing |
 /// | 3 | only where the sink failed in this call; it stands in place of the status of the text | a front of the text |
 /// | 4 | exactly where the input is no JSON | `{"status":"NOT_JSON"}` |
-/// | 5 | exactly where the input is no model | `{"code":C,"path":"P","status":"ROUTING_INVALID"}` |
-/// | 6 | exactly where the input is a model without a first solution | `{"status":"ROUTING_FAIL"}` |
+/// | 5 | exactly where reading finds a fault | `{"code":C,"path":"P","status":"ROUTING_INVALID"}` |
+/// | 6 | of `first` and `solve`, exactly where the model has no first solution | `{"status":"ROUTING_FAIL"}` |
 /// | 7 | want of memory; nothing in the contract ties it to a refused growth | nothing |
 /// | 8 | exactly where the input has more than 67108864 bytes | `{"status":"TOO_LONG"}` |
+/// | 9 | of `check`, exactly where a rule is broken | `{"place":K,"rule":"R","status":"NOT_MET","vehicle":V}` |
 ///
-/// An input is JSON where it is UTF-8 and `serde_json` reads a value from it, which may nest at most 127 deep. C is the
-/// code and P the path of the first fault of reading a model. A model has a first solution where the lists at which its
-/// construction ends are valid. The causes of 4, 5, 6 and 8 are said of the words that read.
+/// An input is JSON where it is UTF-8 and `serde_json` reads a value from it, which may nest at most 127 deep. `first`
+/// and `solve` ask for a model with a first solution: the lists at which its construction ends are valid. `check` asks
+/// for a solution that keeps all rules of the model beside it. With 5, C is the code and P the path of the first fault
+/// of reading; with 9, R is the first rule (`vr_check::Rule`) that is broken, with its vehicle and place. The causes of
+/// 4, 5 and 8 are said of the words that read.
 ///
 /// Only with `--log` is an event of the search noted, to every watcher in order; a watcher that finds no memory for it
 /// ends the run with status 7. All watchers are dropped at the end.
 ///
 /// The words are looked at first, then the source is read, then come the length, the JSON, the model, the construction
-/// and the writing; the first that fails gives the status. "Exactly where" is said of calls that end with none of 2, 3
-/// and 7.
+/// or the check, and the writing; the first that fails gives the status. "Exactly where" is said of calls that end with
+/// none of 2, 3 and 7.
 pub fn run<S: Source, K: Sink>(
     alloc: Global,
     words: &[String],
@@ -149,14 +157,28 @@ pub fn run<S: Source, K: Sink>(
         Replies (replies.reply reports (bytes_of words.now) bytes)
         (K.written sink.old) (K.written sink.new) result) }
 
-    // Of words that read, 0 comes exactly where the input is a model with a first solution. What is written is a
-    // solution: valid lists with their chosen schedules and their cost; with `--log` the watchers' reports follow.
-    ensures done { WhereAnswered (bytes_of words.now) (S.left source.old) result (λ bytes.
+    // Of words that ask for a solution, 0 comes exactly where the input is a model with a first solution. What is
+    // written is a solution, which meets a check: valid lists with their chosen schedules and their cost; with `--log`
+    // the watchers' reports follow.
+    ensures done { WhereSolved (bytes_of words.now) (S.left source.old) result (λ bytes.
         (result ≡ 0) ↔ HasFirst bytes) }
     ensures solution { let reports = joined (λ w later. after w later) watch.items in
         result ≡ 0 → (asked : Asked) → IsAskedFor asked (bytes_of words.now) → WhereTold (S.left source.old) (λ bytes.
         (text : List ℕ) × IsAnsweredBy asked reports bytes text
         × Took (K.written sink.old) (K.written sink.new) text) }
+
+    // Of `check`, 0 comes exactly where the solution in the input meets the rules of its model, and then it keeps them:
+    // valid lists, schedules, the parts of their cost. 9 comes of `check` alone, exactly where it breaks one; the text
+    // tells the first.
+    ensures met { WhereChecked (bytes_of words.now) (S.left source.old) result (λ bytes.
+        (result ≡ 0) ↔ IsMet bytes) }
+    ensures kept { result ≡ 0 → IsChecked (bytes_of words.now) → WhereTold (S.left source.old) (λ bytes.
+        (text : List ℕ) × IsMetBy bytes text × Took (K.written sink.old) (K.written sink.new) text) }
+    ensures not_met { WhereChecked (bytes_of words.now) (S.left source.old) result (λ bytes.
+        (result ≡ 9) ↔ IsNotMet bytes) }
+    ensures broken { result ≡ 9 → WhereTold (S.left source.old) (λ bytes.
+        (text : List ℕ) × IsBrokenBy bytes text × Took (K.written sink.old) (K.written sink.new) text) }
+    ensures not_met_only { result ≡ 9 → IsChecked (bytes_of words.now) }
 
     // Of words that read nothing the reply is the same whatever the source has. It has status 0 where they are accepted.
     ensures unread { let reports = joined (λ w later. after w later) watch.items in
@@ -185,18 +207,23 @@ pub fn run<S: Source, K: Sink>(
         TookFront (K.written sink.old) (K.written sink.new)
         (replies.reply reports (bytes_of words.now) bytes).text) }
 
-    // Of words that read, 8, 4, 5 and 6 come exactly where the input is too long, is no JSON, is refused, or is a model
-    // without a first solution; 5 tells code and path.
+    // Of words that read, 8, 4 and 5 come exactly where the input is too long, is no JSON, or is refused; 5 tells code
+    // and path. 6 comes exactly where a solution is asked for and the input is a model without a first solution.
     ensures too_long { WhereAnswered (bytes_of words.now) (S.left source.old) result (λ bytes.
         (result ≡ 8) ↔ IsTooLong bytes) }
     ensures not_json { WhereAnswered (bytes_of words.now) (S.left source.old) result (λ bytes.
         (result ≡ 4) ↔ IsNotJson bytes) }
-    ensures refused { WhereAnswered (bytes_of words.now) (S.left source.old) result (λ bytes.
-        (result ≡ 5) ↔ IsRefused bytes) }
-    ensures refusal { result ≡ 5 → IsRead (bytes_of words.now) → WhereTold (S.left source.old) (λ bytes.
-        (fault : Fault) → HasFault bytes fault
+    ensures refused { WhereSolved (bytes_of words.now) (S.left source.old) result (λ bytes.
+        (result ≡ 5) ↔ IsRefused model_of bytes) }
+    ensures refusal { result ≡ 5 → IsSolved (bytes_of words.now) → WhereTold (S.left source.old) (λ bytes.
+        (fault : Fault) → HasFault model_of bytes fault
         → Took (K.written sink.old) (K.written sink.new) (line_of (texts.refused_tree fault))) }
-    ensures none_found { WhereAnswered (bytes_of words.now) (S.left source.old) result (λ bytes.
+    ensures check_refused { WhereChecked (bytes_of words.now) (S.left source.old) result (λ bytes.
+        (result ≡ 5) ↔ IsRefused checked_of bytes) }
+    ensures check_refusal { result ≡ 5 → IsChecked (bytes_of words.now) → WhereTold (S.left source.old) (λ bytes.
+        (fault : Fault) → HasFault checked_of bytes fault
+        → Took (K.written sink.old) (K.written sink.new) (line_of (texts.refused_tree fault))) }
+    ensures none_found { WhereSolved (bytes_of words.now) (S.left source.old) result (λ bytes.
         (result ≡ 6) ↔ HasNoFirst bytes) }
 
     // 7 comes before anything is written.

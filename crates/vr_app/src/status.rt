@@ -24,6 +24,8 @@ pub(crate) enum Status {
     NoMemory = 7,
     /// The input has too many bytes.
     TooLong = 8,
+    /// The solution breaks a rule of its model.
+    NotMet = 9,
 }
 
 impl Status {

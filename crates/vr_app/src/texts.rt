@@ -6,6 +6,7 @@ ghost use Rattle.vr_app.specs.Texts as texts;
 
 use serde_json::{Value, json};
 use std::alloc::Global;
+use vr_check::Rule;
 use vr_json::{Fault, Tree};
 use vr_model::NoMemory;
 
@@ -24,6 +25,28 @@ pub(crate) fn refused_tree(alloc: Global, fault: &Fault) -> Result<Value, NoMemo
 {
     let path = fault.path.as_str();
     Ok(json!(in alloc; {"code": fault.code as u64, "path": path, "status": "ROUTING_INVALID"})?)
+}
+
+/// The tree of a solution that meets the rules of its model, and costs so much.
+#[tactic(auto, unfolding(crate::specs::Texts::met_tree))]
+pub(crate) fn met_tree(alloc: Global, cost: i64) -> Result<Value, NoMemory>
+    ensures { IfOk result (λ v. view v ≡ texts.met_tree cost) }
+{
+    Ok(json!(in alloc; {"cost": cost, "status": "MEETS"})?)
+}
+
+/// The tree of the first rule that a solution breaks, with its vehicle and place.
+#[tactic(auto, unfolding(crate::specs::Texts::not_met_tree))]
+pub(crate) fn not_met_tree(
+    alloc: Global,
+    rule: Rule,
+    vehicle: i64,
+    place: i64,
+) -> Result<Value, NoMemory>
+    ensures { IfOk result (λ v. view v ≡ texts.not_met_tree rule vehicle place) }
+{
+    let word = rule.word();
+    Ok(json!(in alloc; {"place": place, "rule": word, "status": "NOT_MET", "vehicle": vehicle})?)
 }
 
 /// What the search of the model of a number gave, in short.

@@ -17,11 +17,20 @@ pub(crate) enum Mode {
     Log,
 }
 
+/// What is asked of an input.
+#[derive(Clone, Copy)]
+pub(crate) enum Task {
+    /// A solution of its model.
+    Find(Mode),
+    /// Whether its solution meets the rules of its model.
+    Check,
+}
+
 /// What the program is asked for.
 #[derive(Clone, Copy)]
 pub(crate) enum Request {
-    /// An answer to the model that is read.
-    Read(Mode),
+    /// An answer to the input that is read.
+    Read(Task),
     /// The model of a number.
     Generate(u64),
     /// A summary of the whole search of the model of a number.
@@ -43,10 +52,13 @@ fn one_word(word: &str) -> Option<Request>
     ensures { result ≡ words_of.one_word word.now }
 {
     if word == "first" {
-        return Some(Request::Read(Mode::First));
+        return Some(Request::Read(Task::Find(Mode::First)));
     }
     if word == "solve" {
-        return Some(Request::Read(Mode::Solve));
+        return Some(Request::Read(Task::Find(Mode::Solve)));
+    }
+    if word == "check" {
+        return Some(Request::Read(Task::Check));
     }
     None
 }
@@ -70,7 +82,7 @@ fn logged(word: &str) -> Option<Request>
     ensures { result ≡ words_of.logged word.now }
 {
     if word == "--log" {
-        return Some(Request::Read(Mode::Log));
+        return Some(Request::Read(Task::Find(Mode::Log)));
     }
     None
 }

@@ -6,7 +6,7 @@ use Rattle.vr_app.specs.Found.{answer}
 use Rattle.vr_app.specs.Reply.{reply_to_model}
 use Rattle.vr_app.specs.Reports.{joined}
 use Rattle.vr_app.proofs.ReplyLemmas.{done-replies, told-joined}
-use Rattle.vr_app.proofs.answer.answer_value.Goals as goal
+use Rattle.vr_app.proofs.answer.answer_solved.Goals as goal
 
 pub returns-in-Some-clause-reply : goal.returns-in-Some-clause-reply
 returns-in-Some-clause-reply g c =
