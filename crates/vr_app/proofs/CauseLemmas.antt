@@ -1,7 +1,6 @@
 -- What the status of a reply says of the input.
-use Rattle.std.proofs.Common.{◌≡◌, ◌∙◌, ◌<◌, ◌≤◌, ◌↔◌, ℕ, List, Bool, true, false, cond, Option, Some, None, Result, Ok, Err, refl, ap, sym, subst, arith, length, option_map}
-use Rattle.std.specs.Prelude.{IsSome, nat_lt, ◌≢◌}
-use Rattle.std.proofs.lemmas.Bool.Decides.{nat_tests}
+use Rattle.std.proofs.Common.{◌≡◌, ◌∙◌, ◌<◌, ◌≤◌, ◌↔◌, ℕ, List, Option, Some, None, Result, Ok, Err, refl, ap, sym, subst, arith, length, option_map}
+use Rattle.std.specs.Prelude.{IsSome, ◌≢◌}
 use Rattle.serde_json.specs.Data.{Data}
 use Rattle.vr_json.specs.Trees.{line_of}
 use Rattle.vr_json.specs.declared.fault.Fault.{Fault}
@@ -11,8 +10,8 @@ use Rattle.vr_model.specs.first.FirstSolutions.{first_lists}
 use Rattle.vr_app.specs.Causes.{HasFault, IsNotJson, IsReadAs, IsRefused, IsTooLong}
 use Rattle.vr_app.specs.Found.{found_from}
 use Rattle.vr_app.specs.Input.{max_input, model_of, value_of}
-use Rattle.vr_app.specs.Reply.{reply, reply_in, reply_to_found, reply_to_input, reply_to_model, reply_to_value, too_long}
-use Rattle.vr_app.specs.Runs.{IsAskedFor, IsSolved}
+use Rattle.vr_app.specs.Reply.{reply, reply_in, reply_to_found, reply_to_input, reply_to_model, reply_to_value}
+use Rattle.vr_app.specs.Runs.{IsSolved}
 use Rattle.vr_app.specs.Texts.{refused_tree}
 use Rattle.vr_app.specs.declared.words.Mode.{Mode}
 use Rattle.vr_app.specs.declared.words.Request.{Request}

@@ -1,7 +1,6 @@
 -- What the reply to a check says of the input.
-use Rattle.std.proofs.Common.{◌≡◌, ◌∙◌, ◌<◌, ◌≤◌, ◌↔◌, ℕ, List, [], Bool, true, false, cond, Option, Some, None, Result, Ok, Err, refl, ap, sym, subst, arith, length}
-use Rattle.std.specs.Prelude.{IsTrue, codes, nat_lt}
-use Rattle.std.proofs.lemmas.Bool.Decides.{nat_tests}
+use Rattle.std.proofs.Common.{◌≡◌, ◌∙◌, ◌≤◌, ◌↔◌, ℕ, List, [], true, false, Option, Some, None, Result, Ok, Err, refl, ap, sym, subst, arith, length}
+use Rattle.std.specs.Prelude.{IsTrue, codes}
 use Rattle.serde_json.specs.Data.{Data}
 use Rattle.vr_json.specs.Trees.{line_of}
 use Rattle.vr_json.specs.declared.fault.Fault.{Fault}
@@ -10,7 +9,6 @@ use Rattle.vr_json.specs.Reading.{Answers, and_then, required, seen}
 use Rattle.vr_json.specs.declared.fault.ReadFail.{ReadFail}
 use Rattle.vr_json.specs.declared.fault.ReadFail.TheVariants.{Refused}
 use Rattle.vr_json.proofs.Readings.{EachEnsures, Ensures, after, any_value, gives, required_ensures}
-use Rattle.vr_model.specs.declared.records.Model.{Model}
 use Rattle.vr_model.specs.declared.search.Event.{Event}
 use Rattle.vr_model.specs.tables.WellFormed.{IsWellFormed}
 use Rattle.vr_read.specs.Models.{read_model}
@@ -32,7 +30,7 @@ use Rattle.vr_app.specs.Words.{is_read, request_of}
 use Rattle.vr_app.specs.declared.words.Request.{Request}
 use Rattle.vr_app.specs.declared.words.Request.TheVariants as request
 use Rattle.vr_app.specs.declared.words.Task.TheVariants as task
-use Rattle.vr_app.proofs.CauseLemmas.{Tells, TellsFirst, done-tells, fault-tells, input-tells, long-tells, no_value-tells, undone-tells}
+use Rattle.vr_app.proofs.CauseLemmas.{Tells, done-tells, fault-tells, input-tells, long-tells, no_value-tells, undone-tells}
 use Rattle.vr_app.proofs.InputLemmas.{of_input, reply-short}
 
 -- ---- what is read

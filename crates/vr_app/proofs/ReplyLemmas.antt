@@ -1,9 +1,8 @@
 -- Replies.
-use Rattle.std.proofs.Common.{◌≡◌, ◌∙◌, ◌++◌, ◌≤◌, ℕ, ℤ, pos, negsuc, List, [], Bool, true, false, cond, Option, Some, None, Result, Ok, Err, refl, ap, sym, subst, arith, option_map, length}
-use Rattle.std.specs.Prelude.{flat_map, nat_lt}
+use Rattle.std.proofs.Common.{◌≡◌, ◌∙◌, ◌++◌, ◌≤◌, ℕ, ℤ, pos, negsuc, List, [], false, Option, Some, None, Result, Ok, Err, refl, ap, sym, subst, arith, option_map, length}
+use Rattle.std.specs.Prelude.{flat_map}
 use Rattle.std.proofs.lemmas.List.{append-nil}
 use Rattle.std.proofs.lemmas.List.Folds.{flat_map-map}
-use Rattle.std.proofs.lemmas.Bool.Decides.{nat_tests}
 use Rattle.serde_json.specs.Data.{Data, depth}
 use Rattle.serde_json.specs.Find.{is_float, of_integer}
 use Rattle.serde_json.specs.Read.{max_depth}
@@ -19,7 +18,7 @@ use Rattle.vr_app.specs.Answers.{Answers, AnswersReply}
 use Rattle.vr_app.specs.Causes.{IsAnsweredBy}
 use Rattle.vr_app.specs.Found.{Found, events_of, found_from, line_of_found}
 use Rattle.vr_app.specs.Input.{max_input, model_of, value_of}
-use Rattle.vr_app.specs.Reply.{Reply, reply, reply_in, reply_to_found, reply_to_input, reply_to_model, reply_to_value, too_long, with_reports}
+use Rattle.vr_app.specs.Reply.{Reply, reply, reply_in, reply_to_found, reply_to_input, reply_to_model, with_reports}
 use Rattle.vr_app.specs.Reports.{joined}
 use Rattle.vr_app.specs.Runs.{IsAskedFor}
 use Rattle.vr_app.specs.Texts.{met_tree, not_met_tree, refused_tree, status_tree, summary_tree}

@@ -1,4 +1,4 @@
-use Rattle.std.proofs.Common.{◌≡◌, refl, ap}
+use Rattle.std.proofs.Common.{refl, ap}
 use Rattle.serde_json.specs.View.{view}
 use Rattle.vr_json.specs.Causes.{fault_at}
 use Rattle.vr_json.specs.declared.fault.Cause.TheVariants.{Absent}
