@@ -1,0 +1,22 @@
+-- The fixed costs of vehicles.
+use Rattle.std.specs.Prelude.{◌≡◌, IsTrue, ℕ, cond, List, ℤ, pos}
+use Rattle.vr_model.specs.tables.Tables.{vehicle_at, visits}
+use Rattle.vr_model.specs.routes.Rules.{is_valid}
+use Rattle.vr_model.specs.routes.Routes.{is_empty}
+use Rattle.vr_model.specs.tables.WellFormed.{IsWellFormed}
+use Rattle.vr_model.specs.declared.records.Model.{Model}
+use Rattle.vr_routes.specs.Tours.{Tours}
+
+-- the fixed cost of vehicle v with this list
+abbrev pub fixed_with : Model → ℕ → List ℕ → ℤ
+fixed_with model v list = cond (is_empty list) (pos 0) (vehicle_at model v).fixed
+
+-- what contracts see of the fixed costs
+pub record KeptFixed : Type 0 where
+  pub model : Model
+
+-- these are valid lists of the model
+pub record StandsFixed (kept : KeptFixed) (tours : Tours) : Type 0 where
+  pub well_formed : IsWellFormed kept.model
+  pub of_model : tours.visits ≡ visits kept.model
+  pub valid : IsTrue (is_valid kept.model tours.lists)

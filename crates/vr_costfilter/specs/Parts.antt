@@ -1,0 +1,8 @@
+-- What a part of the cost is told of.
+use Rattle.std.specs.Prelude.{List}
+use Rattle.vr_routes.specs.Pieces.{ListAfter, changed}
+use Rattle.vr_routes.specs.Tours.{Tours}
+
+-- the routes after a change
+abbrev pub after : Tours → List ListAfter → Tours
+after tours parts = record { visits = tours.visits; lists = changed tours.lists parts }

@@ -1,0 +1,153 @@
+//! The arc costs of used vehicles.
+
+ghost use Rattle.std.specs.Prelude.{◌≡◌, ◌<◌, ◌≤◌, ◌-ℤ◌, All, IsTrue, IfOk, IsOk, OnOk, length};
+ghost use Rattle.vr_model.specs.routes.Costs.{arcs_part};
+ghost use Rattle.vr_model.specs.routes.Routes.{route, route_cost};
+ghost use Rattle.vr_model.specs.tables.Tables.{visits};
+ghost use Rattle.vr_model.specs.routes.Rules.{is_valid};
+ghost use Rattle.vr_model.specs.tables.WellFormed.{IsWellFormed};
+ghost use Rattle.vr_routes.specs.Pieces.{changed, joined, IsWithin};
+ghost use Rattle.vr_routes.specs.Changes.{IsMadeOn};
+ghost use Rattle.vr_costfilter.specs.Along.{IsAlong, StandsAlong};
+ghost use Rattle.vr_costfilter.specs.Bounds.{IsAround};
+
+use crate::CostPart;
+use crate::lists::{ListCost, added_by};
+use crate::sums::Sums;
+use crate::walks::{Along, cost_with};
+use std::alloc::Global;
+use std::marker::Model;
+use vr_model::{Model as RoutingModel, NoMemory};
+use vr_routes::{Change, Piece, Routes, Row};
+
+/// The arc costs of used vehicles (`SetArcCostEvaluatorOfVehicle` in OR-Tools). It takes no longer for a change of long
+/// lists than for one of short lists, where the vehicles have the same costs.
+#[derive(Drop)]
+pub struct ArcCost<'m> {
+    model: &'m RoutingModel,
+    along: Vec<Along>,
+    // room for a list that a change makes
+    row: Row,
+}
+
+impl<'m> Model for ArcCost<'m> {
+    ghost use Rattle.vr_costfilter.specs.Along.{KeptAlong};
+
+    ghost Value = { KeptAlong };
+
+    ghost view = { λ part. record { model = part.model.now; along = part.along.items } };
+}
+
+impl Along {
+    // The sums of an empty list.
+    fn new() -> Along {
+        Along {
+            ahead: Sums::new(),
+            behind: Sums::new(),
+        }
+    }
+
+    // Writes the sums of the list of a vehicle.
+    fn write(&mut self, model: &RoutingModel, v: u32, list: &[u32])
+        requires well_formed { IsWellFormed model.now }
+        requires vehicle { v < length model.now.vehicles }
+        requires nodes { All (λ node. node < model.now.nodes) list.now }
+        requires few { length list.now ≤ 1000 }
+        ensures { IsAlong model.now v list.now self.new }
+    {
+        self.ahead.write(model, v, false, list);
+        self.behind.write(model, v, true, list);
+    }
+}
+
+impl<'m> ArcCost<'m> {
+    /// The arc costs of the lists of routes.
+    pub fn open(
+        alloc: Global,
+        model: &'m RoutingModel,
+        routes: &Routes,
+    ) -> Result<ArcCost<'m>, NoMemory>
+        requires well_formed { IsWellFormed model.now }
+        requires of_model { routes.now.visits ≡ visits model.now }
+        requires valid { IsTrue (is_valid model.now routes.now.lists) }
+        ensures model { IfOk result (λ part. part.model ≡ model.now) }
+        ensures stands { IfOk result (λ part. StandsAlong part routes.now) }
+    {
+        let mut along = Vec::new(alloc);
+        for v in 0..routes.vehicles() {
+            let mut sums = Along::new();
+            sums.write(model, v, routes.list(v));
+            along.push(sums)?;
+        }
+        Ok(ArcCost {
+            model,
+            along,
+            row: Row::new(),
+        })
+    }
+}
+
+impl<'m> ListCost for ArcCost<'m> {
+    ghost of_model = { λ part. part.model };
+
+    ghost list_cost = { route_cost };
+
+    ghost keeps = { StandsAlong };
+
+    fn added(&self, routes: &Routes, v: u32, pieces: &[Piece]) -> i64 {
+        let whole = [Piece::Chain {
+            vehicle: v,
+            from: 0,
+            to: routes.len(v),
+            reversed: false,
+        }];
+        let before = cost_with(self.model, &self.along, routes, v, &whole);
+        cost_with(self.model, &self.along, routes, v, pieces) - before
+    }
+}
+
+impl<'m> CostPart for ArcCost<'m> {
+    ghost use Rattle.std.specs.Prelude.{ℕ, List};
+
+    ghost model = { λ part. part.model };
+
+    ghost value = { arcs_part };
+
+    ghost stands_at = { StandsAlong };
+
+    ghost ready = { λ part tours parts. Unit {0} };
+
+    fn difference(&mut self, routes: &Routes, change: &Change) -> Result<i64, NoMemory>
+        requires stands { StandsAlong self.old routes.now }
+        requires made { IsMadeOn routes.now change.now }
+        requires valid { IsTrue (is_valid self.old.model (changed routes.now.lists change.now)) }
+        ensures exact { IfOk result (λ difference. difference
+            ≡ arcs_part self.old.model (changed routes.now.lists change.now)
+            -ℤ arcs_part self.old.model routes.now.lists) }
+        ensures stands { StandsAlong self.new routes.now }
+        ensures model { self.new.model ≡ self.old.model }
+        ensures range { IfOk result (IsAround 21990232555520000) }
+        ensures memory { IsOk result }
+    {
+        let added = added_by(self, routes, change);
+        Ok(added)
+    }
+
+    fn prepare(&mut self, _routes: &Routes, _change: &Change) -> Result<(), NoMemory>
+        requires stands { StandsAlong self.old _routes.now }
+        ensures ready { OnOk result (Unit {0}) }
+        ensures stands { StandsAlong self.new _routes.now }
+        ensures model { self.new.model ≡ self.old.model }
+        ensures memory { IsOk result }
+    {
+        Ok(())
+    }
+
+    fn commit(&mut self, routes: &Routes, change: &Change) {
+        for k in 0..change.parts() {
+            let v = change.vehicle(k);
+            routes.join_into(change.pieces(k), &mut self.row);
+            self.along[v as usize].write(self.model, v, self.row.as_slice());
+        }
+    }
+}

@@ -1,0 +1,218 @@
+//! Paths of vehicles along pieces of lists.
+
+ghost use Rattle.std.specs.Prelude.{◌≡◌, ◌<◌, ◌≤◌, ◌+◌, ◌+ℤ◌, ◌≤ℤ◌, ◌*◌, ℕ, pos, All, length, slice_index_or};
+ghost use Rattle.vr_model.specs.tables.Tables.{arc_cost, visits};
+ghost use Rattle.vr_model.specs.routes.Routes.{route, route_cost};
+ghost use Rattle.vr_model.specs.tables.WellFormed.{IsWellFormed};
+ghost use Rattle.vr_routes.specs.declared.pieces.Piece.TheVariants.{Chain};
+ghost use Rattle.vr_routes.specs.Pieces.{joined, nodes_of, IsWithin};
+ghost use Rattle.vr_costfilter.specs.Chains.{chain_sum, path_sum, last_of, turned, IsUpTo};
+ghost use Rattle.vr_costfilter.specs.Along.{AreAlong};
+
+use crate::sums::{Sums, arc};
+use vr_model::Model;
+use vr_routes::{Piece, Routes};
+
+/// The sums of arc costs along the list of a vehicle, and along the list backwards.
+#[derive(Drop)]
+pub struct Along {
+    pub ahead: Sums,
+    pub behind: Sums,
+}
+
+/// Where a path stands: at which node, what its arcs cost, and how many visits it has made.
+#[derive(Clone, Copy)]
+pub struct Path {
+    pub at: u32,
+    pub cost: i64,
+    pub visits: u32,
+}
+
+/// What the arcs of a vehicle cost with the list that pieces are joined to.
+pub fn cost_with(model: &Model, along: &[Along], routes: &Routes, v: u32, pieces: &[Piece]) -> i64
+    requires well_formed { IsWellFormed model.now }
+    requires many { length along.now ≡ length model.now.vehicles }
+    requires as_many { length routes.now.lists ≡ length model.now.vehicles }
+    requires along { AreAlong model.now routes.now.lists along.now }
+    requires vehicle { v < length model.now.vehicles }
+    requires within { All (IsWithin routes.now.lists) pieces.now }
+    requires few { length pieces.now ≤ 8 }
+    requires nodes { All (λ node. node < model.now.nodes) (joined routes.now.lists pieces.now) }
+    ensures value { result ≡ route_cost model.now v (joined routes.now.lists pieces.now) }
+    ensures range { IsUpTo 10000 result }
+{
+    let ends = model.vehicles.get(v as usize);
+    let mut path = Path {
+        at: ends.start,
+        cost: 0,
+        visits: 0,
+    };
+    for k in 0..pieces.len() {
+        path = path.along(model, along, routes, v, pieces[k]);
+    }
+    if path.visits == 0 {
+        return 0;
+    }
+    path.cost + model.arc_cost(v, path.at, ends.end)
+}
+
+impl Path {
+    // The path goes on along a piece.
+    #[inline]
+    fn along(self, model: &Model, along: &[Along], routes: &Routes, v: u32, piece: Piece) -> Path
+        requires well_formed { IsWellFormed model.now }
+        requires many { length along.now ≡ length model.now.vehicles }
+        requires as_many { length routes.now.lists ≡ length model.now.vehicles }
+        requires along { AreAlong model.now routes.now.lists along.now }
+        requires vehicle { v < length model.now.vehicles }
+        requires within { IsWithin routes.now.lists piece }
+        requires nodes { All (λ node. node < model.now.nodes) (nodes_of routes.now.lists piece) }
+        requires at { self.at < model.now.nodes }
+        requires cost { IsUpTo 8008 self.cost }
+        requires visits { self.visits ≤ 8000 }
+        ensures at { result.at ≡ last_of self.at (nodes_of routes.now.lists piece) }
+        ensures cost { result.cost
+            ≡ self.cost +ℤ path_sum (arc_cost model.now v) self.at (nodes_of routes.now.lists piece) }
+        ensures visits { result.visits ≡ self.visits + length (nodes_of routes.now.lists piece) }
+        ensures few { result.visits ≤ self.visits + 1000 }
+    {
+        match piece {
+            Piece::Node { node } => self.to_node(model, v, node),
+            Piece::Chain {
+                vehicle,
+                from,
+                to,
+                reversed,
+            } => {
+                if from == to {
+                    return self;
+                }
+                let (first, last) = ends_of(routes, vehicle, reversed, from, to);
+                let inner = chain_cost(model, along, routes, v, vehicle, reversed, from, to);
+                self.along_chain(model, v, first, last, inner, to - from)
+            }
+        }
+    }
+
+    // The path goes on to a node.
+    #[inline]
+    fn to_node(self, model: &Model, v: u32, node: u32) -> Path
+        requires well_formed { IsWellFormed model.now }
+        requires vehicle { v < length model.now.vehicles }
+        requires at { self.at < model.now.nodes }
+        requires node { node < model.now.nodes }
+        requires cost { IsUpTo 8008 self.cost }
+        requires visits { self.visits ≤ 8000 }
+        ensures at { result.at ≡ node }
+        ensures cost { result.cost ≡ self.cost +ℤ arc_cost model.now v self.at node }
+        ensures visits { result.visits ≡ self.visits + 1 }
+    {
+        Path {
+            at: node,
+            cost: self.cost + model.arc_cost(v, self.at, node),
+            visits: self.visits + 1,
+        }
+    }
+
+    // The path goes on along a chain, of which its ends, the costs of its arcs and how many nodes it has are known.
+    #[inline]
+    fn along_chain(
+        self,
+        model: &Model,
+        v: u32,
+        first: u32,
+        last: u32,
+        inner: i64,
+        nodes: u32,
+    ) -> Path
+        requires well_formed { IsWellFormed model.now }
+        requires vehicle { v < length model.now.vehicles }
+        requires at { self.at < model.now.nodes }
+        requires first { first < model.now.nodes }
+        requires cost { IsUpTo 8008 self.cost }
+        requires inner { IsUpTo 1000 inner }
+        requires visits { self.visits ≤ 8000 }
+        requires few { nodes ≤ 1000 }
+        ensures at { result.at ≡ last }
+        ensures cost { result.cost ≡ self.cost +ℤ (arc_cost model.now v self.at first +ℤ inner) }
+        ensures visits { result.visits ≡ self.visits + nodes }
+    {
+        Path {
+            at: last,
+            cost: self.cost + (model.arc_cost(v, self.at, first) + inner),
+            visits: self.visits + nodes,
+        }
+    }
+}
+
+// The first and the last node of a chain, or of the chain backwards.
+#[inline]
+fn ends_of(routes: &Routes, w: u32, reversed: bool, from: u32, to: u32) -> (u32, u32)
+    requires vehicle { w < length routes.now.lists }
+    requires order { from < to }
+    requires within { to ≤ length (route routes.now.lists w) }
+    ensures first { result.0 ≡ slice_index_or (nodes_of routes.now.lists (Chain w from to reversed)) 0 0 }
+    ensures last { (at : ℕ) → last_of at (nodes_of routes.now.lists (Chain w from to reversed)) ≡ result.1 }
+{
+    let first = routes.node_at(w, from);
+    let last = routes.node_at(w, to - 1);
+    if reversed {
+        (last, first)
+    } else {
+        (first, last)
+    }
+}
+
+// The arc costs of vehicle `v` along a chain of the list of vehicle `w`, or along the chain backwards. Where both
+// vehicles have the same costs it takes no longer for a long chain than for a short one.
+#[inline]
+fn chain_cost(
+    model: &Model,
+    along: &[Along],
+    routes: &Routes,
+    v: u32,
+    w: u32,
+    reversed: bool,
+    from: u32,
+    to: u32,
+) -> i64
+    requires well_formed { IsWellFormed model.now }
+    requires many { length along.now ≡ length model.now.vehicles }
+    requires as_many { length routes.now.lists ≡ length model.now.vehicles }
+    requires along { AreAlong model.now routes.now.lists along.now }
+    requires vehicle { v < length model.now.vehicles }
+    requires other { w < length model.now.vehicles }
+    requires order { from < to }
+    requires within { to ≤ length (route routes.now.lists w) }
+    requires nodes { All (λ node. node < model.now.nodes) (nodes_of routes.now.lists (Chain w from to reversed)) }
+    ensures value { result ≡ chain_sum (arc_cost model.now v) (nodes_of routes.now.lists (Chain w from to reversed)) }
+    ensures range { IsUpTo 1000 result }
+    ensures few { to ≤ 1000 }
+{
+    let list = routes.list(w);
+    if model.vehicles.get(v as usize).costs != model.vehicles.get(w as usize).costs {
+        return costs_along(model, v, reversed, &list[from as usize..to as usize]);
+    }
+    let along = &along[w as usize];
+    if reversed {
+        along.behind.between(from, to)
+    } else {
+        along.ahead.between(from, to)
+    }
+}
+
+// The arc costs of a vehicle along a chain, or along the chain backwards, added up.
+fn costs_along(model: &Model, v: u32, reversed: bool, chain: &[u32]) -> i64
+    requires well_formed { IsWellFormed model.now }
+    requires vehicle { v < length model.now.vehicles }
+    requires few { length chain.now ≤ 1000 }
+    requires nodes { All (λ node. node < model.now.nodes) chain.now }
+    ensures value { result ≡ chain_sum (turned reversed (arc_cost model.now v)) chain.now }
+    ensures range { IsUpTo 1000 result }
+{
+    let mut cost = 0;
+    for k in 1..chain.len() {
+        cost += arc(model, v, reversed, chain[k - 1], chain[k]);
+    }
+    cost
+}

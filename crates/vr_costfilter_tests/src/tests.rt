@@ -1,0 +1,194 @@
+//! What parts of the cost answer for a change is the difference of the costs of the whole lists.
+
+ghost use Rattle.std.specs.Prelude.{◌≡◌, IfOk, IfSome, IsTrue};
+ghost use Rattle.vr_model.specs.routes.Rules.{is_valid};
+ghost use Rattle.vr_model.specs.tables.Tables.{visits};
+ghost use Rattle.vr_model.specs.tables.WellFormed.{IsWellFormed};
+ghost use Rattle.vr_routes.specs.Changes.{IsMadeOn};
+ghost use Rattle.vr_routes.specs.Pieces.{changed};
+
+use serde_json::Value;
+use std::alloc::Global;
+use std::test::Fail;
+use vr_costfilter::{ArcCost, CostPart, FixedCost};
+use vr_json::Path;
+use vr_model::{Model, Move, NoMemory, Parts, Seq};
+use vr_read::read_model;
+use vr_routes::{Change, Routes};
+use vr_rules::{cost, valid};
+
+// Five optional visits, costs that differ by direction and by vehicle, and fixed costs.
+const VANS: &str = r#"{"format":1,"nodes":6,"matrices":[
+[[0,7,9,4,6,3],[8,0,2,5,9,1],[9,3,0,6,4,7],[5,6,8,0,2,9],[4,8,5,3,0,6],[2,1,9,7,5,0]],
+[[0,1,2,3,4,5],[6,0,7,8,9,1],[2,3,0,4,5,6],[7,8,9,0,1,2],[3,4,5,6,0,7],[8,9,1,2,3,0]]],
+"vehicles":[{"start":0,"end":0,"fixed":10},{"start":0,"end":0,"costs":0,"fixed":20},
+{"start":0,"end":0,"costs":1,"fixed":40}],
+"groups":[{"nodes":[1,2,3,4,5],"penalty":1,"max":5}]}"#;
+
+// The model of a text, where there is one.
+fn read(alloc: Global, text: &str) -> Result<Option<Model>, NoMemory>
+    ensures { IfOk result (λ model. IfSome model IsWellFormed) }
+{
+    let path = Path::root(alloc);
+    match Value::from_str(alloc, text) {
+        Ok(value) => Ok(read_model(alloc, &value, &path).ok()),
+        Err(_) => Ok(None),
+    }
+}
+
+// A list of visits.
+fn seq_of(alloc: Global, nodes: &[u32]) -> Result<Seq<u32>, NoMemory> {
+    let mut list = Seq::new(alloc);
+    list.extend_from_slice(nodes)?;
+    Ok(list)
+}
+
+// Valid routes of three vehicles with these lists, where there are such.
+fn routes_of(alloc: Global, model: &Model, lists: &[&[u32]; 3]) -> Result<Option<Routes>, NoMemory>
+    requires well_formed { IsWellFormed model.now }
+    ensures of_model { IfOk result (λ routes. IfSome routes (λ found. found.visits ≡ visits model.now)) }
+    ensures valid { IfOk result (λ routes. IfSome routes (λ found. IsTrue (is_valid model.now found.lists))) }
+{
+    let mut owned = Vec::new(alloc);
+    owned.push(seq_of(alloc, lists[0])?)?;
+    owned.push(seq_of(alloc, lists[1])?)?;
+    owned.push(seq_of(alloc, lists[2])?)?;
+    let Some(routes) = Routes::from_lists(alloc, model, &owned)? else {
+        return Ok(None);
+    };
+    if valid(alloc, model, &routes)? {
+        Ok(Some(routes))
+    } else {
+        Ok(None)
+    }
+}
+
+// Whether costs are those before and what was added.
+fn are_sums(before: Parts, after: Parts, arcs: i64, fixed: i64) -> bool {
+    before.arcs.checked_add(arcs) == Some(after.arcs)
+        && before.fixed.checked_add(fixed) == Some(after.fixed)
+}
+
+// Whether both parts answer what a change of valid routes adds, where the lists after it, which are these, are valid.
+fn answer(
+    alloc: Global,
+    model: &Model,
+    routes: &Routes,
+    change: &Change,
+    after: &Routes,
+) -> Result<bool, NoMemory>
+    requires well_formed { IsWellFormed model.now }
+    requires of_model { routes.now.visits ≡ visits model.now }
+    requires valid { IsTrue (is_valid model.now routes.now.lists) }
+    requires made { IsMadeOn routes.now change.now }
+    requires after { after.now.lists ≡ changed routes.now.lists change.now }
+    requires valid_after { IsTrue (is_valid model.now after.now.lists) }
+{
+    let arcs = ArcCost::open(alloc, model, routes)?.difference(routes, change)?;
+    let fixed = FixedCost::open(model, routes)?.difference(routes, change)?;
+    let before = cost(alloc, model, routes)?;
+    Ok(are_sums(before, cost(alloc, model, after)?, arcs, fixed))
+}
+
+// Whether both parts answer what a move of lists adds: false where it is none, or the lists are not valid.
+fn agree(alloc: Global, model: &Model, lists: &[&[u32]; 3], mv: Move) -> Result<bool, NoMemory>
+    requires well_formed { IsWellFormed model.now }
+{
+    let Some(routes) = routes_of(alloc, model, lists)? else {
+        return Ok(false);
+    };
+    let Some(change) = Change::of(model, &routes, mv) else {
+        return Ok(false);
+    };
+    let mut after = routes.copy(alloc)?;
+    after.commit(&change);
+    if !valid(alloc, model, &after)? {
+        return Ok(false);
+    }
+    let agree = answer(alloc, model, &routes, &change, &after)?;
+    Ok(agree)
+}
+
+// The same of the model of the vans.
+fn vans_agree(alloc: Global, lists: &[&[u32]; 3], mv: Move) -> bool {
+    match read(alloc, VANS) {
+        Ok(Some(model)) => agree(alloc, &model, lists, mv) == Ok(true),
+        _ => false,
+    }
+}
+
+#[test]
+fn parts_answer_differences_of_whole_lists(rt: HostRuntime) -> Result<(), Fail> {
+    let alloc = rt.alloc();
+    let full: &[&[u32]; 3] = &[&[3, 1, 4], &[5], &[2]];
+    assert!(rt;
+        vans_agree(
+            alloc,
+            &[&[], &[], &[]],
+            Move::MakeActive { u: 1, w: 2, t: 0 }
+        )
+    );
+    assert!(rt; vans_agree(alloc, full, Move::TwoOpt { v: 0, a: 0, b: 2 }));
+    assert!(rt;
+        vans_agree(
+            alloc,
+            full,
+            Move::OrOpt {
+                v: 0,
+                a: 0,
+                k: 2,
+                t: 1
+            }
+        )
+    );
+    assert!(rt;
+        vans_agree(
+            alloc,
+            full,
+            Move::Cross {
+                v: 0,
+                a: 1,
+                w: 1,
+                b: 0
+            }
+        )
+    );
+    assert!(rt;
+        vans_agree(
+            alloc,
+            full,
+            Move::Cross {
+                v: 0,
+                a: 3,
+                w: 2,
+                b: 0
+            }
+        )
+    );
+    assert!(rt;
+        vans_agree(
+            alloc,
+            full,
+            Move::Exchange {
+                v: 0,
+                a: 1,
+                w: 2,
+                b: 0
+            }
+        )
+    );
+    assert!(rt;
+        vans_agree(
+            alloc,
+            full,
+            Move::Relocate {
+                v: 1,
+                a: 0,
+                w: 0,
+                t: 3
+            }
+        )
+    );
+    assert!(rt; vans_agree(alloc, full, Move::MakeInactive { v: 2, a: 0 }));
+    Ok(())
+}
