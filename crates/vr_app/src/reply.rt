@@ -180,7 +180,7 @@ pub fn run<S: Source, K: Sink>(
         (text : List ℕ) × IsBrokenBy bytes text × Took (K.written sink.old) (K.written sink.new) text) }
     ensures not_met_only { result ≡ 9 → IsChecked (bytes_of words.now) }
 
-    // Of words that read nothing the reply is the same whatever the source has. It has status 0 where they are accepted.
+    // Of words that read nothing the reply is the same whatever the source has, with status 0 where they are accepted.
     ensures unread { let reports = joined (λ w later. after w later) watch.items in
         IsSettled result → IsUnread (bytes_of words.now) → (bytes : List ℕ)
         → Replies (replies.reply reports (bytes_of words.now) bytes) (K.written sink.old) (K.written sink.new) result }

@@ -33,8 +33,9 @@ impl<'m> Accept for Cheaper<'m> {
 /// watchers of the first solution and of each move. Routes and judge then hold the last lists, which are the best.
 /// `limit` allows up to 10^9 tries and from 1 to 10^9 solutions.
 ///
-/// The report's end is `Optimum` where no move of the last lists makes the cost less, `Tries` where the tries ran out
-/// before that was known, and `Solutions` where as many solutions were found as the limit allows.
+/// The report's end is `Solutions` where as many solutions were found as the limit allows, which is asked first; else
+/// `Optimum` where no move of the last lists makes the cost less, and `Tries` where the tries ran out before that was
+/// known.
 ///
 /// The only refusal is want of memory. Routes and judge then hold the same valid lists, the judge was asked about no
 /// more moves than the limit has tries, and the watchers have been told the events up to there: of the event in hand,

@@ -1,5 +1,6 @@
 -- What watchers report of the events that they noted.
-use Rattle.std.specs.Prelude.{ℕ, ◌+◌, ◌-◌, ◌^◌, Bool, true, false, List, [], ◌∷◌, ◌++◌, length, filter, map, flat_map, fold, min, codes, decimal, ℤ, pos, Option, Some, None}
+use Rattle.std.specs.Prelude.{ℕ, ◌+◌, ◌-◌, ◌^◌, Bool, true, false, List, [], ◌∷◌, ◌++◌, length, filter, map}
+use Rattle.std.specs.Prelude.{flat_map, fold, min, codes, decimal, ℤ, pos, Option, Some, None}
 use Rattle.std.specs.Fmt.{signed_decimal}
 use Rattle.std.specs.Int.{int_min}
 use Rattle.vr_model.specs.declared.search.Event.{Event}
