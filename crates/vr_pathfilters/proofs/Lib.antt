@@ -1,3 +1,5 @@
 pub mod PartTours
 pub mod PartWeights
 pub mod Knowing
+pub mod GroupNumbers
+pub mod GroupLemmas

@@ -4,3 +4,4 @@ pub mod AfterChanges
 pub mod Vehicles
 pub mod Known
 pub mod ListFilters
+pub mod Groups

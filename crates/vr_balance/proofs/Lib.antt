@@ -1,0 +1,2 @@
+pub mod BalanceLemmas
+pub mod ActiveLemmas

@@ -1,0 +1,81 @@
+-- The rule of groups, and what is kept of them.
+use Rattle.std.specs.Prelude.{◌≡◌, ℕ, ◌+◌, ◌<◌, Bool, true, cond, ◌&&◌, ◌||◌, ◌==◌, nat_lt, nat_le, IsTrue, List, []}
+use Rattle.std.specs.Prelude.{length, slice_index_or, is_some, None}
+use Rattle.std.specs.List.{list_all, position_or_len}
+use Rattle.vr_model.specs.routes.Routes.{holds}
+use Rattle.vr_model.specs.routes.Rules.{active_in, fits_group, has_required, has_enough}
+use Rattle.vr_model.specs.tables.WellFormed.{IsWellFormed}
+use Rattle.vr_model.specs.declared.records.Model.{Model}
+use Rattle.vr_model.specs.declared.records.Group.{Group}
+use Rattle.vr_routes.specs.Tours.{Tours}
+use Rattle.vr_routes.specs.Pieces.{ListAfter, nodes_of, changed}
+use Rattle.vr_routes.specs.declared.pieces.Piece.{Piece}
+use Rattle.vr_balance.specs.Balances.{Turnover, over_pieces}
+use Rattle.vr_pathfilters.specs.TourLists.{AreTours}
+
+-- no group has more active nodes than it may have, each visit in no group is active, and each group without a penalty
+-- has exactly as many active nodes as it may have
+abbrev pub keeps_groups : Model → List (List ℕ) → Bool
+keeps_groups model lists = list_all (fits_group lists) model.groups
+    && (has_required model lists
+    && list_all (λ group. has_enough group.penalty group.max (active_in lists group)) model.groups)
+
+-- the number of the group of a node, that of all groups where it is in none
+abbrev pub group_number : Model → ℕ → ℕ
+group_number model node = position_or_len (λ group. holds group.nodes node) model.groups
+
+abbrev pub no_group : Group
+no_group = record { nodes = []; penalty = None; max = 0 }
+
+-- the group of a number
+abbrev pub group_at : Model → ℕ → Group
+group_at model g = slice_index_or model.groups g no_group
+
+-- the number that is kept of a node
+abbrev pub number_of : List ℕ → ℕ → ℕ
+number_of numbers node = slice_index_or numbers node 0
+
+-- each node has the number of its group
+pub record AreNumbers (model : Model) (numbers : List ℕ) : Type 0 where
+  pub long : length numbers ≡ model.nodes
+  pub each : (node : ℕ) → node < model.nodes → number_of numbers node ≡ group_number model node
+
+-- 1 for a node of group g, else 0
+abbrev pub one_of : List ℕ → ℕ → ℕ → ℕ
+one_of numbers g node = cond (number_of numbers node == g) 1 0
+
+-- how many nodes of pieces are of group g
+abbrev pub many_of : List ℕ → List (List ℕ) → List Piece → ℕ → ℕ
+many_of numbers lists pieces g = over_pieces (one_of numbers g) lists pieces
+
+-- as many nodes of group g may come and go: as many of them; or it has a penalty, and no more come than go, or there is
+-- room for them
+abbrev pub allows_number : Model → List (List ℕ) → ℕ → ℕ → ℕ → Bool
+allows_number model lists g come gone = (come == gone)
+    || (nat_lt g (length model.groups)
+    && (is_some (group_at model g).penalty
+    && (nat_le come gone || nat_le (active_in lists (group_at model g) + come) ((group_at model g).max + gone))))
+
+-- the group of a node allows what comes and goes
+abbrev pub allows_node : Model → List ℕ → List (List ℕ) → Turnover → ℕ → Bool
+allows_node model numbers lists turnover node = allows_number model lists (number_of numbers node)
+    (many_of numbers lists turnover.come (number_of numbers node))
+    (many_of numbers lists turnover.gone (number_of numbers node))
+
+-- the groups of the nodes of some pieces do
+abbrev pub allows_pieces : Model → List ℕ → List (List ℕ) → Turnover → List Piece → Bool
+allows_pieces model numbers lists turnover pieces =
+    list_all (λ piece. list_all (allows_node model numbers lists turnover) (nodes_of lists piece)) pieces
+
+-- a filter with these numbers stands at the tours, of which the rule holds
+pub record StandsGroups (model : Model) (numbers : List ℕ) (tours : Tours) : Type 0 where
+  pub well_formed : IsWellFormed model
+  pub numbers_are : AreNumbers model numbers
+  pub tours_are : AreTours model tours
+  pub rule : IsTrue (keeps_groups model tours.lists)
+
+-- a change was made ready after which the rule holds
+pub record IsGroupsReady (model : Model) (is_prepared : Bool) (lists : List (List ℕ)) (parts : List ListAfter) : Type 0
+where
+  pub prepared : is_prepared ≡ true
+  pub rule : IsTrue (keeps_groups model (changed lists parts))
