@@ -8,7 +8,7 @@ use Rattle.vr_model.specs.deciding.Testing.{and_left, and_right, and_both, or_ca
 use Rattle.vr_model.specs.tables.Tables.{visits}
 use Rattle.vr_model.specs.tables.WellFormed.{IsWellFormed}
 use Rattle.std.proofs.lemmas.List.{get_or_past}
-use Rattle.vr_model.specs.routes.Routes.{is_active, holds}
+use Rattle.vr_model.specs.routes.Routes.{is_active, holds, route}
 use Rattle.vr_model.specs.routes.Rules.{active_in, fits_group, is_grouped, has_enough, has_required}
 use Rattle.vr_model.specs.declared.records.Model.{Model}
 use Rattle.vr_model.specs.declared.records.Group.{Group}
@@ -18,6 +18,10 @@ use Rattle.vr_routes.specs.Pieces.{nodes_of, changed}
 use Rattle.vr_routes.specs.Changes.{IsMadeOn}
 use Rattle.vr_routes.specs.Pieces.{ListAfter}
 use Rattle.vr_routes.specs.declared.pieces.Piece.{Piece}
+use Rattle.vr_routes.specs.declared.pieces.Piece.TheVariants.{Chain}
+use Rattle.std.proofs.lemmas.List.{reverse-append}
+use Rattle.std.proofs.lemmas.List.Folds.{list_all-append}
+use Rattle.std.specs.Prelude.{reverse, slice_range}
 use Rattle.vr_balance.specs.Balances.{Turnover, IsBalance, over_lists, over_pieces}
 use Rattle.vr_filter.specs.Filters.{after}
 use Rattle.vr_pathfilters.specs.Groups.{keeps_groups, group_at, no_group, number_of, one_of, many_of, allows_number, allows_node, allows_pieces, AreNumbers, StandsGroups}
@@ -83,8 +87,8 @@ to-rule model lists kept =
     and_both (list_all (fits_group lists) model.groups) _
     (all-groups (fits_group lists) model.groups (λ g low. test_of_le _ _ (kept.fits g low)))
     (and_both (has_required model lists) _
-      (required-is model lists ∙ test_of_eq _ _ kept.required_all)
-      (all-groups (λ group. has_enough group.penalty group.max (active_in lists group)) model.groups kept.enough))
+    (required-is model lists ∙ test_of_eq _ _ kept.required_all)
+    (all-groups (λ group. has_enough group.penalty group.max (active_in lists group)) model.groups kept.enough))
 
 -- ---- one group
 
@@ -188,7 +192,7 @@ module _ (model : Model) (numbers : List ℕ) (tours : Tours) (stands : StandsGr
     required_all = elim (cases_lt 0 (come (length model.groups) + gone (length model.groups))) [
       | inl some ↦ (
           let h : IsTrue (rule_at (length model.groups)) = allows (length model.groups) (omega (arith, some)) in
-          let same = elim (or_cases (come (length model.groups) == gone (length model.groups)) _ h) [
+          let same : come (length model.groups) ≡ gone (length model.groups) = elim (or_cases (come (length model.groups) == gone (length model.groups)) _ h) [
             | inl e ↦ eq_of_test _ _ e
             | inr other ↦ absurd (clash (nat_lt (length model.groups) (length model.groups)) (and_left (nat_lt (length model.groups) (length model.groups)) _ other) (lt_fails (length model.groups) (length model.groups) (omega arith)))
           ] in
@@ -233,3 +237,28 @@ module _ (model : Model) (numbers : List ℕ) (tours : Tours) (stands : StandsGr
       from h =
           let kept = of-rule model later.lists h in
           and_both (allows_pieces model numbers tours.lists turnover turnover.come) _ (pieces_pass kept turnover.come) (pieces_pass kept turnover.gone)
+
+-- ---- where the code asks
+
+-- the group of a node, asked by its number and by what comes and goes of it
+pub node-asked : (model : Model) (numbers : List ℕ) (lists : List (List ℕ)) (turnover : Turnover) (x g come gone : ℕ) → g ≡ number_of numbers x → come ≡ many_of numbers lists turnover.come g → gone ≡ many_of numbers lists turnover.gone g
+    → allows_number model lists g come gone ≡ allows_node model numbers lists turnover x
+node-asked model numbers lists turnover x g come gone g_is come_is gone_is =
+    ap (λ n. allows_number model lists g n gone) come_is
+    ∙ (ap (allows_number model lists g (many_of numbers lists turnover.come g)) gone_is
+    ∙ ap (λ h. allows_number model lists h (many_of numbers lists turnover.come h) (many_of numbers lists turnover.gone h)) g_is)
+
+all-turned : (p : ℕ → Bool) (xs : List ℕ) → list_all p (reverse xs) ≡ list_all p xs
+all-turned p [] = refl
+all-turned p (x ∷ xs) = ap (list_all p) (reverse-append (x ∷ []) xs) ∙ (list_all-append p (reverse xs) (x ∷ []) ∙ (ap (λ b. b && (p x && true)) (all-turned p xs) ∙ turned (list_all p xs) (p x)))
+  where
+    turned : (a b : Bool) → (a && (b && true)) ≡ (b && a)
+    turned true true = refl
+    turned true false = refl
+    turned false true = refl
+    turned false false = refl
+
+-- a chain, whichever way it goes
+pub all-chain : (p : ℕ → Bool) (lists : List (List ℕ)) (v from to : ℕ) (reversed : Bool) → list_all p (nodes_of lists (Chain v from to reversed)) ≡ list_all p (slice_range (route lists v) from to)
+all-chain p lists v from to false = refl
+all-chain p lists v from to true = all-turned p (slice_range (route lists v) from to)

@@ -42,7 +42,7 @@ hit-none y x other = ap (λ b. cond b 1 0) (apart y x other)
 times-filter : (p : ℕ → Bool) (xs : List ℕ) (y : ℕ) → times y (filter p xs) ≡ cond (p y) (times y xs) 0
 times-filter p [] y = by (p y)
   where
-    by : (b : Bool) → 0 ≡ cond b 0 0
+    by : (b : Bool) → times y [] ≡ cond b (times y []) 0
     by true = refl
     by false = refl
 times-filter p (x ∷ xs) y = by (p x) (p y) refl refl (times-filter p xs y)
@@ -155,11 +155,11 @@ module _ (model : Model) (well_formed : IsWellFormed model) (numbers : List ℕ)
       let nodes : List ℕ = (group_at model g).nodes in
       active-count tours.lists of_model.once nodes
       ∙ over-active (λ y. times y nodes) (one_of numbers g) tours.lists (λ y active. sym
-        (ap (λ n. cond (n == g) 1 0) (number-is y active) ∙ number-times model.groups y g (times_of_distinct (each model.groups nodes_in) well_formed.no_node_in_groups_twice y) low))
+      (ap (λ n. cond (n == g) 1 0) (number-is y active) ∙ number-times model.groups y g (times_of_distinct (each model.groups nodes_in) well_formed.no_node_in_groups_twice y) low))
 
   -- the active visits in no group
   pub required-count : count_by (is_active tours.lists) (required model) ≡ over_lists (one_of numbers (length model.groups)) tours.lists
   required-count =
       active-count tours.lists of_model.once (required model)
       ∙ over-active (λ y. times y (required model)) (one_of numbers (length model.groups)) tours.lists (λ y active. sym
-        (ap (λ n. cond (n == length model.groups) 1 0) (number-is y active) ∙ required-times model y (entry y active)))
+      (ap (λ n. cond (n == length model.groups) 1 0) (number-is y active) ∙ required-times model y (entry y active)))

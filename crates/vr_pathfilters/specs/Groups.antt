@@ -75,7 +75,7 @@ pub record StandsGroups (model : Model) (numbers : List ℕ) (tours : Tours) : T
   pub rule : IsTrue (keeps_groups model tours.lists)
 
 -- a change was made ready after which the rule holds
-pub record IsGroupsReady (model : Model) (is_prepared : Bool) (lists : List (List ℕ)) (parts : List ListAfter) : Type 0
-where
+pub record IsGroupsReady (model : Model) (is_prepared : Bool) (lists : List (List ℕ)) (parts : List ListAfter)
+    : Type 0 where
   pub prepared : is_prepared ≡ true
   pub rule : IsTrue (keeps_groups model (changed lists parts))

@@ -100,7 +100,10 @@ fn many_in_piece(numbers: &Seq<u32>, routes: &Routes, piece: Piece, g: u32) -> u
     match piece {
         Piece::Node { node } => many_in(numbers, &[node], g),
         Piece::Chain {
-            vehicle, from, to, ..
+            vehicle,
+            from,
+            to,
+            ..
         } => many_in(
             numbers,
             &routes.list(vehicle)[from as usize..to as usize],
@@ -184,7 +187,10 @@ fn piece_allows(filter: &GroupFilter<'_>, routes: &Routes, piece: Piece) -> bool
     match piece {
         Piece::Node { node } => nodes_allow(filter, routes, &[node]),
         Piece::Chain {
-            vehicle, from, to, ..
+            vehicle,
+            from,
+            to,
+            ..
         } => nodes_allow(
             filter,
             routes,
