@@ -1,12 +1,11 @@
 -- Whether the rule of groups holds after a change.
-use Rattle.std.proofs.Common.{◌≡◌, ◌∙◌, ℕ, zero, suc, ◌+◌, ◌<◌, ◌≤◌, Bool, true, false, cond, not, List, [], ◌∷◌, length, sum_by, All, refl, sym, ap, subst, inl, inr, arith}
+use Rattle.std.proofs.Common.{◌≡◌, ◌∙◌, ℕ, suc, ◌+◌, ◌<◌, ◌≤◌, Bool, true, false, cond, not, List, [], ◌∷◌, length, sum_by, refl, sym, ap, subst, inl, inr, arith}
 use Rattle.std.specs.Prelude.{◌==◌, ◌&&◌, ◌||◌, IsTrue, nat_lt, nat_le, filter, count_by, is_some, Option, Some, None, ℤ, slice_index_or}
 use Rattle.std.specs.List.{list_all}
 use Rattle.std.proofs.lemmas.Bool.{cases_lt}
 use Rattle.std.proofs.lemmas.List.Sums.{sum_by-cons, count_by-le-length, prefix_len-le-length}
 use Rattle.vr_model.specs.deciding.Testing.{and_left, and_right, and_both, or_cases, or_left, or_right, eq_of_test, test_of_eq}
 use Rattle.vr_model.specs.tables.Tables.{visits}
-use Rattle.vr_model.specs.tables.WellFormed.{IsWellFormed}
 use Rattle.std.proofs.lemmas.List.{get_or_past}
 use Rattle.vr_model.specs.routes.Routes.{is_active, holds, route}
 use Rattle.vr_model.specs.routes.Rules.{active_in, fits_group, is_grouped, has_enough, has_required}
@@ -14,20 +13,15 @@ use Rattle.vr_model.specs.declared.records.Model.{Model}
 use Rattle.vr_model.specs.declared.records.Group.{Group}
 use Rattle.vr_model.proofs.tables.Tests.{clash, same_tests, list_all-true, nat_of_test, all-from_list_all}
 use Rattle.vr_routes.specs.Tours.{Tours}
-use Rattle.vr_routes.specs.Pieces.{nodes_of, changed}
-use Rattle.vr_routes.specs.Changes.{IsMadeOn}
-use Rattle.vr_routes.specs.Pieces.{ListAfter}
+use Rattle.vr_routes.specs.Pieces.{nodes_of}
 use Rattle.vr_routes.specs.declared.pieces.Piece.{Piece}
 use Rattle.vr_routes.specs.declared.pieces.Piece.TheVariants.{Chain}
 use Rattle.std.proofs.lemmas.List.{reverse-append}
 use Rattle.std.proofs.lemmas.List.Folds.{list_all-append}
 use Rattle.std.specs.Prelude.{reverse, slice_range}
-use Rattle.vr_balance.specs.Balances.{Turnover, IsBalance, over_lists, over_pieces}
-use Rattle.vr_filter.specs.Filters.{after}
-use Rattle.vr_pathfilters.specs.Groups.{keeps_groups, group_at, no_group, number_of, one_of, many_of, allows_number, allows_node, allows_pieces, AreNumbers, StandsGroups}
+use Rattle.vr_balance.specs.Balances.{Turnover, IsBalance}
+use Rattle.vr_pathfilters.specs.Groups.{keeps_groups, group_at, no_group, number_of, one_of, many_of, allows_number, allows_node, allows_pieces, StandsGroups}
 use Rattle.vr_pathfilters.specs.TourLists.{AreTours}
-use Rattle.vr_pathfilters.specs.AfterChanges.{tours_after}
-use Rattle.vr_pathfilters.proofs.PartTours.{all_by_place}
 use Rattle.vr_pathfilters.proofs.GroupNumbers.{required, group-count, required-count}
 
 -- ---- the rule, group by group

@@ -1,5 +1,5 @@
 -- The numbers of groups, and how many nodes of each are active.
-use Rattle.std.proofs.Common.{◌≡◌, ◌∙◌, ℕ, zero, suc, ◌+◌, ◌<◌, ◌≤◌, Bool, true, false, cond, not, List, [], ◌∷◌, ◌++◌, length, refl, sym, ap, subst, inl, inr, arith}
+use Rattle.std.proofs.Common.{◌≡◌, ◌∙◌, ℕ, zero, suc, ◌+◌, ◌<◌, ◌≤◌, Bool, true, false, cond, not, List, [], ◌∷◌, length, refl, sym, ap, subst, arith}
 use Rattle.std.specs.Prelude.{◌==◌, ◌||◌, IsTrue, filter, count_by, slice_index_or}
 use Rattle.std.specs.List.{list_any, position_or_len, range_with_len}
 use Rattle.std.proofs.Math.Dec.{eqb-zero-suc}
@@ -12,7 +12,7 @@ use Rattle.vr_model.specs.routes.Routes.{holds, is_active}
 use Rattle.vr_model.specs.routes.Rules.{active_in, is_grouped}
 use Rattle.vr_model.specs.declared.records.Model.{Model}
 use Rattle.vr_model.specs.declared.records.Group.{Group}
-use Rattle.vr_model.proofs.tables.Tests.{clash, fails, same_tests, apart}
+use Rattle.vr_model.proofs.tables.Tests.{clash, same_tests, apart}
 use Rattle.vr_model.proofs.moves.Times.{hit, times, times_append, held_times, times_held, times_of_distinct}
 use Rattle.vr_model.proofs.routes.Lists.{visit_below}
 use Rattle.vr_routes.proofs.TourLemmas.{visit_held, visit_test}

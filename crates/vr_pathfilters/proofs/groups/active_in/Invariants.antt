@@ -1,4 +1,4 @@
-use Rattle.std.proofs.Common.{◌≡◌, ◌≤◌, take, sum_by}
+use Rattle.std.proofs.Common.{◌≡◌, ◌≤◌, take}
 use Rattle.std.specs.Prelude.{count_by}
 use Rattle.vr_model.specs.routes.Routes.{is_active}
 use Rattle.vr_pathfilters.proofs.groups.active_in.Given as goal

@@ -1,5 +1,4 @@
 use Rattle.std.proofs.Common.{◌≡◌, ◌<◌, ℕ, false}
-use Rattle.std.specs.Prelude.{slice_index_or}
 use Rattle.vr_model.specs.routes.Routes.{holds}
 use Rattle.vr_pathfilters.specs.Groups.{group_at}
 use Rattle.vr_pathfilters.proofs.groups.group_of.Given as goal

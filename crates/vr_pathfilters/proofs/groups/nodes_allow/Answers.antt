@@ -1,4 +1,4 @@
-use Rattle.std.proofs.Common.{◌≡◌, ℕ, List, Bool, sym, ap, ap₂, ◌∙◌}
+use Rattle.std.proofs.Common.{ℕ, List, Bool, sym, ap, ap₂, ◌∙◌}
 use Rattle.std.specs.Prelude.{◌&&◌, slice_index_or}
 use Rattle.std.proofs.lemmas.List.Folds.{list_all_at, list_all_more}
 use Rattle.vr_pathfilters.specs.Groups.{allows_node, many_of}
