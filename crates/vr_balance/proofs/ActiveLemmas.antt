@@ -1,11 +1,11 @@
 -- How many of some nodes are active, counted along the lists.
-use Rattle.std.proofs.Common.{◌≡◌, ◌∙◌, ℕ, ◌+◌, Bool, true, false, cond, List, [], ◌∷◌, sum_by, refl, sym, ap, ap₂, arith}
+use Rattle.std.proofs.Common.{◌≡◌, ◌∙◌, ℕ, zero, suc, ◌+◌, ◌≤◌, Bool, true, false, cond, List, [], ◌∷◌, sum_by, refl, sym, ap, ap₂, arith}
 use Rattle.std.specs.Prelude.{◌==◌, IsTrue, count_by}
 use Rattle.std.proofs.lemmas.List.Sums.{sum_by-cons}
 use Rattle.vr_model.specs.deciding.Testing.{or_left, or_right, test_of_eq}
 use Rattle.vr_model.specs.routes.Routes.{holds, is_active}
-use Rattle.vr_model.proofs.tables.Tests.{eq_turned}
-use Rattle.vr_model.proofs.moves.Times.{hit, times, times_in}
+use Rattle.vr_model.proofs.tables.Tests.{clash, eq_turned}
+use Rattle.vr_model.proofs.moves.Times.{hit, times, times_in, held_times, times_held}
 use Rattle.vr_model.proofs.moves.Kept.{inactive_times}
 use Rattle.vr_routes.specs.Seats.{IsOnce}
 use Rattle.vr_routes.proofs.SeatLemmas.{seat_of_active}
@@ -76,6 +76,18 @@ in-lists nodes (l ∷ ls) =
     let i = in-lists nodes ls in
     let c = sum_by-cons (λ list. sum_by (λ y. times y nodes) list) l ls in
     omega (arith, s, t, i, c)
+
+-- a number that stands once at most
+pub times-held : (xs : List ℕ) (x : ℕ) → times x xs ≤ 1 → cond (holds xs x) 1 0 ≡ times x xs
+times-held xs x few = by (holds xs x) refl
+  where
+    by : (b : Bool) → holds xs x ≡ b → cond b 1 0 ≡ times x xs
+    by true e = let one = held_times x xs e in omega (arith, one, few)
+    by false e = absent (times x xs) (λ some. clash (holds xs x) (times_held x xs some) e)
+      where
+        absent : (n : ℕ) → (1 ≤ n → ⊥) → 0 ≡ n
+        absent zero none = refl
+        absent (suc n) none = absurd (none (omega arith))
 
 -- ---- active nodes
 

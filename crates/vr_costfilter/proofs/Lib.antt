@@ -6,3 +6,4 @@ pub mod PartLemmas
 pub mod RowLemmas
 pub mod FixedLemmas
 pub mod BoundLemmas
+pub mod GroupLemmas

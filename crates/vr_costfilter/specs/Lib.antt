@@ -4,3 +4,4 @@ pub mod Along
 pub mod Sums
 pub mod Bounds
 pub mod Fixed
+pub mod Groups

@@ -20,7 +20,7 @@ use Rattle.std.proofs.lemmas.List.{reverse-append}
 use Rattle.std.proofs.lemmas.List.Folds.{list_all-append}
 use Rattle.std.specs.Prelude.{reverse, slice_range}
 use Rattle.vr_balance.specs.Balances.{Turnover, IsBalance}
-use Rattle.vr_pathfilters.specs.Groups.{keeps_groups, group_at, no_group, number_of, one_of, many_of, allows_number, allows_node, allows_pieces, StandsGroups}
+use Rattle.vr_pathfilters.specs.Groups.{keeps_groups, group_at, no_group, number_of, one_of, many_of, allows_number, allows_node, allows_pieces, KnowsGroups}
 use Rattle.vr_pathfilters.specs.TourLists.{AreTours}
 use Rattle.vr_pathfilters.proofs.GroupNumbers.{required, group-count, required-count}
 
@@ -138,7 +138,7 @@ piece-passes numbers P lists (p ∷ ps) g all some = elim (cases_lt 0 (sum_by (o
 
 -- ---- the whole rule
 
-module _ (model : Model) (numbers : List ℕ) (tours : Tours) (stands : StandsGroups model numbers tours) (later : Tours) (tours_are : AreTours model later) (turnover : Turnover) (balance : IsBalance tours.lists later.lists turnover) where
+module _ (model : Model) (numbers : List ℕ) (tours : Tours) (stands : KnowsGroups model numbers tours) (later : Tours) (tours_are : AreTours model later) (turnover : Turnover) (balance : IsBalance tours.lists later.lists turnover) where
   abbrev come : ℕ → ℕ
   come g = many_of numbers tours.lists turnover.come g
 

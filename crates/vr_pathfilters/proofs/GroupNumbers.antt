@@ -13,28 +13,16 @@ use Rattle.vr_model.specs.routes.Rules.{active_in, is_grouped}
 use Rattle.vr_model.specs.declared.records.Model.{Model}
 use Rattle.vr_model.specs.declared.records.Group.{Group}
 use Rattle.vr_model.proofs.tables.Tests.{clash, same_tests, apart}
-use Rattle.vr_model.proofs.moves.Times.{hit, times, times_append, held_times, times_held, times_of_distinct}
+use Rattle.vr_model.proofs.moves.Times.{hit, times, times_append, held_times, times_of_distinct}
 use Rattle.vr_model.proofs.routes.Lists.{visit_below}
 use Rattle.vr_routes.proofs.TourLemmas.{visit_held, visit_test}
 use Rattle.vr_routes.specs.Tours.{Tours}
 use Rattle.vr_balance.specs.Balances.{over_lists}
-use Rattle.vr_balance.proofs.ActiveLemmas.{active-count, over-active}
+use Rattle.vr_balance.proofs.ActiveLemmas.{active-count, over-active, times-held}
 use Rattle.vr_pathfilters.specs.Groups.{group_number, group_at, no_group, number_of, one_of, AreNumbers}
 use Rattle.vr_pathfilters.specs.TourLists.{AreTours}
 
 -- ---- how often a node stands
-
--- a number that stands once at most
-pub times-held : (xs : List ℕ) (x : ℕ) → times x xs ≤ 1 → cond (holds xs x) 1 0 ≡ times x xs
-times-held xs x few = by (holds xs x) refl
-  where
-    by : (b : Bool) → holds xs x ≡ b → cond b 1 0 ≡ times x xs
-    by true e = let one = held_times x xs e in omega (arith, one, few)
-    by false e = absent (times x xs) (λ some. clash (holds xs x) (times_held x xs some) e)
-      where
-        absent : (n : ℕ) → (1 ≤ n → ⊥) → 0 ≡ n
-        absent zero none = refl
-        absent (suc n) none = absurd (none (omega arith))
 
 hit-none : (y x : ℕ) → (y ≡ x → ⊥) → hit y x ≡ 0
 hit-none y x other = ap (λ b. cond b 1 0) (apart y x other)

@@ -68,7 +68,7 @@ allows_pieces model numbers lists turnover pieces =
     list_all (λ piece. list_all (allows_node model numbers lists turnover) (nodes_of lists piece)) pieces
 
 -- a filter with these numbers stands at the tours, of which the rule holds
-pub record StandsGroups (model : Model) (numbers : List ℕ) (tours : Tours) : Type 0 where
+pub record KnowsGroups (model : Model) (numbers : List ℕ) (tours : Tours) : Type 0 where
   pub well_formed : IsWellFormed model
   pub numbers_are : AreNumbers model numbers
   pub tours_are : AreTours model tours

@@ -13,7 +13,7 @@ ghost use Rattle.vr_routes.specs.Tours.{Tours};
 ghost use Rattle.vr_balance.specs.Balances.{IsBalance, AreWithin};
 ghost use Rattle.vr_filter.specs.Filters.{after, IsSameRule, IsSameWeight, NothingReady};
 ghost use Rattle.vr_pathfilters.specs.Groups.{keeps_groups, group_number, number_of, one_of, many_of, AreNumbers};
-ghost use Rattle.vr_pathfilters.specs.Groups.{allows_number, allows_node, allows_pieces, StandsGroups, IsGroupsReady};
+ghost use Rattle.vr_pathfilters.specs.Groups.{allows_number, allows_node, allows_pieces, KnowsGroups, IsGroupsReady};
 
 use std::alloc::Global;
 use std::sync::ledger::Ledger;
@@ -217,7 +217,7 @@ fn pieces_allow(filter: &GroupFilter<'_>, routes: &Routes, pieces: &[Piece]) -> 
 
 // Whether the groups of all nodes that come or go do.
 fn all_allow(filter: &GroupFilter<'_>, routes: &Routes) -> bool
-    requires stands { StandsGroups filter.now.model.now filter.now.numbers routes.now }
+    requires stands { KnowsGroups filter.now.model.now filter.now.numbers routes.now }
     requires within { AreWithin routes.now.lists filter.now.balance }
     ensures { (parts : List ListAfter) → IsMadeOn routes.now parts
         → IsBalance routes.now.lists (changed routes.now.lists parts) filter.now.balance
@@ -258,7 +258,7 @@ impl<'m> GroupFilter<'m> {
 impl<'m> PathFilter for GroupFilter<'m> {
     ghost holds = { λ f lists. keeps_groups f.model.now lists };
 
-    ghost stands_at = { λ f tours. StandsGroups f.model.now f.numbers tours };
+    ghost stands_at = { λ f tours. KnowsGroups f.model.now f.numbers tours };
 
     ghost ready = { λ f tours parts. IsGroupsReady f.model.now f.is_prepared tours.lists parts };
 
@@ -270,11 +270,11 @@ impl<'m> PathFilter for GroupFilter<'m> {
         change: &Change,
         _steps: &mut Steps<L>,
     ) -> Result<bool, NoMemory>
-        requires stands { StandsGroups self.old.model.now self.old.numbers routes.now }
+        requires stands { KnowsGroups self.old.model.now self.old.numbers routes.now }
         requires made { IsMadeOn routes.now change.now }
         ensures answer { IfOk result (λ passed. passed
             ≡ keeps_groups self.old.model.now (changed routes.now.lists change.now)) }
-        ensures stands { StandsGroups self.new.model.now self.new.numbers routes.now }
+        ensures stands { KnowsGroups self.new.model.now self.new.numbers routes.now }
         ensures rule { IsSameRule (keeps_groups self.old.model.now) (keeps_groups self.new.model.now) }
         ensures same_weight { IsSameWeight (λ before later. 0) (λ before later. 0) }
         ensures count { _steps.new ≤ _steps.old + 0 }
@@ -290,12 +290,12 @@ impl<'m> PathFilter for GroupFilter<'m> {
     }
 
     fn prepare(&mut self, _routes: &Routes, _change: &Change) -> Result<(), NoMemory>
-        requires stands { StandsGroups self.old.model.now self.old.numbers _routes.now }
+        requires stands { KnowsGroups self.old.model.now self.old.numbers _routes.now }
         requires made { IsMadeOn _routes.now _change.now }
         requires passes { IsTrue (keeps_groups self.old.model.now (changed _routes.now.lists _change.now)) }
         ensures ready { OnOk result
             (IsGroupsReady self.new.model.now self.new.is_prepared _routes.now.lists _change.now) }
-        ensures stands { StandsGroups self.new.model.now self.new.numbers _routes.now }
+        ensures stands { KnowsGroups self.new.model.now self.new.numbers _routes.now }
         ensures rule { IsSameRule (keeps_groups self.old.model.now) (keeps_groups self.new.model.now) }
         ensures same_weight { IsSameWeight (λ before later. 0) (λ before later. 0) }
         ensures unready { OnErr result (NothingReady (λ tours parts.

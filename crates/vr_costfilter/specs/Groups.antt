@@ -1,0 +1,52 @@
+-- The penalties of groups.
+use Rattle.std.specs.Prelude.{◌≡◌, ℕ, ◌<◌, Bool, false, All, IsTrue, cond, List, [], ◌∷◌, length, Option, Some, None, ℤ, pos, negsuc}
+use Rattle.vr_model.specs.tables.Numbers.{number_at, total_by}
+use Rattle.vr_model.specs.tables.Tables.{visits}
+use Rattle.vr_model.specs.routes.Routes.{holds}
+use Rattle.vr_model.specs.routes.Rules.{is_valid}
+use Rattle.vr_model.specs.tables.WellFormed.{IsWellFormed}
+use Rattle.vr_model.specs.declared.records.Model.{Model}
+use Rattle.vr_model.specs.declared.records.Group.{Group}
+use Rattle.vr_routes.specs.Pieces.{nodes_of}
+use Rattle.vr_routes.specs.Tours.{Tours}
+use Rattle.vr_routes.specs.declared.pieces.Piece.{Piece}
+use Rattle.vr_costfilter.specs.Chains.{IsUpTo}
+
+-- what an active node of a group saves
+abbrev pub pay : Option ℤ → ℕ
+pay None = 0
+pay (Some (pos penalty)) = penalty
+pay (Some (negsuc n)) = 0
+
+-- what a node saves where it is active: the penalty of the first group that has it, 0 where there is none
+abbrev pub saved_by : List Group → ℕ → ℕ
+saved_by [] node = 0
+saved_by (group ∷ groups) node = cond (holds group.nodes node) (pay group.penalty) (saved_by groups node)
+
+-- what contracts see of the penalties
+pub record KeptGroups : Type 0 where
+  pub model : Model
+  pub saved : List ℤ
+  pub pays : Bool
+
+-- each node has what it saves
+pub record AreSaved (model : Model) (saved : List ℤ) : Type 0 where
+  pub long : length saved ≡ model.nodes
+  pub each : (node : ℕ) → node < model.nodes → number_at saved node ≡ pos (saved_by model.groups node)
+
+-- each is the penalty of one group at most
+abbrev pub AreFew : List ℤ → Type 0
+AreFew saved = (node : ℕ) → IsUpTo 1 (number_at saved node)
+
+-- what the nodes of pieces save
+abbrev pub saved_in : List ℤ → List (List ℕ) → List Piece → ℤ
+saved_in saved lists pieces = total_by (λ piece. total_by (number_at saved) (nodes_of lists piece)) pieces
+
+-- these are valid lists of the model, each node has what it saves, and some group has a penalty that is not 0 unless it
+-- is said that none pays
+pub record StandsGroups (kept : KeptGroups) (tours : Tours) : Type 0 where
+  pub well_formed : IsWellFormed kept.model
+  pub of_model : tours.visits ≡ visits kept.model
+  pub valid : IsTrue (is_valid kept.model tours.lists)
+  pub saved_are : AreSaved kept.model kept.saved
+  pub none_pays : kept.pays ≡ false → All (λ group. pay group.penalty ≡ 0) kept.model.groups

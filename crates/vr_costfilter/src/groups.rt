@@ -1,0 +1,229 @@
+//! The penalties of groups.
+
+ghost use Rattle.std.specs.Prelude.{◌≡◌, ◌<◌, ◌≤◌, ◌-ℤ◌, ℕ, ℤ, false, pos, All, IsTrue, IfOk, IsOk, OnOk, length};
+ghost use Rattle.vr_model.specs.tables.Numbers.{number_at, total_by};
+ghost use Rattle.vr_model.specs.tables.Tables.{visits};
+ghost use Rattle.vr_model.specs.tables.WellFormed.{greatest_cost, IsIn, IsWellFormed, WherePresent};
+ghost use Rattle.vr_model.specs.routes.Routes.{holds};
+ghost use Rattle.vr_model.specs.routes.Costs.{penalty_part};
+ghost use Rattle.vr_model.specs.routes.Rules.{is_valid};
+ghost use Rattle.vr_routes.specs.Changes.{IsMadeOn};
+ghost use Rattle.vr_routes.specs.Pieces.{changed, nodes_of, IsWithin};
+ghost use Rattle.vr_costfilter.specs.Bounds.{IsAround};
+ghost use Rattle.vr_costfilter.specs.Chains.{IsUpTo};
+ghost use Rattle.vr_costfilter.specs.Groups.{pay, saved_by, saved_in as saved_in_of, AreSaved, AreFew, StandsGroups};
+
+use crate::CostPart;
+use std::alloc::Global;
+use std::marker::Model;
+use vr_balance::Balance;
+use vr_model::{Group, Model as RoutingModel, NoMemory, Seq};
+use vr_routes::{Change, Piece, Routes};
+
+/// The penalties of groups whose nodes are not all active (`AddDisjunction` in OR-Tools). It looks at the nodes that
+/// become active or inactive alone.
+#[derive(Drop)]
+pub struct GroupCost<'m> {
+    model: &'m RoutingModel,
+    // for each node what it saves where it is active: the penalty of its group
+    saved: Seq<i64>,
+    // whether some group has a penalty that is not 0
+    pays: bool,
+    balance: Balance,
+}
+
+impl<'m> Model for GroupCost<'m> {
+    ghost use Rattle.vr_costfilter.specs.Groups.{KeptGroups};
+
+    ghost Value = { KeptGroups };
+
+    ghost view = { λ part. record { model = part.model.now; saved = part.saved; pays = part.pays } };
+}
+
+// What an active node of a group saves.
+fn penalty(group: &Group) -> i64
+    requires present { WherePresent (IsIn (pos 0) greatest_cost) group.now.penalty }
+    ensures value { result ≡ pos (pay group.now.penalty) }
+    ensures range { IsUpTo 1 result }
+{
+    match group.penalty {
+        Some(penalty) => penalty,
+        None => 0,
+    }
+}
+
+// Whether the group has the node.
+fn has_node(group: &Group, node: u32) -> bool
+    ensures { result ≡ holds group.now.nodes node }
+{
+    group.nodes.as_slice().contains(&node)
+}
+
+// What a node saves where it is active.
+fn saving(model: &RoutingModel, node: u32) -> i64
+    requires well_formed { IsWellFormed model.now }
+    ensures value { result ≡ pos (saved_by model.now.groups node) }
+    ensures range { IsUpTo 1 result }
+{
+    for g in 0..model.groups.len() {
+        let group = model.groups.get(g);
+        if has_node(group, node) {
+            return penalty(group);
+        }
+    }
+    0
+}
+
+// What each node saves where it is active.
+fn savings(alloc: Global, model: &RoutingModel) -> Result<Seq<i64>, NoMemory>
+    requires well_formed { IsWellFormed model.now }
+    ensures { IfOk result (AreSaved model.now) }
+{
+    let mut saved = Seq::new(alloc);
+    for node in 0..model.nodes {
+        saved.push(saving(model, node))?;
+    }
+    Ok(saved)
+}
+
+// Whether some group has a penalty that is not 0.
+fn is_some_paid(model: &RoutingModel) -> bool
+    requires well_formed { IsWellFormed model.now }
+    ensures { result ≡ false → All (λ group. pay group.penalty ≡ 0) model.now.groups }
+{
+    for g in 0..model.groups.len() {
+        if penalty(model.groups.get(g)) != 0 {
+            return true;
+        }
+    }
+    false
+}
+
+// What a node saves.
+#[inline]
+fn saved_at(saved: &Seq<i64>, node: u32) -> i64
+    requires few { AreFew saved.now }
+    ensures value { result ≡ number_at saved.now node }
+    ensures range { IsUpTo 1 result }
+{
+    if (node as usize) < saved.len() {
+        return *saved.get(node as usize);
+    }
+    0
+}
+
+// What some nodes save.
+fn saved_by_nodes(saved: &Seq<i64>, nodes: &[u32]) -> i64
+    requires few { AreFew saved.now }
+    requires few_nodes { length nodes.now ≤ 1000 }
+    ensures value { result ≡ total_by (number_at saved.now) nodes.now }
+    ensures range { IsUpTo 1000 result }
+{
+    let mut total = 0;
+    for k in 0..nodes.len() {
+        total += saved_at(saved, nodes[k]);
+    }
+    total
+}
+
+// What the nodes of a piece save.
+fn saved_by_piece(saved: &Seq<i64>, routes: &Routes, piece: Piece) -> i64
+    requires few { AreFew saved.now }
+    requires within { IsWithin routes.now.lists piece }
+    ensures value { result ≡ total_by (number_at saved.now) (nodes_of routes.now.lists piece) }
+    ensures range { IsUpTo 1000 result }
+{
+    match piece {
+        Piece::Node { node } => saved_by_nodes(saved, &[node]),
+        Piece::Chain {
+            vehicle,
+            from,
+            to,
+            ..
+        } => saved_by_nodes(saved, &routes.list(vehicle)[from as usize..to as usize]),
+    }
+}
+
+// What the nodes of pieces save.
+fn saved_in(saved: &Seq<i64>, routes: &Routes, pieces: &[Piece]) -> i64
+    requires few { AreFew saved.now }
+    requires within { All (IsWithin routes.now.lists) pieces.now }
+    requires few_pieces { length pieces.now ≤ 18 }
+    ensures value { result ≡ saved_in_of saved.now routes.now.lists pieces.now }
+    ensures range { IsUpTo 18000 result }
+{
+    let mut total = 0;
+    for k in 0..pieces.len() {
+        total += saved_by_piece(saved, routes, pieces[k]);
+    }
+    total
+}
+
+impl<'m> GroupCost<'m> {
+    /// The penalties at the lists of routes. The only refusal is want of memory.
+    pub fn open(
+        alloc: Global,
+        model: &'m RoutingModel,
+        routes: &Routes,
+    ) -> Result<GroupCost<'m>, NoMemory>
+        requires well_formed { IsWellFormed model.now }
+        requires of_model { routes.now.visits ≡ visits model.now }
+        requires valid { IsTrue (is_valid model.now routes.now.lists) }
+        ensures model { IfOk result (λ part. part.model ≡ model.now) }
+        ensures stands { IfOk result (λ part. StandsGroups part routes.now) }
+    {
+        let saved = savings(alloc, model)?;
+        let pays = is_some_paid(model);
+        Ok(GroupCost {
+            model,
+            saved,
+            pays,
+            balance: Balance::new(),
+        })
+    }
+}
+
+impl<'m> CostPart for GroupCost<'m> {
+    ghost use Rattle.std.specs.Prelude.{List};
+
+    ghost model = { λ part. part.model };
+
+    ghost value = { penalty_part };
+
+    ghost stands_at = { StandsGroups };
+
+    ghost ready = { λ part tours parts. Unit {0} };
+
+    fn difference(&mut self, routes: &Routes, change: &Change) -> Result<i64, NoMemory>
+        requires stands { StandsGroups self.old routes.now }
+        requires made { IsMadeOn routes.now change.now }
+        requires valid { IsTrue (is_valid self.old.model (changed routes.now.lists change.now)) }
+        ensures exact { IfOk result (λ difference. difference
+            ≡ penalty_part self.old.model (changed routes.now.lists change.now)
+            -ℤ penalty_part self.old.model routes.now.lists) }
+        ensures stands { StandsGroups self.new routes.now }
+        ensures model { self.new.model ≡ self.old.model }
+        ensures memory { IsOk result }
+        ensures range { IfOk result (IsAround 21990232555520000) }
+    {
+        if !self.pays {
+            return Ok(0);
+        }
+        self.balance.write(routes, change);
+        let gone = saved_in(&self.saved, routes, self.balance.gone());
+        let come = saved_in(&self.saved, routes, self.balance.come());
+        Ok(gone - come)
+    }
+
+    fn prepare(&mut self, _routes: &Routes, _change: &Change) -> Result<(), NoMemory>
+        requires stands { StandsGroups self.old _routes.now }
+        ensures ready { OnOk result (Unit {0}) }
+        ensures stands { StandsGroups self.new _routes.now }
+        ensures model { self.new.model ≡ self.old.model }
+        ensures memory { IsOk result }
+    {
+        Ok(())
+    }
+
+    fn commit(&mut self, _routes: &Routes, _change: &Change) {}
+}
