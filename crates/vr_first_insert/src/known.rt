@@ -2,7 +2,7 @@
 
 ghost use Rattle.std.specs.Prelude.{◌≡◌, ℕ, ◌<◌, IfOk, length, replicate, slice_set};
 ghost use Rattle.vr_model.specs.tables.WellFormed.{IsWellFormed};
-ghost use Rattle.vr_rules.specs.Tables.{AreTables};
+ghost use Rattle.vr_timings.specs.Tables.{AreTables};
 ghost use Rattle.vr_first_insert.specs.Kept.{best_of, better_choice, row_at, AddsAtLeast, IsKnown};
 ghost use Rattle.vr_first_insert.specs.Placings.{best_in, MayHold};
 ghost use Rattle.vr_first_insert.specs.declared.known.Known.TheVariants.{Nothing};
@@ -13,7 +13,8 @@ use crate::room::Room;
 use crate::search::best_in_list;
 use std::alloc::Global;
 use vr_model::{Model, NoMemory, Seq};
-use vr_rules::{Candidate, Item, Table};
+use vr_rules::{Candidate, Item};
+use vr_timings::Table;
 
 /// What is known of an item in a list.
 #[derive(Clone, Copy, Drop)]

@@ -10,7 +10,7 @@ ghost use Rattle.vr_model.specs.routes.Routes.{route};
 ghost use Rattle.vr_model.specs.tables.WellFormed.{IsWellFormed};
 ghost use Rattle.vr_rules.specs.Placing.{nodes_of, AreBuilt, AreCandidates, AreMarks};
 ghost use Rattle.vr_rules.specs.declared.items.Item.TheVariants.{Visit, PickupAndDelivery};
-ghost use Rattle.vr_rules.specs.Tables.{AreTables};
+ghost use Rattle.vr_timings.specs.Tables.{AreTables};
 ghost use Rattle.vr_first_insert.specs.Kept.{AreKnown, AreRows};
 ghost use Rattle.vr_first_insert.specs.Placings.{best_beside, best_in, best_in_lists as best_in_lists_of};
 ghost use Rattle.vr_first_insert.specs.Placings.{counts as counts_of, insertion_of, item_in, pair_choice};
@@ -23,7 +23,8 @@ use crate::known::{Known, asked, better_of, forget};
 use crate::place::{place_in, write_placed};
 use crate::room::Room;
 use vr_model::{Model, NoMemory, Seq};
-use vr_rules::{Candidate, Item, Table, groups_have_room, is_route_open, mark_item};
+use vr_rules::{Candidate, Item, groups_have_room, is_route_open, mark_item};
+use vr_timings::Table;
 
 // The better of the best so far and a choice in a list, which is tested only where it improves.
 fn consider(

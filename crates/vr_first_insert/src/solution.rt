@@ -15,7 +15,8 @@ use crate::search::insert_all;
 use std::alloc::Global;
 use vr_model::{Model, NoMemory, Seq};
 use vr_routes::Routes;
-use vr_rules::{active_marks, candidates, is_complete, tables_of};
+use vr_rules::{active_marks, candidates, is_complete};
+use vr_timings::tables_of;
 
 // Copies of the lists of routes.
 fn copies(alloc: Global, routes: &Routes) -> Result<Vec<Seq<u32>>, NoMemory>

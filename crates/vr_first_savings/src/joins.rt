@@ -7,7 +7,7 @@ ghost use Rattle.vr_model.specs.routes.Routes.{route};
 ghost use Rattle.vr_model.specs.first.SavingsJoins.{join_key, joins};
 ghost use Rattle.vr_model.specs.tables.Tables.{arc_cost};
 ghost use Rattle.vr_model.specs.tables.WellFormed.{IsWellFormed};
-ghost use Rattle.vr_rules.specs.Tables.{AreTables};
+ghost use Rattle.vr_timings.specs.Tables.{AreTables};
 ghost use Rattle.vr_first_savings.specs.Joins.{best_behind as best_behind_of, choice_at as choice_at_of, join_of};
 ghost use Rattle.vr_first_savings.specs.Joins.{weigh, AreApart, MayBeJoined};
 ghost use Rattle.vr_first_savings.specs.RouteEnds.{ends_of, AreEnds};
@@ -16,7 +16,8 @@ use crate::choice::{Choice, improves};
 use crate::ends::{Ends, ends_of_each};
 use std::alloc::Global;
 use vr_model::{Model, NoMemory, Seq};
-use vr_rules::{Driving, Table, is_route_open};
+use vr_rules::{Driving, is_route_open};
+use vr_timings::Table;
 
 // What it saves to drive from the last node of one route to the first of another, and not over the end and the start.
 fn saved(model: &Model, front: Ends, back: Ends) -> i64

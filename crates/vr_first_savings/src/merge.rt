@@ -6,14 +6,15 @@ ghost use Rattle.vr_model.specs.first.Items.{first_node};
 ghost use Rattle.vr_model.specs.routes.Routes.{route};
 ghost use Rattle.vr_model.specs.first.SavingsJoins.{joined as joined_by, merged as merged_of};
 ghost use Rattle.vr_model.specs.tables.WellFormed.{IsWellFormed};
-ghost use Rattle.vr_rules.specs.Tables.{AreTables};
+ghost use Rattle.vr_timings.specs.Tables.{AreTables};
 ghost use Rattle.vr_first_savings.specs.Joins.{join_of, AreApart};
 
 use crate::choice::Choice;
 use crate::joins::{best_join, joined};
 use std::alloc::Global;
 use vr_model::{Model, NoMemory, Seq};
-use vr_rules::{Driving, Table};
+use vr_rules::Driving;
+use vr_timings::Table;
 
 // Puts a copy of a route behind others, where its first node is neither of two.
 fn keep_other(

@@ -14,7 +14,8 @@ use crate::singles::single_routes;
 use std::alloc::Global;
 use vr_model::{Model, NoMemory, Seq};
 use vr_routes::Routes;
-use vr_rules::{Driving, tables_of, valid};
+use vr_rules::{Driving, valid};
+use vr_timings::tables_of;
 
 // The lists at which the construction ends.
 fn lists_by_savings(alloc: Global, model: &Model) -> Result<Vec<Seq<u32>>, NoMemory>

@@ -63,13 +63,6 @@ visits_taken model list zero visits = refl
 visits_taken model [] (suc k) visits = refl
 visits_taken model (n ∷ ns) (suc k) visits = and_both (is_visit model n) _ (and_left (is_visit model n) _ visits) (visits_taken model ns k (and_right (is_visit model n) _ visits))
 
--- what holds of each entry at its place holds with one entry more
-pub each_push : {A : Type 0} (P : ℕ → A → Type 0) (xs : List A) (x : A) → ((k : ℕ) (d : A) → k < length xs → P k (get_or xs k d)) → P (length xs) x → (k : ℕ) (d : A) → k < length (xs ++ x ∷ []) → P k (get_or (xs ++ x ∷ []) k d)
-each_push P [] x each last zero d lt = last
-each_push P [] x each last (suc k) d lt = absurd (omega (arith, lt))
-each_push P (y ∷ ys) x each last zero d lt = each zero d (omega arith)
-each_push P (y ∷ ys) x each last (suc k) d lt = each_push (λ j. P (suc j)) ys x (λ j e less. each (suc j) e (omega (arith, less))) last k d (omega (arith, lt))
-
 -- what was made of the entries before a place, and what stays of those behind it
 pub moved_more : {A : Type 0} (P : ℕ → A → Type 0) (xs : List A) (n : ℕ) (x : A) → n < length xs → ((k : ℕ) (d : A) → k < n → k < length xs → P k (get_or xs k d)) → P n x
     → (k : ℕ) (d : A) → k < n + 1 → k < length (set xs n x) → P k (get_or (set xs n x) k d)

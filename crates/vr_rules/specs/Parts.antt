@@ -1,23 +1,19 @@
 -- What the chosen schedules of lists cost in the first dimensions.
-use Rattle.std.specs.Prelude.{◌≡◌, ℕ, ◌*◌, List, ℤ, pos, ◌*ℤ◌, ◌≤ℤ◌}
+use Rattle.std.specs.Prelude.{◌≡◌, ℕ, ◌*◌, List, ℤ, pos, ◌≤ℤ◌}
 use Rattle.vr_model.specs.tables.Numbers.{total_by, below}
-use Rattle.vr_model.specs.tables.Tables.{dimension_at}
 use Rattle.vr_model.specs.routes.Routes.{route, used_vehicles}
-use Rattle.vr_model.specs.routes.Costs.{assigned, global_span}
 use Rattle.vr_model.specs.declared.records.Model.{Model}
-use Rattle.vr_rules.specs.Bounds.{IsAround}
-use Rattle.vr_rules.specs.Sums.{soft_with, span_with}
+use Rattle.vr_timings.specs.Bounds.{cumul_cost, IsAround}
+use Rattle.vr_timings.specs.Extents.{global_in}
+use Rattle.vr_timings.specs.Timings.{soft_with, span_with}
 use Rattle.vr_rules.specs.declared.parts.Timed.{Timed}
 
--- what a dimension costs by soft upper bounds, by spans, and by the global span
+-- what a dimension costs by soft upper bounds, and by spans
 abbrev pub soft_in : Model → List (List ℕ) → ℕ → ℤ
 soft_in model lists d = total_by (λ v. soft_with model d v (route lists v)) (used_vehicles lists)
 
 abbrev pub span_in : Model → List (List ℕ) → ℕ → ℤ
 span_in model lists d = total_by (λ v. span_with model d v (route lists v)) (used_vehicles lists)
-
-abbrev pub global_in : Model → List (List ℕ) → ℕ → ℤ
-global_in model lists d = (dimension_at model d).global_span_cost *ℤ global_span (assigned model lists) d
 
 -- the costs of the first n dimensions
 pub record AreTimed (model : Model) (lists : List (List ℕ)) (n : ℕ) (timed : Timed) : Type 0 where
@@ -25,6 +21,6 @@ pub record AreTimed (model : Model) (lists : List (List ℕ)) (n : ℕ) (timed :
   pub span : timed.span ≡ total_by (span_in model lists) (below n)
   pub global : timed.global ≡ total_by (global_in model lists) (below n)
   pub soft_not_negative : pos 0 ≤ℤ timed.soft
-  pub soft_bound : timed.soft ≤ℤ pos (687200000000000 * 1200 * n)
-  pub span_in_range : IsAround (687200000000000 * 100 * n) timed.span
-  pub global_in_range : IsAround (687200000000000 * n) timed.global
+  pub soft_bound : timed.soft ≤ℤ pos (cumul_cost * 1200 * n)
+  pub span_in_range : IsAround (cumul_cost * 100 * n) timed.span
+  pub global_in_range : IsAround (cumul_cost * n) timed.global

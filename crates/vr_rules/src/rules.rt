@@ -13,13 +13,12 @@ ghost use Rattle.vr_rules.specs.Totals.{HasTotal};
 use crate::marks::write_marks;
 use crate::parts::parts_of;
 use crate::routes_open::{Driving, is_route_open};
-use crate::tables::{Table, tables_of};
-use crate::timings::Timer;
 use crate::validity::{is_open, is_valid};
 use std::alloc::Global;
 use std::marker::Model;
 use vr_model::{Model as RoutingModel, NoMemory, Parts};
 use vr_routes::Routes;
+use vr_timings::{Table, Timer, tables_of};
 
 /// The rules of a model, ready to be asked of any lists. Contracts see the model, which no call changes.
 ///
@@ -45,7 +44,7 @@ struct Kept {
 
 impl<'m> Model for Rules<'m> {
     ghost use Rattle.vr_model.specs.declared.records.Model.{Model as Defined};
-    ghost use Rattle.vr_rules.specs.Tables.{AreRules};
+    ghost use Rattle.vr_timings.specs.Tables.{AreRules};
 
     ghost Value = { Defined };
 

@@ -1,30 +1,21 @@
 //! What the chosen schedules of routes cost in one dimension, added up over the vehicles.
 
-ghost use Rattle.std.specs.Prelude.{◌≡◌, ℕ, ◌<◌, ◌+◌, ◌*◌, ◌+ℤ◌, ◌*ℤ◌, ◌-ℤ◌, ◌≤ℤ◌};
-ghost use Rattle.std.specs.Prelude.{pos, All, IfOk, IfSome, IsSome, IsTrue, false, length, slice_index};
-ghost use Rattle.std.specs.Option.{option_copied};
-ghost use Rattle.vr_model.specs.tables.Numbers.{horizon, number_at};
-ghost use Rattle.vr_model.specs.tables.Tables.{row_of};
+ghost use Rattle.std.specs.Prelude.{◌≡◌, ◌<◌, ◌+◌, ◌*◌, ◌+ℤ◌, ◌*ℤ◌, ◌-ℤ◌, ◌≤ℤ◌};
+ghost use Rattle.std.specs.Prelude.{pos, All, IfOk, IfSome, IsSome, IsTrue, false, length};
+ghost use Rattle.std.specs.List.{list_all};
+ghost use Rattle.vr_model.specs.tables.Numbers.{number_at};
+ghost use Rattle.vr_model.specs.tables.Tables.{dimension_at, is_visit};
 ghost use Rattle.vr_model.specs.tables.WellFormed.{IsIn, IsWellFormed};
 ghost use Rattle.vr_model.specs.routes.Routes.{are_lists};
-ghost use Rattle.vr_rules.specs.Bounds.{IsAround};
-ghost use Rattle.vr_rules.specs.Timings.{IsTimingOf};
-ghost use Rattle.vr_rules.specs.Sums.{has_soft, start_beside, last_beside, length_of};
-ghost use Rattle.vr_rules.specs.Sums.{AreFree, AreSums, IsExtentInRange, IsWider, PaysNothing};
-ghost use Rattle.vr_rules.specs.Places.{ArePlaces};
-ghost use Rattle.vr_rules.specs.Tables.{keys_of, IsTable};
+ghost use Rattle.vr_timings.specs.Bounds.{cumul_cost, IsAround};
+ghost use Rattle.vr_timings.specs.Extents.{IsWider};
+ghost use Rattle.vr_timings.specs.Tables.{IsTable};
+ghost use Rattle.vr_timings.specs.Timings.{IsTimingOf};
+ghost use Rattle.vr_rules.specs.Sums.{AreSums, PaysNothingToo};
 
-use crate::tables::{Table, row_of};
-use crate::timings::{Timer, Timing, times, timing_of};
-use vr_model::{Dimension, Model, NoMemory, StopRow};
+use vr_model::{Dimension, Model, NoMemory};
 use vr_routes::Routes;
-
-// The least cumul of a start and the greatest of an end.
-#[derive(Clone, Copy)]
-pub(crate) struct Extent {
-    pub(crate) start: i64,
-    pub(crate) last: i64,
-}
+use vr_timings::{Extent, Table, Timer, Timing, may_pay_alone, span_cost, timing_of, wider};
 
 // What soft upper bounds and spans cost, and the extent of the routes that may pay, `None` where none does. It is that
 // of all routes where the coefficient of the global span is not 0, and asked for only then.
@@ -35,82 +26,20 @@ pub(crate) struct Sums {
     pub(crate) extent: Option<Extent>,
 }
 
-// Whether the row of a stop has a soft upper bound.
-fn has_soft(row: Option<&StopRow>) -> bool
-    ensures { result ≡ has_soft (option_copied row.entry) }
+// Whether schedules of a list may cost anything: the global span has a coefficient, or they may cost something by
+// themselves.
+fn may_pay(model: &Model, table: &Table, d: u32, v: u32, list: &[u32]) -> bool
+    requires well_formed { IsWellFormed model.now }
+    requires dimension { d < length model.now.dimensions }
+    requires vehicle { v < length model.now.vehicles }
+    requires visits { IsTrue (list_all (is_visit model.now) list.now) }
+    requires table { IsTable model.now d table.now }
+    ensures { result ≡ false → PaysNothingToo (dimension_at model.now d) v list.now }
 {
-    match row {
-        Some(row) => row.soft.is_some(),
-        None => false,
-    }
-}
-
-// Whether some visit of a list has a soft upper bound.
-fn visits_soft(dimension: &Dimension, places: &[u32], list: &[u32]) -> bool
-    requires places { ArePlaces (length places.now) (keys_of dimension.now.nodes) places.now }
-    requires list { All (λ node. node < length places.now) list.now }
-    ensures { result ≡ false → AreFree dimension.now list.now }
-{
-    for &node in list {
-        if has_soft(row_of(&dimension.nodes, places, node)) {
-            return true;
-        }
-    }
-    false
-}
-
-// Whether schedules of a list may cost anything: there is a coefficient of spans, or some stop has a soft upper bound.
-fn may_pay(dimension: &Dimension, places: &[u32], v: u32, list: &[u32]) -> bool
-    requires vehicle { v < length dimension.now.span_costs }
-    requires places { ArePlaces (length places.now) (keys_of dimension.now.nodes) places.now }
-    requires list { All (λ node. node < length places.now) list.now }
-    ensures { result ≡ false → PaysNothing dimension.now v list.now }
-{
-    if dimension.global_span_cost != 0 {
+    if model.dimensions.get(d as usize).global_span_cost != 0 {
         return true;
     }
-    if *dimension.span_costs.get(v as usize) != 0 {
-        return true;
-    }
-    if has_soft(StopRow::of_key(&dimension.starts, v)) {
-        return true;
-    }
-    if has_soft(StopRow::of_key(&dimension.ends, v)) {
-        return true;
-    }
-    visits_soft(dimension, places, list)
-}
-
-// The extent with one route more.
-fn wider(extent: Option<Extent>, timing: Timing) -> Extent
-    ensures start { result.start ≡ start_beside extent timing.start }
-    ensures last { result.last ≡ last_beside extent timing.last }
-{
-    match extent {
-        None => Extent {
-            start: timing.start,
-            last: timing.last,
-        },
-        Some(extent) => Extent {
-            start: extent.start.min(timing.start),
-            last: extent.last.max(timing.last),
-        },
-    }
-}
-
-// What the span of a schedule costs.
-fn span_cost(dimension: &Dimension, v: u32, timing: Timing) -> i64
-    requires vehicle { v < length dimension.now.span_costs }
-    requires coefficients { All (IsIn (pos 0) (pos 10000)) dimension.now.span_costs }
-    requires start { IsIn (pos 0) horizon timing.start }
-    requires last { IsIn (pos 0) horizon timing.last }
-    ensures value { result ≡ (number_at dimension.now.span_costs v *ℤ (timing.last -ℤ timing.start)) }
-    ensures range { IsAround 687200000000000 result }
-{
-    times(
-        *dimension.span_costs.get(v as usize),
-        timing.last - timing.start,
-    )
+    may_pay_alone(model, table, d, v, list)
 }
 
 // The sums with one used vehicle more, from what its schedule comes to.
@@ -119,11 +48,11 @@ fn with_timing(dimension: &Dimension, v: u32, timing: Timing, sums: Sums) -> Sum
     requires coefficients { All (IsIn (pos 0) (pos 10000)) dimension.now.span_costs }
     requires timing { IsTimingOf 1002 timing }
     requires not_negative { pos 0 ≤ℤ sums.soft }
-    requires bound { sums.soft ≤ℤ pos (687200000000000 * 2000) }
-    requires span { IsAround (687200000000000 * 100) sums.span }
+    requires bound { sums.soft ≤ℤ pos (cumul_cost * 2000) }
+    requires span { IsAround (cumul_cost * 100) sums.span }
     ensures soft { result.soft ≡ (sums.soft +ℤ timing.soft) }
     ensures span { result.span ≡ (sums.span +ℤ number_at dimension.now.span_costs v *ℤ (timing.last -ℤ timing.start)) }
-    ensures range { IsAround 687200000000000 (number_at dimension.now.span_costs v *ℤ (timing.last -ℤ timing.start)) }
+    ensures range { IsAround cumul_cost (number_at dimension.now.span_costs v *ℤ (timing.last -ℤ timing.start)) }
     ensures extent { IfSome result.extent (IsWider sums.extent timing) }
     ensures some { IsSome result.extent }
 {
@@ -156,11 +85,11 @@ fn with_vehicle(
     if list.is_empty() {
         return Ok(sums);
     }
-    let dimension = model.dimensions.get(d as usize);
-    if !may_pay(dimension, &table.rows, v, list) {
+    if !may_pay(model, table, d, v, list) {
         return Ok(sums);
     }
     let timing = timing_of(model, table, d, v, list, timer)?;
+    let dimension = model.dimensions.get(d as usize);
     Ok(with_timing(dimension, v, timing, sums))
 }
 
@@ -187,17 +116,4 @@ pub(crate) fn sums_of(
         sums = with_vehicle(model, table, d, routes, v, sums, timer)?;
     }
     Ok(sums)
-}
-
-// What the extent of all routes costs.
-pub(crate) fn global_cost(dimension: &Dimension, extent: Option<Extent>) -> i64
-    requires coefficient { IsIn (pos 0) (pos 10000) dimension.now.global_span_cost }
-    requires range { IfSome extent IsExtentInRange }
-    ensures value { result ≡ (dimension.now.global_span_cost *ℤ length_of extent) }
-    ensures range { IsAround 687200000000000 result }
-{
-    match extent {
-        None => 0,
-        Some(extent) => times(dimension.global_span_cost, extent.last - extent.start),
-    }
 }

@@ -1,15 +1,10 @@
-use Rattle.std.proofs.Common.{◌∙◌, ap, sym, arith}
+use Rattle.std.proofs.Common.{◌≡◌, ◌∙◌, ap, arith}
 use Rattle.std.proofs.lemmas.Int.{ints}
 use Rattle.std.specs.Prelude.{pos}
-use Rattle.vr_rules.specs.Sums.{has_soft}
-use Rattle.vr_rules.proofs.SumLemmas.{pays_nothing}
+use Rattle.vr_model.specs.tables.Tables.{no_dimension}
 use Rattle.vr_rules.proofs.sums.may_pay.Goals as goal
 
 pub returns : goal.returns
 returns c idle =
-    pays_nothing c.args.dimension.now c.args.v c.args.list.now
-    (omega (arith, ints, c.if-dimension-ne0.false))
-    (c.get.ensures.value (pos 0) ∙ omega (arith, ints, c.if-get-ne0.false))
-    (ap has_soft (sym c.of_key.ensures.value) ∙ sym c.has_soft.ensures ∙ c.if-has_soft.false)
-    (ap has_soft (sym c.of_key-2.ensures.value) ∙ sym c.has_soft-2.ensures ∙ c.if-has_soft-2.false)
-    (c.visits_soft.ensures idle)
+    let none : c.get.result.now.global_span_cost ≡ pos 0 = omega (arith, ints, c.if-get-ne0.false) in
+    record { global = ap (λ x. x.global_span_cost) (c.get.ensures.value no_dimension) ∙ none; alone = c.may_pay_alone.ensures idle }

@@ -7,11 +7,10 @@ use Rattle.vr_model.specs.tables.Tables.{dimension_at, is_visit, no_dimension}
 use Rattle.vr_model.specs.routes.Routes.{route, is_distinct}
 use Rattle.vr_model.proofs.tables.Tests.{none_from_test, some_from_test}
 use Rattle.vr_model.proofs.routes.Lists.{empty_where, not_empty, route-visits, route-distinct, are_lists-count}
-use Rattle.vr_rules.specs.Bounds.{IsAround}
-use Rattle.vr_rules.specs.Sums.{PaysNothing}
-use Rattle.vr_rules.specs.Timings.{IsTiming, IsTimingOf}
+use Rattle.vr_timings.specs.Bounds.{cumul_cost, IsAround}
+use Rattle.vr_rules.specs.Sums.{PaysNothingToo}
+use Rattle.vr_timings.specs.Timings.{IsTiming, IsTimingOf}
 use Rattle.vr_rules.proofs.SumLemmas.{AreSums-unused, AreSums-unpaid, AreSums-taken, visits-bound}
-use Rattle.vr_rules.proofs.TableLemmas.{nodes_here, places_here}
 use Rattle.vr_rules.proofs.sums.with_vehicle.Goals as goal
 
 pub timing_of-requires-clause-visits : goal.timing_of-requires-clause-visits
@@ -20,12 +19,8 @@ timing_of-requires-clause-visits c = ap (list_all (is_visit c.args.model.now)) c
 pub timing_of-requires-clause-distinct : goal.timing_of-requires-clause-distinct
 timing_of-requires-clause-distinct c = ap is_distinct c.list-list.ensures.value ∙ route-distinct c.args.model.now c.args.routes.now.lists c.args.v c.requires.lists
 
-pub may_pay-requires-clause-places : goal.may_pay-requires-clause-places
-may_pay-requires-clause-places c = places_here c.args.model.now c.args.d c.args.table.now c.requires.table c.deref.result.now c.deref.ensures.value c.get-dimension.result.now (c.get-dimension.ensures.value no_dimension)
-
-pub may_pay-requires-clause-list : goal.may_pay-requires-clause-list
-may_pay-requires-clause-list c = nodes_here c.args.model.now c.args.d c.args.table.now c.requires.table c.deref.result.now c.deref.ensures.value c.list-list.result.now
-    (ap (list_all (is_visit c.args.model.now)) c.list-list.ensures.value ∙ route-visits c.args.model.now c.args.routes.now.lists c.args.v c.requires.lists)
+pub may_pay-requires-clause-visits : goal.may_pay-requires-clause-visits
+may_pay-requires-clause-visits c = ap (list_all (is_visit c.args.model.now)) c.list-list.ensures.value ∙ route-visits c.args.model.now c.args.routes.now.lists c.args.v c.requires.lists
 
 pub returns-then-is_empty : goal.returns-then-is_empty
 returns-then-is_empty c =
@@ -39,8 +34,7 @@ returns-then-not-may_pay c =
     let v = c.args.v in
     AreSums-unpaid c.args.model.now lists c.args.d v c.requires.vehicle c.args.sums c.requires.sums
     (not_empty (route lists v) (subst (λ list. 0 < length list) c.list-list.ensures.value (some_from_test _ _ c.if-is_empty.false c.is_empty.ensures)))
-    (subst (λ x. PaysNothing x v (route lists v)) (sym (c.get-dimension.ensures.value no_dimension))
-    (subst (PaysNothing c.get-dimension.result.now v) c.list-list.ensures.value (c.may_pay.ensures c.if-not-may_pay.true)))
+    (subst (PaysNothingToo (dimension_at c.args.model.now c.args.d) v) c.list-list.ensures.value (c.may_pay.ensures c.if-not-may_pay.true))
 
 pub with_timing-requires-clause-bound : goal.with_timing-requires-clause-bound
 with_timing-requires-clause-bound c =
@@ -76,5 +70,5 @@ returns c =
     (subst (λ l. IsTimingOf (length l + 2) timing) list c.in_ok-timing.ensures.range)
     made.soft
     (made.span ∙ ap (λ x. c.args.sums.span +ℤ number_at x.span_costs v *ℤ (timing.last -ℤ timing.start)) (sym dimension))
-    (subst (λ x. IsAround 687200000000000 (number_at x.span_costs v *ℤ (timing.last -ℤ timing.start))) (sym dimension) made.range)
+    (subst (λ x. IsAround cumul_cost (number_at x.span_costs v *ℤ (timing.last -ℤ timing.start))) (sym dimension) made.range)
     made.some made.extent

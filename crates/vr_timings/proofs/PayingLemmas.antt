@@ -1,0 +1,60 @@
+-- Where no stop has a soft bound, nothing is paid for soft bounds.
+use Rattle.std.proofs.Common.{◌≡◌, ◌<◌, ℕ, zero, suc, List, [], ◌∷◌, ◌++◌, Bool, true, false, cond, not, length, map, get_or, refl, ap, ap₂, arith, Option, Some, None}
+use Rattle.std.specs.Prelude.{ℤ, pos, ◌&&◌, ◌==◌, is_some, slice_index}
+use Rattle.std.specs.List.{list_all, zip}
+use Rattle.std.proofs.lemmas.Int.{ints}
+use Rattle.vr_model.specs.declared.records.Dimension.{Dimension}
+use Rattle.vr_model.specs.declared.records.StopRow.{StopRow}
+use Rattle.vr_model.specs.declared.records.Soft.{Soft}
+use Rattle.vr_model.specs.tables.Numbers.{number_at, total_by}
+use Rattle.vr_model.specs.tables.Tables.{row_of}
+use Rattle.vr_model.specs.routes.Costs.{row_cost, soft_cost}
+use Rattle.vr_model.specs.schedules.Lines.{stop_rows}
+use Rattle.vr_model.specs.deciding.Testing.{and_left, and_right}
+use Rattle.vr_model.proofs.tables.Tests.{fails_not}
+use Rattle.vr_timings.specs.Paying.{has_soft, PaysNothing}
+
+no_cost : (row : Option StopRow) (x : ℤ) → has_soft row ≡ false → row_cost row x ≡ pos 0
+no_cost None x h = refl
+no_cost (Some row) x h = by row.soft refl h
+  where
+    by : (soft : Option Soft) → row.soft ≡ soft → is_some soft ≡ false → soft_cost row.soft x ≡ pos 0
+    by None e h = ap (λ o. soft_cost o x) e
+    by (Some soft) e h = absurd (cc)
+
+no_costs : (rows : List (Option StopRow)) (xs : List ℤ) → list_all (λ row. not (has_soft row)) rows ≡ true → total_by (λ stop. row_cost stop.0 stop.1) (zip rows xs) ≡ pos 0
+no_costs [] xs h = refl
+no_costs (row ∷ rows) [] h = refl
+no_costs (row ∷ rows) (x ∷ xs) h =
+    let a = no_cost row x (fails_not (has_soft row) (and_left (not (has_soft row)) _ h)) in
+    let b = no_costs rows xs (and_right (not (has_soft row)) _ h) in
+    omega (arith, ints, a, b)
+
+-- the rows of the visits
+visits_free : (g : ℕ → Option StopRow) (last : Option StopRow) (list : List ℕ) → ((k : ℕ) → k < length list → has_soft (g (slice_index list k)) ≡ false) → has_soft last ≡ false
+    → list_all (λ row. not (has_soft row)) (map g list ++ last ∷ []) ≡ true
+visits_free g last [] each h = ap (λ b. not b && true) h
+visits_free g last (x ∷ xs) each h = ap₂ (λ a b. not a && b) (each 0 (omega arith)) (visits_free g last xs (λ k low. each (suc k) (omega (arith, low))) h)
+
+pub pays_nothing : (dimension : Dimension) (v : ℕ) (list : List ℕ) → number_at dimension.span_costs v ≡ pos 0
+    → has_soft (row_of dimension.starts v) ≡ false → has_soft (row_of dimension.ends v) ≡ false
+    → ((k : ℕ) → k < length list → has_soft (row_of dimension.nodes (slice_index list k)) ≡ false) → PaysNothing dimension v list
+pays_nothing dimension v list span start last each = record {
+  span = span;
+  soft = λ cumuls. no_costs (stop_rows dimension v list) cumuls (ap₂ (λ a b. not a && b) start (visits_free (row_of dimension.nodes) (row_of dimension.ends v) list each last));
+}
+
+found_free : (b : Bool) (row : StopRow) (rest : Option StopRow) → is_some row.soft ≡ false → has_soft rest ≡ false → has_soft (cond b (Some row) rest) ≡ false
+found_free true row rest here e = here
+found_free false row rest here e = e
+
+-- where no row has a soft bound, none that is found has
+pub row_free : (rows : List StopRow) → ((k : ℕ) (d : StopRow) → k < length rows → is_some (get_or rows k d).soft ≡ false) → (key : ℕ) → has_soft (row_of rows key) ≡ false
+row_free [] free key = refl
+row_free (row ∷ rows) free key = found_free (row.key == key) row (row_of rows key) (free 0 row (omega arith)) (row_free rows (λ k d low. free (suc k) d (omega (arith, low))) key)
+
+-- a number that is not there is read as 0
+pub none_read : (xs : List ℤ) → ((k : ℕ) → k < length xs → number_at xs k ≡ pos 0) → (k : ℕ) → number_at xs k ≡ pos 0
+none_read [] zeros k = refl
+none_read (x ∷ xs) zeros zero = zeros 0 (omega arith)
+none_read (x ∷ xs) zeros (suc k) = none_read xs (λ j low. zeros (suc j) (omega (arith, low))) k

@@ -1,0 +1,6 @@
+pub mod Bounds
+pub mod Extents
+pub mod Paying
+pub mod Places
+pub mod Tables
+pub mod Timings

@@ -1,0 +1,30 @@
+-- What is looked up once of each dimension of a model.
+use Rattle.std.specs.Prelude.{◌≡◌, ℕ, ◌<◌, IsTrue, List, length, map, slice_index_or}
+use Rattle.vr_model.specs.tables.Tables.{dimension_at}
+use Rattle.vr_model.specs.tables.WellFormed.{IsWellFormed}
+use Rattle.vr_model.specs.declared.records.Model.{Model}
+use Rattle.vr_model.specs.declared.records.StopRow.{StopRow}
+use Rattle.vr_walks.specs.Stops.{AreStops}
+use Rattle.vr_timings.specs.Paying.{PaysNothing}
+use Rattle.vr_timings.specs.Places.{ArePlaces}
+use Rattle.vr_timings.specs.declared.tables.Table.{Table}
+
+-- the keys of rows
+abbrev pub keys_of : List StopRow → List ℕ
+keys_of rows = map (λ row. row.key) rows
+
+-- what the stops of dimension d ask, for each node the place of its row, and that its lists pay nothing where it says so
+pub record IsTable (model : Model) (d : ℕ) (table : Table) : Type 0 where
+  pub stops_ask : AreStops model d table.stops
+  pub places : ArePlaces model.nodes (keys_of (dimension_at model d).nodes) table.rows.items
+  pub free : IsTrue table.is_free → (v : ℕ) (list : List ℕ) → PaysNothing (dimension_at model d) v list
+
+-- the same of each dimension
+pub record AreTables (model : Model) (tables : List Table) : Type 0 where
+  pub one_of_each : length tables ≡ length model.dimensions
+  pub each : (d : ℕ) (other : Table) → d < length tables → IsTable model d (slice_index_or tables d other)
+
+-- the model is well formed, and the tables are those of its dimensions
+pub record AreRules (model : Model) (tables : List Table) : Type 0 where
+  pub well_formed : IsWellFormed model
+  pub of_dimensions : AreTables model tables
