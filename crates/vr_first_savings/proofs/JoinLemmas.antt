@@ -17,7 +17,7 @@ use Rattle.vr_model.specs.deciding.Testing.{and_both}
 use Rattle.vr_model.proofs.tables.Tests.{clash, fails}
 use Rattle.vr_model.proofs.tables.Ranges.{below-more}
 use Rattle.vr_model.proofs.routes.Lists.{list_all-route, is_distinct-route, is_distinct-right}
-use Rattle.vr_rules.proofs.RouteLemmas.{visits-below}
+use Rattle.vr_lists.proofs.VisitLists.{visits-below}
 use Rattle.vr_rules.proofs.PlacingLemmas.{inactive-route, is_distinct-apart, is_distinct-both}
 use Rattle.vr_model.proofs.routes.Lists.{is_active-concat}
 use Rattle.vr_first_savings.specs.declared.choice.Choice.{Choice}

@@ -19,7 +19,7 @@ use Rattle.vr_timings.specs.declared.extents.Extent.{Extent}
 use Rattle.vr_timings.proofs.ExtentLemmas.{used_below-same, used_below-push, times-none, extent-range, extent-wider}
 use Rattle.vr_rules.specs.Sums.{AreSums, PaysNothingToo}
 use Rattle.vr_rules.specs.declared.sums.Sums.{Sums}
-use Rattle.vr_rules.proofs.RouteLemmas.{visits-few}
+use Rattle.vr_lists.proofs.VisitLists.{visits-few}
 
 total_by-push : (f : ℕ → ℤ) (xs : List ℕ) (x : ℕ) → total_by f (xs ++ x ∷ []) ≡ total_by f xs +ℤ f x
 total_by-push f xs x = total_by-append f xs (x ∷ []) ∙ omega (arith, ints)

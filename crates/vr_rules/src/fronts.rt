@@ -10,16 +10,17 @@ ghost use Rattle.vr_model.specs.schedules.Choices.{is_feasible};
 ghost use Rattle.vr_steps.specs.Levels.{AreLevels};
 ghost use Rattle.vr_rules.specs.Fronts.{tail as tail_of, AreFronts, AreReachedBehind, AreVisitSets, IsDriven, IsFront};
 ghost use Rattle.vr_rules.specs.Fronts.{AreFrontsOf, IsFrontOf, IsStopSet};
-ghost use Rattle.vr_model.specs.routes.Rules.{allows_vehicle as allows_vehicle_of, is_route_open, keeps_policy, serves_pair};
+ghost use Rattle.vr_model.specs.routes.Rules.{allows_vehicle as allows_vehicle_of, is_route_open};
+ghost use Rattle.vr_lists.specs.Pairs.{keeps_pairs};
 ghost use Rattle.vr_rules.specs.Placing.{nodes_of};
 ghost use Rattle.vr_rules.specs.RoutesOpen.{is_feasible_in_each};
 ghost use Rattle.vr_steps.specs.declared.stops.StopName.TheVariants.{Visit};
 
 use crate::items::Item;
-use crate::pairs::{PairPlaces, keeps_pairs};
 use std::alloc::Global;
 use std::marker::Brand;
 use std::sync::ledger::{Blank, Ledger};
+use vr_lists::{PairPlaces, keeps_pairs};
 use vr_model::{Model, NoMemory, Steps};
 use vr_reach::Walk;
 use vr_spans::Spans;
@@ -382,15 +383,13 @@ fn keeps_pairs_with(
     requires well_formed { IsWellFormed model.now }
     requires vehicle { v < length model.now.vehicles }
     requires driven { IsDriven model.now (list.now ++ nodes_of item) }
-    ensures { IfOk result (λ keeps. keeps ≡ (list_all (serves_pair (list.now ++ nodes_of item)) model.now.pairs
-        && keeps_policy model.now v (list.now ++ nodes_of item))) }
+    ensures { IfOk result (λ keeps. keeps ≡ keeps_pairs model.now v (list.now ++ nodes_of item)) }
 {
     if model.pairs.is_empty() {
         return Ok(true);
     }
     let longer = longer(room.alloc, list, item)?;
-    let keeps = keeps_pairs(model, v, &longer, &mut room.pairs)?;
-    Ok(keeps)
+    Ok(keeps_pairs(model, v, &longer, &mut room.pairs))
 }
 
 /// What is written over while items are tried at the end of a list.
@@ -407,7 +406,7 @@ impl Room {
         Room {
             alloc,
             walk: Walk::new(alloc),
-            pairs: PairPlaces::new(alloc),
+            pairs: PairPlaces::new(),
         }
     }
 }

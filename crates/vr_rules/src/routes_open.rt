@@ -10,8 +10,8 @@ ghost use Rattle.vr_rules.specs.RoutesOpen.{is_feasible_in_each as is_feasible_i
 ghost use Rattle.vr_timings.specs.Tables.{AreTables};
 
 use crate::allowed::allows_each;
-use crate::pairs::{PairPlaces, keeps_pairs};
 use std::alloc::Global;
+use vr_lists::{PairPlaces, keeps_pairs};
 use vr_model::{Model, NoMemory};
 use vr_reach::Walk;
 use vr_timings::Table;
@@ -29,7 +29,7 @@ impl Driving {
     pub fn new(alloc: Global) -> Driving {
         Driving {
             walk: Walk::new(alloc),
-            pairs: PairPlaces::new(alloc),
+            pairs: PairPlaces::new(),
         }
     }
 }
@@ -57,7 +57,7 @@ pub fn is_route_open(
     if !allows_each(model, v, list) {
         return Ok(false);
     }
-    if !keeps_pairs(model, v, list, &mut driving.pairs)? {
+    if !keeps_pairs(model, v, list, &mut driving.pairs) {
         return Ok(false);
     }
     let feasible = is_feasible_in_each(model, tables, v, list, &mut driving.walk)?;

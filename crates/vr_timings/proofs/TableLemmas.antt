@@ -14,7 +14,7 @@ use Rattle.vr_model.specs.tables.Tables.{dimension_at, is_visit}
 use Rattle.vr_model.specs.routes.Rules.{place_of}
 use Rattle.vr_model.proofs.routes.Lists.{visit_below, visit_at}
 use Rattle.vr_timings.specs.declared.tables.Table.{Table}
-use Rattle.vr_timings.specs.Places.{ArePlaces}
+use Rattle.vr_lists.specs.Places.{ArePlaces}
 use Rattle.vr_timings.specs.Tables.{keys_of, AreTables, IsTable}
 
 found_cons : {A : Type 0} (x : A) (xs : List A) (b : Bool) (p : ℕ) (rest : Option A) → slice_get xs p ≡ rest → slice_get (x ∷ xs) (cond (not b) (1 + p) 0) ≡ cond b (Some x) rest

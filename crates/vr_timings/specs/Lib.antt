@@ -1,6 +1,5 @@
 pub mod Bounds
 pub mod Extents
 pub mod Paying
-pub mod Places
 pub mod Tables
 pub mod Timings

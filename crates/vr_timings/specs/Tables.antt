@@ -6,7 +6,7 @@ use Rattle.vr_model.specs.declared.records.Model.{Model}
 use Rattle.vr_model.specs.declared.records.StopRow.{StopRow}
 use Rattle.vr_walks.specs.Stops.{AreStops}
 use Rattle.vr_timings.specs.Paying.{PaysNothing}
-use Rattle.vr_timings.specs.Places.{ArePlaces}
+use Rattle.vr_lists.specs.Places.{ArePlaces}
 use Rattle.vr_timings.specs.declared.tables.Table.{Table}
 
 -- the keys of rows

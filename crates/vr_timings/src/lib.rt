@@ -4,7 +4,6 @@
 
 mod extents;
 mod paying;
-mod places;
 mod tables;
 mod timings;
 

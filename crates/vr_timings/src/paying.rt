@@ -7,7 +7,7 @@ ghost use Rattle.vr_model.specs.tables.Numbers.{number_at};
 ghost use Rattle.vr_model.specs.tables.Tables.{dimension_at, is_visit, row_of};
 ghost use Rattle.vr_model.specs.tables.WellFormed.{IsWellFormed};
 ghost use Rattle.vr_timings.specs.Paying.{has_soft, AreFree, PaysNothing};
-ghost use Rattle.vr_timings.specs.Places.{ArePlaces};
+ghost use Rattle.vr_lists.specs.Places.{ArePlaces};
 ghost use Rattle.vr_timings.specs.Tables.{keys_of, IsTable};
 
 use crate::tables::{Table, row_of};

@@ -5,12 +5,12 @@ ghost use Rattle.std.specs.Option.{option_copied};
 ghost use Rattle.std.specs.List.{All};
 ghost use Rattle.vr_model.specs.tables.Tables.{dimension_at, row_of as row_of_key};
 ghost use Rattle.vr_model.specs.tables.WellFormed.{IsStopRow, IsWellFormed, WherePresent};
-ghost use Rattle.vr_timings.specs.Places.{ArePlaces};
+ghost use Rattle.vr_lists.specs.Places.{ArePlaces};
 ghost use Rattle.vr_timings.specs.Tables.{keys_of as keys_of_rows, AreTables, IsTable};
 
 use crate::paying::is_free;
-use crate::places::write_places;
 use std::alloc::Global;
+use vr_lists::write_places;
 use vr_model::{Model, NoMemory, Seq, StopRow};
 use vr_walks::Stops;
 
@@ -46,7 +46,8 @@ fn row_places(alloc: Global, model: &Model, d: u32) -> Result<Vec<u32>, NoMemory
 {
     let keys = keys_of(alloc, &model.dimensions.get(d as usize).nodes)?;
     let mut places = Vec::new(alloc);
-    write_places(model.nodes, &keys, &mut places)?;
+    places.resize(model.nodes as usize, 0)?;
+    write_places(&keys, &mut places);
     Ok(places)
 }
 

@@ -10,7 +10,7 @@ ghost use Rattle.vr_model.specs.routes.Costs.{row_cost};
 ghost use Rattle.vr_model.specs.tables.WellFormed.{IsWellFormed, IsStopRow, IsIn, WherePresent};
 ghost use Rattle.vr_timings.specs.Bounds.{cumul_cost, IsAround};
 ghost use Rattle.vr_timings.specs.Tables.{keys_of, IsTable};
-ghost use Rattle.vr_timings.specs.Places.{ArePlaces};
+ghost use Rattle.vr_lists.specs.Places.{ArePlaces};
 ghost use Rattle.vr_timings.specs.Timings.{soft_of, IsTiming, IsTimingOf};
 
 use crate::tables::{Table, row_of};

@@ -7,7 +7,7 @@ use Rattle.vr_model.specs.routes.Routes.{route}
 use Rattle.vr_rules.specs.declared.items.Candidate.{Candidate}
 use Rattle.vr_rules.specs.declared.items.Item.TheVariants.{Visit}
 use Rattle.vr_rules.specs.Placing.{nodes_of, IsCandidate}
-use Rattle.vr_rules.proofs.RouteLemmas.{visits-below}
+use Rattle.vr_lists.proofs.VisitLists.{visits-below}
 use Rattle.vr_rules.proofs.PlacingLemmas.{built-visits, open-route}
 use Rattle.vr_model.specs.routes.Rules.{is_route_open}
 use Rattle.vr_rules.specs.Fronts.{AreFrontsOf, IsDriven}

@@ -3,7 +3,7 @@ use Rattle.std.proofs.lemmas.Int.{ints}
 use Rattle.std.specs.Prelude.{fold, map}
 use Rattle.std.specs.List.{range_with_len}
 use Rattle.vr_model.specs.tables.Numbers.{from_to}
-use Rattle.vr_rules.proofs.RouteLemmas.{visits-few, visits-below}
+use Rattle.vr_lists.proofs.VisitLists.{visits-few, visits-below}
 use Rattle.vr_first_insert.specs.declared.choice.Choice.{Choice}
 use Rattle.vr_first_insert.specs.declared.choice.Placing.TheVariants.{Two}
 use Rattle.vr_first_insert.specs.Placings.{may_improve, pair_choice, weigh}

@@ -3,7 +3,7 @@ use Rattle.std.proofs.lemmas.Int.{ints}
 use Rattle.std.specs.Prelude.{fold, map}
 use Rattle.vr_model.specs.tables.Numbers.{below}
 use Rattle.vr_model.proofs.tables.Ranges.{below-more}
-use Rattle.vr_rules.proofs.RouteLemmas.{visits-few}
+use Rattle.vr_lists.proofs.VisitLists.{visits-few}
 use Rattle.vr_first_insert.specs.declared.choice.Choice.{Choice}
 use Rattle.vr_first_insert.specs.declared.choice.Placing.TheVariants.{One}
 use Rattle.vr_first_insert.specs.Placings.{visit_choice, weigh}

@@ -2,7 +2,7 @@ use Rattle.std.proofs.Common.{◌∙◌, ap, arith}
 use Rattle.std.specs.List.{list_all}
 use Rattle.vr_model.specs.tables.Tables.{is_visit}
 use Rattle.vr_model.specs.routes.Routes.{is_distinct}
-use Rattle.vr_rules.proofs.RouteLemmas.{visits-few}
+use Rattle.vr_lists.proofs.VisitLists.{visits-few}
 use Rattle.vr_first_insert.proofs.PlacedLemmas.{placed-visits, placed-distinct}
 use Rattle.vr_first_insert.proofs.search.consider.Goals as goal
 

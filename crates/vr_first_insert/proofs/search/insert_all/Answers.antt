@@ -6,7 +6,7 @@ use Rattle.vr_model.specs.moves.Moves.{with_route}
 use Rattle.vr_model.specs.routes.Rules.{is_open}
 use Rattle.vr_model.specs.first.CheapestInsertion.{rebuilt, next_inserted}
 use Rattle.vr_rules.specs.Placing.{nodes_of, AreBuilt, AreMarks}
-use Rattle.vr_rules.proofs.RouteLemmas.{visits-few}
+use Rattle.vr_lists.proofs.VisitLists.{visits-few}
 use Rattle.vr_rules.proofs.PlacingLemmas.{IsAdded, AreBuilt-added, AreMarks-added, built-visits, built-distinct}
 use Rattle.vr_first_insert.specs.declared.choice.Choice.{Choice}
 use Rattle.vr_first_insert.specs.Placings.{insertion_of, item_in, placed, MayBeInserted}

@@ -1,39 +1,38 @@
 //! The pairs of one list: each is served in order, and as the policy of the vehicle asks.
 
-ghost use Rattle.std.specs.Prelude.{◌≡◌, ◌<◌, ◌≤◌, ◌&&◌, All, IfOk, OnOk, IsTrue, length};
+ghost use Rattle.std.specs.Prelude.{◌≡◌, ◌<◌, ◌≤◌, ◌&&◌, All, IsTrue, length};
 ghost use Rattle.std.specs.List.{list_all};
 ghost use Rattle.vr_model.specs.tables.Tables.{is_visit};
 ghost use Rattle.vr_model.specs.routes.Routes.{is_distinct};
-ghost use Rattle.vr_model.specs.routes.Rules.{keeps_policy, serves_pair};
+ghost use Rattle.vr_model.specs.routes.Rules.{serves_pair};
 ghost use Rattle.vr_model.specs.declared.records.Policy.TheVariants.{Any};
 ghost use Rattle.vr_model.specs.tables.WellFormed.{IsWellFormed};
-ghost use Rattle.vr_rules.specs.Places.{allows_beside, places_allow, served_in, ArePlaces};
+ghost use Rattle.vr_lists.specs.Places.{ArePlaces};
+ghost use Rattle.vr_lists.specs.Pairs.{allows_beside, keeps_pairs, places_allow, served_in};
 
 use crate::places::write_places;
-use std::alloc::Global;
-use vr_model::{Model, NoMemory, Pair, Policy};
+use arrayvec::ArrayVec;
+use vr_model::{Model, Pair, Policy};
 
 // Where the nodes of a pair stand in a list.
-#[derive(Clone, Copy)]
+#[derive(Clone, Copy, Default)]
 struct Served {
     pickup: u32,
     delivery: u32,
 }
 
-// Where the nodes of a model and the pairs of a list stand in the list, written over for each list.
+/// Where the nodes of a model stand in a list, written over for each list. It has room for the largest model in place,
+/// 4 kilobytes, and takes no memory.
 #[derive(Drop)]
-pub(crate) struct PairPlaces {
-    nodes: Vec<u32>,
-    served: Vec<Served>,
+pub struct PairPlaces {
+    // the place of each node, of which those of a model's nodes are written
+    nodes: [u32; 1000],
 }
 
 impl PairPlaces {
-    // It takes no memory.
-    pub(crate) fn new(alloc: Global) -> PairPlaces {
-        PairPlaces {
-            nodes: Vec::new(alloc),
-            served: Vec::new(alloc),
-        }
+    /// Room for any list of any model.
+    pub fn new() -> PairPlaces {
+        PairPlaces { nodes: [0; 1000] }
     }
 }
 
@@ -71,15 +70,10 @@ fn serves_all(model: &Model, list: &[u32], places: &[u32]) -> bool
 }
 
 // Writes the pairs of the list over those that were served, by their places.
-fn write_served(
-    model: &Model,
-    list: &[u32],
-    places: &[u32],
-    served: &mut Vec<Served>,
-) -> Result<(), NoMemory>
+fn write_served(model: &Model, list: &[u32], places: &[u32], served: &mut ArrayVec<Served, 500>)
     requires well_formed { IsWellFormed model.now }
     requires places { ArePlaces model.now.nodes list.now places.now }
-    ensures { OnOk result (served.new.items ≡ served_in list.now model.now.pairs) }
+    ensures { served.new.items ≡ served_in list.now model.now.pairs }
 {
     served.clear();
     for k in 0..model.pairs.len() {
@@ -87,10 +81,22 @@ fn write_served(
         let pickup = places[pair.pickup as usize];
         let delivery = places[pair.delivery as usize];
         if (pickup as usize) < list.len() {
-            served.push(Served { pickup, delivery })?;
+            served.push(Served { pickup, delivery });
         }
     }
-    Ok(())
+}
+
+// Whether a policy allows each two pairs of the list. The pairs of the list are put by their places, since they are few
+// beside those of the model.
+fn allows_pairs(model: &Model, policy: Policy, list: &[u32], places: &[u32]) -> bool
+    requires well_formed { IsWellFormed model.now }
+    requires places { ArePlaces model.now.nodes list.now places.now }
+    ensures { result ≡ list_all (allows_beside policy (served_in list.now model.now.pairs))
+        (served_in list.now model.now.pairs) }
+{
+    let mut served = ArrayVec::new();
+    write_served(model, list, places, &mut served);
+    allows_all(policy, served.as_slice())
 }
 
 // Whether a policy asks nothing of two pairs.
@@ -131,34 +137,26 @@ fn allows_all(policy: Policy, served: &[Served]) -> bool
     served.iter().all(|&x| allows_each(policy, served, x))
 }
 
-// Whether a list serves each pair in order, and keeps the policy of vehicle `v`.
-//
-// It marks the place of each node once, and then looks at each pair of the model, and at each two pairs of the list
-// where the policy asks something of them. A model without pairs costs nothing.
-pub(crate) fn keeps_pairs(
-    model: &Model,
-    v: u32,
-    list: &[u32],
-    places: &mut PairPlaces,
-) -> Result<bool, NoMemory>
+/// Whether a list of distinct visits of vehicle `v` serves each pair in order, and keeps the policy of the vehicle
+/// (`AddPickupAndDelivery` and `SetPickupAndDeliveryPolicyOfVehicle` in OR-Tools).
+///
+/// It marks the place of each node once, and then looks at each pair of the model, and at each two pairs of the list
+/// where the policy asks something of them. A model without pairs costs nothing.
+pub fn keeps_pairs(model: &Model, v: u32, list: &[u32], places: &mut PairPlaces) -> bool
     requires well_formed { IsWellFormed model.now }
     requires vehicle { v < length model.now.vehicles }
     requires visits { IsTrue (list_all (is_visit model.now) list.now) }
     requires distinct { IsTrue (is_distinct list.now) }
-    ensures { IfOk result (λ keeps.
-        keeps ≡ (list_all (serves_pair list.now) model.now.pairs && keeps_policy model.now v list.now)) }
+    ensures { result ≡ keeps_pairs model.now v list.now }
 {
     if model.pairs.is_empty() {
-        return Ok(true);
+        return true;
     }
-    write_places(model.nodes, list, &mut places.nodes)?;
-    if !serves_all(model, list, &places.nodes) {
-        return Ok(false);
+    let nodes = &mut places.nodes[..model.nodes as usize];
+    write_places(list, nodes);
+    if !serves_all(model, list, nodes) {
+        return false;
     }
     let policy = model.vehicles.get(v as usize).policy;
-    if asks_nothing(policy) {
-        return Ok(true);
-    }
-    write_served(model, list, &places.nodes, &mut places.served)?;
-    Ok(allows_all(policy, &places.served))
+    asks_nothing(policy) || allows_pairs(model, policy, list, nodes)
 }

@@ -17,8 +17,8 @@ use Rattle.vr_model.specs.declared.records.Model.{Model}
 use Rattle.vr_model.specs.declared.records.Pair.{Pair}
 use Rattle.vr_model.specs.declared.records.Policy.{Policy}
 use Rattle.vr_model.specs.declared.records.Policy.TheVariants.{Any, Lifo, Fifo}
-use Rattle.vr_rules.specs.declared.pairs.Served.{Served}
-use Rattle.vr_rules.specs.Places.{served_at, served_in, places_allow, allows_beside}
+use Rattle.vr_lists.specs.declared.pairs.Served.{Served}
+use Rattle.vr_lists.specs.Pairs.{served_at, served_in, places_allow, allows_beside}
 use Rattle.vr_model.proofs.tables.Tests.{eq_turned, fails_not, list_all-true}
 
 pub place_of-within : (list : List ℕ) (x : ℕ) → place_of list x ≤ length list

@@ -1,7 +1,7 @@
 use Rattle.std.proofs.Common.{◌∙◌, sym, arith}
 use Rattle.vr_model.specs.routes.Rules.{serves_pair}
-use Rattle.vr_rules.proofs.ListTests.{all_more, all_stops}
-use Rattle.vr_rules.proofs.pairs.serves_all.Goals as goal
+use Rattle.vr_lists.proofs.ListTests.{all_more, all_stops}
+use Rattle.vr_lists.proofs.pairs.serves_all.Goals as goal
 
 pub returns-then-not-serves : goal.returns-then-not-serves
 returns-then-not-serves c = let pair = c.get.result.now in

@@ -1,18 +1,17 @@
--- Where the nodes of a model stand in one list, and the pairs of a list by their places.
-use Rattle.std.specs.Prelude.{◌≡◌, ℕ, ◌<◌, Bool, true, not, ◌&&◌}
-use Rattle.std.specs.Prelude.{◌||◌, nat_lt, List, map, filter, length, slice_index_or}
+-- The pairs of one list, by themselves and by the places of their nodes.
+use Rattle.std.specs.Prelude.{ℕ, Bool, true, not, ◌&&◌, ◌||◌, nat_lt, List, map, filter}
 use Rattle.std.specs.List.{list_all}
 use Rattle.vr_model.specs.routes.Routes.{holds}
-use Rattle.vr_model.specs.routes.Rules.{place_of}
+use Rattle.vr_model.specs.routes.Rules.{keeps_policy, place_of, serves_pair}
+use Rattle.vr_model.specs.declared.records.Model.{Model}
 use Rattle.vr_model.specs.declared.records.Pair.{Pair}
 use Rattle.vr_model.specs.declared.records.Policy.{Policy}
 use Rattle.vr_model.specs.declared.records.Policy.TheVariants.{Any, Lifo, Fifo}
-use Rattle.vr_rules.specs.declared.pairs.Served.{Served}
+use Rattle.vr_lists.specs.declared.pairs.Served.{Served}
 
--- for each node its place in a list, the length of the list where it is absent
-pub record ArePlaces (nodes : ℕ) (list places : List ℕ) : Type 0 where
-  pub one_of_each : length places ≡ nodes
-  pub each : (node d : ℕ) → node < nodes → slice_index_or places node d ≡ place_of list node
+-- each pair with a node in the list is served in order, and the policy of vehicle v holds of the pairs of the list
+abbrev pub keeps_pairs : Model → ℕ → List ℕ → Bool
+keeps_pairs model v list = list_all (serves_pair list) model.pairs && keeps_policy model v list
 
 -- where a pair stands in a list
 abbrev pub served_at : List ℕ → Pair → Served

@@ -1,0 +1,4 @@
+pub mod VisitLists
+pub mod ListTests
+pub mod PlaceLemmas
+pub mod PairLemmas

@@ -1,0 +1,19 @@
+//! Where numbers stand in one list.
+
+ghost use Rattle.std.specs.Prelude.{◌≡◌, ◌<◌, ◌≤◌, All, length};
+ghost use Rattle.vr_lists.specs.Places.{ArePlaces};
+
+/// Writes over places, for each number below how many there are, the first place of the number in a list, from 0, or
+/// the length of the list where it is absent. The list has at most 1000 numbers, each below how many places there are.
+pub fn write_places(list: &[u32], places: &mut [u32])
+    requires numbers { All (λ x. x < length places.old) list.now }
+    requires few { length list.now ≤ 1000 }
+    ensures { ArePlaces (length places.old) list.now places.new }
+{
+    let mut place = list.len();
+    places.fill(place as u32);
+    while place > 0 {
+        place -= 1;
+        places[list[place] as usize] = place as u32;
+    }
+}
