@@ -10,10 +10,11 @@ ghost use Rattle.vr_routes.specs.Pieces.{changed};
 use serde_json::Value;
 use std::alloc::Global;
 use std::test::Fail;
-use vr_costfilter::{ArcCost, CostPart, FixedCost};
+use vr_costfilter::{ArcCost, CostPart, FixedCost, GroupCost};
 use vr_json::Path;
-use vr_model::{Model, Move, NoMemory, Parts, Seq};
+use vr_model::{Model, Move, NoMemory, Parts};
 use vr_read::read_model;
+use vr_routes::samples::routes_of;
 use vr_routes::{Change, Routes};
 use vr_rules::{cost, valid};
 
@@ -36,24 +37,13 @@ fn read(alloc: Global, text: &str) -> Result<Option<Model>, NoMemory>
     }
 }
 
-// A list of visits.
-fn seq_of(alloc: Global, nodes: &[u32]) -> Result<Seq<u32>, NoMemory> {
-    let mut list = Seq::new(alloc);
-    list.extend_from_slice(nodes)?;
-    Ok(list)
-}
-
-// Valid routes of three vehicles with these lists, where there are such.
-fn routes_of(alloc: Global, model: &Model, lists: &[&[u32]; 3]) -> Result<Option<Routes>, NoMemory>
+// Valid routes with these lists, where there are such.
+fn valid_routes(alloc: Global, model: &Model, lists: &[&[u32]]) -> Result<Option<Routes>, NoMemory>
     requires well_formed { IsWellFormed model.now }
     ensures of_model { IfOk result (λ routes. IfSome routes (λ found. found.visits ≡ visits model.now)) }
     ensures valid { IfOk result (λ routes. IfSome routes (λ found. IsTrue (is_valid model.now found.lists))) }
 {
-    let mut owned = Vec::new(alloc);
-    owned.push(seq_of(alloc, lists[0])?)?;
-    owned.push(seq_of(alloc, lists[1])?)?;
-    owned.push(seq_of(alloc, lists[2])?)?;
-    let Some(routes) = Routes::from_lists(alloc, model, &owned)? else {
+    let Some(routes) = routes_of(alloc, model, lists)? else {
         return Ok(None);
     };
     if valid(alloc, model, &routes)? {
@@ -64,18 +54,21 @@ fn routes_of(alloc: Global, model: &Model, lists: &[&[u32]; 3]) -> Result<Option
 }
 
 // Whether costs are those before and what was added.
-fn are_sums(before: Parts, after: Parts, arcs: i64, fixed: i64) -> bool {
+fn are_sums(before: Parts, after: Parts, arcs: i64, fixed: i64, penalty: i64) -> bool {
     before.arcs.checked_add(arcs) == Some(after.arcs)
         && before.fixed.checked_add(fixed) == Some(after.fixed)
+        && before.penalty.checked_add(penalty) == Some(after.penalty)
 }
 
-// Whether both parts answer what a change of valid routes adds, where the lists after it, which are these, are valid.
+// Whether the parts answer what a change of valid routes adds, this much of it in penalties, where the lists after it,
+// which are these, are valid.
 fn answer(
     alloc: Global,
     model: &Model,
     routes: &Routes,
     change: &Change,
     after: &Routes,
+    penalty: i64,
 ) -> Result<bool, NoMemory>
     requires well_formed { IsWellFormed model.now }
     requires of_model { routes.now.visits ≡ visits model.now }
@@ -86,15 +79,24 @@ fn answer(
 {
     let arcs = ArcCost::open(alloc, model, routes)?.difference(routes, change)?;
     let fixed = FixedCost::open(model, routes)?.difference(routes, change)?;
+    let groups = GroupCost::open(alloc, model, routes)?.difference(routes, change)?;
     let before = cost(alloc, model, routes)?;
-    Ok(are_sums(before, cost(alloc, model, after)?, arcs, fixed))
+    let after = cost(alloc, model, after)?;
+    Ok(groups == penalty && are_sums(before, after, arcs, fixed, groups))
 }
 
-// Whether both parts answer what a move of lists adds: false where it is none, or the lists are not valid.
-fn agree(alloc: Global, model: &Model, lists: &[&[u32]; 3], mv: Move) -> Result<bool, NoMemory>
+// Whether the parts answer what a move of lists adds, this much of it in penalties: false where it is none, or the lists
+// are not valid.
+fn agree(
+    alloc: Global,
+    model: &Model,
+    lists: &[&[u32]],
+    mv: Move,
+    penalty: i64,
+) -> Result<bool, NoMemory>
     requires well_formed { IsWellFormed model.now }
 {
-    let Some(routes) = routes_of(alloc, model, lists)? else {
+    let Some(routes) = valid_routes(alloc, model, lists)? else {
         return Ok(false);
     };
     let Some(change) = Change::of(model, &routes, mv) else {
@@ -105,30 +107,36 @@ fn agree(alloc: Global, model: &Model, lists: &[&[u32]; 3], mv: Move) -> Result<
     if !valid(alloc, model, &after)? {
         return Ok(false);
     }
-    let agree = answer(alloc, model, &routes, &change, &after)?;
+    let agree = answer(alloc, model, &routes, &change, &after, penalty)?;
     Ok(agree)
 }
 
-// The same of the model of the vans.
-fn vans_agree(alloc: Global, lists: &[&[u32]; 3], mv: Move) -> bool {
-    match read(alloc, VANS) {
-        Ok(Some(model)) => agree(alloc, &model, lists, mv) == Ok(true),
+// The same of the model of a text.
+fn texts_agree(alloc: Global, text: &str, lists: &[&[u32]], mv: Move, penalty: i64) -> bool {
+    match read(alloc, text) {
+        Ok(Some(model)) => agree(alloc, &model, lists, mv, penalty) == Ok(true),
         _ => false,
     }
+}
+
+// The same of the model of the vans.
+fn vans_agree(alloc: Global, lists: &[&[u32]], mv: Move, penalty: i64) -> bool {
+    texts_agree(alloc, VANS, lists, mv, penalty)
 }
 
 #[test]
 fn parts_answer_differences_of_whole_lists(rt: HostRuntime) -> Result<(), Fail> {
     let alloc = rt.alloc();
-    let full: &[&[u32]; 3] = &[&[3, 1, 4], &[5], &[2]];
+    let full: &[&[u32]] = &[&[3, 1, 4], &[5], &[2]];
     assert!(rt;
         vans_agree(
             alloc,
             &[&[], &[], &[]],
-            Move::MakeActive { u: 1, w: 2, t: 0 }
+            Move::MakeActive { u: 1, w: 2, t: 0 },
+            -1
         )
     );
-    assert!(rt; vans_agree(alloc, full, Move::TwoOpt { v: 0, a: 0, b: 2 }));
+    assert!(rt; vans_agree(alloc, full, Move::TwoOpt { v: 0, a: 0, b: 2 }, 0));
     assert!(rt;
         vans_agree(
             alloc,
@@ -138,7 +146,8 @@ fn parts_answer_differences_of_whole_lists(rt: HostRuntime) -> Result<(), Fail> 
                 a: 0,
                 k: 2,
                 t: 1
-            }
+            },
+            0
         )
     );
     assert!(rt;
@@ -150,7 +159,8 @@ fn parts_answer_differences_of_whole_lists(rt: HostRuntime) -> Result<(), Fail> 
                 a: 1,
                 w: 1,
                 b: 0
-            }
+            },
+            0
         )
     );
     assert!(rt;
@@ -162,7 +172,8 @@ fn parts_answer_differences_of_whole_lists(rt: HostRuntime) -> Result<(), Fail> 
                 a: 3,
                 w: 2,
                 b: 0
-            }
+            },
+            0
         )
     );
     assert!(rt;
@@ -174,7 +185,8 @@ fn parts_answer_differences_of_whole_lists(rt: HostRuntime) -> Result<(), Fail> 
                 a: 1,
                 w: 2,
                 b: 0
-            }
+            },
+            0
         )
     );
     assert!(rt;
@@ -186,9 +198,29 @@ fn parts_answer_differences_of_whole_lists(rt: HostRuntime) -> Result<(), Fail> 
                 a: 0,
                 w: 0,
                 t: 3
-            }
+            },
+            0
         )
     );
-    assert!(rt; vans_agree(alloc, full, Move::MakeInactive { v: 2, a: 0 }));
+    assert!(rt; vans_agree(alloc, full, Move::MakeInactive { v: 2, a: 0 }, 1));
+    Ok(())
+}
+
+// Two visits, the second of which may stay away for 3.
+const OPTIONAL: &str = r#"{"format":1,"nodes":3,"matrices":[[[0,5,9],[5,0,4],[9,4,0]]],
+"vehicles":[{"start":0,"end":0}],"groups":[{"nodes":[2],"penalty":3,"max":1}]}"#;
+
+#[test]
+fn a_node_that_goes_pays_its_penalty(rt: HostRuntime) -> Result<(), Fail> {
+    let alloc = rt.alloc();
+    assert!(rt;
+        texts_agree(
+            alloc,
+            OPTIONAL,
+            &[&[1, 2]],
+            Move::MakeInactive { v: 0, a: 1 },
+            3
+        )
+    );
     Ok(())
 }
