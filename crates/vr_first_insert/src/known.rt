@@ -2,9 +2,9 @@
 
 ghost use Rattle.std.specs.Prelude.{◌≡◌, ℕ, ◌<◌, IfOk, length, replicate, slice_set};
 ghost use Rattle.vr_model.specs.tables.WellFormed.{IsWellFormed};
-ghost use Rattle.vr_timings.specs.Tables.{AreTables};
 ghost use Rattle.vr_first_insert.specs.Kept.{best_of, better_choice, row_at, AddsAtLeast, IsKnown};
 ghost use Rattle.vr_first_insert.specs.Placings.{best_in, MayHold};
+ghost use Rattle.vr_first_insert.specs.Ready.{IsReady};
 ghost use Rattle.vr_first_insert.specs.declared.known.Known.TheVariants.{Nothing};
 
 use crate::bound::{least_pair, least_visit};
@@ -12,9 +12,9 @@ use crate::choice::{Choice, improves, may_improve};
 use crate::room::Room;
 use crate::search::best_in_list;
 use std::alloc::Global;
+use vr_inserting::Kept;
 use vr_model::{Model, NoMemory, Seq};
 use vr_rules::{Candidate, Item};
-use vr_timings::Table;
 
 /// What is known of an item in a list.
 #[derive(Clone, Copy, Drop)]
@@ -64,7 +64,7 @@ fn least_in(model: &Model, v: u32, list: &[u32], item: Item) -> i64
 pub(crate) fn asked(
     room: &mut Room,
     model: &Model,
-    tables: &[Table],
+    keeps: &[Kept],
     v: u32,
     list: &[u32],
     candidate: Candidate,
@@ -72,7 +72,7 @@ pub(crate) fn asked(
     best: Option<Choice>,
 ) -> Result<Known, NoMemory>
     requires well_formed { IsWellFormed model.now }
-    requires tables { AreTables model.now tables.now }
+    requires ready { IsReady model.now v list.now keeps.now }
     requires vehicle { v < length model.now.vehicles }
     requires may_hold { MayHold model.now list.now candidate.item }
     requires known { IsKnown model.now v list.now candidate known }
@@ -82,12 +82,12 @@ pub(crate) fn asked(
     match known {
         Known::Best(_) => Ok(known),
         Known::AtLeast(least) => {
-            let known = tried(room, model, tables, v, list, candidate, least, best)?;
+            let known = tried(room, model, keeps, v, list, candidate, least, best)?;
             Ok(known)
         }
         Known::Nothing => {
             let least = least_in(model, v, list, candidate.item);
-            let known = tried(room, model, tables, v, list, candidate, least, best)?;
+            let known = tried(room, model, keeps, v, list, candidate, least, best)?;
             Ok(known)
         }
     }
@@ -98,7 +98,7 @@ pub(crate) fn asked(
 fn tried(
     room: &mut Room,
     model: &Model,
-    tables: &[Table],
+    keeps: &[Kept],
     v: u32,
     list: &[u32],
     candidate: Candidate,
@@ -106,7 +106,7 @@ fn tried(
     best: Option<Choice>,
 ) -> Result<Known, NoMemory>
     requires well_formed { IsWellFormed model.now }
-    requires tables { AreTables model.now tables.now }
+    requires ready { IsReady model.now v list.now keeps.now }
     requires vehicle { v < length model.now.vehicles }
     requires may_hold { MayHold model.now list.now candidate.item }
     requires least { AddsAtLeast model.now v list.now candidate.item least }
@@ -116,7 +116,7 @@ fn tried(
     if !may_improve(best, candidate.class, least) {
         return Ok(Known::AtLeast(least));
     }
-    let found = best_in_list(room, model, tables, v, list, candidate, None)?;
+    let found = best_in_list(room, model, keeps, v, list, candidate, None)?;
     Ok(Known::Best(found))
 }
 

@@ -1,16 +1,23 @@
 //! What is written over while places are tried.
 
+use crate::trying::Trying;
 use std::alloc::Global;
+use vr_inserting::Probes;
 use vr_model::Seq;
-use vr_rules::Driving;
+use vr_steps::Line;
+use vr_walks::no_line;
 
 /// What is written over while places are tried.
 #[derive(Drop)]
 pub(crate) struct Room {
     pub(crate) alloc: Global,
-    pub(crate) driving: Driving,
-    /// The list with an item placed in it.
-    pub(crate) longer: Seq<u32>,
+    /// The line of a list whose rows are written.
+    pub(crate) line: Line,
+    /// The list with the pickup of a pair in it.
+    pub(crate) half: Seq<u32>,
+    /// What that list reaches.
+    pub(crate) probes: Probes,
+    pub(crate) trying: Trying,
 }
 
 impl Room {
@@ -18,8 +25,10 @@ impl Room {
     pub(crate) fn new(alloc: Global) -> Room {
         Room {
             alloc,
-            driving: Driving::new(alloc),
-            longer: Seq::new(alloc),
+            line: no_line(alloc),
+            half: Seq::new(alloc),
+            probes: Probes::new(alloc),
+            trying: Trying::new(alloc),
         }
     }
 }

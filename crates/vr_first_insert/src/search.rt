@@ -1,7 +1,7 @@
 //! The insertion that is made next.
 
 ghost use Rattle.std.specs.Prelude.{◌≡◌, ℕ, suc, ◌<◌, ◌≤◌, All, false, fold, map, true, IfOk, IfSome, OnOk, length};
-ghost use Rattle.std.specs.Prelude.{neg_ℤ, option_map, pos, ◌^◌, ◌≤ℤ◌};
+ghost use Rattle.std.specs.Prelude.{insert, neg_ℤ, option_map, pos, ◌+◌, ◌^◌, ◌≤ℤ◌};
 ghost use Rattle.vr_model.specs.first.CheapestInsertion.{next_inserted, rebuilt};
 ghost use Rattle.vr_model.specs.first.Items.{first_node, items};
 ghost use Rattle.vr_model.specs.moves.Moves.{gaps};
@@ -10,11 +10,13 @@ ghost use Rattle.vr_model.specs.routes.Routes.{route};
 ghost use Rattle.vr_model.specs.tables.WellFormed.{IsWellFormed};
 ghost use Rattle.vr_rules.specs.Placing.{nodes_of, AreBuilt, AreCandidates, AreMarks};
 ghost use Rattle.vr_rules.specs.declared.items.Item.TheVariants.{Visit, PickupAndDelivery};
-ghost use Rattle.vr_timings.specs.Tables.{AreTables};
+ghost use Rattle.vr_inserting.specs.Kept.{AreKept};
+ghost use Rattle.vr_inserting.specs.Probes.{AreReachedAt};
 ghost use Rattle.vr_first_insert.specs.Kept.{AreKnown, AreRows};
 ghost use Rattle.vr_first_insert.specs.Placings.{best_beside, best_in, best_in_lists as best_in_lists_of};
-ghost use Rattle.vr_first_insert.specs.Placings.{counts as counts_of, insertion_of, item_in, pair_choice};
-ghost use Rattle.vr_first_insert.specs.Placings.{visit_choice, weigh, AreWithin, IsLeast, MayBeInserted, MayHold};
+ghost use Rattle.vr_first_insert.specs.Placings.{counts as counts_of, insertion_of, pair_choice};
+ghost use Rattle.vr_first_insert.specs.Placings.{visit_choice, weigh, IsLeast, MayBeInserted, MayHold};
+ghost use Rattle.vr_first_insert.specs.Ready.{AreReady, IsReady};
 
 use crate::bound::{least_behind, least_visit};
 use crate::choice::{Choice, Placing, improves, may_improve};
@@ -22,32 +24,53 @@ use crate::increase::{pair_increase, visit_increase};
 use crate::known::{Known, asked, better_of, forget};
 use crate::place::{place_in, write_placed};
 use crate::room::Room;
+use crate::trying::{Trying, may_serve, may_visit};
+use std::alloc::Global;
+use vr_inserting::{Kept, Probes, learn};
 use vr_model::{Model, NoMemory, Seq};
-use vr_rules::{Candidate, Item, groups_have_room, is_route_open, mark_item};
-use vr_timings::Table;
+use vr_rules::{Candidate, Item, groups_have_room, mark_item};
 
-// The better of the best so far and a choice in a list, which is tested only where it improves.
-fn consider(
-    room: &mut Room,
+// A visit before place `t`.
+fn visit_at(model: &Model, v: u32, list: &[u32], class: u32, node: u32, t: usize) -> Choice
+    requires well_formed { IsWellFormed model.now }
+    requires vehicle { v < length model.now.vehicles }
+    requires may_hold { MayHold model.now list.now (Visit node) }
+    requires within { t ≤ length list.now }
+    ensures { result ≡ visit_choice model.now v list.now class node t }
+{
+    Choice {
+        placing: Placing::One(node, t as u32),
+        class,
+        vehicle: v,
+        increase: visit_increase(model, v, list, node, t),
+    }
+}
+
+// The better of the best so far and a visit before place `t`, which is tested only where it improves.
+fn weigh_visit(
+    trying: &mut Trying,
     model: &Model,
-    tables: &[Table],
+    keeps: &[Kept],
+    v: u32,
     list: &[u32],
-    next: Choice,
+    class: u32,
+    node: u32,
+    t: usize,
     best: Option<Choice>,
 ) -> Result<Option<Choice>, NoMemory>
     requires well_formed { IsWellFormed model.now }
-    requires tables { AreTables model.now tables.now }
-    requires vehicle { next.vehicle < length model.now.vehicles }
-    requires may_hold { MayHold model.now list.now (item_in next.placing) }
-    requires within { AreWithin list.now next.placing }
-    ensures { IfOk result (λ chosen. chosen ≡ weigh model.now list.now best next) }
+    requires vehicle { v < length model.now.vehicles }
+    requires ready { IsReady model.now v list.now keeps.now }
+    requires may_hold { MayHold model.now list.now (Visit node) }
+    requires within { t ≤ length list.now }
+    ensures { IfOk result (λ chosen. chosen
+        ≡ weigh model.now list.now best (visit_choice model.now v list.now class node t)) }
 {
+    let next = visit_at(model, v, list, class, node, t);
     if !improves(best, next) {
         return Ok(best);
     }
-    write_placed(list, next.placing, &mut room.longer)?;
-    let longer = room.longer.as_slice();
-    if is_route_open(model, tables, next.vehicle, longer, &mut room.driving)? {
+    if may_visit(trying, model, keeps, v, list, node, t)? {
         Ok(Some(next))
     } else {
         Ok(best)
@@ -58,7 +81,7 @@ fn consider(
 fn best_visit(
     room: &mut Room,
     model: &Model,
-    tables: &[Table],
+    keeps: &[Kept],
     v: u32,
     list: &[u32],
     class: u32,
@@ -66,21 +89,128 @@ fn best_visit(
     best: Option<Choice>,
 ) -> Result<Option<Choice>, NoMemory>
     requires well_formed { IsWellFormed model.now }
-    requires tables { AreTables model.now tables.now }
     requires vehicle { v < length model.now.vehicles }
+    requires ready { IsReady model.now v list.now keeps.now }
     requires may_hold { MayHold model.now list.now (Visit node) }
     ensures { IfOk result (λ chosen. chosen ≡ fold (weigh model.now list.now) best
         (map (visit_choice model.now v list.now class node) (gaps list.now))) }
 {
     let mut best = best;
     for t in 0..list.len() + 1 {
-        let next = Choice {
-            placing: Placing::One(node, t as u32),
+        best = weigh_visit(
+            &mut room.trying,
+            model,
+            keeps,
+            v,
+            list,
             class,
-            vehicle: v,
-            increase: visit_increase(model, v, list, node, t),
-        };
-        best = consider(room, model, tables, list, next, best)?;
+            node,
+            t,
+            best,
+        )?;
+    }
+    Ok(best)
+}
+
+// A pickup before place `s` and its delivery before place `t`.
+fn pair_at(
+    model: &Model,
+    v: u32,
+    list: &[u32],
+    class: u32,
+    pickup: u32,
+    delivery: u32,
+    s: usize,
+    t: usize,
+) -> Choice
+    requires well_formed { IsWellFormed model.now }
+    requires vehicle { v < length model.now.vehicles }
+    requires may_hold { MayHold model.now list.now (PickupAndDelivery pickup delivery) }
+    requires order { s ≤ t }
+    requires within { t ≤ length list.now }
+    ensures { result ≡ pair_choice model.now v list.now class pickup delivery s t }
+{
+    Choice {
+        placing: Placing::Two(pickup, delivery, s as u32, t as u32),
+        class,
+        vehicle: v,
+        increase: pair_increase(model, v, list, pickup, delivery, s, t),
+    }
+}
+
+// The better of the best so far and a pair before two places, which is tested only where it improves, by what the list
+// with the pickup reaches at the node before the delivery.
+fn weigh_pair(
+    trying: &mut Trying,
+    probes: &Probes,
+    model: &Model,
+    keeps: &[Kept],
+    v: u32,
+    list: &[u32],
+    class: u32,
+    pickup: u32,
+    delivery: u32,
+    s: usize,
+    t: usize,
+    best: Option<Choice>,
+) -> Result<Option<Choice>, NoMemory>
+    requires well_formed { IsWellFormed model.now }
+    requires vehicle { v < length model.now.vehicles }
+    requires ready { IsReady model.now v list.now keeps.now }
+    requires may_hold { MayHold model.now list.now (PickupAndDelivery pickup delivery) }
+    requires order { s ≤ t }
+    requires within { t ≤ length list.now }
+    requires here { AreReachedAt model.now v (insert list.now s pickup) (t + 1) probes.now }
+    ensures { IfOk result (λ chosen. chosen
+        ≡ weigh model.now list.now best (pair_choice model.now v list.now class pickup delivery s t)) }
+{
+    let next = pair_at(model, v, list, class, pickup, delivery, s, t);
+    if !improves(best, next) {
+        return Ok(best);
+    }
+    if may_serve(trying, probes, model, keeps, v, list, pickup, delivery, s, t)? {
+        Ok(Some(next))
+    } else {
+        Ok(best)
+    }
+}
+
+// The best beside a pickup before place `s`, as it stands in `half`, and its delivery before each place from there on.
+// Once nothing is reached, no place further on is allowed.
+fn best_behind(
+    alloc: Global,
+    trying: &mut Trying,
+    probes: &mut Probes,
+    half: &[u32],
+    model: &Model,
+    keeps: &[Kept],
+    v: u32,
+    list: &[u32],
+    class: u32,
+    pickup: u32,
+    delivery: u32,
+    s: usize,
+    best: Option<Choice>,
+) -> Result<Option<Choice>, NoMemory>
+    requires well_formed { IsWellFormed model.now }
+    requires vehicle { v < length model.now.vehicles }
+    requires ready { IsReady model.now v list.now keeps.now }
+    requires may_hold { MayHold model.now list.now (PickupAndDelivery pickup delivery) }
+    requires within { s ≤ length list.now }
+    requires half { half.now ≡ insert list.now s pickup }
+    ensures { IfOk result (λ chosen. chosen ≡ fold (weigh model.now list.now) best
+        (map (pair_choice model.now v list.now class pickup delivery s) (from_to s (suc (length list.now))))) }
+{
+    probes.leave(alloc, model, keeps, v, list, half, s, &mut trying.walk)?;
+    let mut best = best;
+    for t in s..list.len() + 1 {
+        if probes.is_stuck(model) {
+            return Ok(best);
+        }
+        best = weigh_pair(
+            trying, probes, model, keeps, v, list, class, pickup, delivery, s, t, best,
+        )?;
+        probes.go_on(model, keeps, v, half, t + 1, &mut trying.walk)?;
     }
     Ok(best)
 }
@@ -90,7 +220,7 @@ fn best_visit(
 fn best_delivery(
     room: &mut Room,
     model: &Model,
-    tables: &[Table],
+    keeps: &[Kept],
     v: u32,
     list: &[u32],
     class: u32,
@@ -101,8 +231,8 @@ fn best_delivery(
     best: Option<Choice>,
 ) -> Result<Option<Choice>, NoMemory>
     requires well_formed { IsWellFormed model.now }
-    requires tables { AreTables model.now tables.now }
     requires vehicle { v < length model.now.vehicles }
+    requires ready { IsReady model.now v list.now keeps.now }
     requires may_hold { MayHold model.now list.now (PickupAndDelivery pickup delivery) }
     requires within { s ≤ length list.now }
     requires least { IsLeast model.now v list.now delivery least }
@@ -118,16 +248,22 @@ fn best_delivery(
     ) {
         return Ok(best);
     }
-    let mut best = best;
-    for t in s..list.len() + 1 {
-        let next = Choice {
-            placing: Placing::Two(pickup, delivery, s as u32, t as u32),
-            class,
-            vehicle: v,
-            increase: pair_increase(model, v, list, pickup, delivery, s, t),
-        };
-        best = consider(room, model, tables, list, next, best)?;
-    }
+    write_placed(list, Placing::One(pickup, s as u32), &mut room.half)?;
+    let best = best_behind(
+        room.alloc,
+        &mut room.trying,
+        &mut room.probes,
+        room.half.as_slice(),
+        model,
+        keeps,
+        v,
+        list,
+        class,
+        pickup,
+        delivery,
+        s,
+        best,
+    )?;
     Ok(best)
 }
 
@@ -135,7 +271,7 @@ fn best_delivery(
 fn best_pair(
     room: &mut Room,
     model: &Model,
-    tables: &[Table],
+    keeps: &[Kept],
     v: u32,
     list: &[u32],
     class: u32,
@@ -144,7 +280,7 @@ fn best_pair(
     best: Option<Choice>,
 ) -> Result<Option<Choice>, NoMemory>
     requires well_formed { IsWellFormed model.now }
-    requires tables { AreTables model.now tables.now }
+    requires ready { IsReady model.now v list.now keeps.now }
     requires vehicle { v < length model.now.vehicles }
     requires may_hold { MayHold model.now list.now (PickupAndDelivery pickup delivery) }
     ensures { IfOk result (λ chosen. chosen ≡ fold (weigh model.now list.now) best
@@ -155,7 +291,7 @@ fn best_pair(
     let mut best = best;
     for s in 0..list.len() + 1 {
         best = best_delivery(
-            room, model, tables, v, list, class, pickup, delivery, s, least, best,
+            room, model, keeps, v, list, class, pickup, delivery, s, least, best,
         )?;
     }
     Ok(best)
@@ -165,23 +301,23 @@ fn best_pair(
 pub(crate) fn best_in_list(
     room: &mut Room,
     model: &Model,
-    tables: &[Table],
+    keeps: &[Kept],
     v: u32,
     list: &[u32],
     candidate: Candidate,
     best: Option<Choice>,
 ) -> Result<Option<Choice>, NoMemory>
     requires well_formed { IsWellFormed model.now }
-    requires tables { AreTables model.now tables.now }
+    requires ready { IsReady model.now v list.now keeps.now }
     requires vehicle { v < length model.now.vehicles }
     requires may_hold { MayHold model.now list.now candidate.item }
     ensures { IfOk result (λ chosen. chosen ≡ best_in model.now v list.now candidate best) }
 {
     let class = candidate.class;
     let best = match candidate.item {
-        Item::Visit(node) => best_visit(room, model, tables, v, list, class, node, best)?,
+        Item::Visit(node) => best_visit(room, model, keeps, v, list, class, node, best)?,
         Item::PickupAndDelivery(pickup, delivery) => best_pair(
-            room, model, tables, v, list, class, pickup, delivery, best,
+            room, model, keeps, v, list, class, pickup, delivery, best,
         )?,
     };
     Ok(best)
@@ -191,14 +327,14 @@ pub(crate) fn best_in_list(
 fn best_in_lists(
     room: &mut Room,
     model: &Model,
-    tables: &[Table],
+    keeps: &[Kept],
     lists: &[Seq<u32>],
     candidate: Candidate,
     row: &mut Seq<Known>,
     best: Option<Choice>,
 ) -> Result<Option<Choice>, NoMemory>
     requires well_formed { IsWellFormed model.now }
-    requires tables { AreTables model.now tables.now }
+    requires ready { AreReady model.now lists.now keeps.now }
     requires vehicles { length lists.now ≡ length model.now.vehicles }
     requires may_hold { (v : ℕ) → v < length lists.now → MayHold model.now (route lists.now v) candidate.item }
     requires row { AreKnown model.now lists.now candidate row.old }
@@ -212,7 +348,7 @@ fn best_in_lists(
         let known = asked(
             room,
             model,
-            tables,
+            keeps,
             v as u32,
             list,
             candidate,
@@ -243,7 +379,7 @@ fn counts(model: &Model, marks: &[bool], candidate: Candidate) -> bool
 fn beside(
     room: &mut Room,
     model: &Model,
-    tables: &[Table],
+    keeps: &[Kept],
     lists: &[Seq<u32>],
     marks: &[bool],
     candidate: Candidate,
@@ -251,7 +387,7 @@ fn beside(
     best: Option<Choice>,
 ) -> Result<Option<Choice>, NoMemory>
     requires well_formed { IsWellFormed model.now }
-    requires tables { AreTables model.now tables.now }
+    requires ready { AreReady model.now lists.now keeps.now }
     requires vehicles { length lists.now ≡ length model.now.vehicles }
     requires marks { length marks.now ≡ model.now.nodes }
     requires first { first_node (nodes_of candidate.item) < model.now.nodes }
@@ -264,7 +400,7 @@ fn beside(
     if !counts(model, marks, candidate) {
         return Ok(best);
     }
-    let best = best_in_lists(room, model, tables, lists, candidate, row, best)?;
+    let best = best_in_lists(room, model, keeps, lists, candidate, row, best)?;
     Ok(best)
 }
 
@@ -272,14 +408,14 @@ fn beside(
 fn next_insertion(
     room: &mut Room,
     model: &Model,
-    tables: &[Table],
+    keeps: &[Kept],
     candidates: &[Candidate],
     marks: &[bool],
     lists: &[Seq<u32>],
     rows: &mut [Seq<Known>],
 ) -> Result<Option<Choice>, NoMemory>
     requires well_formed { IsWellFormed model.now }
-    requires tables { AreTables model.now tables.now }
+    requires kept { AreKept model.now lists.now keeps.now }
     requires candidates { AreCandidates model.now candidates.now }
     requires built { AreBuilt model.now lists.now }
     requires marks { AreMarks model.now.nodes lists.now marks.now }
@@ -294,7 +430,7 @@ fn next_insertion(
         best = beside(
             room,
             model,
-            tables,
+            keeps,
             lists,
             marks,
             candidate,
@@ -312,14 +448,14 @@ fn next_insertion(
 pub(crate) fn insert_all(
     room: &mut Room,
     model: &Model,
-    tables: &[Table],
+    keeps: &mut [Kept],
     candidates: &[Candidate],
     lists: &mut [Seq<u32>],
     marks: &mut [bool],
     rows: &mut [Seq<Known>],
 ) -> Result<(), NoMemory>
     requires well_formed { IsWellFormed model.now }
-    requires tables { AreTables model.now tables.now }
+    requires kept { AreKept model.now lists.now keeps.old }
     requires candidates { AreCandidates model.now candidates.now }
     requires built { AreBuilt model.now lists.now }
     requires marks { AreMarks model.now.nodes lists.now marks.now }
@@ -329,11 +465,13 @@ pub(crate) fn insert_all(
     ensures marked { OnOk result (AreMarks model.now.nodes lists.new marks.new) }
 {
     for _step in 0..candidates.len() {
-        match next_insertion(room, model, tables, candidates, marks, lists, rows)? {
+        match next_insertion(room, model, keeps, candidates, marks, lists, rows)? {
             Some(choice) => {
-                place_in(room.alloc, lists, choice.vehicle, choice.placing)?;
+                let v = choice.vehicle;
+                place_in(room.alloc, lists, v, choice.placing)?;
+                learn(room.alloc, model, keeps, v, lists, &mut room.line)?;
                 mark_item(marks, choice.placing.item());
-                forget(rows, choice.vehicle);
+                forget(rows, v);
             }
             None => return Ok(()),
         }

@@ -13,10 +13,10 @@ use crate::known::rows_of;
 use crate::room::Room;
 use crate::search::insert_all;
 use std::alloc::Global;
+use vr_inserting::keep_each;
 use vr_model::{Model, NoMemory, Seq};
 use vr_routes::Routes;
 use vr_rules::{active_marks, candidates, is_complete};
-use vr_timings::tables_of;
 
 // Copies of the lists of routes.
 fn copies(alloc: Global, routes: &Routes) -> Result<Vec<Seq<u32>>, NoMemory>
@@ -42,12 +42,12 @@ fn rebuilt_lists(alloc: Global, model: &Model, routes: &Routes) -> Result<Vec<Se
     let mut marks = active_marks(alloc, model, routes)?;
     let mut built = copies(alloc, routes)?;
     let mut rows = rows_of(alloc, candidates.len(), model.vehicles.len())?;
-    let tables = tables_of(alloc, model)?;
+    let mut keeps = keep_each(alloc, model, &built)?;
     let mut room = Room::new(alloc);
     insert_all(
         &mut room,
         model,
-        &tables,
+        &mut keeps,
         &candidates,
         &mut built,
         &mut marks,

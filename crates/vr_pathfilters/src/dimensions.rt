@@ -17,7 +17,6 @@ ghost use Rattle.vr_pathfilters.specs.Lists.{holds_of_each};
 ghost use Rattle.vr_pathfilters.specs.TourLists.{AreTours};
 ghost use Rattle.vr_pathfilters.specs.Known.{AreKnown, StandsAt, IsReady, AreRowsOfPart, with_part};
 
-use arrayvec::ArrayVec;
 use std::alloc::Global;
 use std::mem;
 use std::sync::ledger::Ledger;
@@ -25,8 +24,8 @@ use vr_filter::PathFilter;
 use vr_model::{Model, NoMemory, Seq, Steps};
 use vr_reach::{Rows, Walk};
 use vr_routes::{Change, Routes, Row};
-use vr_steps::{Breaks, Line};
-use vr_walks::{Stops, passes_along, write_line};
+use vr_steps::Line;
+use vr_walks::{Stops, no_line, passes_along, write_rows};
 
 /// Lets a change pass where the line of each used vehicle in one dimension has a schedule afterwards (the path cumul
 /// filter of a `RoutingDimension` in OR-Tools). It keeps the rows of the committed lists, and walks only through what a
@@ -160,44 +159,6 @@ impl<'m> PathFilter for DimensionFilter<'m> {
     }
 
     ghost keeps_rule = { λ f tours stands. stands.rule };
-}
-
-// A place for lines.
-fn no_line(alloc: Global) -> Line {
-    Line {
-        allowed: Seq::new(alloc),
-        hops: Seq::new(alloc),
-        breaks: Breaks {
-            rows: ArrayVec::new(),
-        },
-    }
-}
-
-// Writes the rows of vehicle `v` with a list over others, where the list is not empty. After `NoMemory` nothing is said
-// of them.
-fn write_rows(
-    alloc: Global,
-    model: &Model,
-    d: u32,
-    v: u32,
-    stops: &Stops,
-    list: &[u32],
-    line: &mut Line,
-    rows: &mut Rows,
-) -> Result<(), NoMemory>
-    requires well_formed { IsWellFormed model.now }
-    requires dimension { d < length model.now.dimensions }
-    requires vehicle { v < length model.now.vehicles }
-    requires stops { AreStops model.now d stops.now }
-    requires tour { IsTour model.now list.now }
-    ensures { OnOk result (AreRowsIfUsed model.now d v list.now rows.new) }
-{
-    if list.is_empty() {
-        return Ok(());
-    }
-    write_line(model, d, v, stops, list, line)?;
-    rows.rebuild(alloc, line)?;
-    Ok(())
 }
 
 // Writes the rows of the list of part `k` of a change over others, where there is that part. After `NoMemory` nothing is

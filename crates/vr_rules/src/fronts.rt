@@ -344,8 +344,8 @@ fn go_along(
     Ok(())
 }
 
-// Whether a vehicle may visit each node of an item.
-fn allows_item(model: &Model, v: u32, item: Item) -> bool
+/// Whether vehicle `v` may visit each node of an item (`SetAllowedVehiclesForIndex` in OR-Tools). It takes no memory.
+pub fn allows_item(model: &Model, v: u32, item: Item) -> bool
     ensures { result ≡ list_all (allows_vehicle_of model.now v) (nodes_of item) }
 {
     match item {

@@ -4,3 +4,4 @@ pub mod Sharing
 pub mod Stretching
 pub mod Counting
 pub mod Tables
+pub mod StandingLemmas

@@ -3,3 +3,4 @@ pub mod VisitSets
 pub mod Stops
 pub mod Stretches
 pub mod KnownRows
+pub mod Standing

@@ -4,12 +4,14 @@
 
 mod ends;
 mod lines;
+mod standing;
 mod stops;
 mod stretches;
 mod visits;
 mod walking;
 
-pub use lines::write_line;
+pub use lines::{no_line, write_line, write_rows};
+pub use standing::{go_on, goes_between, goes_from, is_stuck, leave_rows};
 pub use stops::Stops;
 pub use stretches::Stretch;
-pub use walking::{goes_beside, goes_through, passes_along};
+pub use walking::{goes_through, passes_along};

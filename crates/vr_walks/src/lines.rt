@@ -9,15 +9,57 @@ ghost use Rattle.vr_model.specs.schedules.Lines.{line};
 ghost use Rattle.vr_steps.specs.Arcs.{IsSoundHop};
 ghost use Rattle.vr_steps.specs.Levels.{HasNumbers, IsCumuls};
 ghost use Rattle.vr_steps.specs.Lines.{hops_along, IsLineOf, IsSoundLine};
+ghost use Rattle.vr_walks.specs.KnownRows.{AreRowsIfUsed};
 ghost use Rattle.vr_walks.specs.Lists.{IsTour};
 ghost use Rattle.vr_walks.specs.Stops.{AreEndsOf, AreStops};
 ghost use Rattle.vr_walks.specs.VisitSets.{AreVisitSets};
 
 use crate::ends::Ends;
 use crate::stops::{Stops, hop_from, set_at};
+use arrayvec::ArrayVec;
+use std::alloc::Global;
 use vr_model::{Model, NoMemory, Seq, laws};
+use vr_reach::Rows;
 use vr_spans::Spans;
 use vr_steps::{Breaks, Hop, Line};
+
+/// A place for lines. It takes no memory.
+pub fn no_line(alloc: Global) -> Line {
+    Line {
+        allowed: Seq::new(alloc),
+        hops: Seq::new(alloc),
+        breaks: Breaks {
+            rows: ArrayVec::new(),
+        },
+    }
+}
+
+/// Writes the rows of vehicle `v` with a list in dimension `d` over others, where the list is not empty; the line is
+/// written over. After `NoMemory` nothing is said of the rows.
+pub fn write_rows(
+    alloc: Global,
+    model: &Model,
+    d: u32,
+    v: u32,
+    stops: &Stops,
+    list: &[u32],
+    line: &mut Line,
+    rows: &mut Rows,
+) -> Result<(), NoMemory>
+    requires well_formed { IsWellFormed model.now }
+    requires dimension { d < length model.now.dimensions }
+    requires vehicle { v < length model.now.vehicles }
+    requires stops { AreStops model.now d stops.now }
+    requires tour { IsTour model.now list.now }
+    ensures { OnOk result (AreRowsIfUsed model.now d v list.now rows.new) }
+{
+    if list.is_empty() {
+        return Ok(());
+    }
+    write_line(model, d, v, stops, list, line)?;
+    rows.rebuild(alloc, line)?;
+    Ok(())
+}
 
 /// Writes the line of vehicle `v` with a list in dimension `d` over another line, as `Line::build` makes it. After
 /// `NoMemory` nothing is said of the line.

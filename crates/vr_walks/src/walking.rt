@@ -133,60 +133,6 @@ pub fn passes_along<L: Ledger>(
     Ok(passed)
 }
 
-/// The same as `passes_along`, where nobody counts steps.
-pub fn goes_beside(
-    model: &Model,
-    d: u32,
-    v: u32,
-    stops: &Stops,
-    rows: &Rows,
-    old: &[u32],
-    new: &[u32],
-    walk: &mut Walk,
-) -> Result<bool, NoMemory>
-    requires well_formed { IsWellFormed model.now }
-    requires dimension { d < length model.now.dimensions }
-    requires vehicle { v < length model.now.vehicles }
-    requires stops { AreStops model.now d stops.now }
-    requires rows { AreRowsIfUsed model.now d v old.now rows.now }
-    requires old_tour { IsTour model.now old.now }
-    requires tour { IsTour model.now new.now }
-    requires passed { IsTrue (is_feasible_list model.now d v old.now) }
-    ensures { IfOk result (λ goes. goes ≡ is_feasible_list model.now d v new.now) }
-{
-    let goes = uncounted::<Brand>(model, d, v, stops, rows, old, new, walk, Blank::new(1))?;
-    Ok(goes)
-}
-
-fn uncounted<L: Ledger>(
-    model: &Model,
-    d: u32,
-    v: u32,
-    stops: &Stops,
-    rows: &Rows,
-    old: &[u32],
-    new: &[u32],
-    walk: &mut Walk,
-    blank: Blank,
-) -> Result<bool, NoMemory>
-    requires name { blank.name ≡ L.name }
-    requires parts { blank.parts ≡ L.parts }
-    requires some { 0 < blank.parts }
-    requires well_formed { IsWellFormed model.now }
-    requires dimension { d < length model.now.dimensions }
-    requires vehicle { v < length model.now.vehicles }
-    requires stops { AreStops model.now d stops.now }
-    requires rows { AreRowsIfUsed model.now d v old.now rows.now }
-    requires old_tour { IsTour model.now old.now }
-    requires tour { IsTour model.now new.now }
-    requires passed { IsTrue (is_feasible_list model.now d v old.now) }
-    ensures { IfOk result (λ goes. goes ≡ is_feasible_list model.now d v new.now) }
-{
-    let mut steps = Steps::<L>::new(blank);
-    let goes = passes_along(model, d, v, stops, rows, old, new, walk, &mut steps)?;
-    Ok(goes)
-}
-
 /// Whether vehicle `v` has a schedule with a list in dimension `d`: goes along the list from its start to its end.
 /// Afterwards nothing is said of where the walk stands.
 ///
@@ -210,18 +156,35 @@ pub fn goes_through(
 {
     let ends = &stops.ends[v as usize];
     let visits = stops.visits.of(model, d, v);
-    let goes = walk_all::<Brand>(model, d, v, ends, visits, list, walk, Blank::new(1))?;
+    let goes = walk_uncounted::<Brand>(
+        model,
+        d,
+        v,
+        ends,
+        visits,
+        list,
+        0,
+        list.len() + 1,
+        &ends.start_levels,
+        &ends.end_levels,
+        walk,
+        Blank::new(1),
+    )?;
     Ok(goes)
 }
 
-// Whether the line of a list is feasible, found by a walk from its start to its end.
-fn walk_all<L: Ledger>(
+// The same as `walk_through`, where nobody counts steps.
+pub(crate) fn walk_uncounted<L: Ledger>(
     model: &Model,
     d: u32,
     v: u32,
     ends: &Ends,
     visits: &[Spans],
     list: &[u32],
+    begin: usize,
+    last: usize,
+    from: &Levels,
+    to: &Levels,
     walk: &mut Walk,
     blank: Blank,
 ) -> Result<bool, NoMemory>
@@ -234,28 +197,23 @@ fn walk_all<L: Ledger>(
     requires ends { AreEndsOf model.now d v ends.now }
     requires visits { AreVisitSets model.now d v visits.now }
     requires used { IsUsed model.now list.now }
+    requires order { begin < last }
+    requires within { last ≤ suc (length list.now) }
+    requires from_form { AreLevels ends.now.breaks from.now }
+    requires from { AreReached (line model.now d v list.now) begin from.now }
+    requires to_form { AreLevels ends.now.breaks to.now }
+    requires to { AreReachingEnd (line model.now d v list.now) last to.now }
     ensures { IfOk result (λ goes. goes ≡ is_feasible (line model.now d v list.now)) }
 {
     let mut steps = Steps::<L>::new(blank);
     let goes = walk_through(
-        model,
-        d,
-        v,
-        ends,
-        visits,
-        list,
-        0,
-        list.len() + 1,
-        &ends.start_levels,
-        &ends.end_levels,
-        walk,
-        &mut steps,
+        model, d, v, ends, visits, list, begin, last, from, to, walk, &mut steps,
     )?;
     Ok(goes)
 }
 
 // The levels at which the last stop is reached that a list shares at the front with the one whose rows are known.
-fn levels_before<'a>(ends: &'a Ends, rows: &'a Rows, front: usize) -> &'a Levels
+pub(crate) fn levels_before<'a>(ends: &'a Ends, rows: &'a Rows, front: usize) -> &'a Levels
     requires row { 0 < front → front < length rows.now.forward }
     ensures start { front ≡ 0 → result.now ≡ ends.now.start_levels }
     ensures row { 0 < front → result.now ≡ row_at rows.now.forward front }
@@ -268,7 +226,7 @@ fn levels_before<'a>(ends: &'a Ends, rows: &'a Rows, front: usize) -> &'a Levels
 
 // The levels from which the end is reached at the first stop that a list shares at the back with the one of `n` visits
 // whose rows are known.
-fn levels_behind<'a>(ends: &'a Ends, rows: &'a Rows, n: usize, back: usize) -> &'a Levels
+pub(crate) fn levels_behind<'a>(ends: &'a Ends, rows: &'a Rows, n: usize, back: usize) -> &'a Levels
     requires few { back ≤ n }
     requires row { 0 < back → n - back + 1 < length rows.now.backward }
     ensures end { back ≡ 0 → result.now ≡ ends.now.end_levels }

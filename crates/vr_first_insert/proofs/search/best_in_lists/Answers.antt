@@ -5,6 +5,7 @@ use Rattle.vr_first_insert.specs.Placings.{best_in, MayHold}
 use Rattle.vr_first_insert.specs.declared.known.Known.TheVariants.{Nothing}
 use Rattle.vr_first_insert.proofs.InsertLemmas.{best_in_lists-more, list_at}
 use Rattle.vr_first_insert.proofs.KeptLemmas.{known-written}
+use Rattle.vr_first_insert.specs.Ready.{IsReady}
 use Rattle.vr_first_insert.proofs.search.best_in_lists.Goals as goal
 
 pub asked-requires-clause-may_hold : goal.asked-requires-clause-may_hold
@@ -36,3 +37,10 @@ loop-v-preserved c =
       row = subst (AreKnown model lists candidate) (sym c.set.ensures)
           (known-written model lists candidate c.loop-v.row v known c.loop-v.invariant.row (subst (λ l. IsKnown model v l candidate known) list c.in_ok-known.ensures.known));
     }
+
+pub asked-requires-clause-ready : goal.asked-requires-clause-ready
+asked-requires-clause-ready c =
+    let lists = c.args.lists.now in
+    let v : ℕ = c.loop-v.v in
+    let list : c.as_slice-list.result.now ≡ route lists v = list_at lists v c.as_slice-list.result.now c.index-lists-v.result c.as_slice-list.ensures c.index-lists-v.is c.loop-v-test.true in
+    subst (λ list. IsReady c.args.model.now v list c.args.keeps.now) (sym list) (c.requires.ready v c.loop-v-test.true)

@@ -14,6 +14,11 @@ use Rattle.vr_first_insert.proofs.PlacedLemmas.{IsAdded-placed}
 use Rattle.vr_first_insert.proofs.BestLemmas.{rebuilt-stops, rebuilt-next, candidates-count, inserted-choice}
 use Rattle.vr_first_insert.specs.Kept.{AreRows}
 use Rattle.vr_first_insert.proofs.KeptLemmas.{rows-forgotten}
+use Rattle.vr_walks.specs.Lists.{IsTour}
+use Rattle.vr_model.proofs.routes.Lists.{route_set_same}
+use Rattle.vr_inserting.specs.Kept.{AreKeptBut}
+use Rattle.vr_inserting.proofs.RowLemmas.{kept_but}
+use Rattle.std.proofs.lemmas.List.{length-set}
 use Rattle.vr_first_insert.proofs.search.insert_all.Goals as goal
 
 pub returns-in-None-clause-rebuilt : goal.returns-in-None-clause-rebuilt
@@ -52,6 +57,7 @@ loop-step-preserved c =
           (λ node d low. c.mark_item.ensures.each node d low ∙ ap (λ item. holds (nodes_of item) node || slice_index_or c.loop-step.marks node d) c.item.ensures));
       rows = subst (λ lists. AreRows model lists c.args.candidates.now c.forget.new.rows) (sym is)
           (rows-forgotten model lists c.args.candidates.now c.next_insertion.new.rows c.forget.new.rows v list may.vehicle c.in_ok-choice.ensures.rows c.forget.ensures.many c.forget.ensures.each);
+      kept = c.in_ok-learn-in-Some.ensures;
     }
 
 pub forget-requires : goal.forget-requires
@@ -65,3 +71,30 @@ forget-requires c =
           let row = (rows.each i (omega (arith, low, many))).many in
           omega (arith, there, row);
     }
+
+pub learn-requires-clause-others : goal.learn-requires-clause-others
+learn-requires-clause-others c =
+    let lists : List (List ℕ) = c.loop-step.lists in
+    let choice : Choice = c.in-Some.choice in
+    subst (λ lists. AreKeptBut c.args.model.now lists choice.vehicle c.loop-step.keeps) (sym c.in_ok-place_in-in-Some.ensures)
+    (kept_but c.args.model.now lists c.loop-step.keeps choice.vehicle (placed (route lists choice.vehicle) choice.placing) c.loop-step.invariant.kept)
+
+pub learn-requires-clause-there : goal.learn-requires-clause-there
+learn-requires-clause-there c =
+    let lists : List (List ℕ) = c.loop-step.lists in
+    let choice : Choice = c.in-Some.choice in
+    let may : MayBeInserted c.args.model.now lists choice = rw c.in-Some.is at c.in_ok-choice.ensures.may in
+    let low = may.vehicle in
+    let long = ap length c.in_ok-place_in-in-Some.ensures ∙ length-set lists choice.vehicle (placed (route lists choice.vehicle) choice.placing) in
+    omega (arith, low, long)
+
+pub learn-requires-clause-tour : goal.learn-requires-clause-tour
+learn-requires-clause-tour c =
+    let model = c.args.model.now in
+    let lists : List (List ℕ) = c.loop-step.lists in
+    let choice : Choice = c.in-Some.choice in
+    let v : ℕ = choice.vehicle in
+    let may : MayBeInserted model lists choice = rw c.in-Some.is at c.in_ok-choice.ensures.may in
+    let added = IsAdded-placed model lists v choice.placing c.loop-step.invariant.built may.vehicle may.is_item may.inactive may.within in
+    subst (IsTour model) (sym (ap (λ lists. route lists v) c.in_ok-place_in-in-Some.ensures ∙ route_set_same lists v (placed (route lists v) choice.placing) may.vehicle))
+    (record { visits = added.visits; distinct = added.distinct })

@@ -1,6 +1,7 @@
 use Rattle.std.proofs.Common.{◌≡◌, ◌-◌, length}
 use Rattle.vr_model.specs.first.CheapestInsertion.{rebuilt}
 use Rattle.vr_rules.specs.Placing.{AreBuilt, AreMarks}
+use Rattle.vr_inserting.specs.Kept.{AreKept}
 use Rattle.vr_first_insert.specs.Kept.{AreRows}
 use Rattle.vr_first_insert.proofs.search.insert_all.Given as goal
 
@@ -11,4 +12,5 @@ invariant-loop-step l = record {
   built : AreBuilt l.model l.lists;
   marked : AreMarks l.model.nodes l.lists l.marks;
   rows : AreRows l.model l.lists l.candidates l.rows;
+  kept : AreKept l.model l.lists l.keeps;
 }

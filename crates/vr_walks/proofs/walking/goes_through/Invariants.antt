@@ -1,4 +1,4 @@
 use Rattle.vr_walks.proofs.walking.goes_through.Given as goal
 
-abbrev pub ghosts-walk_all : goal.ghosts-walk_all
-ghosts-walk_all a = record { name = a.blank.name; parts = a.blank.parts }
+abbrev pub ghosts-walk_uncounted : goal.ghosts-walk_uncounted
+ghosts-walk_uncounted a = record { name = a.blank.name; parts = a.blank.parts }

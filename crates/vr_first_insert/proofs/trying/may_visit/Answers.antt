@@ -1,0 +1,52 @@
+use Rattle.std.proofs.Common.{◌≡◌, ◌∙◌, ◌+◌, ◌-◌, ◌≤◌, ap, sym, subst, arith, length}
+use Rattle.std.proofs.lemmas.List.Edits.{length-insert}
+use Rattle.vr_lists.proofs.VisitLists.{visits-few}
+use Rattle.vr_rules.specs.RoutesOpen.{is_feasible_in_each}
+use Rattle.vr_walks.specs.Lists.{IsUsed}
+use Rattle.vr_walks.specs.Stretches.{SharesFront, SharesBack}
+use Rattle.vr_lists.specs.Pairs.{keeps_pairs}
+use Rattle.vr_inserting.proofs.InsertedLemmas.{visit_back, visit_front}
+use Rattle.vr_first_insert.specs.declared.choice.Placing.TheVariants.{One}
+use Rattle.vr_first_insert.specs.Placings.{placed}
+use Rattle.vr_first_insert.proofs.ReadyLemmas.{closed-by_lines, closed-by_vehicle, open-by_pairs, used-placed}
+use Rattle.vr_first_insert.proofs.trying.may_visit.Goals as goal
+
+pub overflow_cast-t : goal.overflow_cast-t
+overflow_cast-t c = omega (arith, visits-few c.args.model.now c.args.list.now c.requires.may_hold.visits c.requires.may_hold.distinct, c.requires.well_formed.number_of_nodes.1)
+
+pub write_placed-requires-clause-few : goal.write_placed-requires-clause-few
+write_placed-requires-clause-few c = omega (arith, visits-few c.args.model.now c.args.list.now c.requires.may_hold.visits c.requires.may_hold.distinct, c.requires.well_formed.number_of_nodes.1)
+
+pub is_feasible_between-requires-clause-used : goal.is_feasible_between-requires-clause-used
+is_feasible_between-requires-clause-used c =
+    subst (IsUsed c.args.model.now) (sym (c.as_slice-longer.ensures ∙ c.in_ok-write_placed.ensures)) (used-placed c.args.model.now c.args.list.now (One c.args.node c.args.t) c.requires.within c.requires.may_hold)
+
+pub is_feasible_between-requires-clause-front : goal.is_feasible_between-requires-clause-front
+is_feasible_between-requires-clause-front c =
+    subst (λ new. SharesFront c.args.list.now new c.args.t) (sym (c.as_slice-longer.ensures ∙ c.in_ok-write_placed.ensures)) (visit_front c.args.list.now c.args.t c.args.node c.requires.within)
+
+pub is_feasible_between-requires-clause-back : goal.is_feasible_between-requires-clause-back
+is_feasible_between-requires-clause-back c =
+    subst (λ new. SharesBack c.args.list.now new (length c.args.list.now - c.args.t)) (sym (c.as_slice-longer.ensures ∙ c.in_ok-write_placed.ensures)) (visit_back c.args.list.now c.args.t c.args.node c.requires.within)
+
+pub is_feasible_between-requires-clause-apart : goal.is_feasible_between-requires-clause-apart
+is_feasible_between-requires-clause-apart c =
+    let long = ap length (c.as_slice-longer.ensures ∙ c.in_ok-write_placed.ensures) ∙ length-insert c.args.list.now c.args.t c.args.node c.requires.within in
+    omega (arith, long, c.requires.within)
+
+pub returns-then-not-allows_item : goal.returns-then-not-allows_item
+returns-then-not-allows_item c =
+    sym (closed-by_vehicle c.args.model.now c.args.v c.args.list.now (One c.args.node c.args.t) c.requires.within c.requires.ready.stands (sym c.allows_item.ensures ∙ c.if-not-allows_item.true))
+
+pub returns-then-not-branch : goal.returns-then-not-branch
+returns-then-not-branch c =
+    let list = placed c.args.list.now (One c.args.node c.args.t) in
+    sym (closed-by_lines c.args.model.now c.args.v list (used-placed c.args.model.now c.args.list.now (One c.args.node c.args.t) c.requires.within c.requires.may_hold).some
+    (ap (is_feasible_in_each c.args.model.now c.args.v) (sym (c.as_slice-longer.ensures ∙ c.in_ok-write_placed.ensures)) ∙ sym c.in_ok-is_feasible_between.ensures ∙ c.if-not-branch.true))
+
+pub returns : goal.returns
+returns c =
+    let is = c.as_slice-longer.ensures ∙ c.in_ok-write_placed.ensures in
+    c.keeps_pairs.ensures ∙ ap (keeps_pairs c.args.model.now c.args.v) is
+    ∙ sym (open-by_pairs c.args.model.now c.args.v c.args.list.now (One c.args.node c.args.t) c.requires.within c.requires.ready.stands (sym c.allows_item.ensures ∙ c.if-not-allows_item.false)
+        (ap (is_feasible_in_each c.args.model.now c.args.v) (sym is) ∙ sym c.in_ok-is_feasible_between.ensures ∙ c.if-not-branch.false))

@@ -1,0 +1,104 @@
+//! Whether a list stays open with an item put in.
+
+ghost use Rattle.std.specs.Prelude.{◌≡◌, ◌+◌, ◌<◌, ◌≤◌, IfOk, IsTrue, insert, length};
+ghost use Rattle.vr_model.specs.routes.Rules.{is_route_open};
+ghost use Rattle.vr_model.specs.tables.WellFormed.{IsWellFormed};
+ghost use Rattle.vr_rules.specs.declared.items.Item.TheVariants.{Visit, PickupAndDelivery};
+ghost use Rattle.vr_inserting.specs.Probes.{AreReachedAt};
+ghost use Rattle.vr_first_insert.specs.Placings.{placed, MayHold};
+ghost use Rattle.vr_first_insert.specs.Ready.{IsReady};
+ghost use Rattle.vr_first_insert.specs.declared.choice.Placing.TheVariants.{One, Two};
+
+use crate::choice::Placing;
+use crate::place::write_placed;
+use std::alloc::Global;
+use vr_inserting::{Kept, Probes, is_feasible_between};
+use vr_lists::{PairPlaces, keeps_pairs};
+use vr_model::{Model, NoMemory, Seq};
+use vr_reach::Walk;
+use vr_rules::{Item, allows_item};
+
+/// What is written over for each place that is tried.
+#[derive(Drop)]
+pub(crate) struct Trying {
+    pub(crate) walk: Walk,
+    pairs: PairPlaces,
+    // the list with an item placed in it
+    longer: Seq<u32>,
+}
+
+impl Trying {
+    /// It takes no memory.
+    pub(crate) fn new(alloc: Global) -> Trying {
+        Trying {
+            walk: Walk::new(alloc),
+            pairs: PairPlaces::new(),
+            longer: Seq::new(alloc),
+        }
+    }
+}
+
+/// Whether vehicle `v` may drive its list with a visit before place `t`, found by walks over the two arcs that are new.
+pub(crate) fn may_visit(
+    trying: &mut Trying,
+    model: &Model,
+    keeps: &[Kept],
+    v: u32,
+    list: &[u32],
+    node: u32,
+    t: usize,
+) -> Result<bool, NoMemory>
+    requires well_formed { IsWellFormed model.now }
+    requires vehicle { v < length model.now.vehicles }
+    requires ready { IsReady model.now v list.now keeps.now }
+    requires may_hold { MayHold model.now list.now (Visit node) }
+    requires within { t ≤ length list.now }
+    ensures { IfOk result (λ may. may ≡ is_route_open model.now v (placed list.now (One node t))) }
+{
+    if !allows_item(model, v, Item::Visit(node)) {
+        return Ok(false);
+    }
+    write_placed(list, Placing::One(node, t as u32), &mut trying.longer)?;
+    let longer = trying.longer.as_slice();
+    let back = list.len() - t;
+    if !is_feasible_between(model, keeps, v, list, longer, t, back, &mut trying.walk)? {
+        return Ok(false);
+    }
+    Ok(keeps_pairs(model, v, longer, &mut trying.pairs))
+}
+
+/// Whether vehicle `v` may drive its list with a pickup before place `s` and its delivery before place `t`, where what
+/// the list with the pickup reaches at the node before the delivery is known.
+pub(crate) fn may_serve(
+    trying: &mut Trying,
+    probes: &Probes,
+    model: &Model,
+    keeps: &[Kept],
+    v: u32,
+    list: &[u32],
+    pickup: u32,
+    delivery: u32,
+    s: usize,
+    t: usize,
+) -> Result<bool, NoMemory>
+    requires well_formed { IsWellFormed model.now }
+    requires vehicle { v < length model.now.vehicles }
+    requires ready { IsReady model.now v list.now keeps.now }
+    requires may_hold { MayHold model.now list.now (PickupAndDelivery pickup delivery) }
+    requires order { s ≤ t }
+    requires within { t ≤ length list.now }
+    requires here { AreReachedAt model.now v (insert list.now s pickup) (t + 1) probes.now }
+    ensures { IfOk result (λ may. may ≡ is_route_open model.now v (placed list.now (Two pickup delivery s t))) }
+{
+    if !allows_item(model, v, Item::PickupAndDelivery(pickup, delivery)) {
+        return Ok(false);
+    }
+    let placing = Placing::Two(pickup, delivery, s as u32, t as u32);
+    write_placed(list, placing, &mut trying.longer)?;
+    let longer = trying.longer.as_slice();
+    let back = list.len() - t;
+    if !probes.goes_from(model, keeps, v, list, longer, t + 1, back, &mut trying.walk)? {
+        return Ok(false);
+    }
+    Ok(keeps_pairs(model, v, longer, &mut trying.pairs))
+}

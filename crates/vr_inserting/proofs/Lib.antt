@@ -1,0 +1,2 @@
+pub mod InsertedLemmas
+pub mod RowLemmas
