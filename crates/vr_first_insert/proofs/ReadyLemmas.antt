@@ -79,7 +79,7 @@ all-placed q list (One n t) within = one-each q (take t list) (drop t list) n �
 all-placed q list (Two p d s t) within =
     one-each q (take s list) (slice_range list s t ++ d ∷ drop t list) p
     ∙ ap (λ b. q p && b) (ap (list_all q) (sym (append_assoc (take s list) (slice_range list s t) (d ∷ drop t list))) ∙ one-each q (take s list ++ slice_range list s t) (drop t list) d
-        ∙ ap (λ l. q d && list_all q l) (append_assoc (take s list) (slice_range list s t) (drop t list) ∙ split-three list s t within.0))
+    ∙ ap (λ l. q d && list_all q l) (append_assoc (take s list) (slice_range list s t) (drop t list) ∙ split-three list s t within.0))
     ∙ group-two (q p) (q d) (list_all q list)
 
 -- ---- when the list with the item is open
@@ -153,5 +153,5 @@ deliveries-stuck model v list class p d s t best probes low may order within at 
     let long = pair_long pair list s u (omega (arith, order, from)) u_high in
     ap (λ c. is_route_open model c.vehicle (placed list c.placing)) is
     ∙ closed-by_lines model v (placed list (Two p d s u)) used.some
-        (no_end v (placed list (Two p d s u)) (t + 1) low used (omega (arith, long, within))
-        (reached_in_each model v (insert list s p) (placed list (Two p d s u)) (t + 1) probes (pair_front pair list s u t order (omega (arith, from)) u_high) at))))
+    (no_end v (placed list (Two p d s u)) (t + 1) low used (omega (arith, long, within))
+    (reached_in_each model v (insert list s p) (placed list (Two p d s u)) (t + 1) probes (pair_front pair list s u t order (omega (arith, from)) u_high) at))))

@@ -168,7 +168,9 @@ fn weigh_pair(
     if !improves(best, next) {
         return Ok(best);
     }
-    if may_serve(trying, probes, model, keeps, v, list, pickup, delivery, s, t)? {
+    if may_serve(
+        trying, probes, model, keeps, v, list, pickup, delivery, s, t,
+    )? {
         Ok(Some(next))
     } else {
         Ok(best)

@@ -101,7 +101,18 @@ pub fn leave_rows(
     let ends = &stops.ends[v as usize];
     let visits = stops.visits.of(model, d, v);
     let from = levels_before(ends, rows, front);
-    cross_arc::<Brand>(model, d, v, ends, visits, new, front, from, walk, Blank::new(1))?;
+    cross_arc::<Brand>(
+        model,
+        d,
+        v,
+        ends,
+        visits,
+        new,
+        front,
+        from,
+        walk,
+        Blank::new(1),
+    )?;
     walk.hand_over(here);
     Ok(())
 }
@@ -131,7 +142,18 @@ pub fn go_on(
 {
     let ends = &stops.ends[v as usize];
     let visits = stops.visits.of(model, d, v);
-    cross_arc::<Brand>(model, d, v, ends, visits, list, k, here, walk, Blank::new(1))?;
+    cross_arc::<Brand>(
+        model,
+        d,
+        v,
+        ends,
+        visits,
+        list,
+        k,
+        here,
+        walk,
+        Blank::new(1),
+    )?;
     walk.hand_over(here);
     Ok(())
 }

@@ -52,7 +52,7 @@ returns-then-is_stuck c =
     let model = c.args.model.now in
     let list = c.args.list.now in
     deliveries-stuck model c.args.v list c.args.class c.args.pickup c.args.delivery c.args.s c.loop-t.t c.loop-t.best c.loop-t.probes c.requires.vehicle c.requires.may_hold (omega arith) (omega arith)
-        (subst (λ half. AreReachedAt model c.args.v half (c.loop-t.t + 1) c.loop-t.probes) c.requires.half c.loop-t.invariant.reached) (c.is_stuck.ensures c.if-is_stuck.true)
+    (subst (λ half. AreReachedAt model c.args.v half (c.loop-t.t + 1) c.loop-t.probes) c.requires.half c.loop-t.invariant.reached) (c.is_stuck.ensures c.if-is_stuck.true)
     ∙ c.loop-t.invariant.best
 
 pub returns : goal.returns

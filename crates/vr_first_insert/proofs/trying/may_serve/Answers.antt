@@ -11,7 +11,19 @@ use Rattle.vr_inserting.proofs.RowLemmas.{reached_in_each}
 use Rattle.vr_first_insert.specs.declared.choice.Placing.TheVariants.{Two}
 use Rattle.vr_first_insert.specs.Placings.{placed}
 use Rattle.vr_first_insert.proofs.ReadyLemmas.{closed-by_lines, closed-by_vehicle, open-by_pairs, used-placed}
+use Rattle.std.specs.List.{list_all}
+use Rattle.vr_model.specs.routes.Routes.{is_distinct}
+use Rattle.vr_model.specs.tables.Tables.{is_visit}
+use Rattle.vr_first_insert.proofs.PlacedLemmas.{placed-distinct, placed-visits}
 use Rattle.vr_first_insert.proofs.trying.may_serve.Goals as goal
+
+pub keeps_pairs-requires-clause-visits : goal.keeps_pairs-requires-clause-visits
+keeps_pairs-requires-clause-visits c =
+    ap (list_all (is_visit c.args.model.now)) (c.as_slice-longer.ensures ∙ c.in_ok-write_placed.ensures) ∙ placed-visits c.args.model.now c.args.list.now (Two c.args.pickup c.args.delivery c.args.s c.args.t) (c.requires.order, c.requires.within) c.requires.may_hold
+
+pub keeps_pairs-requires-clause-distinct : goal.keeps_pairs-requires-clause-distinct
+keeps_pairs-requires-clause-distinct c =
+    ap is_distinct (c.as_slice-longer.ensures ∙ c.in_ok-write_placed.ensures) ∙ placed-distinct c.args.model.now c.args.list.now (Two c.args.pickup c.args.delivery c.args.s c.args.t) (c.requires.order, c.requires.within) c.requires.may_hold
 
 pub overflow_cast-placing : goal.overflow_cast-placing
 overflow_cast-placing c = omega (arith, visits-few c.args.model.now c.args.list.now c.requires.may_hold.visits c.requires.may_hold.distinct, c.requires.well_formed.number_of_nodes.1)
@@ -30,7 +42,7 @@ pub goes_from-requires-clause-here : goal.goes_from-requires-clause-here
 goes_from-requires-clause-here c =
     subst (λ new. AreReachedAt c.args.model.now c.args.v new (c.args.t + 1) c.args.probes.now) (sym (c.as_slice-longer.ensures ∙ c.in_ok-write_placed.ensures))
     (reached_in_each c.args.model.now c.args.v (insert c.args.list.now c.args.s c.args.pickup) (placed c.args.list.now (Two c.args.pickup c.args.delivery c.args.s c.args.t)) (c.args.t + 1) c.args.probes.now
-        (pair_front (record { pickup = c.args.pickup; delivery = c.args.delivery }) c.args.list.now c.args.s c.args.t c.args.t c.requires.order (omega arith) c.requires.within) c.requires.here)
+    (pair_front (record { pickup = c.args.pickup; delivery = c.args.delivery }) c.args.list.now c.args.s c.args.t c.args.t c.requires.order (omega arith) c.requires.within) c.requires.here)
 
 pub goes_from-requires-clause-back : goal.goes_from-requires-clause-back
 goes_from-requires-clause-back c =
@@ -57,4 +69,4 @@ returns c =
     let is = c.as_slice-longer.ensures ∙ c.in_ok-write_placed.ensures in
     c.keeps_pairs.ensures ∙ ap (keeps_pairs c.args.model.now c.args.v) is
     ∙ sym (open-by_pairs c.args.model.now c.args.v c.args.list.now (Two c.args.pickup c.args.delivery c.args.s c.args.t) (c.requires.order, c.requires.within) c.requires.ready.stands (sym c.allows_item.ensures ∙ c.if-not-allows_item.false)
-        (ap (is_feasible_in_each c.args.model.now c.args.v) (sym is) ∙ sym c.in_ok-goes_from.ensures ∙ c.if-not-branch.false))
+    (ap (is_feasible_in_each c.args.model.now c.args.v) (sym is) ∙ sym c.in_ok-goes_from.ensures ∙ c.if-not-branch.false))

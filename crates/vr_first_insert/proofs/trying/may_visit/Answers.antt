@@ -9,7 +9,19 @@ use Rattle.vr_inserting.proofs.InsertedLemmas.{visit_back, visit_front}
 use Rattle.vr_first_insert.specs.declared.choice.Placing.TheVariants.{One}
 use Rattle.vr_first_insert.specs.Placings.{placed}
 use Rattle.vr_first_insert.proofs.ReadyLemmas.{closed-by_lines, closed-by_vehicle, open-by_pairs, used-placed}
+use Rattle.std.specs.List.{list_all}
+use Rattle.vr_model.specs.routes.Routes.{is_distinct}
+use Rattle.vr_model.specs.tables.Tables.{is_visit}
+use Rattle.vr_first_insert.proofs.PlacedLemmas.{placed-distinct, placed-visits}
 use Rattle.vr_first_insert.proofs.trying.may_visit.Goals as goal
+
+pub keeps_pairs-requires-clause-visits : goal.keeps_pairs-requires-clause-visits
+keeps_pairs-requires-clause-visits c =
+    ap (list_all (is_visit c.args.model.now)) (c.as_slice-longer.ensures ∙ c.in_ok-write_placed.ensures) ∙ placed-visits c.args.model.now c.args.list.now (One c.args.node c.args.t) c.requires.within c.requires.may_hold
+
+pub keeps_pairs-requires-clause-distinct : goal.keeps_pairs-requires-clause-distinct
+keeps_pairs-requires-clause-distinct c =
+    ap is_distinct (c.as_slice-longer.ensures ∙ c.in_ok-write_placed.ensures) ∙ placed-distinct c.args.model.now c.args.list.now (One c.args.node c.args.t) c.requires.within c.requires.may_hold
 
 pub overflow_cast-t : goal.overflow_cast-t
 overflow_cast-t c = omega (arith, visits-few c.args.model.now c.args.list.now c.requires.may_hold.visits c.requires.may_hold.distinct, c.requires.well_formed.number_of_nodes.1)
@@ -49,4 +61,4 @@ returns c =
     let is = c.as_slice-longer.ensures ∙ c.in_ok-write_placed.ensures in
     c.keeps_pairs.ensures ∙ ap (keeps_pairs c.args.model.now c.args.v) is
     ∙ sym (open-by_pairs c.args.model.now c.args.v c.args.list.now (One c.args.node c.args.t) c.requires.within c.requires.ready.stands (sym c.allows_item.ensures ∙ c.if-not-allows_item.false)
-        (ap (is_feasible_in_each c.args.model.now c.args.v) (sym is) ∙ sym c.in_ok-is_feasible_between.ensures ∙ c.if-not-branch.false))
+    (ap (is_feasible_in_each c.args.model.now c.args.v) (sym is) ∙ sym c.in_ok-is_feasible_between.ensures ∙ c.if-not-branch.false))
