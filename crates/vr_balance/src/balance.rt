@@ -1,6 +1,7 @@
 //! The balance of a change.
 
-ghost use Rattle.std.specs.Prelude.{◌≡◌, ◌+◌, ◌<◌, ◌≤◌, ℕ, List, [], length, All, slice_index_or, slice_range, sum_by, false};
+ghost use Rattle.std.specs.Prelude.{◌≡◌, ◌+◌, ◌<◌, ◌≤◌, ℕ, List, [], length, All, false};
+ghost use Rattle.std.specs.Prelude.{slice_index_or, slice_range, sum_by};
 ghost use Rattle.arrayvec.specs.ArrayVec.{array_vec_len};
 ghost use Rattle.vr_model.specs.routes.Routes.{route};
 ghost use Rattle.vr_routes.specs.Pieces.{changed, joined, nodes_of, IsWithin};
@@ -211,7 +212,8 @@ impl Balance {
         ensures room { length self.new.come ≤ length self.old.come }
         ensures room_too { length self.new.gone ≤ length self.old.gone + 1 }
         ensures within { AreWithin _routes.now.lists self.new }
-        ensures became { Became _routes.now.lists self.old self.new (slice_range (route _routes.now.lists v) from to) [] }
+        ensures became { Became _routes.now.lists self.old self.new
+            (slice_range (route _routes.now.lists v) from to) [] }
     {
         if from < to {
             let chain = Piece::Chain {

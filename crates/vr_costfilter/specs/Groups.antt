@@ -1,5 +1,6 @@
 -- The penalties of groups.
-use Rattle.std.specs.Prelude.{◌≡◌, ℕ, ◌<◌, Bool, false, All, IsTrue, cond, List, [], ◌∷◌, length, Option, Some, None, ℤ, pos, negsuc}
+use Rattle.std.specs.Prelude.{◌≡◌, ℕ, ◌<◌, Bool, false, All, IsTrue, cond, List, [], ◌∷◌, length, Option, Some, None}
+use Rattle.std.specs.Prelude.{ℤ, pos, negsuc}
 use Rattle.vr_model.specs.tables.Numbers.{number_at, total_by}
 use Rattle.vr_model.specs.tables.Tables.{visits}
 use Rattle.vr_model.specs.routes.Routes.{holds}

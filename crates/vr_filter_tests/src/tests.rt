@@ -1,6 +1,7 @@
 //! Filters that follow moves: a move is committed where the filter lets it pass.
 
-ghost use Rattle.std.specs.Prelude.{◌≡◌, ◌<◌, IfOk, IfSome, OnOk, length};
+ghost use Rattle.std.specs.Prelude.{◌≡◌, ◌<◌, IfOk, IfSome, IsTrue, OnOk, length};
+ghost use Rattle.vr_model.specs.routes.Rules.{is_valid};
 ghost use Rattle.vr_model.specs.tables.Tables.{visits};
 ghost use Rattle.vr_model.specs.tables.WellFormed.{IsWellFormed};
 
@@ -12,9 +13,11 @@ use std::test::Fail;
 use vr_filter::{Both, PathFilter};
 use vr_json::Path;
 use vr_model::{Model, Move, NoMemory, Steps};
-use vr_pathfilters::{DimensionFilter, VehicleFilter};
+use vr_pathfilters::{DimensionFilter, GroupFilter, VehicleFilter};
 use vr_read::read_model;
+use vr_routes::samples::routes_of;
 use vr_routes::{Change, Routes};
+use vr_rules::valid;
 
 // Four visits, each 10 from the others. Node 1 has a window, node 2 a later one, node 3 five forbidden intervals, so
 // that its set is kept beyond what is held in place, and node 4 a late window; node 4 is for the first vehicle alone.
@@ -251,5 +254,89 @@ fn filters_are_joined(rt: HostRuntime) -> Result<(), Fail> {
         (Move::MakeActive { u: 2, w: 1, t: 0 }, false),
     ];
     assert!(rt; both_follow(alloc, &model, moves)?);
+    Ok(())
+}
+
+// Valid routes with these lists, where there are such.
+fn valid_routes(alloc: Global, model: &Model, lists: &[&[u32]]) -> Result<Option<Routes>, NoMemory>
+    requires well_formed { IsWellFormed model.now }
+    ensures of_model { IfOk result (λ routes. IfSome routes (λ found. found.visits ≡ visits model.now)) }
+    ensures valid { IfOk result (λ routes. IfSome routes (λ found. IsTrue (is_valid model.now found.lists))) }
+{
+    let Some(routes) = routes_of(alloc, model, lists)? else {
+        return Ok(None);
+    };
+    if valid(alloc, model, &routes)? {
+        Ok(Some(routes))
+    } else {
+        Ok(None)
+    }
+}
+
+// Whether the filter of groups of a model answers moves from valid lists as expected.
+fn groups_follow(
+    alloc: Global,
+    model: &Model,
+    lists: &[&[u32]],
+    moves: &[(Move, bool)],
+) -> Result<bool, NoMemory>
+    requires well_formed { IsWellFormed model.now }
+{
+    let Some(mut routes) = valid_routes(alloc, model, lists)? else {
+        return Ok(false);
+    };
+    let mut filter = GroupFilter::open(alloc, model, &routes)?;
+    let follows = follows(model, &mut filter, &mut routes, moves)?;
+    Ok(follows)
+}
+
+fn groups_of_text(
+    alloc: Global,
+    text: &str,
+    lists: &[&[u32]],
+    moves: &[(Move, bool)],
+) -> Result<bool, NoMemory> {
+    match read(alloc, text)? {
+        Some(model) => groups_follow(alloc, &model, lists, moves),
+        None => Ok(false),
+    }
+}
+
+// Two visits that must both be active.
+const REQUIRED: &str = r#"{"format":1,"nodes":3,"matrices":[[[0,5,9],[5,0,4],[9,4,0]]],
+"vehicles":[{"start":0,"end":0}]}"#;
+
+// Two visits, the second of which may stay away.
+const OPTIONAL: &str = r#"{"format":1,"nodes":3,"matrices":[[[0,5,5],[5,0,5],[5,5,0]]],
+"vehicles":[{"start":0,"end":0}],"groups":[{"nodes":[2],"penalty":1,"max":1}]}"#;
+
+// Two visits, one of which may be active.
+const ONE_OF_TWO: &str = r#"{"format":1,"nodes":3,"matrices":[[[0,5,5],[5,0,5],[5,5,0]]],
+"vehicles":[{"start":0,"end":0}],"groups":[{"nodes":[1,2],"penalty":1,"max":1}]}"#;
+
+#[test]
+fn groups_refuse_too_many_and_too_few(rt: HostRuntime) -> Result<(), Fail> {
+    let alloc = rt.alloc();
+    let both: &[&[u32]] = &[&[1, 2]];
+    let first: &[&[u32]] = &[&[1]];
+    let stays = &[
+        (Move::MakeInactive { v: 0, a: 0 }, false),
+        (Move::TwoOpt { v: 0, a: 0, b: 1 }, true),
+    ];
+    let joins = &[
+        (Move::MakeActive { u: 2, w: 0, t: 0 }, true),
+        (Move::TwoOpt { v: 0, a: 0, b: 1 }, true),
+        (Move::MakeInactive { v: 0, a: 0 }, false),
+        (Move::MakeInactive { v: 0, a: 1 }, true),
+    ];
+    let one = &[
+        (Move::MakeActive { u: 2, w: 0, t: 1 }, false),
+        (Move::SwapActive { v: 0, a: 0, u: 2 }, true),
+        (Move::MakeInactive { v: 0, a: 0 }, true),
+        (Move::MakeActive { u: 1, w: 0, t: 0 }, true),
+    ];
+    assert!(rt; groups_of_text(alloc, REQUIRED, both, stays)?);
+    assert!(rt; groups_of_text(alloc, OPTIONAL, first, joins)?);
+    assert!(rt; groups_of_text(alloc, ONE_OF_TWO, first, one)?);
     Ok(())
 }

@@ -162,8 +162,8 @@ fn allows(model: &Model, routes: &Routes, g: u32, come: usize, gone: usize) -> b
 fn nodes_allow(filter: &GroupFilter<'_>, routes: &Routes, nodes: &[u32]) -> bool
     requires well_formed { IsWellFormed filter.now.model.now }
     requires within { AreWithin routes.now.lists filter.now.balance }
-    ensures { result ≡ list_all (allows_node filter.now.model.now filter.now.numbers routes.now.lists filter.now.balance)
-        nodes.now }
+    ensures { result ≡ list_all
+        (allows_node filter.now.model.now filter.now.numbers routes.now.lists filter.now.balance) nodes.now }
 {
     for &node in nodes {
         let g = number(&filter.numbers, node);
@@ -181,7 +181,8 @@ fn piece_allows(filter: &GroupFilter<'_>, routes: &Routes, piece: Piece) -> bool
     requires well_formed { IsWellFormed filter.now.model.now }
     requires within { AreWithin routes.now.lists filter.now.balance }
     requires piece { IsWithin routes.now.lists piece }
-    ensures { result ≡ list_all (allows_node filter.now.model.now filter.now.numbers routes.now.lists filter.now.balance)
+    ensures { result ≡ list_all
+        (allows_node filter.now.model.now filter.now.numbers routes.now.lists filter.now.balance)
         (nodes_of routes.now.lists piece) }
 {
     match piece {
