@@ -3,4 +3,6 @@
 #![tactic(auto)]
 
 #[cfg(test)]
+mod pairs;
+#[cfg(test)]
 mod tests;

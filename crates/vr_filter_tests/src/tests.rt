@@ -37,7 +37,7 @@ const BREAKS: &str = r#"{"format":1,"nodes":3,"matrices":[[[0,10,10],[10,0,10],[
 "nodes":[{"node":1,"window":[0,15]}]}],"groups":[{"nodes":[1,2],"penalty":1,"max":2}]}"#;
 
 // The model of a text, where there is one.
-fn read(alloc: Global, text: &str) -> Result<Option<Model>, NoMemory>
+pub(crate) fn read(alloc: Global, text: &str) -> Result<Option<Model>, NoMemory>
     ensures { IfOk result (λ model. IfSome model IsWellFormed) }
 {
     let path = Path::root(alloc);
@@ -78,7 +78,7 @@ fn try_move<F: PathFilter, L: Ledger>(
 }
 
 // Whether a filter answers each of some moves, made one after another, as expected.
-fn follows<F: PathFilter>(
+pub(crate) fn follows<F: PathFilter>(
     model: &Model,
     filter: &mut F,
     routes: &mut Routes,

@@ -8,6 +8,7 @@ use Rattle.vr_routes.proofs.CommitLemmas.{as_many_lists, once_after, entry_after
 use Rattle.std.proofs.Common.{◌∙◌}
 use Rattle.vr_filter.specs.Filters.{after}
 use Rattle.vr_pathfilters.specs.TourLists.{AreTours}
+use Rattle.vr_pathfilters.specs.Pairs.{KnowsPairs}
 use Rattle.vr_pathfilters.specs.Vehicles.{KnowsVehicles}
 
 -- the lists after a change are tours too
@@ -26,4 +27,12 @@ pub vehicles_known_after : (model : Model) (marks : List (List Bool)) (tours : T
 vehicles_known_after model marks tours parts knows made = record {
   tours_are = tours_after model tours knows.tours_are parts made;
   marks_are = knows.marks_are;
+}
+
+-- the tours of a well-formed model are so after a change too
+pub pairs_known_after : (model : Model) (tours : Tours) (parts : List ListAfter)
+    → KnowsPairs model tours → IsMadeOn tours parts → KnowsPairs model (after tours parts)
+pairs_known_after model tours parts knows made = record {
+  well_formed = knows.well_formed;
+  tours_are = tours_after model tours knows.tours_are parts made;
 }

@@ -5,3 +5,4 @@ pub mod Vehicles
 pub mod Known
 pub mod ListFilters
 pub mod Groups
+pub mod Pairs

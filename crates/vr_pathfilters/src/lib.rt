@@ -1,11 +1,13 @@
-//! Filters that judge a change of routes by what it changes: feasible lines, allowed vehicles, groups.
+//! Filters that judge a change of routes by what it changes: feasible lines, allowed vehicles, groups, pairs.
 #![tactic(auto)]
 
 mod dimensions;
 mod groups;
 mod lists;
+mod pairs;
 mod vehicles;
 
 pub use dimensions::DimensionFilter;
 pub use groups::GroupFilter;
+pub use pairs::PairFilter;
 pub use vehicles::VehicleFilter;

@@ -1,11 +1,11 @@
 //! Filters of rules that each list keeps by itself.
 
-ghost use Rattle.std.specs.Prelude.{◌≡◌, ◌+◌, ◌<◌, ◌≤◌, ℕ, Bool, true, false, List, length, IsTrue, IfOk, OnOk, OnErr};
+ghost use Rattle.std.specs.Prelude.{◌≡◌, ◌+◌, ◌<◌, ◌≤◌, ℕ, Bool, true, false, List, length, IsOk, IsTrue, IfOk, OnOk, OnErr};
 ghost use Rattle.vr_model.specs.routes.Routes.{route};
 ghost use Rattle.vr_routes.specs.Changes.{IsMadeOn};
 ghost use Rattle.vr_routes.specs.Pieces.{ListAfter, changed, joined, part_at};
 ghost use Rattle.vr_routes.specs.Tours.{Tours};
-ghost use Rattle.vr_filter.specs.Filters.{after};
+ghost use Rattle.vr_filter.specs.Filters.{after, IsSameRule, IsSameWeight, NothingReady};
 ghost use Rattle.vr_pathfilters.specs.Lists.{holds_of_each};
 ghost use Rattle.vr_pathfilters.specs.ListFilters.{StandsBy, IsReadyBy};
 
@@ -15,7 +15,7 @@ use vr_model::{NoMemory, Steps};
 use vr_routes::{Change, Routes};
 
 /// A rule of the list of each vehicle by itself, and a test of what a change makes of one list.
-pub(crate) trait ListRule {
+pub trait ListRule {
     /// The rule holds of the list of a vehicle.
     ghost rule: { Self → ℕ → List ℕ → Bool };
 
@@ -39,9 +39,9 @@ pub(crate) trait ListRule {
         → IsMadeOn tours parts → knows rule (after tours parts) };
 }
 
-/// Lets a change pass where a rule holds of each list afterwards. It takes no memory, and counts no steps.
+/// Lets a change pass where a rule holds of each list afterwards. It never answers `NoMemory`, and counts no steps.
 #[derive(Drop)]
-pub(crate) struct ListFilter<R> {
+pub struct ListFilter<R> {
     pub(crate) rule: R,
     pub(crate) is_prepared: bool,
 }
@@ -60,12 +60,38 @@ impl<R: ListRule> PathFilter for ListFilter<R> {
         routes: &Routes,
         change: &Change,
         _steps: &mut Steps<L>,
-    ) -> Result<bool, NoMemory> {
+    ) -> Result<bool, NoMemory>
+        requires stands { StandsBy (R.rule self.old.rule) (R.knows self.old.rule) routes.now }
+        requires made { IsMadeOn routes.now change.now }
+        ensures answer { IfOk result (λ passed. passed
+            ≡ holds_of_each (R.rule self.old.rule) (changed routes.now.lists change.now)) }
+        ensures stands { StandsBy (R.rule self.new.rule) (R.knows self.new.rule) routes.now }
+        ensures rule { IsSameRule (holds_of_each (R.rule self.old.rule)) (holds_of_each (R.rule self.new.rule)) }
+        ensures same_weight { IsSameWeight (λ before later. 0) (λ before later. 0) }
+        ensures count { _steps.new ≤ _steps.old + 0 }
+        ensures refused { IfOk result (λ passed. passed ≡ false → NothingReady (λ tours parts.
+            IsReadyBy (R.rule self.new.rule) self.new.is_prepared tours.lists parts)) }
+        ensures unready { OnErr result (NothingReady (λ tours parts.
+            IsReadyBy (R.rule self.new.rule) self.new.is_prepared tours.lists parts)) }
+        ensures memory { IsOk result }
+    {
         self.is_prepared = false;
         Ok(keeps_all(&mut self.rule, routes, change))
     }
 
-    fn prepare(&mut self, _routes: &Routes, _change: &Change) -> Result<(), NoMemory> {
+    fn prepare(&mut self, _routes: &Routes, _change: &Change) -> Result<(), NoMemory>
+        requires stands { StandsBy (R.rule self.old.rule) (R.knows self.old.rule) _routes.now }
+        requires made { IsMadeOn _routes.now _change.now }
+        requires passes { IsTrue (holds_of_each (R.rule self.old.rule) (changed _routes.now.lists _change.now)) }
+        ensures ready { OnOk result
+            (IsReadyBy (R.rule self.new.rule) self.new.is_prepared _routes.now.lists _change.now) }
+        ensures stands { StandsBy (R.rule self.new.rule) (R.knows self.new.rule) _routes.now }
+        ensures rule { IsSameRule (holds_of_each (R.rule self.old.rule)) (holds_of_each (R.rule self.new.rule)) }
+        ensures same_weight { IsSameWeight (λ before later. 0) (λ before later. 0) }
+        ensures unready { OnErr result (NothingReady (λ tours parts.
+            IsReadyBy (R.rule self.new.rule) self.new.is_prepared tours.lists parts)) }
+        ensures memory { IsOk result }
+    {
         self.is_prepared = true;
         Ok(())
     }

@@ -1,6 +1,6 @@
 //! The filter of allowed vehicles.
 
-ghost use Rattle.std.specs.Prelude.{◌≡◌, ◌+◌, ◌<◌, ◌≤◌, ℕ, Bool, true, false, List, length, IsTrue, IfOk, OnOk, OnErr};
+ghost use Rattle.std.specs.Prelude.{◌≡◌, ◌+◌, ◌<◌, ◌≤◌, ℕ, Bool, true, false, List, length, IsOk, IsTrue, IfOk, OnOk, OnErr};
 ghost use Rattle.std.specs.List.{list_all};
 ghost use Rattle.vr_model.specs.routes.Routes.{route};
 ghost use Rattle.vr_model.specs.routes.Rules.{allows_vehicle};
@@ -18,14 +18,13 @@ ghost use Rattle.vr_pathfilters.specs.AfterChanges.{vehicles_known_after};
 
 use crate::lists::{ListFilter, ListRule};
 use std::alloc::Global;
-use std::sync::ledger::Ledger;
 use vr_filter::PathFilter;
-use vr_model::{Model, NoMemory, Seq, Steps};
+use vr_model::{Model, NoMemory, Seq};
 use vr_routes::{Change, Routes, Row};
 
 /// The rule that each visit of a list allows its vehicle.
 #[derive(Drop)]
-pub(crate) struct VehicleRule<'m> {
+pub struct VehicleRule<'m> {
     model: &'m Model,
     // for each vehicle, whether each node allows it
     marks: Seq<Seq<bool>>,
@@ -87,11 +86,8 @@ fn all_marks(alloc: Global, model: &Model) -> Result<Seq<Seq<bool>>, NoMemory>
 }
 
 /// Lets a change pass where each visit of each list allows its vehicle afterwards (`SetAllowedVehiclesForIndex` in
-/// OR-Tools). It takes no memory.
-#[derive(Drop)]
-pub struct VehicleFilter<'m> {
-    lists: ListFilter<VehicleRule<'m>>,
-}
+/// OR-Tools). It takes memory only when it is opened.
+pub type VehicleFilter<'m> = ListFilter<VehicleRule<'m>>;
 
 impl<'m> VehicleFilter<'m> {
     /// A filter that stands at the lists of routes, whose visits allow their vehicles. The only refusal is want of
@@ -109,51 +105,19 @@ impl<'m> VehicleFilter<'m> {
             ≡ holds_of_each (is_allowed_list model.now)) }
         ensures stands { IfOk result (λ filter.
             ⟦<VehicleFilter<'static> as PathFilter>⟧.stands_at filter routes.now) }
+        ensures weight { IfOk result (λ filter. (before later : List (List ℕ))
+            → ⟦<VehicleFilter<'static> as PathFilter>⟧.weight filter before later ≡ 0) }
     {
         routes.know_once();
         routes.know_entries();
         let marks = all_marks(alloc, model)?;
-        let rule = VehicleRule {
-            model,
-            marks,
-            list: Row::new(),
-        };
-        Ok(VehicleFilter {
-            lists: ListFilter {
-                rule,
-                is_prepared: false,
+        Ok(ListFilter {
+            rule: VehicleRule {
+                model,
+                marks,
+                list: Row::new(),
             },
+            is_prepared: false,
         })
     }
-}
-
-impl<'m> PathFilter for VehicleFilter<'m> {
-    ghost holds = { λ f lists. ⟦<ListFilter<VehicleRule<'static>> as PathFilter>⟧.holds f.lists lists };
-
-    ghost stands_at = { λ f tours. ⟦<ListFilter<VehicleRule<'static>> as PathFilter>⟧.stands_at f.lists tours };
-
-    ghost ready = { λ f tours parts. ⟦<ListFilter<VehicleRule<'static>> as PathFilter>⟧.ready f.lists tours parts };
-
-    ghost weight = { λ f before later. 0 };
-
-    fn passes<L: Ledger>(
-        &mut self,
-        routes: &Routes,
-        change: &Change,
-        steps: &mut Steps<L>,
-    ) -> Result<bool, NoMemory> {
-        let passed = self.lists.passes(routes, change, steps)?;
-        Ok(passed)
-    }
-
-    fn prepare(&mut self, routes: &Routes, change: &Change) -> Result<(), NoMemory> {
-        self.lists.prepare(routes, change)?;
-        Ok(())
-    }
-
-    fn commit(&mut self, routes: &Routes, change: &Change) {
-        self.lists.commit(routes, change);
-    }
-
-    ghost keeps_rule = { λ f tours stands. stands.rule_holds };
 }
