@@ -5,5 +5,6 @@ pub mod SumLemmas
 pub mod PartLemmas
 pub mod RowLemmas
 pub mod FixedLemmas
-pub mod BoundLemmas
 pub mod GroupLemmas
+pub mod PlanLemmas
+pub mod GlobalLemmas

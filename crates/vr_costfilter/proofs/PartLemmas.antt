@@ -10,6 +10,7 @@ use Rattle.vr_model.specs.tables.WellFormed.{IsWellFormed}
 use Rattle.vr_routes.specs.Pieces.{ListAfter, joined, no_part, part_at, changed, IsWithin}
 use Rattle.vr_routes.specs.Changes.{AreParts}
 use Rattle.vr_model.proofs.routes.Lists.{are-lists, are_lists-count, route-below, route-few, route-visits, route-distinct}
+use Rattle.vr_routes.proofs.CommitLemmas.{as_many_lists}
 use Rattle.vr_costfilter.proofs.SumLemmas.{part-list}
 
 -- lists of a model
@@ -53,3 +54,12 @@ is-part model well lists parts are valid k low =
       visits = subst (λ l. IsTrue (list_all (is_visit model) l)) same (s.visits v);
       distinct = subst (λ l. IsTrue (is_distinct l)) same (s.distinct v);
     }
+
+-- the vehicle of a part is one of the model
+pub known-vehicle : (model : Model) → IsWellFormed model → (lists : List (List ℕ)) (parts : List ListAfter) → AreParts lists parts → IsTrue (is_valid model (changed lists parts)) → (k : ℕ) → k < length parts → (part_at parts k).vehicle < length model.vehicles
+known-vehicle model well lists parts are valid k low =
+    let s = small model well (changed lists parts) valid in
+    let many = s.many in
+    let as_many = as_many_lists lists parts in
+    let known = are.each_vehicle k no_part low in
+    omega (arith, many, as_many, known)

@@ -1,15 +1,15 @@
 -- Sums over the lists of vehicles change by the changed lists alone.
 use Rattle.std.proofs.Common.{◌≡◌, ◌≢◌, ◌∙◌, ℕ, zero, suc, ◌+◌, ◌<◌, ◌≤◌, ◌⊎◌, List, [], ◌∷◌, ◌++◌, length, take, add-one, refl, sym, ap, inl, inr, arith, length-set}
-use Rattle.std.specs.Prelude.{ℤ, pos, ◌+ℤ◌, ◌-ℤ◌, slice_index_or, All}
+use Rattle.std.specs.Prelude.{ℤ, ◌+ℤ◌, ◌-ℤ◌, slice_index_or, All}
 use Rattle.std.specs.List.{AllPairs}
 use Rattle.std.proofs.lemmas.Int.{ints}
 use Rattle.std.proofs.lemmas.Bool.{cases_lt}
 use Rattle.std.proofs.lemmas.List.{get_or-take, get_or_default, length-take-le, take_all}
 use Rattle.std.proofs.Math.Seq.{take-suc}
-use Rattle.vr_model.specs.tables.Numbers.{total_by, below}
+use Rattle.vr_model.specs.tables.Numbers.{total_by}
 use Rattle.vr_model.specs.routes.Routes.{route}
 use Rattle.vr_model.specs.moves.Moves.{with_route}
-use Rattle.vr_model.proofs.tables.Totals.{sum_range, sum_same, sum_split}
+use Rattle.vr_model.proofs.tables.Totals.{sum_range, sum_same, total_by-append}
 use Rattle.vr_routes.specs.declared.pieces.Piece.{Piece}
 use Rattle.vr_routes.specs.Pieces.{ListAfter, joined, no_part, part_at, with_parts, changed}
 use Rattle.vr_routes.specs.Changes.{AreParts}
@@ -60,7 +60,8 @@ upto-next lists parts k low = ap (λ ps. with_parts lists ps lists) (take-suc pa
 pub upto-many : (lists : List (List ℕ)) (parts : List ListAfter) (k : ℕ) → length (upto lists parts k) ≡ length lists
 upto-many lists parts k = as_many_lists lists (take k parts)
 
-route-kept : (old : List (List ℕ)) (parts : List ListAfter) (lists : List (List ℕ)) (v : ℕ) → All (λ part. v ≢ part.vehicle) parts → route (with_parts old parts lists) v ≡ route lists v
+-- a list that no part gives away stays
+pub route-kept : (old : List (List ℕ)) (parts : List ListAfter) (lists : List (List ℕ)) (v : ℕ) → All (λ part. v ≢ part.vehicle) parts → route (with_parts old parts lists) v ≡ route lists v
 route-kept old [] lists v away = refl
 route-kept old (p ∷ parts) lists v away =
     route-kept old parts (with_route lists p.vehicle (joined old p.pieces)) v (λ k d low. away (suc k) d (omega (arith, low)))
@@ -79,16 +80,12 @@ upto-kept lists parts are k low = route-kept lists (take k parts) lists (part_at
         default : (j : ℕ) (d : ListAfter) → j < length (take k parts) → slice_index_or (take k parts) j no_part ≡ slice_index_or (take k parts) j d
         default j d under = get_or_default (take k parts) j no_part d under
 
-total-append : {A : Type 0} (f : A → ℤ) (xs ys : List A) → total_by f (xs ++ ys) ≡ total_by f xs +ℤ total_by f ys
-total-append f [] ys = omega (arith, ints)
-total-append f (x ∷ xs) ys = let i = total-append f xs ys in omega (arith, ints, i)
-
 -- one part more
 pub change-next : (f : ℕ → List ℕ → ℤ) (lists : List (List ℕ)) (parts : List ListAfter) (k : ℕ) → k < length parts
     → total_by (part_change f lists) (take (suc k) parts) ≡ total_by (part_change f lists) (take k parts) +ℤ part_change f lists (part_at parts k)
 change-next f lists parts k low =
     let a = ap (total_by (part_change f lists)) (take-suc parts k no_part low) in
-    let b = total-append (part_change f lists) (take k parts) (part_at parts k ∷ []) in
+    let b = total_by-append (part_change f lists) (take k parts) (part_at parts k ∷ []) in
     omega (arith, ints, a, b)
 
 module _ (f : ℕ → List ℕ → ℤ) (lists : List (List ℕ)) (parts : List ListAfter) (are : AreParts lists parts) where
@@ -151,12 +148,3 @@ sum-whole f lists parts are k sum high so_far =
     let all = ap (total_by (part_change f lists)) (take_all k parts high) in
     let s = changed-sum f lists parts are in
     omega (arith, ints, all, s, so_far)
-
--- one number more
-pub total-below : (f : ℕ → ℤ) (n : ℕ) → total_by f (below (n + 1)) ≡ total_by f (below n) +ℤ f n
-total-below f n =
-    let s = sum_split f 0 n 1 in
-    let e : 0 + n ≡ n = omega arith in
-    let g = ap f e in
-    let h : sum_range f (0 + n) 1 ≡ f (0 + n) +ℤ pos 0 = refl in
-    omega (arith, ints, s, g, h)

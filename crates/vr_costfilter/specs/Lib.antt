@@ -5,3 +5,5 @@ pub mod Sums
 pub mod Bounds
 pub mod Fixed
 pub mod Groups
+pub mod PlanCosts
+pub mod GlobalCosts

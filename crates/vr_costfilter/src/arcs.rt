@@ -9,7 +9,7 @@ ghost use Rattle.vr_model.specs.tables.WellFormed.{IsWellFormed};
 ghost use Rattle.vr_routes.specs.Pieces.{changed, joined, IsWithin};
 ghost use Rattle.vr_routes.specs.Changes.{IsMadeOn};
 ghost use Rattle.vr_costfilter.specs.Along.{IsAlong, StandsAlong};
-ghost use Rattle.vr_costfilter.specs.Bounds.{IsAround};
+ghost use Rattle.vr_timings.specs.Bounds.{IsAround};
 
 use crate::CostPart;
 use crate::lists::{ListCost, added_by};

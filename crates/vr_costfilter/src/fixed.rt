@@ -9,7 +9,7 @@ ghost use Rattle.vr_model.specs.tables.WellFormed.{IsWellFormed};
 ghost use Rattle.vr_routes.specs.Pieces.{changed, joined, nodes_of, IsWithin};
 ghost use Rattle.vr_routes.specs.Changes.{IsMadeOn};
 ghost use Rattle.vr_costfilter.specs.Fixed.{fixed_with, StandsFixed};
-ghost use Rattle.vr_costfilter.specs.Bounds.{IsAround};
+ghost use Rattle.vr_timings.specs.Bounds.{IsAround};
 ghost use Rattle.vr_costfilter.specs.Chains.{IsUpTo};
 
 use crate::CostPart;

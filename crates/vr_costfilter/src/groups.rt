@@ -9,7 +9,7 @@ ghost use Rattle.vr_model.specs.routes.Costs.{penalty_part};
 ghost use Rattle.vr_model.specs.routes.Rules.{is_valid};
 ghost use Rattle.vr_routes.specs.Changes.{IsMadeOn};
 ghost use Rattle.vr_routes.specs.Pieces.{changed, nodes_of, IsWithin};
-ghost use Rattle.vr_costfilter.specs.Bounds.{IsAround};
+ghost use Rattle.vr_timings.specs.Bounds.{IsAround};
 ghost use Rattle.vr_costfilter.specs.Chains.{IsUpTo};
 ghost use Rattle.vr_costfilter.specs.Groups.{pay, saved_by, saved_in as saved_in_of, AreSaved, AreFew, StandsGroups};
 

@@ -8,7 +8,7 @@ ghost use Rattle.vr_model.specs.declared.records.Model.{Model as RoutingModel};
 ghost use Rattle.vr_routes.specs.Pieces.{changed, joined, IsWithin};
 ghost use Rattle.vr_routes.specs.Changes.{IsMadeOn};
 ghost use Rattle.vr_routes.specs.Tours.{Tours};
-ghost use Rattle.vr_costfilter.specs.Bounds.{IsAround};
+ghost use Rattle.vr_timings.specs.Bounds.{IsAround};
 ghost use Rattle.vr_costfilter.specs.Sums.{over_routes};
 
 use vr_routes::{Change, Piece, Routes};

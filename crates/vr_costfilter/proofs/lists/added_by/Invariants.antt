@@ -1,7 +1,7 @@
 use Rattle.std.proofs.Common.{◌≡◌, ◌*◌, take}
 use Rattle.vr_model.specs.tables.Numbers.{total_by}
 use Rattle.vr_costfilter.specs.Sums.{part_change}
-use Rattle.vr_costfilter.specs.Bounds.{IsAround}
+use Rattle.vr_timings.specs.Bounds.{IsAround}
 use Rattle.vr_costfilter.proofs.lists.added_by.Given as goal
 
 abbrev pub invariant-loop-k : goal.invariant-loop-k

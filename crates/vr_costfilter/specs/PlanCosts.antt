@@ -1,0 +1,64 @@
+-- What the chosen schedules of a list cost by soft upper bounds and spans.
+use Rattle.std.specs.Prelude.{◌≡◌, ◌<◌, IsTrue, ℕ, Bool, cond, List, length, ℤ, pos, ◌+ℤ◌}
+use Rattle.vr_model.specs.tables.Numbers.{number_at, total_by, below}
+use Rattle.vr_model.specs.tables.Tables.{visits}
+use Rattle.vr_model.specs.tables.WellFormed.{IsWellFormed}
+use Rattle.vr_model.specs.routes.Routes.{is_empty, route}
+use Rattle.vr_model.specs.routes.Costs.{assigned, soft_part, span_part}
+use Rattle.vr_model.specs.routes.Rules.{is_valid}
+use Rattle.vr_model.specs.declared.records.Model.{Model}
+use Rattle.vr_timings.specs.Tables.{AreTables}
+use Rattle.vr_timings.specs.Timings.{soft_with, span_with}
+use Rattle.vr_timings.specs.declared.tables.Table.{Table}
+use Rattle.vr_routes.specs.Tours.{Tours}
+use Rattle.vr_routes.specs.Pieces.{ListAfter, part_at, joined}
+use Rattle.vr_costfilter.specs.Bounds.{IsFrom}
+
+-- what the list of vehicle v costs by soft upper bounds and spans, in all dimensions
+abbrev pub plans_cost : Model → ℕ → List ℕ → ℤ
+plans_cost model v list = cond (is_empty list) (pos 0)
+    (total_by (λ d. soft_with model d v list +ℤ span_with model d v list) (below (length model.dimensions)))
+
+-- what soft upper bounds and spans cost at the chosen schedules of lists
+abbrev pub soft_and_span : Model → List (List ℕ) → ℤ
+soft_and_span model lists = soft_part model (assigned model lists) +ℤ span_part model (assigned model lists)
+
+-- a number that one list may cost: soft costs are not negative, and no span costs much
+abbrev pub IsPlanCost : ℤ → Type 0
+IsPlanCost = IsFrom 2760000000000000 2760000000000000000
+
+-- no list costs anything
+abbrev pub IsIdle : Model → Type 0
+IsIdle model = (v : ℕ) (list : List ℕ) → plans_cost model v list ≡ pos 0
+
+-- the model is well formed, the tables are those of its dimensions, and where it is called idle no list costs anything
+pub record ArePlanRules (model : Model) (tables : List Table) (idle : Bool) : Type 0 where
+  pub well_formed : IsWellFormed model
+  pub of_dimensions : AreTables model tables
+  pub none_costs : IsTrue idle → IsIdle model
+
+-- what contracts see of the costs that are kept: of each list, and of the lists of a change that is ready
+pub record KeptPlans : Type 0 where
+  pub model : Model
+  pub costs : List ℤ
+  pub next : List ℤ
+
+-- these are the costs of the lists of a model
+pub record StandsPlans (kept : KeptPlans) (tours : Tours) : Type 0 where
+  pub well_formed : IsWellFormed kept.model
+  pub of_model : tours.visits ≡ visits kept.model
+  pub valid : IsTrue (is_valid kept.model tours.lists)
+  pub as_many : length tours.lists ≡ length kept.model.vehicles
+  pub many : length kept.costs ≡ length kept.model.vehicles
+  pub costs : (v : ℕ) → v < length tours.lists → number_at kept.costs v ≡ plans_cost kept.model v (route tours.lists v)
+  pub range : (v : ℕ) → v < length tours.lists → IsPlanCost (number_at kept.costs v)
+
+-- what a list costs that a part of a change gives its vehicle
+abbrev pub cost_after : Model → List (List ℕ) → ListAfter → ℤ
+cost_after model lists part = plans_cost model part.vehicle (joined lists part.pieces)
+
+-- the costs of the lists after a change are there
+pub record ArePlansReady (kept : KeptPlans) (tours : Tours) (parts : List ListAfter) : Type 0 where
+  pub many : length kept.next ≡ length parts
+  pub next : (k : ℕ) → k < length parts → number_at kept.next k ≡ cost_after kept.model tours.lists (part_at parts k)
+  pub range : (k : ℕ) → k < length parts → IsPlanCost (number_at kept.next k)

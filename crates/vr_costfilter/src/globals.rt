@@ -1,0 +1,186 @@
+//! Global spans.
+
+ghost use Rattle.std.specs.Prelude.{◌≡◌, ◌-ℤ◌, ◌<◌, ◌*◌, IsTrue, IfOk, OnOk, ℕ, length};
+ghost use Rattle.vr_model.specs.tables.Tables.{visits};
+ghost use Rattle.vr_model.specs.tables.WellFormed.{IsWellFormed};
+ghost use Rattle.vr_model.specs.routes.Rules.{is_valid};
+ghost use Rattle.vr_routes.specs.Pieces.{changed, joined, part_at};
+ghost use Rattle.vr_routes.specs.Changes.{IsMadeOn};
+ghost use Rattle.vr_timings.specs.Bounds.{cumul_cost, IsAround};
+ghost use Rattle.vr_costfilter.specs.GlobalCosts.{global_cost_of, AreKept, AreLike, AreNext};
+ghost use Rattle.vr_costfilter.specs.GlobalCosts.{AreSpansReady, StandsSpans};
+
+use crate::CostPart;
+use crate::reaches::{ListTimings, SpanRules};
+use arrayvec::ArrayVec;
+use std::alloc::Global;
+use std::marker::Model;
+use vr_model::{Model as RoutingModel, NoMemory};
+use vr_routes::{Change, Routes, Row};
+use vr_timings::Timer;
+
+/// What global spans cost (`SetGlobalSpanCostCoefficient` in OR-Tools). A change builds the schedules of the changed
+/// lists alone, in the dimensions whose global span has a coefficient, and looks over where the other lists start and
+/// end.
+#[derive(Drop)]
+pub struct GlobalSpan<'m> {
+    rules: SpanRules<'m>,
+    // what the schedules of each list come to
+    rows: Vec<ListTimings>,
+    // what the global spans cost
+    cost: i64,
+    // the vehicles of a change that is ready, their rows, and what the global spans cost after it
+    vehicles: ArrayVec<u32, 2>,
+    next: ArrayVec<ListTimings, 2>,
+    next_cost: i64,
+    // room for a list that a change makes
+    row: Row,
+    timer: Timer,
+}
+
+impl<'m> Model for GlobalSpan<'m> {
+    ghost use Rattle.vr_costfilter.specs.GlobalCosts.{KeptSpans};
+
+    ghost Value = { KeptSpans };
+
+    ghost view = { λ part. record {
+      model = part.rules;
+      rows = part.rows.items;
+      cost = part.cost;
+      vehicles = part.vehicles.items;
+      next = part.next.items;
+      next_cost = part.next_cost;
+    } };
+}
+
+impl<'m> GlobalSpan<'m> {
+    /// What the global spans cost with the lists of routes. The only refusal is want of memory, as of each other call.
+    pub fn open(
+        alloc: Global,
+        model: &'m RoutingModel,
+        routes: &Routes,
+    ) -> Result<GlobalSpan<'m>, NoMemory>
+        requires well_formed { IsWellFormed model.now }
+        requires of_model { routes.now.visits ≡ visits model.now }
+        requires valid { IsTrue (is_valid model.now routes.now.lists) }
+        ensures model { IfOk result (λ part. part.model ≡ model.now) }
+        ensures stands { IfOk result (λ part. StandsSpans part routes.now) }
+    {
+        let rules = SpanRules::open(alloc, model)?;
+        let mut timer = Timer::new(alloc);
+        let mut rows = Vec::new(alloc);
+        for v in 0..routes.vehicles() {
+            let row = rules.row(v, routes.list(v), &mut timer)?;
+            rows.push(row)?;
+        }
+        let cost = rules.cost(&rows, &[], &[]);
+        Ok(GlobalSpan {
+            rules,
+            rows,
+            cost,
+            vehicles: ArrayVec::new(),
+            next: ArrayVec::new(),
+            next_cost: 0,
+            row: Row::new(),
+            timer,
+        })
+    }
+
+    // What the schedules come to of the list that part `k` of a change gives its vehicle.
+    fn row_after(
+        &mut self,
+        routes: &Routes,
+        change: &Change,
+        k: usize,
+    ) -> Result<ListTimings, NoMemory>
+        requires well_formed { IsWellFormed self.old.model }
+        requires made { IsMadeOn routes.now change.now }
+        requires valid { IsTrue (is_valid self.old.model (changed routes.now.lists change.now)) }
+        requires part { k < length change.now }
+        ensures kept { IfOk result (AreKept self.old.model (part_at change.now k).vehicle
+            (joined routes.now.lists (part_at change.now k).pieces)) }
+        ensures stays { self.new ≡ self.old }
+    {
+        if self.rules.is_idle() {
+            return Ok([None; 4]);
+        }
+        routes.write_after(change, k, &mut self.row);
+        let row = self
+            .rules
+            .row(change.vehicle(k), self.row.as_slice(), &mut self.timer)?;
+        Ok(row)
+    }
+
+    // Writes the rows of the lists after a change.
+    fn write_next(&mut self, routes: &Routes, change: &Change) -> Result<(), NoMemory>
+        requires well_formed { IsWellFormed self.old.model }
+        requires made { IsMadeOn routes.now change.now }
+        requires valid { IsTrue (is_valid self.old.model (changed routes.now.lists change.now)) }
+        ensures next { OnOk result (AreNext self.new routes.now change.now) }
+        ensures like { AreLike self.old self.new }
+    {
+        self.vehicles.clear();
+        self.next.clear();
+        for k in 0..change.parts() {
+            let row = self.row_after(routes, change, k)?;
+            self.vehicles.push(change.vehicle(k));
+            self.next.push(row);
+        }
+        Ok(())
+    }
+
+    // Makes what is kept of the lists after a change ready.
+    fn make_ready(&mut self, routes: &Routes, change: &Change) -> Result<(), NoMemory>
+        requires stands { StandsSpans self.old routes.now }
+        requires made { IsMadeOn routes.now change.now }
+        requires valid { IsTrue (is_valid self.old.model (changed routes.now.lists change.now)) }
+        ensures ready { OnOk result (AreSpansReady self.new routes.now change.now) }
+        ensures like { AreLike self.old self.new }
+    {
+        self.write_next(routes, change)?;
+        self.next_cost = self.rules.cost(&self.rows, &self.vehicles, &self.next);
+        Ok(())
+    }
+}
+
+impl<'m> CostPart for GlobalSpan<'m> {
+    ghost use Rattle.std.specs.Prelude.{List};
+
+    ghost model = { λ part. part.model };
+
+    ghost value = { global_cost_of };
+
+    ghost stands_at = { StandsSpans };
+
+    ghost ready = { AreSpansReady };
+
+    fn difference(&mut self, routes: &Routes, change: &Change) -> Result<i64, NoMemory>
+        requires stands { StandsSpans self.old routes.now }
+        requires made { IsMadeOn routes.now change.now }
+        requires valid { IsTrue (is_valid self.old.model (changed routes.now.lists change.now)) }
+        ensures exact { IfOk result (λ difference. difference
+            ≡ global_cost_of self.old.model (changed routes.now.lists change.now)
+            -ℤ global_cost_of self.old.model routes.now.lists) }
+        ensures stands { StandsSpans self.new routes.now }
+        ensures model { self.new.model ≡ self.old.model }
+        ensures range { IfOk result (IsAround (cumul_cost * 8)) }
+    {
+        if self.rules.is_idle() {
+            return Ok(0);
+        }
+        self.make_ready(routes, change)?;
+        Ok(self.next_cost - self.cost)
+    }
+
+    fn prepare(&mut self, routes: &Routes, change: &Change) -> Result<(), NoMemory> {
+        let made = self.make_ready(routes, change)?;
+        Ok(made)
+    }
+
+    fn commit(&mut self, _routes: &Routes, change: &Change) {
+        for k in 0..change.parts() {
+            self.rows[change.vehicle(k) as usize] = self.next[k];
+        }
+        self.cost = self.next_cost;
+    }
+}

@@ -1,0 +1,159 @@
+//! Soft upper bounds and spans.
+
+ghost use Rattle.std.specs.Prelude.{◌≡◌, ◌-ℤ◌, ◌<◌, IsTrue, IfOk, OnOk, ℕ, length};
+ghost use Rattle.vr_model.specs.tables.Tables.{visits};
+ghost use Rattle.vr_model.specs.tables.WellFormed.{IsWellFormed};
+ghost use Rattle.vr_model.specs.routes.Rules.{is_valid};
+ghost use Rattle.vr_routes.specs.Pieces.{changed, part_at};
+ghost use Rattle.vr_routes.specs.Changes.{IsMadeOn};
+ghost use Rattle.vr_timings.specs.Bounds.{IsAround};
+ghost use Rattle.vr_costfilter.specs.PlanCosts.{cost_after, soft_and_span, ArePlansReady, IsPlanCost, StandsPlans};
+
+use crate::CostPart;
+use crate::schedules::PlanRules;
+use arrayvec::ArrayVec;
+use std::alloc::Global;
+use std::marker::Model;
+use vr_model::{Model as RoutingModel, NoMemory};
+use vr_routes::{Change, Routes, Row};
+use vr_timings::Timer;
+
+/// What soft upper bounds and spans cost (`SetCumulVarSoftUpperBound` and `SetSpanCostCoefficientForVehicle` in
+/// OR-Tools). A change builds the schedules of the changed lists alone, in the dimensions where they may cost anything,
+/// and none where the model has no such cost.
+#[derive(Drop)]
+pub struct PlanCost<'m> {
+    rules: PlanRules<'m>,
+    // what each list costs
+    costs: Vec<i64>,
+    // what the lists of a change that is ready cost
+    next: ArrayVec<i64, 2>,
+    // room for a list that a change makes
+    row: Row,
+    timer: Timer,
+}
+
+impl<'m> Model for PlanCost<'m> {
+    ghost use Rattle.vr_costfilter.specs.PlanCosts.{KeptPlans};
+
+    ghost Value = { KeptPlans };
+
+    ghost view = { λ part. record {
+      model = part.rules;
+      costs = part.costs.items;
+      next = part.next.items;
+    } };
+}
+
+impl<'m> PlanCost<'m> {
+    /// What soft upper bounds and spans cost with the lists of routes. The only refusal is want of memory, as of each
+    /// other call.
+    pub fn open(
+        alloc: Global,
+        model: &'m RoutingModel,
+        routes: &Routes,
+    ) -> Result<PlanCost<'m>, NoMemory>
+        requires well_formed { IsWellFormed model.now }
+        requires of_model { routes.now.visits ≡ visits model.now }
+        requires valid { IsTrue (is_valid model.now routes.now.lists) }
+        ensures model { IfOk result (λ part. part.model ≡ model.now) }
+        ensures stands { IfOk result (λ part. StandsPlans part routes.now) }
+    {
+        let rules = PlanRules::open(alloc, model)?;
+        let mut timer = Timer::new(alloc);
+        let mut costs = Vec::new(alloc);
+        for v in 0..routes.vehicles() {
+            let cost = rules.cost(v, routes.list(v), &mut timer)?;
+            costs.push(cost)?;
+        }
+        Ok(PlanCost {
+            rules,
+            costs,
+            next: ArrayVec::new(),
+            row: Row::new(),
+            timer,
+        })
+    }
+
+    // What the list costs that part `k` of a change gives its vehicle.
+    fn cost_after(&mut self, routes: &Routes, change: &Change, k: usize) -> Result<i64, NoMemory>
+        requires well_formed { IsWellFormed self.old.model }
+        requires made { IsMadeOn routes.now change.now }
+        requires valid { IsTrue (is_valid self.old.model (changed routes.now.lists change.now)) }
+        requires part { k < length change.now }
+        ensures value { IfOk result (λ cost. cost
+            ≡ cost_after self.old.model routes.now.lists (part_at change.now k)) }
+        ensures range { IfOk result IsPlanCost }
+        ensures stays { self.new ≡ self.old }
+    {
+        if self.rules.is_idle() {
+            return Ok(0);
+        }
+        routes.write_after(change, k, &mut self.row);
+        let v = change.vehicle(k);
+        let cost = self.rules.cost(v, self.row.as_slice(), &mut self.timer)?;
+        Ok(cost)
+    }
+
+    // Makes the costs of the lists after a change ready.
+    fn make_ready(&mut self, routes: &Routes, change: &Change) -> Result<(), NoMemory>
+        requires stands { StandsPlans self.old routes.now }
+        requires made { IsMadeOn routes.now change.now }
+        requires valid { IsTrue (is_valid self.old.model (changed routes.now.lists change.now)) }
+        ensures ready { OnOk result (ArePlansReady self.new routes.now change.now) }
+        ensures model { self.new.model ≡ self.old.model }
+        ensures costs { self.new.costs ≡ self.old.costs }
+    {
+        self.next.clear();
+        for k in 0..change.parts() {
+            let cost = self.cost_after(routes, change, k)?;
+            self.next.push(cost);
+        }
+        Ok(())
+    }
+}
+
+impl<'m> CostPart for PlanCost<'m> {
+    ghost use Rattle.std.specs.Prelude.{List};
+
+    ghost model = { λ part. part.model };
+
+    ghost value = { soft_and_span };
+
+    ghost stands_at = { StandsPlans };
+
+    ghost ready = { ArePlansReady };
+
+    fn difference(&mut self, routes: &Routes, change: &Change) -> Result<i64, NoMemory>
+        requires stands { StandsPlans self.old routes.now }
+        requires made { IsMadeOn routes.now change.now }
+        requires valid { IsTrue (is_valid self.old.model (changed routes.now.lists change.now)) }
+        ensures exact { IfOk result (λ difference. difference
+            ≡ soft_and_span self.old.model (changed routes.now.lists change.now)
+            -ℤ soft_and_span self.old.model routes.now.lists) }
+        ensures stands { StandsPlans self.new routes.now }
+        ensures model { self.new.model ≡ self.old.model }
+        ensures range { IfOk result (IsAround 5525520000000000000) }
+    {
+        if self.rules.is_idle() {
+            return Ok(0);
+        }
+        self.make_ready(routes, change)?;
+        let mut total = 0;
+        for k in 0..change.parts() {
+            total += self.next[k] - self.costs[change.vehicle(k) as usize];
+        }
+        Ok(total)
+    }
+
+    fn prepare(&mut self, routes: &Routes, change: &Change) -> Result<(), NoMemory> {
+        let made = self.make_ready(routes, change)?;
+        Ok(made)
+    }
+
+    fn commit(&mut self, _routes: &Routes, change: &Change) {
+        for k in 0..change.parts() {
+            self.costs[change.vehicle(k) as usize] = self.next[k];
+        }
+    }
+}

@@ -1,0 +1,143 @@
+//! What a list costs by soft upper bounds and spans, at its chosen schedules.
+
+ghost use Rattle.std.specs.Prelude.{◌≡◌, ◌<◌, ◌≤◌, ◌+ℤ◌, IsTrue, IfOk, length};
+ghost use Rattle.std.specs.List.{list_all};
+ghost use Rattle.vr_model.specs.tables.Tables.{is_visit};
+ghost use Rattle.vr_model.specs.tables.WellFormed.{IsWellFormed};
+ghost use Rattle.vr_model.specs.routes.Routes.{is_distinct};
+ghost use Rattle.vr_timings.specs.Tables.{AreTables, IsTable};
+ghost use Rattle.vr_timings.specs.Timings.{soft_with, span_with};
+ghost use Rattle.vr_costfilter.specs.PlanCosts.{plans_cost, IsIdle, IsPlanCost};
+ghost use Rattle.vr_costfilter.specs.Bounds.{IsFrom};
+
+use std::alloc::Global;
+use std::marker::Model;
+use vr_model::{Model as RoutingModel, NoMemory};
+use vr_timings::{Table, Timer, may_pay_alone, span_cost, tables_of, timing_of};
+
+/// What is looked up of a model once. Contracts see the model.
+#[derive(Drop)]
+pub struct PlanRules<'m> {
+    model: &'m RoutingModel,
+    // what is looked up of each dimension
+    tables: Vec<Table>,
+    // whether no list may cost anything
+    idle: bool,
+}
+
+impl<'m> Model for PlanRules<'m> {
+    ghost use Rattle.vr_model.specs.declared.records.Model.{Model as Defined};
+    ghost use Rattle.vr_costfilter.specs.PlanCosts.{ArePlanRules};
+
+    ghost Value = { Defined };
+
+    ghost view = { λ rules. rules.model.now };
+
+    ghost invariant = { λ rules. ArePlanRules rules.model.now rules.tables.items rules.idle };
+}
+
+impl<'m> PlanRules<'m> {
+    /// What is looked up of a model.
+    pub fn open(alloc: Global, model: &'m RoutingModel) -> Result<PlanRules<'m>, NoMemory>
+        requires { IsWellFormed model.now }
+        ensures { IfOk result (λ rules. rules ≡ model.now) }
+    {
+        let tables = tables_of(alloc, model)?;
+        let idle = are_idle(model, &tables);
+        Ok(PlanRules {
+            model,
+            tables,
+            idle,
+        })
+    }
+
+    /// Whether no list may cost anything.
+    pub fn is_idle(&self) -> bool
+        ensures { IsTrue result → IsIdle self.now }
+    {
+        self.idle
+    }
+
+    /// What the list of a vehicle costs by the soft upper bounds of its stops and by its spans, in all dimensions.
+    pub fn cost(&self, v: u32, list: &[u32], timer: &mut Timer) -> Result<i64, NoMemory>
+        requires vehicle { v < length self.now.vehicles }
+        requires visits { IsTrue (list_all (is_visit self.now) list.now) }
+        requires distinct { IsTrue (is_distinct list.now) }
+        requires few { length list.now ≤ 1000 }
+        ensures value { IfOk result (λ cost. cost ≡ plans_cost self.now v list.now) }
+        ensures range { IfOk result IsPlanCost }
+    {
+        let cost = cost_of_plans(self.model, &self.tables, v, list, timer)?;
+        Ok(cost)
+    }
+}
+
+// What the list of a vehicle costs by the soft upper bounds of its stops and by its spans, in all dimensions.
+fn cost_of_plans(
+    model: &RoutingModel,
+    tables: &[Table],
+    v: u32,
+    list: &[u32],
+    timer: &mut Timer,
+) -> Result<i64, NoMemory>
+    requires well_formed { IsWellFormed model.now }
+    requires tables { AreTables model.now tables.now }
+    requires vehicle { v < length model.now.vehicles }
+    requires visits { IsTrue (list_all (is_visit model.now) list.now) }
+    requires distinct { IsTrue (is_distinct list.now) }
+    requires few { length list.now ≤ 1000 }
+    ensures value { IfOk result (λ cost. cost ≡ plans_cost model.now v list.now) }
+    ensures range { IfOk result IsPlanCost }
+{
+    if list.is_empty() {
+        return Ok(0);
+    }
+    let mut cost = 0;
+    for d in 0..tables.len() {
+        cost += cost_of_plan(model, &tables[d], d as u32, v, list, timer)?;
+    }
+    Ok(cost)
+}
+
+// The same in one dimension.
+fn cost_of_plan(
+    model: &RoutingModel,
+    table: &Table,
+    d: u32,
+    v: u32,
+    list: &[u32],
+    timer: &mut Timer,
+) -> Result<i64, NoMemory>
+    requires well_formed { IsWellFormed model.now }
+    requires dimension { d < length model.now.dimensions }
+    requires vehicle { v < length model.now.vehicles }
+    requires some { 0 < length list.now }
+    requires visits { IsTrue (list_all (is_visit model.now) list.now) }
+    requires distinct { IsTrue (is_distinct list.now) }
+    requires few { length list.now ≤ 1000 }
+    requires table { IsTable model.now d table.now }
+    ensures value { IfOk result (λ cost. cost ≡ soft_with model.now d v list.now +ℤ span_with model.now d v list.now) }
+    ensures range { IfOk result (IsFrom 690000000000000 690000000000000000) }
+{
+    if !may_pay_alone(model, table, d, v, list) {
+        return Ok(0);
+    }
+    let timing = timing_of(model, table, d, v, list, timer)?;
+    let dimension = model.dimensions.get(d as usize);
+    Ok(timing.soft + span_cost(dimension, v, timing))
+}
+
+// Whether no list of a model may cost anything by soft upper bounds and spans.
+fn are_idle(model: &RoutingModel, tables: &[Table]) -> bool
+    requires { AreTables model.now tables.now }
+    ensures { IsTrue result → IsIdle model.now }
+{
+    // the model is that of the clauses alone
+    let _model = model;
+    for d in 0..tables.len() {
+        if !tables[d].is_free {
+            return false;
+        }
+    }
+    true
+}
