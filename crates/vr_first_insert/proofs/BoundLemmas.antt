@@ -1,6 +1,6 @@
 -- Choices that cannot be better than the best so far.
-use Rattle.std.proofs.Common.{◌≡◌, ◌∙◌, ◌≤◌, ℕ, suc, List, [], ◌∷◌, Bool, true, false, cond, Option, Some, None, ℤ, pos, ◌≤ℤ◌, ◌+ℤ◌, refl, ap, sym, subst, inl, inr, arith, length}
-use Rattle.std.specs.Prelude.{◌&&◌, ◌||◌, ◌==◌, fold, int_lt, int_le, nat_lt, nat_le}
+use Rattle.std.proofs.Common.{◌≡◌, ◌∙◌, ◌<◌, ◌≤◌, ℕ, suc, List, [], ◌∷◌, Bool, true, false, cond, Option, Some, None, ℤ, pos, ◌≤ℤ◌, ◌+ℤ◌, refl, ap, sym, subst, inl, inr, arith, length}
+use Rattle.std.specs.Prelude.{◌&&◌, ◌||◌, ◌==◌, fold, map, int_lt, int_le, nat_lt, nat_le}
 use Rattle.std.proofs.lemmas.Int.{ints}
 use Rattle.std.proofs.lemmas.Bool.{eqb-true}
 use Rattle.vr_model.specs.declared.records.Model.{Model}
@@ -12,8 +12,7 @@ use Rattle.vr_rules.specs.Placing.{improves}
 use Rattle.vr_rules.proofs.LazyLeast.{untested}
 use Rattle.vr_first_insert.specs.declared.choice.Choice.{Choice}
 use Rattle.vr_first_insert.specs.Increases.{arc_at, detour, node_before, node_behind, visit_increase, pair_increase}
-use Rattle.vr_first_insert.specs.Placings.{key_of, tail_key, may_improve, placed, weigh, IsLeast}
-use Rattle.vr_first_insert.proofs.InsertLemmas.{deliveries}
+use Rattle.vr_first_insert.specs.Placings.{key_of, tail_key, may_improve, pair_choice, placed, weigh, IsLeast}
 
 not-before : (n c : ℕ) (i l b : ℤ) (tail : Bool) → (nat_lt n c || (nat_le n c && int_le l b)) ≡ false → l ≤ℤ i
     → (int_lt (pos n) (pos c) || (int_le (pos n) (pos c) && (int_lt i b || (int_le i b && tail)))) ≡ false
@@ -32,15 +31,31 @@ passed-over model list best (c ∷ cs) h =
     let here : best ≡ weigh model list best c = untested key_of best c (is_route_open model c.vehicle (placed list c.placing)) (h c (inl refl)) in
     passed-over model list best cs (λ d there. h d (inr there)) ∙ ap (λ b. fold (weigh model list) b cs) here
 
--- deliveries none of which is better
-pub deliveries-passed_over : (model : Model) (v : ℕ) (list : List ℕ) (class pickup delivery s : ℕ) (best : Option Choice) (least : ℤ) → ((t : ℕ) → t ≤ length list → least ≤ℤ pair_increase model v list pickup delivery s t)
-    → may_improve best class least ≡ false → best ≡ fold (weigh model list) best (deliveries model v list class pickup delivery s)
-deliveries-passed_over model v list class pickup delivery s best least low h =
-    passed-over model list best (deliveries model v list class pickup delivery s) (λ choice there.
-    from_map _ (from_to s (suc (length list))) choice there (λ t t_in is.
-    let b = of_from_to s (suc (length list)) t t_in in
+-- deliveries from a place on, none of which is better
+pub deliveries-passed_over : (model : Model) (v : ℕ) (list : List ℕ) (class pickup delivery s from : ℕ) (best : Option Choice) (least : ℤ) → ((t : ℕ) → from ≤ t → t ≤ length list → least ≤ℤ pair_increase model v list pickup delivery s t)
+    → may_improve best class least ≡ false → best ≡ fold (weigh model list) best (map (pair_choice model v list class pickup delivery s) (from_to from (suc (length list))))
+deliveries-passed_over model v list class pickup delivery s from best least low h =
+    passed-over model list best (map (pair_choice model v list class pickup delivery s) (from_to from (suc (length list)))) (λ choice there.
+    from_map _ (from_to from (suc (length list))) choice there (λ t t_in is.
+    let b = of_from_to from (suc (length list)) t t_in in
+    let start = b.0 in
     let high = b.1 in
-    none-improves best class least h choice (ap (λ c. c.class) is) (subst (λ x. least ≤ℤ x) (sym (ap (λ c. c.increase) is)) (low t (omega (arith, high))))))
+    none-improves best class least h choice (ap (λ c. c.class) is) (subst (λ x. least ≤ℤ x) (sym (ap (λ c. c.increase) is)) (low t (omega (arith, start)) (omega (arith, high))))))
+
+-- the pair apart
+apart-is : (model : Model) (v : ℕ) (list : List ℕ) (pickup delivery s t : ℕ) → (s == t) ≡ false → pair_increase model v list pickup delivery s t ≡ (visit_increase model v list pickup s +ℤ visit_increase model v list delivery t)
+apart-is model v list pickup delivery s t e =
+    ap (λ b. cond b (arc_cost model v (node_before model v list s) pickup +ℤ detour model v pickup delivery (node_behind model v list s) (arc_at model v list s)) (visit_increase model v list pickup s +ℤ visit_increase model v list delivery t)) e
+
+-- the pair with its delivery behind
+pub least-further : (model : Model) (v : ℕ) (list : List ℕ) (pickup delivery s t : ℕ) (least : ℤ) → IsLeast model v list delivery least → s < t → t ≤ length list
+    → (visit_increase model v list pickup s +ℤ least) ≤ℤ pair_increase model v list pickup delivery s t
+least-further model v list pickup delivery s t least is_least behind within =
+    let low = is_least t within in
+    subst (λ x. (visit_increase model v list pickup s +ℤ least) ≤ℤ x) (sym (apart-is model v list pickup delivery s t (differ s t behind))) (omega (arith, ints, low))
+  where
+    differ : (s t : ℕ) → s < t → (s == t) ≡ false
+    differ s t behind = grind arith
 
 -- the pair at each place of its delivery
 pub least-apart : (model : Model) (v : ℕ) (list : List ℕ) (pickup delivery s : ℕ) (least together result : ℤ) → IsLeast model v list delivery least → together ≡ pair_increase model v list pickup delivery s s
@@ -50,7 +65,6 @@ least-apart model v list pickup delivery s least together result is_least same b
     by : (b : Bool) → (s == t) ≡ b → result ≤ℤ pair_increase model v list pickup delivery s t
     by true e = subst (λ t. result ≤ℤ pair_increase model v list pickup delivery s t) (eqb-true s t e) (subst (λ x. result ≤ℤ x) same below_one)
     by false e =
-        let apart : pair_increase model v list pickup delivery s t ≡ (visit_increase model v list pickup s +ℤ visit_increase model v list delivery t) =
-        ap (λ b. cond b (arc_cost model v (node_before model v list s) pickup +ℤ detour model v pickup delivery (node_behind model v list s) (arc_at model v list s)) (visit_increase model v list pickup s +ℤ visit_increase model v list delivery t)) e in
+        let apart = apart-is model v list pickup delivery s t e in
         let low = is_least t within in
         subst (λ x. result ≤ℤ x) (sym apart) (omega (arith, ints, below_two, low))

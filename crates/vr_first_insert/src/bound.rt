@@ -54,6 +54,31 @@ pub(crate) fn least_behind(
     together.min(apart)
 }
 
+/// What a pair adds at least with its pickup before place `s` and its delivery behind, where the delivery alone adds
+/// `least` at least.
+pub(crate) fn least_further(
+    model: &Model,
+    v: u32,
+    list: &[u32],
+    pickup: u32,
+    s: usize,
+    least: i64,
+) -> i64
+    requires well_formed { IsWellFormed model.now }
+    requires vehicle { v < length model.now.vehicles }
+    requires nodes { All (λ node. node < model.now.nodes) list.now }
+    requires pickup { pickup < model.now.nodes }
+    requires within { s ≤ length list.now }
+    requires low { neg_ℤ (pos (2 ^ 40)) ≤ℤ least }
+    requires high { least ≤ℤ pos (2 ^ 41) }
+    ensures least { (delivery t : ℕ) → IsLeast model.now v list.now delivery least → s < t → t ≤ length list.now
+        → result ≤ℤ pair_increase_of model.now v list.now pickup delivery s t }
+    ensures low { neg_ℤ (pos (2 ^ 41)) ≤ℤ result }
+    ensures high { result ≤ℤ pos (2 ^ 42) }
+{
+    visit_increase(model, v, list, pickup, s) + least
+}
+
 /// The least that a pair adds to the list of vehicle `v`.
 pub(crate) fn least_pair(model: &Model, v: u32, list: &[u32], pickup: u32, delivery: u32) -> i64
     requires well_formed { IsWellFormed model.now }

@@ -18,7 +18,7 @@ ghost use Rattle.vr_first_insert.specs.Placings.{counts as counts_of, insertion_
 ghost use Rattle.vr_first_insert.specs.Placings.{visit_choice, weigh, IsLeast, MayBeInserted, MayHold};
 ghost use Rattle.vr_first_insert.specs.Ready.{AreReady, IsReady};
 
-use crate::bound::{least_behind, least_visit};
+use crate::bound::{least_behind, least_further, least_visit};
 use crate::choice::{Choice, Placing, improves, may_improve};
 use crate::increase::{pair_increase, visit_increase};
 use crate::known::{Known, asked, better_of, forget};
@@ -177,10 +177,9 @@ fn weigh_pair(
     }
 }
 
-// The best beside a pickup before place `s`, as it stands in `half`, and its delivery before each place from there on.
-// Once nothing is reached, no place further on is allowed.
-fn best_behind(
-    alloc: Global,
+// The best beside a pickup before place `s`, as it stands in `half`, and its delivery before each place behind, where what
+// `half` reaches at the next node is known. Once nothing is reached, no place further on is allowed.
+fn best_further(
     trying: &mut Trying,
     probes: &mut Probes,
     half: &[u32],
@@ -200,12 +199,12 @@ fn best_behind(
     requires may_hold { MayHold model.now list.now (PickupAndDelivery pickup delivery) }
     requires within { s ≤ length list.now }
     requires half { half.now ≡ insert list.now s pickup }
+    requires here { AreReachedAt model.now v half.now (s + 2) probes.old }
     ensures { IfOk result (λ chosen. chosen ≡ fold (weigh model.now list.now) best
-        (map (pair_choice model.now v list.now class pickup delivery s) (from_to s (suc (length list.now))))) }
+        (map (pair_choice model.now v list.now class pickup delivery s) (from_to (s + 1) (suc (length list.now))))) }
 {
-    probes.leave(alloc, model, keeps, v, list, half, s, &mut trying.walk)?;
     let mut best = best;
-    for t in s..list.len() + 1 {
+    for t in s + 1..list.len() + 1 {
         if probes.is_stuck(model) {
             return Ok(best);
         }
@@ -214,6 +213,54 @@ fn best_behind(
         )?;
         probes.go_on(model, keeps, v, half, t + 1, &mut trying.walk)?;
     }
+    Ok(best)
+}
+
+// The best beside a pickup before place `s`, as it stands in `half`, and its delivery before each place from there on.
+// Once nothing is reached, no place further on is allowed; and none is looked at behind the first where none can be
+// better.
+fn best_behind(
+    alloc: Global,
+    trying: &mut Trying,
+    probes: &mut Probes,
+    half: &[u32],
+    model: &Model,
+    keeps: &[Kept],
+    v: u32,
+    list: &[u32],
+    class: u32,
+    pickup: u32,
+    delivery: u32,
+    s: usize,
+    least: i64,
+    best: Option<Choice>,
+) -> Result<Option<Choice>, NoMemory>
+    requires well_formed { IsWellFormed model.now }
+    requires vehicle { v < length model.now.vehicles }
+    requires ready { IsReady model.now v list.now keeps.now }
+    requires may_hold { MayHold model.now list.now (PickupAndDelivery pickup delivery) }
+    requires within { s ≤ length list.now }
+    requires half { half.now ≡ insert list.now s pickup }
+    requires least { IsLeast model.now v list.now delivery least }
+    requires low { neg_ℤ (pos (2 ^ 40)) ≤ℤ least }
+    requires high { least ≤ℤ pos (2 ^ 41) }
+    ensures { IfOk result (λ chosen. chosen ≡ fold (weigh model.now list.now) best
+        (map (pair_choice model.now v list.now class pickup delivery s) (from_to s (suc (length list.now))))) }
+{
+    probes.leave(alloc, model, keeps, v, list, half, s, &mut trying.walk)?;
+    if probes.is_stuck(model) {
+        return Ok(best);
+    }
+    let near = weigh_pair(
+        trying, probes, model, keeps, v, list, class, pickup, delivery, s, s, best,
+    )?;
+    if !may_improve(near, class, least_further(model, v, list, pickup, s, least)) {
+        return Ok(near);
+    }
+    probes.go_on(model, keeps, v, half, s + 1, &mut trying.walk)?;
+    let best = best_further(
+        trying, probes, half, model, keeps, v, list, class, pickup, delivery, s, near,
+    )?;
     Ok(best)
 }
 
@@ -264,6 +311,7 @@ fn best_delivery(
         pickup,
         delivery,
         s,
+        least,
         best,
     )?;
     Ok(best)

@@ -1,8 +1,8 @@
-use Rattle.std.proofs.Common.{◌≡◌, ◌∙◌, ◌+◌, ◌≤◌, ℕ, suc, ap, sym, subst, arith, length}
+use Rattle.std.proofs.Common.{to_z, of_z, w64, ◌≡◌, ◌∙◌, ◌+◌, ◌≤◌, ℕ, suc, ap, sym, subst, arith, length}
 use Rattle.std.specs.Prelude.{fold, insert, map}
 use Rattle.std.proofs.lemmas.List.Edits.{length-insert}
 use Rattle.vr_model.specs.tables.Numbers.{from_to}
-use Rattle.vr_model.proofs.tables.Ranges.{walk_ends, walk_opens}
+use Rattle.vr_model.proofs.tables.Ranges.{first_left}
 use Rattle.vr_walks.specs.Lists.{IsUsed}
 use Rattle.vr_walks.specs.Stretches.{SharesFront}
 use Rattle.vr_inserting.specs.Probes.{AreReachedAt}
@@ -10,7 +10,10 @@ use Rattle.vr_inserting.proofs.InsertedLemmas.{visit_front}
 use Rattle.vr_inserting.proofs.RowLemmas.{stops_of}
 use Rattle.vr_first_insert.specs.declared.choice.Choice.{Choice}
 use Rattle.vr_first_insert.specs.declared.choice.Placing.TheVariants.{One}
-use Rattle.vr_first_insert.specs.Placings.{pair_choice, weigh}
+use Rattle.std.proofs.lemmas.Int.{ints, to_z-of_z}
+use Rattle.vr_lists.proofs.VisitLists.{visits-below}
+use Rattle.vr_first_insert.proofs.BoundLemmas.{deliveries-passed_over}
+use Rattle.vr_first_insert.specs.Placings.{may_improve, pair_choice, weigh, IsLeast}
 use Rattle.vr_first_insert.proofs.ReadyLemmas.{deliveries-stuck, used-placed, MayHold-pickup}
 use Rattle.vr_first_insert.proofs.search.best_behind.Goals as goal
 
@@ -20,9 +23,6 @@ leave-requires-clause-used c =
 
 pub leave-requires-clause-front : goal.leave-requires-clause-front
 leave-requires-clause-front c = subst (λ new. SharesFront c.args.list.now new c.args.s) (sym c.requires.half) (visit_front c.args.list.now c.args.s c.args.pickup c.requires.within)
-
-pub weigh_pair-requires-clause-here : goal.weigh_pair-requires-clause-here
-weigh_pair-requires-clause-here c = subst (λ half. AreReachedAt c.args.model.now c.args.v half (c.loop-t.t + 1) c.loop-t.probes) c.requires.half c.loop-t.invariant.reached
 
 pub go_on-requires-clause-used : goal.go_on-requires-clause-used
 go_on-requires-clause-used c =
@@ -34,30 +34,46 @@ go_on-requires-clause-stops c = stops_of c.args.model.now c.args.v c.args.list.n
 pub go_on-requires-clause-stop : goal.go_on-requires-clause-stop
 go_on-requires-clause-stop c =
     let long = ap length c.requires.half ∙ length-insert c.args.list.now c.args.s c.args.pickup c.requires.within in
-    omega (arith, long, c.loop-t-test.true)
+    omega (arith, long, c.requires.within)
 
-pub loop-t-preserved : goal.loop-t-preserved
-loop-t-preserved c =
-    let model = c.args.model.now in
-    let list = c.args.list.now in
-    let f : ℕ → Choice = pair_choice model c.args.v list c.args.class c.args.pickup c.args.delivery c.args.s in
-    record {
-      best = ap (λ best. fold (weigh model list) best (map f (from_to (c.loop-t.t + 1) (suc (length list))))) c.in_ok-best.ensures
-          ∙ walk_opens (λ ks. fold (weigh model list) c.loop-t.best (map f ks)) (suc (length list)) c.loop-t.t c.loop-t.invariant.best (omega arith);
-      reached = c.in_ok-go_on.ensures;
-    }
+pub go_on-requires-clause-here : goal.go_on-requires-clause-here
+go_on-requires-clause-here c = c.in_ok-leave.ensures
+
+pub weigh_pair-requires-clause-here : goal.weigh_pair-requires-clause-here
+weigh_pair-requires-clause-here c = subst (λ half. AreReachedAt c.args.model.now c.args.v half (c.args.s + 1) c.leave.new.self) c.requires.half c.in_ok-leave.ensures
+
+pub best_further-requires-clause-here : goal.best_further-requires-clause-here
+best_further-requires-clause-here c =
+    let next : c.args.s + 1 + 1 ≡ c.args.s + 2 = omega arith in
+    subst (λ k. AreReachedAt c.args.model.now c.args.v c.args.half.now k c.go_on.new.self) next c.in_ok-go_on.ensures
 
 pub returns-then-is_stuck : goal.returns-then-is_stuck
 returns-then-is_stuck c =
+    deliveries-stuck c.args.model.now c.args.v c.args.list.now c.args.class c.args.pickup c.args.delivery c.args.s c.args.s c.args.best c.leave.new.self c.requires.vehicle c.requires.may_hold (omega arith) c.requires.within
+    (subst (λ half. AreReachedAt c.args.model.now c.args.v half (c.args.s + 1) c.leave.new.self) c.requires.half c.in_ok-leave.ensures) (c.is_stuck.ensures c.if-is_stuck.true)
+
+pub least_further-requires-clause-nodes : goal.least_further-requires-clause-nodes
+least_further-requires-clause-nodes c = visits-below c.args.model.now c.args.list.now c.requires.may_hold.visits
+
+pub returns-then-not-may_improve : goal.returns-then-not-may_improve
+returns-then-not-may_improve c =
     let model = c.args.model.now in
     let list = c.args.list.now in
-    deliveries-stuck model c.args.v list c.args.class c.args.pickup c.args.delivery c.args.s c.loop-t.t c.loop-t.best c.loop-t.probes c.requires.vehicle c.requires.may_hold (omega arith) (omega arith)
-    (subst (λ half. AreReachedAt model c.args.v half (c.loop-t.t + 1) c.loop-t.probes) c.requires.half c.loop-t.invariant.reached) (c.is_stuck.ensures c.if-is_stuck.true)
-    ∙ c.loop-t.invariant.best
+    let f : ℕ → Choice = pair_choice model c.args.v list c.args.class c.args.pickup c.args.delivery c.args.s in
+    let further = c.least_further.ensures in
+    let least = subst (λ x. IsLeast model c.args.v list c.args.delivery x) (sym (to_z-of_z w64 c.args.least c.ranges.least)) c.requires.least in
+    let fits : to_z w64 (of_z w64 c.least_further.result) ≡ c.least_further.result = omega (arith, ints, further.low, further.high) in
+    deliveries-passed_over model c.args.v list c.args.class c.args.pickup c.args.delivery c.args.s (c.args.s + 1) c.in_ok-near.near c.least_further.result
+    (λ t from high. further.least c.args.delivery t least (omega (arith, from)) high)
+    (ap (may_improve c.in_ok-near.near c.args.class) (sym fits) ∙ sym c.may_improve.ensures ∙ c.if-not-may_improve.true)
+    ∙ ap (λ best. fold (weigh model list) best (map f (from_to (c.args.s + 1) (suc (length list))))) c.in_ok-near.ensures
+    ∙ sym (first_left c.args.s (suc (length list)) (omega (arith, c.requires.within)) (λ ks. fold (weigh model list) c.args.best (map f ks)))
 
 pub returns : goal.returns
 returns c =
     let model = c.args.model.now in
     let list = c.args.list.now in
     let f : ℕ → Choice = pair_choice model c.args.v list c.args.class c.args.pickup c.args.delivery c.args.s in
-    walk_ends (λ ks. fold (weigh model list) c.loop-t.best (map f ks)) (suc (length list)) c.loop-t.t c.loop-t.invariant.best (omega arith)
+    c.in_ok-best.ensures
+    ∙ ap (λ best. fold (weigh model list) best (map f (from_to (c.args.s + 1) (suc (length list))))) c.in_ok-near.ensures
+    ∙ sym (first_left c.args.s (suc (length list)) (omega (arith, c.requires.within)) (λ ks. fold (weigh model list) c.args.best (map f ks)))

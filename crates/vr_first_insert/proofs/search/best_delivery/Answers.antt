@@ -16,5 +16,5 @@ returns-then-not-may_improve c =
     let model = c.args.model.now in
     let list = c.args.list.now in
     let fits : to_z w64 (of_z w64 c.least_behind.result) ≡ c.least_behind.result = omega (arith, ints, c.least_behind.ensures.low, c.least_behind.ensures.high) in
-    deliveries-passed_over model c.args.v list c.args.class c.args.pickup c.args.delivery c.args.s c.args.best c.least_behind.result c.least_behind.ensures.least
+    deliveries-passed_over model c.args.v list c.args.class c.args.pickup c.args.delivery c.args.s c.args.s c.args.best c.least_behind.result (λ t from high. c.least_behind.ensures.least t high)
     (ap (may_improve c.args.best c.args.class) (sym fits) ∙ sym c.may_improve.ensures ∙ c.if-not-may_improve.true)

@@ -1,0 +1,13 @@
+use Rattle.std.proofs.Common.{◌≡◌, ◌∙◌, ◌≤ℤ◌, ◌+ℤ◌, arith, subst, sym, to_z, of_z, w64}
+use Rattle.std.proofs.lemmas.Int.{ints}
+use Rattle.vr_first_insert.specs.Increases.{pair_increase}
+use Rattle.vr_first_insert.proofs.BoundLemmas.{least-further}
+use Rattle.vr_first_insert.proofs.bound.least_further.Goals as goal
+
+pub returns-clause-least : goal.returns-clause-least
+returns-clause-least c = λ delivery t is_least behind within.
+    let model = c.args.model.now in
+    let list = c.args.list.now in
+    let one = c.visit_increase.ensures in
+    let here = least-further model c.args.v list c.args.pickup delivery c.args.s t c.args.least is_least behind within in
+    omega (arith, ints, here, one.value, one.low, one.high, c.requires.low, c.requires.high)
