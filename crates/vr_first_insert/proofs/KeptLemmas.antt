@@ -1,5 +1,5 @@
 -- What is known of items in lists.
-use Rattle.std.proofs.Common.{◌≡◌, ◌∙◌, ◌<◌, ℕ, zero, suc, List, [], false, Option, Some, None, ℤ, ◌≤ℤ◌, refl, ap, sym, subst, inl, inr, arith, length, length-set}
+use Rattle.std.proofs.Common.{◌≡◌, ◌∙◌, ◌<◌, ℕ, zero, suc, List, [], true, false, Option, Some, None, ℤ, ◌≤ℤ◌, refl, ap, sym, subst, inl, inr, arith, length, length-set}
 use Rattle.std.specs.Prelude.{map, replicate, slice_index_or, slice_set}
 use Rattle.std.proofs.lemmas.Bool.Decides.{eqb_tells}
 use Rattle.std.proofs.lemmas.List.{get_or-set_same, get_or-set_other}
@@ -16,8 +16,9 @@ use Rattle.vr_rules.specs.declared.items.Item.TheVariants.{Visit, PickupAndDeliv
 use Rattle.vr_rules.specs.declared.items.Candidate.{Candidate}
 use Rattle.vr_first_insert.specs.declared.choice.Choice.{Choice}
 use Rattle.vr_first_insert.specs.declared.known.Known.{Known}
-use Rattle.vr_first_insert.specs.declared.known.Known.TheVariants.{Nothing, Best}
-use Rattle.vr_first_insert.specs.Kept.{best_of, row_at, unread, AddsAtLeast, AreKnown, AreRows, IsKnown}
+use Rattle.vr_first_insert.specs.declared.known.Known.TheVariants.{Nothing, AtLeast, Best}
+use Rattle.vr_model.proofs.tables.Tests.{clash}
+use Rattle.vr_first_insert.specs.Kept.{best_of, is_settled, row_at, unread, AddsAtLeast, AreKnown, AreRows, IsKnown}
 use Rattle.vr_first_insert.specs.Placings.{best_in, choices_in, key_of, may_improve, pair_choice, placed, visit_choice}
 use Rattle.vr_first_insert.proofs.BoundLemmas.{none-improves, passed-over}
 use Rattle.vr_first_insert.proofs.LeastMerged.{merged_best, weighed-merged}
@@ -49,6 +50,12 @@ pub best-merged : (model : Model) (v : ℕ) (list : List ℕ) (candidate : Candi
 best-merged model v list candidate found best e =
     best_of-merged found best ∙ ap (merged_best key_of best) e
     ∙ sym (weighed-merged key_of (λ next. is_route_open model next.vehicle (placed list next.placing)) best (choices_in model v list candidate.class candidate.item))
+
+-- what is known to be best is so beside the best so far
+pub settled-is : (model : Model) (v : ℕ) (list : List ℕ) (candidate : Candidate) (known : Known) (best : Option Choice) → is_settled known ≡ true → IsKnown model v list candidate known → best_of known best ≡ best_in model v list candidate best
+settled-is model v list candidate Nothing best h is = absurd (clash false h refl)
+settled-is model v list candidate (AtLeast least) best h is = absurd (clash false h refl)
+settled-is model v list candidate (Best found) best h is = best-merged model v list candidate found best is
 
 -- what is known of one list is written
 pub known-written : (model : Model) (lists : List (List ℕ)) (candidate : Candidate) (row : List Known) (v : ℕ) (known : Known) → AreKnown model lists candidate row → IsKnown model v (route lists v) candidate known

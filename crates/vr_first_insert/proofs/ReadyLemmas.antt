@@ -1,5 +1,5 @@
 -- An item put into a list that its vehicle may drive.
-use Rattle.std.proofs.Common.{◌≡◌, ◌∙◌, ◌+◌, ◌<◌, ◌≤◌, ◌++◌, ℕ, suc, List, [], ◌∷◌, Bool, true, false, cond, Option, refl, ap, ap₂, sym, subst, inl, inr, arith, length, take, drop, append_assoc}
+use Rattle.std.proofs.Common.{◌≡◌, ◌∙◌, ◌+◌, ◌<◌, ◌≤◌, ◌++◌, ℕ, suc, List, [], ◌∷◌, Bool, true, false, cond, Option, refl, ap, sym, inl, inr, arith, length, take, drop, append_assoc}
 use Rattle.std.specs.Prelude.{◌&&◌, ◌||◌, fold, insert, map, slice_range}
 use Rattle.std.specs.List.{list_all}
 use Rattle.std.proofs.lemmas.List.{take-append-drop}

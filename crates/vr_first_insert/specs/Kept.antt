@@ -1,5 +1,5 @@
 -- What is known of items in lists.
-use Rattle.std.specs.Prelude.{◌≡◌, ℕ, ◌<◌, ◌≤◌, ⊤, List, [], length, ℤ, ◌≤ℤ◌, slice_index_or, Option, Some, None}
+use Rattle.std.specs.Prelude.{◌≡◌, ℕ, ◌<◌, ◌≤◌, ⊤, Bool, true, false, List, [], length, ℤ, ◌≤ℤ◌, slice_index_or, Option, Some, None}
 use Rattle.vr_model.specs.routes.Routes.{route}
 use Rattle.vr_model.specs.first.Choosing.{better}
 use Rattle.vr_model.specs.declared.records.Model.{Model}
@@ -22,6 +22,12 @@ best_of Nothing best = best
 best_of (AtLeast least) best = best
 best_of (Best None) best = best
 best_of (Best (Some next)) best = better_choice best next
+
+-- the best is known
+abbrev pub is_settled : Known → Bool
+is_settled Nothing = false
+is_settled (AtLeast least) = false
+is_settled (Best best) = true
 
 -- an item adds at least so much, wherever it is put in the list of vehicle v
 abbrev pub AddsAtLeast : Model → ℕ → List ℕ → Item → ℤ → Type 0

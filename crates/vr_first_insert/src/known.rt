@@ -2,7 +2,8 @@
 
 ghost use Rattle.std.specs.Prelude.{◌≡◌, ℕ, ◌<◌, IfOk, length, replicate, slice_set};
 ghost use Rattle.vr_model.specs.tables.WellFormed.{IsWellFormed};
-ghost use Rattle.vr_first_insert.specs.Kept.{best_of, better_choice, row_at, AddsAtLeast, IsKnown};
+ghost use Rattle.vr_first_insert.specs.Kept.{best_of, better_choice, is_settled as is_settled_of, row_at};
+ghost use Rattle.vr_first_insert.specs.Kept.{AddsAtLeast, IsKnown};
 ghost use Rattle.vr_first_insert.specs.Placings.{best_in, MayHold};
 ghost use Rattle.vr_first_insert.specs.Ready.{IsReady};
 ghost use Rattle.vr_first_insert.specs.declared.known.Known.TheVariants.{Nothing};
@@ -27,12 +28,22 @@ pub(crate) enum Known {
     Best(Option<Choice>),
 }
 
-/// The better of the best so far and what is known to be best.
-pub(crate) fn better_of(best: Option<Choice>, known: Known) -> Option<Choice>
-    ensures { result ≡ best_of known best }
+/// Whether the best of a list is known.
+pub(crate) fn is_settled(known: &Known) -> bool
+    ensures { result ≡ is_settled_of known.now }
 {
     match known {
-        Known::Best(Some(next)) => better(best, next),
+        Known::Best(_) => true,
+        _ => false,
+    }
+}
+
+/// The better of the best so far and what is known to be best.
+pub(crate) fn better_of(best: Option<Choice>, known: &Known) -> Option<Choice>
+    ensures { result ≡ best_of known.now best }
+{
+    match known {
+        Known::Best(Some(next)) => better(best, *next),
         _ => best,
     }
 }

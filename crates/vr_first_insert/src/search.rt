@@ -1,7 +1,7 @@
 //! The insertion that is made next.
 
 ghost use Rattle.std.specs.Prelude.{◌≡◌, ℕ, suc, ◌<◌, ◌≤◌, All, false, fold, map, true, IfOk, IfSome, OnOk, length};
-ghost use Rattle.std.specs.Prelude.{insert, neg_ℤ, option_map, pos, ◌+◌, ◌^◌, ◌≤ℤ◌};
+ghost use Rattle.std.specs.Prelude.{insert, neg_ℤ, option_map, pos, slice_index_or, ◌+◌, ◌^◌, ◌≤ℤ◌};
 ghost use Rattle.vr_model.specs.first.CheapestInsertion.{next_inserted, rebuilt};
 ghost use Rattle.vr_model.specs.first.Items.{first_node, items};
 ghost use Rattle.vr_model.specs.moves.Moves.{gaps};
@@ -12,7 +12,8 @@ ghost use Rattle.vr_rules.specs.Placing.{nodes_of, AreBuilt, AreCandidates, AreM
 ghost use Rattle.vr_rules.specs.declared.items.Item.TheVariants.{Visit, PickupAndDelivery};
 ghost use Rattle.vr_inserting.specs.Kept.{AreKept};
 ghost use Rattle.vr_inserting.specs.Probes.{AreReachedAt};
-ghost use Rattle.vr_first_insert.specs.Kept.{AreKnown, AreRows};
+ghost use Rattle.vr_first_insert.specs.Kept.{best_of, AreKnown, AreRows};
+ghost use Rattle.vr_first_insert.specs.declared.known.Known.TheVariants.{Nothing};
 ghost use Rattle.vr_first_insert.specs.Placings.{best_beside, best_in, best_in_lists as best_in_lists_of};
 ghost use Rattle.vr_first_insert.specs.Placings.{counts as counts_of, insertion_of, pair_choice};
 ghost use Rattle.vr_first_insert.specs.Placings.{visit_choice, weigh, IsLeast, MayBeInserted, MayHold};
@@ -21,7 +22,7 @@ ghost use Rattle.vr_first_insert.specs.Ready.{AreReady, IsReady};
 use crate::bound::{least_behind, least_further, least_visit};
 use crate::choice::{Choice, Placing, improves, may_improve};
 use crate::increase::{pair_increase, visit_increase};
-use crate::known::{Known, asked, better_of, forget};
+use crate::known::{Known, asked, better_of, forget, is_settled};
 use crate::place::{place_in, write_placed};
 use crate::room::Room;
 use crate::trying::{Trying, may_serve, may_visit};
@@ -373,6 +374,46 @@ pub(crate) fn best_in_list(
     Ok(best)
 }
 
+// Makes known what is best of an item in the list of vehicle `v`, where that may be better than the best so far. What is
+// known already is not written again.
+fn settle(
+    room: &mut Room,
+    model: &Model,
+    keeps: &[Kept],
+    lists: &[Seq<u32>],
+    v: usize,
+    candidate: Candidate,
+    row: &mut Seq<Known>,
+    best: Option<Choice>,
+) -> Result<(), NoMemory>
+    requires well_formed { IsWellFormed model.now }
+    requires ready { AreReady model.now lists.now keeps.now }
+    requires vehicles { length lists.now ≡ length model.now.vehicles }
+    requires may_hold { (v : ℕ) → v < length lists.now → MayHold model.now (route lists.now v) candidate.item }
+    requires there { v < length lists.now }
+    requires row { AreKnown model.now lists.now candidate row.old }
+    ensures better { OnOk result (best_of (slice_index_or row.new v Nothing) best
+        ≡ best_in model.now v (route lists.now v) candidate best) }
+    ensures row { OnOk result (AreKnown model.now lists.now candidate row.new) }
+{
+    if is_settled(row.get(v)) {
+        return Ok(());
+    }
+    let list = lists[v].as_slice();
+    let known = asked(
+        room,
+        model,
+        keeps,
+        v as u32,
+        list,
+        candidate,
+        *row.get(v),
+        best,
+    )?;
+    row.set(v, known);
+    Ok(())
+}
+
 // The best beside an item in each list, where `row` has what is known of the item in each.
 fn best_in_lists(
     room: &mut Room,
@@ -394,19 +435,8 @@ fn best_in_lists(
 {
     let mut best = best;
     for v in 0..lists.len() {
-        let list = lists[v].as_slice();
-        let known = asked(
-            room,
-            model,
-            keeps,
-            v as u32,
-            list,
-            candidate,
-            *row.get(v),
-            best,
-        )?;
-        row.set(v, known);
-        best = better_of(best, known);
+        settle(room, model, keeps, lists, v, candidate, row, best)?;
+        best = better_of(best, row.get(v));
     }
     Ok(best)
 }

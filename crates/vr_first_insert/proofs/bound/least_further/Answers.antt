@@ -1,6 +1,5 @@
-use Rattle.std.proofs.Common.{◌≡◌, ◌∙◌, ◌≤ℤ◌, ◌+ℤ◌, arith, subst, sym, to_z, of_z, w64}
+use Rattle.std.proofs.Common.{arith}
 use Rattle.std.proofs.lemmas.Int.{ints}
-use Rattle.vr_first_insert.specs.Increases.{pair_increase}
 use Rattle.vr_first_insert.proofs.BoundLemmas.{least-further}
 use Rattle.vr_first_insert.proofs.bound.least_further.Goals as goal
 

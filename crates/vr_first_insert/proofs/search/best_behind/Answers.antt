@@ -1,5 +1,5 @@
-use Rattle.std.proofs.Common.{to_z, of_z, w64, ◌≡◌, ◌∙◌, ◌+◌, ◌≤◌, ℕ, suc, ap, sym, subst, arith, length}
-use Rattle.std.specs.Prelude.{fold, insert, map}
+use Rattle.std.proofs.Common.{to_z, of_z, w64, ◌≡◌, ◌∙◌, ◌+◌, ℕ, suc, ap, sym, subst, arith, length}
+use Rattle.std.specs.Prelude.{fold, map}
 use Rattle.std.proofs.lemmas.List.Edits.{length-insert}
 use Rattle.vr_model.specs.tables.Numbers.{from_to}
 use Rattle.vr_model.proofs.tables.Ranges.{first_left}

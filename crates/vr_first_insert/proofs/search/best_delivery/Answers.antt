@@ -1,6 +1,6 @@
 use Rattle.std.proofs.Common.{◌≡◌, ◌∙◌, ap, sym, arith, to_z, of_z, w64}
 use Rattle.std.proofs.lemmas.Int.{ints}
-use Rattle.vr_lists.proofs.VisitLists.{visits-few, visits-below}
+use Rattle.vr_lists.proofs.VisitLists.{visits-few}
 use Rattle.vr_first_insert.specs.Placings.{may_improve}
 use Rattle.vr_first_insert.proofs.BoundLemmas.{deliveries-passed_over}
 use Rattle.vr_first_insert.proofs.search.best_delivery.Goals as goal

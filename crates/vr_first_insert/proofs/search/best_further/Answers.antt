@@ -1,12 +1,10 @@
-use Rattle.std.proofs.Common.{refl, ◌≡◌, ◌∙◌, ◌+◌, ◌≤◌, ℕ, suc, ap, sym, subst, arith, length}
-use Rattle.std.specs.Prelude.{fold, insert, map}
+use Rattle.std.proofs.Common.{refl, ◌≡◌, ◌∙◌, ◌+◌, ℕ, suc, ap, sym, subst, arith, length}
+use Rattle.std.specs.Prelude.{fold, map}
 use Rattle.std.proofs.lemmas.List.Edits.{length-insert}
 use Rattle.vr_model.specs.tables.Numbers.{from_to}
 use Rattle.vr_model.proofs.tables.Ranges.{walk_ends, walk_opens}
 use Rattle.vr_walks.specs.Lists.{IsUsed}
-use Rattle.vr_walks.specs.Stretches.{SharesFront}
 use Rattle.vr_inserting.specs.Probes.{AreReachedAt}
-use Rattle.vr_inserting.proofs.InsertedLemmas.{visit_front}
 use Rattle.vr_inserting.proofs.RowLemmas.{stops_of}
 use Rattle.vr_first_insert.specs.declared.choice.Choice.{Choice}
 use Rattle.vr_first_insert.specs.declared.choice.Placing.TheVariants.{One}

@@ -1,4 +1,4 @@
-use Rattle.std.proofs.Common.{◌≡◌, ◌∙◌, ap, arith, to_z, of_z, w64}
+use Rattle.std.proofs.Common.{◌≡◌, ◌∙◌, arith, to_z, of_z, w64}
 use Rattle.std.proofs.lemmas.Int.{ints}
 use Rattle.vr_lists.proofs.VisitLists.{visits-few, visits-below}
 use Rattle.vr_first_insert.specs.declared.choice.Placing.TheVariants.{Two}

@@ -1,4 +1,4 @@
-use Rattle.std.proofs.Common.{◌≡◌, ◌∙◌, ◌+◌, ◌-◌, ◌≤◌, ap, sym, subst, arith, length}
+use Rattle.std.proofs.Common.{◌∙◌, ◌+◌, ◌-◌, ap, sym, subst, arith, length}
 use Rattle.std.specs.Prelude.{insert}
 use Rattle.vr_lists.proofs.VisitLists.{visits-few}
 use Rattle.vr_rules.specs.RoutesOpen.{is_feasible_in_each}
