@@ -5,7 +5,7 @@ use Rattle.vr_model.proofs.tables.Ranges.{below-more}
 use Rattle.vr_first_insert.specs.declared.choice.Choice.{Choice}
 use Rattle.vr_first_insert.specs.Placings.{visit_choice, weigh}
 use Rattle.vr_first_insert.proofs.InsertLemmas.{fold-one}
-use Rattle.vr_first_insert.proofs.search.best_visit.Goals as goal
+use Rattle.vr_first_insert.proofs.one_list.best_visit.Goals as goal
 
 pub loop-t-preserved : goal.loop-t-preserved
 loop-t-preserved c =

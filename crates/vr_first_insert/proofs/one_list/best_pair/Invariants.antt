@@ -3,7 +3,7 @@ use Rattle.std.specs.Prelude.{fold}
 use Rattle.vr_model.specs.tables.Numbers.{below, each}
 use Rattle.vr_first_insert.specs.Placings.{weigh}
 use Rattle.vr_first_insert.proofs.InsertLemmas.{deliveries}
-use Rattle.vr_first_insert.proofs.search.best_pair.Given as goal
+use Rattle.vr_first_insert.proofs.one_list.best_pair.Given as goal
 
 -- the best beside the places of the pickup so far
 abbrev pub invariant-loop-s : goal.invariant-loop-s

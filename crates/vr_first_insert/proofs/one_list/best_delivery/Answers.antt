@@ -3,7 +3,7 @@ use Rattle.std.proofs.lemmas.Int.{ints}
 use Rattle.vr_lists.proofs.VisitLists.{visits-few}
 use Rattle.vr_first_insert.specs.Placings.{may_improve}
 use Rattle.vr_first_insert.proofs.BoundLemmas.{deliveries-passed_over}
-use Rattle.vr_first_insert.proofs.search.best_delivery.Goals as goal
+use Rattle.vr_first_insert.proofs.one_list.best_delivery.Goals as goal
 
 pub overflow_cast-s : goal.overflow_cast-s
 overflow_cast-s c = omega (arith, visits-few c.args.model.now c.args.list.now c.requires.may_hold.visits c.requires.may_hold.distinct, c.requires.well_formed.number_of_nodes.1)

@@ -15,7 +15,7 @@ use Rattle.vr_lists.proofs.VisitLists.{visits-below}
 use Rattle.vr_first_insert.proofs.BoundLemmas.{deliveries-passed_over}
 use Rattle.vr_first_insert.specs.Placings.{may_improve, pair_choice, weigh, IsLeast}
 use Rattle.vr_first_insert.proofs.ReadyLemmas.{deliveries-stuck, used-placed, MayHold-pickup}
-use Rattle.vr_first_insert.proofs.search.best_behind.Goals as goal
+use Rattle.vr_first_insert.proofs.one_list.best_behind.Goals as goal
 
 pub leave-requires-clause-used : goal.leave-requires-clause-used
 leave-requires-clause-used c =

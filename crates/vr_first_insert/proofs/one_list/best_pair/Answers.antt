@@ -4,7 +4,7 @@ use Rattle.vr_model.specs.tables.Numbers.{below, each}
 use Rattle.vr_model.proofs.tables.Ranges.{below-more}
 use Rattle.vr_first_insert.specs.Placings.{weigh}
 use Rattle.vr_first_insert.proofs.InsertLemmas.{deliveries, fold-each}
-use Rattle.vr_first_insert.proofs.search.best_pair.Goals as goal
+use Rattle.vr_first_insert.proofs.one_list.best_pair.Goals as goal
 
 pub loop-s-preserved : goal.loop-s-preserved
 loop-s-preserved c =

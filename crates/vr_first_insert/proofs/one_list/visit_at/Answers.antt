@@ -2,7 +2,7 @@ use Rattle.std.proofs.Common.{◌≡◌, ◌∙◌, arith, to_z, of_z, w64}
 use Rattle.std.proofs.lemmas.Int.{ints}
 use Rattle.vr_lists.proofs.VisitLists.{visits-few}
 use Rattle.vr_first_insert.specs.declared.choice.Placing.TheVariants.{One}
-use Rattle.vr_first_insert.proofs.search.visit_at.Goals as goal
+use Rattle.vr_first_insert.proofs.one_list.visit_at.Goals as goal
 
 pub overflow_cast-result : goal.overflow_cast-result
 overflow_cast-result c = omega (arith, visits-few c.args.model.now c.args.list.now c.requires.may_hold.visits c.requires.may_hold.distinct, c.requires.well_formed.number_of_nodes.1)

@@ -3,7 +3,7 @@ use Rattle.std.specs.Prelude.{fold, map}
 use Rattle.vr_model.specs.tables.Numbers.{from_to}
 use Rattle.vr_inserting.specs.Probes.{AreReachedAt}
 use Rattle.vr_first_insert.specs.Placings.{pair_choice, weigh}
-use Rattle.vr_first_insert.proofs.search.best_further.Given as goal
+use Rattle.vr_first_insert.proofs.one_list.best_further.Given as goal
 
 -- the best of the places that are left beside the best so far is the best of all; the probes stand before the place
 abbrev pub invariant-loop-t : goal.invariant-loop-t

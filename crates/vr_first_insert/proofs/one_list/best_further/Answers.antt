@@ -10,7 +10,7 @@ use Rattle.vr_first_insert.specs.declared.choice.Choice.{Choice}
 use Rattle.vr_first_insert.specs.declared.choice.Placing.TheVariants.{One}
 use Rattle.vr_first_insert.specs.Placings.{pair_choice, weigh}
 use Rattle.vr_first_insert.proofs.ReadyLemmas.{deliveries-stuck, used-placed, MayHold-pickup}
-use Rattle.vr_first_insert.proofs.search.best_further.Goals as goal
+use Rattle.vr_first_insert.proofs.one_list.best_further.Goals as goal
 
 pub weigh_pair-requires-clause-here : goal.weigh_pair-requires-clause-here
 weigh_pair-requires-clause-here c = subst (λ half. AreReachedAt c.args.model.now c.args.v half (c.loop-t.t + 1) c.loop-t.probes) c.requires.half c.loop-t.invariant.reached

@@ -1,0 +1,365 @@
+//! The best places of an item in one list.
+
+ghost use Rattle.std.specs.Prelude.{◌≡◌, ℕ, suc, ◌+◌, ◌<◌, ◌≤◌, ◌^◌, fold, insert, map, IfOk, length};
+ghost use Rattle.std.specs.Prelude.{neg_ℤ, pos, ◌≤ℤ◌};
+ghost use Rattle.vr_model.specs.moves.Moves.{gaps};
+ghost use Rattle.vr_model.specs.tables.Numbers.{each, from_to};
+ghost use Rattle.vr_model.specs.tables.WellFormed.{IsWellFormed};
+ghost use Rattle.vr_rules.specs.declared.items.Item.TheVariants.{Visit, PickupAndDelivery};
+ghost use Rattle.vr_inserting.specs.Probes.{AreReachedAt};
+ghost use Rattle.vr_first_insert.specs.Placings.{best_in, pair_choice, visit_choice, weigh, IsLeast, MayHold};
+ghost use Rattle.vr_first_insert.specs.Ready.{IsReady};
+
+use crate::bound::{least_behind, least_further, least_visit};
+use crate::choice::{Choice, Placing, improves, may_improve};
+use crate::increase::{pair_increase, visit_increase};
+use crate::place::write_placed;
+use crate::room::Room;
+use crate::trying::{Trying, may_serve, may_visit};
+use std::alloc::Global;
+use vr_inserting::{Kept, Probes};
+use vr_model::{Model, NoMemory};
+use vr_rules::{Candidate, Item};
+
+// A visit before place `t`.
+fn visit_at(model: &Model, v: u32, list: &[u32], class: u32, node: u32, t: usize) -> Choice
+    requires well_formed { IsWellFormed model.now }
+    requires vehicle { v < length model.now.vehicles }
+    requires may_hold { MayHold model.now list.now (Visit node) }
+    requires within { t ≤ length list.now }
+    ensures { result ≡ visit_choice model.now v list.now class node t }
+{
+    Choice {
+        placing: Placing::One(node, t as u32),
+        class,
+        vehicle: v,
+        increase: visit_increase(model, v, list, node, t),
+    }
+}
+
+// The better of the best so far and a visit before place `t`, which is tested only where it improves.
+fn weigh_visit(
+    trying: &mut Trying,
+    model: &Model,
+    keeps: &[Kept],
+    v: u32,
+    list: &[u32],
+    class: u32,
+    node: u32,
+    t: usize,
+    best: Option<Choice>,
+) -> Result<Option<Choice>, NoMemory>
+    requires well_formed { IsWellFormed model.now }
+    requires vehicle { v < length model.now.vehicles }
+    requires ready { IsReady model.now v list.now keeps.now }
+    requires may_hold { MayHold model.now list.now (Visit node) }
+    requires within { t ≤ length list.now }
+    ensures { IfOk result (λ chosen. chosen
+        ≡ weigh model.now list.now best (visit_choice model.now v list.now class node t)) }
+{
+    let next = visit_at(model, v, list, class, node, t);
+    if !improves(best, next) {
+        return Ok(best);
+    }
+    if may_visit(trying, model, keeps, v, list, node, t)? {
+        Ok(Some(next))
+    } else {
+        Ok(best)
+    }
+}
+
+// The best beside a visit before each place of the list of vehicle `v`.
+fn best_visit(
+    room: &mut Room,
+    model: &Model,
+    keeps: &[Kept],
+    v: u32,
+    list: &[u32],
+    class: u32,
+    node: u32,
+    best: Option<Choice>,
+) -> Result<Option<Choice>, NoMemory>
+    requires well_formed { IsWellFormed model.now }
+    requires vehicle { v < length model.now.vehicles }
+    requires ready { IsReady model.now v list.now keeps.now }
+    requires may_hold { MayHold model.now list.now (Visit node) }
+    ensures { IfOk result (λ chosen. chosen ≡ fold (weigh model.now list.now) best
+        (map (visit_choice model.now v list.now class node) (gaps list.now))) }
+{
+    let mut best = best;
+    for t in 0..list.len() + 1 {
+        best = weigh_visit(
+            &mut room.trying,
+            model,
+            keeps,
+            v,
+            list,
+            class,
+            node,
+            t,
+            best,
+        )?;
+    }
+    Ok(best)
+}
+
+// A pickup before place `s` and its delivery before place `t`.
+fn pair_at(
+    model: &Model,
+    v: u32,
+    list: &[u32],
+    class: u32,
+    pickup: u32,
+    delivery: u32,
+    s: usize,
+    t: usize,
+) -> Choice
+    requires well_formed { IsWellFormed model.now }
+    requires vehicle { v < length model.now.vehicles }
+    requires may_hold { MayHold model.now list.now (PickupAndDelivery pickup delivery) }
+    requires order { s ≤ t }
+    requires within { t ≤ length list.now }
+    ensures { result ≡ pair_choice model.now v list.now class pickup delivery s t }
+{
+    Choice {
+        placing: Placing::Two(pickup, delivery, s as u32, t as u32),
+        class,
+        vehicle: v,
+        increase: pair_increase(model, v, list, pickup, delivery, s, t),
+    }
+}
+
+// The better of the best so far and a pair before two places, which is tested only where it improves, by what the list
+// with the pickup reaches at the node before the delivery.
+fn weigh_pair(
+    trying: &mut Trying,
+    probes: &Probes,
+    model: &Model,
+    keeps: &[Kept],
+    v: u32,
+    list: &[u32],
+    class: u32,
+    pickup: u32,
+    delivery: u32,
+    s: usize,
+    t: usize,
+    best: Option<Choice>,
+) -> Result<Option<Choice>, NoMemory>
+    requires well_formed { IsWellFormed model.now }
+    requires vehicle { v < length model.now.vehicles }
+    requires ready { IsReady model.now v list.now keeps.now }
+    requires may_hold { MayHold model.now list.now (PickupAndDelivery pickup delivery) }
+    requires order { s ≤ t }
+    requires within { t ≤ length list.now }
+    requires here { AreReachedAt model.now v (insert list.now s pickup) (t + 1) probes.now }
+    ensures { IfOk result (λ chosen. chosen
+        ≡ weigh model.now list.now best (pair_choice model.now v list.now class pickup delivery s t)) }
+{
+    let next = pair_at(model, v, list, class, pickup, delivery, s, t);
+    if !improves(best, next) {
+        return Ok(best);
+    }
+    if may_serve(
+        trying, probes, model, keeps, v, list, pickup, delivery, s, t,
+    )? {
+        Ok(Some(next))
+    } else {
+        Ok(best)
+    }
+}
+
+// The best beside a pickup before place `s`, as it stands in `half`, and its delivery before each place behind, where
+// what `half` reaches at the next node is known. Once nothing is reached, no place further on is allowed.
+fn best_further(
+    trying: &mut Trying,
+    probes: &mut Probes,
+    half: &[u32],
+    model: &Model,
+    keeps: &[Kept],
+    v: u32,
+    list: &[u32],
+    class: u32,
+    pickup: u32,
+    delivery: u32,
+    s: usize,
+    best: Option<Choice>,
+) -> Result<Option<Choice>, NoMemory>
+    requires well_formed { IsWellFormed model.now }
+    requires vehicle { v < length model.now.vehicles }
+    requires ready { IsReady model.now v list.now keeps.now }
+    requires may_hold { MayHold model.now list.now (PickupAndDelivery pickup delivery) }
+    requires within { s ≤ length list.now }
+    requires half { half.now ≡ insert list.now s pickup }
+    requires here { AreReachedAt model.now v half.now (s + 2) probes.old }
+    ensures { IfOk result (λ chosen. chosen ≡ fold (weigh model.now list.now) best
+        (map (pair_choice model.now v list.now class pickup delivery s) (from_to (s + 1) (suc (length list.now))))) }
+{
+    let mut best = best;
+    for t in s + 1..list.len() + 1 {
+        if probes.is_stuck(model) {
+            return Ok(best);
+        }
+        best = weigh_pair(
+            trying, probes, model, keeps, v, list, class, pickup, delivery, s, t, best,
+        )?;
+        probes.go_on(model, keeps, v, half, t + 1, &mut trying.walk)?;
+    }
+    Ok(best)
+}
+
+// The best beside a pickup before place `s`, as it stands in `half`, and its delivery before each place from there on.
+// Once nothing is reached, no place further on is allowed; and none is looked at behind the first where none can be
+// better.
+fn best_behind(
+    alloc: Global,
+    trying: &mut Trying,
+    probes: &mut Probes,
+    half: &[u32],
+    model: &Model,
+    keeps: &[Kept],
+    v: u32,
+    list: &[u32],
+    class: u32,
+    pickup: u32,
+    delivery: u32,
+    s: usize,
+    least: i64,
+    best: Option<Choice>,
+) -> Result<Option<Choice>, NoMemory>
+    requires well_formed { IsWellFormed model.now }
+    requires vehicle { v < length model.now.vehicles }
+    requires ready { IsReady model.now v list.now keeps.now }
+    requires may_hold { MayHold model.now list.now (PickupAndDelivery pickup delivery) }
+    requires within { s ≤ length list.now }
+    requires half { half.now ≡ insert list.now s pickup }
+    requires least { IsLeast model.now v list.now delivery least }
+    requires low { neg_ℤ (pos (2 ^ 40)) ≤ℤ least }
+    requires high { least ≤ℤ pos (2 ^ 41) }
+    ensures { IfOk result (λ chosen. chosen ≡ fold (weigh model.now list.now) best
+        (map (pair_choice model.now v list.now class pickup delivery s) (from_to s (suc (length list.now))))) }
+{
+    probes.leave(alloc, model, keeps, v, list, half, s, &mut trying.walk)?;
+    if probes.is_stuck(model) {
+        return Ok(best);
+    }
+    let near = weigh_pair(
+        trying, probes, model, keeps, v, list, class, pickup, delivery, s, s, best,
+    )?;
+    if !may_improve(near, class, least_further(model, v, list, pickup, s, least)) {
+        return Ok(near);
+    }
+    probes.go_on(model, keeps, v, half, s + 1, &mut trying.walk)?;
+    let best = best_further(
+        trying, probes, half, model, keeps, v, list, class, pickup, delivery, s, near,
+    )?;
+    Ok(best)
+}
+
+// The best beside a pickup before place `s` and its delivery before each place from there on, where the delivery
+// alone adds `least` at least: then no place is looked at where none can be better.
+fn best_delivery(
+    room: &mut Room,
+    model: &Model,
+    keeps: &[Kept],
+    v: u32,
+    list: &[u32],
+    class: u32,
+    pickup: u32,
+    delivery: u32,
+    s: usize,
+    least: i64,
+    best: Option<Choice>,
+) -> Result<Option<Choice>, NoMemory>
+    requires well_formed { IsWellFormed model.now }
+    requires vehicle { v < length model.now.vehicles }
+    requires ready { IsReady model.now v list.now keeps.now }
+    requires may_hold { MayHold model.now list.now (PickupAndDelivery pickup delivery) }
+    requires within { s ≤ length list.now }
+    requires least { IsLeast model.now v list.now delivery least }
+    requires low { neg_ℤ (pos (2 ^ 40)) ≤ℤ least }
+    requires high { least ≤ℤ pos (2 ^ 41) }
+    ensures { IfOk result (λ chosen. chosen ≡ fold (weigh model.now list.now) best
+        (map (pair_choice model.now v list.now class pickup delivery s) (from_to s (suc (length list.now))))) }
+{
+    if !may_improve(
+        best,
+        class,
+        least_behind(model, v, list, pickup, delivery, s, least),
+    ) {
+        return Ok(best);
+    }
+    write_placed(list, Placing::One(pickup, s as u32), &mut room.half)?;
+    let best = best_behind(
+        room.alloc,
+        &mut room.trying,
+        &mut room.probes,
+        room.half.as_slice(),
+        model,
+        keeps,
+        v,
+        list,
+        class,
+        pickup,
+        delivery,
+        s,
+        least,
+        best,
+    )?;
+    Ok(best)
+}
+
+// The best beside a pair before each two places of the list of vehicle `v`.
+fn best_pair(
+    room: &mut Room,
+    model: &Model,
+    keeps: &[Kept],
+    v: u32,
+    list: &[u32],
+    class: u32,
+    pickup: u32,
+    delivery: u32,
+    best: Option<Choice>,
+) -> Result<Option<Choice>, NoMemory>
+    requires well_formed { IsWellFormed model.now }
+    requires ready { IsReady model.now v list.now keeps.now }
+    requires vehicle { v < length model.now.vehicles }
+    requires may_hold { MayHold model.now list.now (PickupAndDelivery pickup delivery) }
+    ensures { IfOk result (λ chosen. chosen ≡ fold (weigh model.now list.now) best
+        (each (gaps list.now) (λ s. map (pair_choice model.now v list.now class pickup delivery s)
+        (from_to s (suc (length list.now)))))) }
+{
+    let least = least_visit(model, v, list, delivery);
+    let mut best = best;
+    for s in 0..list.len() + 1 {
+        best = best_delivery(
+            room, model, keeps, v, list, class, pickup, delivery, s, least, best,
+        )?;
+    }
+    Ok(best)
+}
+
+/// The best beside an item in the list of vehicle `v`.
+pub(crate) fn best_in_list(
+    room: &mut Room,
+    model: &Model,
+    keeps: &[Kept],
+    v: u32,
+    list: &[u32],
+    candidate: Candidate,
+    best: Option<Choice>,
+) -> Result<Option<Choice>, NoMemory>
+    requires well_formed { IsWellFormed model.now }
+    requires ready { IsReady model.now v list.now keeps.now }
+    requires vehicle { v < length model.now.vehicles }
+    requires may_hold { MayHold model.now list.now candidate.item }
+    ensures { IfOk result (λ chosen. chosen ≡ best_in model.now v list.now candidate best) }
+{
+    let class = candidate.class;
+    let best = match candidate.item {
+        Item::Visit(node) => best_visit(room, model, keeps, v, list, class, node, best)?,
+        Item::PickupAndDelivery(pickup, delivery) => best_pair(
+            room, model, keeps, v, list, class, pickup, delivery, best,
+        )?,
+    };
+    Ok(best)
+}
