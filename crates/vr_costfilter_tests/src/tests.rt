@@ -27,7 +27,7 @@ const VANS: &str = r#"{"format":1,"nodes":6,"matrices":[
 "groups":[{"nodes":[1,2,3,4,5],"penalty":1,"max":5}]}"#;
 
 // The model of a text, where there is one.
-fn read(alloc: Global, text: &str) -> Result<Option<Model>, NoMemory>
+pub(crate) fn read(alloc: Global, text: &str) -> Result<Option<Model>, NoMemory>
     ensures { IfOk result (λ model. IfSome model IsWellFormed) }
 {
     let path = Path::root(alloc);
@@ -38,7 +38,11 @@ fn read(alloc: Global, text: &str) -> Result<Option<Model>, NoMemory>
 }
 
 // Valid routes with these lists, where there are such.
-fn valid_routes(alloc: Global, model: &Model, lists: &[&[u32]]) -> Result<Option<Routes>, NoMemory>
+pub(crate) fn valid_routes(
+    alloc: Global,
+    model: &Model,
+    lists: &[&[u32]],
+) -> Result<Option<Routes>, NoMemory>
     requires well_formed { IsWellFormed model.now }
     ensures of_model { IfOk result (λ routes. IfSome routes (λ found. found.visits ≡ visits model.now)) }
     ensures valid { IfOk result (λ routes. IfSome routes (λ found. IsTrue (is_valid model.now found.lists))) }
@@ -85,8 +89,8 @@ fn answer(
     Ok(groups == penalty && are_sums(before, after, arcs, fixed, groups))
 }
 
-// Whether the parts answer what a move of lists adds, this much of it in penalties: false where it is none, or the
-// lists are not valid.
+// Whether the parts answer what a move of lists adds, this much of it in penalties: false where it is none, or the lists
+// are not valid.
 fn agree(
     alloc: Global,
     model: &Model,
