@@ -29,6 +29,7 @@ use Rattle.vr_app.specs.Texts.{summary_of, used}
 use Rattle.vr_app.specs.declared.texts.Summary.{Summary}
 use Rattle.vr_app.specs.declared.words.Mode.{Mode}
 use Rattle.vr_app.specs.declared.words.Mode.TheVariants as mode
+use Rattle.vr_rules.proofs.TotalLemmas.{sum-is_cost}
 
 -- the first lists are valid
 pub first_lists-valid : (model : Model) (lists : List (List ℕ)) → first_lists model ≡ Some lists → IsTrue (is_valid model lists)
@@ -55,10 +56,6 @@ chosen-plans : (model : Model) (lists : List (List ℕ)) → IsTrue (is_valid mo
 chosen-plans model lists valid d v low known used =
     let meets = open_meets_its_lines model lists (valid-open model lists valid) d v low known used in
     subst (IsChosen (line model d v (route lists v))) (sym (plan-at model lists d v low known used)) (chosen-of (line model d v (route lists v)) _ meets)
-
-pub sum-is_cost : (model : Model) (lists : List (List ℕ)) → sum_of (parts_at model (assigned model lists)) ≡ cost model lists
-unfolding cost
-sum-is_cost model lists = refl
 
 -- valid lists at their chosen schedules are a solution
 pub is-solution : (model : Model) (first lists : List (List ℕ)) → IsTrue (is_valid model lists) → cost model lists ≤ℤ cost model first → IsSolution model first (assigned model lists)

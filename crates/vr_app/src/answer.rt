@@ -8,8 +8,6 @@ ghost use Rattle.serde_json.specs.Written.{has_float};
 ghost use Rattle.vr_json.specs.Reading.{Answers as ModelAnswers};
 ghost use Rattle.vr_json.specs.Trees.{line_of};
 ghost use Rattle.vr_model.specs.first.FirstSolutions.{first_lists};
-ghost use Rattle.vr_model.specs.routes.Costs.{cost as model_cost};
-ghost use Rattle.vr_model.specs.routes.Rules.{is_valid};
 ghost use Rattle.vr_model.specs.tables.Tables.{visits};
 ghost use Rattle.vr_model.specs.tables.WellFormed.{IsWellFormed};
 ghost use Rattle.vr_watch.specs.Told.{Told};
@@ -35,7 +33,7 @@ use vr_model::{Model, NoMemory, Seq};
 use vr_print::solution_line;
 use vr_read::read_model;
 use vr_routes::Routes;
-use vr_rules::{cost, total_cost};
+use vr_rules::total;
 
 /// A status, and the text to write.
 #[derive(Drop)]
@@ -103,16 +101,6 @@ pub(crate) fn refused(alloc: Global, fault: &Fault) -> Result<Answer, NoMemory>
     line(alloc, Status::Refused, &tree)
 }
 
-/// What valid lists of a model cost.
-pub(crate) fn cost_of(alloc: Global, model: &Model, routes: &Routes) -> Result<i64, NoMemory>
-    requires well_formed { IsWellFormed model.now }
-    requires valid { IsTrue (is_valid model.now routes.now.lists) }
-    ensures { IfOk result (λ total. total ≡ model_cost model.now routes.now.lists) }
-{
-    let parts = cost(alloc, model, routes)?;
-    Ok(total_cost(&parts))
-}
-
 // The line of what a mode finds for a model with this first solution. With `Log` the watchers are told of each event.
 fn line_from(
     alloc: Global,
@@ -128,7 +116,7 @@ fn line_from(
     ensures told { mode ≡ Mode.Log → OnOk result (Told (λ w later. after w later) watch.old.items watch.new.items
         (found_from mode model.now first.lists).outcome.events) }
 {
-    let first_cost = cost_of(alloc, model, &first)?;
+    let first_cost = total(alloc, model, &first)?;
     let found = search(alloc, mode, model, first, first_cost, watch)?;
     let line = solution_line(alloc, model, &found.routes, first_cost, found.report)?;
     Ok(line)

@@ -12,7 +12,7 @@ ghost use Rattle.vr_app.specs.Reply as replies;
 ghost use Rattle.vr_app.specs.Texts as texts;
 ghost use Rattle.vr_app.specs.declared.words.Mode.TheVariants as asked;
 
-use crate::answer::{Answer, cost_of, line, none_found, read_owned, refused};
+use crate::answer::{Answer, line, none_found, read_owned, refused};
 use crate::first::first_routes;
 use crate::search::solve_unwatched;
 use crate::status::Status;
@@ -23,6 +23,7 @@ use vr_gen::generate;
 use vr_json::ReadFail;
 use vr_model::{Model, NoMemory};
 use vr_routes::Routes;
+use vr_rules::total;
 
 /// The answer that is the model of a number.
 pub(crate) fn generated(alloc: Global, number: u64) -> Result<Answer, NoMemory>
@@ -100,9 +101,9 @@ fn summary_from(
     ensures { let found = found_from asked.Solve model.now first.lists in
         IfOk result (λ summary. summary ≡ texts.summary_of number model.now found) }
 {
-    let first_cost = cost_of(alloc, model, &first)?;
+    let first_cost = total(alloc, model, &first)?;
     let found = solve_unwatched(alloc, model, first, first_cost)?;
-    let cost = cost_of(alloc, model, &found.routes)?;
+    let cost = total(alloc, model, &found.routes)?;
     Ok(Summary {
         number,
         cost,

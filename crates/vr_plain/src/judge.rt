@@ -15,7 +15,7 @@ use std::marker::Model;
 use std::sync::ledger::Ledger;
 use vr_model::{Model as RoutingModel, Move, NoMemory, Steps};
 use vr_routes::{Change, Judge, Routes, Verdict};
-use vr_rules::{Rules, total_cost};
+use vr_rules::Rules;
 
 /// Judges a move by the rules and the cost of the whole lists after it, which it builds anew each time. It counts no
 /// questions and no steps: both of its numbers are 0.
@@ -59,7 +59,7 @@ impl<'m> PlainJudge<'m> {
         let held = routes.copy(alloc)?;
         let scratch = routes.copy(alloc)?;
         let mut rules = Rules::open(alloc, model)?;
-        let total = total_of(&mut rules, routes)?;
+        let total = rules.total(routes)?;
         Ok(PlainJudge {
             rules,
             held,
@@ -96,7 +96,7 @@ impl<'m> Judge for PlainJudge<'m> {
         if !self.rules.valid(&self.scratch)? {
             return Ok(Verdict::Refused);
         }
-        let total = total_of(&mut self.rules, &self.scratch)?;
+        let total = self.rules.total(&self.scratch)?;
         Ok(Verdict::Difference(total - self.total))
     }
 
@@ -109,7 +109,7 @@ impl<'m> Judge for PlainJudge<'m> {
             &mut self.change,
             &mut self.scratch,
         );
-        let total = total_of(&mut self.rules, &self.scratch)?;
+        let total = self.rules.total(&self.scratch)?;
         routes.commit(&self.change);
         self.held.commit(&self.change);
         self.total = total;
@@ -134,16 +134,4 @@ fn rebuild(model: &RoutingModel, routes: &Routes, mv: Move, change: &mut Change,
     after.assign(routes);
     Change::write(model, routes, mv, change);
     after.commit(change);
-}
-
-// What valid lists cost. The only refusal is want of memory.
-pub(crate) fn total_of(rules: &mut Rules<'_>, routes: &Routes) -> Result<i64, NoMemory>
-    requires well_formed { IsWellFormed rules.old }
-    requires valid { IsTrue (is_valid rules.old routes.now.lists) }
-    ensures value { IfOk result (λ total. total ≡ cost rules.old routes.now.lists) }
-    ensures least { IfOk result (λ total. pos 0 ≤ℤ total) }
-    ensures model { rules.new ≡ rules.old }
-{
-    let parts = rules.cost(routes)?;
-    Ok(total_cost(&parts))
 }

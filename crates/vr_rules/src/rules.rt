@@ -1,8 +1,8 @@
 //! The rules of one model, ready to be asked.
 
-ghost use Rattle.std.specs.Prelude.{◌≡◌, ◌<◌, IfOk, IsTrue, length};
+ghost use Rattle.std.specs.Prelude.{◌≡◌, ◌<◌, ◌≤ℤ◌, IfOk, IsTrue, length, pos};
 ghost use Rattle.std.specs.List.{list_all};
-ghost use Rattle.vr_model.specs.routes.Costs.{assigned, parts_at};
+ghost use Rattle.vr_model.specs.routes.Costs.{assigned, cost as cost_of, parts_at};
 ghost use Rattle.vr_model.specs.routes.Routes.{are_lists, is_distinct};
 ghost use Rattle.vr_model.specs.routes.Rules.{is_open as is_open_of, is_route_open as is_route_open_of};
 ghost use Rattle.vr_model.specs.routes.Rules.{is_valid as is_valid_of};
@@ -10,6 +10,7 @@ ghost use Rattle.vr_model.specs.tables.Tables.{is_visit};
 ghost use Rattle.vr_model.specs.tables.WellFormed.{IsWellFormed};
 ghost use Rattle.vr_rules.specs.Totals.{HasTotal};
 
+use crate::costs::total_cost;
 use crate::marks::write_marks;
 use crate::parts::parts_of;
 use crate::routes_open::{Driving, is_route_open};
@@ -155,6 +156,17 @@ impl<'m> Rules<'m> {
         )?;
         Ok(parts)
     }
+
+    /// What valid routes cost in all, in `0..=2^63 - 1`.
+    pub fn total(&mut self, routes: &Routes) -> Result<i64, NoMemory>
+        requires valid { IsTrue (is_valid_of self.old routes.now.lists) }
+        ensures value { IfOk result (λ total. total ≡ cost_of self.old routes.now.lists) }
+        ensures least { IfOk result (λ total. pos 0 ≤ℤ total) }
+        ensures model { self.new ≡ self.old }
+    {
+        let parts = self.cost(routes)?;
+        Ok(total_cost(&parts))
+    }
 }
 
 /// Whether vehicle `v` may drive a list, as `Rules::route_open` answers it.
@@ -209,4 +221,16 @@ pub fn cost(alloc: Global, model: &RoutingModel, routes: &Routes) -> Result<Part
     let mut rules = Rules::open(alloc, model)?;
     let parts = rules.cost(routes)?;
     Ok(parts)
+}
+
+/// What valid routes cost in all, as `Rules::total` answers it. `NoMemory` where there was no memory.
+pub fn total(alloc: Global, model: &RoutingModel, routes: &Routes) -> Result<i64, NoMemory>
+    requires well_formed { IsWellFormed model.now }
+    requires valid { IsTrue (is_valid_of model.now routes.now.lists) }
+    ensures value { IfOk result (λ total. total ≡ cost_of model.now routes.now.lists) }
+    ensures least { IfOk result (λ total. pos 0 ≤ℤ total) }
+{
+    let mut rules = Rules::open(alloc, model)?;
+    let total = rules.total(routes)?;
+    Ok(total)
 }

@@ -9,8 +9,8 @@ use Rattle.vr_app.specs.Found.{line_of_found, searched}
 use Rattle.vr_app.proofs.SolutionLemmas.{first_lists-valid, searched-sound}
 use Rattle.vr_app.proofs.answer.line_from.Goals as goal
 
-pub cost_of-requires-clause-valid : goal.cost_of-requires-clause-valid
-cost_of-requires-clause-valid g c = first_lists-valid c.args.model.now c.args.first.lists c.requires.first
+pub total-requires-clause-valid : goal.total-requires-clause-valid
+total-requires-clause-valid g c = first_lists-valid c.args.model.now c.args.first.lists c.requires.first
 
 pub search-requires-clause-valid : goal.search-requires-clause-valid
 search-requires-clause-valid g c = first_lists-valid c.args.model.now c.args.first.lists c.requires.first
@@ -20,7 +20,7 @@ search-requires-clause-first_cost g c =
     let model = c.args.model.now in
     let lists = c.args.first.lists in
     let bounds = costs_are_bounded model c.requires.well_formed lists (first_lists-valid model lists c.requires.first) in
-    omega (arith, ints, c.in_ok-first_cost.ensures, bounds.least, bounds.greatest)
+    omega (arith, ints, c.in_ok-first_cost.ensures.value, bounds.least, bounds.greatest)
 
 pub solution_line-requires-clause-valid : goal.solution_line-requires-clause-valid
 solution_line-requires-clause-valid g c =
@@ -38,7 +38,7 @@ returns-clause-line g c =
     let ends = c.in_ok-found.ensures.ends in
     let bounds = costs_are_bounded model c.requires.well_formed first (first_lists-valid model first c.requires.first) in
     let sum : to_z w64 (of_z w64 c.in_ok-first_cost.first_cost) ≡ cost model first =
-    omega (arith, ints, c.in_ok-first_cost.ensures, bounds.least, bounds.greatest) in
+    omega (arith, ints, c.in_ok-first_cost.ensures.value, bounds.least, bounds.greatest) in
     c.in_ok-line.ensures.text
     ∙ ap (λ lists. line_of (solution_tree model lists (to_z w64 (of_z w64 c.in_ok-first_cost.first_cost)) found.report)) ends.best_is
     ∙ ap (λ z. line_of (solution_tree model end.best z found.report)) sum

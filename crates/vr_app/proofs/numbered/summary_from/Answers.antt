@@ -12,8 +12,8 @@ use Rattle.vr_app.proofs.SolutionLemmas.{first_lists-valid, improved-sound, summ
 use Rattle.vr_app.specs.declared.words.Mode.TheVariants as mode
 use Rattle.vr_app.proofs.numbered.summary_from.Goals as goal
 
-pub cost_of-requires-clause-valid : goal.cost_of-requires-clause-valid
-cost_of-requires-clause-valid c = first_lists-valid c.args.model.now c.args.first.lists c.requires.first
+pub total-requires-clause-valid : goal.total-requires-clause-valid
+total-requires-clause-valid c = first_lists-valid c.args.model.now c.args.first.lists c.requires.first
 
 pub solve_unwatched-requires-clause-valid : goal.solve_unwatched-requires-clause-valid
 solve_unwatched-requires-clause-valid c = first_lists-valid c.args.model.now c.args.first.lists c.requires.first
@@ -23,10 +23,10 @@ solve_unwatched-requires-clause-first_cost c =
     let model = c.args.model.now in
     let lists = c.args.first.lists in
     let bounds = costs_are_bounded model c.requires.well_formed lists (first_lists-valid model lists c.requires.first) in
-    omega (arith, ints, c.in_ok-first_cost.ensures, bounds.least, bounds.greatest)
+    omega (arith, ints, c.in_ok-first_cost.ensures.value, bounds.least, bounds.greatest)
 
-pub cost_of-requires-2-clause-valid : goal.cost_of-requires-2-clause-valid
-cost_of-requires-2-clause-valid c =
+pub total-requires-2-clause-valid : goal.total-requires-2-clause-valid
+total-requires-2-clause-valid c =
     let model = c.args.model.now in
     let sound = improved-sound model.search.improve model c.args.first.lists c.requires.well_formed (first_lists-valid model c.args.first.lists c.requires.first) in
     ap (is_valid model) c.in_ok-found.ensures.ends.best_is ∙ sound.valid
@@ -42,8 +42,8 @@ returns c =
     let low = costs_are_bounded model c.requires.well_formed first valid in
     let last = costs_are_bounded model c.requires.well_formed end.best sound.valid in
     let first_cost : to_z w64 (of_z w64 c.in_ok-first_cost.first_cost) ≡ cost model first =
-    omega (arith, ints, c.in_ok-first_cost.ensures, low.least, low.greatest) in
-    let value = c.in_ok-cost.ensures ∙ ap (cost model) ends.best_is in
+    omega (arith, ints, c.in_ok-first_cost.ensures.value, low.least, low.greatest) in
+    let value = c.in_ok-cost.ensures.value ∙ ap (cost model) ends.best_is in
     let total : to_z w64 (of_z w64 c.in_ok-cost.cost) ≡ cost model end.best = omega (arith, ints, value, last.least, last.greatest) in
     let idle : List ℕ → List (List ℕ) → List ℕ = λ nodes lists. filter (λ node. not (is_active lists node)) nodes in
     let dropped = ap length (c.inactive.ensures.value ∙ ap (λ nodes. idle nodes c.in_ok-found.found.routes.lists) (ends.visits_are ∙ c.requires.of_model) ∙ ap (idle (visits model)) ends.best_is) in
