@@ -1,0 +1,4 @@
+pub mod RuleLemmas
+pub mod VerdictLemmas
+pub mod DimensionLemmas
+pub mod SumLemmas

@@ -1,0 +1,36 @@
+-- Verdicts on moves, by the test of the lists after them.
+use Rattle.std.proofs.Common.{◌≡◌, ◌∙◌, ℕ, Bool, true, false, cond, List, sym, ap, subst}
+use Rattle.std.specs.Prelude.{ℤ, ◌-ℤ◌, IsTrue}
+use Rattle.vr_model.specs.moves.Moves.{apply}
+use Rattle.vr_model.specs.moves.MoveTests.{is_move}
+use Rattle.vr_model.specs.routes.Costs.{cost}
+use Rattle.vr_model.specs.routes.Routes.{are_lists}
+use Rattle.vr_model.specs.routes.Rules.{is_valid}
+use Rattle.vr_model.specs.tables.WellFormed.{IsWellFormed}
+use Rattle.vr_model.specs.declared.records.Model.{Model}
+use Rattle.vr_model.specs.declared.neighbours.Move.{Move}
+use Rattle.vr_model.proofs.moves.KeptLists.{moves_keep_lists}
+use Rattle.vr_model.proofs.routes.Lists.{are-lists}
+use Rattle.vr_routes.specs.Judging.{verdict_of}
+use Rattle.vr_routes.specs.declared.judging.Verdict.{Verdict}
+use Rattle.vr_routes.specs.declared.judging.Verdict.TheVariants.{Refused, Difference}
+use Rattle.vr_judge.specs.Rules.{keeps_rules}
+use Rattle.vr_judge.proofs.RuleLemmas.{kept_as_valid}
+
+module _ (model : Model) (lists after : List (List ℕ)) (mv : Move) (makes : after ≡ apply model lists mv) where
+  -- after a move of valid lists the rules of all filters hold exactly where the lists are valid
+  pub tested_as_valid : IsWellFormed model → IsTrue (is_valid model lists) → IsTrue (is_move model lists mv) → keeps_rules model after ≡ is_valid model after
+  tested_as_valid well_formed valid is_one = kept_as_valid model after
+      (subst (λ ls. IsTrue (are_lists model ls)) (sym makes) (moves_keep_lists model well_formed lists mv (are-lists model lists valid) is_one))
+
+  by_test : (b : Bool) → is_valid model after ≡ b → cond b (Difference (cost model after -ℤ cost model lists)) Refused ≡ verdict_of model lists mv
+  by_test b is = ap (λ t. cond t (Difference (cost model after -ℤ cost model lists)) Refused) (sym is)
+      ∙ ap (λ ls. cond (is_valid model ls) (Difference (cost model ls -ℤ cost model lists)) Refused) makes
+
+  -- lists that are not valid are refused
+  pub refused : is_valid model after ≡ false → Refused ≡ verdict_of model lists mv
+  refused is = by_test false is
+
+  -- valid lists make a difference
+  pub differs : is_valid model after ≡ true → (difference : ℤ) → difference ≡ cost model after -ℤ cost model lists → Difference difference ≡ verdict_of model lists mv
+  differs is difference exact = ap (λ d. Difference d) exact ∙ by_test true is

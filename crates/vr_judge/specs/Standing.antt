@@ -1,0 +1,49 @@
+-- Where the parts of the cost stand, and a judge with them.
+use Rattle.std.specs.Prelude.{◌≡◌, ℕ, Bool, List}
+use Rattle.vr_model.specs.tables.Tables.{visits}
+use Rattle.vr_model.specs.declared.records.Model.{Model}
+use Rattle.vr_routes.specs.Tours.{Tours}
+use Rattle.vr_costfilter.specs.Along.{KeptAlong, StandsAlong}
+use Rattle.vr_costfilter.specs.Fixed.{KeptFixed, StandsFixed}
+use Rattle.vr_costfilter.specs.GlobalCosts.{KeptSpans, StandsSpans}
+use Rattle.vr_costfilter.specs.Groups.{KeptGroups, StandsGroups}
+use Rattle.vr_costfilter.specs.PlanCosts.{KeptPlans, StandsPlans}
+use Rattle.vr_judge.specs.Rules.{keeps_rules, total_weight}
+
+-- what contracts see of the parts of the cost
+pub record KeptCosts : Type 0 where
+  pub model : Model
+  pub arcs : KeptAlong
+  pub fixed : KeptFixed
+  pub groups : KeptGroups
+  pub plans : KeptPlans
+  pub spans : KeptSpans
+
+-- each part is of the model, and has committed these lists
+pub record StandsCosts (kept : KeptCosts) (tours : Tours) : Type 0 where
+  pub arcs_model : kept.arcs.model ≡ kept.model
+  pub fixed_model : kept.fixed.model ≡ kept.model
+  pub groups_model : kept.groups.model ≡ kept.model
+  pub plans_model : kept.plans.model ≡ kept.model
+  pub spans_model : kept.spans.model ≡ kept.model
+  pub arcs : StandsAlong kept.arcs tours
+  pub fixed : StandsFixed kept.fixed tours
+  pub groups : StandsGroups kept.groups tours
+  pub plans : StandsPlans kept.plans tours
+  pub spans : StandsSpans kept.spans tours
+
+-- what contracts see of a judge: its model, and the lists that it has committed
+pub record Held : Type 0 where
+  pub model : Model
+  pub lists : List (List ℕ)
+
+-- the filters ask what valid lists of the model keep, within its weights; they and the parts of the cost stand at the
+-- lists that are held
+pub record IsJudging (model : Model) (held : Tours) (holds : List (List ℕ) → Bool)
+    (weight : List (List ℕ) → List (List ℕ) → ℕ) (stands_at : Tours → Type 0) (costs : KeptCosts) : Type 0 where
+  pub of_model : held.visits ≡ visits model
+  pub rules : (lists : List (List ℕ)) → holds lists ≡ keeps_rules model lists
+  pub weights : (before later : List (List ℕ)) → weight before later ≡ total_weight model before later
+  pub filters : stands_at held
+  pub costs_model : costs.model ≡ model
+  pub costs_stand : StandsCosts costs held

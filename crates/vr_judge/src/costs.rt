@@ -1,0 +1,107 @@
+//! The parts of the cost together.
+
+ghost use Rattle.std.specs.Prelude.{◌≡◌, ◌-ℤ◌, IsTrue, IfOk, OnOk, OnErr};
+ghost use Rattle.vr_model.specs.routes.Costs.{cost};
+ghost use Rattle.vr_model.specs.routes.Rules.{is_valid};
+ghost use Rattle.vr_model.specs.tables.Tables.{visits};
+ghost use Rattle.vr_model.specs.tables.WellFormed.{IsWellFormed};
+ghost use Rattle.vr_routes.specs.Changes.{IsMadeOn};
+ghost use Rattle.vr_routes.specs.Pieces.{changed};
+ghost use Rattle.vr_costfilter.specs.Parts.{after};
+ghost use Rattle.vr_judge.specs.Standing.{StandsCosts};
+
+use std::alloc::Global;
+use std::marker::Model;
+use vr_costfilter::{ArcCost, CostPart, FixedCost, GlobalSpan, GroupCost, PlanCost};
+use vr_model::{Model as RoutingModel, NoMemory};
+use vr_routes::{Change, Routes};
+
+/// What routes cost, part by part.
+#[derive(Drop)]
+pub(crate) struct Costs<'m> {
+    model: &'m RoutingModel,
+    arcs: ArcCost<'m>,
+    fixed: FixedCost<'m>,
+    groups: GroupCost<'m>,
+    plans: PlanCost<'m>,
+    spans: GlobalSpan<'m>,
+}
+
+impl<'m> Model for Costs<'m> {
+    ghost use Rattle.vr_judge.specs.Standing.{KeptCosts};
+
+    ghost Value = { KeptCosts };
+
+    ghost view = { λ costs. record {
+      model = costs.model.now;
+      arcs = costs.arcs;
+      fixed = costs.fixed;
+      groups = costs.groups;
+      plans = costs.plans;
+      spans = costs.spans;
+    } };
+}
+
+impl<'m> Costs<'m> {
+    /// What valid routes of a model cost. The only refusal is want of memory.
+    pub(crate) fn open(
+        alloc: Global,
+        model: &'m RoutingModel,
+        routes: &Routes,
+    ) -> Result<Costs<'m>, NoMemory>
+        requires well_formed { IsWellFormed model.now }
+        requires of_model { routes.now.visits ≡ visits model.now }
+        requires valid { IsTrue (is_valid model.now routes.now.lists) }
+        ensures model { IfOk result (λ costs. costs.model ≡ model.now) }
+        ensures stands { IfOk result (λ costs. StandsCosts costs routes.now) }
+    {
+        Ok(Costs {
+            model,
+            arcs: ArcCost::open(alloc, model, routes)?,
+            fixed: FixedCost::open(model, routes)?,
+            groups: GroupCost::open(alloc, model, routes)?,
+            plans: PlanCost::open(alloc, model, routes)?,
+            spans: GlobalSpan::open(alloc, model, routes)?,
+        })
+    }
+
+    /// What a change of the committed lists adds to their cost.
+    pub(crate) fn difference(&mut self, routes: &Routes, change: &Change) -> Result<i64, NoMemory>
+        requires stands { StandsCosts self.old routes.now }
+        requires made { IsMadeOn routes.now change.now }
+        requires valid { IsTrue (is_valid self.old.model (changed routes.now.lists change.now)) }
+        ensures exact { IfOk result (λ difference. difference
+            ≡ cost self.old.model (changed routes.now.lists change.now) -ℤ cost self.old.model routes.now.lists) }
+        ensures stands { StandsCosts self.new routes.now }
+        ensures model { self.new.model ≡ self.old.model }
+    {
+        let arcs = self.arcs.difference(routes, change)?;
+        let fixed = self.fixed.difference(routes, change)?;
+        let groups = self.groups.difference(routes, change)?;
+        let plans = self.plans.difference(routes, change)?;
+        let spans = self.spans.difference(routes, change)?;
+        Ok(arcs + fixed + groups + plans + spans)
+    }
+
+    /// Commits the lists after a change. Each part is made ready first, so all stay as before where memory is wanting.
+    pub(crate) fn commit(&mut self, routes: &Routes, change: &Change) -> Result<(), NoMemory>
+        requires stands { StandsCosts self.old routes.now }
+        requires made { IsMadeOn routes.now change.now }
+        requires valid { IsTrue (is_valid self.old.model (changed routes.now.lists change.now)) }
+        ensures stands { OnOk result (StandsCosts self.new (after routes.now change.now)) }
+        ensures stays { OnErr result (StandsCosts self.new routes.now) }
+        ensures model { self.new.model ≡ self.old.model }
+    {
+        self.arcs.prepare(routes, change)?;
+        self.fixed.prepare(routes, change)?;
+        self.groups.prepare(routes, change)?;
+        self.plans.prepare(routes, change)?;
+        self.spans.prepare(routes, change)?;
+        self.arcs.commit(routes, change);
+        self.fixed.commit(routes, change);
+        self.groups.commit(routes, change);
+        self.plans.commit(routes, change);
+        self.spans.commit(routes, change);
+        Ok(())
+    }
+}

@@ -1,0 +1,81 @@
+//! The judge that looks only at what a move changes.
+
+ghost use Rattle.std.specs.Prelude.{◌≡◌, ◌+◌, ◌≤◌, IfOk, IsTrue, OnOk, OnErr};
+ghost use Rattle.vr_model.specs.moves.Moves.{apply};
+ghost use Rattle.vr_model.specs.moves.MoveTests.{is_move};
+ghost use Rattle.vr_model.specs.routes.Rules.{is_valid};
+ghost use Rattle.vr_model.specs.tables.Tables.{visits};
+ghost use Rattle.vr_model.specs.tables.WellFormed.{IsWellFormed};
+ghost use Rattle.vr_routes.specs.Judging.{HoldSame, moved, verdict_of};
+ghost use Rattle.vr_judge.specs.Rules.{total_weight};
+
+use crate::filters::{Filters, filters_of};
+use crate::judging::Judging;
+use std::alloc::Global;
+use std::marker::Model;
+use std::sync::ledger::Ledger;
+use vr_model::{Model as RoutingModel, Move, NoMemory, Steps};
+use vr_routes::{Judge, Routes, Verdict};
+
+/// Judges a move by what it changes alone: filters refuse it (`LocalSearchFilterManager` in OR-Tools), and parts of the
+/// cost tell its difference. It counts no questions. Of steps it counts at most the weight that the definitions give the
+/// change, summed over the dimensions: what lies before and behind the changed stretch of a route is not walked.
+///
+/// A judged move takes memory only where a set of cumuls has more than four runs, or where a list or its breaks are
+/// longer than any before.
+#[derive(Drop)]
+pub struct FilterJudge<'m> {
+    judging: Judging<'m, Filters<'m>>,
+}
+
+impl<'m> Model for FilterJudge<'m> {
+    ghost use Rattle.vr_judge.specs.Standing.{Held};
+
+    ghost Value = { Held };
+
+    ghost view = { λ judge. judge.judging };
+}
+
+impl<'m> FilterJudge<'m> {
+    /// A judge that has committed the lists of these routes, which are valid. The only refusal is want of memory.
+    pub fn open(
+        alloc: Global,
+        model: &'m RoutingModel,
+        routes: &Routes,
+    ) -> Result<FilterJudge<'m>, NoMemory>
+        requires well_formed { IsWellFormed model.now }
+        requires of_model { routes.now.visits ≡ visits model.now }
+        requires valid { IsTrue (is_valid model.now routes.now.lists) }
+        ensures model { IfOk result (λ judge. judge.model ≡ model.now) }
+        ensures holds { IfOk result (λ judge. HoldSame model.now judge.lists routes.now) }
+    {
+        let filters = filters_of(alloc, model, routes)?;
+        let judging = Judging::open(alloc, model, filters, routes)?;
+        Ok(FilterJudge { judging })
+    }
+}
+
+impl<'m> Judge for FilterJudge<'m> {
+    ghost model = { λ judge. judge.model };
+
+    ghost committed = { λ judge. judge.lists };
+
+    ghost asked = { λ judge. 0 };
+
+    ghost weight = { λ judge mv. total_weight judge.model judge.lists (apply judge.model judge.lists mv) };
+
+    fn judge<L: Ledger>(
+        &mut self,
+        routes: &Routes,
+        mv: Move,
+        steps: &mut Steps<L>,
+    ) -> Result<Verdict, NoMemory> {
+        let verdict = self.judging.judge(routes, mv, steps)?;
+        Ok(verdict)
+    }
+
+    fn commit(&mut self, routes: &mut Routes, mv: Move) -> Result<(), NoMemory> {
+        self.judging.commit(routes, mv)?;
+        Ok(())
+    }
+}

@@ -1,0 +1,107 @@
+//! Judging a move by a filter of what it changes, and by the parts of the cost.
+
+ghost use Rattle.std.specs.Prelude.{◌≡◌, ◌+◌, ◌≤◌, ℕ, List, IfOk, IsTrue, OnOk, OnErr, length};
+ghost use Rattle.vr_model.specs.moves.Moves.{apply};
+ghost use Rattle.vr_model.specs.moves.MoveTests.{is_move};
+ghost use Rattle.vr_model.specs.routes.Rules.{is_valid};
+ghost use Rattle.vr_model.specs.tables.Tables.{visits};
+ghost use Rattle.vr_model.specs.tables.WellFormed.{IsWellFormed};
+ghost use Rattle.vr_routes.specs.Judging.{HoldSame, moved, verdict_of};
+ghost use Rattle.vr_judge.specs.Rules.{keeps_rules, total_weight};
+
+use crate::costs::Costs;
+use std::alloc::Global;
+use std::marker::Model;
+use std::sync::ledger::Ledger;
+use vr_filter::PathFilter;
+use vr_model::{Model as RoutingModel, Move, NoMemory, Steps};
+use vr_routes::{Change, Judge, Routes, Verdict};
+
+/// Judges a move by a filter whose rule is that the lists are valid, and by the parts of the cost.
+#[derive(Drop)]
+pub(crate) struct Judging<'m, F: PathFilter + Drop> {
+    model: &'m RoutingModel,
+    // the lists that are committed
+    held: Routes,
+    filter: F,
+    costs: Costs<'m>,
+    // what the move in hand changes: written over for each move
+    change: Change,
+}
+
+impl<'m, F: PathFilter + Drop> Model for Judging<'m, F> {
+    ghost use Rattle.vr_judge.specs.Standing.{Held, IsJudging};
+
+    ghost Value = { Held };
+
+    ghost view = { λ judging. record { model = judging.model.now; lists = judging.held.lists } };
+
+    ghost invariant = { λ judging. IsJudging judging.model.now judging.held (F.holds judging.filter)
+        (F.weight judging.filter) (F.stands_at judging.filter) judging.costs };
+}
+
+impl<'m, F: PathFilter + Drop> Judging<'m, F> {
+    /// A judge that has committed the lists of these routes, which are valid, by a filter that stands at them. The only
+    /// refusal is want of memory.
+    pub(crate) fn open(
+        alloc: Global,
+        model: &'m RoutingModel,
+        filter: F,
+        routes: &Routes,
+    ) -> Result<Judging<'m, F>, NoMemory>
+        requires well_formed { IsWellFormed model.now }
+        requires of_model { routes.now.visits ≡ visits model.now }
+        requires valid { IsTrue (is_valid model.now routes.now.lists) }
+        requires rules { (lists : List (List ℕ)) → F.holds filter lists ≡ keeps_rules model.now lists }
+        requires weights { (before later : List (List ℕ))
+            → F.weight filter before later ≡ total_weight model.now before later }
+        requires stands { F.stands_at filter routes.now }
+        ensures model { IfOk result (λ judging. judging.model ≡ model.now) }
+        ensures holds { IfOk result (λ judging. HoldSame model.now judging.lists routes.now) }
+    {
+        let held = routes.copy(alloc)?;
+        let costs = Costs::open(alloc, model, routes)?;
+        Ok(Judging {
+            model,
+            held,
+            filter,
+            costs,
+            change: Change::blank(),
+        })
+    }
+}
+
+impl<'m, F: PathFilter + Drop> Judge for Judging<'m, F> {
+    ghost model = { λ judging. judging.model };
+
+    ghost committed = { λ judging. judging.lists };
+
+    ghost asked = { λ judging. 0 };
+
+    ghost weight = { λ judging mv. total_weight judging.model judging.lists (apply judging.model judging.lists mv) };
+
+    fn judge<L: Ledger>(
+        &mut self,
+        routes: &Routes,
+        mv: Move,
+        steps: &mut Steps<L>,
+    ) -> Result<Verdict, NoMemory> {
+        Change::write(self.model, routes, mv, &mut self.change);
+        if !self.filter.passes(routes, &self.change, steps)? {
+            return Ok(Verdict::Refused);
+        }
+        let difference = self.costs.difference(routes, &self.change)?;
+        Ok(Verdict::Difference(difference))
+    }
+
+    /// Filters and parts of the cost are made ready first; then all are changed, which takes no memory.
+    fn commit(&mut self, routes: &mut Routes, mv: Move) -> Result<(), NoMemory> {
+        Change::write(self.model, routes, mv, &mut self.change);
+        self.filter.prepare(routes, &self.change)?;
+        self.costs.commit(routes, &self.change)?;
+        self.filter.commit(routes, &self.change);
+        routes.commit(&self.change);
+        self.held.commit(&self.change);
+        Ok(())
+    }
+}
