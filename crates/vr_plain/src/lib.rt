@@ -2,9 +2,5 @@
 #![tactic(auto)]
 
 mod judge;
-#[cfg(test)]
-mod samples;
-#[cfg(test)]
-mod tests;
 
 pub use judge::PlainJudge;

@@ -1,11 +1,10 @@
-//! What the tests search: models of texts, routes of them, and a judge that counts.
+//! What the tests search: models of texts, routes of them, and judges that count.
 
 ghost use Rattle.std.specs.Prelude.{◌≡◌, IfOk, IfSome, IsTrue};
 ghost use Rattle.vr_model.specs.routes.Rules.{is_valid};
 ghost use Rattle.vr_model.specs.tables.Tables.{visits};
 ghost use Rattle.vr_model.specs.tables.WellFormed.{IsWellFormed};
 
-use crate::PlainJudge;
 use serde_json::Value;
 use std::alloc::Global;
 use std::sync::ledger::Ledger;
@@ -74,21 +73,21 @@ pub fn routes_of(
     }
 }
 
-/// A plain judge that counts how often it is asked.
+/// A judge that counts how often it is asked.
 #[derive(Drop)]
-pub struct Counting<'m> {
-    pub judge: PlainJudge<'m>,
+pub struct Counting<J> {
+    pub judge: J,
     pub asked: u64,
 }
 
-impl<'m> Judge for Counting<'m> {
-    ghost model = { λ counting. counting.judge.model };
+impl<J: Judge> Judge for Counting<J> {
+    ghost model = { λ counting. J.model counting.judge };
 
-    ghost committed = { λ counting. counting.judge.lists };
+    ghost committed = { λ counting. J.committed counting.judge };
 
     ghost asked = { λ counting. counting.asked };
 
-    ghost weight = { λ counting mv. 0 };
+    ghost weight = { λ counting mv. J.weight counting.judge mv };
 
     fn judge<L: Ledger>(
         &mut self,

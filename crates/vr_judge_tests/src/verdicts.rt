@@ -1,0 +1,132 @@
+//! Verdicts on single moves, by both judges.
+
+ghost use Rattle.std.specs.Prelude.{◌≡◌, ◌<◌, IfOk, IsTrue, OnOk};
+ghost use Rattle.vr_model.specs.routes.Rules.{is_valid};
+ghost use Rattle.vr_model.specs.tables.Tables.{visits};
+ghost use Rattle.vr_model.specs.tables.WellFormed.{IsWellFormed};
+ghost use Rattle.vr_routes.specs.Judging.{HoldSame};
+
+use crate::samples::{THREE, TWO_VANS, one_list, read, routes_of};
+use std::alloc::Global;
+use std::fmt::Write;
+use std::marker::Brand;
+use std::process::Abort;
+use std::sync::ledger::{Blank, Ledger};
+use std::test::Fail;
+use vr_judge::FilterJudge;
+use vr_model::{Model, Move, NoMemory, Steps};
+use vr_plain::PlainJudge;
+use vr_routes::{Change, Judge, Routes, Verdict};
+
+// What a judge says of a move, `None` where it is none. A move that is not refused is made.
+fn judge_move<J: Judge, L: Ledger>(
+    model: &Model,
+    judge: &mut J,
+    routes: &mut Routes,
+    mv: Move,
+    blank: Blank,
+) -> Result<Option<Verdict>, NoMemory>
+    requires well_formed { IsWellFormed model.now }
+    requires judge_model { J.model judge.old ≡ model.now }
+    requires holds { HoldSame model.now (J.committed judge.old) routes.old }
+    requires name { blank.name ≡ L.name }
+    requires parts { blank.parts ≡ L.parts }
+    requires some { 0 < blank.parts }
+    ensures judge_model { J.model judge.new ≡ model.now }
+    ensures holds { HoldSame model.now (J.committed judge.new) routes.new }
+{
+    if Change::of(model, routes, mv).is_none() {
+        return Ok(None);
+    }
+    let mut steps = Steps::<L>::new(blank);
+    let verdict = judge.judge(routes, mv, &mut steps)?;
+    match verdict {
+        Verdict::Refused => {}
+        Verdict::Difference(_) => judge.commit(routes, mv)?,
+    }
+    Ok(Some(verdict))
+}
+
+// Whether a judge says of some moves, one after the other, what is wanted.
+fn says_all<J: Judge>(
+    model: &Model,
+    judge: &mut J,
+    routes: &mut Routes,
+    moves: &[(Move, Verdict)],
+) -> Result<bool, NoMemory>
+    requires well_formed { IsWellFormed model.now }
+    requires judge_model { J.model judge.old ≡ model.now }
+    requires holds { HoldSame model.now (J.committed judge.old) routes.old }
+{
+    for &(mv, want) in moves {
+        if judge_move::<J, Brand>(model, judge, routes, mv, Blank::new(1))? != Some(want) {
+            return Ok(false);
+        }
+    }
+    Ok(true)
+}
+
+// Whether both judges say what is wanted of moves from a list of all nodes but 0.
+fn both_say(alloc: Global, model: &Model, moves: &[(Move, Verdict)]) -> Result<bool, Fail>
+    requires well_formed { IsWellFormed model.now }
+{
+    let lists = one_list(alloc, model)?;
+    let mut routes = routes_of(alloc, model, &lists)?.ok_or("valid routes")?;
+    let mut others = routes.copy(alloc)?;
+    let mut plain = PlainJudge::open(alloc, model, &routes)?;
+    if !says_all(model, &mut plain, &mut routes, moves)? {
+        return Ok(false);
+    }
+    let mut filters = FilterJudge::open(alloc, model, &others)?;
+    let says = says_all(model, &mut filters, &mut others, moves)?;
+    Ok(says)
+}
+
+// Asserts that both judges say what is wanted, on the model of a text with further fields.
+fn assert_said(
+    rt: &impl Abort,
+    alloc: Global,
+    start: &str,
+    rest: &str,
+    moves: &[(Move, Verdict)],
+) -> Result<(), Fail> {
+    let mut text = String::new(alloc);
+    write!(text, "{start}{rest}}}")?;
+    let model = read(alloc, text.as_str())?.ok_or("a model")?;
+    assert!(rt; both_say(alloc, &model, moves)?, "{rest}");
+    Ok(())
+}
+
+fn two_opt(v: u32, a: u32, b: u32) -> Move {
+    Move::TwoOpt { v, a, b }
+}
+
+fn relocate(v: u32, a: u32, w: u32, t: u32) -> Move {
+    Move::Relocate { v, a, w, t }
+}
+
+fn make_inactive(v: u32, a: u32) -> Move {
+    Move::MakeInactive { v, a }
+}
+
+#[test]
+fn differences_have_all_parts(rt: HostRuntime) -> Result<(), Fail> {
+    let alloc = rt.alloc();
+    let vans = [
+        (two_opt(0, 0, 1), Verdict::Difference(0)),
+        (relocate(0, 0, 1, 0), Verdict::Difference(-45)),
+        (relocate(1, 0, 0, 0), Verdict::Difference(45)),
+    ];
+    assert_said(&rt, alloc, TWO_VANS, "", &vans)?;
+    let optional = [
+        (make_inactive(0, 0), Verdict::Refused),
+        (make_inactive(0, 1), Verdict::Difference(-5)),
+    ];
+    assert_said(
+        &rt,
+        alloc,
+        THREE,
+        ",\"groups\":[{\"nodes\":[2],\"penalty\":3}]",
+        &optional,
+    )
+}
