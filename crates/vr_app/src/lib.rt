@@ -7,21 +7,13 @@
 #![tactic(auto)]
 
 mod answer;
-#[cfg(test)]
-mod check_tests;
 mod checked;
 mod first;
 mod input;
-#[cfg(test)]
-mod log_tests;
 mod logs;
-#[cfg(test)]
-mod number_tests;
 mod numbered;
 mod reply;
 mod search;
-#[cfg(test)]
-mod solve_tests;
 mod status;
 #[cfg(test)]
 mod tests;

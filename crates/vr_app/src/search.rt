@@ -1,6 +1,6 @@
 //! The search of a mode: what it makes of a first solution.
 //!
-//! `improve` runs over any judge; `solve_plainly` is where one is chosen.
+//! `improve` runs over any judge; `judge_of` is where one is chosen.
 
 ghost use Rattle.std.specs.Prelude.{◌≡◌, ◌<◌, ◌≤◌, ◌≤ℤ◌, [], pos, IfOk, IsTrue, OnOk};
 ghost use Rattle.vr_model.specs.routes.Costs.{cost};
@@ -20,8 +20,8 @@ use std::marker::Brand;
 use std::sync::ledger::{Blank, Ledger};
 use vr_descent::descend;
 use vr_guided::guide;
+use vr_judge::FilterJudge;
 use vr_model::{End, Improve, Lambda, Limit, Model, NoMemory, Report, Steps};
-use vr_plain::PlainJudge;
 use vr_routes::{Judge, Routes};
 use vr_watch::Watch;
 
@@ -169,8 +169,24 @@ fn improve<J: Judge, L: Ledger>(
     }
 }
 
-// The same, by the judge that rebuilds.
-fn solve_plainly<L: Ledger>(
+/// The judge of the moves of a search from these routes, which are valid. The only refusal is want of memory.
+pub(crate) fn judge_of<'m>(
+    alloc: Global,
+    model: &'m Model,
+    first: &Routes,
+) -> Result<FilterJudge<'m>, NoMemory>
+    requires well_formed { IsWellFormed model.now }
+    requires of_model { first.now.visits ≡ visits model.now }
+    requires valid { IsTrue (is_valid model.now first.now.lists) }
+    ensures model { IfOk result (λ judge. judge.model ≡ model.now) }
+    ensures holds { IfOk result (λ judge. HoldSame model.now judge.lists first.now) }
+{
+    let judge = FilterJudge::open(alloc, model, first)?;
+    Ok(judge)
+}
+
+// What the improvement that the model names makes of its first solution, by that judge.
+fn improve_judged<L: Ledger>(
     alloc: Global,
     model: &Model,
     first: Routes,
@@ -190,7 +206,7 @@ fn solve_plainly<L: Ledger>(
     ensures told { let outcome = found.improved model.now.search.improve model.now first.lists in
         OnOk result (Told (λ w later. after w later) watch.old.items watch.new.items outcome.events) }
 {
-    let mut judge = PlainJudge::open(alloc, model, &first)?;
+    let mut judge = judge_of(alloc, model, &first)?;
     let mut steps = Steps::<L>::new(blank);
     let best = improve(
         alloc, model, &mut judge, first, first_cost, watch, &mut steps,
@@ -216,7 +232,7 @@ pub(crate) fn solve(
     ensures told { let outcome = found.improved model.now.search.improve model.now first.lists in
         OnOk result (Told (λ w later. after w later) watch.old.items watch.new.items outcome.events) }
 {
-    solve_plainly::<Brand>(alloc, model, first, first_cost, watch, Blank::new(1))
+    improve_judged::<Brand>(alloc, model, first, first_cost, watch, Blank::new(1))
 }
 
 /// The same, where no event is told.

@@ -1,6 +1,6 @@
 //! Answers of whole searches, and that these find memory.
 
-use crate::tests::assert_answer;
+use crate::answers::assert_answer;
 use std::alloc::Global;
 use std::fmt::Write;
 use std::process::Abort;

@@ -1,10 +1,10 @@
 //! What watchers report behind a solution, and what ends a search that they watch.
 
-use crate::run;
-use crate::tests::words_of;
+use crate::answers::words_of;
 use std::alloc::Global;
 use std::process::Abort;
 use std::test::Fail;
+use vr_app::run;
 use vr_io::{PureSink, PureSource};
 use vr_watch::{Stopper, Tally, Trace, Watch};
 
@@ -69,19 +69,30 @@ fn rounds_are_reported(rt: HostRuntime) -> Result<(), Fail> {
     assert_logged(&rt, rt.alloc(), GUIDED, GUIDED_TEXT)
 }
 
-// Without `--log` no event is noted.
-#[test]
-fn nothing_is_noted_unasked(rt: HostRuntime) -> Result<(), Fail> {
-    let alloc = rt.alloc();
+// Asserts what words are answered, where a watcher refuses the event behind so many. The solution has two events.
+fn assert_stopped(
+    rt: &impl Abort,
+    alloc: Global,
+    line: &str,
+    at: u64,
+    status: u8,
+    text: &str,
+) -> Result<(), Fail> {
     let mut watch: Vec<Box<dyn Watch>> = Vec::new(alloc);
-    watch.push(Box::new(alloc, Stopper::new(alloc, 0))?)?;
-    assert_watched(&rt, alloc, "solve", DROPPED, watch, 0, DROPPED_LINE)
+    watch.push(Box::new(alloc, Stopper::new(alloc, at))?)?;
+    assert_watched(rt, alloc, line, DROPPED, watch, status, text)
 }
 
+// Without `--log` no event is noted.
 #[test]
 fn a_watcher_that_refuses_ends_the_run(rt: HostRuntime) -> Result<(), Fail> {
-    let alloc = rt.alloc();
-    let mut watch: Vec<Box<dyn Watch>> = Vec::new(alloc);
-    watch.push(Box::new(alloc, Stopper::new(alloc, 0))?)?;
-    assert_watched(&rt, alloc, "solve --log", DROPPED, watch, 7, "")
+    for (line, at, status, text) in [
+        ("solve", 0, 0, DROPPED_LINE),
+        ("solve --log", 0, 7, ""),
+        ("solve --log", 1, 7, ""),
+        ("solve --log", 2, 0, DROPPED_LINE),
+    ] {
+        assert_stopped(&rt, rt.alloc(), line, at, status, text)?;
+    }
+    Ok(())
 }

@@ -1,6 +1,6 @@
 //! Answers to models with solutions beside them.
 
-use crate::tests::assert_answer;
+use crate::answers::assert_answer;
 use std::alloc::Global;
 use std::process::Abort;
 use std::test::Fail;

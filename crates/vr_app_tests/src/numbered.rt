@@ -1,20 +1,10 @@
 //! Answers that need no input.
 
-use crate::numbered::summary_of_tree;
-use crate::run;
-use crate::tests::{assert_answer, words_of};
-use serde_json::Value;
+use crate::answers::{assert_answer, words_of};
 use std::alloc::Global;
 use std::test::Fail;
+use vr_app::run;
 use vr_io::{PureSink, PureSource};
-
-const DROPPED: &str = "{\"format\":1,\"nodes\":3,\"matrices\":[[[0,5,9],[5,0,4],[9,4,0]]],\
-    \"vehicles\":[{\"start\":0,\"end\":0}],\
-    \"groups\":[{\"nodes\":[2],\"penalty\":3}]}";
-
-const SUMMARY: &str =
-    "{\"cost\":13,\"dropped\":1,\"first_cost\":18,\"number\":7,\"status\":\"DEMO\",\
-    \"tries\":10,\"used\":1}\n";
 
 const USAGE: &str = "{\"status\":\"USAGE\"}\n";
 
@@ -47,14 +37,5 @@ fn generated_models_are_the_same_each_time(rt: HostRuntime) -> Result<(), Fail> 
     let second = generated(alloc, "generate 18446744073709551615")?;
     assert!(rt; first.bytes().len() > 10000);
     assert!(rt; first.bytes() == second.bytes());
-    Ok(())
-}
-
-#[test]
-fn a_search_is_summarised(rt: HostRuntime) -> Result<(), Fail> {
-    let alloc = rt.alloc();
-    let tree = Value::from_str(alloc, DROPPED).map_err(|_| "a value")?;
-    let answer = summary_of_tree(alloc, 7, tree)?;
-    assert!(rt; answer.text.as_slice() == SUMMARY.as_bytes());
     Ok(())
 }
