@@ -42,7 +42,7 @@ fn each_write_may_fail(rt: HostRuntime) -> Result<(), Fail> {
     for call in 0..calls {
         assert_failing(&rt, rt.alloc(), 99, call, 3, 7 * call)?;
     }
-    assert_failing(&rt, rt.alloc(), 99, calls + 1, 0, FIRST.len())
+    assert_failing(&rt, rt.alloc(), 99, calls, 0, FIRST.len())
 }
 
 // The last call is the one that meets the end of the input.

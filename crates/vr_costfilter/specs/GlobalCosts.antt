@@ -85,6 +85,7 @@ pub record KeptSpans : Type 0 where
   pub vehicles : List ℕ
   pub next : List (List (Option Timing))
   pub next_cost : ℤ
+  pub is_prepared : Bool
 
 -- it is of these lists of a model
 pub record StandsSpans (kept : KeptSpans) (tours : Tours) : Type 0 where
@@ -117,6 +118,7 @@ pub record AreLike (before later : KeptSpans) : Type 0 where
 
 -- the lists after a change are timed, and what all cost then is there
 pub record AreSpansReady (kept : KeptSpans) (tours : Tours) (parts : List ListAfter) : Type 0 where
+  pub prepared : kept.is_prepared ≡ true
   pub timed : AreNext kept tours parts
   pub cost : kept.next_cost ≡ global_cost_of kept.model (changed tours.lists parts)
   pub range : IsGlobalCost kept.next_cost

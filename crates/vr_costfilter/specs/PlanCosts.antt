@@ -1,5 +1,5 @@
 -- What the chosen schedules of a list cost by soft upper bounds and spans.
-use Rattle.std.specs.Prelude.{◌≡◌, ◌<◌, IsTrue, ℕ, Bool, cond, List, length, ℤ, pos, ◌+ℤ◌}
+use Rattle.std.specs.Prelude.{◌≡◌, ◌<◌, IsTrue, ℕ, Bool, true, cond, List, length, ℤ, pos, ◌+ℤ◌}
 use Rattle.vr_model.specs.tables.Numbers.{number_at, total_by, below}
 use Rattle.vr_model.specs.tables.Tables.{visits}
 use Rattle.vr_model.specs.tables.WellFormed.{IsWellFormed}
@@ -42,6 +42,7 @@ pub record KeptPlans : Type 0 where
   pub model : Model
   pub costs : List ℤ
   pub next : List ℤ
+  pub is_prepared : Bool
 
 -- these are the costs of the lists of a model
 pub record StandsPlans (kept : KeptPlans) (tours : Tours) : Type 0 where
@@ -58,7 +59,12 @@ abbrev pub cost_after : Model → List (List ℕ) → ListAfter → ℤ
 cost_after model lists part = plans_cost model part.vehicle (joined lists part.pieces)
 
 -- the costs of the lists after a change are there
-pub record ArePlansReady (kept : KeptPlans) (tours : Tours) (parts : List ListAfter) : Type 0 where
+pub record AreNextCosts (kept : KeptPlans) (tours : Tours) (parts : List ListAfter) : Type 0 where
   pub many : length kept.next ≡ length parts
   pub next : (k : ℕ) → k < length parts → number_at kept.next k ≡ cost_after kept.model tours.lists (part_at parts k)
   pub range : (k : ℕ) → k < length parts → IsPlanCost (number_at kept.next k)
+
+-- they are there, and were made ready
+pub record ArePlansReady (kept : KeptPlans) (tours : Tours) (parts : List ListAfter) : Type 0 where
+  pub prepared : kept.is_prepared ≡ true
+  pub costed : AreNextCosts kept tours parts

@@ -1,6 +1,6 @@
 //! The arc costs of used vehicles.
 
-ghost use Rattle.std.specs.Prelude.{◌≡◌, ◌<◌, ◌≤◌, ◌-ℤ◌, All, IsTrue, IfOk, IsOk, OnOk, length};
+ghost use Rattle.std.specs.Prelude.{◌≡◌, ◌<◌, ◌≤◌, ◌-ℤ◌, All, IsTrue, IfOk, IsOk, OnOk, OnErr, length};
 ghost use Rattle.vr_model.specs.routes.Costs.{arcs_part};
 ghost use Rattle.vr_model.specs.routes.Routes.{route, route_cost};
 ghost use Rattle.vr_model.specs.tables.Tables.{visits};
@@ -8,6 +8,7 @@ ghost use Rattle.vr_model.specs.routes.Rules.{is_valid};
 ghost use Rattle.vr_model.specs.tables.WellFormed.{IsWellFormed};
 ghost use Rattle.vr_routes.specs.Pieces.{changed, joined, IsWithin};
 ghost use Rattle.vr_routes.specs.Changes.{IsMadeOn};
+ghost use Rattle.vr_costfilter.specs.Parts.{NothingReady};
 ghost use Rattle.vr_costfilter.specs.Along.{IsAlong, StandsAlong};
 ghost use Rattle.vr_timings.specs.Bounds.{IsAround};
 
@@ -136,6 +137,7 @@ impl<'m> CostPart for ArcCost<'m> {
     fn prepare(&mut self, _routes: &Routes, _change: &Change) -> Result<(), NoMemory>
         requires stands { StandsAlong self.old _routes.now }
         ensures ready { OnOk result (Unit {0}) }
+        ensures unready { OnErr result (NothingReady (λ tours parts. Unit {0})) }
         ensures stands { StandsAlong self.new _routes.now }
         ensures model { self.new.model ≡ self.old.model }
         ensures memory { IsOk result }

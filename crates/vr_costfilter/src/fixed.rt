@@ -1,6 +1,6 @@
 //! The fixed costs of used vehicles.
 
-ghost use Rattle.std.specs.Prelude.{◌≡◌, ◌<◌, ◌≤◌, ◌-ℤ◌, All, IsTrue, IfOk, IsOk, OnOk, ℕ, List, nat_lt, length};
+ghost use Rattle.std.specs.Prelude.{◌≡◌, ◌<◌, ◌≤◌, ◌-ℤ◌, All, IsTrue, IfOk, IsOk, OnOk, OnErr, ℕ, List, nat_lt, length};
 ghost use Rattle.vr_model.specs.routes.Costs.{fixed_part};
 ghost use Rattle.vr_model.specs.routes.Routes.{route};
 ghost use Rattle.vr_model.specs.tables.Tables.{visits};
@@ -8,6 +8,7 @@ ghost use Rattle.vr_model.specs.routes.Rules.{is_valid};
 ghost use Rattle.vr_model.specs.tables.WellFormed.{IsWellFormed};
 ghost use Rattle.vr_routes.specs.Pieces.{changed, joined, nodes_of, IsWithin};
 ghost use Rattle.vr_routes.specs.Changes.{IsMadeOn};
+ghost use Rattle.vr_costfilter.specs.Parts.{NothingReady};
 ghost use Rattle.vr_costfilter.specs.Fixed.{fixed_with, StandsFixed};
 ghost use Rattle.vr_timings.specs.Bounds.{IsAround};
 ghost use Rattle.vr_costfilter.specs.Chains.{IsUpTo};
@@ -129,6 +130,7 @@ impl<'m> CostPart for FixedCost<'m> {
     fn prepare(&mut self, _routes: &Routes, _change: &Change) -> Result<(), NoMemory>
         requires stands { StandsFixed self.old _routes.now }
         ensures ready { OnOk result (Unit {0}) }
+        ensures unready { OnErr result (NothingReady (λ tours parts. Unit {0})) }
         ensures stands { StandsFixed self.new _routes.now }
         ensures model { self.new.model ≡ self.old.model }
         ensures memory { IsOk result }

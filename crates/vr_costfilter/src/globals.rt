@@ -1,6 +1,6 @@
 //! Global spans.
 
-ghost use Rattle.std.specs.Prelude.{◌≡◌, ◌-ℤ◌, ◌<◌, ◌*◌, IsTrue, IfOk, OnOk, ℕ, length};
+ghost use Rattle.std.specs.Prelude.{◌≡◌, ◌-ℤ◌, ◌<◌, ◌*◌, false, IsTrue, IfOk, OnOk, OnErr, ℕ, length};
 ghost use Rattle.vr_model.specs.tables.Tables.{visits};
 ghost use Rattle.vr_model.specs.tables.WellFormed.{IsWellFormed};
 ghost use Rattle.vr_model.specs.routes.Rules.{is_valid};
@@ -9,6 +9,7 @@ ghost use Rattle.vr_routes.specs.Changes.{IsMadeOn};
 ghost use Rattle.vr_timings.specs.Bounds.{cumul_cost, IsAround};
 ghost use Rattle.vr_costfilter.specs.GlobalCosts.{global_cost_of, AreKept, AreLike, AreNext};
 ghost use Rattle.vr_costfilter.specs.GlobalCosts.{AreSpansReady, StandsSpans};
+ghost use Rattle.vr_costfilter.specs.Parts.{NothingReady};
 
 use crate::CostPart;
 use crate::reaches::{ListTimings, SpanRules};
@@ -33,6 +34,7 @@ pub struct GlobalSpan<'m> {
     vehicles: ArrayVec<u32, 2>,
     next: ArrayVec<ListTimings, 2>,
     next_cost: i64,
+    is_prepared: bool,
     // room for a list that a change makes
     row: Row,
     timer: Timer,
@@ -50,6 +52,7 @@ impl<'m> Model for GlobalSpan<'m> {
       vehicles = part.vehicles.items;
       next = part.next.items;
       next_cost = part.next_cost;
+      is_prepared = part.is_prepared;
     } };
 }
 
@@ -81,6 +84,7 @@ impl<'m> GlobalSpan<'m> {
             vehicles: ArrayVec::new(),
             next: ArrayVec::new(),
             next_cost: 0,
+            is_prepared: false,
             row: Row::new(),
             timer,
         })
@@ -111,14 +115,16 @@ impl<'m> GlobalSpan<'m> {
         Ok(row)
     }
 
-    // Writes the rows of the lists after a change.
+    // Writes the rows of the lists after a change, and makes none ready.
     fn write_next(&mut self, routes: &Routes, change: &Change) -> Result<(), NoMemory>
         requires well_formed { IsWellFormed self.old.model }
         requires made { IsMadeOn routes.now change.now }
         requires valid { IsTrue (is_valid self.old.model (changed routes.now.lists change.now)) }
         ensures next { OnOk result (AreNext self.new routes.now change.now) }
+        ensures unprepared { self.new.is_prepared ≡ false }
         ensures like { AreLike self.old self.new }
     {
+        self.is_prepared = false;
         self.vehicles.clear();
         self.next.clear();
         for k in 0..change.parts() {
@@ -135,10 +141,12 @@ impl<'m> GlobalSpan<'m> {
         requires made { IsMadeOn routes.now change.now }
         requires valid { IsTrue (is_valid self.old.model (changed routes.now.lists change.now)) }
         ensures ready { OnOk result (AreSpansReady self.new routes.now change.now) }
+        ensures unready { OnErr result (NothingReady (AreSpansReady self.new)) }
         ensures like { AreLike self.old self.new }
     {
         self.write_next(routes, change)?;
         self.next_cost = self.rules.cost(&self.rows, &self.vehicles, &self.next);
+        self.is_prepared = true;
         Ok(())
     }
 }

@@ -1,6 +1,6 @@
 //! The penalties of groups.
 
-ghost use Rattle.std.specs.Prelude.{◌≡◌, ◌<◌, ◌≤◌, ◌-ℤ◌, ℕ, ℤ, false, pos, All, IsTrue, IfOk, IsOk, OnOk, length};
+ghost use Rattle.std.specs.Prelude.{◌≡◌, ◌<◌, ◌≤◌, ◌-ℤ◌, ℕ, ℤ, false, pos, All, IsTrue, IfOk, IsOk, OnOk, OnErr, length};
 ghost use Rattle.vr_model.specs.tables.Numbers.{number_at, total_by};
 ghost use Rattle.vr_model.specs.tables.Tables.{visits};
 ghost use Rattle.vr_model.specs.tables.WellFormed.{greatest_cost, IsIn, IsWellFormed, WherePresent};
@@ -10,6 +10,7 @@ ghost use Rattle.vr_model.specs.routes.Rules.{is_valid};
 ghost use Rattle.vr_routes.specs.Changes.{IsMadeOn};
 ghost use Rattle.vr_routes.specs.Pieces.{changed, nodes_of, IsWithin};
 ghost use Rattle.vr_timings.specs.Bounds.{IsAround};
+ghost use Rattle.vr_costfilter.specs.Parts.{NothingReady};
 ghost use Rattle.vr_costfilter.specs.Chains.{IsUpTo};
 ghost use Rattle.vr_costfilter.specs.Groups.{pay, saved_by, saved_in as saved_in_of, AreSaved, AreFew, StandsGroups};
 
@@ -218,6 +219,7 @@ impl<'m> CostPart for GroupCost<'m> {
     fn prepare(&mut self, _routes: &Routes, _change: &Change) -> Result<(), NoMemory>
         requires stands { StandsGroups self.old _routes.now }
         ensures ready { OnOk result (Unit {0}) }
+        ensures unready { OnErr result (NothingReady (λ tours parts. Unit {0})) }
         ensures stands { StandsGroups self.new _routes.now }
         ensures model { self.new.model ≡ self.old.model }
         ensures memory { IsOk result }

@@ -1,12 +1,12 @@
 //! The trait of what keeps a part of the cost.
 
-ghost use Rattle.std.specs.Prelude.{◌≡◌, ◌-ℤ◌, ℕ, ℤ, List, IsTrue, IfOk, OnOk};
+ghost use Rattle.std.specs.Prelude.{◌≡◌, ◌-ℤ◌, ℕ, ℤ, List, IsTrue, IfOk, OnOk, OnErr};
 ghost use Rattle.vr_model.specs.routes.Rules.{is_valid};
 ghost use Rattle.vr_model.specs.declared.records.Model.{Model as RoutingModel};
 ghost use Rattle.vr_routes.specs.Pieces.{ListAfter, changed};
 ghost use Rattle.vr_routes.specs.Changes.{IsMadeOn};
 ghost use Rattle.vr_routes.specs.Tours.{Tours};
-ghost use Rattle.vr_costfilter.specs.Parts.{after};
+ghost use Rattle.vr_costfilter.specs.Parts.{after, NothingReady};
 
 use vr_model::NoMemory;
 use vr_routes::{Change, Routes};
@@ -36,12 +36,13 @@ pub trait CostPart {
         ensures stands { stands_at self.new routes.now }
         ensures model { model self.new ≡ model self.old };
 
-    /// Makes a change of the committed lists ready. Where memory is wanting, no change is.
+    /// Makes a change of the committed lists ready. After `NoMemory` no change is ready.
     fn prepare(&mut self, routes: &Routes, change: &Change) -> Result<(), NoMemory>
         requires stands { stands_at self.old routes.now }
         requires made { IsMadeOn routes.now change.now }
         requires valid { IsTrue (is_valid (model self.old) (changed routes.now.lists change.now)) }
         ensures ready { OnOk result (ready self.new routes.now change.now) }
+        ensures unready { OnErr result (NothingReady (ready self.new)) }
         ensures stands { stands_at self.new routes.now }
         ensures model { model self.new ≡ model self.old };
 

@@ -1,13 +1,15 @@
 //! Soft upper bounds and spans.
 
-ghost use Rattle.std.specs.Prelude.{◌≡◌, ◌-ℤ◌, ◌<◌, IsTrue, IfOk, OnOk, ℕ, length};
+ghost use Rattle.std.specs.Prelude.{◌≡◌, ◌-ℤ◌, ◌<◌, false, IsTrue, IfOk, OnOk, OnErr, ℕ, length};
 ghost use Rattle.vr_model.specs.tables.Tables.{visits};
 ghost use Rattle.vr_model.specs.tables.WellFormed.{IsWellFormed};
 ghost use Rattle.vr_model.specs.routes.Rules.{is_valid};
 ghost use Rattle.vr_routes.specs.Pieces.{changed, part_at};
 ghost use Rattle.vr_routes.specs.Changes.{IsMadeOn};
 ghost use Rattle.vr_timings.specs.Bounds.{IsAround};
-ghost use Rattle.vr_costfilter.specs.PlanCosts.{cost_after, soft_and_span, ArePlansReady, IsPlanCost, StandsPlans};
+ghost use Rattle.vr_costfilter.specs.Parts.{NothingReady};
+ghost use Rattle.vr_costfilter.specs.PlanCosts.{cost_after, soft_and_span, AreNextCosts, ArePlansReady, IsPlanCost};
+ghost use Rattle.vr_costfilter.specs.PlanCosts.{StandsPlans};
 
 use crate::CostPart;
 use crate::schedules::PlanRules;
@@ -28,6 +30,7 @@ pub struct PlanCost<'m> {
     costs: Vec<i64>,
     // what the lists of a change that is ready cost
     next: ArrayVec<i64, 2>,
+    is_prepared: bool,
     // room for a list that a change makes
     row: Row,
     timer: Timer,
@@ -42,6 +45,7 @@ impl<'m> Model for PlanCost<'m> {
       model = part.rules;
       costs = part.costs.items;
       next = part.next.items;
+      is_prepared = part.is_prepared;
     } };
 }
 
@@ -70,6 +74,7 @@ impl<'m> PlanCost<'m> {
             rules,
             costs,
             next: ArrayVec::new(),
+            is_prepared: false,
             row: Row::new(),
             timer,
         })
@@ -95,20 +100,37 @@ impl<'m> PlanCost<'m> {
         Ok(cost)
     }
 
+    // Writes the costs of the lists after a change, and makes none ready.
+    fn write_next(&mut self, routes: &Routes, change: &Change) -> Result<(), NoMemory>
+        requires stands { StandsPlans self.old routes.now }
+        requires made { IsMadeOn routes.now change.now }
+        requires valid { IsTrue (is_valid self.old.model (changed routes.now.lists change.now)) }
+        ensures next { OnOk result (AreNextCosts self.new routes.now change.now) }
+        ensures unprepared { self.new.is_prepared ≡ false }
+        ensures model { self.new.model ≡ self.old.model }
+        ensures costs { self.new.costs ≡ self.old.costs }
+    {
+        self.is_prepared = false;
+        self.next.clear();
+        for k in 0..change.parts() {
+            let cost = self.cost_after(routes, change, k)?;
+            self.next.push(cost);
+        }
+        Ok(())
+    }
+
     // Makes the costs of the lists after a change ready.
     fn make_ready(&mut self, routes: &Routes, change: &Change) -> Result<(), NoMemory>
         requires stands { StandsPlans self.old routes.now }
         requires made { IsMadeOn routes.now change.now }
         requires valid { IsTrue (is_valid self.old.model (changed routes.now.lists change.now)) }
         ensures ready { OnOk result (ArePlansReady self.new routes.now change.now) }
+        ensures unready { OnErr result (NothingReady (ArePlansReady self.new)) }
         ensures model { self.new.model ≡ self.old.model }
         ensures costs { self.new.costs ≡ self.old.costs }
     {
-        self.next.clear();
-        for k in 0..change.parts() {
-            let cost = self.cost_after(routes, change, k)?;
-            self.next.push(cost);
-        }
+        self.write_next(routes, change)?;
+        self.is_prepared = true;
         Ok(())
     }
 }

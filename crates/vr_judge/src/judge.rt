@@ -17,8 +17,8 @@ use std::sync::ledger::Ledger;
 use vr_model::{Model as RoutingModel, Move, NoMemory, Steps};
 use vr_routes::{Judge, Routes, Verdict};
 
-/// Judges a move by what it changes alone: filters refuse it (`LocalSearchFilterManager` in OR-Tools), and parts of the
-/// cost tell its difference. It counts no questions. Of steps it counts at most the weight that the definitions give the
+/// Judges a move by what it changes: filters refuse it (`LocalSearchFilterManager` in OR-Tools), and parts of the cost
+/// tell its difference. It counts no questions. Of steps it counts at most the weight that the definitions give the
 /// change, summed over the dimensions: what lies before and behind the changed stretch of a route is not walked.
 ///
 /// A judged move takes memory only where a set of cumuls has more than four runs, or where a list or its breaks are

@@ -18,12 +18,13 @@ use vr_model::{Model, Move, NoMemory, Steps};
 use vr_plain::PlainJudge;
 use vr_routes::{Change, Judge, Routes, Verdict};
 
-// What a judge says of a move, `None` where it is none. A move that is not refused is made.
+// What a judge says of a move, `None` where it is none. A move that is not refused is made, where that is asked.
 fn judge_move<J: Judge, L: Ledger>(
     model: &Model,
     judge: &mut J,
     routes: &mut Routes,
     mv: Move,
+    makes: bool,
     blank: Blank,
 ) -> Result<Option<Verdict>, NoMemory>
     requires well_formed { IsWellFormed model.now }
@@ -42,7 +43,11 @@ fn judge_move<J: Judge, L: Ledger>(
     let verdict = judge.judge(routes, mv, &mut steps)?;
     match verdict {
         Verdict::Refused => {}
-        Verdict::Difference(_) => judge.commit(routes, mv)?,
+        Verdict::Difference(_) => {
+            if makes {
+                judge.commit(routes, mv)?;
+            }
+        }
     }
     Ok(Some(verdict))
 }
@@ -52,14 +57,14 @@ fn says_all<J: Judge>(
     model: &Model,
     judge: &mut J,
     routes: &mut Routes,
-    moves: &[(Move, Verdict)],
+    moves: &[(Move, bool, Verdict)],
 ) -> Result<bool, NoMemory>
     requires well_formed { IsWellFormed model.now }
     requires judge_model { J.model judge.old ≡ model.now }
     requires holds { HoldSame model.now (J.committed judge.old) routes.old }
 {
-    for &(mv, want) in moves {
-        if judge_move::<J, Brand>(model, judge, routes, mv, Blank::new(1))? != Some(want) {
+    for &(mv, makes, want) in moves {
+        if judge_move::<J, Brand>(model, judge, routes, mv, makes, Blank::new(1))? != Some(want) {
             return Ok(false);
         }
     }
@@ -67,7 +72,7 @@ fn says_all<J: Judge>(
 }
 
 // Whether both judges say what is wanted of moves from a list of all nodes but 0.
-fn both_say(alloc: Global, model: &Model, moves: &[(Move, Verdict)]) -> Result<bool, Fail>
+fn both_say(alloc: Global, model: &Model, moves: &[(Move, bool, Verdict)]) -> Result<bool, Fail>
     requires well_formed { IsWellFormed model.now }
 {
     let lists = one_list(alloc, model)?;
@@ -88,7 +93,7 @@ fn assert_said(
     alloc: Global,
     start: &str,
     rest: &str,
-    moves: &[(Move, Verdict)],
+    moves: &[(Move, bool, Verdict)],
 ) -> Result<(), Fail> {
     let mut text = String::new(alloc);
     write!(text, "{start}{rest}}}")?;
@@ -113,14 +118,14 @@ fn make_inactive(v: u32, a: u32) -> Move {
 fn differences_have_all_parts(rt: HostRuntime) -> Result<(), Fail> {
     let alloc = rt.alloc();
     let vans = [
-        (two_opt(0, 0, 1), Verdict::Difference(0)),
-        (relocate(0, 0, 1, 0), Verdict::Difference(-45)),
-        (relocate(1, 0, 0, 0), Verdict::Difference(45)),
+        (two_opt(0, 0, 1), false, Verdict::Difference(0)),
+        (relocate(0, 0, 1, 0), true, Verdict::Difference(-45)),
+        (relocate(1, 0, 0, 0), false, Verdict::Difference(45)),
     ];
     assert_said(&rt, alloc, TWO_VANS, "", &vans)?;
     let optional = [
-        (make_inactive(0, 0), Verdict::Refused),
-        (make_inactive(0, 1), Verdict::Difference(-5)),
+        (make_inactive(0, 0), false, Verdict::Refused),
+        (make_inactive(0, 1), false, Verdict::Difference(-5)),
     ];
     assert_said(
         &rt,

@@ -243,6 +243,8 @@ impl<'m> GroupFilter<'m> {
             ≡ keeps_groups model.now) }
         ensures stands { IfOk result (λ filter.
             ⟦<GroupFilter<'static> as PathFilter>⟧.stands_at filter routes.now) }
+        ensures weight { IfOk result (λ filter. (before later : List (List ℕ))
+            → ⟦<GroupFilter<'static> as PathFilter>⟧.weight filter before later ≡ 0) }
     {
         routes.know_once();
         routes.know_entries();

@@ -37,6 +37,9 @@ impl<'m> ListRule for VehicleRule<'m> {
     ghost knows = { λ r tours. KnowsVehicles r.model.now r.marks tours };
 
     fn keeps(&mut self, routes: &Routes, change: &Change, k: usize) -> bool {
+        if self.model.allowed.is_empty() {
+            return true;
+        }
         let v = change.vehicle(k);
         routes.write_after(change, k, &mut self.list);
         let marks = self.marks.get(v as usize);

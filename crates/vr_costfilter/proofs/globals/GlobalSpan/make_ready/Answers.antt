@@ -1,4 +1,4 @@
-use Rattle.std.proofs.Common.{◌∙◌, ◌*◌, [], ℕ, List, length, ap, sym, subst, arith}
+use Rattle.std.proofs.Common.{◌∙◌, ◌*◌, [], ℕ, List, length, refl, ap, sym, subst, arith}
 use Rattle.std.specs.Prelude.{slice_index_or}
 use Rattle.vr_timings.specs.Bounds.{cumul_cost}
 use Rattle.vr_timings.proofs.BoundLemmas.{read-around}
@@ -33,6 +33,7 @@ returns-clause-ready c =
     (c.deref-2.ensures.0 ∙ ap (λ s. s.vehicles) c.self.view_is) (c.deref-3.ensures.0 ∙ ap (λ s. s.next) c.self.view_is) are in
     let read = read-around c.cost-self-inside.result (cumul_cost * 4) r.range (omega arith) in
     record {
+      prepared = refl;
       timed = record {
         vehicles = ap (λ s. s.vehicles) c.self.view_is ∙ e.next.vehicles;
         many = ap (λ s. length s.next) c.self.view_is ∙ e.next.many;

@@ -1,4 +1,4 @@
-use Rattle.std.proofs.Common.{◌≡◌, ◌∙◌, ◌<◌, ◌+◌, ◌*◌, ◌∷◌, [], ℕ, List, Option, length, length-append, refl, ap, sym, subst, arith, to_z, of_z, w64}
+use Rattle.std.proofs.Common.{◌≡◌, ◌∙◌, ◌<◌, ◌+◌, ◌*◌, ◌∷◌, [], ℕ, List, Option, false, length, length-append, refl, ap, sym, subst, arith, to_z, of_z, w64}
 use Rattle.std.specs.Prelude.{IsTrue, pos, slice_index_or}
 use Rattle.std.specs.List.{list_all}
 use Rattle.vr_model.specs.tables.Tables.{is_visit}
@@ -66,7 +66,7 @@ returns-clause-stands c =
     let r = c.cost-cost.ensures in
     let read = read-around c.cost-cost.result (cumul_cost * 4) r.range (omega arith) in
     let cost = read ∙ r.value lists are ∙ ap (λ (m : Model). global_cost_of m lists) c.in_ok-rules.ensures in
-    let kept : Model → KeptSpans = λ m. record { model = m; rows = rows; cost = to_z w64 (of_z w64 c.cost-cost.result); vehicles = c.new.result.items; next = c.new-2.result.items; next_cost = pos 0 } in
+    let kept : Model → KeptSpans = λ m. record { model = m; rows = rows; cost = to_z w64 (of_z w64 c.cost-cost.result); vehicles = c.new.result.items; next = c.new-2.result.items; next_cost = pos 0; is_prepared = false } in
     let stands : StandsSpans (kept model) c.args.routes.now = record {
       well_formed = c.requires.well_formed;
       of_model = c.requires.of_model;

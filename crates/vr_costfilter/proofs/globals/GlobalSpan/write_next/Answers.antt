@@ -27,6 +27,7 @@ loop-k-preserved c =
       model = ap (λ s. s.model) same ∙ i.model;
       rows = ap (λ s. s.rows) same ∙ i.rows;
       cost = ap (λ s. s.cost) same ∙ i.cost;
+      unprepared = ap (λ s. s.is_prepared) same ∙ i.unprepared;
       vehicles = c.push.ensures.items ∙ ap (λ us. us ++ c.vehicle.result ∷ []) (ap (λ s. s.vehicles) same ∙ i.vehicles)
           ∙ ap (λ v. vehicles_of (take k parts) ++ v ∷ []) c.vehicle.ensures ∙ sym (vehicles-more parts k low);
       many = ap length new ∙ length-append old (row ∷ []) ∙ ap (λ n. n + 1) many;

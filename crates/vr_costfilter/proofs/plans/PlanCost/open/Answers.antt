@@ -1,4 +1,4 @@
-use Rattle.std.proofs.Common.{◌≡◌, ◌∙◌, ◌<◌, ◌+◌, ◌++◌, ◌∷◌, [], ℕ, List, length, length-append, ap, sym, subst, arith}
+use Rattle.std.proofs.Common.{◌≡◌, ◌∙◌, ◌<◌, ◌+◌, ◌++◌, ◌∷◌, [], ℕ, List, false, length, length-append, ap, sym, subst, arith}
 use Rattle.std.specs.Prelude.{IsTrue, ℤ, pos}
 use Rattle.std.specs.List.{list_all}
 use Rattle.vr_model.specs.tables.Tables.{is_visit}
@@ -56,7 +56,7 @@ returns-clause-stands c =
     let high = c.loop-v-test.false in
     let low = c.loop-v.auto.v-end in
     let all : c.loop-v.v ≡ length lists = omega (arith, end, high, low) in
-    let kept : Model → KeptPlans = λ m. record { model = m; costs = c.loop-v.costs.items; next = c.new.result.items } in
+    let kept : Model → KeptPlans = λ m. record { model = m; costs = c.loop-v.costs.items; next = c.new.result.items; is_prepared = false } in
     let stands : StandsPlans (kept c.args.model.now) c.args.routes.now = record {
       well_formed = c.requires.well_formed;
       of_model = c.requires.of_model;

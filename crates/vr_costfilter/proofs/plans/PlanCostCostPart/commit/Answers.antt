@@ -28,10 +28,10 @@ loop-k-preserved c =
     let v = c.vehicle.result in
     let base : List (List ℕ) = upto lists parts k in
     let is = ap (λ l. number_at l k) (c.deref.ensures.0 ∙ i.next) in
-    let range = c.requires.ready.range k low in
+    let range = c.requires.ready.costed.range k low in
     let cost : ℤ = number_at c.args.self.now.next k in
     let stored : to_z w64 (of_z w64 (number_at c.deref.result.now k)) ≡ cost = ap (λ x. to_z w64 (of_z w64 x)) is ∙ read-cost cost range in
-    let value : cost ≡ plans_cost model v (joined lists part.pieces) = c.requires.ready.next k low ∙ ap (λ w. plans_cost model w (joined lists part.pieces)) (sym vehicle) in
+    let value : cost ≡ plans_cost model v (joined lists part.pieces) = c.requires.ready.costed.next k low ∙ ap (λ w. plans_cost model w (joined lists part.pieces)) (sym vehicle) in
     let set = rows-set (λ u l x. (x ≡ plans_cost model u l) × IsPlanCost x) (pos 0) base rows v (joined lists part.pieces) cost i.costs (omega (arith, vehicle, known, many, all_many, as_many)) (value, range) in
     let next : upto lists parts (k + 1) ≡ with_route base v (joined lists part.pieces) =
     ap (upto lists parts) (add-one k) ∙ upto-next lists parts k low ∙ ap (λ w. with_route base w (joined lists part.pieces)) (sym vehicle) in
