@@ -1,11 +1,13 @@
-//! Tests of the whole of what the program does, through [`vr_app::run`]. They stand in a crate of their own, so that the
-//! crate that they test is proved once.
+//! Tests of the whole of what the program does, through [`vr_app::run`]. They stand in a crate of their own, so that
+//! the crate that they test is proved once.
 #![tactic(auto)]
 
 #[cfg(test)]
 mod answers;
 #[cfg(test)]
 mod checked;
+#[cfg(test)]
+mod constructed;
 #[cfg(test)]
 mod hostile;
 #[cfg(test)]
