@@ -28,7 +28,8 @@ const LISTS: &[&[u32]] = &[
     &[51, 52, 53, 54, 55, 56, 57, 58, 59, 60],
 ];
 
-const KINDS: [(&str, Neighbourhood); 11] = [
+/// The kinds of moves with their names.
+pub(crate) const KINDS: [(&str, Neighbourhood); 11] = [
     ("two_opt", Neighbourhood::TwoOpt),
     ("or_opt", Neighbourhood::OrOpt),
     ("relocate", Neighbourhood::Relocate),

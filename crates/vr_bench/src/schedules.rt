@@ -1,55 +1,20 @@
 //! The chosen schedule of a route.
 
-ghost use Rattle.std.specs.Prelude.{IfOk, IfSome, IsTrue};
+ghost use Rattle.std.specs.Prelude.{IfOk, IsTrue};
 ghost use Rattle.vr_model.specs.routes.Routes.{are_lists};
 ghost use Rattle.vr_model.specs.tables.WellFormed.{IsWellFormed};
 ghost use Rattle.vr_steps.specs.Lines.{IsSoundLine};
 
+use crate::input::{all_by_the_first, read_input};
 use crate::report::{TIMES, Timed, report};
 use crate::stop::Stop;
-use serde_json::Value;
 use std::alloc::Global;
 use std::rt::Runtime;
 use std::time::Instant;
-use vr_io::{StdSource, read_all};
-use vr_json::Path;
-use vr_model::limits::MOST_INPUT_BYTES;
-use vr_model::{Model, NoMemory, Seq};
+use vr_model::Model;
 use vr_plan::schedule;
-use vr_read::read_model;
 use vr_routes::Routes;
 use vr_steps::Line;
-
-// The model that the source has.
-fn read(alloc: Global, bytes: &[u8]) -> Result<Model, Stop>
-    ensures { IfOk result IsWellFormed }
-{
-    let Ok(value) = Value::from_slice(alloc, bytes) else {
-        return Err(Stop::NoRoute);
-    };
-    let model = read_model(alloc, &value, &Path::root(alloc))?;
-    Ok(model)
-}
-
-// Routes in which vehicle 0 makes all visits, in ascending order.
-fn all_by_the_first(alloc: Global, model: &Model) -> Result<Option<Routes>, NoMemory>
-    requires { IsWellFormed model.now }
-    ensures { IfOk result (λ found. IfSome found (λ routes. IsTrue (are_lists model.now routes.lists))) }
-{
-    let mut list = Seq::new(alloc);
-    for node in 0..model.nodes {
-        if model.is_visit(node) {
-            list.push(node)?;
-        }
-    }
-    let mut lists = Vec::new(alloc);
-    lists.push(list)?;
-    for _ in 1..model.vehicles.len() {
-        lists.push(Seq::new(alloc))?;
-    }
-    let routes = Routes::from_lists(alloc, model, &lists)?;
-    Ok(routes)
-}
 
 // The line of the list of vehicle 0 in dimension 0.
 fn first_line(alloc: Global, model: &Model, routes: &Routes) -> Result<Line, Stop>
@@ -86,11 +51,7 @@ fn time_schedule<R: Runtime>(rt: &R, alloc: Global, line: &Line, rounds: u32) ->
 
 /// The times of the chosen schedule of the route in which vehicle 0 makes all visits of the model at standard input.
 pub(crate) fn time_schedules(rt: &HostRuntime, alloc: Global, rounds: u32) -> Result<(), Stop> {
-    let mut source = StdSource::new(rt.stdin());
-    let Ok(bytes) = read_all(alloc, &mut source, MOST_INPUT_BYTES) else {
-        return Err(Stop::NoRoute);
-    };
-    let model = read(alloc, &bytes)?;
+    let model = read_input(rt, alloc)?;
     let Some(routes) = all_by_the_first(alloc, &model)? else {
         return Err(Stop::NoRoute);
     };
