@@ -1,6 +1,8 @@
 //! What no test through [`crate::run`] can see.
 
-ghost use Rattle.std.specs.Prelude.{IfOk, IfSome};
+ghost use Rattle.std.specs.Prelude.{◌≡◌, IfOk, IfSome, IsTrue};
+ghost use Rattle.vr_model.specs.routes.Rules.{is_valid};
+ghost use Rattle.vr_model.specs.tables.Tables.{visits};
 ghost use Rattle.vr_model.specs.tables.WellFormed.{IsWellFormed};
 
 use crate::numbered::summary_of_tree;
@@ -10,7 +12,7 @@ use std::alloc::Global;
 use std::test::Fail;
 use vr_json::Path;
 use vr_judge::FilterJudge;
-use vr_model::{Model, NoMemory};
+use vr_model::{Model, NoMemory, Seq};
 use vr_read::read_model;
 use vr_routes::Routes;
 use vr_rules::{empty_lists, valid};
@@ -46,18 +48,27 @@ fn read(alloc: Global, text: &str) -> Result<Option<Model>, NoMemory>
     }
 }
 
-// Whether the empty lists of a model are valid; then the judge of a search from them is the one of filters.
-fn is_judged_by_filters(alloc: Global, model: &Model) -> Result<bool, NoMemory>
+// Opens the judge of a search from routes: it is the one of filters.
+fn open_judge(alloc: Global, model: &Model, routes: &Routes) -> Result<(), NoMemory>
+    requires well_formed { IsWellFormed model.now }
+    requires of_model { routes.now.visits ≡ visits model.now }
+    requires valid { IsTrue (is_valid model.now routes.now.lists) }
+{
+    let _judge: FilterJudge<'_> = judge_of(alloc, model, routes)?;
+    Ok(())
+}
+
+// Whether the empty lists of a model are valid; then the judge of a search from them is opened.
+fn is_judged_by_filters(alloc: Global, model: &Model, lists: &[Seq<u32>]) -> Result<bool, NoMemory>
     requires { IsWellFormed model.now }
 {
-    let lists = empty_lists(alloc, model)?;
-    let Some(routes) = Routes::from_lists(alloc, model, &lists)? else {
+    let Some(routes) = Routes::from_lists(alloc, model, lists)? else {
         return Ok(false);
     };
     if !valid(alloc, model, &routes)? {
         return Ok(false);
     }
-    let _judge: FilterJudge<'_> = judge_of(alloc, model, &routes)?;
+    open_judge(alloc, model, &routes)?;
     Ok(true)
 }
 
@@ -65,6 +76,7 @@ fn is_judged_by_filters(alloc: Global, model: &Model) -> Result<bool, NoMemory>
 fn searches_are_judged_by_filters(rt: HostRuntime) -> Result<(), Fail> {
     let alloc = rt.alloc();
     let model = read(alloc, ONE_NODE)?.ok_or("a model")?;
-    assert!(rt; is_judged_by_filters(alloc, &model)?);
+    let lists = empty_lists(alloc, &model)?;
+    assert!(rt; is_judged_by_filters(alloc, &model, &lists)?);
     Ok(())
 }

@@ -12,8 +12,8 @@ use vr_io::{MemSink, MemSource, PureSource, Source};
 fn assert_failing(
     rt: &impl Abort,
     alloc: Global,
-    source_fails: usize,
-    sink_fails: usize,
+    source_fails: u64,
+    sink_fails: u64,
     status: u8,
     written: usize,
 ) -> Result<(), Fail> {
@@ -40,9 +40,9 @@ fn assert_failing(
 fn each_write_may_fail(rt: HostRuntime) -> Result<(), Fail> {
     let calls = FIRST.len().div_ceil(7);
     for call in 0..calls {
-        assert_failing(&rt, rt.alloc(), 99, call, 3, 7 * call)?;
+        assert_failing(&rt, rt.alloc(), 99, call as u64, 3, 7 * call)?;
     }
-    assert_failing(&rt, rt.alloc(), 99, calls, 0, FIRST.len())
+    assert_failing(&rt, rt.alloc(), 99, calls as u64, 0, FIRST.len())
 }
 
 // The last call is the one that meets the end of the input.
@@ -50,9 +50,9 @@ fn each_write_may_fail(rt: HostRuntime) -> Result<(), Fail> {
 fn each_read_may_fail(rt: HostRuntime) -> Result<(), Fail> {
     let calls = THREE_NODES.len().div_ceil(10) + 1;
     for call in 0..calls {
-        assert_failing(&rt, rt.alloc(), call, 99, 2, 0)?;
+        assert_failing(&rt, rt.alloc(), call as u64, 99, 2, 0)?;
     }
-    assert_failing(&rt, rt.alloc(), calls, 99, 0, FIRST.len())
+    assert_failing(&rt, rt.alloc(), calls as u64, 99, 0, FIRST.len())
 }
 
 // Each proper beginning of a model.

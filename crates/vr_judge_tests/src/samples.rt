@@ -73,6 +73,13 @@ pub fn routes_of(
     }
 }
 
+/// Who judges moves.
+#[derive(Clone, Copy)]
+pub enum By {
+    Rebuilding,
+    Filters,
+}
+
 /// A judge that counts how often it is asked.
 #[derive(Drop)]
 pub struct Counting<J> {

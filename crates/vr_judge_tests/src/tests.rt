@@ -7,7 +7,7 @@ ghost use Rattle.vr_model.specs.tables.Tables.{visits};
 ghost use Rattle.vr_model.specs.tables.WellFormed.{IsWellFormed};
 ghost use Rattle.vr_routes.specs.Judging.{HoldSame};
 
-use crate::samples::{Counting, ONE, THREE, TWO_VANS, one_list, read, routes_of};
+use crate::samples::{By, Counting, ONE, THREE, TWO_VANS, one_list, read, routes_of};
 use std::alloc::Global;
 use std::fmt::Write;
 use std::marker::Brand;
@@ -65,15 +65,8 @@ fn lambda_of(model: &Model) -> Lambda
     }
 }
 
-// Who judges the moves of a search.
-#[derive(Clone, Copy)]
-enum By {
-    Rebuilding,
-    Filters,
-}
-
 // A search from valid routes with a judge that has committed them.
-fn searched<J: Judge, L: Ledger>(
+fn searched<J: Judge + Drop, L: Ledger>(
     alloc: Global,
     model: &Model,
     judge: J,
