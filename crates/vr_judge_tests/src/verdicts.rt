@@ -104,12 +104,7 @@ fn filters_say(
 }
 
 // Whether a judge says what is wanted of moves from a list of all nodes but 0.
-fn says(
-    alloc: Global,
-    model: &Model,
-    by: By,
-    moves: &[(Move, bool, Verdict)],
-) -> Result<bool, Fail>
+fn says(alloc: Global, model: &Model, by: By, moves: &[(Move, bool, Verdict)]) -> Result<bool, Fail>
     requires well_formed { IsWellFormed model.now }
 {
     let lists = one_list(alloc, model)?;
