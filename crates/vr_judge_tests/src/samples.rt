@@ -1,4 +1,4 @@
-//! What the tests search: models of texts, routes of them, and judges that count.
+//! What the tests judge: models of texts, and routes of them.
 
 ghost use Rattle.std.specs.Prelude.{◌≡◌, IfOk, IfSome, IsTrue};
 ghost use Rattle.vr_model.specs.routes.Rules.{is_valid};
@@ -7,11 +7,10 @@ ghost use Rattle.vr_model.specs.tables.WellFormed.{IsWellFormed};
 
 use serde_json::Value;
 use std::alloc::Global;
-use std::sync::ledger::Ledger;
 use vr_json::Path;
-use vr_model::{Model, Move, NoMemory, Seq, Steps};
+use vr_model::{Model, NoMemory, Seq};
 use vr_read::read_model;
-use vr_routes::{Judge, Routes, Verdict};
+use vr_routes::Routes;
 use vr_rules::valid;
 
 /// Three nodes and one vehicle; the fields that follow are to be added.
@@ -23,10 +22,6 @@ pub const TWO_VANS: &str = "{\"format\":1,\"nodes\":3,\"matrices\":[[[0,5,5],[5,
     \"vehicles\":[{\"start\":0,\"end\":0},{\"start\":0,\"end\":0}],\
     \"dimensions\":[{\"name\":\"time\",\"evaluators\":[{\"matrix\":0}],\"capacity\":100,\"slack_max\":0,\
     \"fix_start\":true,\"global_span_cost\":10}]";
-
-/// One node and one vehicle.
-pub const ONE: &str =
-    "{\"format\":1,\"nodes\":1,\"matrices\":[[[0]]],\"vehicles\":[{\"start\":0,\"end\":0}]";
 
 /// A list of all nodes but 0 for the first vehicle, and empty ones for the others.
 pub fn one_list(alloc: Global, model: &Model) -> Result<Vec<Seq<u32>>, NoMemory> {
@@ -78,37 +73,4 @@ pub fn routes_of(
 pub enum By {
     Rebuilding,
     Filters,
-}
-
-/// A judge that counts how often it is asked.
-#[derive(Drop)]
-pub struct Counting<J> {
-    pub judge: J,
-    pub asked: u64,
-}
-
-impl<J: Judge> Judge for Counting<J> {
-    ghost model = { λ counting. J.model counting.judge };
-
-    ghost committed = { λ counting. J.committed counting.judge };
-
-    ghost asked = { λ counting. counting.asked };
-
-    ghost weight = { λ counting mv. J.weight counting.judge mv };
-
-    fn judge<L: Ledger>(
-        &mut self,
-        routes: &Routes,
-        mv: Move,
-        steps: &mut Steps<L>,
-    ) -> Result<Verdict, NoMemory> {
-        self.asked = self.asked.saturating_add(1);
-        let verdict = self.judge.judge(routes, mv, steps)?;
-        Ok(verdict)
-    }
-
-    fn commit(&mut self, routes: &mut Routes, mv: Move) -> Result<(), NoMemory> {
-        self.judge.commit(routes, mv)?;
-        Ok(())
-    }
 }
