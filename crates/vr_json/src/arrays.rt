@@ -20,6 +20,7 @@ pub struct Array<R> {
     pub entry: R,
 }
 
+#[tactic(auto, unfolding(crate::specs::Reading::and_then, crate::specs::Reading::array))]
 impl<R: Reader> Reader for Array<R> {
     ghost use Rattle.vr_json.specs.Reading.{array};
 
@@ -41,6 +42,7 @@ impl<R: Reader> Reader for Array<R> {
 }
 
 // What is read of each entry, in order.
+#[tactic(auto, unfolding(crate::specs::Reading::and_then, crate::specs::Reading::entries))]
 fn entries<R: Reader>(
     alloc: Global,
     reader: &R,
@@ -63,6 +65,7 @@ pub struct TwoEntries<R> {
     pub entry: R,
 }
 
+#[tactic(auto, unfolding(crate::specs::Reading::and_then, crate::specs::Reading::two_entries, crate::specs::Reading::first_two))]
 impl<R: Reader> Reader for TwoEntries<R> {
     ghost use Rattle.std.specs.Prelude.{[]};
     ghost use Rattle.vr_json.specs.Reading.{two_entries};
@@ -97,6 +100,7 @@ pub struct ForEach<R> {
     pub entry: R,
 }
 
+#[tactic(auto, unfolding(crate::specs::Reading::and_then, crate::specs::Reading::for_each, crate::specs::Reading::array))]
 impl<R: Reader> Reader for ForEach<R>
 where
     R::Item: Copy,

@@ -13,6 +13,7 @@ use std::alloc::Global;
 /// The value of the field `name`, if the object has one.
 ///
 /// Another value than an object is refused with the cause `OtherKind`, at `path`.
+#[tactic(auto, unfolding(crate::specs::Reading::and_then, crate::specs::Reading::at_path, crate::specs::Reading::field))]
 pub fn field<'a>(
     alloc: Global,
     value: &'a Value,
@@ -47,6 +48,7 @@ fn first_unknown<'a>(members: &'a Map<String, Value>, names: &[&str]) -> Option<
 ///
 /// The first such key in byte order is refused with the cause `UnknownKey`, at the path of its field.
 /// Another value than an object is refused with the cause `OtherKind`, at `path`.
+#[tactic(auto, unfolding(crate::specs::Reading::and_then, crate::specs::Reading::at_path, crate::specs::Reading::known, crate::specs::Reading::if_unknown))]
 pub fn known(alloc: Global, value: &Value, names: &[&str], path: &Path) -> Result<(), ReadFail>
     ensures { Answers result (reading.known (map (λ name. name.now) names.now) path.now (view value.now)) }
 {

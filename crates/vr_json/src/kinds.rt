@@ -15,6 +15,7 @@ use std::alloc::Global;
 use vr_model::Text;
 
 // A whole number in `lo..=hi`.
+#[tactic(auto, unfolding(crate::specs::Reading::and_then))]
 pub(crate) fn whole_in(value: &Value, lo: i64, hi: i64) -> Result<i64, Cause>
     ensures { result ≡ kinds.whole_in lo hi (view value.now) }
 {
@@ -36,6 +37,7 @@ fn place_of(words: &[&str], text: &str) -> Option<usize>
 }
 
 // The number of the first of some words that the value is.
+#[tactic(auto, unfolding(crate::specs::Reading::and_then))]
 pub(crate) fn word_in(value: &Value, words: &[&str]) -> Result<usize, Cause>
     ensures found { result ≡ kinds.word_in (map (λ w. w.now) words.now) (view value.now) }
     ensures within { IfOk result (λ k. k < length words.now) }
@@ -55,6 +57,7 @@ pub(crate) fn flag_in(value: &Value) -> Result<bool, Cause>
 ///
 /// Refused at `path`: `OtherKind` where it is no number, `NotWhole` where it is no `i64` (as `5.0`,
 /// `-0` or a number from 2^63 on), `OutOfRange` outside the range; the first of these is the answer.
+#[tactic(auto, unfolding(crate::specs::Reading::and_then, crate::specs::Reading::at_path, crate::specs::Kinds::whole))]
 pub fn whole(alloc: Global, value: &Value, lo: i64, hi: i64, path: &Path) -> Result<i64, ReadFail>
     ensures found { Answers result (kinds.whole lo hi path.now (view value.now)) }
     ensures low { IfOk result (λ z. lo ≤ℤ z) }
@@ -91,6 +94,7 @@ pub fn list<'a>(
 /// A string of `lo` to `hi` bytes.
 ///
 /// Refused at `path`: `OtherKind` where it is no string, then `WrongLength`.
+#[tactic(auto, unfolding(crate::specs::Reading::and_then, crate::specs::Reading::at_path, crate::specs::Kinds::text))]
 pub fn text(
     alloc: Global,
     value: &Value,
@@ -113,6 +117,7 @@ pub fn text(
 }
 
 /// A boolean. Refused at `path`, as `OtherKind`, where it is none.
+#[tactic(auto, unfolding(crate::specs::Reading::at_path, crate::specs::Kinds::flag))]
 pub fn flag(alloc: Global, value: &Value, path: &Path) -> Result<bool, ReadFail>
     ensures { Answers result (kinds.flag path.now (view value.now)) }
 {
@@ -122,6 +127,7 @@ pub fn flag(alloc: Global, value: &Value, path: &Path) -> Result<bool, ReadFail>
 /// The number, from 0, of the first of `words` that the value is.
 ///
 /// Refused at `path`: `OtherKind` where it is no string, then `UnknownWord` where it is no such word.
+#[tactic(auto, unfolding(crate::specs::Reading::at_path, crate::specs::Kinds::word))]
 pub fn word(alloc: Global, value: &Value, words: &[&str], path: &Path) -> Result<usize, ReadFail>
     ensures found { Answers result (kinds.word (map (λ w. w.now) words.now) path.now (view value.now)) }
     ensures within { IfOk result (λ k. k < length words.now) }

@@ -19,6 +19,7 @@ pub struct Whole {
     pub hi: i64,
 }
 
+#[tactic(auto, unfolding(crate::specs::Reading::at_path, crate::specs::Kinds::whole))]
 impl Reader for Whole {
     ghost use Rattle.vr_json.specs.Kinds.{whole};
 
@@ -45,6 +46,7 @@ pub struct Count {
 }
 
 // A whole number in `lo..=hi`, as a count.
+#[tactic(auto, unfolding(crate::specs::Reading::and_then))]
 fn count_in(value: &Value, lo: u32, hi: u32) -> Result<u32, Cause>
     ensures { result ≡ kinds.count_in lo hi (view value.now) }
 {
@@ -52,6 +54,7 @@ fn count_in(value: &Value, lo: u32, hi: u32) -> Result<u32, Cause>
     Ok(whole as u32)
 }
 
+#[tactic(auto, unfolding(crate::specs::Reading::at_path, crate::specs::Kinds::count))]
 impl Reader for Count {
     ghost use Rattle.vr_json.specs.Kinds.{count};
 
@@ -77,6 +80,7 @@ pub struct Below {
 }
 
 // A whole number in `0..count`.
+#[tactic(auto, unfolding(crate::specs::Reading::and_then))]
 fn below_in(value: &Value, count: u32) -> Result<u32, Cause>
     ensures { result ≡ kinds.below_in count (view value.now) }
 {
@@ -84,6 +88,7 @@ fn below_in(value: &Value, count: u32) -> Result<u32, Cause>
     Ok(whole as u32)
 }
 
+#[tactic(auto, unfolding(crate::specs::Reading::at_path, crate::specs::Kinds::below))]
 impl Reader for Below {
     ghost use Rattle.vr_json.specs.Kinds.{below};
 
@@ -106,6 +111,7 @@ impl Reader for Below {
 #[derive(Clone, Copy)]
 pub struct Flag;
 
+#[tactic(auto, unfolding(crate::specs::Reading::at_path, crate::specs::Kinds::flag))]
 impl Reader for Flag {
     ghost use Rattle.vr_json.specs.Kinds.{flag};
 
@@ -144,6 +150,7 @@ fn meaning<T: Copy>(words: &[(&str, T)], text: &str) -> Option<T>
 }
 
 // What the word stands for that the value is.
+#[tactic(auto, unfolding(crate::specs::Reading::and_then))]
 fn choice_in<T: Copy>(value: &Value, words: &[(&str, T)]) -> Result<T, Cause>
     ensures { result ≡ kinds.choice_in (map named words.now) (view value.now) }
 {
@@ -151,6 +158,7 @@ fn choice_in<T: Copy>(value: &Value, words: &[(&str, T)]) -> Result<T, Cause>
     meaning(words, text).ok_or(Cause::UnknownWord)
 }
 
+#[tactic(auto, unfolding(crate::specs::Reading::at_path, crate::specs::Kinds::choice))]
 impl<T: Copy + Drop> Reader for Choice<'_, T> {
     ghost use Rattle.std.specs.Prelude.{map};
     ghost use Rattle.vr_json.specs.Kinds.{choice, named};

@@ -34,6 +34,7 @@ pub trait Reader {
 }
 
 /// What was read at a place, where a refusal lies at that very place.
+#[tactic(auto, unfolding(crate::specs::Reading::at_path))]
 pub fn settle<T>(alloc: Global, outcome: Result<T, Cause>, place: Place<'_>) -> Result<T, ReadFail>
     ensures { Answers result (at_path (place_path place.entry) outcome) }
 {
@@ -47,6 +48,7 @@ pub fn settle<T>(alloc: Global, outcome: Result<T, Cause>, place: Place<'_>) -> 
 ///
 /// Refused as the reader says; with the cause `Absent`, at the path of the field, where the object has
 /// no such field; with the cause `OtherKind`, at `path`, where the value is no object.
+#[tactic(auto, unfolding(crate::specs::Reading::and_then, crate::specs::Reading::required, crate::specs::Reading::if_present))]
 pub fn required<R: Reader>(
     alloc: Global,
     value: &Value,
@@ -65,6 +67,7 @@ pub fn required<R: Reader>(
 /// A field that may be absent, with its value then.
 ///
 /// Refused as the reader says, and with the cause `OtherKind`, at `path`, where the value is no object.
+#[tactic(auto, unfolding(crate::specs::Reading::and_then, crate::specs::Reading::optional, crate::specs::Reading::if_present))]
 pub fn optional<R: Reader>(
     alloc: Global,
     value: &Value,
@@ -85,6 +88,7 @@ pub fn optional<R: Reader>(
 /// A field that may be absent, with no value then.
 ///
 /// Refused as the reader says, and with the cause `OtherKind`, at `path`, where the value is no object.
+#[tactic(auto, unfolding(crate::specs::Reading::and_then, crate::specs::Reading::maybe, crate::specs::Reading::if_present, crate::specs::Reading::present))]
 pub fn maybe<R: Reader>(
     alloc: Global,
     value: &Value,
@@ -104,6 +108,7 @@ pub fn maybe<R: Reader>(
 }
 
 /// Refuses the value at a place where a rule is broken.
+#[tactic(auto, unfolding(crate::specs::Reading::refuse_if))]
 pub fn refuse_if(
     alloc: Global,
     broken: bool,
