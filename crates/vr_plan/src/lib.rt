@@ -11,6 +11,3 @@ mod starts;
 pub use choosers::Chooser;
 pub use plans::Plan;
 pub use schedules::{chosen_cumuls, schedule, schedule_over};
-
-#[cfg(test)]
-mod tests;

@@ -1,0 +1,10 @@
+//! Tests of what lines reach and of their chosen schedules, through what `vr_reach` and `vr_plan` make public. They stand
+//! in a crate of their own, so that the crates that they test are proved once.
+#![tactic(auto)]
+
+#[cfg(test)]
+mod lines;
+#[cfg(test)]
+mod reached;
+#[cfg(test)]
+mod schedules;
