@@ -1,2 +1,3 @@
 pub mod BalanceLemmas
 pub mod ActiveLemmas
+pub mod EndLemmas

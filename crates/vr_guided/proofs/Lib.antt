@@ -1,6 +1,5 @@
 pub mod WorthLemmas
 pub mod PartLemmas
-pub mod EndLemmas
 pub mod WalkLemmas
 pub mod RaiseLemmas
 pub mod LocalChanges

@@ -16,7 +16,7 @@ use Rattle.vr_routes.specs.declared.pieces.Piece.{Piece}
 use Rattle.vr_routes.specs.Changes.{AreParts}
 use Rattle.vr_routes.specs.Pieces.{ListAfter, changed, joined}
 use Rattle.vr_model.proofs.routes.Lists.{route_set_same, route_set_other}
-use Rattle.vr_guided.specs.Ends.{AreEnds}
+use Rattle.vr_balance.specs.Ends.{AreEnds}
 use Rattle.vr_guided.specs.Walks.{last_of, route_weight, stretch_weight, unused_weight, weight}
 use Rattle.vr_guided.proofs.LocalChanges.{along, local_change, total_by_each}
 

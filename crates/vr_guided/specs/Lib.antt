@@ -4,6 +4,6 @@ pub mod Guides
 pub mod Standing
 pub mod Worths
 pub mod Walks
-pub mod Ends
+pub mod Nexts
 pub mod Answering
 pub mod Bounding

@@ -3,7 +3,7 @@
 ghost use Rattle.std.specs.Prelude.{◌≡◌, ◌<◌, ◌≤◌, ◌-ℤ◌, ◌≤ℤ◌, ◌^◌, negsuc, ◌∷◌, ◌++◌, [], IsTrue, ◌*◌};
 ghost use Rattle.std.specs.Prelude.{All, ℕ, drop, false, length, pos, take, unsigned_abs};
 ghost use Rattle.vr_guided.specs.Counts.{AtMost, counted};
-ghost use Rattle.vr_guided.specs.Ends.{AreEnds, IsNext};
+ghost use Rattle.vr_guided.specs.Nexts.{IsNext};
 ghost use Rattle.vr_guided.specs.Walks.{last_of, route_weight, stretch_weight, unused_weight};
 ghost use Rattle.vr_model.specs.search.GuidedSearches.{penalised};
 ghost use Rattle.vr_model.specs.routes.Routes.{route};
@@ -12,102 +12,12 @@ ghost use Rattle.vr_model.specs.tables.Tables.{vehicle_at};
 ghost use Rattle.vr_model.specs.tables.WellFormed.{IsWellFormed};
 ghost use Rattle.vr_routes.specs.Changes.{AreParts};
 ghost use Rattle.vr_routes.specs.Pieces.{IsWithin, changed, joined};
-ghost use Rattle.vr_routes.specs.declared.pieces.Piece.TheVariants.{Chain};
 
 use crate::penalties::Penalties;
 use crate::walks::Walk;
+use vr_balance::strip;
 use vr_model::Model;
 use vr_routes::{Change, Piece, Routes};
-
-// What a part of a change keeps of a list: the places below `front` and those from `behind` on. The pieces between them
-// are new.
-#[derive(Clone, Copy)]
-struct Ends<'a> {
-    front: u32,
-    behind: u32,
-    middle: &'a [Piece],
-}
-
-// Where a piece ends that keeps the front of the list of a vehicle, else 0.
-fn front_end(piece: &Piece, v: u32) -> u32
-    ensures { 0 < result → piece.now ≡ Chain v 0 result false }
-{
-    match *piece {
-        Piece::Chain {
-            vehicle,
-            from,
-            to,
-            reversed: false,
-        } => { if vehicle == v && from == 0 { to } else { 0 } }
-        _ => 0,
-    }
-}
-
-// Where a piece begins that keeps the list of a vehicle, of `n` visits, up to its end, else `n`.
-fn behind_start(piece: &Piece, v: u32, n: u32) -> u32
-    ensures { result < n → piece.now ≡ Chain v result n false }
-{
-    match *piece {
-        Piece::Chain {
-            vehicle,
-            from,
-            to,
-            reversed: false,
-        } => { if vehicle == v && to == n { from } else { n } }
-        _ => n,
-    }
-}
-
-// What the pieces of a vehicle's list keep of its front.
-fn strip_front<'a>(routes: &Routes, v: u32, pieces: &'a [Piece]) -> Ends<'a>
-    requires vehicle { v < length routes.now.lists }
-    requires within { All (IsWithin routes.now.lists) pieces.now }
-    ensures ends { AreEnds routes.now.lists v pieces.now result.front result.behind result.middle.now }
-    ensures whole { result.behind ≡ length (route routes.now.lists v) }
-{
-    let whole = Ends {
-        front: 0,
-        behind: routes.len(v),
-        middle: pieces,
-    };
-    match pieces.split_first() {
-        Some((first, rest)) => {
-            let front = front_end(first, v);
-            if front == 0 {
-                return whole;
-            }
-            Ends {
-                front,
-                behind: whole.behind,
-                middle: rest,
-            }
-        }
-        None => whole,
-    }
-}
-
-// What the pieces of a vehicle's list keep of it at both ends.
-fn strip<'a>(routes: &Routes, v: u32, pieces: &'a [Piece]) -> Ends<'a>
-    requires vehicle { v < length routes.now.lists }
-    requires within { All (IsWithin routes.now.lists) pieces.now }
-    ensures { AreEnds routes.now.lists v pieces.now result.front result.behind result.middle.now }
-{
-    let ends = strip_front(routes, v, pieces);
-    match ends.middle.split_last() {
-        Some((last, rest)) => {
-            let behind = behind_start(last, v, ends.behind);
-            if behind < ends.front || behind >= ends.behind {
-                return ends;
-            }
-            Ends {
-                front: ends.front,
-                behind,
-                middle: rest,
-            }
-        }
-        None => ends,
-    }
-}
 
 // The node before a place of a list, `start` before the first.
 fn node_before(list: &[u32], place: u32, start: u32) -> u32

@@ -20,6 +20,7 @@ ghost use Rattle.vr_pathfilters.specs.Known.{AreKnown, StandsAt, IsReady, AreRow
 use std::alloc::Global;
 use std::mem;
 use std::sync::ledger::Ledger;
+use vr_balance::strip;
 use vr_filter::PathFilter;
 use vr_model::{Model, NoMemory, Seq, Steps};
 use vr_reach::{Rows, Walk};
@@ -293,7 +294,8 @@ fn part_passes<L: Ledger>(
         (joined routes.now.lists (part_at change.now k).pieces) }
 {
     let v = change.vehicle(k);
-    routes.write_after(change, k, list);
+    let ends = strip(routes, v, change.pieces(k));
+    routes.join_into(ends.middle, list);
     let passed = passes_along(
         model,
         d,
@@ -301,6 +303,8 @@ fn part_passes<L: Ledger>(
         stops,
         &known[v as usize],
         routes.list(v),
+        ends.front as usize,
+        ends.behind as usize,
         list.as_slice(),
         walk,
         steps,

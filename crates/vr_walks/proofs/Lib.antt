@@ -5,3 +5,4 @@ pub mod Stretching
 pub mod Counting
 pub mod Tables
 pub mod StandingLemmas
+pub mod Splicing

@@ -1,11 +1,9 @@
 -- What is reached at a stop of a list, in other lists too.
-use Rattle.std.proofs.Common.{◌≡◌, ℕ, zero, suc, ◌+◌, ◌<◌, ◌≤◌, false, List, [], ◌∷◌, length, get_or, ℤ, refl, sym, ap, subst, ◌∙◌, inl, inr, arith}
+use Rattle.std.proofs.Common.{◌≡◌, ℕ, zero, suc, ◌+◌, ◌<◌, ◌≤◌, List, [], ◌∷◌, length, ℤ, refl, ap, subst, ◌∙◌, inl, inr, arith}
 use Rattle.std.specs.Prelude.{IsTrue}
 use Rattle.std.proofs.lemmas.Bool.{cases_lt}
 use Rattle.vr_spans.specs.declared.runs.Run.{Run}
 use Rattle.vr_spans.specs.Runs.{has}
-use Rattle.vr_model.specs.tables.Tables.{breaks_of, dimension_at}
-use Rattle.vr_model.specs.tables.WellFormed.{IsWellFormed}
 use Rattle.vr_model.specs.schedules.Lines.{line}
 use Rattle.vr_model.specs.schedules.Levels.{FeasibleWhereLevelsMeet}
 use Rattle.vr_model.specs.schedules.Choices.{is_feasible}
@@ -14,7 +12,6 @@ use Rattle.vr_model.specs.schedules.SoundLines.{LinesAreSound}
 use Rattle.vr_model.specs.declared.records.Model.{Model}
 use Rattle.vr_model.proofs.tables.Tests.{clash, fails}
 use Rattle.vr_steps.specs.Levels.{level_at}
-use Rattle.vr_walks.specs.Lists.{IsUsed}
 use Rattle.vr_walks.specs.Standing.{IsReachedAt, IsStuck, ReachesNoEnd}
 use Rattle.vr_walks.specs.Stretches.{SharesFront}
 use Rattle.vr_walks.proofs.LineParts.{arcs_of_line, sound_line}

@@ -1,4 +1,5 @@
 pub mod Lists
+pub mod Spliced
 pub mod VisitSets
 pub mod Stops
 pub mod Stretches

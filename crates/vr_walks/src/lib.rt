@@ -4,6 +4,7 @@
 
 mod ends;
 mod lines;
+mod spliced;
 mod standing;
 mod stops;
 mod stretches;
@@ -13,5 +14,4 @@ mod walking;
 pub use lines::{no_line, write_line, write_rows};
 pub use standing::{go_on, goes_between, goes_from, is_stuck, leave_rows};
 pub use stops::Stops;
-pub use stretches::Stretch;
 pub use walking::{goes_through, passes_along};

@@ -15,7 +15,7 @@ ghost use Rattle.vr_walks.specs.Stops.{AreEndsOf, AreStops};
 ghost use Rattle.vr_walks.specs.VisitSets.{AreVisitSets};
 
 use crate::ends::Ends;
-use crate::stops::{Stops, hop_from, set_at};
+use crate::stops::{Stops, hop_of, set_of};
 use arrayvec::ArrayVec;
 use std::alloc::Global;
 use vr_model::{Model, NoMemory, Seq, laws};
@@ -110,7 +110,7 @@ fn write_sets(
 {
     sets.truncate(0);
     for k in 0..list.len() + 2 {
-        let Ok(set) = set_at(model, d, v, ends, visits, list, k).copy() else {
+        let Ok(set) = set_of(model, d, v, ends, visits, list, k).copy() else {
             return Err(NoMemory);
         };
         sets.push(set)?;
@@ -135,7 +135,7 @@ fn write_hops(
 {
     hops.truncate(0);
     for k in 0..list.len() + 1 {
-        hops.push(hop_from(model, d, v, list, k))?;
+        hops.push(hop_of(model, d, v, list, k))?;
     }
     Ok(())
 }

@@ -12,7 +12,7 @@ ghost use Rattle.vr_walks.specs.Stretches.{SharesFront, SharesBack};
 ghost use Rattle.vr_walks.specs.VisitSets.{AreVisitSets};
 
 use crate::ends::Ends;
-use crate::stops::{Stops, hop_from, set_at};
+use crate::stops::{Stops, hop_of, set_of};
 use crate::walking::{levels_before, levels_behind, walk_uncounted};
 use std::marker::Brand;
 use std::sync::ledger::{Blank, Ledger};
@@ -260,8 +260,8 @@ fn cross_arc<L: Ledger>(
     laws::lines_are_sound();
     vr_steps::laws::reached_behind_arc();
     let mut steps = Steps::<L>::new(blank);
-    let hop = hop_from(model, d, v, list, k);
-    let next = set_at(model, d, v, ends, visits, list, k + 1);
+    let hop = hop_of(model, d, v, list, k);
+    let next = set_of(model, d, v, ends, visits, list, k + 1);
     walk.leave(from, hop, next, &ends.breaks, &mut steps)?;
     Ok(())
 }

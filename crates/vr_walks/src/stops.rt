@@ -10,6 +10,7 @@ ghost use Rattle.vr_walks.specs.Stops.{AreEndsOf, AreStops};
 ghost use Rattle.vr_walks.specs.VisitSets.{AreVisitSets};
 
 use crate::ends::{Ends, ends_of_each};
+use crate::spliced::Spliced;
 use crate::visits::VisitSets;
 use std::alloc::Global;
 use vr_model::{Model, NoMemory};
@@ -46,7 +47,7 @@ pub(crate) fn set_at<'a>(
     v: u32,
     ends: &'a Ends,
     visits: &'a [Spans],
-    list: &[u32],
+    list: &Spliced,
     k: usize,
 ) -> &'a Spans
     requires ends { AreEndsOf model.now d v ends.now }
@@ -61,12 +62,33 @@ pub(crate) fn set_at<'a>(
     if k > list.len() {
         return &ends.end_set;
     }
-    &visits[list[k - 1] as usize]
+    &visits[list.get(k - 1) as usize]
+}
+
+// The same, where the list is written out.
+#[inline]
+pub(crate) fn set_of<'a>(
+    model: &Model,
+    d: u32,
+    v: u32,
+    ends: &'a Ends,
+    visits: &'a [Spans],
+    list: &[u32],
+    k: usize,
+) -> &'a Spans
+    requires ends { AreEndsOf model.now d v ends.now }
+    requires visits { AreVisitSets model.now d v visits.now }
+    requires tour { IsTour model.now list.now }
+    requires stop { k ≤ suc (length list.now) }
+    ensures { IsAllowedSet (line model.now d v list.now) k result.now }
+{
+    let whole = Spliced::whole(list);
+    set_at(model, d, v, ends, visits, &whole, k)
 }
 
 // The node at a stop of vehicle `v` with a list.
 #[inline]
-fn node_at(model: &Model, v: u32, list: &[u32], k: usize) -> u32
+fn node_at(model: &Model, v: u32, list: &Spliced, k: usize) -> u32
     requires well_formed { IsWellFormed model.now }
     requires vehicle { v < length model.now.vehicles }
     requires tour { IsTour model.now list.now }
@@ -80,12 +102,12 @@ fn node_at(model: &Model, v: u32, list: &[u32], k: usize) -> u32
     if k > list.len() {
         return model.vehicles.get(v as usize).end;
     }
-    list[k - 1]
+    list.get(k - 1)
 }
 
 // The arc from a stop of vehicle `v` with a list to the next one.
 #[inline]
-pub(crate) fn hop_from(model: &Model, d: u32, v: u32, list: &[u32], k: usize) -> Hop
+pub(crate) fn hop_from(model: &Model, d: u32, v: u32, list: &Spliced, k: usize) -> Hop
     requires well_formed { IsWellFormed model.now }
     requires dimension { d < length model.now.dimensions }
     requires vehicle { v < length model.now.vehicles }
@@ -94,7 +116,24 @@ pub(crate) fn hop_from(model: &Model, d: u32, v: u32, list: &[u32], k: usize) ->
     ensures exact { result ≡ hop_at (line model.now d v list.now) k }
     ensures sound { IsSoundHop result }
 {
+    // that the list is in memory says that the sum fits
+    let _few = list.len();
     let origin = node_at(model, v, list, k);
     let target = node_at(model, v, list, k + 1);
     hop(model, d, v, origin, target)
+}
+
+// The same, where the list is written out.
+#[inline]
+pub(crate) fn hop_of(model: &Model, d: u32, v: u32, list: &[u32], k: usize) -> Hop
+    requires well_formed { IsWellFormed model.now }
+    requires dimension { d < length model.now.dimensions }
+    requires vehicle { v < length model.now.vehicles }
+    requires tour { IsTour model.now list.now }
+    requires stop { k ≤ length list.now }
+    ensures exact { result ≡ hop_at (line model.now d v list.now) k }
+    ensures sound { IsSoundHop result }
+{
+    let whole = Spliced::whole(list);
+    hop_from(model, d, v, &whole, k)
 }

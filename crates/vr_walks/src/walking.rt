@@ -13,10 +13,12 @@ ghost use Rattle.vr_steps.specs.Reached.{AreReached, AreReachingEnd};
 ghost use Rattle.vr_reach.specs.Rows.{row_at};
 ghost use Rattle.vr_walks.specs.Lists.{is_feasible_list, IsTour, IsUsed};
 ghost use Rattle.vr_walks.specs.KnownRows.{AreRowsIfUsed};
+ghost use Rattle.vr_walks.specs.Spliced.{spliced};
 ghost use Rattle.vr_walks.specs.Stops.{AreEndsOf, AreStops};
 ghost use Rattle.vr_walks.specs.VisitSets.{AreVisitSets};
 
 use crate::ends::Ends;
+use crate::spliced::Spliced;
 use crate::stops::{Stops, hop_from, set_at};
 use crate::stretches::Stretch;
 use std::marker::Brand;
@@ -34,7 +36,7 @@ fn walk_through<L: Ledger>(
     v: u32,
     ends: &Ends,
     visits: &[Spans],
-    list: &[u32],
+    list: &Spliced,
     begin: usize,
     last: usize,
     from: &Levels,
@@ -75,8 +77,9 @@ fn walk_through<L: Ledger>(
     Ok(passed)
 }
 
-/// Whether a list of vehicle `v` is empty or its line feasible, found by a walk through what differs from the list
-/// before, which passes itself and whose rows are known. It counts a step for each run that it carries over an arc,
+/// Whether the list that vehicle `v` gets, with other nodes in the place of those from place `front` up to place `behind`
+/// of its list, is empty or its line feasible, found by a walk through what differs from the list before, which passes
+/// itself and whose rows are known. It counts a step for each run that it carries over an arc,
 /// once for each number of further breaks, and one for each run on both sides where it joins the rows: at most the
 /// weight that the definitions give the changed list. Afterwards nothing is said of where the walk stands.
 ///
@@ -89,7 +92,9 @@ pub fn passes_along<L: Ledger>(
     stops: &Stops,
     rows: &Rows,
     old: &[u32],
-    new: &[u32],
+    front: usize,
+    behind: usize,
+    middle: &[u32],
     walk: &mut Walk,
     steps: &mut Steps<L>,
 ) -> Result<bool, NoMemory>
@@ -99,21 +104,31 @@ pub fn passes_along<L: Ledger>(
     requires stops { AreStops model.now d stops.now }
     requires rows { AreRowsIfUsed model.now d v old.now rows.now }
     requires old_tour { IsTour model.now old.now }
-    requires tour { IsTour model.now new.now }
+    requires order { front ≤ behind }
+    requires high { behind ≤ length old.now }
+    requires tour { IsTour model.now (spliced old.now front behind middle.now) }
     requires passed { IsTrue (is_feasible_list model.now d v old.now) }
-    ensures exact { IfOk result (λ passed. passed ≡ is_feasible_list model.now d v new.now) }
-    ensures count { steps.new ≤ steps.old + list_weight model.now d v old.now new.now }
+    ensures exact { IfOk result (λ passed. passed
+        ≡ is_feasible_list model.now d v (spliced old.now front behind middle.now)) }
+    ensures count { steps.new
+        ≤ steps.old + list_weight model.now d v old.now (spliced old.now front behind middle.now) }
 {
-    if new.is_empty() {
+    let new = Spliced::of(old, front, behind, middle);
+    let n = new.len();
+    if n == 0 {
         return Ok(true);
     }
-    let stretch = Stretch::of(old, new);
-    if stretch.front == old.len() && stretch.front == new.len() {
+    let told = Stretch {
+        front,
+        back: old.len() - behind,
+    };
+    let stretch = Stretch::of(old, &new, told);
+    if stretch.front == old.len() && stretch.front == n {
         return Ok(true);
     }
     let ends = &stops.ends[v as usize];
     let visits = stops.visits.of(model, d, v);
-    let last = new.len() - stretch.back + 1;
+    let last = n - stretch.back + 1;
     let from = levels_before(ends, rows, stretch.front);
     let to = levels_behind(ends, rows, old.len(), stretch.back);
     let passed = walk_through(
@@ -122,7 +137,7 @@ pub fn passes_along<L: Ledger>(
         v,
         ends,
         visits,
-        new,
+        &new,
         stretch.front,
         last,
         from,
@@ -205,9 +220,10 @@ pub(crate) fn walk_uncounted<L: Ledger>(
     requires to { AreReachingEnd (line model.now d v list.now) last to.now }
     ensures { IfOk result (λ goes. goes ≡ is_feasible (line model.now d v list.now)) }
 {
+    let whole = Spliced::whole(list);
     let mut steps = Steps::<L>::new(blank);
     let goes = walk_through(
-        model, d, v, ends, visits, list, begin, last, from, to, walk, &mut steps,
+        model, d, v, ends, visits, &whole, begin, last, from, to, walk, &mut steps,
     )?;
     Ok(goes)
 }

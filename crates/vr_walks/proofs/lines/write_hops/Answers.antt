@@ -22,9 +22,9 @@ loop-k-preserved c =
     let n = arcs_of_line m d v list in
     let many = length-map arcs f in
     record {
-      exact = rw c.in_ok-push.ensures.ok (push_taken (hops_along m d v list) c.loop-k.hops k c.hop_from.result c.hop_from.result (omega (arith, n, many, c.loop-k-test.true)) c.loop-k.invariant.exact
-          (c.hop_from.ensures.exact ∙ sym (read_map f arcs k no_arc c.hop_from.result (omega (arith, n, c.loop-k-test.true)))));
-      sound = rw c.in_ok-push.ensures.ok (All-push IsSoundHop _ _ c.loop-k.invariant.sound c.hop_from.ensures.sound);
+      exact = rw c.in_ok-push.ensures.ok (push_taken (hops_along m d v list) c.loop-k.hops k c.hop_of.result c.hop_of.result (omega (arith, n, many, c.loop-k-test.true)) c.loop-k.invariant.exact
+          (c.hop_of.ensures.exact ∙ sym (read_map f arcs k no_arc c.hop_of.result (omega (arith, n, c.loop-k-test.true)))));
+      sound = rw c.in_ok-push.ensures.ok (All-push IsSoundHop _ _ c.loop-k.invariant.sound c.hop_of.ensures.sound);
     }
 
 pub returns-clause-exact : goal.returns-clause-exact

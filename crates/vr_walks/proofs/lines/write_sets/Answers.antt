@@ -18,8 +18,8 @@ loop-k-preserved c =
     let k = c.loop-k.k in
     let n = stops_of_line m d v list in
     let allowed = (line m d v list).allowed in
-    let here = c.set_at.ensures in
-    let same = subst (λ r. IfOk r (λ set. set ≡ c.set_at.result.now)) c.in-Ok.is c.copy.ensures in
+    let here = c.set_of.ensures in
+    let same = subst (λ r. IfOk r (λ set. set ≡ c.set_of.result.now)) c.in-Ok.is c.copy.ensures in
     record {
       exact = rw (c.in_ok-push.ensures.ok, take_more allowed k (λ _. false) (omega (arith, n, c.loop-k-test.true)))
           (all_zip_push HasNumbers (take k allowed) c.loop-k.sets (get_or allowed k (λ _. false)) c.in-Ok.set c.loop-k.invariant.exact (subst (HasNumbers (get_or allowed k (λ _. false))) (sym same) here.exact));

@@ -1,4 +1,4 @@
-use Rattle.std.proofs.Common.{◌≡◌, ◌+◌, sym, subst}
+use Rattle.std.proofs.Common.{subst}
 use Rattle.vr_steps.specs.Levels.{AreLevels}
 use Rattle.vr_walks.proofs.LineParts.{reached_next}
 use Rattle.vr_walks.proofs.standing.cross_arc.Goals as goal
@@ -7,5 +7,5 @@ pub returns : goal.returns
 returns g c = record {
   form = subst (λ breaks. AreLevels breaks c.leave.new.self) c.requires.ends.breaks_are.same c.in_ok-leave.ensures.levels;
   reached = reached_next c.lines_are_sound.ensures c.args.model.now c.requires.well_formed c.args.d c.args.v c.requires.dimension c.requires.vehicle c.args.list.now c.requires.used c.reached_behind_arc.ensures c.args.ends.now.breaks c.requires.ends.breaks_are.same
-      c.args.k c.requires.stop c.hop_from-hop.result c.hop_from-hop.ensures.exact c.set_at-next.result.now c.set_at-next.ensures c.args.from.now c.leave.new.self c.requires.from.reached c.in_ok-leave.ensures.exact;
+      c.args.k c.requires.stop c.hop_of-hop.result c.hop_of-hop.ensures.exact c.set_of-next.result.now c.set_of-next.ensures c.args.from.now c.leave.new.self c.requires.from.reached c.in_ok-leave.ensures.exact;
 }

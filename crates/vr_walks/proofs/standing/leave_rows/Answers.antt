@@ -1,4 +1,4 @@
-use Rattle.std.proofs.Common.{◌≡◌, ◌+◌, ◌≤◌, length, sym, subst, arith}
+use Rattle.std.proofs.Common.{subst, arith}
 use Rattle.vr_walks.proofs.Transfer.{as_many_rows, left_at, not_empty}
 use Rattle.vr_steps.specs.Levels.{AreLevels}
 use Rattle.vr_walks.proofs.Tables.{ends_here}

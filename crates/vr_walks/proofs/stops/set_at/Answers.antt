@@ -1,4 +1,4 @@
-use Rattle.std.proofs.Common.{◌<◌, ◌-◌, [], length, get_or, ◌∙◌, arith}
+use Rattle.std.proofs.Common.{◌<◌, ◌≤◌, ◌-◌, [], length, get_or, ap, ◌∙◌, arith}
 use Rattle.std.proofs.lemmas.List.{get_or_default}
 use Rattle.vr_steps.proofs.LineLemmas.{visit_below}
 use Rattle.vr_walks.proofs.LineParts.{visit_allows}
@@ -8,8 +8,9 @@ pub returns : goal.returns
 returns c =
     let list = c.args.list.now in
     let sets = c.args.visits.now in
-    let node = get_or list (c.args.k - 1) 0 in
+    let node = c.get.ensures in
     let some = c.if-k-eq0.false in
-    let low : node < length sets = (let n = c.requires.visits.long in let h = visit_below c.args.model.now list (c.args.k - 1) 0 c.requires.tour.visits (omega (arith, some, c.if-k-list.false)) in omega (arith, n, h)) in
-    visit_allows c.args.model.now c.args.d c.args.v list c.args.k sets c.index-visits-list.result c.requires.visits c.requires.tour (omega (arith, some)) c.if-k-list.false
-    (c.index-visits-list.is ∙ get_or_default sets node c.index-visits-list.result [] low)
+    let within : c.args.k ≤ length list = omega (arith, c.if-k-len.false, c.len.ensures.value) in
+    let low : c.get.result < length sets = (let n = c.requires.visits.long in let h = visit_below c.args.model.now list (c.args.k - 1) 0 c.requires.tour.visits (omega (arith, some, within)) in omega (arith, n, h, node)) in
+    visit_allows c.args.model.now c.args.d c.args.v list c.args.k sets c.index-visits-get.result c.requires.visits c.requires.tour (omega (arith, some)) within
+    (c.index-visits-get.is ∙ (get_or_default sets c.get.result c.index-visits-get.result [] low ∙ ap (λ i. get_or sets i []) node))

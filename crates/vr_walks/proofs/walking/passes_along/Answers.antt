@@ -1,16 +1,43 @@
-use Rattle.std.proofs.Common.{◌≡◌, ◌+◌, ◌≤◌, length, sym, subst, arith}
+use Rattle.std.proofs.Common.{◌≡◌, ◌∙◌, ◌+◌, ◌-◌, ◌<◌, ◌≤◌, ◌||◌, ◌⊎◌, inl, inr, length, ap, sym, subst, arith}
+use Rattle.std.proofs.lemmas.List.{take_all}
+use Rattle.vr_model.specs.schedules.Weights.{list_weight, walk_weight}
+use Rattle.vr_steps.specs.Reached.{AreReachingEnd}
+use Rattle.vr_model.specs.schedules.Lines.{line}
+use Rattle.vr_model.specs.schedules.Choices.{is_feasible}
+use Rattle.vr_walks.specs.Spliced.{spliced}
+use Rattle.vr_walks.specs.Stretches.{SharesFront, SharesBack}
+use Rattle.vr_walks.proofs.Splicing.{shares_back}
 use Rattle.vr_walks.proofs.Stretching.{goes_on, weight_is}
 use Rattle.vr_walks.proofs.Transfer.{as_many_rows, left_at, met_at, not_empty}
-use Rattle.std.proofs.Common.{ℕ, List, Bool, false}
-use Rattle.std.specs.Prelude.{◌==◌}
+use Rattle.std.proofs.Common.{ℕ, List}
 use Rattle.vr_model.specs.declared.records.Model.{Model}
-use Rattle.vr_model.proofs.tables.Tests.{some_from_test}
 use Rattle.vr_walks.proofs.Tables.{ends_here}
-use Rattle.vr_walks.specs.Lists.{IsTour, IsUsed}
+use Rattle.vr_walks.specs.Lists.{is_feasible_list, IsTour, IsUsed}
 use Rattle.vr_walks.proofs.walking.passes_along.Goals as goal
 
-used : (model : Model) (new : List ℕ) → IsTour model new → (empty : Bool) → empty ≡ false → empty ≡ (length new == 0) → IsUsed model new
-used model new tour empty some is = record { some = not_empty new (some_from_test (length new) empty some is); tour = tour }
+used : (model : Model) (whole new : List ℕ) → new ≡ whole → IsTour model whole → (n : ℕ) → n ≡ length new → (n ≡ 0 → ⊥) → IsUsed model new
+used model whole new same tour n is some = record { some = not_empty new (more (length new) (λ e. some (is ∙ e))); tour = subst (IsTour model) (sym same) tour }
+  where
+    more : (m : ℕ) → (m ≡ 0 → ⊥) → 0 < m
+    more m other = grind arith
+
+told_apart : (old : ℕ) {a n new : ℕ} → n ≡ new → ((a ≡ old) × (a ≡ n → ⊥)) ⊎ (a ≡ old → ⊥) → ((a ≡ old) × (a ≡ new → ⊥)) ⊎ (a ≡ old → ⊥)
+told_apart old e (inl m) = inl (m.0, λ f. m.1 (f ∙ sym e))
+told_apart old e (inr m) = inr m
+
+same_lists : (old new : List ℕ) (a : ℕ) → SharesFront old new a → a ≡ length old → a ≡ length new → old ≡ new
+same_lists old new a shares e f = sym (take_all a old (omega (arith, e))) ∙ (shares.same ∙ take_all a new (omega (arith, f)))
+
+pub of-stretch-requires-clause-back : goal.of-stretch-requires-clause-back
+of-stretch-requires-clause-back g c =
+    subst (λ l. SharesBack c.args.old.now l (length c.args.old.now - c.args.behind)) (sym c.of-new.ensures)
+    (shares_back c.args.old.now c.args.middle.now c.args.front c.args.behind (record { order = c.requires.order; high = c.requires.high }))
+
+pub returns-clause-exact : goal.returns-clause-exact
+returns-clause-exact g c =
+    let m = c.args.model.now in
+    let used_here = used m (spliced c.args.old.now c.args.front c.args.behind c.args.middle.now) c.of-new.result c.of-new.ensures c.requires.tour c.len-n.result c.len-n.ensures.value c.if-n-eq0.false in
+    c.in_ok-passed.ensures.exact ∙ (sym (ap (λ e. e || is_feasible (line m c.args.d c.args.v c.of-new.result)) used_here.some) ∙ ap (is_feasible_list m c.args.d c.args.v) c.of-new.ensures)
 
 pub levels_before-from-requires : goal.levels_before-from-requires
 levels_before-from-requires g c = record {
@@ -27,27 +54,35 @@ levels_behind-to-requires-clause-row g c = λ some.
     omega (arith, n, within, some)
 
 pub walk_through-requires-clause-from_form : goal.walk_through-requires-clause-from_form
-walk_through-requires-clause-from_form g c = (left_at c.args.model.now c.args.d c.args.v c.args.old.now c.args.new.now c.index-ends.result.now (ends_here c.args.model.now c.args.d c.args.v c.args.stops.now c.requires.stops c.requires.vehicle c.index-ends.result.now c.index-ends.ensures) c.args.rows.now c.requires.rows (used c.args.model.now c.args.new.now c.requires.tour c.is_empty.result c.if-is_empty.false c.is_empty.ensures) c.of-stretch.result.front c.of-stretch.ensures.front c.levels_before-from.result.now c.levels_before-from.ensures.start c.levels_before-from.ensures.row).0
+walk_through-requires-clause-from_form g c = (left_at c.args.model.now c.args.d c.args.v c.args.old.now c.of-new.result c.index-ends.result.now (ends_here c.args.model.now c.args.d c.args.v c.args.stops.now c.requires.stops c.requires.vehicle c.index-ends.result.now c.index-ends.ensures) c.args.rows.now c.requires.rows (used c.args.model.now (spliced c.args.old.now c.args.front c.args.behind c.args.middle.now) c.of-new.result c.of-new.ensures c.requires.tour c.len-n.result c.len-n.ensures.value c.if-n-eq0.false) c.of-stretch.result.front c.of-stretch.ensures.front c.levels_before-from.result.now c.levels_before-from.ensures.start c.levels_before-from.ensures.row).0
 
 pub walk_through-requires-clause-from : goal.walk_through-requires-clause-from
-walk_through-requires-clause-from g c = (left_at c.args.model.now c.args.d c.args.v c.args.old.now c.args.new.now c.index-ends.result.now (ends_here c.args.model.now c.args.d c.args.v c.args.stops.now c.requires.stops c.requires.vehicle c.index-ends.result.now c.index-ends.ensures) c.args.rows.now c.requires.rows (used c.args.model.now c.args.new.now c.requires.tour c.is_empty.result c.if-is_empty.false c.is_empty.ensures) c.of-stretch.result.front c.of-stretch.ensures.front c.levels_before-from.result.now c.levels_before-from.ensures.start c.levels_before-from.ensures.row).1
+walk_through-requires-clause-from g c = (left_at c.args.model.now c.args.d c.args.v c.args.old.now c.of-new.result c.index-ends.result.now (ends_here c.args.model.now c.args.d c.args.v c.args.stops.now c.requires.stops c.requires.vehicle c.index-ends.result.now c.index-ends.ensures) c.args.rows.now c.requires.rows (used c.args.model.now (spliced c.args.old.now c.args.front c.args.behind c.args.middle.now) c.of-new.result c.of-new.ensures c.requires.tour c.len-n.result c.len-n.ensures.value c.if-n-eq0.false) c.of-stretch.result.front c.of-stretch.ensures.front c.levels_before-from.result.now c.levels_before-from.ensures.start c.levels_before-from.ensures.row).1
 
 pub walk_through-requires-clause-to_form : goal.walk_through-requires-clause-to_form
-walk_through-requires-clause-to_form g c = (met_at c.args.model.now c.args.d c.args.v c.args.old.now c.args.new.now c.index-ends.result.now (ends_here c.args.model.now c.args.d c.args.v c.args.stops.now c.requires.stops c.requires.vehicle c.index-ends.result.now c.index-ends.ensures) c.args.rows.now c.requires.rows (used c.args.model.now c.args.new.now c.requires.tour c.is_empty.result c.if-is_empty.false c.is_empty.ensures) c.of-stretch.result.back c.of-stretch.ensures.back c.levels_behind-to.result.now c.levels_behind-to.ensures.end c.levels_behind-to.ensures.row).0
+walk_through-requires-clause-to_form g c = (met_at c.args.model.now c.args.d c.args.v c.args.old.now c.of-new.result c.index-ends.result.now (ends_here c.args.model.now c.args.d c.args.v c.args.stops.now c.requires.stops c.requires.vehicle c.index-ends.result.now c.index-ends.ensures) c.args.rows.now c.requires.rows (used c.args.model.now (spliced c.args.old.now c.args.front c.args.behind c.args.middle.now) c.of-new.result c.of-new.ensures c.requires.tour c.len-n.result c.len-n.ensures.value c.if-n-eq0.false) c.of-stretch.result.back c.of-stretch.ensures.back c.levels_behind-to.result.now c.levels_behind-to.ensures.end c.levels_behind-to.ensures.row).0
 
 pub walk_through-requires-clause-to : goal.walk_through-requires-clause-to
-walk_through-requires-clause-to g c = (met_at c.args.model.now c.args.d c.args.v c.args.old.now c.args.new.now c.index-ends.result.now (ends_here c.args.model.now c.args.d c.args.v c.args.stops.now c.requires.stops c.requires.vehicle c.index-ends.result.now c.index-ends.ensures) c.args.rows.now c.requires.rows (used c.args.model.now c.args.new.now c.requires.tour c.is_empty.result c.if-is_empty.false c.is_empty.ensures) c.of-stretch.result.back c.of-stretch.ensures.back c.levels_behind-to.result.now c.levels_behind-to.ensures.end c.levels_behind-to.ensures.row).1
+walk_through-requires-clause-to g c =
+    subst (λ n. AreReachingEnd (line c.args.model.now c.args.d c.args.v c.of-new.result) (n - c.of-stretch.result.back + 1) c.levels_behind-to.result.now) (sym c.len-n.ensures.value)
+    ((met_at c.args.model.now c.args.d c.args.v c.args.old.now c.of-new.result c.index-ends.result.now (ends_here c.args.model.now c.args.d c.args.v c.args.stops.now c.requires.stops c.requires.vehicle c.index-ends.result.now c.index-ends.ensures) c.args.rows.now c.requires.rows (used c.args.model.now (spliced c.args.old.now c.args.front c.args.behind c.args.middle.now) c.of-new.result c.of-new.ensures c.requires.tour c.len-n.result c.len-n.ensures.value c.if-n-eq0.false) c.of-stretch.result.back c.of-stretch.ensures.back c.levels_behind-to.result.now c.levels_behind-to.ensures.end c.levels_behind-to.ensures.row).1)
 
 pub returns-in_err-passed-clause-count : goal.returns-in_err-passed-clause-count
 returns-in_err-passed-clause-count g c =
+    let used_here = used c.args.model.now (spliced c.args.old.now c.args.front c.args.behind c.args.middle.now) c.of-new.result c.of-new.ensures c.requires.tour c.len-n.result c.len-n.ensures.value c.if-n-eq0.false in
+    let changed = goes_on c.args.old.now c.of-new.result c.of-stretch.result.front c.of-stretch.ensures.front (told_apart (length c.args.old.now) c.len-n.ensures.value c.else-stretch-old.either) in
     subst (λ n. c.walk_through.new.steps ≤ c.args.steps.now + n)
-    (sym (weight_is c.args.model.now c.args.d c.args.v c.args.old.now c.args.new.now c.of-stretch.result c.of-stretch.ensures
-    (used c.args.model.now c.args.new.now c.requires.tour c.is_empty.result c.if-is_empty.false c.is_empty.ensures).some c.requires.old_tour c.requires.tour
-    (goes_on c.args.old.now c.args.new.now c.of-stretch.result.front c.of-stretch.ensures.front c.else-stretch-old.either))) c.walk_through.ensures.count
+    (ap (λ n. walk_weight (line c.args.model.now c.args.d c.args.v c.of-new.result) c.of-stretch.result.front (n - c.of-stretch.result.back + 1)) c.len-n.ensures.value
+    ∙ (sym (weight_is c.args.model.now c.args.d c.args.v c.args.old.now c.of-new.result c.of-stretch.result c.of-stretch.ensures used_here.some c.requires.old_tour used_here.tour changed)
+    ∙ ap (list_weight c.args.model.now c.args.d c.args.v c.args.old.now) c.of-new.ensures))
+    c.walk_through.ensures.count
 
 pub returns-clause-count : goal.returns-clause-count
 returns-clause-count g c =
+    let used_here = used c.args.model.now (spliced c.args.old.now c.args.front c.args.behind c.args.middle.now) c.of-new.result c.of-new.ensures c.requires.tour c.len-n.result c.len-n.ensures.value c.if-n-eq0.false in
+    let changed = goes_on c.args.old.now c.of-new.result c.of-stretch.result.front c.of-stretch.ensures.front (told_apart (length c.args.old.now) c.len-n.ensures.value c.else-stretch-old.either) in
     subst (λ n. c.walk_through.new.steps ≤ c.args.steps.now + n)
-    (sym (weight_is c.args.model.now c.args.d c.args.v c.args.old.now c.args.new.now c.of-stretch.result c.of-stretch.ensures
-    (used c.args.model.now c.args.new.now c.requires.tour c.is_empty.result c.if-is_empty.false c.is_empty.ensures).some c.requires.old_tour c.requires.tour
-    (goes_on c.args.old.now c.args.new.now c.of-stretch.result.front c.of-stretch.ensures.front c.else-stretch-old.either))) c.walk_through.ensures.count
+    (ap (λ n. walk_weight (line c.args.model.now c.args.d c.args.v c.of-new.result) c.of-stretch.result.front (n - c.of-stretch.result.back + 1)) c.len-n.ensures.value
+    ∙ (sym (weight_is c.args.model.now c.args.d c.args.v c.args.old.now c.of-new.result c.of-stretch.result c.of-stretch.ensures used_here.some c.requires.old_tour used_here.tour changed)
+    ∙ ap (list_weight c.args.model.now c.args.d c.args.v c.args.old.now) c.of-new.ensures))
+    c.walk_through.ensures.count

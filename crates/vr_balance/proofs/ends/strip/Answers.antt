@@ -1,6 +1,6 @@
 use Rattle.std.proofs.Common.{arith}
-use Rattle.vr_guided.proofs.EndLemmas.{behind_kept}
-use Rattle.vr_guided.proofs.changing.strip.Goals as goal
+use Rattle.vr_balance.proofs.EndLemmas.{behind_kept}
+use Rattle.vr_balance.proofs.ends.strip.Goals as goal
 
 pub returns-else-behind-ends-2 : goal.returns-else-behind-ends-2
 returns-else-behind-ends-2 c =

@@ -1,6 +1,6 @@
 use Rattle.std.proofs.Common.{arith}
-use Rattle.vr_guided.proofs.EndLemmas.{front_kept}
-use Rattle.vr_guided.proofs.changing.strip_front.Goals as goal
+use Rattle.vr_balance.proofs.EndLemmas.{front_kept}
+use Rattle.vr_balance.proofs.ends.strip_front.Goals as goal
 
 pub returns-else-front-eq0-clause-ends : goal.returns-else-front-eq0-clause-ends
 returns-else-front-eq0-clause-ends c =

@@ -1,5 +1,5 @@
 -- What a change keeps of a list at its ends.
-use Rattle.std.specs.Prelude.{◌≡◌, ℕ, ◌≤◌, List, ◌∷◌, ◌++◌, length, take, drop, All}
+use Rattle.std.specs.Prelude.{◌≡◌, ℕ, ◌≤◌, List, ◌++◌, length, take, drop, All}
 use Rattle.vr_model.specs.routes.Routes.{route}
 use Rattle.vr_routes.specs.declared.pieces.Piece.{Piece}
 use Rattle.vr_routes.specs.Pieces.{joined, IsWithin}
@@ -11,8 +11,3 @@ pub record AreEnds (lists : List (List ℕ)) (v : ℕ) (pieces : List Piece) (fr
   pub high : behind ≤ length (route lists v)
   pub within : All (IsWithin lists) middle
   pub joins : joined lists pieces ≡ take front (route lists v) ++ (joined lists middle ++ drop behind (route lists v))
-
--- a node is the first of some nodes
-pub record IsNext (node : ℕ) (nodes : List ℕ) : Type 0 where
-  pub others : List ℕ
-  pub first : nodes ≡ node ∷ others
