@@ -8,8 +8,8 @@ ghost use Rattle.vr_balance.specs.Ends.{AreEnds};
 
 use vr_routes::{Piece, Routes};
 
-/// What a part of a change keeps of a list: its places below `front` and those from `behind` on. The pieces between them
-/// are new.
+/// What a part of a change keeps of a list: its places below `front` and those from `behind` on. The pieces between
+/// them are new.
 #[derive(Clone, Copy)]
 pub struct Ends<'a> {
     /// How many nodes are kept at the front.

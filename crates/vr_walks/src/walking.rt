@@ -77,11 +77,11 @@ fn walk_through<L: Ledger>(
     Ok(passed)
 }
 
-/// Whether the list that vehicle `v` gets, with other nodes in the place of those from place `front` up to place `behind`
-/// of its list, is empty or its line feasible, found by a walk through what differs from the list before, which passes
-/// itself and whose rows are known. It counts a step for each run that it carries over an arc,
-/// once for each number of further breaks, and one for each run on both sides where it joins the rows: at most the
-/// weight that the definitions give the changed list. Afterwards nothing is said of where the walk stands.
+/// Whether the list that vehicle `v` gets is empty or its line feasible: its list before, with other nodes in the place
+/// of those from place `front` up to place `behind`. It is found by a walk through what differs from the list before,
+/// which passes itself and whose rows are known. It counts a step for each run that it carries over an arc, once for
+/// each number of further breaks, and one for each run on both sides where it joins the rows: at most the weight that
+/// the definitions give the changed list. Afterwards nothing is said of where the walk stands.
 ///
 /// `NoMemory` where there was no memory: it is taken only where a set has more than four runs, or a vehicle more breaks
 /// than any before.
