@@ -57,8 +57,7 @@ fn penalised_change(model: &Model, penalties: &Penalties, routes: &Routes, mv: M
     ensures bound { unsigned_abs result ≤ 2 ^ 100 }
     ensures value { result ≡ penalised_change model.now (counted penalties.now) routes.now.lists mv }
 {
-    match Change::of(model, routes, mv) {
-        Some(change) => penalties.change(model, routes, &change),
-        None => 0,
-    }
+    let mut change = Change::blank();
+    Change::write(model, routes, mv, &mut change);
+    penalties.change(model, routes, &change)
 }
