@@ -2,3 +2,4 @@ pub mod VisitLists
 pub mod ListTests
 pub mod PlaceLemmas
 pub mod PairLemmas
+pub mod NodeLemmas

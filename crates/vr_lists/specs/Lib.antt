@@ -1,2 +1,3 @@
 pub mod Places
 pub mod Pairs
+pub mod Nodes

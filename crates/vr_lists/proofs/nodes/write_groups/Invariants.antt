@@ -1,0 +1,16 @@
+use Rattle.std.proofs.Common.{◌≡◌, ◌+◌, ◌<◌, ◌≤◌, ℕ, length, drop}
+use Rattle.std.specs.List.{position_or_len}
+use Rattle.vr_model.specs.routes.Routes.{holds}
+use Rattle.vr_lists.specs.Nodes.{number_of}
+use Rattle.vr_lists.proofs.nodes.write_groups.Given as goal
+
+-- the nodes of the groups from here on have their numbers
+abbrev pub invariant-loop-g : goal.invariant-loop-g
+invariant-loop-g l = record {
+  within : l.g ≤ length l.model.groups;
+  long : length l.numbers ≡ l.model.nodes;
+  each : (node : ℕ) → node < l.model.nodes → number_of l.numbers node ≡ l.g + position_or_len (λ group. holds group.nodes node) (drop l.g l.model.groups);
+}
+
+abbrev pub decreases-loop-g : goal.decreases-loop-g
+decreases-loop-g l = l.g
