@@ -3,3 +3,4 @@ pub mod ListTests
 pub mod PlaceLemmas
 pub mod PairLemmas
 pub mod NodeLemmas
+pub mod GroupLemmas

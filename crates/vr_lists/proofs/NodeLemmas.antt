@@ -5,7 +5,7 @@ use Rattle.std.specs.List.{list_any, position_or_len}
 use Rattle.std.proofs.lemmas.Bool.Decides.{nat_tests}
 use Rattle.std.proofs.lemmas.Bool.{cases_lt}
 use Rattle.std.proofs.lemmas.Grind.{get_or_default_zero}
-use Rattle.std.proofs.lemmas.List.{at_drop_more, get_or_past, get_or-replicate, get_or-set_same, get_or-set_other, length-replicate}
+use Rattle.std.proofs.lemmas.List.{at_drop_more, get_or_past, get_or-replicate, get_or-set_same, get_or-set_other, length-replicate, length-set}
 use Rattle.std.proofs.lemmas.List.Folds.{find_at}
 use Rattle.std.proofs.lemmas.List.Sums.{position_or_len_is, prefix_len-le-length}
 use Rattle.vr_model.specs.declared.records.Model.{Model}
@@ -16,7 +16,7 @@ use Rattle.vr_model.specs.routes.Rules.{allows_vehicle, row_allows_vehicle}
 use Rattle.vr_model.specs.deciding.Testing.{eq_of_test, test_of_eq}
 use Rattle.vr_model.proofs.tables.Tests.{apart, fails, clash}
 use Rattle.vr_model.proofs.routes.Lists.{visit_below, place_of_held}
-use Rattle.vr_lists.specs.Nodes.{group_number, row_number, number_of, AreNodeTables, AreWritten}
+use Rattle.vr_lists.specs.Nodes.{group_number, pair_number, row_number, number_of, AreNodeTables, AreWritten}
 
 -- the first place from k on, by the entry there and the first place behind
 pub number_step : {A : Type 0} (p : A → Bool) (xs : List A) (k : ℕ) (d : A) → k < length xs
@@ -56,6 +56,15 @@ no_node-group model well_formed node past =
     none_passes (λ group. holds group.nodes node) model.groups (λ k d low.
     not_held (get_or model.groups k d).nodes model.nodes node
     (λ i x within. visit_below model (get_or (get_or model.groups k d).nodes i x) ((well_formed.each_group k d low).each_node_is_visit i x within)) past)
+
+-- and in no pair
+pub no_node-pair : (model : Model) → IsWellFormed model → (node : ℕ) → model.nodes ≤ node → pair_number model node ≡ length model.pairs
+no_node-pair model well_formed node past =
+    none_passes (λ pair. (pair.pickup == node) || (pair.delivery == node)) model.pairs (λ k d low.
+    let pair = get_or model.pairs k d in
+    let pickup = visit_below model pair.pickup (well_formed.each_pair k d low).pickup_is_visit in
+    let delivery = visit_below model pair.delivery (well_formed.each_pair k d low).delivery_is_visit in
+    (λ t. apart pair.pickup node (λ same. omega (arith, pickup, same, past)) t || apart pair.delivery node (λ same. omega (arith, delivery, same, past)) t))
 
 -- and has no row
 pub no_node-row : (model : Model) → IsWellFormed model → (node : ℕ) → model.nodes ≤ node → row_number model node ≡ length model.allowed
@@ -102,6 +111,20 @@ set_number numbers i y node low = by (i == node) refl
     by true e = let same : i ≡ node = eq_of_test i node e in subst (λ k. number_of (slice_set numbers i y) k ≡ y) same (get_or-set_same numbers i y 0 low)
     by false e = get_or-set_other numbers i node y 0 (λ same. clash (i == node) (test_of_eq i node (sym same)) e)
 
+-- two numbers written over, one behind the other
+pub set_two : (numbers : List ℕ) (i j y node : ℕ) → i < length numbers → j < length numbers
+    → number_of (slice_set (slice_set numbers i y) j y) node ≡ cond ((i == node) || (j == node)) y (number_of numbers node)
+set_two numbers i j y node low low_too =
+    let long = length-set numbers i y in
+    set_number (slice_set numbers i y) j y node (omega (arith, low_too, long)) ∙ ap (λ n. cond (j == node) y n) (set_number numbers i y node low)
+    ∙ either (i == node) (j == node) (number_of numbers node)
+  where
+    either : (a b : Bool) (n : ℕ) → cond b y (cond a y n) ≡ cond (a || b) y n
+    either true true n = refl
+    either true false n = refl
+    either false true n = refl
+    either false false n = refl
+
 -- marks of some vehicles among marks that were not set
 pub marks_written : (n : ℕ) (vehicles : List ℕ) (before after : List Bool) → All (λ v. v < n) vehicles → before ≡ replicate n false → length after ≡ length before
     → AreWritten before vehicles true after → (v : ℕ) → slice_index_or after v false ≡ holds vehicles v
@@ -119,12 +142,19 @@ marks_written n vehicles before after within none count written v = elim (cases_
     marked true = refl
     marked false = refl
 
-module _ (model : Model) (groups rows : List ℕ) (marks : List (List Bool)) (are : AreNodeTables model groups rows marks) where
+module _ (model : Model) (groups pairs rows : List ℕ) (marks : List (List Bool)) (are : AreNodeTables model groups pairs rows marks) where
   -- the number of a group, as it is kept
   pub group_kept : (node many : ℕ) → many ≡ length model.groups → slice_index_or groups node many ≡ group_number model node
   group_kept node many all = elim (cases_lt node model.nodes) [
       | inl low ↦ get_or_default_zero groups node many (omega (arith, low, are.groups_are.long)) ∙ are.groups_are.each node low
       | inr past ↦ get_or_past groups node many (omega (arith, past, are.groups_are.long)) ∙ all ∙ sym (no_node-group model are.well_formed node past)
+    ]
+
+  -- the number of a pair
+  pub pair_kept : (node many : ℕ) → many ≡ length model.pairs → slice_index_or pairs node many ≡ pair_number model node
+  pair_kept node many all = elim (cases_lt node model.nodes) [
+      | inl low ↦ get_or_default_zero pairs node many (omega (arith, low, are.pairs_are.long)) ∙ are.pairs_are.each node low
+      | inr past ↦ get_or_past pairs node many (omega (arith, past, are.pairs_are.long)) ∙ all ∙ sym (no_node-pair model are.well_formed node past)
     ]
 
   -- the number of a row

@@ -1,5 +1,6 @@
--- What is looked up once of the nodes of a model: the group of each, and the vehicles that may visit it.
-use Rattle.std.specs.Prelude.{◌≡◌, ℕ, ◌<◌, Bool, false, cond, ◌==◌, List, [], length, slice_index_or, None}
+-- What is looked up once of the nodes of a model: the group and the pair of each, and the vehicles that may
+-- visit it.
+use Rattle.std.specs.Prelude.{◌≡◌, ℕ, ◌<◌, Bool, false, cond, ◌||◌, ◌==◌, List, [], length, slice_index_or, None}
 use Rattle.std.specs.List.{position_or_len}
 use Rattle.vr_model.specs.routes.Routes.{holds}
 use Rattle.vr_model.specs.tables.WellFormed.{IsWellFormed}
@@ -31,10 +32,14 @@ pub record AreNumbers (model : Model) (numbers : List ℕ) : Type 0 where
 abbrev pub row_number : Model → ℕ → ℕ
 row_number model node = position_or_len (λ row. row.node == node) model.allowed
 
--- each node has the number of its row
-pub record AreRowNumbers (model : Model) (numbers : List ℕ) : Type 0 where
-  pub long : length numbers ≡ model.nodes
-  pub each : (node : ℕ) → node < model.nodes → number_of numbers node ≡ row_number model node
+-- the number of the pair of a node, that of all pairs where it is in none
+abbrev pub pair_number : Model → ℕ → ℕ
+pair_number model node = position_or_len (λ pair. (pair.pickup == node) || (pair.delivery == node)) model.pairs
+
+-- each of so many nodes has the number that is its
+pub record AreNumbersBy (number : ℕ → ℕ) (nodes : ℕ) (numbers : List ℕ) : Type 0 where
+  pub long : length numbers ≡ nodes
+  pub each : (node : ℕ) → node < nodes → number_of numbers node ≡ number node
 
 -- the vehicles of a row are marked
 abbrev pub AreMarksOf : Allowed → List Bool → Type 0
@@ -47,10 +52,11 @@ pub record AreRowMarks (model : Model) (marks : List (List Bool)) : Type 0 where
       → AreMarksOf (slice_index_or model.allowed k other) (slice_index_or marks k [])
 
 -- the tables are those of the nodes of the model, which is well formed
-pub record AreNodeTables (model : Model) (groups rows : List ℕ) (marks : List (List Bool)) : Type 0 where
+pub record AreNodeTables (model : Model) (groups pairs rows : List ℕ) (marks : List (List Bool)) : Type 0 where
   pub well_formed : IsWellFormed model
   pub groups_are : AreNumbers model groups
-  pub rows_are : AreRowNumbers model rows
+  pub pairs_are : AreNumbersBy (pair_number model) model.nodes pairs
+  pub rows_are : AreNumbersBy (row_number model) model.nodes rows
   pub marks_are : AreRowMarks model marks
 
 -- the values after one was written at some places

@@ -1,24 +1,27 @@
-//! What is looked up once of the nodes of a model: the group of each, and the vehicles that may visit it.
+//! What is looked up once of the nodes of a model: the group and the pair of each, and the vehicles that may visit it.
 
 ghost use Rattle.std.specs.Prelude.{◌≡◌, ℕ, ◌<◌, Bool, false, All, IfOk, cond, length, replicate, slice_index_or};
 ghost use Rattle.std.specs.List.{list_all};
+ghost use Rattle.vr_model.specs.first.Items.{pair_of as pair_of_node};
 ghost use Rattle.vr_model.specs.routes.Rules.{allows_vehicle as allows_vehicle_of, is_grouped as is_grouped_of};
 ghost use Rattle.vr_model.specs.tables.WellFormed.{IsWellFormed};
-ghost use Rattle.vr_lists.specs.Nodes.{group_number as group_number_of, row_number as row_number_of};
-ghost use Rattle.vr_lists.specs.Nodes.{AreMarksOf, AreNumbers, AreRowMarks, AreRowNumbers, AreWritten};
+ghost use Rattle.vr_lists.specs.Nodes.{group_number as group_number_of, pair_number, row_number as row_number_of};
+ghost use Rattle.vr_lists.specs.Nodes.{AreMarksOf, AreNumbers, AreNumbersBy, AreRowMarks, AreWritten};
 
 use std::alloc::Global;
 use std::marker::Model;
-use vr_model::{Allowed, Model as RoutingModel, NoMemory, Seq};
+use vr_model::{Allowed, Model as RoutingModel, NoMemory, Pair, Seq};
 
-/// The group of each node of a model, and the vehicles that may visit it, looked up once in one pass over the groups
-/// and over the rows of allowed vehicles. Contracts see the model. An answer takes no memory, and no longer in a large
-/// model than in a small one.
+/// The group and the pair of each node of a model, and the vehicles that may visit it, looked up once in one pass over
+/// groups, pairs and rows of allowed vehicles. Contracts see the model. An answer about a node takes no memory, and no
+/// longer in a large model than in a small one.
 #[derive(Drop)]
 pub struct NodeTables<'m> {
     model: &'m RoutingModel,
     // for each node the number of its group
     groups: Seq<u32>,
+    // for each node the number of its pair
+    pairs: Seq<u32>,
     // for each node the number of its row of allowed vehicles
     rows: Seq<u32>,
     // for each row whether it has each vehicle
@@ -33,7 +36,8 @@ impl<'m> Model for NodeTables<'m> {
 
     ghost view = { λ tables. tables.model.now };
 
-    ghost invariant = { λ tables. AreNodeTables tables.model.now tables.groups tables.rows tables.marks };
+    ghost invariant = { λ tables. AreNodeTables tables.model.now tables.groups tables.pairs tables.rows
+        tables.marks };
 }
 
 impl<'m> NodeTables<'m> {
@@ -45,6 +49,7 @@ impl<'m> NodeTables<'m> {
         Ok(NodeTables {
             model,
             groups: group_numbers(alloc, model)?,
+            pairs: pair_numbers(alloc, model)?,
             rows: row_numbers(alloc, model)?,
             marks: row_marks(alloc, model)?,
         })
@@ -72,6 +77,24 @@ impl<'m> NodeTables<'m> {
         ensures { result ≡ is_grouped_of self.now node }
     {
         (self.group_number(node) as usize) < self.model.groups.len()
+    }
+
+    // The number of the pair of a node, that of all pairs where it is in none.
+    fn pair_number(&self, node: u32) -> u32
+        ensures { result ≡ pair_number self.now node }
+    {
+        number_or(&self.pairs, node, self.model.pairs.len() as u32)
+    }
+
+    /// The pair that a node is in.
+    pub fn pair_of(&self, node: u32) -> Option<Pair>
+        ensures { result ≡ pair_of_node self.now node }
+    {
+        let k = self.pair_number(node) as usize;
+        if k < self.model.pairs.len() {
+            return Some(*self.model.pairs.get(k));
+        }
+        None
     }
 
     // The number of the row of a node, that of all rows where it has none.
@@ -149,13 +172,29 @@ fn write_groups(model: &RoutingModel, numbers: &mut [u32])
 fn write_rows(model: &RoutingModel, numbers: &mut [u32])
     requires well_formed { IsWellFormed model.now }
     requires long { length numbers.old ≡ model.now.nodes }
-    ensures { AreRowNumbers model.now numbers.new }
+    ensures { AreNumbersBy (row_number_of model.now) model.now.nodes numbers.new }
 {
     let mut k = model.allowed.len();
     numbers.fill(k as u32);
     while k > 0 {
         k -= 1;
         numbers[model.allowed.get(k).node as usize] = k as u32;
+    }
+}
+
+// Writes over the numbers of the pairs of all nodes, from the last pair to the first.
+fn write_pairs(model: &RoutingModel, numbers: &mut [u32])
+    requires well_formed { IsWellFormed model.now }
+    requires long { length numbers.old ≡ model.now.nodes }
+    ensures { AreNumbersBy (pair_number model.now) model.now.nodes numbers.new }
+{
+    let mut k = model.pairs.len();
+    numbers.fill(k as u32);
+    while k > 0 {
+        k -= 1;
+        let pair = *model.pairs.get(k);
+        numbers[pair.pickup as usize] = k as u32;
+        numbers[pair.delivery as usize] = k as u32;
     }
 }
 
@@ -171,10 +210,21 @@ pub fn group_numbers(alloc: Global, model: &RoutingModel) -> Result<Seq<u32>, No
     Ok(Seq::from(numbers))
 }
 
+// For each node of a model the number of its pair.
+fn pair_numbers(alloc: Global, model: &RoutingModel) -> Result<Seq<u32>, NoMemory>
+    requires { IsWellFormed model.now }
+    ensures { IfOk result (AreNumbersBy (pair_number model.now) model.now.nodes) }
+{
+    let mut numbers = Vec::new(alloc);
+    numbers.resize(model.nodes as usize, 0)?;
+    write_pairs(model, &mut numbers);
+    Ok(Seq::from(numbers))
+}
+
 // For each node of a model the number of its row of allowed vehicles.
 fn row_numbers(alloc: Global, model: &RoutingModel) -> Result<Seq<u32>, NoMemory>
     requires { IsWellFormed model.now }
-    ensures { IfOk result (AreRowNumbers model.now) }
+    ensures { IfOk result (AreNumbersBy (row_number_of model.now) model.now.nodes) }
 {
     let mut numbers = Vec::new(alloc);
     numbers.resize(model.nodes as usize, 0)?;
