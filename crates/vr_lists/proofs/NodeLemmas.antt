@@ -129,11 +129,11 @@ set_two numbers i j y node low low_too =
 pub marks_written : (n : ℕ) (vehicles : List ℕ) (before after : List Bool) → All (λ v. v < n) vehicles → before ≡ replicate n false → length after ≡ length before
     → AreWritten before vehicles true after → (v : ℕ) → slice_index_or after v false ≡ holds vehicles v
 marks_written n vehicles before after within none count written v = elim (cases_lt v n) [
-    | inl low ↦ (
-        let at : slice_index_or before v false ≡ false = ap (λ marks. slice_index_or marks v false) none ∙ get_or-replicate n v false false low in
-        written v false (omega (arith, low, long)) ∙ ap (λ b. cond (holds vehicles v) true b) at ∙ marked (holds vehicles v))
-    | inr past ↦ get_or_past after v false (omega (arith, past, long, count)) ∙ sym (not_held vehicles n v within past)
-  ]
+  | inl low ↦ (
+      let at : slice_index_or before v false ≡ false = ap (λ marks. slice_index_or marks v false) none ∙ get_or-replicate n v false false low in
+      written v false (omega (arith, low, long)) ∙ ap (λ b. cond (holds vehicles v) true b) at ∙ marked (holds vehicles v))
+  | inr past ↦ get_or_past after v false (omega (arith, past, long, count)) ∙ sym (not_held vehicles n v within past)
+]
   where
     long : length before ≡ n
     long = ap length none ∙ length-replicate n false
@@ -146,23 +146,23 @@ module _ (model : Model) (groups pairs rows : List ℕ) (marks : List (List Bool
   -- the number of a group, as it is kept
   pub group_kept : (node many : ℕ) → many ≡ length model.groups → slice_index_or groups node many ≡ group_number model node
   group_kept node many all = elim (cases_lt node model.nodes) [
-      | inl low ↦ get_or_default_zero groups node many (omega (arith, low, are.groups_are.long)) ∙ are.groups_are.each node low
-      | inr past ↦ get_or_past groups node many (omega (arith, past, are.groups_are.long)) ∙ all ∙ sym (no_node-group model are.well_formed node past)
-    ]
+    | inl low ↦ get_or_default_zero groups node many (omega (arith, low, are.groups_are.long)) ∙ are.groups_are.each node low
+    | inr past ↦ get_or_past groups node many (omega (arith, past, are.groups_are.long)) ∙ all ∙ sym (no_node-group model are.well_formed node past)
+  ]
 
   -- the number of a pair
   pub pair_kept : (node many : ℕ) → many ≡ length model.pairs → slice_index_or pairs node many ≡ pair_number model node
   pair_kept node many all = elim (cases_lt node model.nodes) [
-      | inl low ↦ get_or_default_zero pairs node many (omega (arith, low, are.pairs_are.long)) ∙ are.pairs_are.each node low
-      | inr past ↦ get_or_past pairs node many (omega (arith, past, are.pairs_are.long)) ∙ all ∙ sym (no_node-pair model are.well_formed node past)
-    ]
+    | inl low ↦ get_or_default_zero pairs node many (omega (arith, low, are.pairs_are.long)) ∙ are.pairs_are.each node low
+    | inr past ↦ get_or_past pairs node many (omega (arith, past, are.pairs_are.long)) ∙ all ∙ sym (no_node-pair model are.well_formed node past)
+  ]
 
   -- the number of a row
   pub row_kept : (node many : ℕ) → many ≡ length model.allowed → slice_index_or rows node many ≡ row_number model node
   row_kept node many all = elim (cases_lt node model.nodes) [
-      | inl low ↦ get_or_default_zero rows node many (omega (arith, low, are.rows_are.long)) ∙ are.rows_are.each node low
-      | inr past ↦ get_or_past rows node many (omega (arith, past, are.rows_are.long)) ∙ all ∙ sym (no_node-row model are.well_formed node past)
-    ]
+    | inl low ↦ get_or_default_zero rows node many (omega (arith, low, are.rows_are.long)) ∙ are.rows_are.each node low
+    | inr past ↦ get_or_past rows node many (omega (arith, past, are.rows_are.long)) ∙ all ∙ sym (no_node-row model are.well_formed node past)
+  ]
 
   -- whether a vehicle may visit a node with a row
   pub row_allows : (v node row : ℕ) (kept : List Bool) → row ≡ row_number model node → row < length marks → slice_index_or marks row [] ≡ kept

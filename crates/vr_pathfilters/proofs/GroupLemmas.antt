@@ -20,7 +20,8 @@ use Rattle.std.proofs.lemmas.List.{reverse-append}
 use Rattle.std.proofs.lemmas.List.Folds.{list_all-append}
 use Rattle.std.specs.Prelude.{reverse, slice_range}
 use Rattle.vr_balance.specs.Balances.{Turnover, IsBalance}
-use Rattle.vr_pathfilters.specs.Groups.{keeps_groups, group_at, no_group, number_of, one_of, many_of, allows_number, allows_node, allows_pieces, KnowsGroups}
+use Rattle.vr_lists.specs.Nodes.{group_at, no_group, number_of}
+use Rattle.vr_pathfilters.specs.Groups.{keeps_groups, one_of, many_of, allows_number, allows_node, allows_pieces, KnowsGroups}
 use Rattle.vr_pathfilters.specs.TourLists.{AreTours}
 use Rattle.vr_pathfilters.proofs.GroupNumbers.{required, group-count, required-count}
 

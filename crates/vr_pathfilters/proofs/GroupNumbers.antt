@@ -3,7 +3,6 @@ use Rattle.std.proofs.Common.{◌≡◌, ◌∙◌, ℕ, zero, suc, ◌+◌, ◌
 use Rattle.std.specs.Prelude.{◌==◌, ◌||◌, IsTrue, filter, count_by, slice_index_or}
 use Rattle.std.specs.List.{list_any, position_or_len, range_with_len}
 use Rattle.std.proofs.Math.Dec.{eqb-zero-suc}
-use Rattle.std.proofs.lemmas.List.Concat.{flat_map-cons}
 use Rattle.vr_model.specs.deciding.Testing.{eq_of_test, test_of_eq}
 use Rattle.vr_model.specs.tables.Numbers.{below, each}
 use Rattle.vr_model.specs.tables.Tables.{is_visit, visits}
@@ -13,13 +12,15 @@ use Rattle.vr_model.specs.routes.Rules.{active_in, is_grouped}
 use Rattle.vr_model.specs.declared.records.Model.{Model}
 use Rattle.vr_model.specs.declared.records.Group.{Group}
 use Rattle.vr_model.proofs.tables.Tests.{clash, same_tests, apart}
-use Rattle.vr_model.proofs.moves.Times.{hit, times, times_append, held_times, times_of_distinct}
+use Rattle.vr_model.proofs.moves.Times.{hit, times, held_times, times_of_distinct}
 use Rattle.vr_model.proofs.routes.Lists.{visit_below}
 use Rattle.vr_routes.proofs.TourLemmas.{visit_held, visit_test}
 use Rattle.vr_routes.specs.Tours.{Tours}
 use Rattle.vr_balance.specs.Balances.{over_lists}
 use Rattle.vr_balance.proofs.ActiveLemmas.{active-count, over-active, times-held}
-use Rattle.vr_pathfilters.specs.Groups.{group_number, group_at, no_group, number_of, one_of, AreNumbers}
+use Rattle.vr_lists.specs.Nodes.{group_number, group_at, no_group, number_of, AreNumbers}
+use Rattle.vr_lists.proofs.GroupLemmas.{group-times, nodes_in, times-cons}
+use Rattle.vr_pathfilters.specs.Groups.{one_of}
 use Rattle.vr_pathfilters.specs.TourLists.{AreTours}
 
 -- ---- how often a node stands
@@ -71,15 +72,6 @@ shifted p h = same_tests ((1 + p) == suc h) (p == h)
     (λ t. test_of_eq p h (let e = eq_of_test (1 + p) (suc h) t in omega (arith, e)))
     (λ t. test_of_eq (1 + p) (suc h) (let e = eq_of_test p h t in omega (arith, e)))
 
-abbrev nodes_in : Group → List ℕ
-nodes_in group = group.nodes
-
--- a group among others
-group-times : (groups : List Group) (y g : ℕ) → times y (slice_index_or groups g no_group).nodes ≤ times y (each groups nodes_in)
-group-times [] y g = omega arith
-group-times (q ∷ qs) y zero = let all = ap (times y) (flat_map-cons nodes_in q qs) ∙ times_append y q.nodes (each qs nodes_in) in omega (arith, all)
-group-times (q ∷ qs) y (suc g) = let all = ap (times y) (flat_map-cons nodes_in q qs) ∙ times_append y q.nodes (each qs nodes_in) in let rest = group-times qs y g in omega (arith, all, rest)
-
 -- a node has the number of the group that it stands in
 number-times : (groups : List Group) (y g : ℕ) → times y (each groups nodes_in) ≤ 1 → g < length groups
     → cond (position_or_len (λ q. holds q.nodes y) groups == g) 1 0 ≡ times y (slice_index_or groups g no_group).nodes
@@ -90,7 +82,7 @@ number-times (q ∷ qs) y g few low = by (holds q.nodes y) refl g low (λ h less
     place = position_or_len (λ q. holds q.nodes y) qs
 
     all : times y (each (q ∷ qs) nodes_in) ≡ times y q.nodes + times y (each qs nodes_in)
-    all = ap (times y) (flat_map-cons nodes_in q qs) ∙ times_append y q.nodes (each qs nodes_in)
+    all = times-cons q qs y
 
     here : cond (holds q.nodes y) 1 0 ≡ times y q.nodes
     here = times-held q.nodes y (omega (arith, few, all))

@@ -1,5 +1,5 @@
 -- What is known of tours is right after a change.
-use Rattle.std.specs.Prelude.{Bool, List}
+use Rattle.std.specs.Prelude.{List}
 use Rattle.vr_model.specs.declared.records.Model.{Model}
 use Rattle.vr_routes.specs.Tours.{Tours}
 use Rattle.vr_routes.specs.Pieces.{ListAfter}
@@ -9,7 +9,6 @@ use Rattle.std.proofs.Common.{◌∙◌}
 use Rattle.vr_filter.specs.Filters.{after}
 use Rattle.vr_pathfilters.specs.TourLists.{AreTours}
 use Rattle.vr_pathfilters.specs.Pairs.{KnowsPairs}
-use Rattle.vr_pathfilters.specs.Vehicles.{KnowsVehicles}
 
 -- the lists after a change are tours too
 pub tours_after : (model : Model) (tours : Tours) → AreTours model tours → (parts : List ListAfter)
@@ -19,14 +18,6 @@ tours_after model tours are parts made = record {
   list_of_each = as_many_lists tours.lists parts ∙ are.list_of_each;
   once = once_after tours parts made are.once;
   entries = entry_after tours parts made are.once are.entries;
-}
-
--- the marks of vehicles are right after a change too
-pub vehicles_known_after : (model : Model) (marks : List (List Bool)) (tours : Tours) (parts : List ListAfter)
-    → KnowsVehicles model marks tours → IsMadeOn tours parts → KnowsVehicles model marks (after tours parts)
-vehicles_known_after model marks tours parts knows made = record {
-  tours_are = tours_after model tours knows.tours_are parts made;
-  marks_are = knows.marks_are;
 }
 
 -- the tours of a well-formed model are so after a change too

@@ -1,12 +1,11 @@
 -- The rule of groups, and what is kept of them.
-use Rattle.std.specs.Prelude.{◌≡◌, ℕ, ◌+◌, ◌<◌, Bool, true, cond, ◌&&◌, ◌||◌, ◌==◌, nat_lt, nat_le, IsTrue, List, []}
-use Rattle.std.specs.Prelude.{length, slice_index_or, is_some, None}
-use Rattle.std.specs.List.{list_all, position_or_len}
-use Rattle.vr_model.specs.routes.Routes.{holds}
+use Rattle.std.specs.Prelude.{◌≡◌, ℕ, ◌+◌, Bool, true, cond, ◌&&◌, ◌||◌, ◌==◌, nat_lt, nat_le, IsTrue, List}
+use Rattle.std.specs.Prelude.{length, is_some}
+use Rattle.std.specs.List.{list_all}
 use Rattle.vr_model.specs.routes.Rules.{active_in, fits_group, has_required, has_enough}
 use Rattle.vr_model.specs.tables.WellFormed.{IsWellFormed}
 use Rattle.vr_model.specs.declared.records.Model.{Model}
-use Rattle.vr_model.specs.declared.records.Group.{Group}
+use Rattle.vr_lists.specs.Nodes.{group_at, number_of, AreNumbers}
 use Rattle.vr_routes.specs.Tours.{Tours}
 use Rattle.vr_routes.specs.Pieces.{ListAfter, nodes_of, changed}
 use Rattle.vr_routes.specs.declared.pieces.Piece.{Piece}
@@ -19,26 +18,6 @@ abbrev pub keeps_groups : Model → List (List ℕ) → Bool
 keeps_groups model lists = list_all (fits_group lists) model.groups
     && (has_required model lists
     && list_all (λ group. has_enough group.penalty group.max (active_in lists group)) model.groups)
-
--- the number of the group of a node, that of all groups where it is in none
-abbrev pub group_number : Model → ℕ → ℕ
-group_number model node = position_or_len (λ group. holds group.nodes node) model.groups
-
-abbrev pub no_group : Group
-no_group = record { nodes = []; penalty = None; max = 0 }
-
--- the group of a number
-abbrev pub group_at : Model → ℕ → Group
-group_at model g = slice_index_or model.groups g no_group
-
--- the number that is kept of a node
-abbrev pub number_of : List ℕ → ℕ → ℕ
-number_of numbers node = slice_index_or numbers node 0
-
--- each node has the number of its group
-pub record AreNumbers (model : Model) (numbers : List ℕ) : Type 0 where
-  pub long : length numbers ≡ model.nodes
-  pub each : (node : ℕ) → node < model.nodes → number_of numbers node ≡ group_number model node
 
 -- 1 for a node of group g, else 0
 abbrev pub one_of : List ℕ → ℕ → ℕ → ℕ

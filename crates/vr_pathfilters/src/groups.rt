@@ -3,7 +3,6 @@
 ghost use Rattle.std.specs.Prelude.{◌≡◌, ◌+◌, ◌*◌, ◌<◌, ◌≤◌, ◌&&◌, ℕ, Bool, true, false, List, All, length, sum_by};
 ghost use Rattle.std.specs.Prelude.{count_by, IsTrue, IsOk, IfOk, OnOk, OnErr};
 ghost use Rattle.std.specs.List.{list_all};
-ghost use Rattle.vr_model.specs.routes.Routes.{holds};
 ghost use Rattle.vr_model.specs.routes.Rules.{active_in as active_in_of};
 ghost use Rattle.vr_model.specs.tables.Tables.{visits};
 ghost use Rattle.vr_model.specs.tables.WellFormed.{IsWellFormed};
@@ -12,13 +11,15 @@ ghost use Rattle.vr_routes.specs.Pieces.{ListAfter, changed, nodes_of, IsWithin}
 ghost use Rattle.vr_routes.specs.Tours.{Tours};
 ghost use Rattle.vr_balance.specs.Balances.{IsBalance, AreWithin};
 ghost use Rattle.vr_filter.specs.Filters.{after, IsSameRule, IsSameWeight, NothingReady};
-ghost use Rattle.vr_pathfilters.specs.Groups.{keeps_groups, group_number, number_of, one_of, many_of, AreNumbers};
+ghost use Rattle.vr_lists.specs.Nodes.{number_of};
+ghost use Rattle.vr_pathfilters.specs.Groups.{keeps_groups, one_of, many_of};
 ghost use Rattle.vr_pathfilters.specs.Groups.{allows_number, allows_node, allows_pieces, KnowsGroups, IsGroupsReady};
 
 use std::alloc::Global;
 use std::sync::ledger::Ledger;
 use vr_balance::Balance;
 use vr_filter::PathFilter;
+use vr_lists::group_numbers;
 use vr_model::{Group, Model, NoMemory, Seq, Steps};
 use vr_routes::{Change, Piece, Routes};
 
@@ -32,38 +33,6 @@ pub struct GroupFilter<'m> {
     numbers: Seq<u32>,
     balance: Balance,
     is_prepared: bool,
-}
-
-// Whether the group has the node.
-fn has_node(group: &Group, node: u32) -> bool
-    ensures { result ≡ holds group.now.nodes node }
-{
-    group.nodes.as_slice().contains(&node)
-}
-
-// The number of the group of a node, that of all groups where it is in none.
-fn group_of(model: &Model, node: u32) -> u32
-    requires few { length model.now.groups ≤ 1000 }
-    ensures { result ≡ group_number model.now node }
-{
-    for g in 0..model.groups.len() {
-        if has_node(model.groups.get(g), node) {
-            return g as u32;
-        }
-    }
-    model.groups.len() as u32
-}
-
-// The numbers of the groups of all nodes.
-fn numbers_of(alloc: Global, model: &Model) -> Result<Seq<u32>, NoMemory>
-    requires few { length model.now.groups ≤ 1000 }
-    ensures { IfOk result (AreNumbers model.now) }
-{
-    let mut numbers = Seq::new(alloc);
-    for node in 0..model.nodes {
-        numbers.push(group_of(model, node))?;
-    }
-    Ok(numbers)
 }
 
 // The number of the group of a node.
@@ -248,7 +217,7 @@ impl<'m> GroupFilter<'m> {
     {
         routes.know_once();
         routes.know_entries();
-        let numbers = numbers_of(alloc, model)?;
+        let numbers = group_numbers(alloc, model)?;
         Ok(GroupFilter {
             model,
             numbers,
