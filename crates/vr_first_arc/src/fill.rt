@@ -1,11 +1,12 @@
 //! One list after another is filled with the items of the cheapest arcs.
 
 ghost use Rattle.std.specs.Prelude.{◌≡◌, ◌<◌, ◌++◌, All, false, cond, IfOk, IfSome, IsTrue, OnOk, option_map, length};
+ghost use Rattle.std.specs.List.{list_all};
 ghost use Rattle.vr_model.specs.first.Choosing.{better};
 ghost use Rattle.vr_model.specs.first.Items.{first_node, items};
 ghost use Rattle.vr_model.specs.first.PathCheapestArc.{appended, filled, next_appended};
 ghost use Rattle.vr_model.specs.tables.WellFormed.{IsWellFormed};
-ghost use Rattle.vr_rules.specs.Placing.{nodes_of, is_marked, AreBuilt, AreCandidates, AreMarks};
+ghost use Rattle.vr_rules.specs.Placing.{fits_by, nodes_of, is_marked, AreBuilt, AreCandidates, AreMarks};
 ghost use Rattle.vr_first_arc.specs.Choices.{all_filled, chosen_beside, key_of, may_append as may_append_of};
 ghost use Rattle.vr_first_arc.specs.Choices.{MayBeAppended};
 ghost use Rattle.vr_rules.specs.Fronts.{AreFrontsOf, IsDriven};
@@ -14,6 +15,7 @@ ghost use Rattle.vr_model.specs.routes.Rules.{is_route_open};
 
 use crate::append::{append, may_append};
 use crate::choice::{Choice, improves, item_of};
+use vr_lists::NodeTables;
 use vr_model::{Model, NoMemory, Seq};
 use vr_rules::{Candidate, Fronts, Item, Room, last_stop, mark_item};
 
@@ -22,6 +24,7 @@ fn consider(
     fronts: &Fronts,
     room: &mut Room,
     model: &Model,
+    lookups: &NodeTables<'_>,
     v: u32,
     list: &[u32],
     marks: &[bool],
@@ -29,10 +32,12 @@ fn consider(
     best: Option<Choice>,
 ) -> Result<Option<Choice>, NoMemory>
     requires well_formed { IsWellFormed model.now }
+    requires lookups { lookups.now ≡ model.now }
     requires vehicle { v < length model.now.vehicles }
     requires fronts { AreFrontsOf model.now v list.now fronts.now }
     requires stands { IsTrue (is_route_open model.now v list.now) }
     requires marks { length marks.now ≡ model.now.nodes }
+    requires fit { IsTrue (list_all (fits_by marks.now) model.now.groups) }
     requires longer { IsDriven model.now (list.now ++ nodes_of next.item) }
     ensures { IfOk result (λ chosen. chosen ≡ cond (may_append_of model.now v list.now marks.now next.item)
         (better key_of best next) best) }
@@ -40,7 +45,7 @@ fn consider(
     if !improves(best, next) {
         return Ok(best);
     }
-    if may_append(fronts, room, model, v, list, marks, next.item)? {
+    if may_append(fronts, room, model, lookups, v, list, marks, next.item)? {
         Ok(Some(next))
     } else {
         Ok(best)
@@ -52,6 +57,7 @@ fn consider_candidate(
     fronts: &Fronts,
     room: &mut Room,
     model: &Model,
+    lookups: &NodeTables<'_>,
     v: u32,
     list: &[u32],
     marks: &[bool],
@@ -59,10 +65,12 @@ fn consider_candidate(
     best: Option<Choice>,
 ) -> Result<Option<Choice>, NoMemory>
     requires well_formed { IsWellFormed model.now }
+    requires lookups { lookups.now ≡ model.now }
     requires vehicle { v < length model.now.vehicles }
     requires fronts { AreFrontsOf model.now v list.now fronts.now }
     requires stands { IsTrue (is_route_open model.now v list.now) }
     requires marks { length marks.now ≡ model.now.nodes }
+    requires fit { IsTrue (list_all (fits_by marks.now) model.now.groups) }
     requires nodes { All (λ node. node < model.now.nodes) list.now }
     requires first { first_node (nodes_of candidate.item) < model.now.nodes }
     requires longer { is_marked marks.now (first_node (nodes_of candidate.item)) ≡ false
@@ -78,7 +86,7 @@ fn consider_candidate(
         class: candidate.class,
         cost: model.arc_cost(v, last_stop(model, v, list), number),
     };
-    let chosen = consider(fronts, room, model, v, list, marks, next, best)?;
+    let chosen = consider(fronts, room, model, lookups, v, list, marks, next, best)?;
     Ok(chosen)
 }
 
@@ -87,12 +95,14 @@ fn next_item(
     fronts: &Fronts,
     room: &mut Room,
     model: &Model,
+    lookups: &NodeTables<'_>,
     v: u32,
     candidates: &[Candidate],
     marks: &[bool],
     lists: &[Seq<u32>],
 ) -> Result<Option<Item>, NoMemory>
     requires well_formed { IsWellFormed model.now }
+    requires lookups { lookups.now ≡ model.now }
     requires vehicle { v < length lists.now }
     requires candidates { AreCandidates model.now candidates.now }
     requires built { AreBuilt model.now lists.now }
@@ -104,7 +114,7 @@ fn next_item(
     let list = lists[v as usize].as_slice();
     let mut best: Option<Choice> = None;
     for &candidate in candidates {
-        best = consider_candidate(fronts, room, model, v, list, marks, candidate, best)?;
+        best = consider_candidate(fronts, room, model, lookups, v, list, marks, candidate, best)?;
     }
     Ok(item_of(best))
 }
@@ -145,12 +155,14 @@ fn fill(
     fronts: &mut Fronts,
     room: &mut Room,
     model: &Model,
+    lookups: &NodeTables<'_>,
     v: u32,
     candidates: &[Candidate],
     lists: &mut [Seq<u32>],
     marks: &mut [bool],
 ) -> Result<(), NoMemory>
     requires well_formed { IsWellFormed model.now }
+    requires lookups { lookups.now ≡ model.now }
     requires vehicle { v < length lists.now }
     requires fronts { AreFrontsOf model.now v (route lists.now v) fronts.old }
     requires candidates { AreCandidates model.now candidates.now }
@@ -161,7 +173,7 @@ fn fill(
     ensures marked { OnOk result (AreMarks model.now.nodes lists.new marks.new) }
 {
     for _step in 0..candidates.len() {
-        match next_item(fronts, room, model, v, candidates, marks, lists)? {
+        match next_item(fronts, room, model, lookups, v, candidates, marks, lists)? {
             Some(item) => {
                 place(fronts, room, model, v, lists, item)?;
                 mark_item(marks, item);
@@ -176,12 +188,14 @@ fn fill(
 fn fill_from_start(
     room: &mut Room,
     model: &Model,
+    lookups: &NodeTables<'_>,
     v: u32,
     candidates: &[Candidate],
     lists: &mut [Seq<u32>],
     marks: &mut [bool],
 ) -> Result<(), NoMemory>
     requires well_formed { IsWellFormed model.now }
+    requires lookups { lookups.now ≡ model.now }
     requires vehicle { v < length lists.now }
     requires candidates { AreCandidates model.now candidates.now }
     requires built { AreBuilt model.now lists.now }
@@ -191,7 +205,7 @@ fn fill_from_start(
     ensures marked { OnOk result (AreMarks model.now.nodes lists.new marks.new) }
 {
     let mut fronts = Fronts::open(room, model, v, lists[v as usize].as_slice())?;
-    fill(&mut fronts, room, model, v, candidates, lists, marks)?;
+    fill(&mut fronts, room, model, lookups, v, candidates, lists, marks)?;
     Ok(())
 }
 
@@ -201,11 +215,13 @@ fn fill_from_start(
 pub(crate) fn fill_all(
     room: &mut Room,
     model: &Model,
+    lookups: &NodeTables<'_>,
     candidates: &[Candidate],
     lists: &mut [Seq<u32>],
     marks: &mut [bool],
 ) -> Result<(), NoMemory>
     requires well_formed { IsWellFormed model.now }
+    requires lookups { lookups.now ≡ model.now }
     requires candidates { AreCandidates model.now candidates.now }
     requires built { AreBuilt model.now lists.now }
     requires marks { AreMarks model.now.nodes lists.now marks.now }
@@ -214,7 +230,7 @@ pub(crate) fn fill_all(
     ensures marked { OnOk result (AreMarks model.now.nodes lists.new marks.new) }
 {
     for v in 0..model.vehicles.len() {
-        fill_from_start(room, model, v as u32, candidates, lists, marks)?;
+        fill_from_start(room, model, lookups, v as u32, candidates, lists, marks)?;
     }
     Ok(())
 }

@@ -9,21 +9,34 @@ ghost use Rattle.vr_rules.specs.Placing.{lists_in, AreBuilt};
 
 use crate::fill::fill_all;
 use std::alloc::Global;
+use vr_lists::NodeTables;
 use vr_model::{Model, NoMemory, Seq};
 use vr_routes::Routes;
 use vr_rules::{Room, candidates, complete_routes, empty_lists};
 
 // The lists at which the construction ends.
-fn filled_lists(alloc: Global, model: &Model) -> Result<Vec<Seq<u32>>, NoMemory>
+fn filled_lists(
+    alloc: Global,
+    model: &Model,
+    lookups: &NodeTables<'_>,
+) -> Result<Vec<Seq<u32>>, NoMemory>
     requires well_formed { IsWellFormed model.now }
+    requires lookups { lookups.now ≡ model.now }
     ensures lists { IfOk result (λ lists. lists.items ≡ path_cheapest_arc model.now) }
     ensures built { IfOk result (λ lists. AreBuilt model.now lists.items) }
 {
-    let candidates = candidates(alloc, model)?;
+    let candidates = candidates(alloc, model, lookups)?;
     let mut lists = empty_lists(alloc, model)?;
     let mut marks = vec![in alloc; false; model.nodes as usize]?;
     let mut room = Room::new(alloc);
-    fill_all(&mut room, model, &candidates, &mut lists, &mut marks)?;
+    fill_all(
+        &mut room,
+        model,
+        lookups,
+        &candidates,
+        &mut lists,
+        &mut marks,
+    )?;
     Ok(lists)
 }
 
@@ -38,7 +51,8 @@ pub fn first(alloc: Global, model: &Model) -> Result<Option<Routes>, NoMemory>
         ≡ cond (is_valid model.now (path_cheapest_arc model.now)) (Some (path_cheapest_arc model.now)) None) }
     ensures visits { IfOk result (λ first. IfSome first (λ routes. routes.visits ≡ visits model.now)) }
 {
-    let lists = filled_lists(alloc, model)?;
-    let routes = complete_routes(alloc, model, &lists)?;
+    let lookups = NodeTables::open(alloc, model)?;
+    let lists = filled_lists(alloc, model, &lookups)?;
+    let routes = complete_routes(alloc, model, &lookups, &lists)?;
     Ok(routes)
 }

@@ -1,25 +1,28 @@
 -- What is known of items in lists.
 use Rattle.std.proofs.Common.{◌≡◌, ◌∙◌, ◌<◌, ℕ, zero, suc, List, [], true, false, Option, Some, None, ℤ, ◌≤ℤ◌, refl, ap, sym, subst, inl, inr, arith, length, length-set}
 use Rattle.std.specs.Prelude.{map, replicate, slice_index_or, slice_set}
+use Rattle.std.specs.List.{list_all}
 use Rattle.std.proofs.lemmas.Bool.Decides.{eqb_tells}
 use Rattle.std.proofs.lemmas.List.{get_or-set_same, get_or-set_other}
 use Rattle.vr_model.specs.tables.Numbers.{from_to}
 use Rattle.vr_model.specs.routes.Routes.{route}
 use Rattle.vr_model.specs.moves.Moves.{with_route, gaps}
-use Rattle.vr_model.specs.routes.Rules.{is_route_open}
+use Rattle.vr_model.specs.routes.Rules.{allows_vehicle, is_route_open}
 use Rattle.vr_model.specs.declared.records.Model.{Model}
 use Rattle.vr_model.proofs.routes.Lists.{route_set_other}
 use Rattle.vr_model.proofs.tables.Members.{from_each, from_map, of_below, of_from_to}
-use Rattle.vr_rules.specs.Placing.{improves}
+use Rattle.vr_rules.specs.Placing.{improves, nodes_of}
 use Rattle.vr_rules.specs.declared.items.Item.{Item}
 use Rattle.vr_rules.specs.declared.items.Item.TheVariants.{Visit, PickupAndDelivery}
 use Rattle.vr_rules.specs.declared.items.Candidate.{Candidate}
 use Rattle.vr_first_insert.specs.declared.choice.Choice.{Choice}
+use Rattle.vr_first_insert.specs.declared.choice.Placing.TheVariants.{One, Two}
 use Rattle.vr_first_insert.specs.declared.known.Known.{Known}
 use Rattle.vr_first_insert.specs.declared.known.Known.TheVariants.{Nothing, AtLeast, Best}
 use Rattle.vr_model.proofs.tables.Tests.{clash}
 use Rattle.vr_first_insert.specs.Kept.{best_of, is_settled, row_at, unread, AddsAtLeast, AreKnown, AreRows, IsKnown}
 use Rattle.vr_first_insert.specs.Placings.{best_in, choices_in, key_of, may_improve, pair_choice, placed, visit_choice}
+use Rattle.vr_first_insert.proofs.ReadyLemmas.{closed-by_vehicle, passed-closed}
 use Rattle.vr_first_insert.proofs.BoundLemmas.{none-improves, passed-over}
 use Rattle.vr_first_insert.proofs.LeastMerged.{merged_best, weighed-merged}
 
@@ -40,6 +43,22 @@ item-passed_over model v list candidate best least = by candidate.item
         from_map (pair_choice model v list candidate.class pickup delivery s) (from_to s (suc (length list))) choice inner (λ t t_in is.
         let l = of_below (suc (length list)) s s_in in let b = of_from_to s (suc (length list)) t t_in in let high = b.1 in
         not-better h choice (ap (λ c. c.class) is) (subst (λ x. least ≤ℤ x) (sym (ap (λ c. c.increase) is)) (adds s t (omega (arith, l)) (omega (arith, high)))))))
+
+-- an item of which the vehicle may not visit some node
+pub item-closed : (model : Model) (v : ℕ) (list : List ℕ) (candidate : Candidate) (best : Option Choice) → is_route_open model v list ≡ true
+    → list_all (allows_vehicle model v) (nodes_of candidate.item) ≡ false → best ≡ best_in model v list candidate best
+item-closed model v list candidate best stands = by candidate.item
+  where
+    by : (item : Item) → list_all (allows_vehicle model v) (nodes_of item) ≡ false → best ≡ best_in model v list (record { item = item; class = candidate.class }) best
+    by (Visit node) h = passed-closed model list best (choices_in model v list candidate.class (Visit node)) (λ choice there.
+        from_map (visit_choice model v list candidate.class node) (gaps list) choice there (λ t low is.
+        let l = of_below (suc (length list)) t low in
+        ap (λ c. is_route_open model c.vehicle (placed list c.placing)) is ∙ closed-by_vehicle model v list (One node t) (omega (arith, l)) stands h))
+    by (PickupAndDelivery pickup delivery) h = passed-closed model list best (choices_in model v list candidate.class (PickupAndDelivery pickup delivery)) (λ choice there.
+        from_each (λ s. map (pair_choice model v list candidate.class pickup delivery s) (from_to s (suc (length list)))) (gaps list) choice there (λ s s_in inner.
+        from_map (pair_choice model v list candidate.class pickup delivery s) (from_to s (suc (length list))) choice inner (λ t t_in is.
+        let b = of_from_to s (suc (length list)) t t_in in let from = b.0 in let high = b.1 in
+        ap (λ c. is_route_open model c.vehicle (placed list c.placing)) is ∙ closed-by_vehicle model v list (Two pickup delivery s t) (omega (arith, from), omega (arith, high)) stands h)))
 
 best_of-merged : (found best : Option Choice) → best_of (Best found) best ≡ merged_best key_of best found
 best_of-merged None best = refl

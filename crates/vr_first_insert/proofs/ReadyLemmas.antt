@@ -132,7 +132,7 @@ module _ (model : Model) (v : ℕ) (list : List ℕ) (placing : Placing) (within
 -- ---- choices that are passed over
 
 -- choices none of which is open
-passed-closed : (model : Model) (list : List ℕ) (best : Option Choice) (choices : List Choice) → ((choice : Choice) → In choices choice → is_route_open model choice.vehicle (placed list choice.placing) ≡ false) → best ≡ fold (weigh model list) best choices
+pub passed-closed : (model : Model) (list : List ℕ) (best : Option Choice) (choices : List Choice) → ((choice : Choice) → In choices choice → is_route_open model choice.vehicle (placed list choice.placing) ≡ false) → best ≡ fold (weigh model list) best choices
 passed-closed model list best [] h = refl
 passed-closed model list best (c ∷ cs) h =
     let here : best ≡ weigh model list best c = sym (ap (λ b. cond b (better key_of best c) best) (h c (inl refl))) in

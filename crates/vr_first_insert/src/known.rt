@@ -14,6 +14,7 @@ use crate::one_list::best_in_list;
 use crate::room::Room;
 use std::alloc::Global;
 use vr_inserting::Kept;
+use vr_lists::NodeTables;
 use vr_model::{Model, NoMemory, Seq};
 use vr_rules::{Candidate, Item};
 
@@ -75,6 +76,7 @@ fn least_in(model: &Model, v: u32, list: &[u32], item: Item) -> i64
 pub(crate) fn asked(
     room: &mut Room,
     model: &Model,
+    lookups: &NodeTables<'_>,
     keeps: &[Kept],
     v: u32,
     list: &[u32],
@@ -83,6 +85,7 @@ pub(crate) fn asked(
     best: Option<Choice>,
 ) -> Result<Known, NoMemory>
     requires well_formed { IsWellFormed model.now }
+    requires lookups { lookups.now ≡ model.now }
     requires ready { IsReady model.now v list.now keeps.now }
     requires vehicle { v < length model.now.vehicles }
     requires may_hold { MayHold model.now list.now candidate.item }
@@ -93,12 +96,12 @@ pub(crate) fn asked(
     match known {
         Known::Best(_) => Ok(known),
         Known::AtLeast(least) => {
-            let known = tried(room, model, keeps, v, list, candidate, least, best)?;
+            let known = tried(room, model, lookups, keeps, v, list, candidate, least, best)?;
             Ok(known)
         }
         Known::Nothing => {
             let least = least_in(model, v, list, candidate.item);
-            let known = tried(room, model, keeps, v, list, candidate, least, best)?;
+            let known = tried(room, model, lookups, keeps, v, list, candidate, least, best)?;
             Ok(known)
         }
     }
@@ -109,6 +112,7 @@ pub(crate) fn asked(
 fn tried(
     room: &mut Room,
     model: &Model,
+    lookups: &NodeTables<'_>,
     keeps: &[Kept],
     v: u32,
     list: &[u32],
@@ -117,6 +121,7 @@ fn tried(
     best: Option<Choice>,
 ) -> Result<Known, NoMemory>
     requires well_formed { IsWellFormed model.now }
+    requires lookups { lookups.now ≡ model.now }
     requires ready { IsReady model.now v list.now keeps.now }
     requires vehicle { v < length model.now.vehicles }
     requires may_hold { MayHold model.now list.now candidate.item }
@@ -127,7 +132,7 @@ fn tried(
     if !may_improve(best, candidate.class, least) {
         return Ok(Known::AtLeast(least));
     }
-    let found = best_in_list(room, model, keeps, v, list, candidate, None)?;
+    let found = best_in_list(room, model, lookups, keeps, v, list, candidate, None)?;
     Ok(Known::Best(found))
 }
 

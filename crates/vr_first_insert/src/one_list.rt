@@ -1,11 +1,14 @@
 //! The best places of an item in one list.
 
-ghost use Rattle.std.specs.Prelude.{◌≡◌, ℕ, suc, ◌+◌, ◌<◌, ◌≤◌, ◌^◌, fold, insert, map, IfOk, length};
+ghost use Rattle.std.specs.Prelude.{◌≡◌, ℕ, suc, ◌+◌, ◌<◌, ◌≤◌, ◌^◌, fold, insert, map, IfOk, IsTrue, length};
 ghost use Rattle.std.specs.Prelude.{neg_ℤ, pos, ◌≤ℤ◌};
+ghost use Rattle.std.specs.List.{list_all};
 ghost use Rattle.vr_model.specs.moves.Moves.{gaps};
+ghost use Rattle.vr_model.specs.routes.Rules.{allows_vehicle};
 ghost use Rattle.vr_model.specs.tables.Numbers.{each, from_to};
 ghost use Rattle.vr_model.specs.tables.WellFormed.{IsWellFormed};
 ghost use Rattle.vr_rules.specs.declared.items.Item.TheVariants.{Visit, PickupAndDelivery};
+ghost use Rattle.vr_rules.specs.Placing.{nodes_of};
 ghost use Rattle.vr_inserting.specs.Probes.{AreReachedAt};
 ghost use Rattle.vr_first_insert.specs.Placings.{best_in, pair_choice, visit_choice, weigh, IsLeast, MayHold};
 ghost use Rattle.vr_first_insert.specs.Ready.{IsReady};
@@ -18,8 +21,9 @@ use crate::room::Room;
 use crate::trying::{Trying, may_serve, may_visit};
 use std::alloc::Global;
 use vr_inserting::{Kept, Probes};
+use vr_lists::NodeTables;
 use vr_model::{Model, NoMemory};
-use vr_rules::{Candidate, Item};
+use vr_rules::{Candidate, Item, allows_item};
 
 // A visit before place `t`.
 fn visit_at(model: &Model, v: u32, list: &[u32], class: u32, node: u32, t: usize) -> Choice
@@ -53,6 +57,7 @@ fn weigh_visit(
     requires vehicle { v < length model.now.vehicles }
     requires ready { IsReady model.now v list.now keeps.now }
     requires may_hold { MayHold model.now list.now (Visit node) }
+    requires allowed { IsTrue (list_all (allows_vehicle model.now v) (nodes_of (Visit node))) }
     requires within { t ≤ length list.now }
     ensures { IfOk result (λ chosen. chosen
         ≡ weigh model.now list.now best (visit_choice model.now v list.now class node t)) }
@@ -83,6 +88,7 @@ fn best_visit(
     requires vehicle { v < length model.now.vehicles }
     requires ready { IsReady model.now v list.now keeps.now }
     requires may_hold { MayHold model.now list.now (Visit node) }
+    requires allowed { IsTrue (list_all (allows_vehicle model.now v) (nodes_of (Visit node))) }
     ensures { IfOk result (λ chosen. chosen ≡ fold (weigh model.now list.now) best
         (map (visit_choice model.now v list.now class node) (gaps list.now))) }
 {
@@ -149,6 +155,7 @@ fn weigh_pair(
     requires vehicle { v < length model.now.vehicles }
     requires ready { IsReady model.now v list.now keeps.now }
     requires may_hold { MayHold model.now list.now (PickupAndDelivery pickup delivery) }
+    requires allowed { IsTrue (list_all (allows_vehicle model.now v) (nodes_of (PickupAndDelivery pickup delivery))) }
     requires order { s ≤ t }
     requires within { t ≤ length list.now }
     requires here { AreReachedAt model.now v (insert list.now s pickup) (t + 1) probes.now }
@@ -188,6 +195,7 @@ fn best_further(
     requires vehicle { v < length model.now.vehicles }
     requires ready { IsReady model.now v list.now keeps.now }
     requires may_hold { MayHold model.now list.now (PickupAndDelivery pickup delivery) }
+    requires allowed { IsTrue (list_all (allows_vehicle model.now v) (nodes_of (PickupAndDelivery pickup delivery))) }
     requires within { s ≤ length list.now }
     requires half { half.now ≡ insert list.now s pickup }
     requires here { AreReachedAt model.now v half.now (s + 2) probes.old }
@@ -230,6 +238,7 @@ fn best_behind(
     requires vehicle { v < length model.now.vehicles }
     requires ready { IsReady model.now v list.now keeps.now }
     requires may_hold { MayHold model.now list.now (PickupAndDelivery pickup delivery) }
+    requires allowed { IsTrue (list_all (allows_vehicle model.now v) (nodes_of (PickupAndDelivery pickup delivery))) }
     requires within { s ≤ length list.now }
     requires half { half.now ≡ insert list.now s pickup }
     requires least { IsLeast model.now v list.now delivery least }
@@ -274,6 +283,7 @@ fn best_delivery(
     requires vehicle { v < length model.now.vehicles }
     requires ready { IsReady model.now v list.now keeps.now }
     requires may_hold { MayHold model.now list.now (PickupAndDelivery pickup delivery) }
+    requires allowed { IsTrue (list_all (allows_vehicle model.now v) (nodes_of (PickupAndDelivery pickup delivery))) }
     requires within { s ≤ length list.now }
     requires least { IsLeast model.now v list.now delivery least }
     requires low { neg_ℤ (pos (2 ^ 40)) ≤ℤ least }
@@ -324,6 +334,7 @@ fn best_pair(
     requires ready { IsReady model.now v list.now keeps.now }
     requires vehicle { v < length model.now.vehicles }
     requires may_hold { MayHold model.now list.now (PickupAndDelivery pickup delivery) }
+    requires allowed { IsTrue (list_all (allows_vehicle model.now v) (nodes_of (PickupAndDelivery pickup delivery))) }
     ensures { IfOk result (λ chosen. chosen ≡ fold (weigh model.now list.now) best
         (each (gaps list.now) (λ s. map (pair_choice model.now v list.now class pickup delivery s)
         (from_to s (suc (length list.now)))))) }
@@ -338,8 +349,8 @@ fn best_pair(
     Ok(best)
 }
 
-/// The best beside an item in the list of vehicle `v`.
-pub(crate) fn best_in_list(
+// The best beside an item in the list of vehicle `v`, which may visit its nodes.
+fn best_where_allowed(
     room: &mut Room,
     model: &Model,
     keeps: &[Kept],
@@ -352,6 +363,7 @@ pub(crate) fn best_in_list(
     requires ready { IsReady model.now v list.now keeps.now }
     requires vehicle { v < length model.now.vehicles }
     requires may_hold { MayHold model.now list.now candidate.item }
+    requires allowed { IsTrue (list_all (allows_vehicle model.now v) (nodes_of candidate.item)) }
     ensures { IfOk result (λ chosen. chosen ≡ best_in model.now v list.now candidate best) }
 {
     let class = candidate.class;
@@ -361,5 +373,30 @@ pub(crate) fn best_in_list(
             room, model, keeps, v, list, class, pickup, delivery, best,
         )?,
     };
+    Ok(best)
+}
+
+/// The best beside an item in the list of vehicle `v`. Whether it may visit the nodes of the item is asked once.
+pub(crate) fn best_in_list(
+    room: &mut Room,
+    model: &Model,
+    lookups: &NodeTables<'_>,
+    keeps: &[Kept],
+    v: u32,
+    list: &[u32],
+    candidate: Candidate,
+    best: Option<Choice>,
+) -> Result<Option<Choice>, NoMemory>
+    requires well_formed { IsWellFormed model.now }
+    requires lookups { lookups.now ≡ model.now }
+    requires ready { IsReady model.now v list.now keeps.now }
+    requires vehicle { v < length model.now.vehicles }
+    requires may_hold { MayHold model.now list.now candidate.item }
+    ensures { IfOk result (λ chosen. chosen ≡ best_in model.now v list.now candidate best) }
+{
+    if !allows_item(model, lookups, v, candidate.item) {
+        return Ok(best);
+    }
+    let best = best_where_allowed(room, model, keeps, v, list, candidate, best)?;
     Ok(best)
 }

@@ -1,12 +1,13 @@
 //! The insertion that is made next.
 
-ghost use Rattle.std.specs.Prelude.{◌≡◌, ℕ, ◌<◌, true, IfOk, IfSome, OnOk, length};
+ghost use Rattle.std.specs.Prelude.{◌≡◌, ℕ, ◌<◌, true, IfOk, IfSome, IsTrue, OnOk, length};
 ghost use Rattle.std.specs.Prelude.{option_map, slice_index_or};
+ghost use Rattle.std.specs.List.{list_all};
 ghost use Rattle.vr_model.specs.first.CheapestInsertion.{next_inserted, rebuilt};
 ghost use Rattle.vr_model.specs.first.Items.{first_node, items};
 ghost use Rattle.vr_model.specs.routes.Routes.{route};
 ghost use Rattle.vr_model.specs.tables.WellFormed.{IsWellFormed};
-ghost use Rattle.vr_rules.specs.Placing.{nodes_of, AreBuilt, AreCandidates, AreMarks};
+ghost use Rattle.vr_rules.specs.Placing.{fits_by, nodes_of, AreBuilt, AreCandidates, AreMarks};
 ghost use Rattle.vr_inserting.specs.Kept.{AreKept};
 ghost use Rattle.vr_first_insert.specs.Kept.{best_of, AreKnown, AreRows};
 ghost use Rattle.vr_first_insert.specs.declared.known.Known.TheVariants.{Nothing};
@@ -19,6 +20,7 @@ use crate::known::{Known, asked, better_of, forget, is_settled};
 use crate::place::place_in;
 use crate::room::Room;
 use vr_inserting::{Kept, learn};
+use vr_lists::NodeTables;
 use vr_model::{Model, NoMemory, Seq};
 use vr_rules::{Candidate, groups_have_room, mark_item};
 
@@ -27,6 +29,7 @@ use vr_rules::{Candidate, groups_have_room, mark_item};
 fn settle(
     room: &mut Room,
     model: &Model,
+    lookups: &NodeTables<'_>,
     keeps: &[Kept],
     lists: &[Seq<u32>],
     v: usize,
@@ -35,6 +38,7 @@ fn settle(
     best: Option<Choice>,
 ) -> Result<(), NoMemory>
     requires well_formed { IsWellFormed model.now }
+    requires lookups { lookups.now ≡ model.now }
     requires ready { AreReady model.now lists.now keeps.now }
     requires vehicles { length lists.now ≡ length model.now.vehicles }
     requires may_hold { (v : ℕ) → v < length lists.now → MayHold model.now (route lists.now v) candidate.item }
@@ -51,6 +55,7 @@ fn settle(
     let known = asked(
         room,
         model,
+        lookups,
         keeps,
         v as u32,
         list,
@@ -66,6 +71,7 @@ fn settle(
 fn best_in_lists(
     room: &mut Room,
     model: &Model,
+    lookups: &NodeTables<'_>,
     keeps: &[Kept],
     lists: &[Seq<u32>],
     candidate: Candidate,
@@ -73,6 +79,7 @@ fn best_in_lists(
     best: Option<Choice>,
 ) -> Result<Option<Choice>, NoMemory>
     requires well_formed { IsWellFormed model.now }
+    requires lookups { lookups.now ≡ model.now }
     requires ready { AreReady model.now lists.now keeps.now }
     requires vehicles { length lists.now ≡ length model.now.vehicles }
     requires may_hold { (v : ℕ) → v < length lists.now → MayHold model.now (route lists.now v) candidate.item }
@@ -83,23 +90,30 @@ fn best_in_lists(
 {
     let mut best = best;
     for v in 0..lists.len() {
-        settle(room, model, keeps, lists, v, candidate, row, best)?;
+        settle(room, model, lookups, keeps, lists, v, candidate, row, best)?;
         best = better_of(best, row.get(v));
     }
     Ok(best)
 }
 
 // Whether an item may count: its first node is not marked, and the groups have room for it.
-fn counts(model: &Model, marks: &[bool], candidate: Candidate) -> bool
+fn counts(
+    model: &Model,
+    lookups: &NodeTables<'_>,
+    marks: &[bool],
+    candidate: Candidate,
+) -> bool
     requires well_formed { IsWellFormed model.now }
+    requires lookups { lookups.now ≡ model.now }
     requires marks { length marks.now ≡ model.now.nodes }
+    requires fit { IsTrue (list_all (fits_by marks.now) model.now.groups) }
     requires first { first_node (nodes_of candidate.item) < model.now.nodes }
     ensures { result ≡ counts_of model.now marks.now candidate }
 {
     if marks[candidate.item.number() as usize] {
         false
     } else {
-        groups_have_room(model, marks, candidate.item)
+        groups_have_room(model, lookups, marks, candidate.item)
     }
 }
 
@@ -107,6 +121,7 @@ fn counts(model: &Model, marks: &[bool], candidate: Candidate) -> bool
 fn beside(
     room: &mut Room,
     model: &Model,
+    lookups: &NodeTables<'_>,
     keeps: &[Kept],
     lists: &[Seq<u32>],
     marks: &[bool],
@@ -115,9 +130,11 @@ fn beside(
     best: Option<Choice>,
 ) -> Result<Option<Choice>, NoMemory>
     requires well_formed { IsWellFormed model.now }
+    requires lookups { lookups.now ≡ model.now }
     requires ready { AreReady model.now lists.now keeps.now }
     requires vehicles { length lists.now ≡ length model.now.vehicles }
     requires marks { length marks.now ≡ model.now.nodes }
+    requires fit { IsTrue (list_all (fits_by marks.now) model.now.groups) }
     requires first { first_node (nodes_of candidate.item) < model.now.nodes }
     requires may_hold { counts_of model.now marks.now candidate ≡ true → (v : ℕ) → v < length lists.now
         → MayHold model.now (route lists.now v) candidate.item }
@@ -125,10 +142,10 @@ fn beside(
     ensures best { IfOk result (λ chosen. chosen ≡ best_beside model.now lists.now marks.now candidate best) }
     ensures row { OnOk result (AreKnown model.now lists.now candidate row.new) }
 {
-    if !counts(model, marks, candidate) {
+    if !counts(model, lookups, marks, candidate) {
         return Ok(best);
     }
-    let best = best_in_lists(room, model, keeps, lists, candidate, row, best)?;
+    let best = best_in_lists(room, model, lookups, keeps, lists, candidate, row, best)?;
     Ok(best)
 }
 
@@ -136,6 +153,7 @@ fn beside(
 fn next_insertion(
     room: &mut Room,
     model: &Model,
+    lookups: &NodeTables<'_>,
     keeps: &[Kept],
     candidates: &[Candidate],
     marks: &[bool],
@@ -143,6 +161,7 @@ fn next_insertion(
     rows: &mut [Seq<Known>],
 ) -> Result<Option<Choice>, NoMemory>
     requires well_formed { IsWellFormed model.now }
+    requires lookups { lookups.now ≡ model.now }
     requires kept { AreKept model.now lists.now keeps.now }
     requires candidates { AreCandidates model.now candidates.now }
     requires built { AreBuilt model.now lists.now }
@@ -158,6 +177,7 @@ fn next_insertion(
         best = beside(
             room,
             model,
+            lookups,
             keeps,
             lists,
             marks,
@@ -176,6 +196,7 @@ fn next_insertion(
 pub(crate) fn insert_all(
     room: &mut Room,
     model: &Model,
+    lookups: &NodeTables<'_>,
     keeps: &mut [Kept],
     candidates: &[Candidate],
     lists: &mut [Seq<u32>],
@@ -183,6 +204,7 @@ pub(crate) fn insert_all(
     rows: &mut [Seq<Known>],
 ) -> Result<(), NoMemory>
     requires well_formed { IsWellFormed model.now }
+    requires lookups { lookups.now ≡ model.now }
     requires kept { AreKept model.now lists.now keeps.old }
     requires candidates { AreCandidates model.now candidates.now }
     requires built { AreBuilt model.now lists.now }
@@ -193,7 +215,7 @@ pub(crate) fn insert_all(
     ensures marked { OnOk result (AreMarks model.now.nodes lists.new marks.new) }
 {
     for _step in 0..candidates.len() {
-        match next_insertion(room, model, keeps, candidates, marks, lists, rows)? {
+        match next_insertion(room, model, lookups, keeps, candidates, marks, lists, rows)? {
             Some(choice) => {
                 let v = choice.vehicle;
                 place_in(room.alloc, lists, v, choice.placing)?;

@@ -14,6 +14,7 @@ use crate::room::Room;
 use crate::search::insert_all;
 use std::alloc::Global;
 use vr_inserting::keep_each;
+use vr_lists::NodeTables;
 use vr_model::{Model, NoMemory, Seq};
 use vr_routes::Routes;
 use vr_rules::{active_marks, candidates, is_complete};
@@ -30,15 +31,21 @@ fn copies(alloc: Global, routes: &Routes) -> Result<Vec<Seq<u32>>, NoMemory>
 }
 
 // The lists at which insertion ends.
-fn rebuilt_lists(alloc: Global, model: &Model, routes: &Routes) -> Result<Vec<Seq<u32>>, NoMemory>
+fn rebuilt_lists(
+    alloc: Global,
+    model: &Model,
+    lookups: &NodeTables<'_>,
+    routes: &Routes,
+) -> Result<Vec<Seq<u32>>, NoMemory>
     requires well_formed { IsWellFormed model.now }
+    requires lookups { lookups.now ≡ model.now }
     requires lists { IsTrue (are_lists model.now routes.now.lists) }
     requires open_lists { IsTrue (is_open model.now routes.now.lists) }
     ensures rebuilt { IfOk result (λ lists. lists.items
         ≡ rebuilt model.now (length (items model.now)) routes.now.lists) }
     ensures built { IfOk result (λ lists. AreBuilt model.now lists.items) }
 {
-    let candidates = candidates(alloc, model)?;
+    let candidates = candidates(alloc, model, lookups)?;
     let mut marks = active_marks(alloc, model, routes)?;
     let mut built = copies(alloc, routes)?;
     let mut rows = rows_of(alloc, candidates.len(), model.vehicles.len())?;
@@ -47,6 +54,7 @@ fn rebuilt_lists(alloc: Global, model: &Model, routes: &Routes) -> Result<Vec<Se
     insert_all(
         &mut room,
         model,
+        lookups,
         &mut keeps,
         &candidates,
         &mut built,
@@ -54,6 +62,28 @@ fn rebuilt_lists(alloc: Global, model: &Model, routes: &Routes) -> Result<Vec<Se
         &mut rows,
     )?;
     Ok(built)
+}
+
+// The same as routes.
+fn rebuilt_routes(
+    alloc: Global,
+    model: &Model,
+    lookups: &NodeTables<'_>,
+    routes: &Routes,
+) -> Result<Routes, NoMemory>
+    requires well_formed { IsWellFormed model.now }
+    requires lookups { lookups.now ≡ model.now }
+    requires lists { IsTrue (are_lists model.now routes.now.lists) }
+    requires open_lists { IsTrue (is_open model.now routes.now.lists) }
+    ensures lists { IfOk result (λ after. after.lists ≡ rebuilt model.now (length (items model.now)) routes.now.lists) }
+    ensures visits { IfOk result (λ after. after.visits ≡ visits model.now) }
+    ensures built { IfOk result (λ after. AreBuilt model.now after.lists) }
+{
+    let lists = rebuilt_lists(alloc, model, lookups, routes)?;
+    match Routes::from_lists(alloc, model, &lists)? {
+        Some(after) => Ok(after),
+        None => unreachable!(),
+    }
 }
 
 /// The routes at which parallel cheapest insertion ends when it begins with these open routes: as long as an item may
@@ -69,11 +99,9 @@ pub fn rebuild(alloc: Global, model: &Model, routes: &Routes) -> Result<Routes, 
     ensures visits { IfOk result (λ after. after.visits ≡ visits model.now) }
     ensures built { IfOk result (λ after. AreBuilt model.now after.lists) }
 {
-    let lists = rebuilt_lists(alloc, model, routes)?;
-    match Routes::from_lists(alloc, model, &lists)? {
-        Some(after) => Ok(after),
-        None => unreachable!(),
-    }
+    let lookups = NodeTables::open(alloc, model)?;
+    let after = rebuilt_routes(alloc, model, &lookups, routes)?;
+    Ok(after)
 }
 
 /// The first solution of a model by parallel cheapest insertion (`PARALLEL_CHEAPEST_INSERTION` in OR-Tools): empty
@@ -87,10 +115,11 @@ pub fn first(alloc: Global, model: &Model) -> Result<Option<Routes>, NoMemory>
         (Some (parallel_cheapest_insertion model.now)) None) }
     ensures visits { IfOk result (λ first. IfSome first (λ routes. routes.visits ≡ visits model.now)) }
 {
+    let lookups = NodeTables::open(alloc, model)?;
     let empty = Routes::empty(alloc, model)?;
-    let routes = rebuild(alloc, model, &empty)?;
+    let routes = rebuilt_routes(alloc, model, &lookups, &empty)?;
     let marks = active_marks(alloc, model, &routes)?;
-    if is_complete(model, &marks) {
+    if is_complete(model, &lookups, &marks) {
         Ok(Some(routes))
     } else {
         Ok(None)

@@ -1,9 +1,11 @@
 //! Whether a list stays open with an item put in.
 
 ghost use Rattle.std.specs.Prelude.{◌≡◌, ◌+◌, ◌<◌, ◌≤◌, IfOk, IsTrue, insert, length};
-ghost use Rattle.vr_model.specs.routes.Rules.{is_route_open};
+ghost use Rattle.std.specs.List.{list_all};
+ghost use Rattle.vr_model.specs.routes.Rules.{allows_vehicle, is_route_open};
 ghost use Rattle.vr_model.specs.tables.WellFormed.{IsWellFormed};
 ghost use Rattle.vr_rules.specs.declared.items.Item.TheVariants.{Visit, PickupAndDelivery};
+ghost use Rattle.vr_rules.specs.Placing.{nodes_of};
 ghost use Rattle.vr_inserting.specs.Probes.{AreReachedAt};
 ghost use Rattle.vr_first_insert.specs.Placings.{placed, MayHold};
 ghost use Rattle.vr_first_insert.specs.Ready.{IsReady};
@@ -16,7 +18,6 @@ use vr_inserting::{Kept, Probes, is_feasible_between};
 use vr_lists::{PairPlaces, keeps_pairs};
 use vr_model::{Model, NoMemory, Seq};
 use vr_reach::Walk;
-use vr_rules::{Item, allows_item};
 
 /// What is written over for each place that is tried.
 #[derive(Drop)]
@@ -38,7 +39,8 @@ impl Trying {
     }
 }
 
-/// Whether vehicle `v` may drive its list with a visit before place `t`, found by walks over the two arcs that are new.
+/// Whether vehicle `v` may drive its list with a visit, which it may visit, before place `t`, found by walks over the
+/// two arcs that are new.
 pub(crate) fn may_visit(
     trying: &mut Trying,
     model: &Model,
@@ -52,12 +54,10 @@ pub(crate) fn may_visit(
     requires vehicle { v < length model.now.vehicles }
     requires ready { IsReady model.now v list.now keeps.now }
     requires may_hold { MayHold model.now list.now (Visit node) }
+    requires allowed { IsTrue (list_all (allows_vehicle model.now v) (nodes_of (Visit node))) }
     requires within { t ≤ length list.now }
     ensures { IfOk result (λ may. may ≡ is_route_open model.now v (placed list.now (One node t))) }
 {
-    if !allows_item(model, v, Item::Visit(node)) {
-        return Ok(false);
-    }
     write_placed(list, Placing::One(node, t as u32), &mut trying.longer)?;
     let longer = trying.longer.as_slice();
     let back = list.len() - t;
@@ -67,8 +67,8 @@ pub(crate) fn may_visit(
     Ok(keeps_pairs(model, v, longer, &mut trying.pairs))
 }
 
-/// Whether vehicle `v` may drive its list with a pickup before place `s` and its delivery before place `t`, where what
-/// the list with the pickup reaches at the node before the delivery is known.
+/// Whether vehicle `v` may drive its list with a pickup before place `s` and its delivery before place `t`, both of
+/// which it may visit, where what the list with the pickup reaches at the node before the delivery is known.
 pub(crate) fn may_serve(
     trying: &mut Trying,
     probes: &Probes,
@@ -85,14 +85,12 @@ pub(crate) fn may_serve(
     requires vehicle { v < length model.now.vehicles }
     requires ready { IsReady model.now v list.now keeps.now }
     requires may_hold { MayHold model.now list.now (PickupAndDelivery pickup delivery) }
+    requires allowed { IsTrue (list_all (allows_vehicle model.now v) (nodes_of (PickupAndDelivery pickup delivery))) }
     requires order { s ≤ t }
     requires within { t ≤ length list.now }
     requires here { AreReachedAt model.now v (insert list.now s pickup) (t + 1) probes.now }
     ensures { IfOk result (λ may. may ≡ is_route_open model.now v (placed list.now (Two pickup delivery s t))) }
 {
-    if !allows_item(model, v, Item::PickupAndDelivery(pickup, delivery)) {
-        return Ok(false);
-    }
     let placing = Placing::Two(pickup, delivery, s as u32, t as u32);
     write_placed(list, placing, &mut trying.longer)?;
     let longer = trying.longer.as_slice();

@@ -15,6 +15,7 @@ ghost use Rattle.vr_first_savings.specs.RouteEnds.{ends_of, AreEnds};
 use crate::choice::{Choice, improves};
 use crate::ends::{Ends, ends_of_each};
 use std::alloc::Global;
+use vr_lists::NodeTables;
 use vr_model::{Model, NoMemory, Seq};
 use vr_rules::{Driving, is_route_open};
 use vr_timings::Table;
@@ -74,6 +75,7 @@ fn consider(
     alloc: Global,
     model: &Model,
     tables: &[Table],
+    lookups: &NodeTables<'_>,
     routes: &[Seq<u32>],
     next: Choice,
     best: Option<Choice>,
@@ -81,6 +83,7 @@ fn consider(
 ) -> Result<Option<Choice>, NoMemory>
     requires well_formed { IsWellFormed model.now }
     requires tables { AreTables model.now tables.now }
+    requires lookups { lookups.now ≡ model.now }
     requires apart { AreApart model.now routes.now }
     requires front { next.front < length routes.now }
     requires back { next.back < length routes.now }
@@ -93,7 +96,7 @@ fn consider(
         return Ok(best);
     }
     let longer = joined(alloc, routes, next)?;
-    if is_route_open(model, tables, 0, &longer, driving)? {
+    if is_route_open(model, tables, lookups, 0, &longer, driving)? {
         Ok(Some(next))
     } else {
         Ok(best)
@@ -105,6 +108,7 @@ fn best_behind(
     alloc: Global,
     model: &Model,
     tables: &[Table],
+    lookups: &NodeTables<'_>,
     routes: &[Seq<u32>],
     ends: &[Ends],
     i: usize,
@@ -113,6 +117,7 @@ fn best_behind(
 ) -> Result<Option<Choice>, NoMemory>
     requires well_formed { IsWellFormed model.now }
     requires tables { AreTables model.now tables.now }
+    requires lookups { lookups.now ≡ model.now }
     requires apart { AreApart model.now routes.now }
     requires ends { ends.now ≡ map (ends_of model.now) routes.now }
     requires front { i < length routes.now }
@@ -121,7 +126,7 @@ fn best_behind(
     let mut best = best;
     for j in 0..routes.len() {
         let next = choice_at(model, routes, ends, i, j);
-        best = consider(alloc, model, tables, routes, next, best, driving)?;
+        best = consider(alloc, model, tables, lookups, routes, next, best, driving)?;
     }
     Ok(best)
 }
@@ -131,11 +136,13 @@ pub(crate) fn best_join(
     alloc: Global,
     model: &Model,
     tables: &[Table],
+    lookups: &NodeTables<'_>,
     routes: &[Seq<u32>],
     driving: &mut Driving,
 ) -> Result<Option<Choice>, NoMemory>
     requires well_formed { IsWellFormed model.now }
     requires tables { AreTables model.now tables.now }
+    requires lookups { lookups.now ≡ model.now }
     requires apart { AreApart model.now routes.now }
     ensures best { IfOk result (λ best. option_map (join_of routes.now) best
         ≡ least_by (join_key model.now) (joins model.now routes.now)) }
@@ -144,7 +151,7 @@ pub(crate) fn best_join(
     let ends = ends_of_each(alloc, model, routes)?;
     let mut best: Option<Choice> = None;
     for i in 0..routes.len() {
-        best = best_behind(alloc, model, tables, routes, &ends, i, best, driving)?;
+        best = best_behind(alloc, model, tables, lookups, routes, &ends, i, best, driving)?;
     }
     Ok(best)
 }

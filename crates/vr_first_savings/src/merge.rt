@@ -12,6 +12,7 @@ ghost use Rattle.vr_first_savings.specs.Joins.{join_of, AreApart};
 use crate::choice::Choice;
 use crate::joins::{best_join, joined};
 use std::alloc::Global;
+use vr_lists::NodeTables;
 use vr_model::{Model, NoMemory, Seq};
 use vr_rules::Driving;
 use vr_timings::Table;
@@ -74,18 +75,20 @@ pub(crate) fn merged(
     alloc: Global,
     model: &Model,
     tables: &[Table],
+    lookups: &NodeTables<'_>,
     routes: Vec<Seq<u32>>,
     driving: &mut Driving,
 ) -> Result<Vec<Seq<u32>>, NoMemory>
     requires well_formed { IsWellFormed model.now }
     requires tables { AreTables model.now tables.now }
+    requires lookups { lookups.now ≡ model.now }
     requires apart { AreApart model.now routes.items }
     ensures merged { IfOk result (λ after. after.items ≡ merged_of model.now (length routes.items) routes.items) }
     ensures apart { IfOk result (λ after. AreApart model.now after.items) }
 {
     let mut routes = routes;
     for _step in 0..routes.len() {
-        match best_join(alloc, model, tables, &routes, driving)? {
+        match best_join(alloc, model, tables, lookups, &routes, driving)? {
             Some(choice) => {
                 if !is_wanted(model, routes.len(), choice) {
                     return Ok(routes);

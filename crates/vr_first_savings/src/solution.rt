@@ -12,6 +12,7 @@ use crate::merge::merged;
 use crate::ranks::{lists_of, ranked};
 use crate::singles::single_routes;
 use std::alloc::Global;
+use vr_lists::NodeTables;
 use vr_model::{Model, NoMemory, Seq};
 use vr_routes::Routes;
 use vr_rules::{Driving, valid};
@@ -24,10 +25,11 @@ fn lists_by_savings(alloc: Global, model: &Model) -> Result<Vec<Seq<u32>>, NoMem
     ensures lists { IfOk result (λ lists. IsTrue (are_lists model.now lists.items)) }
 {
     let tables = tables_of(alloc, model)?;
+    let lookups = NodeTables::open(alloc, model)?;
     let mut driving = Driving::new(alloc);
-    let singles = single_routes(alloc, model, &tables, &mut driving)?;
-    let routes = merged(alloc, model, &tables, singles, &mut driving)?;
-    let lists = lists_of(alloc, model, ranked(alloc, model, &routes)?)?;
+    let singles = single_routes(alloc, model, &tables, &lookups, &mut driving)?;
+    let routes = merged(alloc, model, &tables, &lookups, singles, &mut driving)?;
+    let lists = lists_of(alloc, model, ranked(alloc, model, &lookups, &routes)?)?;
     Ok(lists)
 }
 

@@ -11,6 +11,7 @@ use Rattle.vr_model.specs.first.Items.{class, items}
 use Rattle.vr_model.specs.declared.records.Model.{Model}
 use Rattle.vr_model.specs.declared.records.Group.{Group}
 use Rattle.vr_model.specs.declared.records.Pair.{Pair}
+use Rattle.vr_lists.specs.Nodes.{group_at, group_number}
 use Rattle.vr_routes.specs.Tours.{Tours}
 use Rattle.vr_rules.specs.declared.items.Item.{Item}
 use Rattle.vr_rules.specs.declared.items.Item.TheVariants.{Visit, PickupAndDelivery}
@@ -69,6 +70,11 @@ is_taken marks item node = holds (nodes_of item) node || is_marked marks node
 -- the group has room for the item beside the marked nodes
 abbrev pub has_room : List Bool → Item → Group → Bool
 has_room marks item group = nat_le (count_by (is_taken marks item) group.nodes) group.max
+
+-- the group of a node, where it is in one, has
+abbrev pub has_room_at : Model → List Bool → Item → ℕ → Bool
+has_room_at model marks item node = nat_le (length model.groups) (group_number model node)
+    || has_room marks item (group_at model (group_number model node))
 
 -- no group gets more active nodes than it may have from nodes beside lists
 abbrev pub fits_beside : Model → List (List ℕ) → List ℕ → Bool

@@ -10,24 +10,27 @@ ghost use Rattle.vr_rules.specs.Placing.{is_complete as is_complete_of, is_fille
 use crate::items::is_grouped;
 use crate::marks::active_marks;
 use std::alloc::Global;
+use vr_lists::NodeTables;
 use vr_model::{Group, Model, NoMemory, Seq};
 use vr_routes::Routes;
 
 // Whether a node is no visit, or marked, or in a group.
-fn may_stay_so(model: &Model, marks: &[bool], node: u32) -> bool
-    requires { node < length marks.now }
+fn may_stay_so(model: &Model, lookups: &NodeTables<'_>, marks: &[bool], node: u32) -> bool
+    requires lookups { lookups.now ≡ model.now }
+    requires node { node < length marks.now }
     ensures { result ≡ (not (is_visit model.now node) || (is_grouped_of model.now node || is_marked marks.now node)) }
 {
-    marks[node as usize] || is_grouped(model, node) || !model.is_visit(node)
+    marks[node as usize] || is_grouped(model, lookups, node) || !model.is_visit(node)
 }
 
 // Whether each visit in no group is marked.
-fn has_required(model: &Model, marks: &[bool]) -> bool
-    requires { length marks.now ≡ model.now.nodes }
+fn has_required(model: &Model, lookups: &NodeTables<'_>, marks: &[bool]) -> bool
+    requires lookups { lookups.now ≡ model.now }
+    requires marks { length marks.now ≡ model.now.nodes }
     ensures { result ≡ list_all (λ node. is_grouped_of model.now node || is_marked marks.now node) (visits model.now) }
 {
     for node in 0..model.nodes {
-        if !may_stay_so(model, marks, node) {
+        if !may_stay_so(model, lookups, marks, node) {
             return false;
         }
     }
@@ -75,12 +78,13 @@ fn are_filled(model: &Model, marks: &[bool]) -> bool
 
 /// Whether each visit in no group is marked as active, and each group without a penalty has as many active nodes as it
 /// may have: open lists are valid exactly where this holds. Takes no memory.
-pub fn is_complete(model: &Model, marks: &[bool]) -> bool
+pub fn is_complete(model: &Model, lookups: &NodeTables<'_>, marks: &[bool]) -> bool
     requires well_formed { IsWellFormed model.now }
+    requires lookups { lookups.now ≡ model.now }
     requires marks { length marks.now ≡ model.now.nodes }
     ensures { result ≡ is_complete_of model.now marks.now }
 {
-    has_required(model, marks) && are_filled(model, marks)
+    has_required(model, lookups, marks) && are_filled(model, marks)
 }
 
 /// Routes with these open lists of the model; `None` exactly where they are not valid, since something is missing in
@@ -88,9 +92,11 @@ pub fn is_complete(model: &Model, marks: &[bool]) -> bool
 pub fn complete_routes(
     alloc: Global,
     model: &Model,
+    lookups: &NodeTables<'_>,
     lists: &[Seq<u32>],
 ) -> Result<Option<Routes>, NoMemory>
     requires well_formed { IsWellFormed model.now }
+    requires lookups { lookups.now ≡ model.now }
     requires built { AreBuilt model.now lists.now }
     ensures lists { IfOk result (λ answer.
         lists_in answer ≡ cond (is_valid model.now lists.now) (Some lists.now) None) }
@@ -100,7 +106,7 @@ pub fn complete_routes(
         return Ok(None);
     };
     let marks = active_marks(alloc, model, &routes)?;
-    if is_complete(model, &marks) {
+    if is_complete(model, lookups, &marks) {
         Ok(Some(routes))
     } else {
         Ok(None)

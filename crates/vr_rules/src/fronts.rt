@@ -1,7 +1,7 @@
 //! What a vehicle reaches at the end of a list that grows: whether an item may stand there, without going along the
 //! list anew.
 
-ghost use Rattle.std.specs.Prelude.{◌≡◌, ◌<◌, ◌&&◌, ◌++◌, [], ◌∷◌, IfOk, IsTrue, OnOk, length};
+ghost use Rattle.std.specs.Prelude.{◌≡◌, ◌<◌, ◌++◌, [], ◌∷◌, IfOk, IsTrue, OnOk, length};
 ghost use Rattle.std.specs.List.{list_all};
 ghost use Rattle.vr_model.specs.tables.Tables.{is_visit as is_visit_of};
 ghost use Rattle.vr_model.specs.tables.WellFormed.{IsWellFormed};
@@ -10,17 +10,18 @@ ghost use Rattle.vr_model.specs.schedules.Choices.{is_feasible};
 ghost use Rattle.vr_steps.specs.Levels.{AreLevels};
 ghost use Rattle.vr_rules.specs.Fronts.{tail as tail_of, AreFronts, AreReachedBehind, AreVisitSets, IsDriven, IsFront};
 ghost use Rattle.vr_rules.specs.Fronts.{AreFrontsOf, IsFrontOf, IsStopSet};
-ghost use Rattle.vr_model.specs.routes.Rules.{allows_vehicle as allows_vehicle_of, is_route_open};
+ghost use Rattle.vr_model.specs.routes.Rules.{is_route_open};
 ghost use Rattle.vr_lists.specs.Pairs.{keeps_pairs};
 ghost use Rattle.vr_rules.specs.Placing.{nodes_of};
 ghost use Rattle.vr_rules.specs.RoutesOpen.{is_feasible_in_each};
 ghost use Rattle.vr_steps.specs.declared.stops.StopName.TheVariants.{Visit};
 
+use crate::allowed::allows_item;
 use crate::items::Item;
 use std::alloc::Global;
 use std::marker::Brand;
 use std::sync::ledger::{Blank, Ledger};
-use vr_lists::{PairPlaces, keeps_pairs};
+use vr_lists::{NodeTables, PairPlaces, keeps_pairs};
 use vr_model::{Model, NoMemory, Steps};
 use vr_reach::Walk;
 use vr_spans::Spans;
@@ -344,18 +345,6 @@ fn go_along(
     Ok(())
 }
 
-/// Whether vehicle `v` may visit each node of an item (`SetAllowedVehiclesForIndex` in OR-Tools). It takes no memory.
-pub fn allows_item(model: &Model, v: u32, item: Item) -> bool
-    ensures { result ≡ list_all (allows_vehicle_of model.now v) (nodes_of item) }
-{
-    match item {
-        Item::Visit(node) => model.allows_vehicle(v, node),
-        Item::PickupAndDelivery(pickup, delivery) => {
-            model.allows_vehicle(v, pickup) && model.allows_vehicle(v, delivery)
-        }
-    }
-}
-
 // A list with an item at its end.
 fn longer(alloc: Global, list: &[u32], item: Item) -> Result<Vec<u32>, NoMemory>
     ensures { IfOk result (λ longer. longer.items ≡ list.now ++ nodes_of item) }
@@ -437,18 +426,20 @@ impl Fronts {
         &self,
         room: &mut Room,
         model: &Model,
+        lookups: &NodeTables<'_>,
         v: u32,
         list: &[u32],
         item: Item,
     ) -> Result<bool, NoMemory>
         requires well_formed { IsWellFormed model.now }
+        requires lookups { lookups.now ≡ model.now }
         requires vehicle { v < length model.now.vehicles }
         requires fronts { AreFrontsOf model.now v list.now self.now }
         requires stands { IsTrue (is_route_open model.now v list.now) }
         requires driven { IsDriven model.now (list.now ++ nodes_of item) }
         ensures { IfOk result (λ may. may ≡ is_route_open model.now v (list.now ++ nodes_of item)) }
     {
-        if !allows_item(model, v, item) {
+        if !allows_item(model, lookups, v, item) {
             return Ok(false);
         }
         if !is_feasible_with(&self.each, &mut room.walk, model, v, list, item)? {

@@ -1,16 +1,17 @@
 //! Items, which the constructions of first solutions place: a visit in no pair, or a pair.
 
-ghost use Rattle.std.specs.Prelude.{◌≡◌, ◌||◌, ◌==◌, [], find, option_map, if◌then◌else◌, IfOk, IfSome};
+ghost use Rattle.std.specs.Prelude.{◌≡◌, [], not, if◌then◌else◌, IfOk, IfSome};
 ghost use Rattle.vr_model.specs.tables.Tables.{is_visit};
 ghost use Rattle.vr_model.specs.routes.Routes.{holds};
 ghost use Rattle.vr_model.specs.routes.Rules.{is_grouped as is_grouped_of};
 ghost use Rattle.vr_model.specs.first.Items.{class, empty_lists as empty_lists_of, first_node, last_node};
-ghost use Rattle.vr_model.specs.first.Items.{items_at, must_fill as must_fill_of, node_class as node_class_of};
+ghost use Rattle.vr_model.specs.first.Items.{has_penalty, items_at, node_class as node_class_of};
 ghost use Rattle.vr_model.specs.first.Items.{pair_of as pair_of_node};
 ghost use Rattle.vr_model.specs.tables.WellFormed.{IsWellFormed};
 ghost use Rattle.vr_rules.specs.Placing.{listed, nodes_of, AreCandidates, IsItem};
 
 use std::alloc::Global;
+use vr_lists::NodeTables;
 use vr_model::{Group, Model, NoMemory, Pair, Seq};
 
 /// What a construction places at once.
@@ -63,42 +64,38 @@ pub struct Candidate {
     pub class: u32,
 }
 
-// Whether the group has the node.
-fn has_node(group: &Group, node: u32) -> bool
-    ensures { result ≡ holds group.now.nodes node }
-{
-    group.nodes.as_slice().contains(&node)
-}
-
 // Whether a node is in a group.
-pub(crate) fn is_grouped(model: &Model, node: u32) -> bool
+pub(crate) fn is_grouped(model: &Model, lookups: &NodeTables<'_>, node: u32) -> bool
+    requires { lookups.now ≡ model.now }
     ensures { result ≡ is_grouped_of model.now node }
 {
-    model
-        .groups
-        .as_slice()
-        .iter()
-        .any(|group| has_node(group, node))
+    // the model is that of the clauses alone
+    let _model = model;
+    lookups.is_grouped(node)
 }
 
-// Whether a node is in a group without a penalty.
-fn must_fill(model: &Model, node: u32) -> bool
-    ensures { result ≡ must_fill_of model.now node }
+// Whether a group has no penalty.
+fn is_free_of_penalty(group: &Group) -> bool
+    ensures { result ≡ not (has_penalty group.now.penalty) }
 {
-    model
-        .groups
-        .as_slice()
-        .iter()
-        .any(|group| has_node(group, node) && group.penalty.is_none())
+    match group.penalty {
+        Some(_) => false,
+        None => true,
+    }
 }
 
 /// The class of a node: 0 outside all groups, 1 in a group without a penalty, 2 in another.
-pub fn node_class(model: &Model, node: u32) -> u32
+pub fn node_class(model: &Model, lookups: &NodeTables<'_>, node: u32) -> u32
+    requires { lookups.now ≡ model.now }
     ensures { result ≡ node_class_of model.now node }
 {
-    if !is_grouped(model, node) {
-        0
-    } else if must_fill(model, node) {
+    // what holds of the model is known of the one that was looked up
+    let _model = lookups.model();
+    let g = lookups.group_number(node) as usize;
+    if g >= model.groups.len() {
+        return 0;
+    }
+    if is_free_of_penalty(model.groups.get(g)) {
         1
     } else {
         2
@@ -106,32 +103,34 @@ pub fn node_class(model: &Model, node: u32) -> u32
 }
 
 // The class of an item: the least of its nodes.
-fn item_class(model: &Model, item: Item) -> u32
+fn item_class(model: &Model, lookups: &NodeTables<'_>, item: Item) -> u32
+    requires { lookups.now ≡ model.now }
     ensures { result ≡ class model.now (nodes_of item) }
 {
     match item {
-        Item::Visit(node) => 2.min(node_class(model, node)),
+        Item::Visit(node) => 2.min(node_class(model, lookups, node)),
         Item::PickupAndDelivery(pickup, delivery) => 2
-            .min(node_class(model, pickup))
-            .min(node_class(model, delivery)),
+            .min(node_class(model, lookups, pickup))
+            .min(node_class(model, lookups, delivery)),
     }
 }
 
 // The pair that a node is in.
-fn pair_of(pairs: &[Pair], node: u32) -> Option<&Pair>
-    ensures { option_map (λ pair. pair.now) result
-        ≡ find (λ pair. (pair.pickup == node) || (pair.delivery == node)) pairs.now }
+fn pair_of(model: &Model, lookups: &NodeTables<'_>, node: u32) -> Option<Pair>
+    requires { lookups.now ≡ model.now }
+    ensures { result ≡ pair_of_node model.now node }
 {
-    pairs
-        .iter()
-        .find(|pair| pair.pickup == node || pair.delivery == node)
+    // the model is that of the clauses alone
+    let _model = model;
+    lookups.pair_of(node)
 }
 
 // The item of a node: the node alone, or the pair of which it is the pickup.
-fn item_at(model: &Model, node: u32) -> Option<Item>
+fn item_at(model: &Model, lookups: &NodeTables<'_>, node: u32) -> Option<Item>
+    requires { lookups.now ≡ model.now }
     ensures { listed result ≡ items_at (pair_of_node model.now node) node }
 {
-    match pair_of(model.pairs.as_slice(), node) {
+    match pair_of(model, lookups, node) {
         None => Some(Item::Visit(node)),
         Some(pair) if pair.pickup == node => {
             Some(Item::PickupAndDelivery(pair.pickup, pair.delivery))
@@ -141,29 +140,35 @@ fn item_at(model: &Model, node: u32) -> Option<Item>
 }
 
 // The item of a node that is a visit.
-fn visit_item(model: &Model, node: u32) -> Option<Item>
-    requires { IsWellFormed model.now }
+fn visit_item(model: &Model, lookups: &NodeTables<'_>, node: u32) -> Option<Item>
+    requires well_formed { IsWellFormed model.now }
+    requires lookups { lookups.now ≡ model.now }
     ensures item { listed result
         ≡ (if is_visit model.now node then items_at (pair_of_node model.now node) node else []) }
     ensures valid { IfSome result (IsItem model.now) }
 {
     if model.is_visit(node) {
-        item_at(model, node)
+        item_at(model, lookups, node)
     } else {
         None
     }
 }
 
 /// The items of a model with their classes, ascending by their numbers.
-pub fn candidates(alloc: Global, model: &Model) -> Result<Vec<Candidate>, NoMemory>
+pub fn candidates(
+    alloc: Global,
+    model: &Model,
+    lookups: &NodeTables<'_>,
+) -> Result<Vec<Candidate>, NoMemory>
     requires well_formed { IsWellFormed model.now }
+    requires lookups { lookups.now ≡ model.now }
     ensures { IfOk result (λ candidates. AreCandidates model.now candidates.items) }
 {
     let mut candidates = Vec::new(alloc);
     for node in 0..model.nodes {
-        match visit_item(model, node) {
+        match visit_item(model, lookups, node) {
             Some(item) => {
-                let class = item_class(model, item);
+                let class = item_class(model, lookups, item);
                 candidates.push(Candidate { item, class })?;
             }
             None => {}

@@ -1,14 +1,15 @@
 //! Which nodes are active, and whether the groups have room for an item.
 
-ghost use Rattle.std.specs.Prelude.{◌≡◌, ℕ, ◌<◌, ◌||◌, Bool, All, IfOk, OnOk, length, slice_index_or};
+ghost use Rattle.std.specs.Prelude.{◌≡◌, ℕ, ◌<◌, ◌||◌, Bool, All, IfOk, IsTrue, OnOk, length, slice_index_or};
 ghost use Rattle.std.specs.List.{list_all};
 ghost use Rattle.vr_model.specs.routes.Routes.{holds};
 ghost use Rattle.vr_model.specs.tables.WellFormed.{IsWellFormed};
 ghost use Rattle.vr_rules.specs.Placing.{has_room as has_room_of, is_taken as is_taken_of, nodes_of, AreMarkedToo};
-ghost use Rattle.vr_rules.specs.Placing.{AreMarks};
+ghost use Rattle.vr_rules.specs.Placing.{fits_by, has_room_at, AreMarks};
 
 use crate::items::Item;
 use std::alloc::Global;
+use vr_lists::NodeTables;
 use vr_model::{Group, Model, NoMemory};
 use vr_routes::Routes;
 
@@ -34,18 +35,57 @@ fn has_room(marks: &[bool], item: Item, group: &Group) -> bool
     taken <= group.max as usize
 }
 
-/// Whether each group has room for an item beside the marked nodes.
-pub fn groups_have_room(model: &Model, marks: &[bool], item: Item) -> bool
+// Whether the group of a node, where it is in one, has room for an item beside the marked nodes.
+fn group_has_room(
+    model: &Model,
+    lookups: &NodeTables<'_>,
+    marks: &[bool],
+    item: Item,
+    node: u32,
+) -> bool
     requires well_formed { IsWellFormed model.now }
+    requires lookups { lookups.now ≡ model.now }
     requires marks { length marks.now ≡ model.now.nodes }
-    ensures { result ≡ list_all (has_room_of marks.now item) model.now.groups }
+    ensures { result ≡ has_room_at model.now marks.now item node }
 {
-    for k in 0..model.groups.len() {
-        if !has_room(marks, item, model.groups.get(k)) {
-            return false;
-        }
+    let g = lookups.group_number(node) as usize;
+    if g < model.groups.len() {
+        return has_room(marks, item, model.groups.get(g));
     }
     true
+}
+
+// Whether the groups of the nodes of an item have room for it.
+fn item_has_room(model: &Model, lookups: &NodeTables<'_>, marks: &[bool], item: Item) -> bool
+    requires well_formed { IsWellFormed model.now }
+    requires lookups { lookups.now ≡ model.now }
+    requires marks { length marks.now ≡ model.now.nodes }
+    ensures { result ≡ list_all (has_room_at model.now marks.now item) (nodes_of item) }
+{
+    match item {
+        Item::Visit(node) => group_has_room(model, lookups, marks, item, node),
+        Item::PickupAndDelivery(pickup, delivery) => {
+            group_has_room(model, lookups, marks, item, pickup)
+                && group_has_room(model, lookups, marks, item, delivery)
+        }
+    }
+}
+
+/// Whether each group has room for an item beside the marked nodes, for which they have room. It looks at the groups of
+/// the item alone.
+pub fn groups_have_room(
+    model: &Model,
+    lookups: &NodeTables<'_>,
+    marks: &[bool],
+    item: Item,
+) -> bool
+    requires well_formed { IsWellFormed model.now }
+    requires lookups { lookups.now ≡ model.now }
+    requires marks { length marks.now ≡ model.now.nodes }
+    requires fit { IsTrue (list_all (fits_by marks.now) model.now.groups) }
+    ensures { result ≡ list_all (has_room_of marks.now item) model.now.groups }
+{
+    item_has_room(model, lookups, marks, item)
 }
 
 // Marks the nodes of a list.

@@ -11,7 +11,7 @@ ghost use Rattle.vr_timings.specs.Tables.{AreTables};
 
 use crate::allowed::allows_each;
 use std::alloc::Global;
-use vr_lists::{PairPlaces, keeps_pairs};
+use vr_lists::{NodeTables, PairPlaces, keeps_pairs};
 use vr_model::{Model, NoMemory};
 use vr_reach::Walk;
 use vr_timings::Table;
@@ -34,18 +34,21 @@ impl Driving {
     }
 }
 
-/// Whether vehicle `v` may drive a list, as `Rules::route_open` answers it, over tables that the caller keeps.
+/// Whether vehicle `v` may drive a list, as `Rules::route_open` answers it, over tables and look-ups that the caller
+/// keeps.
 ///
 /// The list holds distinct visits. `NoMemory` where there was no memory.
 pub fn is_route_open(
     model: &Model,
     tables: &[Table],
+    lookups: &NodeTables<'_>,
     v: u32,
     list: &[u32],
     driving: &mut Driving,
 ) -> Result<bool, NoMemory>
     requires well_formed { IsWellFormed model.now }
     requires tables { AreTables model.now tables.now }
+    requires lookups { lookups.now ≡ model.now }
     requires vehicle { v < length model.now.vehicles }
     requires visits { IsTrue (list_all (is_visit model.now) list.now) }
     requires distinct { IsTrue (is_distinct list.now) }
@@ -54,7 +57,7 @@ pub fn is_route_open(
     if list.is_empty() {
         return Ok(true);
     }
-    if !allows_each(model, v, list) {
+    if !allows_each(model, lookups, v, list) {
         return Ok(false);
     }
     if !keeps_pairs(model, v, list, &mut driving.pairs) {

@@ -17,19 +17,21 @@ use crate::routes_open::{Driving, is_route_open};
 use crate::validity::{is_open, is_valid};
 use std::alloc::Global;
 use std::marker::Model;
+use vr_lists::NodeTables;
 use vr_model::{Model as RoutingModel, NoMemory, Parts};
 use vr_routes::Routes;
 use vr_timings::{Table, Timer, tables_of};
 
 /// The rules of a model, ready to be asked of any lists. Contracts see the model, which no call changes.
 ///
-/// What its stops ask is looked up once, and all that a question needs is kept and written over: after the first
-/// questions an answer takes memory only where a set of cumuls has more than four runs, or a list is longer, has more
-/// pairs, or its vehicle more breaks, than any before.
+/// What its stops ask is looked up once, and the group, the pair and the allowed vehicles of each node, and all that a
+/// question needs is kept and written over: after the first questions an answer takes memory only where a set of cumuls
+/// has more than four runs, or a list is longer, has more pairs, or its vehicle more breaks, than any before.
 #[derive(Drop)]
 pub struct Rules<'m> {
     model: &'m RoutingModel,
     tables: Vec<Table>,
+    lookups: NodeTables<'m>,
     // on the heap, since it is large
     kept: Box<Kept>,
 }
@@ -45,13 +47,13 @@ struct Kept {
 
 impl<'m> Model for Rules<'m> {
     ghost use Rattle.vr_model.specs.declared.records.Model.{Model as Defined};
-    ghost use Rattle.vr_timings.specs.Tables.{AreRules};
+    ghost use Rattle.vr_rules.specs.Opened.{AreOpened};
 
     ghost Value = { Defined };
 
     ghost view = { λ rules. rules.model.now };
 
-    ghost invariant = { λ rules. AreRules rules.model.now rules.tables.items };
+    ghost invariant = { λ rules. AreOpened rules.model.now rules.tables.items rules.lookups };
 }
 
 impl<'m> Rules<'m> {
@@ -63,6 +65,7 @@ impl<'m> Rules<'m> {
         Ok(Rules {
             model,
             tables: tables_of(alloc, model)?,
+            lookups: NodeTables::open(alloc, model)?,
             kept: Box::new(
                 alloc,
                 Kept {
@@ -95,7 +98,14 @@ impl<'m> Rules<'m> {
         ensures answer { IfOk result (λ answer. answer ≡ is_route_open_of self.old v list.now) }
         ensures model { self.new ≡ self.old }
     {
-        let answer = is_route_open(self.model, &self.tables, v, list, &mut self.kept.driving)?;
+        let answer = is_route_open(
+            self.model,
+            &self.tables,
+            &self.lookups,
+            v,
+            list,
+            &mut self.kept.driving,
+        )?;
         Ok(answer)
     }
 
@@ -111,6 +121,7 @@ impl<'m> Rules<'m> {
         let answer = is_open(
             self.model,
             &self.tables,
+            &self.lookups,
             routes,
             &kept.marks,
             &mut kept.driving,
@@ -130,6 +141,7 @@ impl<'m> Rules<'m> {
         let answer = is_valid(
             self.model,
             &self.tables,
+            &self.lookups,
             routes,
             &kept.marks,
             &mut kept.driving,

@@ -11,6 +11,7 @@ ghost use Rattle.vr_timings.specs.Tables.{AreTables};
 
 use crate::complete::{is_complete, marked};
 use crate::routes_open::{Driving, is_route_open};
+use vr_lists::NodeTables;
 use vr_model::{Group, Model, NoMemory};
 use vr_routes::Routes;
 use vr_timings::Table;
@@ -19,16 +20,18 @@ use vr_timings::Table;
 fn are_routes_open(
     model: &Model,
     tables: &[Table],
+    lookups: &NodeTables<'_>,
     routes: &Routes,
     driving: &mut Driving,
 ) -> Result<bool, NoMemory>
     requires well_formed { IsWellFormed model.now }
     requires tables { AreTables model.now tables.now }
+    requires lookups { lookups.now ≡ model.now }
     requires lists { IsTrue (are_lists model.now routes.now.lists) }
     ensures { IfOk result (λ all. all ≡ are_routes_open_of model.now routes.now.lists) }
 {
     for v in 0..routes.vehicles() {
-        if !is_route_open(model, tables, v, routes.list(v), driving)? {
+        if !is_route_open(model, tables, lookups, v, routes.list(v), driving)? {
             return Ok(false);
         }
     }
@@ -61,12 +64,14 @@ fn groups_fit(model: &Model, marks: &[bool]) -> bool
 pub(crate) fn is_open(
     model: &Model,
     tables: &[Table],
+    lookups: &NodeTables<'_>,
     routes: &Routes,
     marks: &[bool],
     driving: &mut Driving,
 ) -> Result<bool, NoMemory>
     requires well_formed { IsWellFormed model.now }
     requires tables { AreTables model.now tables.now }
+    requires lookups { lookups.now ≡ model.now }
     requires lists { IsTrue (are_lists model.now routes.now.lists) }
     requires marks { AreMarks model.now.nodes routes.now.lists marks.now }
     ensures { IfOk result (λ answer. answer ≡ is_open_of model.now routes.now.lists) }
@@ -74,7 +79,7 @@ pub(crate) fn is_open(
     if !groups_fit(model, marks) {
         return Ok(false);
     }
-    let all = are_routes_open(model, tables, routes, driving)?;
+    let all = are_routes_open(model, tables, lookups, routes, driving)?;
     Ok(all)
 }
 
@@ -82,19 +87,21 @@ pub(crate) fn is_open(
 pub(crate) fn is_valid(
     model: &Model,
     tables: &[Table],
+    lookups: &NodeTables<'_>,
     routes: &Routes,
     marks: &[bool],
     driving: &mut Driving,
 ) -> Result<bool, NoMemory>
     requires well_formed { IsWellFormed model.now }
     requires tables { AreTables model.now tables.now }
+    requires lookups { lookups.now ≡ model.now }
     requires lists { IsTrue (are_lists model.now routes.now.lists) }
     requires marks { AreMarks model.now.nodes routes.now.lists marks.now }
     ensures { IfOk result (λ answer. answer ≡ is_valid_of model.now routes.now.lists) }
 {
-    if !is_complete(model, marks) {
+    if !is_complete(model, lookups, marks) {
         return Ok(false);
     }
-    let valid = is_open(model, tables, routes, marks, driving)?;
+    let valid = is_open(model, tables, lookups, routes, marks, driving)?;
     Ok(valid)
 }

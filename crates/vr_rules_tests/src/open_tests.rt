@@ -8,6 +8,7 @@ ghost use Rattle.vr_rules.specs.TimedSamples.{timed, times};
 use crate::tests::{model_of, seq_of};
 use std::alloc::Global;
 use std::test::Fail;
+use vr_lists::NodeTables;
 use vr_model::{
     Dimension, Evaluator, Interval, Model, NoMemory, Policy, Seq, Soft, StopRow, Text, Vehicle,
 };
@@ -270,9 +271,10 @@ fn a_visit_allows_what_its_row_lets(rt: HostRuntime) -> Result<(), Fail> {
 // Whether the vehicle may drive to node 1 behind its empty list.
 fn may_append(alloc: Global, fix_start: bool) -> Result<bool, NoMemory> {
     let model = well_formed_times(alloc, fix_start)?;
+    let lookups = NodeTables::open(alloc, &model)?;
     let mut room = Room::new(alloc);
     let fronts = Fronts::open(&mut room, &model, 0, &[])?;
-    let may = fronts.may_append(&mut room, &model, 0, &[], Item::Visit(1))?;
+    let may = fronts.may_append(&mut room, &model, &lookups, 0, &[], Item::Visit(1))?;
     Ok(may)
 }
 

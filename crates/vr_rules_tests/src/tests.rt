@@ -10,6 +10,7 @@ ghost use Rattle.vr_rules.specs.PairedSamples.{optional, paired};
 
 use std::alloc::Global;
 use std::test::Fail;
+use vr_lists::NodeTables;
 use vr_model::{
     First, Group, Improve, Matrix, Model, NoMemory, Pair, Policy, SearchRow, Seq, Vehicle,
 };
@@ -130,8 +131,9 @@ fn a_pair_turned_round_and_half_a_pair(rt: HostRuntime) -> Result<(), Fail> {
 fn items_of(alloc: Global, model: &Model) -> Result<Vec<(u32, u32, u32)>, NoMemory>
     requires { IsWellFormed model.now }
 {
+    let lookups = NodeTables::open(alloc, model)?;
     let mut rows = Vec::new(alloc);
-    for candidate in candidates(alloc, model)?.iter() {
+    for candidate in candidates(alloc, model, &lookups)?.iter() {
         let item: Item = candidate.item;
         rows.push((item.number(), item.last(), candidate.class))?;
     }
@@ -172,8 +174,9 @@ fn optional(alloc: Global) -> Result<Model, NoMemory>
 fn empty_routes(alloc: Global, model: &Model) -> Result<Option<u32>, NoMemory>
     requires { IsWellFormed model.now }
 {
+    let lookups = NodeTables::open(alloc, model)?;
     let lists = empty_lists(alloc, model)?;
-    let Some(routes) = complete_routes(alloc, model, &lists)? else {
+    let Some(routes) = complete_routes(alloc, model, &lookups, &lists)? else {
         return Ok(None);
     };
     Ok(Some(routes.vehicles()))

@@ -10,6 +10,7 @@ use Rattle.vr_rules.specs.Placing.{nodes_of, IsCandidate}
 use Rattle.vr_lists.proofs.VisitLists.{visits-below}
 use Rattle.vr_rules.proofs.PlacingLemmas.{built-visits, open-route}
 use Rattle.vr_model.specs.routes.Rules.{is_route_open}
+use Rattle.vr_rules.proofs.PenaltyLemmas.{groups_fit-open}
 use Rattle.vr_rules.specs.Fronts.{AreFrontsOf, IsDriven}
 use Rattle.vr_first_arc.specs.Choices.{chosen_beside, MayBeAppended}
 use Rattle.vr_first_arc.proofs.AppendLemmas.{best-begin, best-more, best-end, may-of-best, list_at, inactive_by, IsDriven-item}
@@ -74,3 +75,6 @@ pub returns-clause-may : goal.returns-clause-may
 returns-clause-may c =
     let May : Item → Type 0 = MayBeAppended c.args.model.now c.args.lists.now c.args.v in
     subst (λ item. IfSome item May) (sym c.item_of.ensures) (may-of-best May c.loop-candidate.best c.loop-candidate.invariant.good)
+
+pub consider_candidate-requires-clause-fit : goal.consider_candidate-requires-clause-fit
+consider_candidate-requires-clause-fit c = groups_fit-open c.args.model.now c.requires.well_formed c.args.lists.now c.args.marks.now c.requires.marks c.requires.built.are_open

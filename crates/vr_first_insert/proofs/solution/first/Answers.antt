@@ -7,11 +7,11 @@ use Rattle.vr_rules.proofs.PlacingLemmas.{AreBuilt-empty}
 use Rattle.vr_rules.proofs.CompleteLemmas.{valid_by}
 use Rattle.vr_first_insert.proofs.solution.first.Goals as goal
 
-pub rebuild-requires-clause-lists : goal.rebuild-requires-clause-lists
-rebuild-requires-clause-lists c = ap (are_lists c.args.model.now) c.in_ok-empty.ensures.lists ∙ (AreBuilt-empty c.args.model.now).are_lists
+pub rebuilt_routes-requires-clause-lists : goal.rebuilt_routes-requires-clause-lists
+rebuilt_routes-requires-clause-lists c = ap (are_lists c.args.model.now) c.in_ok-empty.ensures.lists ∙ (AreBuilt-empty c.args.model.now).are_lists
 
-pub rebuild-requires-clause-open_lists : goal.rebuild-requires-clause-open_lists
-rebuild-requires-clause-open_lists c = ap (is_open c.args.model.now) c.in_ok-empty.ensures.lists ∙ (AreBuilt-empty c.args.model.now).are_open
+pub rebuilt_routes-requires-clause-open_lists : goal.rebuilt_routes-requires-clause-open_lists
+rebuilt_routes-requires-clause-open_lists c = ap (is_open c.args.model.now) c.in_ok-empty.ensures.lists ∙ (AreBuilt-empty c.args.model.now).are_open
 
 pub returns-then-is_complete-clause-first : goal.returns-then-is_complete-clause-first
 returns-then-is_complete-clause-first c =

@@ -10,7 +10,7 @@ use Rattle.vr_inserting.proofs.InsertedLemmas.{pair_back, pair_front, pair_long}
 use Rattle.vr_inserting.proofs.RowLemmas.{reached_in_each}
 use Rattle.vr_first_insert.specs.declared.choice.Placing.TheVariants.{Two}
 use Rattle.vr_first_insert.specs.Placings.{placed}
-use Rattle.vr_first_insert.proofs.ReadyLemmas.{closed-by_lines, closed-by_vehicle, open-by_pairs, used-placed}
+use Rattle.vr_first_insert.proofs.ReadyLemmas.{closed-by_lines, open-by_pairs, used-placed}
 use Rattle.std.specs.List.{list_all}
 use Rattle.vr_model.specs.routes.Routes.{is_distinct}
 use Rattle.vr_model.specs.tables.Tables.{is_visit}
@@ -54,10 +54,6 @@ goes_from-requires-clause-apart c =
     let long = ap length (c.as_slice-longer.ensures ∙ c.in_ok-write_placed.ensures) ∙ pair_long (record { pickup = c.args.pickup; delivery = c.args.delivery }) c.args.list.now c.args.s c.args.t c.requires.order c.requires.within in
     omega (arith, long, c.requires.within)
 
-pub returns-then-not-allows_item : goal.returns-then-not-allows_item
-returns-then-not-allows_item c =
-    sym (closed-by_vehicle c.args.model.now c.args.v c.args.list.now (Two c.args.pickup c.args.delivery c.args.s c.args.t) (c.requires.order, c.requires.within) c.requires.ready.stands (sym c.allows_item.ensures ∙ c.if-not-allows_item.true))
-
 pub returns-then-not-branch : goal.returns-then-not-branch
 returns-then-not-branch c =
     let list = placed c.args.list.now (Two c.args.pickup c.args.delivery c.args.s c.args.t) in
@@ -68,5 +64,5 @@ pub returns : goal.returns
 returns c =
     let is = c.as_slice-longer.ensures ∙ c.in_ok-write_placed.ensures in
     c.keeps_pairs.ensures ∙ ap (keeps_pairs c.args.model.now c.args.v) is
-    ∙ sym (open-by_pairs c.args.model.now c.args.v c.args.list.now (Two c.args.pickup c.args.delivery c.args.s c.args.t) (c.requires.order, c.requires.within) c.requires.ready.stands (sym c.allows_item.ensures ∙ c.if-not-allows_item.false)
+    ∙ sym (open-by_pairs c.args.model.now c.args.v c.args.list.now (Two c.args.pickup c.args.delivery c.args.s c.args.t) (c.requires.order, c.requires.within) c.requires.ready.stands c.requires.allowed
     (ap (is_feasible_in_each c.args.model.now c.args.v) (sym is) ∙ sym c.in_ok-goes_from.ensures ∙ c.if-not-branch.false))
