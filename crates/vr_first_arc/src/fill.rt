@@ -114,7 +114,9 @@ fn next_item(
     let list = lists[v as usize].as_slice();
     let mut best: Option<Choice> = None;
     for &candidate in candidates {
-        best = consider_candidate(fronts, room, model, lookups, v, list, marks, candidate, best)?;
+        best = consider_candidate(
+            fronts, room, model, lookups, v, list, marks, candidate, best,
+        )?;
     }
     Ok(item_of(best))
 }
@@ -205,7 +207,16 @@ fn fill_from_start(
     ensures marked { OnOk result (AreMarks model.now.nodes lists.new marks.new) }
 {
     let mut fronts = Fronts::open(room, model, v, lists[v as usize].as_slice())?;
-    fill(&mut fronts, room, model, lookups, v, candidates, lists, marks)?;
+    fill(
+        &mut fronts,
+        room,
+        model,
+        lookups,
+        v,
+        candidates,
+        lists,
+        marks,
+    )?;
     Ok(())
 }
 

@@ -97,12 +97,7 @@ fn best_in_lists(
 }
 
 // Whether an item may count: its first node is not marked, and the groups have room for it.
-fn counts(
-    model: &Model,
-    lookups: &NodeTables<'_>,
-    marks: &[bool],
-    candidate: Candidate,
-) -> bool
+fn counts(model: &Model, lookups: &NodeTables<'_>, marks: &[bool], candidate: Candidate) -> bool
     requires well_formed { IsWellFormed model.now }
     requires lookups { lookups.now ≡ model.now }
     requires marks { length marks.now ≡ model.now.nodes }

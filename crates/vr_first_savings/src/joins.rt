@@ -151,7 +151,9 @@ pub(crate) fn best_join(
     let ends = ends_of_each(alloc, model, routes)?;
     let mut best: Option<Choice> = None;
     for i in 0..routes.len() {
-        best = best_behind(alloc, model, tables, lookups, routes, &ends, i, best, driving)?;
+        best = best_behind(
+            alloc, model, tables, lookups, routes, &ends, i, best, driving,
+        )?;
     }
     Ok(best)
 }

@@ -135,10 +135,10 @@ module _ (model : Model) (well_formed : IsWellFormed model) (marks : List Bool) 
   -- and so the other way round
   at_node : list_all (has_room marks item) model.groups ≡ true → (y : ℕ) → has_room_at model marks item y ≡ true
   at_node all y = elim (cases_lt (group_number model y) (length model.groups)) [
-      | inl low ↦ ap (λ b. nat_le (length model.groups) (group_number model y) || b) (all-from_list_all (has_room marks item) model.groups all (group_number model y) no_group low)
-          ∙ or-true (nat_le (length model.groups) (group_number model y))
-      | inr past ↦ ap (λ b. b || has_room marks item (group_at model (group_number model y))) (reached (length model.groups) (group_number model y) past)
-    ]
+    | inl low ↦ ap (λ b. nat_le (length model.groups) (group_number model y) || b) (all-from_list_all (has_room marks item) model.groups all (group_number model y) no_group low)
+        ∙ or-true (nat_le (length model.groups) (group_number model y))
+    | inr past ↦ ap (λ b. b || has_room marks item (group_at model (group_number model y))) (reached (length model.groups) (group_number model y) past)
+  ]
 
   pub room_by_nodes : list_all (fits_by marks) model.groups ≡ true → list_all (has_room_at model marks item) (nodes_of item) ≡ list_all (has_room marks item) model.groups
   room_by_nodes fit = same_tests (list_all (has_room_at model marks item) (nodes_of item)) (list_all (has_room marks item) model.groups)

@@ -10,12 +10,7 @@ use vr_lists::NodeTables;
 use vr_model::Model;
 
 // Whether vehicle `v` may visit each node of a list.
-pub(crate) fn allows_each(
-    model: &Model,
-    lookups: &NodeTables<'_>,
-    v: u32,
-    list: &[u32],
-) -> bool
+pub(crate) fn allows_each(model: &Model, lookups: &NodeTables<'_>, v: u32, list: &[u32]) -> bool
     requires { lookups.now ≡ model.now }
     ensures { result ≡ list_all (allows_vehicle_of model.now v) list.now }
 {

@@ -73,12 +73,7 @@ fn item_has_room(model: &Model, lookups: &NodeTables<'_>, marks: &[bool], item: 
 
 /// Whether each group has room for an item beside the marked nodes, for which they have room. It looks at the groups of
 /// the item alone.
-pub fn groups_have_room(
-    model: &Model,
-    lookups: &NodeTables<'_>,
-    marks: &[bool],
-    item: Item,
-) -> bool
+pub fn groups_have_room(model: &Model, lookups: &NodeTables<'_>, marks: &[bool], item: Item) -> bool
     requires well_formed { IsWellFormed model.now }
     requires lookups { lookups.now ≡ model.now }
     requires marks { length marks.now ≡ model.now.nodes }
