@@ -5,7 +5,5 @@ mod leaves;
 mod plans;
 mod routes;
 mod solution;
-#[cfg(test)]
-mod tests;
 
 pub use solution::{solution_line, solution_tree};

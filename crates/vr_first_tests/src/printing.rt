@@ -1,0 +1,88 @@
+//! That there are a tree and a line of a solution with ample memory, and their bytes.
+
+ghost use Rattle.std.specs.Prelude.{IfOk, IfSome, IsTrue};
+ghost use Rattle.vr_model.specs.routes.Rules.{is_valid};
+ghost use Rattle.vr_model.specs.tables.WellFormed.{IsWellFormed};
+
+use std::alloc::Global;
+use std::test::Fail;
+use vr_json::to_line;
+use vr_model::{End, Model, NoMemory, Report};
+use vr_print::{solution_line, solution_tree};
+use vr_routes::Routes;
+use vr_routes::samples::routes_of;
+use vr_rules::valid;
+use vr_samples::read_model_text;
+
+// Two visits, two vehicles and two dimensions, one of them with a break; the line is of one used vehicle.
+const MODEL: &str = r#"{"format":1,"nodes":3,"matrices":[[[0,10,9],[10,0,9],[9,9,0]]],
+"vehicles":[{"start":0,"end":0},{"start":0,"end":0}],"groups":[{"nodes":[2],"penalty":7}],
+"dimensions":[{"name":"time","evaluators":[{"matrix":0}],"slack_max":20,"capacity":100,
+"fix_start":true,"visit":[2,2,2],"breaks":[{"vehicle":0,"breaks":[{"from":4,"to":6,"duration":5}]}],"span_cost":2},
+{"name":"load","evaluators":[{"values":[0,3,0]}],"slack_max":0,"capacity":5}]}"#;
+
+const LINE: &str = "{\"cost\":77,\"dropped\":[2],\"first_cost\":80,\
+\"parts\":{\"arcs\":20,\"fixed\":0,\"global\":0,\"penalty\":7,\"soft\":0,\"span\":50},\
+\"routes\":[{\"dimensions\":[{\"breaks\":[4],\"cumuls\":[0,15,25],\"name\":\"time\",\"slacks\":[5,0]},\
+{\"breaks\":[],\"cumuls\":[0,0,3],\"name\":\"load\",\"slacks\":[0,0]}],\
+\"nodes\":[0,1,0],\"vehicle\":0},{\"dimensions\":[],\"nodes\":[],\"vehicle\":1}],\
+\"solutions\":3,\"status\":\"ROUTING_SUCCESS\",\"stop\":\"tries\",\"tries\":5}\n";
+
+const REPORT: Report = Report {
+    tries: 5,
+    solutions: 3,
+    end: End::Tries,
+};
+
+// Routes in which vehicle 0 visits node 1 alone, none where they are not valid.
+fn one_visit(alloc: Global, model: &Model) -> Result<Option<Routes>, NoMemory>
+    requires { IsWellFormed model.now }
+    ensures { IfOk result (λ found. IfSome found (λ routes. IsTrue (is_valid model.now routes.lists))) }
+{
+    let Some(routes) = routes_of(alloc, model, &[&[1], &[]])? else {
+        return Ok(None);
+    };
+    if valid(alloc, model, &routes)? {
+        Ok(Some(routes))
+    } else {
+        Ok(None)
+    }
+}
+
+// Whether the line of routes is the one above.
+fn has_line(alloc: Global, model: &Model, routes: &Routes) -> Result<bool, NoMemory>
+    requires well_formed { IsWellFormed model.now }
+    requires valid { IsTrue (is_valid model.now routes.now.lists) }
+{
+    let line = solution_line(alloc, model, routes, 80, REPORT)?;
+    Ok(line.as_slice() == LINE.as_bytes())
+}
+
+// Whether the text of the tree of routes is it.
+fn has_tree(alloc: Global, model: &Model, routes: &Routes) -> Result<bool, NoMemory>
+    requires well_formed { IsWellFormed model.now }
+    requires valid { IsTrue (is_valid model.now routes.now.lists) }
+{
+    let tree = solution_tree(alloc, model, routes, 80, REPORT)?;
+    let line = to_line(alloc, &tree)?;
+    Ok(line.as_slice() == LINE.as_bytes())
+}
+
+// Whether both are so of the routes that visit node 1 alone; none where these are not valid.
+fn prints(alloc: Global, model: &Model) -> Result<Option<(bool, bool)>, NoMemory>
+    requires { IsWellFormed model.now }
+{
+    let Some(routes) = one_visit(alloc, model)? else {
+        return Ok(None);
+    };
+    let line = has_line(alloc, model, &routes)?;
+    let tree = has_tree(alloc, model, &routes)?;
+    Ok(Some((line, tree)))
+}
+
+#[test]
+fn breaks_cumuls_and_slacks_are_printed(rt: HostRuntime) -> Result<(), Fail> {
+    let model = read_model_text(rt.alloc(), MODEL).ok_or("a model")?;
+    assert_eq!(rt; prints(rt.alloc(), &model)?, Some((true, true)));
+    Ok(())
+}
