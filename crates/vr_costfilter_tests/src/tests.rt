@@ -89,8 +89,8 @@ fn answer(
     Ok(groups == penalty && are_sums(before, after, arcs, fixed, groups))
 }
 
-// Whether the parts answer what a move of lists adds, this much of it in penalties: false where it is none, or the lists
-// are not valid.
+// Whether the parts answer what a move of lists adds, this much of it in penalties: false where it is none, or the
+// lists are not valid.
 fn agree(
     alloc: Global,
     model: &Model,

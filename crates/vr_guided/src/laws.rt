@@ -9,7 +9,8 @@ pub fn guided_is_sound()
     ensures { GuidedIsSound }
 {}
 
-/// The augmented cost of valid lists is not negative and at most 2^100, where no arc was penalised more than 10^9 times.
+/// The augmented cost of valid lists is not negative and at most 2^100, where no arc was penalised more than 10^9
+/// times.
 pub fn augmented_costs_are_bounded()
     ensures { AugmentedCostsAreBounded }
 {}

@@ -117,8 +117,8 @@ pub fn keep_each(alloc: Global, model: &Model, lists: &[Seq<u32>]) -> Result<Vec
     Ok(keeps)
 }
 
-/// Writes the rows of the list of vehicle `v` over those of another list, in each dimension. After `NoMemory` nothing is
-/// said of what is kept.
+/// Writes the rows of the list of vehicle `v` over those of another list, in each dimension. After `NoMemory` nothing
+/// is said of what is kept.
 ///
 /// It takes memory only where a list is longer than any before, or a set has more than four runs.
 pub fn learn(
@@ -143,9 +143,9 @@ pub fn learn(
     Ok(())
 }
 
-/// Whether the line of a list of vehicle `v` is feasible in each dimension, found by walks through what differs from the
-/// list before, whose rows are kept: all but the first `front` and the last `back` nodes. Afterwards nothing is said of
-/// where the walk stands.
+/// Whether the line of a list of vehicle `v` is feasible in each dimension, found by walks through what differs from
+/// the list before, whose rows are kept: all but the first `front` and the last `back` nodes. Afterwards nothing is
+/// said of where the walk stands.
 ///
 /// `NoMemory` where there was no memory: it is taken only where a set has more than four runs, or a vehicle more breaks
 /// than any before.

@@ -30,8 +30,8 @@ impl Probes {
         }
     }
 
-    /// Stands behind the first `front` nodes of a list of vehicle `v` and one arc more, where the list shares those nodes
-    /// with another, whose rows are kept. Afterwards nothing is said of where the walk stands.
+    /// Stands behind the first `front` nodes of a list of vehicle `v` and one arc more, where the list shares those
+    /// nodes with another, whose rows are kept. Afterwards nothing is said of where the walk stands.
     ///
     /// `NoMemory` as of `is_feasible_between`, and where the model has more dimensions than any before.
     pub fn leave(
@@ -57,8 +57,8 @@ impl Probes {
         Ok(())
     }
 
-    /// Whether nothing is reached in some dimension: then no list that reaches this at a stop has a feasible line there.
-    /// It takes no memory.
+    /// Whether nothing is reached in some dimension: then no list that reaches this at a stop has a feasible line
+    /// there. It takes no memory.
     pub fn is_stuck(&self, model: &Model) -> bool
         requires well_formed { IsWellFormed model.now }
         requires enough { length model.now.dimensions ≤ length self.now.here.items }
@@ -72,8 +72,8 @@ impl Probes {
         false
     }
 
-    /// Whether the line of a list of vehicle `v` is feasible in each dimension, found by walks from stop `k`, where this
-    /// is reached, to its last `back` nodes, which it shares with the list before, whose rows are kept. Afterwards
+    /// Whether the line of a list of vehicle `v` is feasible in each dimension, found by walks from stop `k`, where
+    /// this is reached, to its last `back` nodes, which it shares with the list before, whose rows are kept. Afterwards
     /// nothing is said of where the walk stands.
     ///
     /// `NoMemory` as of `is_feasible_between`.

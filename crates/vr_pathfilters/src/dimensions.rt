@@ -162,8 +162,8 @@ impl<'m> PathFilter for DimensionFilter<'m> {
     ghost keeps_rule = { λ f tours stands. stands.rule };
 }
 
-// Writes the rows of the list of part `k` of a change over others, where there is that part. After `NoMemory` nothing is
-// said of them.
+// Writes the rows of the list of part `k` of a change over others, where there is that part. After `NoMemory` nothing
+// is said of them.
 fn write_part(
     alloc: Global,
     model: &Model,

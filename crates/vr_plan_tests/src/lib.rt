@@ -1,5 +1,5 @@
-//! Tests of what lines reach and of their chosen schedules, through what `vr_reach` and `vr_plan` make public. They stand
-//! in a crate of their own, so that the crates that they test are proved once.
+//! Tests of what lines reach and of their chosen schedules, through what `vr_reach` and `vr_plan` make public. They
+//! stand in a crate of their own, so that the crates that they test are proved once.
 #![tactic(auto)]
 
 #[cfg(test)]

@@ -1,5 +1,5 @@
-//! What is reached at the visit of a line, and walks that join what is known of it, with sets of more runs than are held
-//! in place.
+//! What is reached at the visit of a line, and walks that join what is known of it, with sets of more runs than are
+//! held in place.
 
 ghost use Rattle.std.specs.Prelude.{◌≡◌, ◌<◌, ◌≤◌, All, IfOk, length};
 ghost use Rattle.vr_model.specs.tables.WellFormed.{IsBreak};

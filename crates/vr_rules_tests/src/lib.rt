@@ -1,5 +1,5 @@
-//! Tests of the rules and of what constructions of first solutions share, through what they make public. They stand in a
-//! crate of their own, so that the crates that they test are proved once.
+//! Tests of the rules and of what constructions of first solutions share, through what they make public. They stand in
+//! a crate of their own, so that the crates that they test are proved once.
 #![tactic(auto)]
 
 #[cfg(test)]

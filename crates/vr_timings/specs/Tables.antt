@@ -13,7 +13,8 @@ use Rattle.vr_timings.specs.declared.tables.Table.{Table}
 abbrev pub keys_of : List StopRow → List ℕ
 keys_of rows = map (λ row. row.key) rows
 
--- what the stops of dimension d ask, for each node the place of its row, and that its lists pay nothing where it says so
+-- what the stops of dimension d ask, for each node the place of its row, and that its lists pay nothing where it says
+-- so
 pub record IsTable (model : Model) (d : ℕ) (table : Table) : Type 0 where
   pub stops_ask : AreStops model d table.stops
   pub places : ArePlaces model.nodes (keys_of (dimension_at model d).nodes) table.rows.items

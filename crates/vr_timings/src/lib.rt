@@ -1,5 +1,5 @@
-//! What the chosen schedule of one list comes to in one dimension, whether anything may be to pay for it, and from where
-//! to where the schedules of several lists reach.
+//! What the chosen schedule of one list comes to in one dimension, whether anything may be to pay for it, and from
+//! where to where the schedules of several lists reach.
 #![tactic(auto)]
 
 mod extents;

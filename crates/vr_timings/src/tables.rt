@@ -21,8 +21,8 @@ pub struct Table {
     pub stops: Stops,
     /// For each node the place of its row among the rows of visits, the number of rows where it has none.
     pub rows: Vec<u32>,
-    /// Whether no schedule of any list may cost anything by itself: no vehicle has a coefficient of spans that is not 0,
-    /// and no stop a soft upper bound.
+    /// Whether no schedule of any list may cost anything by itself: no vehicle has a coefficient of spans that is not
+    /// 0, and no stop a soft upper bound.
     pub is_free: bool,
 }
 

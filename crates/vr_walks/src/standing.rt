@@ -158,9 +158,9 @@ pub fn go_on(
     Ok(())
 }
 
-/// Whether the line of a list of vehicle `v` is feasible, found by a walk from stop `k`, where `here` is reached, to its
-/// last `back` nodes, which it shares with the list before, whose rows are known. Afterwards nothing is said of where
-/// the walk stands.
+/// Whether the line of a list of vehicle `v` is feasible, found by a walk from stop `k`, where `here` is reached, to
+/// its last `back` nodes, which it shares with the list before, whose rows are known. Afterwards nothing is said of
+/// where the walk stands.
 ///
 /// `NoMemory` as of `passes_along`.
 pub fn goes_from(
