@@ -14,7 +14,7 @@ use Rattle.vr_model.specs.declared.records.Model.{Model}
 use Rattle.vr_model.specs.declared.records.Vehicle.{Vehicle}
 use Rattle.vr_model.specs.declared.records.Dimension.{Dimension}
 use Rattle.vr_model.proofs.tables.Tests.{clash, fails_not}
-use Rattle.vr_weights.specs.Even.{IsEven, with_no_rows}
+use Rattle.vr_weights.specs.Even.{IsEven, asking_nothing_else}
 use Rattle.vr_weights.proofs.Steady.{IsSteady}
 
 as_many_arcs : {B : Type 0} (f : UsedArc → B) (v node : ℕ) (ts : List ℕ) → length (map f (arcs_from v node ts)) ≡ length ts
@@ -90,10 +90,10 @@ module _ (model : Model) (even : IsEven model) where
     }
 
     abbrev even_line : Line
-    even_line = line_by (with_no_rows (dimension_at model 0))
+    even_line = line_by (asking_nothing_else (dimension_at model 0))
 
     line_is : line model 0 0 list ≡ even_line
-    line_is = ap line_by even.no_rows
+    line_is = ap line_by even.nothing_else
 
     as_many : length (line model 0 0 list).arcs ≡ suc (length list)
     as_many = as_many_arcs (line_arc model 0 0) 0 (vehicle_at model 0).start (list ++ (vehicle_at model 0).end ∷ []) ∙ one_behind list (vehicle_at model 0).end

@@ -1,3 +1,4 @@
 pub mod Steady
 pub mod EvenLines
 pub mod Swaps
+pub mod EvenModel

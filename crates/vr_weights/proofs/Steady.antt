@@ -8,9 +8,9 @@ use Rattle.vr_spans.specs.declared.runs.Run.{Run}
 use Rattle.vr_spans.specs.Runs.{has, IsNormal}
 use Rattle.vr_model.specs.tables.Numbers.{below, from_to, horizon, within}
 use Rattle.vr_model.specs.schedules.Lines.{Line}
-use Rattle.vr_model.specs.schedules.Schedules.{allows, arc_at, IsReached, ReachesEnd}
+use Rattle.vr_model.specs.schedules.Schedules.{allows, arc_at, IsFeasible, IsReached, ReachesEnd}
 use Rattle.vr_model.specs.schedules.SoundLines.{IsSound}
-use Rattle.vr_model.specs.schedules.Levels.{Crosses, ReachedAtStart, ReachedByCrossing, ReachedAtEnd, EndReachedByCrossing, AreStarts, FitBefore, FitAfter}
+use Rattle.vr_model.specs.schedules.Levels.{Crosses, FeasibleWhereLevelsMeet, ReachedAtStart, ReachedByCrossing, ReachedAtEnd, EndReachedByCrossing, AreStarts, FitBefore, FitAfter}
 use Rattle.vr_model.specs.schedules.ChosenLaws.{ReachedAsTested, EndReachedAsTested}
 use Rattle.vr_model.specs.schedules.Choices.{is_reached, reaches_end}
 use Rattle.vr_model.specs.schedules.Weights.{runs, over_breaks, walk_weight}
@@ -230,3 +230,16 @@ module _ (line : Line) (steady : IsSteady line) (at_start : ReachedAtStart) (cro
       let z = arc_weighs (a + 1 + 1) (omega (arith, is)) in
       let join = join_weighs j (a + 3) (omega arith) is in
       ap₂ (λ m k. m + k) (sum ∙ ap₂ (λ m k. m + k) x (ap₂ (λ m k. m + k) y z)) join
+
+-- a steady line has a schedule
+module _ (line : Line) (steady : IsSteady line) (at_start : ReachedAtStart) (crossing : ReachedByCrossing) (at_end : ReachedAtEnd) (back_over : EndReachedByCrossing) (alone : ArcAlone) (meet : FeasibleWhereLevelsMeet) where
+  pub goes_through : (j : ℕ) → 1 + j ≡ length line.arcs → IsFeasible line
+  goes_through j is =
+      let f = steady.few in
+      (meet line steady.sound 1 (omega (arith, is))).1 (
+        0,
+        omega arith,
+        pos (5 * 1),
+        (reached line steady at_start crossing alone 1 (omega (arith, is)) (pos (5 * 1))).1 refl,
+        (reaching line steady at_end back_over alone j 1 (omega arith) is (pos (5 * 1))).1 (omega (arith, ints), omega (arith, ints, is, f)),
+      )

@@ -1,18 +1,26 @@
 //! What a change of lists weighs: how many images of runs a walk takes through it, in worked cases.
 #![tactic(auto)]
 
-ghost use Rattle.vr_weights.specs.Even.{SwapWeighsFive};
+ghost use Rattle.vr_weights.specs.Even.{SomeModelIsEven, SwapIsFeasible, SwapWeighsFive};
 
-/// Where each arc takes five and nothing else is asked, two neighbours that change places weigh five, however long the
-/// list is: three arcs of one run each, and one run of both sides where the walk meets the list again.
+/// There is a model in which the way between any two nodes takes five, and nothing else is asked.
+pub fn some_model_is_even()
+    ensures { SomeModelIsEven }
+{}
+
+/// In such a model two neighbours that change places in a list weigh five, however long the list is: three arcs of one
+/// run each, and one run of both sides where the walk meets the list again. The list has a schedule afterwards.
 pub fn swap_weighs_five()
-    ensures { SwapWeighsFive }
+    ensures weight { SwapWeighsFive }
+    ensures feasible { SwapIsFeasible }
 {
     vr_model::laws::lines_are_sound();
     vr_model::laws::reached_at_start();
     vr_model::laws::reached_by_crossing();
     vr_model::laws::reached_at_end();
     vr_model::laws::end_reached_by_crossing();
+    vr_model::laws::feasible_where_levels_meet();
+    vr_model::laws::chosen_where_feasible();
     vr_model::laws::reached_as_tested();
     vr_model::laws::end_reached_as_tested();
     vr_steps::laws::arc_alone();
