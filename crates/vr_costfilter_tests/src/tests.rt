@@ -7,16 +7,14 @@ ghost use Rattle.vr_model.specs.tables.WellFormed.{IsWellFormed};
 ghost use Rattle.vr_routes.specs.Changes.{IsMadeOn};
 ghost use Rattle.vr_routes.specs.Pieces.{changed};
 
-use serde_json::Value;
 use std::alloc::Global;
 use std::test::Fail;
 use vr_costfilter::{ArcCost, CostPart, FixedCost, GroupCost};
-use vr_json::Path;
 use vr_model::{Model, Move, NoMemory, Parts};
-use vr_read::read_model;
 use vr_routes::samples::routes_of;
 use vr_routes::{Change, Routes};
 use vr_rules::{cost, valid};
+use vr_samples::read_model_text;
 
 // Five optional visits, costs that differ by direction and by vehicle, and fixed costs.
 const VANS: &str = r#"{"format":1,"nodes":6,"matrices":[
@@ -25,17 +23,6 @@ const VANS: &str = r#"{"format":1,"nodes":6,"matrices":[
 "vehicles":[{"start":0,"end":0,"fixed":10},{"start":0,"end":0,"costs":0,"fixed":20},
 {"start":0,"end":0,"costs":1,"fixed":40}],
 "groups":[{"nodes":[1,2,3,4,5],"penalty":1,"max":5}]}"#;
-
-// The model of a text, where there is one.
-pub(crate) fn read(alloc: Global, text: &str) -> Result<Option<Model>, NoMemory>
-    ensures { IfOk result (λ model. IfSome model IsWellFormed) }
-{
-    let path = Path::root(alloc);
-    match Value::from_str(alloc, text) {
-        Ok(value) => Ok(read_model(alloc, &value, &path).ok()),
-        Err(_) => Ok(None),
-    }
-}
 
 // Valid routes with these lists, where there are such.
 pub(crate) fn valid_routes(
@@ -117,9 +104,9 @@ fn agree(
 
 // The same of the model of a text.
 fn texts_agree(alloc: Global, text: &str, lists: &[&[u32]], mv: Move, penalty: i64) -> bool {
-    match read(alloc, text) {
-        Ok(Some(model)) => agree(alloc, &model, lists, mv, penalty) == Ok(true),
-        _ => false,
+    match read_model_text(alloc, text) {
+        Some(model) => agree(alloc, &model, lists, mv, penalty) == Ok(true),
+        None => false,
     }
 }
 

@@ -8,13 +8,14 @@ ghost use Rattle.vr_model.specs.tables.WellFormed.{IsWellFormed};
 ghost use Rattle.vr_routes.specs.Changes.{IsMadeOn};
 ghost use Rattle.vr_routes.specs.Pieces.{changed};
 
-use crate::tests::{read, valid_routes};
+use crate::tests::valid_routes;
 use std::alloc::Global;
 use std::test::Fail;
 use vr_costfilter::{CostPart, GlobalSpan, PlanCost};
 use vr_model::{Model, Move, NoMemory, Parts};
 use vr_routes::{Change, Routes};
 use vr_rules::{cost, valid};
+use vr_samples::read_model_text;
 
 // Two visits, each 5 from all others, and a global span that costs 10 a unit.
 const TIMES: &str = r#"{"format":1,"nodes":3,"matrices":[[[0,5,5],[5,0,5],[5,5,0]]],
@@ -126,9 +127,9 @@ fn told(before: Parts, after: Parts, added: Added) -> Option<Added> {
 
 // The same of the model of a text.
 fn answer_of(alloc: Global, text: &str, lists: &[&[u32]], mv: Move) -> Option<Added> {
-    match read(alloc, text) {
-        Ok(Some(model)) => answer(alloc, &model, lists, mv).unwrap_or(None),
-        _ => None,
+    match read_model_text(alloc, text) {
+        Some(model) => answer(alloc, &model, lists, mv).unwrap_or(None),
+        None => None,
     }
 }
 

@@ -4,13 +4,14 @@ ghost use Rattle.std.specs.Prelude.{IfOk, IfSome, IsTrue};
 ghost use Rattle.vr_model.specs.routes.Routes.{are_lists};
 ghost use Rattle.vr_model.specs.tables.WellFormed.{IsWellFormed};
 
-use crate::tests::{follows, read};
+use crate::tests::follows;
 use std::alloc::Global;
 use std::test::Fail;
 use vr_lists::{PairPlaces, keeps_pairs};
 use vr_model::{Model, Move, NoMemory, Seq};
 use vr_pathfilters::PairFilter;
 use vr_routes::Routes;
+use vr_samples::read_model_text;
 
 // Two visits and no pairs.
 const NO_PAIRS: &str = r#"{"format":1,"nodes":3,"matrices":[[[0,5,9],[5,0,4],[9,4,0]]],
@@ -63,7 +64,7 @@ fn keeps(alloc: Global, model: &Model, list: &[u32]) -> Result<Option<bool>, NoM
 
 // The same of a model's text.
 fn keeps_in(alloc: Global, text: &str, list: &[u32]) -> Result<Option<bool>, NoMemory> {
-    match read(alloc, text)? {
+    match read_model_text(alloc, text) {
         Some(model) => keeps(alloc, &model, list),
         None => Ok(None),
     }
@@ -102,7 +103,7 @@ fn pairs_follow(alloc: Global, model: &Model, moves: &[(Move, bool)]) -> Result<
 
 // The same of a model's text.
 fn follow_in(alloc: Global, text: &str, moves: &[(Move, bool)]) -> Result<bool, NoMemory> {
-    match read(alloc, text)? {
+    match read_model_text(alloc, text) {
         Some(model) => pairs_follow(alloc, &model, moves),
         None => Ok(false),
     }

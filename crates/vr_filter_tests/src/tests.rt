@@ -5,19 +5,17 @@ ghost use Rattle.vr_model.specs.routes.Rules.{is_valid};
 ghost use Rattle.vr_model.specs.tables.Tables.{visits};
 ghost use Rattle.vr_model.specs.tables.WellFormed.{IsWellFormed};
 
-use serde_json::Value;
 use std::alloc::Global;
 use std::marker::Brand;
 use std::sync::ledger::{Blank, Ledger};
 use std::test::Fail;
 use vr_filter::{Both, PathFilter};
-use vr_json::Path;
 use vr_model::{Model, Move, NoMemory, Steps};
 use vr_pathfilters::{DimensionFilter, GroupFilter, VehicleFilter};
-use vr_read::read_model;
 use vr_routes::samples::routes_of;
 use vr_routes::{Change, Routes};
 use vr_rules::valid;
+use vr_samples::read_model_text;
 
 // Four visits, each 10 from the others. Node 1 has a window, node 2 a later one, node 3 five forbidden intervals, so
 // that its set is kept beyond what is held in place, and node 4 a late window; node 4 is for the first vehicle alone.
@@ -35,17 +33,6 @@ const BREAKS: &str = r#"{"format":1,"nodes":3,"matrices":[[[0,10,10],[10,0,10],[
 "dimensions":[{"name":"time","evaluators":[{"matrix":0}],"capacity":60,"slack_max":30,"fix_start":true,
 "breaks":[{"vehicle":0,"breaks":[{"from":5,"to":12,"duration":5},{"from":40,"to":41,"duration":5}]}],
 "nodes":[{"node":1,"window":[0,15]}]}],"groups":[{"nodes":[1,2],"penalty":1,"max":2}]}"#;
-
-// The model of a text, where there is one.
-pub(crate) fn read(alloc: Global, text: &str) -> Result<Option<Model>, NoMemory>
-    ensures { IfOk result (λ model. IfSome model IsWellFormed) }
-{
-    let path = Path::root(alloc);
-    match Value::from_str(alloc, text) {
-        Ok(value) => Ok(read_model(alloc, &value, &path).ok()),
-        Err(_) => Ok(None),
-    }
-}
 
 // Makes a move where it is one and the filter lets it pass; answers whether that was so.
 fn try_move<F: PathFilter, L: Ledger>(
@@ -218,8 +205,49 @@ const INTO_THE_GAP: &[(Move, bool)] = &[
     (Move::TwoOpt { v: 0, a: 0, b: 1 }, false),
 ];
 
+// Twenty visits, each 5 from the others, and a time without rows.
+const EVEN: &str = r#"{"format":1,"nodes":21,"vehicles":[{"start":0,"end":0}],"matrices":[[
+[0,5,5,5,5,5,5,5,5,5,5,5,5,5,5,5,5,5,5,5,5],[5,0,5,5,5,5,5,5,5,5,5,5,5,5,5,5,5,5,5,5,5],
+[5,5,0,5,5,5,5,5,5,5,5,5,5,5,5,5,5,5,5,5,5],[5,5,5,0,5,5,5,5,5,5,5,5,5,5,5,5,5,5,5,5,5],
+[5,5,5,5,0,5,5,5,5,5,5,5,5,5,5,5,5,5,5,5,5],[5,5,5,5,5,0,5,5,5,5,5,5,5,5,5,5,5,5,5,5,5],
+[5,5,5,5,5,5,0,5,5,5,5,5,5,5,5,5,5,5,5,5,5],[5,5,5,5,5,5,5,0,5,5,5,5,5,5,5,5,5,5,5,5,5],
+[5,5,5,5,5,5,5,5,0,5,5,5,5,5,5,5,5,5,5,5,5],[5,5,5,5,5,5,5,5,5,0,5,5,5,5,5,5,5,5,5,5,5],
+[5,5,5,5,5,5,5,5,5,5,0,5,5,5,5,5,5,5,5,5,5],[5,5,5,5,5,5,5,5,5,5,5,0,5,5,5,5,5,5,5,5,5],
+[5,5,5,5,5,5,5,5,5,5,5,5,0,5,5,5,5,5,5,5,5],[5,5,5,5,5,5,5,5,5,5,5,5,5,0,5,5,5,5,5,5,5],
+[5,5,5,5,5,5,5,5,5,5,5,5,5,5,0,5,5,5,5,5,5],[5,5,5,5,5,5,5,5,5,5,5,5,5,5,5,0,5,5,5,5,5],
+[5,5,5,5,5,5,5,5,5,5,5,5,5,5,5,5,0,5,5,5,5],[5,5,5,5,5,5,5,5,5,5,5,5,5,5,5,5,5,0,5,5,5],
+[5,5,5,5,5,5,5,5,5,5,5,5,5,5,5,5,5,5,0,5,5],[5,5,5,5,5,5,5,5,5,5,5,5,5,5,5,5,5,5,5,0,5],
+[5,5,5,5,5,5,5,5,5,5,5,5,5,5,5,5,5,5,5,5,0]]],
+"dimensions":[{"name":"time","evaluators":[{"matrix":0}],"capacity":68719476736,"slack_max":0,"fix_start":true}],
+"groups":[{"nodes":[1,2,3,4,5,6,7,8,9,10,11,12,13,14,15,16,17,18,19,20],"penalty":1,"max":20}]}"#;
+
+// All visits go into one list, and then the sixth and the seventh change places.
+const SWAPPED: &[(Move, bool)] = &[
+    (Move::MakeActive { u: 1, w: 0, t: 0 }, true),
+    (Move::MakeActive { u: 2, w: 0, t: 1 }, true),
+    (Move::MakeActive { u: 3, w: 0, t: 2 }, true),
+    (Move::MakeActive { u: 4, w: 0, t: 3 }, true),
+    (Move::MakeActive { u: 5, w: 0, t: 4 }, true),
+    (Move::MakeActive { u: 6, w: 0, t: 5 }, true),
+    (Move::MakeActive { u: 7, w: 0, t: 6 }, true),
+    (Move::MakeActive { u: 8, w: 0, t: 7 }, true),
+    (Move::MakeActive { u: 9, w: 0, t: 8 }, true),
+    (Move::MakeActive { u: 10, w: 0, t: 9 }, true),
+    (Move::MakeActive { u: 11, w: 0, t: 10 }, true),
+    (Move::MakeActive { u: 12, w: 0, t: 11 }, true),
+    (Move::MakeActive { u: 13, w: 0, t: 12 }, true),
+    (Move::MakeActive { u: 14, w: 0, t: 13 }, true),
+    (Move::MakeActive { u: 15, w: 0, t: 14 }, true),
+    (Move::MakeActive { u: 16, w: 0, t: 15 }, true),
+    (Move::MakeActive { u: 17, w: 0, t: 16 }, true),
+    (Move::MakeActive { u: 18, w: 0, t: 17 }, true),
+    (Move::MakeActive { u: 19, w: 0, t: 18 }, true),
+    (Move::MakeActive { u: 20, w: 0, t: 19 }, true),
+    (Move::TwoOpt { v: 0, a: 5, b: 6 }, true),
+];
+
 fn of_text(alloc: Global, text: &str, moves: &[(Move, bool)]) -> Result<bool, NoMemory> {
-    match read(alloc, text)? {
+    match read_model_text(alloc, text) {
         Some(model) => dimension_follows(alloc, &model, moves),
         None => Ok(false),
     }
@@ -231,13 +259,14 @@ fn a_dimension_refuses_what_has_no_schedule(rt: HostRuntime) -> Result<(), Fail>
     assert!(rt; of_text(alloc, WINDOWS, TO_FIRST)?);
     assert!(rt; of_text(alloc, BREAKS, WITH_BREAKS)?);
     assert!(rt; of_text(alloc, GAP, INTO_THE_GAP)?);
+    assert!(rt; of_text(alloc, EVEN, SWAPPED)?);
     Ok(())
 }
 
 #[test]
 fn filters_are_joined(rt: HostRuntime) -> Result<(), Fail> {
     let alloc = rt.alloc();
-    let model = read(alloc, WINDOWS)?.ok_or("there is a model")?;
+    let model = read_model_text(alloc, WINDOWS).ok_or("there is a model")?;
     let moves = &[
         (Move::MakeActive { u: 4, w: 1, t: 0 }, false),
         (Move::MakeActive { u: 4, w: 0, t: 0 }, true),
@@ -296,7 +325,7 @@ fn groups_of_text(
     lists: &[&[u32]],
     moves: &[(Move, bool)],
 ) -> Result<bool, NoMemory> {
-    match read(alloc, text)? {
+    match read_model_text(alloc, text) {
         Some(model) => groups_follow(alloc, &model, lists, moves),
         None => Ok(false),
     }

@@ -5,11 +5,8 @@ ghost use Rattle.vr_model.specs.routes.Rules.{is_valid};
 ghost use Rattle.vr_model.specs.tables.Tables.{visits};
 ghost use Rattle.vr_model.specs.tables.WellFormed.{IsWellFormed};
 
-use serde_json::Value;
 use std::alloc::Global;
-use vr_json::Path;
 use vr_model::{Model, NoMemory, Seq};
-use vr_read::read_model;
 use vr_routes::Routes;
 use vr_rules::valid;
 
@@ -35,17 +32,6 @@ pub fn one_list(alloc: Global, model: &Model) -> Result<Vec<Seq<u32>>, NoMemory>
         lists.push(Seq::new(alloc))?;
     }
     Ok(lists)
-}
-
-/// The model of a text, where there is one.
-pub fn read(alloc: Global, text: &str) -> Result<Option<Model>, NoMemory>
-    ensures { IfOk result (λ model. IfSome model IsWellFormed) }
-{
-    let path = Path::root(alloc);
-    match Value::from_str(alloc, text) {
-        Ok(value) => Ok(read_model(alloc, &value, &path).ok()),
-        Err(_) => Ok(None),
-    }
 }
 
 /// Valid routes of a model with these lists, where there are such.

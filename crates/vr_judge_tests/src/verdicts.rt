@@ -6,7 +6,7 @@ ghost use Rattle.vr_model.specs.tables.Tables.{visits};
 ghost use Rattle.vr_model.specs.tables.WellFormed.{IsWellFormed};
 ghost use Rattle.vr_routes.specs.Judging.{HoldSame};
 
-use crate::samples::{By, THREE, TWO_VANS, one_list, read, routes_of};
+use crate::samples::{By, THREE, TWO_VANS, one_list, routes_of};
 use std::alloc::Global;
 use std::fmt::Write;
 use std::marker::Brand;
@@ -17,6 +17,7 @@ use vr_judge::FilterJudge;
 use vr_model::{Model, Move, NoMemory, Steps};
 use vr_plain::PlainJudge;
 use vr_routes::{Change, Judge, Routes, Verdict};
+use vr_samples::read_model_text;
 
 // What a judge says of a move, `None` where it is none. A move that is not refused is made, where that is asked.
 fn judge_move<J: Judge, L: Ledger>(
@@ -126,7 +127,7 @@ fn assert_said(
 ) -> Result<(), Fail> {
     let mut text = String::new(alloc);
     write!(text, "{start}{rest}}}")?;
-    let model = read(alloc, text.as_str())?.ok_or("a model")?;
+    let model = read_model_text(alloc, text.as_str()).ok_or("a model")?;
     assert!(rt; says(alloc, &model, By::Rebuilding, moves)?, "{rest}");
     assert!(rt; says(alloc, &model, By::Filters, moves)?, "{rest}");
     Ok(())
