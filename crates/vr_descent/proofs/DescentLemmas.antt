@@ -16,7 +16,8 @@ use Rattle.vr_model.specs.declared.search.Limit.{Limit}
 use Rattle.vr_model.specs.declared.search.Kind.TheVariants as kind
 use Rattle.vr_model.specs.declared.neighbours.Move.{Move}
 use Rattle.vr_model.proofs.searches.SearchBounds.{descent_bound_unmet}
-use Rattle.vr_descent.specs.Scanned.{cost_change, is_acceptable}
+use Rattle.vr_routes.specs.Judging.{cost_change}
+use Rattle.vr_descent.specs.Scanned.{is_acceptable}
 use Rattle.vr_descent.specs.Searching.{events_after, move_event, scan_of}
 use Rattle.vr_descent.proofs.EndLemmas.{accepted_where}
 use Rattle.vr_descent.proofs.GoingOn.{behind, Goes}

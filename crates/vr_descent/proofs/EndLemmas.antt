@@ -11,7 +11,8 @@ use Rattle.vr_model.specs.declared.records.Model.{Model}
 use Rattle.vr_model.specs.declared.neighbours.Move.{Move}
 use Rattle.vr_model.proofs.searches.ScanEnding.{scan_ends}
 use Rattle.vr_model.proofs.tables.Members.{of_contains}
-use Rattle.vr_descent.specs.Scanned.{cost_change, is_acceptable, scan_end}
+use Rattle.vr_routes.specs.Judging.{cost_change}
+use Rattle.vr_descent.specs.Scanned.{is_acceptable, scan_end}
 use Rattle.vr_descent.specs.declared.scanning.ScanEnd.TheVariants.{Accepted, Complete, Cut}
 use Rattle.vr_descent.proofs.ScanLemmas.{one_move}
 

@@ -1,18 +1,14 @@
 -- What a scan answers.
-use Rattle.std.specs.Prelude.{ℕ, Bool, ◌&&◌, cond, List, ℤ, ◌-ℤ◌, Option, Some, None}
+use Rattle.std.specs.Prelude.{◌≡◌, ℕ, Bool, false, ◌&&◌, cond, IsTrue, List, ℤ, ◌≤ℤ◌, Option, Some, None}
 use Rattle.vr_model.specs.moves.Moves.{apply}
 use Rattle.vr_model.specs.routes.Rules.{is_valid}
-use Rattle.vr_model.specs.routes.Costs.{cost}
 use Rattle.vr_model.specs.search.Scans.{Scan}
 use Rattle.vr_model.specs.search.Scans.Scan.{Accepted as accepted, Complete as complete, Cut as cut}
 use Rattle.vr_model.specs.declared.records.Model.{Model}
 use Rattle.vr_model.specs.declared.neighbours.Move.{Move}
+use Rattle.vr_routes.specs.Judging.{cost_change}
 use Rattle.vr_descent.specs.declared.scanning.ScanEnd.{ScanEnd}
 use Rattle.vr_descent.specs.declared.scanning.ScanEnd.TheVariants.{Accepted, Complete, Cut}
-
--- what a move makes of the cost of lists
-abbrev pub cost_change : Model → List (List ℕ) → Move → ℤ
-cost_change model lists mv = cost model (apply model lists mv) -ℤ cost model lists
 
 -- a move is acceptable where the lists after it are valid, and it is taken with the difference that it makes in cost
 abbrev pub is_acceptable : Model → (List (List ℕ) → Move → ℤ → Bool) → List (List ℕ) → Move → Bool
@@ -22,6 +18,12 @@ is_acceptable model takes lists mv =
 -- the difference of a move that is acceptable, none of another
 abbrev pub taken : Model → (List (List ℕ) → Move → ℤ → Bool) → List (List ℕ) → Move → Option ℤ
 taken model takes lists mv = cond (is_acceptable model takes lists mv) (Some (cost_change model lists mv)) None
+
+-- a move is not taken where the lists after it are valid and it makes a difference of `least` or more in cost
+abbrev pub IsPassedOver : Model → (List (List ℕ) → Move → ℤ → Bool) → List (List ℕ) → Move → ℤ → Type 0
+IsPassedOver model takes lists mv least =
+    let difference = cost_change model lists mv in
+    IsTrue (is_valid model (apply model lists mv)) → least ≤ℤ difference → takes lists mv difference ≡ false
 
 -- the end of a scan, with the difference of the move that was accepted
 abbrev pub scan_end : Model → List (List ℕ) → Scan → ScanEnd

@@ -1,7 +1,7 @@
 //! The trait of what a search accepts.
 
-ghost use Rattle.std.specs.Prelude.{◌≡◌, ℕ, ℤ, Bool, List, IsTrue};
-ghost use Rattle.vr_descent.specs.Scanned.{cost_change};
+ghost use Rattle.std.specs.Prelude.{◌≡◌, ℕ, ℤ, Bool, false, List, IsTrue};
+ghost use Rattle.vr_descent.specs.Scanned.{IsPassedOver};
 ghost use Rattle.vr_model.specs.moves.Moves.{apply};
 ghost use Rattle.vr_model.specs.moves.MoveTests.{is_move};
 ghost use Rattle.vr_model.specs.routes.Rules.{is_valid};
@@ -9,6 +9,7 @@ ghost use Rattle.vr_model.specs.tables.Tables.{visits};
 ghost use Rattle.vr_model.specs.tables.WellFormed.{IsWellFormed};
 ghost use Rattle.vr_model.specs.declared.neighbours.Move.{Move as Step};
 ghost use Rattle.vr_model.specs.declared.records.Model.{Model as RoutingModel};
+ghost use Rattle.vr_routes.specs.Judging.{cost_change};
 
 use vr_model::Move;
 use vr_routes::Routes;
@@ -30,4 +31,16 @@ pub trait Accept {
         requires after { IsTrue (is_valid (model self.now) (apply (model self.now) routes.now.lists mv)) }
         requires difference { difference ≡ cost_change (model self.now) routes.now.lists mv }
         ensures { result ≡ takes self.now routes.now.lists mv difference };
+
+    /// Whether the move may be taken where it makes a difference of `least` or more: false only where it is not. A
+    /// search asks this before it has a move judged. Takes no memory.
+    fn may_accept(&self, routes: &Routes, mv: Move, least: i64) -> bool
+        requires well_formed { IsWellFormed (model self.now) }
+        requires of_model { routes.now.visits ≡ visits (model self.now) }
+        requires valid { IsTrue (is_valid (model self.now) routes.now.lists) }
+        requires mv { IsTrue (is_move (model self.now) routes.now.lists mv) }
+        ensures { result ≡ false → IsPassedOver (model self.now) (takes self.now) routes.now.lists mv least }
+    {
+        true
+    }
 }

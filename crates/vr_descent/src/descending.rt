@@ -27,6 +27,10 @@ impl<'m> Accept for Cheaper<'m> {
     fn accepts(&self, _routes: &Routes, _mv: Move, difference: i64) -> bool {
         difference < 0
     }
+
+    fn may_accept(&self, _routes: &Routes, _mv: Move, least: i64) -> bool {
+        least < 0
+    }
 }
 
 /// Takes the first move that makes the cost less, again and again (`GREEDY_DESCENT` in OR-Tools), and tells the

@@ -1,7 +1,7 @@
 //! Where a search stands.
 
 ghost use Rattle.std.specs.Prelude.{◌≡◌, ◌+◌, ◌≤◌, ◌<◌, ◌^◌, [], ◌∷◌, IsTrue, IfOk, OnOk, OnErr};
-ghost use Rattle.vr_descent.specs.Scanned.{cost_change, scan_end};
+ghost use Rattle.vr_descent.specs.Scanned.{scan_end};
 ghost use Rattle.vr_descent.specs.Searching.{after_move, event_of, events_after, move_event};
 ghost use Rattle.vr_descent.specs.Searching.{progress_after, routes_after, scan_of};
 ghost use Rattle.vr_model.specs.routes.CostLaws.{HasBoundedCost};
@@ -10,7 +10,7 @@ ghost use Rattle.vr_model.specs.moves.Moves.{apply};
 ghost use Rattle.vr_model.specs.moves.MoveTests.{is_move};
 ghost use Rattle.vr_model.specs.routes.Rules.{is_valid};
 ghost use Rattle.vr_model.specs.tables.WellFormed.{IsWellFormed};
-ghost use Rattle.vr_routes.specs.Judging.{HoldSame, moved};
+ghost use Rattle.vr_routes.specs.Judging.{HoldSame, cost_change, moved};
 ghost use Rattle.vr_watch.specs.Told.{Told, ToldInPart};
 
 use crate::{Accept, ScanEnd, scan};

@@ -92,6 +92,10 @@ fn try_move<J: Judge, A: Accept, L: Ledger>(
     ensures committed { J.committed judge.new ≡ J.committed judge.old }
     ensures asked { J.asked judge.new ≤ J.asked judge.old + 1 }
 {
+    let least = judge.least_difference(routes, mv);
+    if !accept.may_accept(routes, mv, least) {
+        return Ok(None);
+    }
     match judge.judge(routes, mv, steps)? {
         Verdict::Refused => Ok(None),
         Verdict::Difference(difference) => {

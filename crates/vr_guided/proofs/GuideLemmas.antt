@@ -1,5 +1,5 @@
 -- Changes of an augmented cost.
-use Rattle.std.proofs.Common.{◌≡◌, ◌∙◌, ◌≤◌, ℕ, zero, suc, List, ap, ap₂, arith}
+use Rattle.std.proofs.Common.{◌≡◌, ◌∙◌, ◌≤◌, ℕ, zero, suc, false, List, refl, sym, ap, ap₂, subst, arith}
 use Rattle.std.specs.Prelude.{ℤ, pos, negsuc, neg_ℤ, ◌+ℤ◌, ◌-ℤ◌, ◌*ℤ◌, ◌≤ℤ◌, int_lt, unsigned_abs}
 use Rattle.std.proofs.lemmas.Int.{ints}
 use Rattle.std.proofs.Math.IntN.{zero-*ℤ, suc_ℤ-*ℤ, pred_ℤ-*ℤ}
@@ -9,8 +9,8 @@ use Rattle.vr_model.specs.search.GuidedSearches.{Penalties, augmented, penalised
 use Rattle.vr_model.specs.declared.records.Model.{Model}
 use Rattle.vr_model.specs.declared.search.Lambda.{Lambda}
 use Rattle.vr_model.specs.declared.neighbours.Move.{Move}
-use Rattle.vr_descent.specs.Scanned.{cost_change}
-use Rattle.vr_guided.specs.Guides.{makes_less, penalised_change}
+use Rattle.vr_routes.specs.Judging.{cost_change}
+use Rattle.vr_guided.specs.Guides.{is_gain, makes_less, penalised_change}
 
 spread : (q a b : ℤ) → q *ℤ (a -ℤ b) ≡ (q *ℤ a) -ℤ (q *ℤ b)
 spread (pos zero) a b = omega (arith, ints, zero-*ℤ (a -ℤ b), zero-*ℤ a, zero-*ℤ b)
@@ -37,6 +37,36 @@ pub makes_less_where : (model : Model) (lambda : Lambda) (penalties : Penalties)
 unfolding augmented
 makes_less_where model lambda penalties lists mv costs change e h = ap₂ (λ x y. int_lt ((lambda.q *ℤ x) +ℤ (lambda.p *ℤ y)) (pos 0)) e h
     ∙ weighed lambda.q lambda.p (cost model (apply model lists mv)) (cost model lists) (penalised model penalties (apply model lists mv)) (penalised model penalties lists)
+
+-- q times a number from 0 on is from 0 on
+times_low : (q x : ℤ) → pos 1 ≤ℤ q → pos 0 ≤ℤ x → pos 0 ≤ℤ (q *ℤ x)
+times_low (pos n) (pos k) some low = omega (arith, ints)
+times_low (pos n) (negsuc k) some low = absurd (never low)
+  where
+    never : pos 0 ≤ℤ negsuc k → ⊥
+    never h = omega (arith, ints, h)
+times_low (negsuc n) x some low = absurd (never some)
+  where
+    never : pos 1 ≤ℤ negsuc n → ⊥
+    never h = omega (arith, ints, h)
+
+not_less : (x y z : ℤ) → pos 0 ≤ℤ (x -ℤ y) → int_lt (y +ℤ z) (pos 0) ≡ false → int_lt (x +ℤ z) (pos 0) ≡ false
+not_less x y z more none = Prim.grind (arith, ints, more, none)
+
+-- what is no gain with the least difference is none with the difference itself
+still_none : (lambda : Lambda) (least difference change : ℤ) → pos 1 ≤ℤ lambda.q → is_gain lambda least change ≡ false → least ≤ℤ difference → is_gain lambda difference change ≡ false
+still_none lambda least difference change some none low =
+    let more : pos 0 ≤ℤ (difference -ℤ least) = omega (arith, ints, low) in
+    let times : pos 0 ≤ℤ ((lambda.q *ℤ difference) -ℤ (lambda.q *ℤ least)) = subst (λ z. pos 0 ≤ℤ z) (spread lambda.q difference least) (times_low lambda.q (difference -ℤ least) some more) in
+    not_less (lambda.q *ℤ difference) (lambda.q *ℤ least) (lambda.p *ℤ change) times none
+
+-- a move that is no gain with the least difference that it may make does not make the augmented cost less
+pub passed_over : (model : Model) (lambda : Lambda) (penalties : Penalties) (lists : List (List ℕ)) (mv : Move) (least : ℤ)
+    → pos 1 ≤ℤ lambda.q → is_gain lambda least (penalised_change model penalties lists mv) ≡ false
+    → least ≤ℤ cost_change model lists mv → makes_less model lambda penalties lists mv (cost_change model lists mv) ≡ false
+passed_over model lambda penalties lists mv least some none low =
+    sym (makes_less_where model lambda penalties lists mv (cost_change model lists mv) (penalised_change model penalties lists mv) refl refl)
+    ∙ still_none lambda least (cost_change model lists mv) (penalised_change model penalties lists mv) some none low
 
 -- a bound on the absolute value from both sides
 pub at_least : (n : ℕ) (z : ℤ) → unsigned_abs z ≤ n → neg_ℤ (pos n) ≤ℤ z

@@ -6,7 +6,7 @@ ghost use Rattle.vr_guided.specs.Counts.{AtMost, counted};
 ghost use Rattle.vr_guided.specs.Nexts.{IsNext};
 ghost use Rattle.vr_guided.specs.Walks.{last_of, route_weight, stretch_weight, unused_weight};
 ghost use Rattle.vr_model.specs.search.GuidedSearches.{penalised};
-ghost use Rattle.vr_model.specs.routes.Routes.{route};
+ghost use Rattle.vr_model.specs.routes.Routes.{are_lists, route};
 ghost use Rattle.vr_model.specs.routes.Rules.{is_valid};
 ghost use Rattle.vr_model.specs.tables.Tables.{vehicle_at};
 ghost use Rattle.vr_model.specs.tables.WellFormed.{IsWellFormed};
@@ -20,6 +20,7 @@ use vr_model::Model;
 use vr_routes::{Change, Piece, Routes};
 
 // The node before a place of a list, `start` before the first.
+#[inline]
 fn node_before(list: &[u32], place: u32, start: u32) -> u32
     requires { place ≤ length list.now }
     ensures node { result ≡ last_of start (take place list.now) }
@@ -32,6 +33,7 @@ fn node_before(list: &[u32], place: u32, start: u32) -> u32
 }
 
 // The node at a place of a list, `end` behind the last.
+#[inline]
 fn node_from(list: &[u32], place: u32, end: u32) -> u32
     requires { place ≤ length list.now }
     ensures node { IsNext result (drop place list.now ++ end ∷ []) }
@@ -44,6 +46,7 @@ fn node_from(list: &[u32], place: u32, end: u32) -> u32
 }
 
 // Where a vehicle starts.
+#[inline]
 fn start_of(model: &Model, v: u32) -> u32
     requires well_formed { IsWellFormed model.now }
     requires vehicle { v < length model.now.vehicles }
@@ -54,6 +57,7 @@ fn start_of(model: &Model, v: u32) -> u32
 }
 
 // Where a vehicle ends.
+#[inline]
 fn end_of(model: &Model, v: u32) -> u32
     requires well_formed { IsWellFormed model.now }
     requires vehicle { v < length model.now.vehicles }
@@ -69,7 +73,7 @@ impl Penalties {
         requires well_formed { IsWellFormed model.now }
         requires valid { IsTrue (is_valid model.now routes.now.lists) }
         requires parts { AreParts routes.now.lists change.now }
-        requires after { IsTrue (is_valid model.now (changed routes.now.lists change.now)) }
+        requires after { IsTrue (are_lists model.now (changed routes.now.lists change.now)) }
         requires covers { self.now.nodes ≡ model.now.nodes }
         requires few { AtMost 1000000000 (counted self.now) }
         ensures bound { unsigned_abs result ≤ 2 ^ 100 }
@@ -175,6 +179,7 @@ impl Penalties {
     }
 
     // What the arc from the start of a vehicle to its end adds where it has `len = 0` visits: it takes no arc then.
+    #[inline]
     fn unused(&self, model: &Model, v: u32, len: u32) -> i128
         requires well_formed { IsWellFormed model.now }
         requires vehicle { v < length model.now.vehicles }

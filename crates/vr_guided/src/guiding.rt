@@ -2,8 +2,7 @@
 
 ghost use Rattle.std.specs.Prelude.{◌≡◌, ◌≤◌, ◌*◌, ◌^◌, ◌*ℤ◌, IsTrue, unsigned_abs};
 ghost use Rattle.vr_guided.specs.Counts.{AtMost, IsSoundGuide, counted};
-ghost use Rattle.vr_guided.specs.Guides.{makes_less, penalised_change};
-ghost use Rattle.vr_model.specs.moves.Moves.{apply};
+ghost use Rattle.vr_guided.specs.Guides.{is_gain, makes_less, penalised_change};
 ghost use Rattle.vr_model.specs.moves.MoveTests.{is_move};
 ghost use Rattle.vr_model.specs.routes.Rules.{is_valid};
 ghost use Rattle.vr_model.specs.tables.Tables.{visits};
@@ -29,6 +28,26 @@ impl<'m> Accept for Guiding<'m> {
     ghost takes = { λ s. makes_less s.model.now s.lambda (counted s.penalties.now) };
 
     fn accepts(&self, routes: &Routes, mv: Move, difference: i64) -> bool {
+        self.gains(routes, mv, difference)
+    }
+
+    fn may_accept(&self, routes: &Routes, mv: Move, least: i64) -> bool {
+        self.gains(routes, mv, least)
+    }
+}
+
+impl<'m> Guiding<'m> {
+    // Whether this difference in cost, with what the move makes of the penalised arc costs, makes the augmented cost
+    // less.
+    #[inline]
+    fn gains(&self, routes: &Routes, mv: Move, difference: i64) -> bool
+        requires well_formed { IsWellFormed self.now.model.now }
+        requires of_model { routes.now.visits ≡ visits self.now.model.now }
+        requires valid { IsTrue (is_valid self.now.model.now routes.now.lists) }
+        requires mv { IsTrue (is_move self.now.model.now routes.now.lists mv) }
+        ensures { let penalised = penalised_change self.now.model.now (counted self.now.penalties.now) in
+            result ≡ is_gain self.now.lambda difference (penalised routes.now.lists mv) }
+    {
         let change = penalised_change(self.model, self.penalties, routes, mv);
         let costs = scaled(self.lambda.q, difference as i128);
         costs + scaled(self.lambda.p, change) < 0
@@ -36,6 +55,7 @@ impl<'m> Accept for Guiding<'m> {
 }
 
 // A change times p or q.
+#[inline]
 fn scaled(factor: i64, change: i128) -> i128
     requires factor { unsigned_abs factor ≤ 1000 }
     requires change { unsigned_abs change ≤ 2 ^ 100 }
@@ -51,7 +71,6 @@ fn penalised_change(model: &Model, penalties: &Penalties, routes: &Routes, mv: M
     requires of_model { routes.now.visits ≡ visits model.now }
     requires valid { IsTrue (is_valid model.now routes.now.lists) }
     requires mv { IsTrue (is_move model.now routes.now.lists mv) }
-    requires after { IsTrue (is_valid model.now (apply model.now routes.now.lists mv)) }
     requires covers { penalties.now.nodes ≡ model.now.nodes }
     requires few { AtMost 1000000000 (counted penalties.now) }
     ensures bound { unsigned_abs result ≤ 2 ^ 100 }

@@ -33,7 +33,7 @@ impl Walk {
 }
 
 impl Penalties {
-    /// What an arc adds: its cost times its penalty.
+    /// What an arc adds: its cost times its penalty. Most arcs have none, and then the cost is not looked up.
     #[inline]
     pub fn weight(&self, model: &Model, vehicle: u32, origin: u32, target: u32) -> i128
         requires well_formed { IsWellFormed model.now }
@@ -47,10 +47,11 @@ impl Penalties {
         ensures low { pos 0 ≤ℤ result }
         ensures high { result ≤ℤ pos (2 ^ 70) }
     {
-        times(
-            self.at(origin, target),
-            model.arc_cost(vehicle, origin, target),
-        )
+        let penalty = self.at(origin, target);
+        if penalty == 0 {
+            return 0;
+        }
+        times(penalty, model.arc_cost(vehicle, origin, target))
     }
 
     /// A walk goes on to a node.
@@ -175,6 +176,7 @@ impl Penalties {
 }
 
 // A penalty times a cost.
+#[inline]
 fn times(penalty: u32, cost: i64) -> i128
     requires few { penalty ≤ 1000000000 }
     requires low { pos 0 ≤ℤ cost }

@@ -1,5 +1,5 @@
 -- What a judge has to answer, and what it holds.
-use Rattle.std.specs.Prelude.{◌≡◌, ℕ, cond, List, IsTrue, ◌-ℤ◌}
+use Rattle.std.specs.Prelude.{◌≡◌, ℕ, cond, List, IsTrue, ℤ, ◌-ℤ◌}
 use Rattle.vr_model.specs.tables.Tables.{visits}
 use Rattle.vr_model.specs.moves.Moves.{apply}
 use Rattle.vr_model.specs.routes.Rules.{is_valid}
@@ -16,11 +16,14 @@ pub record HoldSame (model : Model) (committed : List (List ℕ)) (routes : Tour
   pub of_model : routes.visits ≡ visits model
   pub valid : IsTrue (is_valid model routes.lists)
 
+-- what a move makes of the cost of lists
+abbrev pub cost_change : Model → List (List ℕ) → Move → ℤ
+cost_change model lists mv = cost model (apply model lists mv) -ℤ cost model lists
+
 -- a move is refused where the lists after it are not valid; else it makes this difference in cost
 abbrev pub verdict_of : Model → List (List ℕ) → Move → Verdict
 verdict_of model lists mv =
-    let after = apply model lists mv in
-    cond (is_valid model after) (Difference (cost model after -ℤ cost model lists)) Refused
+    cond (is_valid model (apply model lists mv)) (Difference (cost_change model lists mv)) Refused
 
 -- the routes after a move
 abbrev pub moved : Model → Tours → Move → Tours

@@ -1,17 +1,17 @@
 //! The trait of what judges moves.
 
-ghost use Rattle.std.specs.Prelude.{◌≡◌, ◌+◌, ◌≤◌, ℕ, List, IsTrue, IfOk, OnOk, OnErr};
+ghost use Rattle.std.specs.Prelude.{◌≡◌, ◌+◌, ◌≤◌, ◌≤ℤ◌, ℕ, List, IsTrue, IfOk, OnOk, OnErr};
 ghost use Rattle.vr_model.specs.moves.Moves.{apply};
 ghost use Rattle.vr_model.specs.moves.MoveTests.{is_move};
 ghost use Rattle.vr_model.specs.routes.Rules.{is_valid};
 ghost use Rattle.vr_model.specs.tables.WellFormed.{IsWellFormed};
 ghost use Rattle.vr_model.specs.declared.neighbours.Move.{Move as Step};
 ghost use Rattle.vr_model.specs.declared.records.Model.{Model as RoutingModel};
-ghost use Rattle.vr_routes.specs.Judging.{HoldSame, moved, verdict_of};
+ghost use Rattle.vr_routes.specs.Judging.{HoldSame, cost_change, moved, verdict_of};
 
 use crate::Routes;
 use std::sync::ledger::Ledger;
-use vr_model::{Move, NoMemory, Steps};
+use vr_model::{Move, NoMemory, Steps, laws};
 
 /// What a judge says of a move.
 #[derive(Clone, Copy, Debug, PartialEq, Eq)]
@@ -51,6 +51,24 @@ pub trait Judge {
         ensures committed { committed self.new ≡ committed self.old }
         ensures asked { asked self.new ≤ asked self.old + 1 }
         ensures steps { steps.new ≤ steps.old + weight self.old mv };
+
+    /// A number that the difference of a move is never below, where the lists after it are valid; of other moves it says
+    /// nothing. A search asks it first, since it takes few moves and most can be passed over by what they cost at least.
+    /// It does not judge the move, takes no memory and counts no steps. A judge that knows no better number says the
+    /// least of all.
+    fn least_difference(&mut self, routes: &Routes, mv: Move) -> i64
+        requires well_formed { IsWellFormed (model self.old) }
+        requires holds { HoldSame (model self.old) (committed self.old) routes.now }
+        requires mv { IsTrue (is_move (model self.old) routes.now.lists mv) }
+        ensures least { IsTrue (is_valid (model self.old) (apply (model self.old) routes.now.lists mv))
+            → result ≤ℤ cost_change (model self.old) routes.now.lists mv }
+        ensures model { model self.new ≡ model self.old }
+        ensures committed { committed self.new ≡ committed self.old }
+        ensures asked { asked self.new ≡ asked self.old }
+    {
+        laws::costs_are_bounded();
+        i64::MIN
+    }
 
     /// Makes a move after which the lists are valid: routes and judge then both hold the lists after it. Where memory
     /// is wanting, both are as before.

@@ -7,13 +7,13 @@ use Rattle.vr_model.specs.moves.MoveTests.{is_move}
 use Rattle.vr_model.specs.routes.Rules.{is_valid}
 use Rattle.vr_model.specs.tables.WellFormed.{IsWellFormed}
 use Rattle.vr_routes.specs.Judging.{HoldSame}
-use Rattle.vr_routes.specs.Judging.{moved}
+use Rattle.vr_routes.specs.Judging.{cost_change, moved}
 use Rattle.vr_watch.specs.Told.{Told, ToldInPart}
 use Rattle.vr_model.proofs.routes.CostFits.{costs_are_bounded}
 use Rattle.vr_model.proofs.tables.Refusals.{on_err}
 use Rattle.vr_watch.proofs.ToldLemmas.{none_behind, told_nothing}
 use Rattle.vr_model.specs.routes.CostLaws.{HasBoundedCost}
-use Rattle.vr_descent.specs.Scanned.{cost_change, tries_of}
+use Rattle.vr_descent.specs.Scanned.{tries_of}
 use Rattle.vr_descent.specs.Searching.{after_move, events_after, move_event, progress_after, routes_after}
 use Rattle.vr_descent.proofs.EndLemmas.{accepted_at, completed, was_cut}
 use Rattle.vr_descent.proofs.progress.Progress.advance.Goals as goal

@@ -40,7 +40,7 @@ change_of_part-first-requires-clause-nodes c =
     let lists = c.args.routes.now.lists in
     let after = changed lists c.args.change.now in
     let here = part_is lists c.args.change.now c.requires.parts 0 (omega (arith, c.parts-parts.ensures.value, c.parts-parts.ensures.some)) in
-    subst (λ xs. All (λ node. node < c.args.model.now.nodes) xs) (here ∙ ap (joined lists) (sym c.pieces.ensures.value)) (route-below c.args.model.now after _ (are-lists c.args.model.now after c.requires.after))
+    subst (λ xs. All (λ node. node < c.args.model.now.nodes) xs) (here ∙ ap (joined lists) (sym c.pieces.ensures.value)) (route-below c.args.model.now after _ c.requires.after)
 
 pub change_of_part-first-requires-clause-short : goal.change_of_part-first-requires-clause-short
 change_of_part-first-requires-clause-short c =
@@ -48,7 +48,7 @@ change_of_part-first-requires-clause-short c =
     let after = changed lists c.args.change.now in
     let here = part_is lists c.args.change.now c.requires.parts 0 (omega (arith, c.parts-parts.ensures.value, c.parts-parts.ensures.some)) in
     let same = ap length (here ∙ ap (joined lists) (sym c.pieces.ensures.value)) in
-    let few = route-few c.args.model.now after (part_at c.args.change.now 0).vehicle (are-lists c.args.model.now after c.requires.after) in
+    let few = route-few c.args.model.now after (part_at c.args.change.now 0).vehicle c.requires.after in
     let most = c.requires.well_formed.number_of_nodes.1 in
     omega (arith, few, most, same)
 
@@ -78,7 +78,7 @@ change_of_part-requires-clause-nodes c =
     let lists = c.args.routes.now.lists in
     let after = changed lists c.args.change.now in
     let here = part_is lists c.args.change.now c.requires.parts 1 (second_there _ _ c.parts-parts.ensures.value c.parts-parts.ensures.some c.if-parts-eq1.false) in
-    subst (λ xs. All (λ node. node < c.args.model.now.nodes) xs) (here ∙ ap (joined lists) (sym c.pieces-2.ensures.value)) (route-below c.args.model.now after _ (are-lists c.args.model.now after c.requires.after))
+    subst (λ xs. All (λ node. node < c.args.model.now.nodes) xs) (here ∙ ap (joined lists) (sym c.pieces-2.ensures.value)) (route-below c.args.model.now after _ c.requires.after)
 
 pub change_of_part-requires-clause-short : goal.change_of_part-requires-clause-short
 change_of_part-requires-clause-short c =
@@ -86,7 +86,7 @@ change_of_part-requires-clause-short c =
     let after = changed lists c.args.change.now in
     let here = part_is lists c.args.change.now c.requires.parts 1 (second_there _ _ c.parts-parts.ensures.value c.parts-parts.ensures.some c.if-parts-eq1.false) in
     let same = ap length (here ∙ ap (joined lists) (sym c.pieces-2.ensures.value)) in
-    let few = route-few c.args.model.now after (part_at c.args.change.now 1).vehicle (are-lists c.args.model.now after c.requires.after) in
+    let few = route-few c.args.model.now after (part_at c.args.change.now 1).vehicle c.requires.after in
     let most = c.requires.well_formed.number_of_nodes.1 in
     omega (arith, few, most, same)
 
