@@ -31,8 +31,8 @@ pub enum ScanEnd {
 }
 
 /// Tries the moves of the model's neighbourhoods in order, at most `rest` of them, up to the first that is acceptable:
-/// the lists after it are valid, and `accept` takes it. Each try is one step of the list of moves and one question to
-/// the judge.
+/// the lists after it are valid, and `accept` takes it. Each try is one step of the list of moves and at most one
+/// question to the judge: a move that `accept` does not take with the least difference that it may make is not judged.
 ///
 /// The only refusal is want of memory, which is taken by the judge alone; the judge still holds the same lists then.
 pub fn scan<J: Judge, A: Accept, L: Ledger>(
@@ -73,7 +73,7 @@ pub fn scan<J: Judge, A: Accept, L: Ledger>(
     Ok(ScanEnd::Complete { length: place })
 }
 
-// Asks the judge about a move: the difference that it makes, where it is acceptable.
+// The difference that a move makes, where it is acceptable. The judge is asked only where it may be taken.
 #[inline]
 fn try_move<J: Judge, A: Accept, L: Ledger>(
     judge: &mut J,
