@@ -1,7 +1,6 @@
 -- What a change adds to the penalties of groups.
 use Rattle.std.proofs.Common.{◌≡◌, ◌∙◌, ℕ, zero, suc, ◌+◌, ◌*◌, ◌<◌, ◌≤◌, Bool, true, false, cond, List, [], ◌∷◌, length, take, drop, drop-cons, add-one, sum_by, refl, sym, ap, subst, inl, inr, arith}
-use Rattle.std.specs.Prelude.{◌==◌, ◌&&◌, All, IsTrue, reverse, slice_range, slice_index_or, Option, Some, None, ℤ, pos, negsuc, ◌+ℤ◌, ◌-ℤ◌, ◌*ℤ◌}
-use Rattle.std.specs.List.{concat, list_all}
+use Rattle.std.specs.Prelude.{All, IsTrue, reverse, slice_range, slice_index_or, Option, Some, None, ℤ, pos, negsuc, ◌+ℤ◌, ◌-ℤ◌, ◌*ℤ◌}
 use Rattle.std.proofs.lemmas.Bool.{cases_lt}
 use Rattle.std.proofs.lemmas.Int.{ints}
 use Rattle.std.proofs.Math.IntN.{suc_ℤ-*ℤ, zero-*ℤ}
@@ -10,34 +9,24 @@ use Rattle.std.proofs.lemmas.List.{get_or_past, take_more, reverse-append}
 use Rattle.vr_model.proofs.tables.Totals.{total_by-append}
 use Rattle.std.proofs.lemmas.List.Concat.{flat_map-cons}
 use Rattle.std.proofs.lemmas.List.Sums.{sum_by-cons}
-use Rattle.vr_model.specs.deciding.Testing.{and_right}
 use Rattle.vr_model.specs.tables.Numbers.{total_by, number_at, each}
 use Rattle.vr_model.specs.tables.WellFormed.{greatest_cost, IsIn, IsWellFormed, WherePresent}
 use Rattle.vr_model.specs.tables.Tables.{is_visit}
-use Rattle.vr_model.specs.routes.Routes.{holds, is_distinct, route}
-use Rattle.vr_model.specs.routes.Rules.{active_in, is_valid}
+use Rattle.vr_model.specs.routes.Routes.{holds, route}
+use Rattle.vr_model.specs.routes.Rules.{active_in}
 use Rattle.vr_model.specs.routes.Costs.{penalty_for, penalty_part}
 use Rattle.vr_model.specs.declared.records.Model.{Model}
 use Rattle.vr_model.specs.declared.records.Group.{Group}
 use Rattle.vr_model.proofs.tables.Tests.{fails}
-use Rattle.vr_model.proofs.moves.Times.{times, times_append, times_of_distinct, joined_times}
-use Rattle.vr_model.proofs.routes.Lists.{are-lists, place_of_held, visit_below}
+use Rattle.vr_model.proofs.moves.Times.{times, times_append, times_of_distinct}
+use Rattle.vr_model.proofs.routes.Lists.{place_of_held, visit_below}
 use Rattle.vr_routes.specs.declared.pieces.Piece.{Piece}
 use Rattle.vr_routes.specs.declared.pieces.Piece.TheVariants.{Chain}
 use Rattle.vr_routes.specs.Pieces.{nodes_of}
 use Rattle.vr_routes.specs.Seats.{IsOnce}
-use Rattle.vr_routes.proofs.OnceLemmas.{once_of_times}
 use Rattle.vr_balance.specs.Balances.{Turnover, IsBalance, over_pieces}
 use Rattle.vr_balance.proofs.ActiveLemmas.{active-count, sum-same, sum-none, sum-plus, times-held}
 use Rattle.vr_costfilter.specs.Groups.{pay, saved_by, saved_in, AreSaved, AreFew}
-
--- valid lists have no node twice
-once-valid : (model : Model) (lists : List (List ℕ)) → IsTrue (is_valid model lists) → IsOnce lists
-once-valid model lists valid =
-    let visits : Bool = list_all (is_visit model) (concat lists) in
-    let rest = and_right (length lists == length model.vehicles) (visits && is_distinct (concat lists)) (are-lists model lists valid) in
-    let distinct = and_right visits (is_distinct (concat lists)) rest in
-    once_of_times lists (λ x. let few = times_of_distinct (concat lists) distinct x in let same = joined_times x lists in omega (arith, few, same))
 
 -- ---- one group
 
@@ -226,11 +215,11 @@ module _ (model : Model) (well_formed : IsWellFormed model) (saved : List ℤ) (
       omega (arith, ints, here, rest, c)
 
   -- what a change adds to the penalties is what the nodes that go saved, less what those that come save
-  pub penalties-change : (lists later : List (List ℕ)) (turnover : Turnover) → IsTrue (is_valid model lists) → IsTrue (is_valid model later) → IsBalance lists later turnover
+  pub penalties-change : (lists later : List (List ℕ)) (turnover : Turnover) → IsOnce lists → IsOnce later → IsBalance lists later turnover
       → penalty_part model later -ℤ penalty_part model lists ≡ saved_in saved lists turnover.gone -ℤ saved_in saved lists turnover.come
-  penalties-change lists later turnover valid valid_later balance =
+  penalties-change lists later turnover once_before once_later balance =
       let groups : List Group = model.groups in
-      let d = all-groups lists later turnover balance (once-valid model lists valid) (once-valid model later valid_later) groups (λ k group low. (well_formed.each_group k group low).penalty_in_range) in
+      let d = all-groups lists later turnover balance once_before once_later groups (λ k group low. (well_formed.each_group k group low).penalty_in_range) in
       let once = λ (y : ℕ). paid-once groups y (times_of_distinct (each groups nodes_in) well_formed.no_node_in_groups_twice y) in
       let gone = groups-turned lists turnover.gone groups ∙ pieces-same (paid groups) (saved_by groups) lists turnover.gone once in
       let come = groups-turned lists turnover.come groups ∙ pieces-same (paid groups) (saved_by groups) lists turnover.come once in

@@ -11,3 +11,7 @@ over_routes f lists = total_by (λ v. f v (route lists v)) (below (length lists)
 -- what one list after a change adds to such a sum
 abbrev pub part_change : (ℕ → List ℕ → ℤ) → List (List ℕ) → ListAfter → ℤ
 part_change f lists part = f part.vehicle (joined lists part.pieces) -ℤ f part.vehicle (route lists part.vehicle)
+
+-- what f gives of the lists that the vehicles of parts have before a change, added up
+abbrev pub held_by : (ℕ → List ℕ → ℤ) → List (List ℕ) → List ListAfter → ℤ
+held_by f lists parts = total_by (λ part. f part.vehicle (route lists part.vehicle)) parts

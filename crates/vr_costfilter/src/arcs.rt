@@ -86,6 +86,17 @@ impl<'m> ArcCost<'m> {
             row: Row::new(),
         })
     }
+
+    /// What a change of the committed lists adds, also where the lists after it are not valid.
+    pub fn added(&self, routes: &Routes, change: &Change) -> i64
+        requires stands { StandsAlong self.now routes.now }
+        requires made { IsMadeOn routes.now change.now }
+        ensures exact { result ≡ arcs_part self.now.model (changed routes.now.lists change.now)
+            -ℤ arcs_part self.now.model routes.now.lists }
+        ensures range { IsAround 21990232555520000 result }
+    {
+        added_by(self, routes, change)
+    }
 }
 
 impl<'m> ListCost for ArcCost<'m> {
@@ -95,7 +106,7 @@ impl<'m> ListCost for ArcCost<'m> {
 
     ghost keeps = { StandsAlong };
 
-    fn added(&self, routes: &Routes, v: u32, pieces: &[Piece]) -> i64 {
+    fn list_adds(&self, routes: &Routes, v: u32, pieces: &[Piece]) -> i64 {
         let whole = [Piece::Chain {
             vehicle: v,
             from: 0,
@@ -130,7 +141,7 @@ impl<'m> CostPart for ArcCost<'m> {
         ensures range { IfOk result (IsAround 21990232555520000) }
         ensures memory { IsOk result }
     {
-        let added = added_by(self, routes, change);
+        let added = self.added(routes, change);
         Ok(added)
     }
 

@@ -53,13 +53,24 @@ impl<'m> ListCost for FixedCost<'m> {
 
     ghost keeps = { StandsFixed };
 
-    fn added(&self, routes: &Routes, v: u32, pieces: &[Piece]) -> i64 {
+    fn list_adds(&self, routes: &Routes, v: u32, pieces: &[Piece]) -> i64 {
         let after = self.fixed(v, nodes_in(routes, pieces) > 0);
         after - self.fixed(v, routes.len(v) > 0)
     }
 }
 
 impl<'m> FixedCost<'m> {
+    /// What a change of the committed lists adds, also where the lists after it are not valid.
+    pub fn added(&self, routes: &Routes, change: &Change) -> i64
+        requires stands { StandsFixed self.now routes.now }
+        requires made { IsMadeOn routes.now change.now }
+        ensures exact { result ≡ fixed_part self.now.model (changed routes.now.lists change.now)
+            -ℤ fixed_part self.now.model routes.now.lists }
+        ensures range { IsAround 21990232555520000 result }
+    {
+        added_by(self, routes, change)
+    }
+
     // What a vehicle costs, where it is used and where it is not.
     #[inline]
     fn fixed(&self, v: u32, used: bool) -> i64
@@ -123,7 +134,7 @@ impl<'m> CostPart for FixedCost<'m> {
         ensures memory { IsOk result }
         ensures range { IfOk result (IsAround 21990232555520000) }
     {
-        let added = added_by(self, routes, change);
+        let added = self.added(routes, change);
         Ok(added)
     }
 

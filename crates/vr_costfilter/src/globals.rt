@@ -1,6 +1,6 @@
 //! Global spans.
 
-ghost use Rattle.std.specs.Prelude.{◌≡◌, ◌-ℤ◌, ◌<◌, ◌*◌, false, IsTrue, IfOk, OnOk, OnErr, ℕ, length};
+ghost use Rattle.std.specs.Prelude.{◌≡◌, ◌-ℤ◌, ◌≤ℤ◌, ◌<◌, ◌*◌, false, IsTrue, IfOk, OnOk, OnErr, ℕ, List, length, neg_ℤ};
 ghost use Rattle.vr_model.specs.tables.Tables.{visits};
 ghost use Rattle.vr_model.specs.tables.WellFormed.{IsWellFormed};
 ghost use Rattle.vr_model.specs.routes.Rules.{is_valid};
@@ -8,7 +8,7 @@ ghost use Rattle.vr_routes.specs.Pieces.{changed, joined, part_at};
 ghost use Rattle.vr_routes.specs.Changes.{IsMadeOn};
 ghost use Rattle.vr_timings.specs.Bounds.{cumul_cost, IsAround};
 ghost use Rattle.vr_costfilter.specs.GlobalCosts.{global_cost_of, AreKept, AreLike, AreNext};
-ghost use Rattle.vr_costfilter.specs.GlobalCosts.{AreSpansReady, StandsSpans};
+ghost use Rattle.vr_costfilter.specs.GlobalCosts.{AreSpansReady, IsGlobalCost, StandsSpans};
 ghost use Rattle.vr_costfilter.specs.Parts.{NothingReady};
 
 use crate::CostPart;
@@ -88,6 +88,18 @@ impl<'m> GlobalSpan<'m> {
             row: Row::new(),
             timer,
         })
+    }
+
+    /// What the global spans cost now. No change saves more, where the lists after it are valid.
+    pub fn held(&self, _routes: &Routes) -> i64
+        requires stands { StandsSpans self.now _routes.now }
+        ensures value { result ≡ global_cost_of self.now.model _routes.now.lists }
+        ensures least { (later : List (List ℕ)) → IsTrue (is_valid self.now.model later)
+            → neg_ℤ result ≤ℤ (global_cost_of self.now.model later
+            -ℤ global_cost_of self.now.model _routes.now.lists) }
+        ensures range { IsGlobalCost result }
+    {
+        self.cost
     }
 
     // What the schedules come to of the list that part `k` of a change gives its vehicle.

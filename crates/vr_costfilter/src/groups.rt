@@ -182,6 +182,24 @@ impl<'m> GroupCost<'m> {
             balance: Balance::new(),
         })
     }
+
+    /// What a change of the committed lists adds, also where the lists after it are not valid.
+    pub fn added(&mut self, routes: &Routes, change: &Change) -> i64
+        requires stands { StandsGroups self.old routes.now }
+        requires made { IsMadeOn routes.now change.now }
+        ensures exact { result ≡ penalty_part self.old.model (changed routes.now.lists change.now)
+            -ℤ penalty_part self.old.model routes.now.lists }
+        ensures range { IsAround 21990232555520000 result }
+        ensures stays { self.new ≡ self.old }
+    {
+        if !self.pays {
+            return 0;
+        }
+        self.balance.write(routes, change);
+        let gone = saved_in(&self.saved, routes, self.balance.gone());
+        let come = saved_in(&self.saved, routes, self.balance.come());
+        gone - come
+    }
 }
 
 impl<'m> CostPart for GroupCost<'m> {
@@ -207,13 +225,8 @@ impl<'m> CostPart for GroupCost<'m> {
         ensures memory { IsOk result }
         ensures range { IfOk result (IsAround 21990232555520000) }
     {
-        if !self.pays {
-            return Ok(0);
-        }
-        self.balance.write(routes, change);
-        let gone = saved_in(&self.saved, routes, self.balance.gone());
-        let come = saved_in(&self.saved, routes, self.balance.come());
-        Ok(gone - come)
+        let added = self.added(routes, change);
+        Ok(added)
     }
 
     fn prepare(&mut self, _routes: &Routes, _change: &Change) -> Result<(), NoMemory>

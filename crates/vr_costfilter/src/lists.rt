@@ -3,6 +3,7 @@
 ghost use Rattle.std.specs.Prelude.{◌≡◌, ◌<◌, ◌≤◌, ◌-ℤ◌, ℕ, ℤ, List, All, IsTrue, length};
 ghost use Rattle.vr_model.specs.routes.Routes.{route};
 ghost use Rattle.vr_model.specs.routes.Rules.{is_valid};
+ghost use Rattle.vr_model.specs.tables.Tables.{visits};
 ghost use Rattle.vr_model.specs.tables.WellFormed.{IsWellFormed};
 ghost use Rattle.vr_model.specs.declared.records.Model.{Model as RoutingModel};
 ghost use Rattle.vr_routes.specs.Pieces.{changed, joined, IsWithin};
@@ -25,7 +26,7 @@ pub trait ListCost {
     ghost keeps: { Self → Tours → Type 0 };
 
     /// What the list that pieces are joined to adds, in the place of the vehicle's list.
-    fn added(&self, routes: &Routes, v: u32, pieces: &[Piece]) -> i64
+    fn list_adds(&self, routes: &Routes, v: u32, pieces: &[Piece]) -> i64
         requires well_formed { IsWellFormed (of_model self.now) }
         requires keeps { keeps self.now routes.now }
         requires as_many { length routes.now.lists ≡ length (of_model self.now).vehicles }
@@ -39,20 +40,20 @@ pub trait ListCost {
         ensures range { IsAround 10995116277760000 result };
 }
 
-/// What a change adds to such a part: what each changed list adds.
+/// What a change adds to such a part: what each changed list adds. The lists after it need not be valid.
 pub fn added_by<C: ListCost>(cost: &C, routes: &Routes, change: &Change) -> i64
     requires well_formed { IsWellFormed (C.of_model cost.now) }
     requires keeps { C.keeps cost.now routes.now }
+    requires of_model { routes.now.visits ≡ visits (C.of_model cost.now) }
     requires made { IsMadeOn routes.now change.now }
     requires valid { IsTrue (is_valid (C.of_model cost.now) routes.now.lists) }
-    requires valid_after { IsTrue (is_valid (C.of_model cost.now) (changed routes.now.lists change.now)) }
     ensures value { result ≡ over_routes (C.list_cost (C.of_model cost.now)) (changed routes.now.lists change.now)
         -ℤ over_routes (C.list_cost (C.of_model cost.now)) routes.now.lists }
     ensures range { IsAround 21990232555520000 result }
 {
     let mut total = 0;
     for k in 0..change.parts() {
-        total += cost.added(routes, change.vehicle(k), change.pieces(k));
+        total += cost.list_adds(routes, change.vehicle(k), change.pieces(k));
     }
     total
 }

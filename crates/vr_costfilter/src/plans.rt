@@ -1,6 +1,6 @@
 //! Soft upper bounds and spans.
 
-ghost use Rattle.std.specs.Prelude.{◌≡◌, ◌-ℤ◌, ◌<◌, false, IsTrue, IfOk, OnOk, OnErr, ℕ, length};
+ghost use Rattle.std.specs.Prelude.{◌≡◌, ◌-ℤ◌, ◌≤ℤ◌, ◌<◌, false, IsTrue, IfOk, OnOk, OnErr, ℕ, length, neg_ℤ};
 ghost use Rattle.vr_model.specs.tables.Tables.{visits};
 ghost use Rattle.vr_model.specs.tables.WellFormed.{IsWellFormed};
 ghost use Rattle.vr_model.specs.routes.Rules.{is_valid};
@@ -9,7 +9,8 @@ ghost use Rattle.vr_routes.specs.Changes.{IsMadeOn};
 ghost use Rattle.vr_timings.specs.Bounds.{IsAround};
 ghost use Rattle.vr_costfilter.specs.Parts.{NothingReady};
 ghost use Rattle.vr_costfilter.specs.PlanCosts.{cost_after, soft_and_span, AreNextCosts, ArePlansReady, IsPlanCost};
-ghost use Rattle.vr_costfilter.specs.PlanCosts.{StandsPlans};
+ghost use Rattle.vr_costfilter.specs.PlanCosts.{plans_cost, StandsPlans};
+ghost use Rattle.vr_costfilter.specs.Sums.{held_by};
 
 use crate::CostPart;
 use crate::schedules::PlanRules;
@@ -78,6 +79,26 @@ impl<'m> PlanCost<'m> {
             row: Row::new(),
             timer,
         })
+    }
+
+    /// What the lists of the vehicles of a change cost now. The change saves no more, where the lists after it are valid.
+    pub fn held(&self, _routes: &Routes, change: &Change) -> i64
+        requires stands { StandsPlans self.now _routes.now }
+        requires made { IsMadeOn _routes.now change.now }
+        ensures value { result ≡ held_by (plans_cost self.now.model) _routes.now.lists change.now }
+        ensures least { IsTrue (is_valid self.now.model (changed _routes.now.lists change.now))
+            → neg_ℤ result ≤ℤ (soft_and_span self.now.model (changed _routes.now.lists change.now)
+            -ℤ soft_and_span self.now.model _routes.now.lists) }
+        ensures range { IsAround 5525520000000000000 result }
+    {
+        if self.rules.is_idle() {
+            return 0;
+        }
+        let mut held = 0;
+        for k in 0..change.parts() {
+            held += self.costs[change.vehicle(k) as usize];
+        }
+        held
     }
 
     // What the list costs that part `k` of a change gives its vehicle.

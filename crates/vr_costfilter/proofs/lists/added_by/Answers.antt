@@ -3,24 +3,24 @@ use Rattle.std.proofs.lemmas.Int.{ints}
 use Rattle.std.specs.Prelude.{All}
 use Rattle.vr_routes.specs.Pieces.{joined}
 use Rattle.vr_costfilter.proofs.SumLemmas.{sum-step, sum-whole}
-use Rattle.vr_costfilter.proofs.PartLemmas.{small, is-part}
+use Rattle.vr_costfilter.proofs.PartLemmas.{small, below-after}
 use Rattle.vr_costfilter.proofs.lists.added_by.Goals as goal
 
-pub added-total-requires-clause-as_many : goal.added-total-requires-clause-as_many
-added-total-requires-clause-as_many g c =
+pub list_adds-total-requires-clause-as_many : goal.list_adds-total-requires-clause-as_many
+list_adds-total-requires-clause-as_many g c =
     let s = small (g.C.ListCost.of_model c.args.cost.now) c.requires.well_formed c.args.routes.now.lists c.requires.valid in
     s.many
 
-pub added-total-requires-clause-nodes : goal.added-total-requires-clause-nodes
-added-total-requires-clause-nodes g c =
+pub list_adds-total-requires-clause-nodes : goal.list_adds-total-requires-clause-nodes
+list_adds-total-requires-clause-nodes g c =
     let model = g.C.ListCost.of_model c.args.cost.now in
     let lists : List (List ℕ) = c.args.routes.now.lists in
     let low = subst (λ n. c.loop-k.k < n) c.parts-k-end.ensures.value c.loop-k-test.true in
-    let part = is-part model c.requires.well_formed lists c.args.change.now c.requires.made.makes.parts_are c.requires.valid_after c.loop-k.k low in
-    subst (λ l. All (λ node. node < model.nodes) (joined lists l)) (sym c.pieces.ensures.value) part.nodes
+    let nodes = below-after model c.args.routes.now c.requires.of_model c.requires.valid c.args.change.now c.requires.made c.loop-k.k low in
+    subst (λ l. All (λ node. node < model.nodes) (joined lists l)) (sym c.pieces.ensures.value) nodes
 
-pub added-total-requires-clause-old_nodes : goal.added-total-requires-clause-old_nodes
-added-total-requires-clause-old_nodes g c =
+pub list_adds-total-requires-clause-old_nodes : goal.list_adds-total-requires-clause-old_nodes
+list_adds-total-requires-clause-old_nodes g c =
     let s = small (g.C.ListCost.of_model c.args.cost.now) c.requires.well_formed c.args.routes.now.lists c.requires.valid in
     s.below c.vehicle.result
 
@@ -29,10 +29,10 @@ loop-k-preserved g c =
     let f = g.C.ListCost.list_cost (g.C.ListCost.of_model c.args.cost.now) in
     let lists : List (List ℕ) = c.args.routes.now.lists in
     let k = c.loop-k.k in
-    let p = c.added-total.ensures in
+    let p = c.list_adds-total.ensures in
     let i = c.loop-k.invariant in
     let low = subst (λ n. k < n) c.parts-k-end.ensures.value c.loop-k-test.true in
-    let next = sum-step f lists c.args.change.now k c.vehicle.result c.pieces.result.now c.loop-k.total c.added-total.result low c.vehicle.ensures c.pieces.ensures.value (sym c.loop-k.total-is ∙ i.total) p.value in
+    let next = sum-step f lists c.args.change.now k c.vehicle.result c.pieces.result.now c.loop-k.total c.list_adds-total.result low c.vehicle.ensures c.pieces.ensures.value (sym c.loop-k.total-is ∙ i.total) p.value in
     let is = c.loop-k.total-is in
     let few = c.parts-k-end.ensures.few in
     let less = c.loop-k-test.true in

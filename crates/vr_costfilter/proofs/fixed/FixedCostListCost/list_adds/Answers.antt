@@ -3,7 +3,7 @@ use Rattle.std.proofs.lemmas.Int.{ints}
 use Rattle.std.specs.Prelude.{nat_lt}
 use Rattle.vr_model.specs.routes.Routes.{route}
 use Rattle.vr_routes.specs.Pieces.{joined}
-use Rattle.vr_costfilter.proofs.fixed.FixedCostListCost.added.Goals as goal
+use Rattle.vr_costfilter.proofs.fixed.FixedCostListCost.list_adds.Goals as goal
 
 pub returns-clause-value : goal.returns-clause-value
 returns-clause-value c =

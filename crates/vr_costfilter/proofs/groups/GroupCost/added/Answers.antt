@@ -3,7 +3,8 @@ use Rattle.std.proofs.lemmas.Int.{ints}
 use Rattle.vr_routes.specs.Pieces.{changed}
 use Rattle.vr_costfilter.specs.Groups.{StandsGroups, saved_in}
 use Rattle.vr_costfilter.proofs.GroupLemmas.{are-few, penalties-stay, penalties-change}
-use Rattle.vr_costfilter.proofs.groups.GroupCostCostPart.difference.Goals as goal
+use Rattle.vr_costfilter.proofs.PartLemmas.{once-valid, once-after}
+use Rattle.vr_costfilter.proofs.groups.GroupCost.added.Goals as goal
 
 pub returns-then-not-self-clause-exact : goal.returns-then-not-self-clause-exact
 returns-then-not-self-clause-exact c =
@@ -25,7 +26,7 @@ returns-clause-exact c =
     let s = c.requires.stands in
     let lists : List (List ℕ) = c.args.routes.now.lists in
     let saved = c.args.self.now.saved in
-    let change = penalties-change c.args.self.now.model s.well_formed saved s.saved_are lists (changed lists c.args.change.now) c.write.new.self s.valid c.requires.valid c.write.ensures in
+    let change = penalties-change c.args.self.now.model s.well_formed saved s.saved_are lists (changed lists c.args.change.now) c.write.new.self (once-valid c.args.self.now.model lists s.valid) (once-after c.args.self.now.model c.args.routes.now s.of_model s.valid c.args.change.now c.requires.made) c.write.ensures in
     let same = ap (λ k. k.saved) c.self.view_is in
     let g = c.saved_in-gone.ensures in
     let h = c.saved_in-come.ensures in

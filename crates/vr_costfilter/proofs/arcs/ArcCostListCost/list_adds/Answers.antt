@@ -6,7 +6,7 @@ use Rattle.std.specs.Prelude.{slice_range}
 use Rattle.vr_routes.specs.Pieces.{joined}
 use Rattle.vr_routes.proofs.PieceLemmas.{slice_to_end}
 use Rattle.vr_costfilter.specs.Along.{StandsAlong}
-use Rattle.vr_costfilter.proofs.arcs.ArcCostListCost.added.Goals as goal
+use Rattle.vr_costfilter.proofs.arcs.ArcCostListCost.list_adds.Goals as goal
 
 pub cost_with-before-requires-clause-many : goal.cost_with-before-requires-clause-many
 cost_with-before-requires-clause-many c =
