@@ -1,11 +1,11 @@
 -- The rules of all filters together are those of valid lists.
-use Rattle.std.proofs.Common.{◌≡◌, ℕ, ◌<◌, Bool, List, [], ◌∷◌, length, refl, arith, subst, sym, ap}
-use Rattle.std.specs.Prelude.{◌&&◌, ◌||◌, IsTrue, filter}
+use Rattle.std.proofs.Common.{◌≡◌, ℕ, ◌<◌, List, [], ◌∷◌, length, refl, arith, subst, sym}
+use Rattle.std.specs.Prelude.{◌&&◌, IsTrue, filter}
 use Rattle.std.specs.List.{list_all}
 use Rattle.vr_model.specs.tables.Numbers.{below}
 use Rattle.vr_model.specs.deciding.Testing.{and_left, and_right, and_both, list_all_range, range_list_all}
 use Rattle.vr_model.specs.routes.Routes.{route, holds, are_lists, vehicles}
-use Rattle.vr_model.specs.routes.Rules.{allows_vehicle, fits_group, has_enough, has_required, active_in, is_open, is_route_open}
+use Rattle.vr_model.specs.routes.Rules.{fits_group, is_open, is_route_open}
 use Rattle.vr_model.specs.routes.Rules.{is_valid, keeps_policy, policy_allows, serves_pair}
 use Rattle.vr_model.specs.schedules.Lines.{line}
 use Rattle.vr_model.specs.schedules.Choices.{is_feasible}
@@ -19,7 +19,7 @@ use Rattle.vr_pathfilters.proofs.PartTours.{rule_at, rule_of_all}
 use Rattle.vr_pathfilters.specs.Vehicles.{is_allowed_list}
 use Rattle.vr_pathfilters.specs.Groups.{keeps_groups}
 use Rattle.vr_lists.specs.Pairs.{keeps_pairs}
-use Rattle.vr_judge.specs.Rules.{are_feasible, keeps_rules}
+use Rattle.vr_judge.specs.Rules.{keeps_rules}
 
 no_pairs_in : (pairs : List Pair) → filter (λ pair. holds [] pair.pickup) pairs ≡ []
 no_pairs_in [] = refl

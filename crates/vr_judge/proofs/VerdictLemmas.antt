@@ -12,7 +12,6 @@ use Rattle.vr_model.specs.declared.neighbours.Move.{Move}
 use Rattle.vr_model.proofs.moves.KeptLists.{moves_keep_lists}
 use Rattle.vr_model.proofs.routes.Lists.{are-lists}
 use Rattle.vr_routes.specs.Judging.{verdict_of}
-use Rattle.vr_routes.specs.declared.judging.Verdict.{Verdict}
 use Rattle.vr_routes.specs.declared.judging.Verdict.TheVariants.{Refused, Difference}
 use Rattle.vr_judge.specs.Rules.{keeps_rules}
 use Rattle.vr_judge.proofs.RuleLemmas.{kept_as_valid}

@@ -1,6 +1,6 @@
 //! The parts of the cost together.
 
-ghost use Rattle.std.specs.Prelude.{◌≡◌, ◌-ℤ◌, IsTrue, IfOk, OnOk, OnErr};
+ghost use Rattle.std.specs.Prelude.{◌≡◌, ◌-ℤ◌, ◌≤ℤ◌, IsTrue, IfOk, OnOk, OnErr};
 ghost use Rattle.vr_model.specs.routes.Costs.{cost};
 ghost use Rattle.vr_model.specs.routes.Rules.{is_valid};
 ghost use Rattle.vr_model.specs.tables.Tables.{visits};
@@ -81,6 +81,24 @@ impl<'m> Costs<'m> {
         let plans = self.plans.difference(routes, change)?;
         let spans = self.spans.difference(routes, change)?;
         Ok(arcs + fixed + groups + plans + spans)
+    }
+
+    /// What a change of the committed lists adds to their cost at least, where the lists after it are valid: what arcs,
+    /// fixed costs and groups add, less all that schedules cost now.
+    pub(crate) fn least(&mut self, routes: &Routes, change: &Change) -> i64
+        requires stands { StandsCosts self.old routes.now }
+        requires made { IsMadeOn routes.now change.now }
+        ensures least { IsTrue (is_valid self.old.model (changed routes.now.lists change.now))
+            → result ≤ℤ (cost self.old.model (changed routes.now.lists change.now)
+            -ℤ cost self.old.model routes.now.lists) }
+        ensures stays { self.new ≡ self.old }
+    {
+        let arcs = self.arcs.added(routes, change);
+        let fixed = self.fixed.added(routes, change);
+        let groups = self.groups.added(routes, change);
+        let plans = self.plans.held(routes, change);
+        let spans = self.spans.held(routes);
+        arcs + fixed + groups - plans - spans
     }
 
     /// Commits the lists after a change. Each part is made ready first, so all stay as before where memory is wanting.

@@ -1,12 +1,12 @@
 //! Judging a move by a filter of what it changes, and by the parts of the cost.
 
-ghost use Rattle.std.specs.Prelude.{◌≡◌, ◌+◌, ◌≤◌, ℕ, List, IfOk, IsTrue, OnOk, OnErr, length};
+ghost use Rattle.std.specs.Prelude.{◌≡◌, ◌+◌, ◌≤◌, ◌≤ℤ◌, ℕ, List, IfOk, IsTrue, OnOk, OnErr, length};
 ghost use Rattle.vr_model.specs.moves.Moves.{apply};
 ghost use Rattle.vr_model.specs.moves.MoveTests.{is_move};
 ghost use Rattle.vr_model.specs.routes.Rules.{is_valid};
 ghost use Rattle.vr_model.specs.tables.Tables.{visits};
 ghost use Rattle.vr_model.specs.tables.WellFormed.{IsWellFormed};
-ghost use Rattle.vr_routes.specs.Judging.{HoldSame, moved, verdict_of};
+ghost use Rattle.vr_routes.specs.Judging.{HoldSame, cost_change, moved, verdict_of};
 ghost use Rattle.vr_judge.specs.Rules.{keeps_rules, total_weight};
 
 use crate::costs::Costs;
@@ -92,6 +92,11 @@ impl<'m, F: PathFilter + Drop> Judge for Judging<'m, F> {
         }
         let difference = self.costs.difference(routes, &self.change)?;
         Ok(Verdict::Difference(difference))
+    }
+
+    fn least_difference(&mut self, routes: &Routes, mv: Move) -> i64 {
+        Change::write(self.model, routes, mv, &mut self.change);
+        self.costs.least(routes, &self.change)
     }
 
     /// Filters and parts of the cost are made ready first; then all are changed, which takes no memory.

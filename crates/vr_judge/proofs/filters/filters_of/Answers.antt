@@ -1,4 +1,4 @@
-use Rattle.std.proofs.Common.{◌≡◌, ℕ, Bool, List, length, ap, ap₂, arith}
+use Rattle.std.proofs.Common.{◌≡◌, ℕ, List, length, ap, ap₂, arith}
 use Rattle.std.specs.Prelude.{◌&&◌, IsTrue}
 use Rattle.vr_model.specs.deciding.Testing.{and_left, and_right}
 use Rattle.vr_model.specs.routes.Rules.{is_valid}

@@ -1,9 +1,7 @@
-use Rattle.std.proofs.Common.{ℕ, Bool, List}
 use Rattle.vr_model.specs.schedules.Weights.{weight}
 use Rattle.vr_walks.specs.Lists.{is_feasible_list}
 use Rattle.vr_pathfilters.specs.Known.{StandsAt}
 use Rattle.vr_pathfilters.specs.Lists.{holds_of_each}
-use Rattle.vr_pathfilters.specs.declared.dimensions.DimensionFilter.{DimensionFilter}
 use Rattle.vr_judge.proofs.DimensionLemmas.{AreFirst}
 use Rattle.vr_judge.proofs.filters.filters_of_dimensions.Given as goal
 
