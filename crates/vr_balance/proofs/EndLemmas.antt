@@ -1,5 +1,5 @@
 -- What is kept at the ends of a list.
-use Rattle.std.proofs.Common.{◌≡◌, ◌∙◌, ℕ, ◌-◌, ◌≤◌, false, List, [], ◌∷◌, ◌++◌, length, take, drop, sym, ap, ap₂, subst, arith}
+use Rattle.std.proofs.Common.{◌≡◌, ◌∙◌, ℕ, ◌-◌, ◌≤◌, false, List, [], ◌∷◌, ◌++◌, length, length-append, take, drop, sym, ap, ap₂, subst, arith}
 use Rattle.std.specs.Prelude.{All, slice_range}
 use Rattle.std.proofs.lemmas.List.{append-nil, drop_all}
 use Rattle.std.proofs.lemmas.List.Elements.{All-head, All-tail, All-take}
@@ -27,6 +27,7 @@ module _ (lists : List (List ℕ)) (v : ℕ) where
         order = (let low = here.2 in omega (arith, low, whole));
         high = omega (arith, whole);
         within = All-tail (IsWithin lists) first rest all;
+        few = (let l = ap length e in omega (arith, l));
         joins = ap (joined lists) (e ∙ ap (λ piece. piece ∷ rest) f)
             ∙ (ap (λ k. take k (route lists v) ++ joined lists rest) same
             ∙ ap (λ xs. take front (route lists v) ++ xs) (sym (append-nil (joined lists rest)) ∙ ap (λ xs. joined lists rest ++ xs) (sym none)));
@@ -42,6 +43,7 @@ module _ (lists : List (List ℕ)) (v : ℕ) where
         order = order;
         high = omega (arith, low, whole);
         within = all_left (IsWithin lists) rest (last ∷ []) (subst (λ ps. All (IsWithin lists) ps) e ends.within);
+        few = (let l = ap length e ∙ length-append rest (last ∷ []) in let m = ends.few in omega (arith, l, m));
         joins = ends.joins ∙ ap (λ xs. take front (route lists v) ++ xs)
             (ap₂ (λ xs ys. xs ++ ys) (ap (joined lists) e ∙ flat_map-append (nodes_of lists) rest (last ∷ [])) none
             ∙ (append-nil (joined lists rest ++ (nodes_of lists last ++ []))

@@ -10,4 +10,5 @@ pub record AreEnds (lists : List (List ℕ)) (v : ℕ) (pieces : List Piece) (fr
   pub order : front ≤ behind
   pub high : behind ≤ length (route lists v)
   pub within : All (IsWithin lists) middle
+  pub few : length middle ≤ length pieces
   pub joins : joined lists pieces ≡ take front (route lists v) ++ (joined lists middle ++ drop behind (route lists v))

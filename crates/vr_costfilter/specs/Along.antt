@@ -1,13 +1,23 @@
 -- Sums of arc costs along the lists of vehicles.
-use Rattle.std.specs.Prelude.{◌≡◌, IsTrue, ℕ, ◌<◌, true, List, [], length, slice_index_or}
-use Rattle.vr_model.specs.tables.Tables.{arc_cost, visits}
+use Rattle.std.specs.Prelude.{◌≡◌, IsTrue, ℕ, ◌<◌, true, cond, ℤ, pos, ◌+ℤ◌}
+use Rattle.std.specs.Prelude.{List, [], ◌++◌, drop, length, slice_index_or, take}
+use Rattle.vr_model.specs.tables.Tables.{arc_cost, vehicle_at, visits}
 use Rattle.vr_model.specs.routes.Rules.{is_valid}
 use Rattle.vr_model.specs.tables.WellFormed.{IsWellFormed}
 use Rattle.vr_routes.specs.Tours.{Tours}
-use Rattle.vr_model.specs.routes.Routes.{route}
+use Rattle.vr_model.specs.routes.Routes.{is_empty, route}
 use Rattle.vr_model.specs.declared.records.Model.{Model}
-use Rattle.vr_costfilter.specs.Chains.{AreSums, turned}
+use Rattle.vr_costfilter.specs.Chains.{first_of, last_of, path_sum, turned, AreSums}
 use Rattle.vr_costfilter.specs.declared.walks.Along.{Along}
+
+-- what the arcs of vehicle v cost from the stop before place f of its list through nodes to the stop at place b, 0 where
+-- no node is left of the list then
+abbrev pub between_cost : Model → ℕ → List ℕ → ℕ → ℕ → List ℕ → ℤ
+between_cost model v list f b nodes =
+    let from = last_of (vehicle_at model v).start (take f list) in
+    let to = first_of (drop b list) (vehicle_at model v).end in
+    cond (is_empty (take f list ++ (nodes ++ drop b list))) (pos 0)
+    (path_sum (arc_cost model v) from nodes +ℤ arc_cost model v (last_of from nodes) to)
 
 -- the sums of no list
 abbrev pub no_sums : Along

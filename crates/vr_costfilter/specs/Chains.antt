@@ -17,6 +17,11 @@ abbrev pub last_of : ℕ → List ℕ → ℕ
 last_of at [] = at
 last_of at (x ∷ xs) = last_of x xs
 
+-- the first of nodes, or another one where there is none
+abbrev pub first_of : List ℕ → ℕ → ℕ
+first_of [] other = other
+first_of (x ∷ xs) other = x
+
 -- the costs of arcs, or of the same arcs backwards
 abbrev pub turned : Bool → (ℕ → ℕ → ℤ) → ℕ → ℕ → ℤ
 turned false cost i j = cost i j

@@ -15,9 +15,10 @@ ghost use Rattle.vr_timings.specs.Bounds.{IsAround};
 use crate::CostPart;
 use crate::lists::{ListCost, added_by};
 use crate::sums::Sums;
-use crate::walks::{Along, cost_with};
+use crate::walks::{Along, cost_between};
 use std::alloc::Global;
 use std::marker::Model;
+use vr_balance::strip;
 use vr_model::{Model as RoutingModel, NoMemory};
 use vr_routes::{Change, Piece, Routes, Row};
 
@@ -107,14 +108,25 @@ impl<'m> ListCost for ArcCost<'m> {
     ghost keeps = { StandsAlong };
 
     fn list_adds(&self, routes: &Routes, v: u32, pieces: &[Piece]) -> i64 {
-        let whole = [Piece::Chain {
+        let ends = strip(routes, v, pieces);
+        let old = [Piece::Chain {
             vehicle: v,
-            from: 0,
-            to: routes.len(v),
+            from: ends.front,
+            to: ends.behind,
             reversed: false,
         }];
-        let before = cost_with(self.model, &self.along, routes, v, &whole);
-        cost_with(self.model, &self.along, routes, v, pieces) - before
+        let (front, behind) = (ends.front, ends.behind);
+        let before = cost_between(self.model, &self.along, routes, v, front, &old, behind);
+        let after = cost_between(
+            self.model,
+            &self.along,
+            routes,
+            v,
+            front,
+            ends.middle,
+            behind,
+        );
+        after - before
     }
 }
 

@@ -1,13 +1,13 @@
 //! Paths of vehicles along pieces of lists.
 
-ghost use Rattle.std.specs.Prelude.{◌≡◌, ◌<◌, ◌≤◌, ◌+◌, ◌+ℤ◌, ◌≤ℤ◌, ◌*◌, ℕ, pos, All, length, slice_index_or};
-ghost use Rattle.vr_model.specs.tables.Tables.{arc_cost, visits};
-ghost use Rattle.vr_model.specs.routes.Routes.{route, route_cost};
+ghost use Rattle.std.specs.Prelude.{◌≡◌, ◌<◌, ◌≤◌, ◌+◌, ◌+ℤ◌, ◌≤ℤ◌, ◌*◌, ℕ, pos, All, drop, length, slice_index_or, take};
+ghost use Rattle.vr_model.specs.tables.Tables.{arc_cost, vehicle_at, visits};
+ghost use Rattle.vr_model.specs.routes.Routes.{route};
 ghost use Rattle.vr_model.specs.tables.WellFormed.{IsWellFormed};
 ghost use Rattle.vr_routes.specs.declared.pieces.Piece.TheVariants.{Chain};
 ghost use Rattle.vr_routes.specs.Pieces.{joined, nodes_of, IsWithin};
-ghost use Rattle.vr_costfilter.specs.Chains.{chain_sum, path_sum, last_of, turned, IsUpTo};
-ghost use Rattle.vr_costfilter.specs.Along.{AreAlong};
+ghost use Rattle.vr_costfilter.specs.Chains.{chain_sum, first_of, path_sum, last_of, turned, IsUpTo};
+ghost use Rattle.vr_costfilter.specs.Along.{between_cost, AreAlong};
 
 use crate::sums::{Sums, arc};
 use vr_model::Model;
@@ -28,8 +28,17 @@ pub struct Path {
     pub visits: u32,
 }
 
-/// What the arcs of a vehicle cost with the list that pieces are joined to.
-pub fn cost_with(model: &Model, along: &[Along], routes: &Routes, v: u32, pieces: &[Piece]) -> i64
+/// What the arcs of a vehicle cost from the stop before place `front` of its list along pieces to the stop at place
+/// `behind`, 0 where no node is left of the list then.
+pub fn cost_between(
+    model: &Model,
+    along: &[Along],
+    routes: &Routes,
+    v: u32,
+    front: u32,
+    pieces: &[Piece],
+    behind: u32,
+) -> i64
     requires well_formed { IsWellFormed model.now }
     requires many { length along.now ≡ length model.now.vehicles }
     requires as_many { length routes.now.lists ≡ length model.now.vehicles }
@@ -38,22 +47,91 @@ pub fn cost_with(model: &Model, along: &[Along], routes: &Routes, v: u32, pieces
     requires within { All (IsWithin routes.now.lists) pieces.now }
     requires few { length pieces.now ≤ 8 }
     requires nodes { All (λ node. node < model.now.nodes) (joined routes.now.lists pieces.now) }
-    ensures value { result ≡ route_cost model.now v (joined routes.now.lists pieces.now) }
+    requires old_nodes { All (λ node. node < model.now.nodes) (route routes.now.lists v) }
+    requires order { front ≤ behind }
+    requires place { behind ≤ length (route routes.now.lists v) }
+    ensures value { result ≡ between_cost model.now v (route routes.now.lists v) front behind
+        (joined routes.now.lists pieces.now) }
     ensures range { IsUpTo 10000 result }
 {
-    let ends = model.vehicles.get(v as usize);
+    let n = routes.len(v);
+    let from = stop_before(model, routes, v, front);
+    let to = stop_at(model, routes, v, behind);
+    let path = path_along(model, along, routes, v, from, pieces);
+    if front + path.visits + (n - behind) == 0 {
+        return 0;
+    }
+    path.cost + model.arc_cost(v, path.at, to)
+}
+
+// The node of the stop before a place of the list of a vehicle.
+#[inline]
+fn stop_before(model: &Model, routes: &Routes, v: u32, place: u32) -> u32
+    requires well_formed { IsWellFormed model.now }
+    requires as_many { length routes.now.lists ≡ length model.now.vehicles }
+    requires vehicle { v < length model.now.vehicles }
+    requires nodes { All (λ node. node < model.now.nodes) (route routes.now.lists v) }
+    requires place { place ≤ length (route routes.now.lists v) }
+    ensures value { result ≡ last_of (vehicle_at model.now v).start (take place (route routes.now.lists v)) }
+    ensures known { result < model.now.nodes }
+{
+    if place == 0 {
+        return model.vehicles.get(v as usize).start;
+    }
+    routes.node_at(v, place - 1)
+}
+
+// The node of the stop at a place of the list of a vehicle.
+#[inline]
+fn stop_at(model: &Model, routes: &Routes, v: u32, place: u32) -> u32
+    requires well_formed { IsWellFormed model.now }
+    requires as_many { length routes.now.lists ≡ length model.now.vehicles }
+    requires vehicle { v < length model.now.vehicles }
+    requires nodes { All (λ node. node < model.now.nodes) (route routes.now.lists v) }
+    requires place { place ≤ length (route routes.now.lists v) }
+    ensures value { result ≡ first_of (drop place (route routes.now.lists v)) (vehicle_at model.now v).end }
+    ensures known { result < model.now.nodes }
+{
+    if place == routes.len(v) {
+        return model.vehicles.get(v as usize).end;
+    }
+    routes.node_at(v, place)
+}
+
+// The path of a vehicle from a node along pieces.
+fn path_along(
+    model: &Model,
+    along: &[Along],
+    routes: &Routes,
+    v: u32,
+    at: u32,
+    pieces: &[Piece],
+) -> Path
+    requires well_formed { IsWellFormed model.now }
+    requires many { length along.now ≡ length model.now.vehicles }
+    requires as_many { length routes.now.lists ≡ length model.now.vehicles }
+    requires along { AreAlong model.now routes.now.lists along.now }
+    requires vehicle { v < length model.now.vehicles }
+    requires within { All (IsWithin routes.now.lists) pieces.now }
+    requires few { length pieces.now ≤ 8 }
+    requires nodes { All (λ node. node < model.now.nodes) (joined routes.now.lists pieces.now) }
+    requires at { at < model.now.nodes }
+    ensures at { result.at ≡ last_of at (joined routes.now.lists pieces.now) }
+    ensures cost { result.cost ≡ path_sum (arc_cost model.now v) at (joined routes.now.lists pieces.now) }
+    ensures visits { result.visits ≡ length (joined routes.now.lists pieces.now) }
+    ensures few { result.visits ≤ 8000 }
+    ensures known { result.at < model.now.nodes }
+    ensures range { IsUpTo 8000 result.cost }
+{
     let mut path = Path {
-        at: ends.start,
+        at,
         cost: 0,
         visits: 0,
     };
     for k in 0..pieces.len() {
         path = path.along(model, along, routes, v, pieces[k]);
     }
-    if path.visits == 0 {
-        return 0;
-    }
-    path.cost + model.arc_cost(v, path.at, ends.end)
+    path
 }
 
 impl Path {
