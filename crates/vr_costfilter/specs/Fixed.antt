@@ -1,5 +1,5 @@
 -- The fixed costs of vehicles.
-use Rattle.std.specs.Prelude.{◌≡◌, IsTrue, ℕ, cond, List, ℤ, pos}
+use Rattle.std.specs.Prelude.{◌≡◌, All, Bool, false, IsTrue, ℕ, cond, List, ℤ, pos}
 use Rattle.vr_model.specs.tables.Tables.{vehicle_at, visits}
 use Rattle.vr_model.specs.routes.Rules.{is_valid}
 use Rattle.vr_model.specs.routes.Routes.{is_empty}
@@ -14,9 +14,11 @@ fixed_with model v list = cond (is_empty list) (pos 0) (vehicle_at model v).fixe
 -- what contracts see of the fixed costs
 pub record KeptFixed : Type 0 where
   pub model : Model
+  pub pays : Bool
 
--- these are valid lists of the model
+-- these are valid lists of the model, and some vehicle has a fixed cost that is not 0 unless it is said that none pays
 pub record StandsFixed (kept : KeptFixed) (tours : Tours) : Type 0 where
   pub well_formed : IsWellFormed kept.model
   pub of_model : tours.visits ≡ visits kept.model
   pub valid : IsTrue (is_valid kept.model tours.lists)
+  pub none_pays : kept.pays ≡ false → All (λ vehicle. vehicle.fixed ≡ pos 0) kept.model.vehicles

@@ -1,6 +1,6 @@
 //! The fixed costs of used vehicles.
 
-ghost use Rattle.std.specs.Prelude.{◌≡◌, ◌<◌, ◌≤◌, ◌-ℤ◌, All, IsTrue, IfOk, IsOk, OnOk, OnErr, ℕ, List, nat_lt, length};
+ghost use Rattle.std.specs.Prelude.{◌≡◌, ◌<◌, ◌≤◌, ◌-ℤ◌, All, IsTrue, IfOk, IsOk, OnOk, OnErr, ℕ, List, false, nat_lt, length, pos};
 ghost use Rattle.vr_model.specs.routes.Costs.{fixed_part};
 ghost use Rattle.vr_model.specs.routes.Routes.{route};
 ghost use Rattle.vr_model.specs.tables.Tables.{visits};
@@ -23,6 +23,8 @@ use vr_routes::{Change, Piece, Routes};
 #[derive(Drop)]
 pub struct FixedCost<'m> {
     model: &'m RoutingModel,
+    // whether some vehicle has a fixed cost that is not 0
+    pays: bool,
 }
 
 impl<'m> Model for FixedCost<'m> {
@@ -30,7 +32,19 @@ impl<'m> Model for FixedCost<'m> {
 
     ghost Value = { KeptFixed };
 
-    ghost view = { λ part. record { model = part.model.now } };
+    ghost view = { λ part. record { model = part.model.now; pays = part.pays } };
+}
+
+// Whether some vehicle has a fixed cost that is not 0.
+fn is_some_fixed(model: &RoutingModel) -> bool
+    ensures { result ≡ false → All (λ vehicle. vehicle.fixed ≡ pos 0) model.now.vehicles }
+{
+    for v in 0..model.vehicles.len() {
+        if model.vehicles.get(v).fixed != 0 {
+            return true;
+        }
+    }
+    false
 }
 
 impl<'m> FixedCost<'m> {
@@ -42,7 +56,8 @@ impl<'m> FixedCost<'m> {
         ensures model { IfOk result (λ part. part.model ≡ model.now) }
         ensures stands { IfOk result (λ part. StandsFixed part routes.now) }
     {
-        Ok(FixedCost { model })
+        let pays = is_some_fixed(model);
+        Ok(FixedCost { model, pays })
     }
 }
 
@@ -68,6 +83,9 @@ impl<'m> FixedCost<'m> {
             -ℤ fixed_part self.now.model routes.now.lists }
         ensures range { IsAround 21990232555520000 result }
     {
+        if !self.pays {
+            return 0;
+        }
         added_by(self, routes, change)
     }
 
