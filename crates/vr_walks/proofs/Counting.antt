@@ -14,6 +14,7 @@ use Rattle.vr_model.specs.schedules.Weights.{runs, over_breaks, walk_weight}
 use Rattle.vr_steps.specs.Levels.{IsCumuls, AreLevels, level_at, forward_steps}
 use Rattle.vr_steps.specs.Reached.{RunsAreCounted, AreReached, AreReachingEnd}
 use Rattle.vr_reach.specs.Walks.{runs_in}
+use Rattle.vr_walks.specs.Counts.{arc_steps, steps_between, join_steps}
 use Rattle.vr_walks.proofs.LineParts.{same_tests}
 
 -- a sum over levels is one over the numbers of breaks
@@ -41,7 +42,7 @@ sum_of_both f g (x ∷ xs) =
     by a b m n i j k e = omega (arith, i, j, k, e)
 
 module _ (counted : RunsAreCounted) where
-  runs_of : (test : ℤ → Bool) (set : List Run) → IsNormal set → IsCumuls set → ((x : ℤ) → IsTrue (has set x) ↔ IsTrue (test x)) → runs test ≡ length set
+  pub runs_of : (test : ℤ → Bool) (set : List Run) → IsNormal set → IsCumuls set → ((x : ℤ) → IsTrue (has set x) ↔ IsTrue (test x)) → runs test ≡ length set
   runs_of test set normal cumuls is =
       let same : has set ≡ test = λ i x. same_tests (has set x) (test x) (is x).0 (is x).1 i in
       ap runs (sym same) ∙ counted set normal cumuls
@@ -75,18 +76,6 @@ module _ (counted : RunsAreCounted) where
     steps_behind tested are =
         over_all runs_in (λ set m. length set) refl (λ set sets. sum_by-cons length set sets) (λ b. runs (reaches_end line k b)) levels (λ j low. runs_reaching tested are j low)
         ∙ ap (λ n. sum_by (λ b. runs (reaches_end line k b)) (range_with_len 0 n)) form.one_more
-
--- the steps of one arc
-abbrev pub arc_steps : Line → ℕ → ℕ
-arc_steps line k = over_breaks line (λ b. runs (is_reached line k b) * (length line.breaks - b + 1))
-
--- the steps of the arcs from stop a on, up to stop e
-abbrev pub steps_between : Line → ℕ → ℕ → ℕ
-steps_between line a e = sum_by (arc_steps line) (from_to a e)
-
--- the steps of the join at stop e
-abbrev pub join_steps : Line → ℕ → ℕ
-join_steps line e = over_breaks line (λ b. runs (is_reached line e b) + runs (reaches_end line e b))
 
 pub walk_weight_is : (line : Line) (a e : ℕ) → walk_weight line a e ≡ steps_between line a e + join_steps line e
 walk_weight_is line a e = refl

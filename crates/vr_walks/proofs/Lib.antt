@@ -6,3 +6,5 @@ pub mod Counting
 pub mod Tables
 pub mod StandingLemmas
 pub mod Splicing
+pub mod RunLemmas
+pub mod SingleLemmas

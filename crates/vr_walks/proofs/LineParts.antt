@@ -22,6 +22,7 @@ use Rattle.vr_steps.specs.Levels.{AreLevels, AreCrossed, HasNumbers, IsCumuls}
 use Rattle.vr_steps.specs.Reached.{IsAllowedSet, AreReached, AreReachingEnd, ReachedBehindArc, hop_at}
 use Rattle.vr_reach.specs.Walks.{Meets}
 use Rattle.vr_walks.specs.Lists.{IsTour, IsUsed, node_at_stop}
+use Rattle.vr_walks.specs.VisitRuns.{AreVisitRuns, IsAllowedRun, IsRunFor}
 use Rattle.vr_walks.specs.VisitSets.{AreVisitSets}
 
 arc_of_target : {B : Type 0} (f : UsedArc → B) (v node : ℕ) (ts : List ℕ) (k : ℕ) (none : B) → k < length ts → get_or (map f (arcs_from v node ts)) k none ≡ f (record { vehicle = v; origin = get_or (node ∷ ts) k 0; target = get_or ts k 0 })
@@ -85,6 +86,36 @@ end_allows model d v list set exact cumuls = record {
   exact = λ x. exact x ∙ ap (λ (test : ℤ → Bool). test x) (sym (read_behind _ list _ (λ _. false)));
   cumuls = cumuls;
 }
+
+-- the run of a visit is what its stop allows
+pub visit_allows_run : (model : Model) (d v : ℕ) (list : List ℕ) (k : ℕ) (runs : List Run) (run other : Run) → AreVisitRuns model d v runs → IsTour model list → k < length list → get_or list k 0 < length runs
+    → run ≡ get_or runs (get_or list k 0) other → IsAllowedRun (line model d v list) (k + 1) run
+visit_allows_run model d v list k runs run other are tour low known is =
+    let next : suc k ≡ k + 1 = omega arith in
+    let visit = are.each (get_or list k 0) other known (visit_of_tour model list k tour.visits low) in
+    subst (λ i. IsAllowedRun (line model d v list) i run) next (subst (IsAllowedRun (line model d v list) (suc k)) (sym is) (record {
+      exact = λ x. visit.exact x ∙ ap (λ (test : ℤ → Bool). test x) (sym (read_map _ list _ k (λ _. false) low));
+      ends = visit.ends;
+    }))
+
+-- the run of the end is what the last stop allows
+pub end_allows_run : (model : Model) (d v : ℕ) (list : List ℕ) (k : ℕ) (run : Run) → IsRunFor (allowed_by model d v End) run → k ≡ length list → IsAllowedRun (line model d v list) (k + 1) run
+end_allows_run model d v list k run is at =
+    let next : suc (length list) ≡ k + 1 = omega (arith, at) in
+    subst (λ i. IsAllowedRun (line model d v list) i run) next (record {
+      exact = λ x. is.exact x ∙ ap (λ (test : ℤ → Bool). test x) (sym (read_behind _ list _ (λ _. false)));
+      ends = is.ends;
+    })
+
+-- the node at the last stop
+pub end_node : (model : Model) (v : ℕ) (list : List ℕ) (k : ℕ) → k ≡ length list → node_at_stop model v list (k + 1) ≡ (vehicle_at model v).end
+end_node model v list k at =
+    let next : k + 1 ≡ suc (length list) = omega (arith, at) in
+    ap (node_at_stop model v list) next ∙ last list
+  where
+    last : (xs : List ℕ) → get_or (xs ++ (vehicle_at model v).end ∷ []) (length xs) 0 ≡ (vehicle_at model v).end
+    last [] = refl
+    last (x ∷ xs) = last xs
 
 pub same_tests : (a b : Bool) → (IsTrue a → IsTrue b) → (IsTrue b → IsTrue a) → a ≡ b
 same_tests true true f g = refl

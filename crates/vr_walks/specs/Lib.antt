@@ -1,6 +1,9 @@
 pub mod Lists
 pub mod Spliced
 pub mod VisitSets
+pub mod VisitRuns
+pub mod Singles
+pub mod Counts
 pub mod Stops
 pub mod Stretches
 pub mod KnownRows

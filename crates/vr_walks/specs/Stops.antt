@@ -11,6 +11,7 @@ use Rattle.vr_steps.specs.Stops.{allowed_by}
 use Rattle.vr_walks.specs.declared.ends.Ends.{Ends}
 use Rattle.vr_walks.specs.declared.stops.Stops.{Stops}
 use Rattle.vr_walks.specs.Lists.{IsUsed}
+use Rattle.vr_walks.specs.VisitRuns.{AreRunTables}
 use Rattle.vr_walks.specs.VisitSets.{IsSetOf, AreSets}
 
 -- breaks as a line of a well-formed model may have them
@@ -30,9 +31,10 @@ pub record AreEndsOf (model : Model) (d v : ℕ) (ends : Ends) : Type 0 where
   pub end_is : (list : List ℕ) → IsUsed model list
       → AreReachingEnd (line model d v list) (suc (length list)) ends.end_levels
 
--- the ends of each vehicle, and what visits allow it
+-- the ends of each vehicle, and what visits allow it, with the runs of that
 pub record AreStops (model : Model) (d : ℕ) (stops : Stops) : Type 0 where
   pub ends_of_each : length stops.ends.items ≡ length model.vehicles
   pub ends : (v : ℕ) (other : Ends) → v < length stops.ends.items
       → AreEndsOf model d v (slice_index_or stops.ends.items v other)
   pub visits : AreSets model d (length model.vehicles) stops.visits
+  pub runs : AreRunTables stops.visits.tables stops.runs

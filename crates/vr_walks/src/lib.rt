@@ -4,6 +4,8 @@
 
 mod ends;
 mod lines;
+mod runs;
+mod single;
 mod spliced;
 mod standing;
 mod stops;

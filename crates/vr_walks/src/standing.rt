@@ -51,6 +51,7 @@ pub fn goes_between(
 {
     let ends = &stops.ends[v as usize];
     let visits = stops.visits.of(model, d, v);
+    let runs = stops.runs_of(model, d, v);
     let last = new.len() - back + 1;
     let from = levels_before(ends, rows, front);
     let to = levels_behind(ends, rows, old.len(), back);
@@ -60,6 +61,7 @@ pub fn goes_between(
         v,
         ends,
         visits,
+        runs,
         new,
         front,
         last,
@@ -189,6 +191,7 @@ pub fn goes_from(
 {
     let ends = &stops.ends[v as usize];
     let visits = stops.visits.of(model, d, v);
+    let runs = stops.runs_of(model, d, v);
     let last = new.len() - back + 1;
     let to = levels_behind(ends, rows, old.len(), back);
     let goes = walk_uncounted::<Brand>(
@@ -197,6 +200,7 @@ pub fn goes_from(
         v,
         ends,
         visits,
+        runs,
         new,
         k,
         last,

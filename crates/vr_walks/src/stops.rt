@@ -1,20 +1,22 @@
 //! What the stops of one dimension ask.
 
-ghost use Rattle.std.specs.Prelude.{◌≡◌, ◌+◌, suc, ◌<◌, ◌≤◌, length, IfOk};
+ghost use Rattle.std.specs.Prelude.{◌≡◌, ◌+◌, suc, ◌<◌, ◌≤◌, length, IfOk, IfSome};
 ghost use Rattle.vr_model.specs.schedules.Lines.{line};
 ghost use Rattle.vr_model.specs.tables.WellFormed.{IsWellFormed};
 ghost use Rattle.vr_steps.specs.Arcs.{IsSoundHop};
 ghost use Rattle.vr_steps.specs.Reached.{hop_at, IsAllowedSet};
 ghost use Rattle.vr_walks.specs.Lists.{node_at_stop, IsTour};
 ghost use Rattle.vr_walks.specs.Stops.{AreEndsOf, AreStops};
+ghost use Rattle.vr_walks.specs.VisitRuns.{AreVisitRuns};
 ghost use Rattle.vr_walks.specs.VisitSets.{AreVisitSets};
 
 use crate::ends::{Ends, ends_of_each};
+use crate::runs::run_tables;
 use crate::spliced::Spliced;
 use crate::visits::VisitSets;
 use std::alloc::Global;
-use vr_model::{Model, NoMemory};
-use vr_spans::Spans;
+use vr_model::{Model, NoMemory, Seq};
+use vr_spans::{Run, Spans};
 use vr_steps::{Hop, hop};
 
 /// What all stops that vehicles may have in one dimension ask, looked up once for all lists: of each vehicle its breaks
@@ -23,6 +25,8 @@ use vr_steps::{Hop, hop};
 pub struct Stops {
     pub(crate) ends: Vec<Ends>,
     pub(crate) visits: VisitSets,
+    // for each table of visits the run that each allows, where none allows more than one
+    pub(crate) runs: Seq<Option<Seq<Run>>>,
 }
 
 impl Stops {
@@ -32,10 +36,24 @@ impl Stops {
         requires dimension { d < length model.now.dimensions }
         ensures { IfOk result (AreStops model.now d) }
     {
-        Ok(Stops {
-            ends: ends_of_each(alloc, model, d)?,
-            visits: VisitSets::build(alloc, model, d)?,
-        })
+        let ends = ends_of_each(alloc, model, d)?;
+        let visits = VisitSets::build(alloc, model, d)?;
+        let runs = run_tables(alloc, &visits.tables)?;
+        Ok(Stops { ends, visits, runs })
+    }
+
+    // The run that each visit allows vehicle `v`, nothing where some visit allows more than one.
+    #[inline]
+    pub(crate) fn runs_of(&self, model: &Model, d: u32, v: u32) -> Option<&[Run]>
+        requires stops { AreStops model.now d self.now }
+        requires vehicle { v < length model.now.vehicles }
+        ensures { IfSome result (λ runs. AreVisitRuns model.now d v runs.now) }
+    {
+        let k = *self.visits.table_of.get(v as usize);
+        match self.runs.get(k) {
+            Some(runs) => Some(runs.as_slice()),
+            None => None,
+        }
     }
 }
 
@@ -88,7 +106,7 @@ pub(crate) fn set_of<'a>(
 
 // The node at a stop of vehicle `v` with a list.
 #[inline]
-fn node_at(model: &Model, v: u32, list: &Spliced, k: usize) -> u32
+pub(crate) fn node_at(model: &Model, v: u32, list: &Spliced, k: usize) -> u32
     requires well_formed { IsWellFormed model.now }
     requires vehicle { v < length model.now.vehicles }
     requires tour { IsTour model.now list.now }

@@ -1,6 +1,6 @@
 //! Walks along a list, and through what changed in one.
 
-ghost use Rattle.std.specs.Prelude.{◌≡◌, ◌+◌, ◌-◌, ◌<◌, ◌≤◌, suc, false, IsTrue, length, IfOk};
+ghost use Rattle.std.specs.Prelude.{◌≡◌, ◌+◌, ◌-◌, ◌<◌, ◌≤◌, suc, false, IsTrue, length, IfOk, IfSome};
 ghost use Rattle.std.specs.List.{list_all};
 ghost use Rattle.vr_model.specs.tables.Tables.{is_visit};
 ghost use Rattle.vr_model.specs.tables.WellFormed.{IsWellFormed};
@@ -15,9 +15,11 @@ ghost use Rattle.vr_walks.specs.Lists.{is_feasible_list, IsTour, IsUsed};
 ghost use Rattle.vr_walks.specs.KnownRows.{AreRowsIfUsed};
 ghost use Rattle.vr_walks.specs.Spliced.{spliced};
 ghost use Rattle.vr_walks.specs.Stops.{AreEndsOf, AreStops};
+ghost use Rattle.vr_walks.specs.VisitRuns.{AreVisitRuns};
 ghost use Rattle.vr_walks.specs.VisitSets.{AreVisitSets};
 
 use crate::ends::Ends;
+use crate::single::{one_run_each, walk_by_runs};
 use crate::spliced::Spliced;
 use crate::stops::{Stops, hop_from, set_at};
 use crate::stretches::Stretch;
@@ -25,12 +27,56 @@ use std::marker::Brand;
 use std::sync::ledger::{Blank, Ledger};
 use vr_model::{Model, NoMemory, Steps, laws};
 use vr_reach::{Rows, Walk};
-use vr_spans::Spans;
+use vr_spans::{Run, Spans};
 use vr_steps::Levels;
 
 // Whether the line of a list is feasible, found by a walk from stop `begin`, which is reached at the levels `from`, to
-// stop `last`, from which the end is reached at the levels `to`.
+// stop `last`, from which the end is reached at the levels `to`. The walk carries one run where that is all there is.
 fn walk_through<L: Ledger>(
+    model: &Model,
+    d: u32,
+    v: u32,
+    ends: &Ends,
+    visits: &[Spans],
+    runs: Option<&[Run]>,
+    list: &Spliced,
+    begin: usize,
+    last: usize,
+    from: &Levels,
+    to: &Levels,
+    walk: &mut Walk,
+    steps: &mut Steps<L>,
+) -> Result<bool, NoMemory>
+    requires well_formed { IsWellFormed model.now }
+    requires dimension { d < length model.now.dimensions }
+    requires vehicle { v < length model.now.vehicles }
+    requires ends { AreEndsOf model.now d v ends.now }
+    requires visits { AreVisitSets model.now d v visits.now }
+    requires runs { IfSome runs (λ found. AreVisitRuns model.now d v found.now) }
+    requires used { IsUsed model.now list.now }
+    requires order { begin < last }
+    requires within { last ≤ suc (length list.now) }
+    requires from_form { AreLevels ends.now.breaks from.now }
+    requires from { AreReached (line model.now d v list.now) begin from.now }
+    requires to_form { AreLevels ends.now.breaks to.now }
+    requires to { AreReachingEnd (line model.now d v list.now) last to.now }
+    ensures exact { IfOk result (λ passed. passed ≡ is_feasible (line model.now d v list.now)) }
+    ensures count { steps.new ≤ steps.old + walk_weight (line model.now d v list.now) begin last }
+{
+    if let Some(runs) = runs {
+        if let Some(between) = one_run_each(model, d, v, ends, from, to) {
+            let passed = walk_by_runs(model, d, v, runs, between, list, begin, last, steps);
+            return Ok(passed);
+        }
+    }
+    let passed = walk_by_sets(
+        model, d, v, ends, visits, list, begin, last, from, to, walk, steps,
+    )?;
+    Ok(passed)
+}
+
+// The same, carrying the sets of each number of breaks.
+fn walk_by_sets<L: Ledger>(
     model: &Model,
     d: u32,
     v: u32,
@@ -128,6 +174,7 @@ pub fn passes_along<L: Ledger>(
     }
     let ends = &stops.ends[v as usize];
     let visits = stops.visits.of(model, d, v);
+    let runs = stops.runs_of(model, d, v);
     let last = n - stretch.back + 1;
     let from = levels_before(ends, rows, stretch.front);
     let to = levels_behind(ends, rows, old.len(), stretch.back);
@@ -137,6 +184,7 @@ pub fn passes_along<L: Ledger>(
         v,
         ends,
         visits,
+        runs,
         &new,
         stretch.front,
         last,
@@ -171,12 +219,14 @@ pub fn goes_through(
 {
     let ends = &stops.ends[v as usize];
     let visits = stops.visits.of(model, d, v);
+    let runs = stops.runs_of(model, d, v);
     let goes = walk_uncounted::<Brand>(
         model,
         d,
         v,
         ends,
         visits,
+        runs,
         list,
         0,
         list.len() + 1,
@@ -195,6 +245,7 @@ pub(crate) fn walk_uncounted<L: Ledger>(
     v: u32,
     ends: &Ends,
     visits: &[Spans],
+    runs: Option<&[Run]>,
     list: &[u32],
     begin: usize,
     last: usize,
@@ -211,6 +262,7 @@ pub(crate) fn walk_uncounted<L: Ledger>(
     requires vehicle { v < length model.now.vehicles }
     requires ends { AreEndsOf model.now d v ends.now }
     requires visits { AreVisitSets model.now d v visits.now }
+    requires runs { IfSome runs (λ found. AreVisitRuns model.now d v found.now) }
     requires used { IsUsed model.now list.now }
     requires order { begin < last }
     requires within { last ≤ suc (length list.now) }
@@ -223,7 +275,7 @@ pub(crate) fn walk_uncounted<L: Ledger>(
     let whole = Spliced::whole(list);
     let mut steps = Steps::<L>::new(blank);
     let goes = walk_through(
-        model, d, v, ends, visits, &whole, begin, last, from, to, walk, &mut steps,
+        model, d, v, ends, visits, runs, &whole, begin, last, from, to, walk, &mut steps,
     )?;
     Ok(goes)
 }

@@ -2,8 +2,8 @@ use Rattle.std.proofs.Common.{◌+◌, ◌≤◌}
 use Rattle.vr_model.specs.schedules.Lines.{line}
 use Rattle.vr_steps.specs.Levels.{AreLevels}
 use Rattle.vr_steps.specs.Reached.{AreReached}
-use Rattle.vr_walks.proofs.Counting.{steps_between}
-use Rattle.vr_walks.proofs.walking.walk_through.Given as goal
+use Rattle.vr_walks.specs.Counts.{steps_between}
+use Rattle.vr_walks.proofs.walking.walk_by_sets.Given as goal
 
 -- the walk stands at stop k; what it counted and what is left are within the whole
 abbrev pub invariant-loop-k : goal.invariant-loop-k

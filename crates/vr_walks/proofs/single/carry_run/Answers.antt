@@ -1,0 +1,39 @@
+use Rattle.std.proofs.Common.{◌≡◌, ◌+◌, ◌≤◌, ◌≤ℤ◌, ◌<ℤ◌, ℤ, arith, subst}
+use Rattle.std.proofs.lemmas.Int.{ints}
+use Rattle.vr_model.specs.schedules.Lines.{line}
+use Rattle.vr_walks.specs.Counts.{steps_between}
+use Rattle.vr_walks.specs.Singles.{IsReachedRun}
+use Rattle.vr_walks.proofs.SingleLemmas.{arc_counted, none_at}
+use Rattle.vr_walks.proofs.single.carry_run.Goals as goal
+
+empty : (lo hi : ℤ) → hi <ℤ lo → lo ≤ℤ hi → ⊥
+empty lo hi less le = omega (arith, ints, less, le)
+
+pub returns-then-run-clause-reached : goal.returns-then-run-clause-reached
+returns-then-run-clause-reached g c =
+    none_at c.lines_are_sound.ensures c.reached_by_crossing.ensures c.arc_alone.ensures c.args.model.now c.requires.well_formed c.args.d c.args.v c.requires.dimension c.requires.vehicle c.args.list.now c.requires.used
+    (c.loop-k.k + 1) c.args.last c.args.taken (let low = c.loop-k-test.true in omega (arith, low)) c.requires.within c.cross_by_run-run.result (empty c.cross_by_run-run.result.lo c.cross_by_run-run.result.hi (let less = c.if-run.true in omega (arith, ints, less))) c.cross_by_run-run.ensures.reached
+
+pub returns-then-run-clause-count : goal.returns-then-run-clause-count
+returns-then-run-clause-count g c = λ none.
+    let L = line c.args.model.now c.args.d c.args.v c.args.list.now in
+    let n = arc_counted c.runs_are_counted.ensures c.reached_as_tested.ensures L c.loop-k.k c.args.last c.args.taken c.loop-k.run c.loop-k-test.true c.loop-k.invariant.cumuls c.loop-k.invariant.reached none
+        c.args.steps.now (steps_between L c.args.begin c.args.last) c.loop-k.steps c.tick.new.self (c.loop-k.invariant.count none) c.tick.ensures in
+    omega (arith, n)
+
+pub loop-k-preserved : goal.loop-k-preserved
+loop-k-preserved g c =
+    let L = line c.args.model.now c.args.d c.args.v c.args.list.now in record {
+      within = omega arith;
+      origin = c.stop_ahead-ahead.ensures.node;
+      below = c.stop_ahead-ahead.ensures.below;
+      cumuls = c.cross_by_run-run.ensures.cumuls (let less = c.if-run.false in omega (arith, ints, less));
+      reached = c.cross_by_run-run.ensures.reached;
+      count = λ none. arc_counted c.runs_are_counted.ensures c.reached_as_tested.ensures L c.loop-k.k c.args.last c.args.taken c.loop-k.run c.loop-k-test.true c.loop-k.invariant.cumuls c.loop-k.invariant.reached none
+          c.args.steps.now (steps_between L c.args.begin c.args.last) c.loop-k.steps c.tick.new.self (c.loop-k.invariant.count none) c.tick.ensures;
+    }
+
+pub returns-clause-reached : goal.returns-clause-reached
+returns-clause-reached g c =
+    let at : c.loop-k.k ≡ c.args.last = (let within = c.loop-k.invariant.within in let done = c.loop-k-test.false in omega (arith, within, done)) in
+    subst (λ k. IsReachedRun (line c.args.model.now c.args.d c.args.v c.args.list.now) k c.args.taken c.loop-k.run) at c.loop-k.invariant.reached

@@ -1,0 +1,50 @@
+//! The one run of cumuls that each visit allows, where none allows more than one.
+
+ghost use Rattle.std.specs.Prelude.{IfOk, IfSome};
+ghost use Rattle.vr_walks.specs.VisitRuns.{IsRunOf, AreRunsOf, AreRunTables};
+
+use std::alloc::Global;
+use vr_model::{NoMemory, Seq};
+use vr_spans::{Run, Spans};
+
+// For each table of sets the run of each set, or nothing where a set is of more than one.
+pub(crate) fn run_tables(
+    alloc: Global,
+    tables: &Seq<Seq<Spans>>,
+) -> Result<Seq<Option<Seq<Run>>>, NoMemory>
+    ensures { IfOk result (AreRunTables tables.now) }
+{
+    let mut found = Seq::with_capacity(alloc, tables.len())?;
+    for k in 0..tables.len() {
+        found.push(runs_of(alloc, tables.get(k))?)?;
+    }
+    Ok(found)
+}
+
+// The run of each set, nothing where a set is of more than one.
+fn runs_of(alloc: Global, sets: &Seq<Spans>) -> Result<Option<Seq<Run>>, NoMemory>
+    ensures { IfOk result (λ found. IfSome found (AreRunsOf sets.now)) }
+{
+    let mut runs = Seq::with_capacity(alloc, sets.len())?;
+    for k in 0..sets.len() {
+        let Some(run) = run_of(sets.get(k)) else {
+            return Ok(None);
+        };
+        runs.push(run)?;
+    }
+    Ok(Some(runs))
+}
+
+// The run that has the numbers of a set, nothing where the set is of more than one.
+pub(crate) fn run_of(set: &Spans) -> Option<Run>
+    ensures { IfSome result (IsRunOf set.now) }
+{
+    let runs = set.len();
+    if runs > 1 {
+        return None;
+    }
+    if runs == 1 {
+        return Some(set.run(0));
+    }
+    Some(Run { lo: 1, hi: 0 })
+}

@@ -1,0 +1,337 @@
+//! Walks that carry one run of cumuls from stop to stop.
+
+ghost use Rattle.std.specs.Prelude.{◌≡◌, ◌+◌, ◌<◌, ◌≤◌, ◌^◌, ◌↔◌, suc, All, IfSome, IsTrue, length, [], ◌∷◌};
+ghost use Rattle.std.specs.Prelude.{pos, neg_ℤ, ◌+ℤ◌, ◌≤ℤ◌};
+ghost use Rattle.std.specs.Int.{int_max, int_min};
+ghost use Rattle.vr_model.specs.schedules.Choices.{is_feasible};
+ghost use Rattle.vr_model.specs.schedules.Lines.{line};
+ghost use Rattle.vr_model.specs.schedules.Weights.{walk_weight};
+ghost use Rattle.vr_model.specs.tables.Tables.{dimension_at, evaluator_of, transit};
+ghost use Rattle.vr_model.specs.tables.Numbers.{horizon};
+ghost use Rattle.vr_model.specs.tables.WellFormed.{IsIn, IsWellFormed};
+ghost use Rattle.vr_spans.specs.Runs.{ShareANumber};
+ghost use Rattle.vr_steps.specs.Levels.{AreLevels, IsCumuls, level_at};
+ghost use Rattle.vr_walks.specs.Counts.{steps_between};
+ghost use Rattle.vr_walks.specs.Lists.{node_at_stop, IsTour, IsUsed};
+ghost use Rattle.vr_walks.specs.Singles.{IsCumulRun, IsOnlyRun, IsReachedRun, IsReachingRun};
+ghost use Rattle.vr_walks.specs.Stops.{AreEndsOf};
+ghost use Rattle.vr_walks.specs.VisitRuns.{AreVisitRuns, HasCumulEnds, IsAllowedRun, IsFinish};
+
+use crate::ends::Ends;
+use crate::runs::run_of;
+use crate::spliced::Spliced;
+use crate::stops::node_at;
+use std::sync::ledger::Ledger;
+use vr_model::{Evaluator, Model, Steps, laws};
+use vr_spans::Run;
+use vr_steps::Levels;
+
+// A stop to which an arc leads: its node, and the run of the cumuls that it allows.
+#[derive(Clone, Copy)]
+pub(crate) struct Ahead {
+    pub(crate) node: u32,
+    pub(crate) allowed: Run,
+}
+
+// What a walk of one run goes between: the runs at its two ends, and the end of the vehicle.
+#[derive(Clone, Copy)]
+pub(crate) struct Between {
+    pub(crate) from: Run,
+    pub(crate) to: Run,
+    pub(crate) finish: Ahead,
+}
+
+// What a walk between two levels goes between, where there are no breaks and each is of one run.
+pub(crate) fn one_run_each(
+    model: &Model,
+    d: u32,
+    v: u32,
+    ends: &Ends,
+    from: &Levels,
+    to: &Levels,
+) -> Option<Between>
+    requires vehicle { v < length model.now.vehicles }
+    requires ends { AreEndsOf model.now d v ends.now }
+    requires from { AreLevels ends.now.breaks from.now }
+    requires to { AreLevels ends.now.breaks to.now }
+    ensures no_breaks { IfSome result (λ between. ends.now.breaks ≡ []) }
+    ensures from { IfSome result (λ between. IsOnlyRun (level_at from.now 0) between.from) }
+    ensures to { IfSome result (λ between. IsOnlyRun (level_at to.now 0) between.to) }
+    ensures finish { IfSome result (λ between. IsFinish model.now d v between.finish) }
+{
+    if !ends.breaks.rows.is_empty() {
+        return None;
+    }
+    let from = run_at(from, 0)?;
+    let to = run_at(to, 0)?;
+    let finish = finish_of(model, d, v, ends)?;
+    Some(Between { from, to, finish })
+}
+
+// The run that the set where `b` breaks were taken is, nothing where it is none or more than one.
+#[inline]
+fn run_at(levels: &Levels, b: usize) -> Option<Run>
+    requires taken { b < length levels.now }
+    requires cumuls { All IsCumuls levels.now }
+    ensures { IfSome result (IsOnlyRun (level_at levels.now b)) }
+{
+    let set = levels.level(b);
+    if set.len() != 1 {
+        return None;
+    }
+    Some(set.run(0))
+}
+
+// The end of vehicle `v`, nothing where it allows more than one run.
+fn finish_of(model: &Model, d: u32, v: u32, ends: &Ends) -> Option<Ahead>
+    requires vehicle { v < length model.now.vehicles }
+    requires ends { AreEndsOf model.now d v ends.now }
+    ensures { IfSome result (IsFinish model.now d v) }
+{
+    let allowed = run_of(&ends.end_set)?;
+    let node = model.vehicles.get(v as usize).end;
+    Some(Ahead { node, allowed })
+}
+
+// Whether the line of a list is feasible, where no stop allows more than one run and there are no breaks: found by a
+// walk that carries one run, as `walk_through` counts.
+pub(crate) fn walk_by_runs<L: Ledger>(
+    model: &Model,
+    d: u32,
+    v: u32,
+    runs: &[Run],
+    between: Between,
+    list: &Spliced,
+    begin: usize,
+    last: usize,
+    steps: &mut Steps<L>,
+) -> bool
+    requires well_formed { IsWellFormed model.now }
+    requires dimension { d < length model.now.dimensions }
+    requires vehicle { v < length model.now.vehicles }
+    requires no_breaks { (line model.now d v list.now).breaks ≡ [] }
+    requires runs { AreVisitRuns model.now d v runs.now }
+    requires finish { IsFinish model.now d v between.finish }
+    requires used { IsUsed model.now list.now }
+    requires order { begin < last }
+    requires within { last ≤ suc (length list.now) }
+    requires from_cumuls { IsCumulRun between.from }
+    requires from { IsReachedRun (line model.now d v list.now) begin 0 between.from }
+    requires to_cumuls { IsCumulRun between.to }
+    requires to { IsReachingRun (line model.now d v list.now) last 0 between.to }
+    ensures exact { result ≡ is_feasible (line model.now d v list.now) }
+    ensures count { steps.new ≤ steps.old + walk_weight (line model.now d v list.now) begin last }
+{
+    laws::lines_are_sound();
+    laws::chosen_where_feasible();
+    laws::feasible_where_levels_meet();
+    laws::reached_as_tested();
+    laws::end_reached_as_tested();
+    vr_steps::laws::runs_are_counted();
+    let run = carry_run(
+        model,
+        d,
+        v,
+        runs,
+        between.finish,
+        list,
+        begin,
+        last,
+        0,
+        between.from,
+        steps,
+    );
+    if run.lo > run.hi {
+        return false;
+    }
+    // a step for each of the two runs
+    steps.tick();
+    steps.tick();
+    share(run, between.to)
+}
+
+// Whether two runs have a number in common.
+#[inline]
+fn share(a: Run, b: Run) -> bool
+    requires first { IsCumulRun a }
+    requires second { IsCumulRun b }
+    ensures { IsTrue result ↔ ShareANumber (a ∷ []) (b ∷ []) }
+{
+    a.lo.max(b.lo) <= a.hi.min(b.hi)
+}
+
+// The run that is reached at stop `last` by a walk without breaks from stop `begin`, where this run is reached with
+// `taken` breaks taken. It has no number where nothing is reached on the way; then the walk stops there.
+pub(crate) fn carry_run<L: Ledger>(
+    model: &Model,
+    d: u32,
+    v: u32,
+    runs: &[Run],
+    finish: Ahead,
+    list: &Spliced,
+    begin: usize,
+    last: usize,
+    taken: usize,
+    from: Run,
+    steps: &mut Steps<L>,
+) -> Run
+    requires well_formed { IsWellFormed model.now }
+    requires dimension { d < length model.now.dimensions }
+    requires vehicle { v < length model.now.vehicles }
+    requires runs { AreVisitRuns model.now d v runs.now }
+    requires finish { IsFinish model.now d v finish }
+    requires used { IsUsed model.now list.now }
+    requires order { begin ≤ last }
+    requires within { last ≤ suc (length list.now) }
+    requires breaks { taken ≤ length (line model.now d v list.now).breaks }
+    requires from_cumuls { IsCumulRun from }
+    requires from { IsReachedRun (line model.now d v list.now) begin taken from }
+    ensures cumuls { result.lo ≤ℤ result.hi → IsCumulRun result }
+    ensures reached { IsReachedRun (line model.now d v list.now) last taken result }
+    ensures count { taken ≡ 0 → steps.new ≤ steps.old + steps_between (line model.now d v list.now) begin last }
+{
+    laws::lines_are_sound();
+    laws::reached_by_crossing();
+    laws::reached_as_tested();
+    vr_steps::laws::arc_alone();
+    vr_steps::laws::runs_are_counted();
+    let evaluator = model.dimensions.get(d as usize).evaluator_of(v);
+    let slack = slack_of(model, d);
+    let mut run = from;
+    let mut origin = node_at(model, v, list, begin);
+    for k in begin..last {
+        steps.tick();
+        let ahead = stop_ahead(model, d, v, runs, finish, list, k);
+        run = cross_by_run(
+            model, d, v, evaluator, slack, list, k, taken, origin, run, ahead,
+        );
+        if run.lo > run.hi {
+            return run;
+        }
+        origin = ahead.node;
+    }
+    run
+}
+
+// The stop behind the arc from stop `k` of vehicle `v` with a list.
+#[inline]
+fn stop_ahead(
+    model: &Model,
+    d: u32,
+    v: u32,
+    runs: &[Run],
+    finish: Ahead,
+    list: &Spliced,
+    k: usize,
+) -> Ahead
+    requires well_formed { IsWellFormed model.now }
+    requires vehicle { v < length model.now.vehicles }
+    requires runs { AreVisitRuns model.now d v runs.now }
+    requires finish { IsFinish model.now d v finish }
+    requires tour { IsTour model.now list.now }
+    requires arc { k ≤ length list.now }
+    ensures node { result.node ≡ node_at_stop model.now v list.now (k + 1) }
+    ensures below { result.node < model.now.nodes }
+    ensures allowed { IsAllowedRun (line model.now d v list.now) (k + 1) result.allowed }
+{
+    if k < list.len() {
+        let node = list.get(k);
+        return Ahead {
+            node,
+            allowed: runs[node as usize],
+        };
+    }
+    finish
+}
+
+// The run that is reached behind the arc from stop `k`, without a break inside it. It has no number where none is.
+#[inline]
+fn cross_by_run(
+    model: &Model,
+    d: u32,
+    v: u32,
+    evaluator: &Evaluator,
+    slack: i64,
+    list: &Spliced,
+    k: usize,
+    taken: usize,
+    origin: u32,
+    run: Run,
+    ahead: Ahead,
+) -> Run
+    requires well_formed { IsWellFormed model.now }
+    requires dimension { d < length model.now.dimensions }
+    requires vehicle { v < length model.now.vehicles }
+    requires evaluator { evaluator.now ≡ evaluator_of (dimension_at model.now d) v }
+    requires slack { slack ≡ (dimension_at model.now d).slack_max }
+    requires slack_range { IsIn (pos 0) horizon slack }
+    requires used { IsUsed model.now list.now }
+    requires arc { k ≤ length list.now }
+    requires breaks { taken ≤ length (line model.now d v list.now).breaks }
+    requires origin { origin ≡ node_at_stop model.now v list.now k }
+    requires origin_below { origin < model.now.nodes }
+    requires cumuls { IsCumulRun run }
+    requires reached { IsReachedRun (line model.now d v list.now) k taken run }
+    requires target { ahead.node ≡ node_at_stop model.now v list.now (k + 1) }
+    requires target_below { ahead.node < model.now.nodes }
+    requires allowed { IsAllowedRun (line model.now d v list.now) (k + 1) ahead.allowed }
+    ensures reached { IsReachedRun (line model.now d v list.now) (k + 1) taken result }
+    ensures cumuls { result.lo ≤ℤ result.hi → IsCumulRun result }
+{
+    laws::lines_are_sound();
+    laws::reached_by_crossing();
+    vr_steps::laws::arc_alone();
+    let transit = transit_between(model, d, v, evaluator, origin, ahead.node);
+    run_behind(run, transit, slack, ahead.allowed)
+}
+
+// The greatest slack of dimension `d`.
+#[inline]
+fn slack_of(model: &Model, d: u32) -> i64
+    requires well_formed { IsWellFormed model.now }
+    requires dimension { d < length model.now.dimensions }
+    ensures value { result ≡ (dimension_at model.now d).slack_max }
+    ensures range { IsIn (pos 0) horizon result }
+{
+    model.dimensions.get(d as usize).slack_max
+}
+
+// The transit of vehicle `v` from one node to another, by its evaluator.
+#[inline]
+fn transit_between(
+    model: &Model,
+    d: u32,
+    v: u32,
+    evaluator: &Evaluator,
+    origin: u32,
+    target: u32,
+) -> i64
+    requires well_formed { IsWellFormed model.now }
+    requires dimension { d < length model.now.dimensions }
+    requires vehicle { v < length model.now.vehicles }
+    requires evaluator { evaluator.now ≡ evaluator_of (dimension_at model.now d) v }
+    requires origin { origin < model.now.nodes }
+    requires target { target < model.now.nodes }
+    ensures value { result ≡ transit model.now d v origin target }
+    ensures least { neg_ℤ (pos (2 ^ 31)) ≤ℤ result }
+    ensures greatest { result ≤ℤ pos (2 ^ 31) }
+{
+    evaluator.transit(model, origin, target)
+}
+
+// The run at the end of an arc, of what is allowed there: it has no number where the arc leads to none.
+#[inline]
+fn run_behind(run: Run, transit: i64, slack: i64, allowed: Run) -> Run
+    requires run { IsCumulRun run }
+    requires least { neg_ℤ (pos (2 ^ 31)) ≤ℤ transit }
+    requires greatest { transit ≤ℤ pos (2 ^ 31) }
+    requires slack { IsIn (pos 0) horizon slack }
+    requires allowed { HasCumulEnds allowed }
+    ensures lo { result.lo ≡ int_max (run.lo +ℤ transit) allowed.lo }
+    ensures hi { result.hi ≡ int_min (run.hi +ℤ (transit +ℤ slack)) allowed.hi }
+{
+    Run {
+        lo: (run.lo + transit).max(allowed.lo),
+        hi: (run.hi + (transit + slack)).min(allowed.hi),
+    }
+}
