@@ -8,3 +8,4 @@ pub mod StandingLemmas
 pub mod Splicing
 pub mod RunLemmas
 pub mod SingleLemmas
+pub mod ProbeLemmas

@@ -135,10 +135,10 @@ normal_run run cumul = let low = cumul.low in let high = cumul.high in (omega (a
 cumuls_of_run : (run : Run) → IsCumulRun run → IsCumuls (run ∷ [])
 cumuls_of_run run cumul x there = let low = cumul.low in let high = cumul.high in grind (arith, ints, low, high, there)
 
-alone_in : (run : Run) (x : ℤ) → IsTrue (has (run ∷ []) x) → IsTrue (in_run run x)
+pub alone_in : (run : Run) (x : ℤ) → IsTrue (has (run ∷ []) x) → IsTrue (in_run run x)
 alone_in run x there = grind (arith, there)
 
-in_alone : (run : Run) (x : ℤ) → IsTrue (in_run run x) → IsTrue (has (run ∷ []) x)
+pub in_alone : (run : Run) (x : ℤ) → IsTrue (in_run run x) → IsTrue (has (run ∷ []) x)
 in_alone run x there = grind (arith, there)
 
 -- what is counted of it

@@ -4,6 +4,7 @@
 
 mod ends;
 mod lines;
+mod probing;
 mod runs;
 mod single;
 mod spliced;

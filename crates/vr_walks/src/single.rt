@@ -70,7 +70,7 @@ pub(crate) fn one_run_each(
 
 // The run that the set where `b` breaks were taken is, nothing where it is none or more than one.
 #[inline]
-fn run_at(levels: &Levels, b: usize) -> Option<Run>
+pub(crate) fn run_at(levels: &Levels, b: usize) -> Option<Run>
     requires taken { b < length levels.now }
     requires cumuls { All IsCumuls levels.now }
     ensures { IfSome result (IsOnlyRun (level_at levels.now b)) }
@@ -83,7 +83,7 @@ fn run_at(levels: &Levels, b: usize) -> Option<Run>
 }
 
 // The end of vehicle `v`, nothing where it allows more than one run.
-fn finish_of(model: &Model, d: u32, v: u32, ends: &Ends) -> Option<Ahead>
+pub(crate) fn finish_of(model: &Model, d: u32, v: u32, ends: &Ends) -> Option<Ahead>
     requires vehicle { v < length model.now.vehicles }
     requires ends { AreEndsOf model.now d v ends.now }
     ensures { IfSome result (IsFinish model.now d v) }

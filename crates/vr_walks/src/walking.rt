@@ -19,6 +19,7 @@ ghost use Rattle.vr_walks.specs.VisitRuns.{AreVisitRuns};
 ghost use Rattle.vr_walks.specs.VisitSets.{AreVisitSets};
 
 use crate::ends::Ends;
+use crate::probing::told_without_breaks;
 use crate::single::{one_run_each, walk_by_runs};
 use crate::spliced::Spliced;
 use crate::stops::{Stops, hop_from, set_at};
@@ -31,7 +32,8 @@ use vr_spans::{Run, Spans};
 use vr_steps::Levels;
 
 // Whether the line of a list is feasible, found by a walk from stop `begin`, which is reached at the levels `from`, to
-// stop `last`, from which the end is reached at the levels `to`. The walk carries one run where that is all there is.
+// stop `last`, from which the end is reached at the levels `to`. The walk carries one run where that is all there is;
+// else, where no visit allows more, walks without a break are asked first, whose steps nobody counts.
 fn walk_through<L: Ledger>(
     model: &Model,
     d: u32,
@@ -66,6 +68,21 @@ fn walk_through<L: Ledger>(
     if let Some(runs) = runs {
         if let Some(between) = one_run_each(model, d, v, ends, from, to) {
             let passed = walk_by_runs(model, d, v, runs, between, list, begin, last, steps);
+            return Ok(passed);
+        }
+        if let Some(passed) = told_without_breaks::<Brand>(
+            model,
+            d,
+            v,
+            ends,
+            runs,
+            list,
+            begin,
+            last,
+            from,
+            to,
+            Blank::new(1),
+        ) {
             return Ok(passed);
         }
     }

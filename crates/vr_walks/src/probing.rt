@@ -1,0 +1,178 @@
+//! Walks without a break, which often tell whether a list of a vehicle with breaks is feasible.
+
+ghost use Rattle.std.specs.Prelude.{◌≡◌, ◌<◌, ◌≤◌, ◌↔◌, suc, All, IfSome, IsTrue, length, [], ◌∷◌};
+ghost use Rattle.vr_model.specs.schedules.Choices.{is_feasible};
+ghost use Rattle.vr_model.specs.schedules.Lines.{line};
+ghost use Rattle.vr_model.specs.schedules.Schedules.{IsFeasible};
+ghost use Rattle.vr_model.specs.tables.WellFormed.{IsWellFormed};
+ghost use Rattle.vr_spans.specs.Runs.{ShareANumber};
+ghost use Rattle.vr_steps.specs.Levels.{AreLevels};
+ghost use Rattle.vr_steps.specs.Reached.{AreReached, AreReachingEnd};
+ghost use Rattle.vr_walks.specs.Lists.{IsUsed};
+ghost use Rattle.vr_walks.specs.Stops.{AreEndsOf};
+ghost use Rattle.vr_walks.specs.VisitRuns.{AreVisitRuns, IsFinish};
+
+use crate::ends::Ends;
+use crate::single::{Ahead, carry_run, finish_of, run_at};
+use crate::spliced::Spliced;
+use std::sync::ledger::{Blank, Ledger};
+use vr_model::{Model, Steps, laws};
+use vr_spans::{Run, Spans};
+use vr_steps::Levels;
+
+// Whether the line of a list is feasible, where walks without a break on the way tell, and no visit allows more than
+// one run: it is not where what is reached with no break taken misses all from which the end is reached with all of
+// them taken, and it is where a walk with some number of breaks taken before it serves. Nobody counts the steps.
+pub(crate) fn told_without_breaks<L: Ledger>(
+    model: &Model,
+    d: u32,
+    v: u32,
+    ends: &Ends,
+    runs: &[Run],
+    list: &Spliced,
+    begin: usize,
+    last: usize,
+    from: &Levels,
+    to: &Levels,
+    blank: Blank,
+) -> Option<bool>
+    requires name { blank.name ≡ L.name }
+    requires parts { blank.parts ≡ L.parts }
+    requires some { 0 < blank.parts }
+    requires well_formed { IsWellFormed model.now }
+    requires dimension { d < length model.now.dimensions }
+    requires vehicle { v < length model.now.vehicles }
+    requires ends { AreEndsOf model.now d v ends.now }
+    requires runs { AreVisitRuns model.now d v runs.now }
+    requires used { IsUsed model.now list.now }
+    requires order { begin < last }
+    requires within { last ≤ suc (length list.now) }
+    requires from_form { AreLevels ends.now.breaks from.now }
+    requires from { AreReached (line model.now d v list.now) begin from.now }
+    requires to_form { AreLevels ends.now.breaks to.now }
+    requires to { AreReachingEnd (line model.now d v list.now) last to.now }
+    ensures { IfSome result (λ passed. passed ≡ is_feasible (line model.now d v list.now)) }
+{
+    laws::lines_are_sound();
+    laws::chosen_where_feasible();
+    laws::feasible_where_levels_meet();
+    let finish = finish_of(model, d, v, ends)?;
+    let begun = run_at(from, 0)?;
+    let mut steps = Steps::<L>::new(blank);
+    let run = carry_run(
+        model, d, v, runs, finish, list, begin, last, 0, begun, &mut steps,
+    );
+    let all = to.len() - 1;
+    if !shares_with(run, to.level(all)) {
+        return Some(false);
+    }
+    let goes = shares_with(run, to.level(0));
+    if goes {
+        return Some(true);
+    }
+    let goes = goes_with_some(
+        model, d, v, runs, finish, list, begin, last, from, to, &mut steps,
+    );
+    if goes {
+        return Some(true);
+    }
+    None
+}
+
+// Whether a walk without a break serves, with one break taken before it or more; where not, nothing is told.
+fn goes_with_some<L: Ledger>(
+    model: &Model,
+    d: u32,
+    v: u32,
+    runs: &[Run],
+    finish: Ahead,
+    list: &Spliced,
+    begin: usize,
+    last: usize,
+    from: &Levels,
+    to: &Levels,
+    steps: &mut Steps<L>,
+) -> bool
+    requires well_formed { IsWellFormed model.now }
+    requires dimension { d < length model.now.dimensions }
+    requires vehicle { v < length model.now.vehicles }
+    requires runs { AreVisitRuns model.now d v runs.now }
+    requires finish { IsFinish model.now d v finish }
+    requires used { IsUsed model.now list.now }
+    requires order { begin < last }
+    requires within { last ≤ suc (length list.now) }
+    requires from_form { AreLevels (line model.now d v list.now).breaks from.now }
+    requires from { AreReached (line model.now d v list.now) begin from.now }
+    requires to_form { AreLevels (line model.now d v list.now).breaks to.now }
+    requires to { AreReachingEnd (line model.now d v list.now) last to.now }
+    ensures { IsTrue result → IsFeasible (line model.now d v list.now) }
+{
+    for taken in 1..from.len() {
+        if goes_with(
+            model, d, v, runs, finish, list, begin, last, taken, from, to, steps,
+        ) {
+            return true;
+        }
+    }
+    false
+}
+
+// Whether a walk without a break serves, with so many breaks taken before it; where not, nothing is told.
+fn goes_with<L: Ledger>(
+    model: &Model,
+    d: u32,
+    v: u32,
+    runs: &[Run],
+    finish: Ahead,
+    list: &Spliced,
+    begin: usize,
+    last: usize,
+    taken: usize,
+    from: &Levels,
+    to: &Levels,
+    steps: &mut Steps<L>,
+) -> bool
+    requires well_formed { IsWellFormed model.now }
+    requires dimension { d < length model.now.dimensions }
+    requires vehicle { v < length model.now.vehicles }
+    requires runs { AreVisitRuns model.now d v runs.now }
+    requires finish { IsFinish model.now d v finish }
+    requires used { IsUsed model.now list.now }
+    requires order { begin < last }
+    requires within { last ≤ suc (length list.now) }
+    requires taken { taken ≤ length (line model.now d v list.now).breaks }
+    requires from_form { AreLevels (line model.now d v list.now).breaks from.now }
+    requires from { AreReached (line model.now d v list.now) begin from.now }
+    requires to_form { AreLevels (line model.now d v list.now).breaks to.now }
+    requires to { AreReachingEnd (line model.now d v list.now) last to.now }
+    ensures { IsTrue result → IsFeasible (line model.now d v list.now) }
+{
+    laws::lines_are_sound();
+    laws::feasible_where_levels_meet();
+    let Some(begun) = run_at(from, taken) else {
+        return false;
+    };
+    let run = carry_run(
+        model, d, v, runs, finish, list, begin, last, taken, begun, steps,
+    );
+    let goes = shares_with(run, to.level(taken));
+    goes
+}
+
+// Whether a run has a number in common with a set.
+fn shares_with(run: Run, set: &Spans) -> bool
+    ensures { IsTrue result ↔ ShareANumber (run ∷ []) set.now }
+{
+    if run.lo > run.hi {
+        return false;
+    }
+    // that a set has no empty run
+    let runs = set.len();
+    for k in 0..runs {
+        let other = set.run(k);
+        if run.lo <= other.hi && other.lo <= run.hi {
+            return true;
+        }
+    }
+    false
+}
