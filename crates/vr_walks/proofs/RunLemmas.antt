@@ -1,17 +1,16 @@
 -- The runs of sets of no more than one.
-use Rattle.std.proofs.Common.{◌≡◌, ◌∙◌, ℕ, ◌<◌, zero, suc, Bool, true, false, ◌||◌, List, [], ◌∷◌, ◌++◌, length, get_or, Option, Some, None, ℤ, pos, ◌≤ℤ◌, refl, sym, ap, subst, arith}
-use Rattle.std.specs.Prelude.{IsTrue, IfSome, slice_get}
+use Rattle.std.proofs.Common.{◌≡◌, ◌∙◌, ℕ, ◌<◌, Bool, List, [], ◌∷◌, ◌++◌, length, get_or, Option, Some, None, ℤ, pos, ◌≤ℤ◌, sym, subst, arith}
+use Rattle.std.specs.Prelude.{IfSome, slice_get}
 use Rattle.std.proofs.lemmas.Int.{ints}
 use Rattle.std.proofs.lemmas.Option.{get_or_from_slice_get}
 use Rattle.vr_spans.specs.declared.runs.Run.{Run}
-use Rattle.vr_spans.specs.Runs.{has, in_run, IsNormal}
-use Rattle.vr_model.specs.tables.Numbers.{horizon, within}
+use Rattle.vr_spans.specs.Runs.{IsNormal}
 use Rattle.vr_model.specs.declared.records.Model.{Model}
 use Rattle.vr_steps.specs.Levels.{IsCumuls}
 use Rattle.vr_walks.specs.declared.stops.Stops.{Stops}
 use Rattle.vr_walks.specs.Stops.{AreStops}
 use Rattle.vr_walks.specs.Singles.{IsOnlyRun}
-use Rattle.vr_walks.specs.VisitRuns.{HasCumulEnds, IsRunFor, IsRunOf, AreRunsOf, AreVisitRuns}
+use Rattle.vr_walks.specs.VisitRuns.{IsRunFor, IsRunOf, AreRunsOf, AreVisitRuns}
 use Rattle.vr_walks.specs.VisitSets.{IsSetOf, IsTableOf, AreVisitSets}
 use Rattle.vr_walks.proofs.Tables.{each_push, table_here}
 

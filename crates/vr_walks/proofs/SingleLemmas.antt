@@ -1,5 +1,5 @@
 -- Walks that carry one run.
-use Rattle.std.proofs.Common.{◌≡◌, ◌∙◌, ℕ, zero, suc, ◌+◌, ◌*◌, ◌-◌, ◌<◌, ◌≤◌, Bool, false, List, [], ◌∷◌, length, get_or, sum_by, ℤ, pos, ◌+ℤ◌, ◌-ℤ◌, ◌≤ℤ◌, ◌<ℤ◌, refl, sym, ap, ap₂, subst, arith}
+use Rattle.std.proofs.Common.{◌≡◌, ◌∙◌, ℕ, zero, suc, ◌+◌, ◌*◌, ◌-◌, ◌<◌, ◌≤◌, false, List, [], ◌∷◌, length, sum_by, ℤ, pos, ◌+ℤ◌, ◌-ℤ◌, ◌≤ℤ◌, ◌<ℤ◌, refl, sym, ap, ap₂, subst, arith}
 use Rattle.std.specs.Prelude.{IsTrue, ◌&&◌, ◌↔◌, int_le}
 use Rattle.std.specs.Int.{int_max, int_min}
 use Rattle.std.specs.List.{range_with_len}
@@ -121,7 +121,7 @@ module _ (law : LinesAreSound) (crossing : ReachedByCrossing) (alone : ArcAlone)
       let hop = hop_between_stops model d v list k origin target (hop_of (dimension_at model d).slack_max (line_arc model d v (record { vehicle = v; origin = origin; target = target }))) le origin_is target_is refl in
       let way : t ≡ (arc_at L k).transit = t_is ∙ ap (λ (h : Hop). h.transit) hop in
       subst (λ i. IsReachedRun L i b new) (sym next) (ahead crossing L (sound_line law model well d v d_low v_low list used) alone k b low few run allowed new cumul is (subst (λ i. IsAllowedRun L i allowed) next allows_is)
-          (subst (λ n. pos 0 ≤ℤ n) s_is rises) (lo_is ∙ ap (λ n. int_max (run.lo +ℤ n) allowed.lo) way) (hi_is ∙ ap₂ (λ m n. int_min (run.hi +ℤ (m +ℤ n)) allowed.hi) way s_is))
+      (subst (λ n. pos 0 ≤ℤ n) s_is rises) (lo_is ∙ ap (λ n. int_max (run.lo +ℤ n) allowed.lo) way) (hi_is ∙ ap₂ (λ m n. int_min (run.hi +ℤ (m +ℤ n)) allowed.hi) way s_is))
 
   -- at a later stop, where nothing is reached
   pub none_at : (k last b : ℕ) → k ≤ last → last ≤ suc (length list) → (run : Run) → (run.lo ≤ℤ run.hi → ⊥) → IsReachedRun (line model d v list) k b run → IsReachedRun (line model d v list) last b run

@@ -1,6 +1,6 @@
 -- The one run of cumuls that a stop allows, where it allows no more than one.
 use Rattle.std.specs.Prelude.{◌≡◌, ℕ, ◌<◌, Bool, false, IfSome, IsTrue, List, [], Option, None, length, slice_index_or}
-use Rattle.std.specs.Prelude.{ℤ, pos, ◌≤ℤ◌}
+use Rattle.std.specs.Prelude.{ℤ, pos}
 use Rattle.vr_spans.specs.declared.runs.Run.{Run}
 use Rattle.vr_spans.specs.Runs.{has, in_run}
 use Rattle.vr_model.specs.tables.Numbers.{horizon}
@@ -12,7 +12,6 @@ use Rattle.vr_steps.specs.declared.stops.StopName.TheVariants.{End}
 use Rattle.vr_steps.specs.Levels.{IsCumuls}
 use Rattle.vr_steps.specs.Stops.{allowed_by}
 use Rattle.vr_walks.specs.declared.single.Ahead.{Ahead}
-use Rattle.vr_walks.specs.Lists.{node_at_stop}
 use Rattle.vr_walks.specs.VisitSets.{capacity_of}
 
 -- both ends of the run lie in 0..=horizon

@@ -17,10 +17,13 @@ returns-then-not-shares_with g c =
     let within : c.args.last ≤ length L.arcs = (let n = arcs_of_line m c.args.d c.args.v list in let le = c.requires.within in omega (arith, n, le)) in
     let all : length L.breaks ≡ c.len-all.result - 1 = (let n = c.requires.to_form.one_more in let same = ap length c.requires.ends.breaks_are.same in let len = c.len-all.ensures in omega (arith, n, same, len)) in
     let there = ap (level_at c.args.to.now) all ∙ level_is c.args.to.now (c.len-all.result - 1) c.level.result.now c.level.ensures in
-    feasible_as_tested c.chosen_where_feasible.ensures L false (λ t. absurd (cc), λ feasible. absurd (
-    refused c.feasible_where_levels_meet.ensures L (sound_line c.lines_are_sound.ensures m c.requires.well_formed c.args.d c.args.v c.requires.dimension c.requires.vehicle list c.requires.used)
-    c.args.last within c.args.to.now c.requires.to run c.carry_run-run.ensures.reached
-    (λ shared. let served = c.shares_with.ensures.1 (subst (ShareANumber (run ∷ [])) there shared) in clash c.shares_with.result served c.if-not-shares_with.true) feasible))
+    feasible_as_tested c.chosen_where_feasible.ensures L false (
+      λ t. absurd (cc),
+      λ feasible. absurd (
+          refused c.feasible_where_levels_meet.ensures L (sound_line c.lines_are_sound.ensures m c.requires.well_formed c.args.d c.args.v c.requires.dimension c.requires.vehicle list c.requires.used)
+          c.args.last within c.args.to.now c.requires.to run c.carry_run-run.ensures.reached
+          (λ shared. let served = c.shares_with.ensures.1 (subst (ShareANumber (run ∷ [])) there shared) in clash c.shares_with.result served c.if-not-shares_with.true) feasible),
+    )
 
 pub returns-then-goes : goal.returns-then-goes
 returns-then-goes g c =
@@ -30,9 +33,12 @@ returns-then-goes g c =
     let run = c.carry_run-run.result in
     let within : c.args.last ≤ length L.arcs = (let n = arcs_of_line m c.args.d c.args.v list in let le = c.requires.within in omega (arith, n, le)) in
     let shared = subst (ShareANumber (run ∷ [])) (sym (level_is c.args.to.now 0 c.level-2.result.now c.level-2.ensures)) (c.shares_with-goes.ensures.0 c.if-goes.true) in
-    feasible_as_tested c.chosen_where_feasible.ensures L true (λ t.
-    accepted c.feasible_where_levels_meet.ensures L (sound_line c.lines_are_sound.ensures m c.requires.well_formed c.args.d c.args.v c.requires.dimension c.requires.vehicle list c.requires.used)
-    c.args.last within c.args.to.now c.requires.to 0 (omega arith) run c.carry_run-run.ensures.reached shared, λ feasible. refl)
+    feasible_as_tested c.chosen_where_feasible.ensures L true (
+      λ t.
+          accepted c.feasible_where_levels_meet.ensures L (sound_line c.lines_are_sound.ensures m c.requires.well_formed c.args.d c.args.v c.requires.dimension c.requires.vehicle list c.requires.used)
+          c.args.last within c.args.to.now c.requires.to 0 (omega arith) run c.carry_run-run.ensures.reached shared,
+      λ feasible. refl,
+    )
 
 pub returns-then-goes-2 : goal.returns-then-goes-2
 returns-then-goes-2 g c =

@@ -1,5 +1,5 @@
-use Rattle.std.proofs.Common.{◌∙◌, sym, arith}
-use Rattle.vr_walks.proofs.RunLemmas.{only_run, no_run}
+use Rattle.std.proofs.Common.{◌∙◌, sym}
+use Rattle.vr_walks.proofs.RunLemmas.{only_run}
 use Rattle.vr_walks.proofs.runs.run_of.Goals as goal
 
 pub returns-then-runs-eq1 : goal.returns-then-runs-eq1

@@ -1,4 +1,4 @@
-use Rattle.std.proofs.Common.{◌≡◌, ◌+◌, ◌≤◌, ◌≤ℤ◌, ◌<ℤ◌, ℤ, arith, subst}
+use Rattle.std.proofs.Common.{◌≡◌, ◌+◌, ◌≤ℤ◌, ◌<ℤ◌, ℤ, arith, subst}
 use Rattle.std.proofs.lemmas.Int.{ints}
 use Rattle.vr_model.specs.schedules.Lines.{line}
 use Rattle.vr_walks.specs.Counts.{steps_between}
@@ -18,7 +18,7 @@ pub returns-then-run-clause-count : goal.returns-then-run-clause-count
 returns-then-run-clause-count g c = λ none.
     let L = line c.args.model.now c.args.d c.args.v c.args.list.now in
     let n = arc_counted c.runs_are_counted.ensures c.reached_as_tested.ensures L c.loop-k.k c.args.last c.args.taken c.loop-k.run c.loop-k-test.true c.loop-k.invariant.cumuls c.loop-k.invariant.reached none
-        c.args.steps.now (steps_between L c.args.begin c.args.last) c.loop-k.steps c.tick.new.self (c.loop-k.invariant.count none) c.tick.ensures in
+    c.args.steps.now (steps_between L c.args.begin c.args.last) c.loop-k.steps c.tick.new.self (c.loop-k.invariant.count none) c.tick.ensures in
     omega (arith, n)
 
 pub loop-k-preserved : goal.loop-k-preserved

@@ -1,4 +1,4 @@
-use Rattle.std.proofs.Common.{◌∙◌, [], sym, subst, arith}
+use Rattle.std.proofs.Common.{◌∙◌, [], sym, subst}
 use Rattle.vr_steps.proofs.LevelLemmas.{level_is}
 use Rattle.vr_steps.specs.Levels.{IsCumuls}
 use Rattle.vr_walks.specs.Singles.{IsOnlyRun}

@@ -1,4 +1,4 @@
-use Rattle.std.proofs.Common.{◌≡◌, ◌∙◌, ◌+ℤ◌, ◌≤ℤ◌, to_z, of_z, w64, ℤ, pos, neg_ℤ, ◌^◌, ap, ap₂, arith}
+use Rattle.std.proofs.Common.{◌≡◌, ◌∙◌, ◌+ℤ◌, ◌≤ℤ◌, to_z, of_z, w64, ℤ, pos, neg_ℤ, ◌^◌, ap₂, arith}
 use Rattle.std.specs.Int.{int_min}
 use Rattle.std.proofs.lemmas.Int.{ints, clamps}
 use Rattle.vr_walks.proofs.single.run_behind.Goals as goal
@@ -18,7 +18,6 @@ returns-clause-lo c =
     let run = c.requires.run in
     let allowed = c.requires.allowed.lo in
     omega (arith, ints, clamps, run.low, run.some, run.high, c.requires.least, c.requires.greatest, allowed.at_least, allowed.at_most, c.max.ensures.value)
-
 
 pub returns-clause-hi : goal.returns-clause-hi
 returns-clause-hi c =

@@ -1,4 +1,4 @@
-use Rattle.std.proofs.Common.{◌≡◌, ◌∙◌, ◌+◌, ◌≤◌, ◌≤ℤ◌, ◌<ℤ◌, ℕ, ℤ, length, false, refl, ap, subst, arith}
+use Rattle.std.proofs.Common.{◌≡◌, ◌+◌, ◌≤◌, ◌≤ℤ◌, ◌<ℤ◌, ℕ, length, false, refl, arith}
 use Rattle.std.proofs.lemmas.Int.{ints}
 use Rattle.vr_model.specs.schedules.Lines.{line}
 use Rattle.vr_walks.specs.Counts.{join_steps, steps_between}
@@ -19,7 +19,7 @@ returns-then-run-clause-exact g c =
     let L = line m c.args.d c.args.v list in
     let within : c.args.last ≤ length L.arcs = (let n = arcs_of_line m c.args.d c.args.v list in let le = c.requires.within in omega (arith, n, le)) in
     let is = feasible_by_runs c.feasible_where_levels_meet.ensures L (sound_line c.lines_are_sound.ensures m c.requires.well_formed c.args.d c.args.v c.requires.dimension c.requires.vehicle list c.requires.used)
-        c.args.last within c.requires.no_breaks c.carry_run-run.result c.args.between.to c.carry_run-run.ensures.reached c.requires.to in
+    c.args.last within c.requires.no_breaks c.carry_run-run.result c.args.between.to c.carry_run-run.ensures.reached c.requires.to in
     let less : c.carry_run-run.result.hi <ℤ c.carry_run-run.result.lo = (let test = c.if-run.true in omega (arith, ints, test)) in
     feasible_as_tested c.chosen_where_feasible.ensures L false (λ t. absurd (cc), λ feasible. absurd (none_shared c.carry_run-run.result c.args.between.to less (is.0 feasible)))
 
@@ -38,7 +38,7 @@ returns-clause-exact g c =
     let L = line m c.args.d c.args.v list in
     let within : c.args.last ≤ length L.arcs = (let n = arcs_of_line m c.args.d c.args.v list in let le = c.requires.within in omega (arith, n, le)) in
     let is = feasible_by_runs c.feasible_where_levels_meet.ensures L (sound_line c.lines_are_sound.ensures m c.requires.well_formed c.args.d c.args.v c.requires.dimension c.requires.vehicle list c.requires.used)
-        c.args.last within c.requires.no_breaks c.carry_run-run.result c.args.between.to c.carry_run-run.ensures.reached c.requires.to in
+    c.args.last within c.requires.no_breaks c.carry_run-run.result c.args.between.to c.carry_run-run.ensures.reached c.requires.to in
     feasible_as_tested c.chosen_where_feasible.ensures L c.share.result (λ t. is.1 (c.share.ensures.0 t), λ feasible. c.share.ensures.1 (is.0 feasible))
 
 pub returns-clause-count : goal.returns-clause-count

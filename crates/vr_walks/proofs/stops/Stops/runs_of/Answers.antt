@@ -1,4 +1,4 @@
-use Rattle.std.proofs.Common.{◌≡◌, ◌∙◌, Some, None, get_or, sym, ap, subst}
+use Rattle.std.proofs.Common.{◌∙◌, None, sym, subst}
 use Rattle.vr_walks.specs.VisitRuns.{AreVisitRuns}
 use Rattle.vr_walks.specs.VisitSets.{IsTableOf}
 use Rattle.vr_walks.proofs.RunLemmas.{runs_here}
