@@ -1,0 +1,120 @@
+-- What is taken along the pieces of a list.
+use Rattle.std.proofs.Common.{◌≡◌, ◌∙◌, ℕ, ◌+◌, ◌-◌, ◌*◌, ◌<◌, ◌≤◌, Bool, true, false, List, [], ◌∷◌, ◌++◌, length, take, drop, reverse, refl, sym, ap, subst, arith, add-one, length-append, to_z, of_z, w64}
+use Rattle.std.specs.Prelude.{ℤ, ◌+ℤ◌, ◌&&◌, slice_range, slice_index_or, All}
+use Rattle.std.proofs.lemmas.Int.{ints}
+use Rattle.std.proofs.lemmas.List.{get_or_append_left, get_or-append_right, append-nil, take-append-drop, get_or-reverse, length-reverse}
+use Rattle.std.proofs.lemmas.List.Edits.{length-between}
+use Rattle.std.proofs.lemmas.Grind.{flat_map-append}
+use Rattle.std.proofs.Math.Seq.{take-suc}
+use Rattle.vr_model.specs.tables.Numbers.{total_by}
+use Rattle.vr_model.specs.routes.Routes.{route, is_empty}
+use Rattle.vr_model.proofs.tables.Totals.{total_by-append}
+use Rattle.vr_routes.specs.declared.pieces.Piece.{Piece}
+use Rattle.vr_routes.specs.declared.pieces.Piece.TheVariants.{Chain}
+use Rattle.vr_routes.specs.Pieces.{joined, nodes_of}
+use Rattle.vr_loads.specs.Sums.{IsUpTo, AreSums}
+use Rattle.vr_loads.proofs.Totals.{AreSmall, total-bounds, total-reversed, up-to-few}
+use Rattle.vr_loads.proofs.ValueLemmas.{read-up, sums-between}
+
+-- ---- one piece more
+
+pub joined-next : (lists : List (List ℕ)) (pieces : List Piece) (k : ℕ) (d : Piece) → k < length pieces
+    → joined lists (take (k + 1) pieces) ≡ joined lists (take k pieces) ++ nodes_of lists (slice_index_or pieces k d)
+joined-next lists pieces k d low =
+    ap (λ n. joined lists (take n pieces)) (add-one k) ∙ ap (joined lists) (take-suc pieces k d low)
+    ∙ flat_map-append (nodes_of lists) (take k pieces) (slice_index_or pieces k d ∷ [])
+    ∙ ap (λ l. joined lists (take k pieces) ++ l) (append-nil (nodes_of lists (slice_index_or pieces k d)))
+
+pub joined-rest : (lists : List (List ℕ)) (pieces : List Piece) (k : ℕ) → joined lists pieces ≡ joined lists (take k pieces) ++ joined lists (drop k pieces)
+joined-rest lists pieces k = ap (joined lists) (sym (take-append-drop k pieces)) ∙ flat_map-append (nodes_of lists) (take k pieces) (drop k pieces)
+
+pub total-piece : (f : ℕ → ℤ) (lists : List (List ℕ)) (pieces : List Piece) (k : ℕ) (d : Piece) → k < length pieces
+    → total_by f (joined lists (take (k + 1) pieces)) ≡ total_by f (joined lists (take k pieces)) +ℤ total_by f (nodes_of lists (slice_index_or pieces k d))
+total-piece f lists pieces k d low = ap (total_by f) (joined-next lists pieces k d low) ∙ total_by-append f (joined lists (take k pieces)) (nodes_of lists (slice_index_or pieces k d))
+
+-- ---- what holds of all nodes
+
+all-left : (P : ℕ → Type 0) (xs ys : List ℕ) → All P (xs ++ ys) → All P xs
+all-left P xs ys h k d low = subst P (get_or_append_left xs ys d k low) (h k d (let l = length-append xs ys in omega (arith, l, low)))
+
+all-right : (P : ℕ → Type 0) (xs ys : List ℕ) → All P (xs ++ ys) → All P ys
+all-right P xs ys h k d low =
+    let e : length xs + k - length xs ≡ k = omega arith in
+    subst P (get_or-append_right xs ys (length xs) (length xs + k) d refl (omega arith) ∙ ap (λ n. slice_index_or ys n d) e) (h (length xs + k) d (let l = length-append xs ys in omega (arith, l, low)))
+
+pub all-at : (P : ℕ → Type 0) (lists : List (List ℕ)) (pieces : List Piece) (k : ℕ) (d : Piece) → k < length pieces → All P (joined lists pieces) → All P (nodes_of lists (slice_index_or pieces k d))
+all-at P lists pieces k d low h =
+    all-right P (joined lists (take k pieces)) _ (subst (All P) (joined-next lists pieces k d low) (all-left P _ (joined lists (drop (k + 1) pieces)) (subst (All P) (joined-rest lists pieces (k + 1)) h)))
+
+all-reversed : (P : ℕ → Type 0) (xs : List ℕ) → All P (reverse xs) → All P xs
+all-reversed P xs h k d low =
+    let j : ℕ = length xs - 1 - k in
+    let here : length xs - 1 - j ≡ k = omega (arith, low) in
+    let under : j < length xs = omega (arith, low) in
+    let same : slice_index_or (reverse xs) j d ≡ slice_index_or xs k d = get_or-reverse xs j d under ∙ ap (λ n. slice_index_or xs n d) here in
+    subst P same (h j d (let l = length-reverse xs in omega (arith, under, l)))
+
+pub all-of-chain : (P : ℕ → Type 0) (lists : List (List ℕ)) (v from to : ℕ) (back : Bool) → All P (nodes_of lists (Chain v from to back)) → All P (slice_range (route lists v) from to)
+all-of-chain P lists v from to false h = h
+all-of-chain P lists v from to true h = all-reversed P (slice_range (route lists v) from to) h
+
+-- the direction of a chain does not matter
+pub chain-total : (f : ℕ → ℤ) (lists : List (List ℕ)) (v from to : ℕ) (back : Bool) → total_by f (slice_range (route lists v) from to) ≡ total_by f (nodes_of lists (Chain v from to back))
+chain-total f lists v from to false = refl
+chain-total f lists v from to true = sym (total-reversed f (slice_range (route lists v) from to))
+
+-- a chain's sum, and how it is read
+module _ (f : ℕ → ℤ) (small : AreSmall f) (lists : List (List ℕ)) (v from to : ℕ) (back : Bool) (within : to ≤ length (route lists v)) where
+  -- of a short list
+  pub chain-up : length (route lists v) ≤ 1000 → IsUpTo 1000 (total_by f (nodes_of lists (Chain v from to back)))
+  chain-up few =
+      subst (IsUpTo 1000) (chain-total f lists v from to back)
+      (up-to-few f small (slice_range (route lists v) from to) (let n = length-between (route lists v) from to within in omega (arith, n, few, within)))
+
+  -- of a list whose sums are kept
+  pub chain-kept : (sums : List ℤ) → AreSums f (route lists v) sums → from ≤ to → IsUpTo 1000 (total_by f (nodes_of lists (Chain v from to back)))
+  chain-kept sums h order =
+      let many = h.many in
+      let low : to < length sums = omega (arith, many, within) in
+      let b = sums-between f (route lists v) sums from to h order low in
+      let x = h.range to low in
+      let y = h.range from (omega (arith, low, order)) in
+      let z = total-bounds f small (slice_range (route lists v) from to) in
+      subst (IsUpTo 1000) (chain-total f lists v from to back) (record { low = z.low; high = omega (arith, ints, b, x.high, y.low) })
+
+  pub chain-read : IsUpTo 1000 (total_by f (nodes_of lists (Chain v from to back))) → (result : ℤ) → result ≡ total_by f (slice_range (route lists v) from to) → to_z w64 (of_z w64 result) ≡ total_by f (nodes_of lists (Chain v from to back))
+  chain-read up result is =
+      ap (λ x. to_z w64 (of_z w64 x)) (is ∙ chain-total f lists v from to back) ∙ read-up (total_by f (nodes_of lists (Chain v from to back))) up
+
+-- one piece more, and how it is read
+module _ (f : ℕ → ℤ) (lists : List (List ℕ)) (pieces : List Piece) (k : ℕ) (d : Piece) (low : k < length pieces) (few : length pieces ≤ 8) (sum more : ℤ)
+    (is : sum ≡ total_by f (joined lists (take k pieces))) (up : IsUpTo (1000 * k) sum) (next : more ≡ total_by f (nodes_of lists (slice_index_or pieces k d))) (up_next : IsUpTo 1000 more) where
+  plain : to_z w64 (of_z w64 (sum +ℤ to_z w64 (of_z w64 more))) ≡ sum +ℤ more
+  plain = omega (arith, ints, up.low, up.high, up_next.low, up_next.high, low, few)
+
+  pub piece-read : to_z w64 (of_z w64 (sum +ℤ to_z w64 (of_z w64 more))) ≡ total_by f (joined lists (take (k + 1) pieces))
+  piece-read = let t = total-piece f lists pieces k d low in plain ∙ omega (arith, ints, is, next, t)
+
+  pub piece-up : IsUpTo (1000 * (k + 1)) (to_z w64 (of_z w64 (sum +ℤ to_z w64 (of_z w64 more))))
+  piece-up = subst (IsUpTo (1000 * (k + 1))) (sym plain) (record { low = omega (arith, ints, up.low, up_next.low); high = omega (arith, ints, up.high, up_next.high) })
+
+-- ---- no node at all
+
+pub empty-append : (xs ys : List ℕ) → is_empty (xs ++ ys) ≡ (is_empty xs && is_empty ys)
+empty-append [] ys = refl
+empty-append (x ∷ xs) ys = refl
+
+-- a piece with a node
+pub some-piece : (lists : List (List ℕ)) (pieces : List Piece) (k : ℕ) (d : Piece) → k < length pieces → is_empty (nodes_of lists (slice_index_or pieces k d)) ≡ false → is_empty (joined lists pieces) ≡ false
+some-piece lists pieces k d low some =
+    ap is_empty (joined-rest lists pieces (k + 1)) ∙ (empty-append (joined lists (take (k + 1) pieces)) (joined lists (drop (k + 1) pieces))
+    ∙ first (is_empty (joined lists (take (k + 1) pieces))) (is_empty (joined lists (drop (k + 1) pieces)))
+    (ap is_empty (joined-next lists pieces k d low) ∙ (empty-append (joined lists (take k pieces)) (nodes_of lists (slice_index_or pieces k d)) ∙ second (is_empty (joined lists (take k pieces))) (is_empty (nodes_of lists (slice_index_or pieces k d))) some)))
+  where
+    first : (a b : Bool) → a ≡ false → (a && b) ≡ false
+    first false b e = refl
+    first true b e = absurd (cc)
+
+    second : (a b : Bool) → b ≡ false → (a && b) ≡ false
+    second false b e = refl
+    second true b e = e

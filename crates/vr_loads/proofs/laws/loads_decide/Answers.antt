@@ -1,0 +1,5 @@
+use Rattle.vr_loads.proofs.LoadLines.{decide}
+use Rattle.vr_loads.proofs.laws.loads_decide.Goals as goal
+
+pub returns : goal.returns
+returns c = decide c.chosen_where_feasible.ensures

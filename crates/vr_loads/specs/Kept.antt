@@ -1,0 +1,26 @@
+-- What is kept of the lists of vehicles in a dimension that is a load.
+use Rattle.std.specs.Prelude.{◌≡◌, ℕ, ◌<◌, List, [], length, pos, ◌-ℤ◌, slice_index_or}
+use Rattle.vr_model.specs.tables.Numbers.{number_at}
+use Rattle.vr_model.specs.tables.Tables.{dimension_at, vehicle_at, evaluator_number}
+use Rattle.vr_model.specs.routes.Routes.{route}
+use Rattle.vr_model.specs.declared.records.Model.{Model}
+use Rattle.vr_loads.specs.Loads.{value_of, taken}
+use Rattle.vr_loads.specs.Sums.{AreSums}
+use Rattle.vr_loads.specs.declared.loads.Carried.{Carried}
+
+-- what is kept of no vehicle
+abbrev pub nothing_carried : Carried
+nothing_carried = record { evaluator = 0; room = pos 0; sums = [] }
+
+-- what is kept of vehicle v with a list: its evaluator, how much it may take along the list, and the sums of what it takes
+pub record IsCarried (model : Model) (d v : ℕ) (list : List ℕ) (carried : Carried) : Type 0 where
+  pub evaluator_is : carried.evaluator ≡ evaluator_number (dimension_at model d) v
+  pub room_is : carried.room
+      ≡ number_at (dimension_at model d).capacities v -ℤ taken model d v (vehicle_at model v).start
+  pub sums_are : AreSums (value_of model d carried.evaluator) list carried.sums
+
+-- what is kept of each vehicle is of its list
+pub record AreCarried (model : Model) (d : ℕ) (lists : List (List ℕ)) (carried : List Carried) : Type 0 where
+  pub many : length carried ≡ length lists
+  pub each : (v : ℕ) → v < length lists
+      → IsCarried model d v (route lists v) (slice_index_or carried v nothing_carried)
