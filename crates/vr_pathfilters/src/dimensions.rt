@@ -1,6 +1,7 @@
 //! The filter of the lines of one dimension.
 
 ghost use Rattle.std.specs.Prelude.{◌≡◌, ◌+◌, ◌<◌, ◌≤◌, ℕ, Bool, false, List, length, IsTrue, IfOk, OnOk, OnErr};
+ghost use Rattle.std.specs.Prelude.{None};
 ghost use Rattle.vr_model.specs.tables.Tables.{visits};
 ghost use Rattle.vr_model.specs.schedules.Weights.{weight as weight_in, list_weight};
 ghost use Rattle.vr_model.specs.routes.Routes.{route};
@@ -15,13 +16,15 @@ ghost use Rattle.vr_walks.specs.Lists.{is_feasible_list, IsTour};
 ghost use Rattle.vr_walks.specs.Stops.{AreStops};
 ghost use Rattle.vr_pathfilters.specs.Lists.{holds_of_each};
 ghost use Rattle.vr_pathfilters.specs.TourLists.{AreTours};
-ghost use Rattle.vr_pathfilters.specs.Known.{AreKnown, StandsAt, IsReady, AreRowsOfPart, with_part};
+ghost use Rattle.vr_pathfilters.specs.Known.{AreKnown, StandsAt, IsReady, KnowsRows, AreRowsOfPart, with_part};
 
+use crate::loads::{all_carried, loads_of, put_list};
 use std::alloc::Global;
 use std::mem;
 use std::sync::ledger::Ledger;
 use vr_balance::strip;
 use vr_filter::PathFilter;
+use vr_loads::Loads;
 use vr_model::{Model, NoMemory, Seq, Steps};
 use vr_reach::{Rows, Walk};
 use vr_routes::{Change, Routes, Row};
@@ -29,15 +32,19 @@ use vr_steps::Line;
 use vr_walks::{Stops, no_line, passes_along, write_rows};
 
 /// Lets a change pass where the line of each used vehicle in one dimension has a schedule afterwards (the path cumul
-/// filter of a `RoutingDimension` in OR-Tools). It keeps the rows of the committed lists, and walks only through what a
-/// change changes: `passes` takes memory only where a set has more than four runs, or where there are breaks.
+/// filter of a `RoutingDimension` in OR-Tools). Of a load it keeps sums of the committed lists, and judges a change by
+/// them in a time that does not depend on how long the lists are. Of another dimension it keeps the rows of the
+/// committed lists, and walks only through what a change changes: `passes` takes memory only where a set has more than
+/// four runs, or where there are breaks.
 #[derive(Drop)]
 pub struct DimensionFilter<'m> {
     model: &'m Model,
     d: u32,
     alloc: Global,
     stops: Stops,
-    // the rows of the list of each vehicle
+    // where the dimension is a load, what vehicles take along their lists
+    loads: Option<Loads>,
+    // else the rows of the list of each vehicle
     known: Vec<Rows>,
     walk: Walk,
     list: Row,
@@ -69,14 +76,18 @@ impl<'m> DimensionFilter<'m> {
         ensures stands { IfOk result (λ filter.
             ⟦<DimensionFilter<'static> as PathFilter>⟧.stands_at filter routes.now) }
     {
+        routes.know_once();
+        routes.know_entries();
         let stops = Stops::build(alloc, model, d)?;
         let mut line = no_line(alloc);
-        let known = know_all(alloc, model, d, &stops, routes, &mut line)?;
+        let loads = loads_of(alloc, model, d, routes)?;
+        let known = rows_unless(&loads, alloc, model, d, &stops, routes, &mut line)?;
         Ok(DimensionFilter {
             model,
             d,
             alloc,
             stops,
+            loads,
             known,
             walk: Walk::new(alloc),
             list: Row::new(),
@@ -91,9 +102,10 @@ impl<'m> DimensionFilter<'m> {
 impl<'m> PathFilter for DimensionFilter<'m> {
     ghost holds = { λ f lists. holds_of_each (is_feasible_list f.model.now f.d) lists };
 
-    ghost stands_at = { λ f tours. StandsAt f.model.now f.d f.stops f.known.items tours };
+    ghost stands_at = { λ f tours. StandsAt f.model.now f.d f.stops f.loads f.known.items tours };
 
-    ghost ready = { λ f tours parts. IsReady f.model.now f.d f.is_prepared f.first f.second tours.lists parts };
+    ghost ready = { λ f tours parts. IsReady f.model.now f.d f.is_prepared f.loads f.first f.second
+        tours.lists parts };
 
     ghost weight = { λ f before later. weight_in f.model.now f.d before later };
 
@@ -104,22 +116,31 @@ impl<'m> PathFilter for DimensionFilter<'m> {
         steps: &mut Steps<L>,
     ) -> Result<bool, NoMemory> {
         self.is_prepared = false;
-        let passed = all_pass(
-            self.model,
-            self.d,
-            &self.stops,
-            &self.known,
-            routes,
-            change,
-            &mut self.list,
-            &mut self.walk,
-            steps,
-        )?;
-        Ok(passed)
+        match &self.loads {
+            Some(loads) => Ok(all_carried(self.model, self.d, loads, routes, change)),
+            None => {
+                let passed = all_pass(
+                    self.model,
+                    self.d,
+                    &self.stops,
+                    &self.known,
+                    routes,
+                    change,
+                    &mut self.list,
+                    &mut self.walk,
+                    steps,
+                )?;
+                Ok(passed)
+            }
+        }
     }
 
     fn prepare(&mut self, routes: &Routes, change: &Change) -> Result<(), NoMemory> {
         self.is_prepared = false;
+        if self.loads.is_some() {
+            self.is_prepared = true;
+            return Ok(());
+        }
         let (alloc, model, d) = (self.alloc, self.model, self.d);
         let (stops, list, line) = (&self.stops, &mut self.list, &mut self.line);
         write_part(
@@ -152,11 +173,17 @@ impl<'m> PathFilter for DimensionFilter<'m> {
     }
 
     fn commit(&mut self, routes: &Routes, change: &Change) {
-        // the rows do not name the lists that they are of
-        let _lists = routes;
         self.is_prepared = false;
-        put_part(&mut self.known, change, 0, &mut self.first);
-        put_part(&mut self.known, change, 1, &mut self.second);
+        match &mut self.loads {
+            Some(loads) => {
+                put_list(loads, self.model, self.d, routes, change, 0, &mut self.list);
+                put_list(loads, self.model, self.d, routes, change, 1, &mut self.list);
+            }
+            None => {
+                put_part(&mut self.known, change, 0, &mut self.first);
+                put_part(&mut self.known, change, 1, &mut self.second);
+            }
+        }
     }
 
     ghost keeps_rule = { λ f tours stands. stands.rule };
@@ -216,6 +243,29 @@ fn put_part(known: &mut Vec<Rows>, change: &Change, k: usize, rows: &mut Rows)
     mem::swap(&mut known[change.vehicle(k) as usize], rows);
 }
 
+// The rows of each vehicle with its list, unless loads are kept.
+fn rows_unless(
+    loads: &Option<Loads>,
+    alloc: Global,
+    model: &Model,
+    d: u32,
+    stops: &Stops,
+    routes: &Routes,
+    line: &mut Line,
+) -> Result<Vec<Rows>, NoMemory>
+    requires well_formed { IsWellFormed model.now }
+    requires dimension { d < length model.now.dimensions }
+    requires stops { AreStops model.now d stops.now }
+    requires tours { AreTours model.now routes.now }
+    ensures { IfOk result (λ known. loads.now ≡ None → KnowsRows model.now d known.items routes.now.lists) }
+{
+    if loads.is_some() {
+        return Ok(Vec::new(alloc));
+    }
+    let known = know_all(alloc, model, d, stops, routes, line)?;
+    Ok(known)
+}
+
 // The rows of each vehicle with its list.
 fn know_all(
     alloc: Global,
@@ -228,13 +278,9 @@ fn know_all(
     requires well_formed { IsWellFormed model.now }
     requires dimension { d < length model.now.dimensions }
     requires stops { AreStops model.now d stops.now }
-    requires visits { routes.now.visits ≡ visits model.now }
-    requires many { length routes.now.lists ≡ length model.now.vehicles }
-    requires rule { IsTrue (holds_of_each (is_feasible_list model.now d) routes.now.lists) }
-    ensures { IfOk result (λ known. StandsAt model.now d stops.now known.items routes.now) }
+    requires tours { AreTours model.now routes.now }
+    ensures { IfOk result (λ known. KnowsRows model.now d known.items routes.now.lists) }
 {
-    routes.know_once();
-    routes.know_entries();
     let mut known = Vec::with_capacity(alloc, routes.vehicles() as usize)?;
     for v in 0..routes.vehicles() {
         let mut rows = Rows::new(alloc);
@@ -256,7 +302,7 @@ fn all_pass<L: Ledger>(
     walk: &mut Walk,
     steps: &mut Steps<L>,
 ) -> Result<bool, NoMemory>
-    requires stands { StandsAt model.now d stops.now known.now routes.now }
+    requires stands { StandsAt model.now d stops.now None known.now routes.now }
     requires made { IsMadeOn routes.now change.now }
     ensures answer { IfOk result (λ passed. passed
         ≡ holds_of_each (is_feasible_list model.now d) (changed routes.now.lists change.now)) }
@@ -284,7 +330,7 @@ fn part_passes<L: Ledger>(
     walk: &mut Walk,
     steps: &mut Steps<L>,
 ) -> Result<bool, NoMemory>
-    requires stands { StandsAt model.now d stops.now known.now routes.now }
+    requires stands { StandsAt model.now d stops.now None known.now routes.now }
     requires made { IsMadeOn routes.now change.now }
     requires part { k < length change.now }
     ensures answer { IfOk result (λ passed. passed ≡ is_feasible_list model.now d (part_at change.now k).vehicle

@@ -4,6 +4,7 @@
 mod dimensions;
 mod groups;
 mod lists;
+mod loads;
 mod pairs;
 mod vehicles;
 

@@ -1,15 +1,13 @@
 use Rattle.std.proofs.Common.{[], ◌∷◌, length, length-append, ap, subst, sym, ◌∙◌, arith}
 use Rattle.vr_walks.specs.KnownRows.{AreRowsIfUsed}
 use Rattle.vr_walks.specs.Lists.{IsTour}
-use Rattle.vr_pathfilters.specs.TourLists.{AreTours}
 use Rattle.vr_pathfilters.proofs.Knowing.{known_more}
 use Rattle.vr_pathfilters.proofs.PartTours.{tour_of}
 use Rattle.vr_pathfilters.proofs.dimensions.know_all.Goals as goal
 
 pub write_rows-requires-clause-tour : goal.write_rows-requires-clause-tour
 write_rows-requires-clause-tour c =
-    let are : AreTours c.args.model.now c.args.routes.now = record { visits_are = c.requires.visits; list_of_each = c.requires.many; once = c.know_once.ensures; entries = c.know_entries.ensures } in
-    subst (IsTour c.args.model.now) (sym c.list.ensures.value) (tour_of c.args.model.now c.args.routes.now are c.loop-v.v (omega arith))
+    subst (IsTour c.args.model.now) (sym c.list.ensures.value) (tour_of c.args.model.now c.args.routes.now c.requires.tours c.loop-v.v (omega arith))
 
 pub loop-v-preserved : goal.loop-v-preserved
 loop-v-preserved c = record {

@@ -1,4 +1,4 @@
-use Rattle.std.proofs.Common.{◌+◌, ◌<◌, ◌≤◌, length, ap, ap₂, sym, subst, ◌∙◌, arith}
+use Rattle.std.proofs.Common.{◌+◌, ◌<◌, ◌≤◌, length, refl, ap, ap₂, sym, subst, ◌∙◌, arith}
 use Rattle.std.specs.Prelude.{IsTrue, All}
 use Rattle.vr_model.specs.routes.Routes.{route}
 use Rattle.vr_model.specs.schedules.Weights.{list_weight}
@@ -15,8 +15,8 @@ pub passes_along-requires-clause-rows : goal.passes_along-requires-clause-rows
 passes_along-requires-clause-rows g c =
     let m = c.args.model.now in
     let v = c.vehicle-v.result in
-    let known : v < length c.args.known.now = omega (arith, c.vehicle-v.ensures, c.requires.made.makes.parts_are.each_vehicle c.args.k no_part c.requires.part, c.requires.stands.tours_are.list_of_each, c.requires.stands.known_of_each) in
-    let here = c.requires.stands.known_are v c.index-known-v.result known in
+    let known : v < length c.args.known.now = omega (arith, c.vehicle-v.ensures, c.requires.made.makes.parts_are.each_vehicle c.args.k no_part c.requires.part, c.requires.stands.tours_are.list_of_each, (c.requires.stands.rows_are refl).known_of_each) in
+    let here = (c.requires.stands.rows_are refl).known_are v c.index-known-v.result known in
     subst (λ l. AreRowsIfUsed m c.args.d v l c.index-known-v.result) (sym c.list.ensures.value)
     (subst (AreRowsIfUsed m c.args.d v (route c.args.routes.now.lists v)) (sym c.index-known-v.is) here)
 
