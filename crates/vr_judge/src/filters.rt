@@ -7,6 +7,7 @@ ghost use Rattle.vr_model.specs.tables.Tables.{visits};
 ghost use Rattle.vr_model.specs.tables.WellFormed.{IsWellFormed};
 ghost use Rattle.vr_judge.specs.Rules.{are_feasible, keeps_rules, total_weight};
 
+use crate::ranks::ranked_dimensions;
 use std::alloc::Global;
 use vr_filter::{Both, Each, PathFilter};
 use vr_model::{Model, NoMemory};
@@ -50,7 +51,7 @@ pub(crate) fn filters_of<'m>(
     })
 }
 
-// The filters of all dimensions.
+// The filters of all dimensions, those that ask least first.
 fn filters_of_dimensions<'m>(
     alloc: Global,
     model: &'m Model,
@@ -68,9 +69,10 @@ fn filters_of_dimensions<'m>(
     ensures stands { IfOk result (λ each.
         ⟦<Each<DimensionFilter<'static>> as PathFilter>⟧.stands_at each routes.now) }
 {
-    let mut filters = Vec::with_capacity(alloc, model.dimensions.len())?;
-    for d in 0..model.dimensions.len() {
-        filters.push(DimensionFilter::open(alloc, model, d as u32, routes)?)?;
+    let order = ranked_dimensions(alloc, model)?;
+    let mut filters = Vec::with_capacity(alloc, order.len())?;
+    for k in 0..order.len() {
+        filters.push(DimensionFilter::open(alloc, model, order[k], routes)?)?;
     }
     Ok(Each { filters })
 }

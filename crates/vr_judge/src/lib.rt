@@ -8,5 +8,6 @@ mod costs;
 mod filters;
 mod judge;
 mod judging;
+mod ranks;
 
 pub use judge::FilterJudge;
