@@ -10,8 +10,8 @@ use Rattle.vr_model.specs.declared.records.Model.{Model}
 use Rattle.vr_costfilter.specs.Chains.{first_of, last_of, path_sum, turned, AreSums}
 use Rattle.vr_costfilter.specs.declared.walks.Along.{Along}
 
--- what the arcs of vehicle v cost from the stop before place f of its list through nodes to the stop at place b, 0 where
--- no node is left of the list then
+-- what the arcs of vehicle v cost from the stop before place f of its list through nodes to the stop at place b, 0
+-- where no node is left of the list then
 abbrev pub between_cost : Model → ℕ → List ℕ → ℕ → ℕ → List ℕ → ℤ
 between_cost model v list f b nodes =
     let from = last_of (vehicle_at model v).start (take f list) in

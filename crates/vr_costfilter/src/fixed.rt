@@ -1,6 +1,7 @@
 //! The fixed costs of used vehicles.
 
-ghost use Rattle.std.specs.Prelude.{◌≡◌, ◌<◌, ◌≤◌, ◌-ℤ◌, All, IsTrue, IfOk, IsOk, OnOk, OnErr, ℕ, List, false, nat_lt, length, pos};
+ghost use Rattle.std.specs.Prelude.{◌≡◌, ◌<◌, ◌≤◌, ◌-ℤ◌, All, IsTrue, IfOk, IsOk};
+ghost use Rattle.std.specs.Prelude.{OnOk, OnErr, ℕ, List, false, nat_lt, length, pos};
 ghost use Rattle.vr_model.specs.routes.Costs.{fixed_part};
 ghost use Rattle.vr_model.specs.routes.Routes.{route};
 ghost use Rattle.vr_model.specs.tables.Tables.{visits};

@@ -1,6 +1,7 @@
 //! Global spans.
 
-ghost use Rattle.std.specs.Prelude.{◌≡◌, ◌-ℤ◌, ◌≤ℤ◌, ◌<◌, ◌*◌, false, IsTrue, IfOk, OnOk, OnErr, ℕ, List, length, neg_ℤ};
+ghost use Rattle.std.specs.Prelude.{◌≡◌, ◌-ℤ◌, ◌≤ℤ◌, ◌<◌, ◌*◌, false, IsTrue};
+ghost use Rattle.std.specs.Prelude.{IfOk, OnOk, OnErr, ℕ, List, length, neg_ℤ};
 ghost use Rattle.vr_model.specs.tables.Tables.{visits};
 ghost use Rattle.vr_model.specs.tables.WellFormed.{IsWellFormed};
 ghost use Rattle.vr_model.specs.routes.Rules.{is_valid};

@@ -81,7 +81,8 @@ impl<'m> PlanCost<'m> {
         })
     }
 
-    /// What the lists of the vehicles of a change cost now. The change saves no more, where the lists after it are valid.
+    /// What the lists of the vehicles of a change cost now. The change saves no more, where the lists after it are
+    /// valid.
     pub fn held(&self, _routes: &Routes, change: &Change) -> i64
         requires stands { StandsPlans self.now _routes.now }
         requires made { IsMadeOn _routes.now change.now }

@@ -1,6 +1,7 @@
 //! Paths of vehicles along pieces of lists.
 
-ghost use Rattle.std.specs.Prelude.{◌≡◌, ◌<◌, ◌≤◌, ◌+◌, ◌+ℤ◌, ◌≤ℤ◌, ◌*◌, ℕ, pos, All, drop, length, slice_index_or, take};
+ghost use Rattle.std.specs.Prelude.{◌≡◌, ◌<◌, ◌≤◌, ◌+◌, ◌+ℤ◌, ◌≤ℤ◌, ◌*◌};
+ghost use Rattle.std.specs.Prelude.{ℕ, pos, All, drop, length, slice_index_or, take};
 ghost use Rattle.vr_model.specs.tables.Tables.{arc_cost, vehicle_at, visits};
 ghost use Rattle.vr_model.specs.routes.Routes.{route};
 ghost use Rattle.vr_model.specs.tables.WellFormed.{IsWellFormed};

@@ -133,6 +133,66 @@ fn assert_said(
     Ok(())
 }
 
+// Whether a judge says of each move of some lists what it makes at least.
+fn says_least<J: Judge>(
+    model: &Model,
+    judge: &mut J,
+    routes: &Routes,
+    moves: &[(Move, i64)],
+) -> bool
+    requires well_formed { IsWellFormed model.now }
+    requires judge_model { J.model judge.old ≡ model.now }
+    requires holds { HoldSame model.now (J.committed judge.old) routes.now }
+{
+    for &(mv, want) in moves {
+        if Change::of(model, routes, mv).is_none() || judge.least_difference(routes, mv) != want {
+            return false;
+        }
+    }
+    true
+}
+
+// Whether the judge of filters says so.
+fn filters_say_least(
+    alloc: Global,
+    model: &Model,
+    routes: &Routes,
+    moves: &[(Move, i64)],
+) -> Result<bool, NoMemory>
+    requires well_formed { IsWellFormed model.now }
+    requires of_model { routes.now.visits ≡ visits model.now }
+    requires valid { IsTrue (is_valid model.now routes.now.lists) }
+{
+    let mut judge = FilterJudge::open(alloc, model, routes)?;
+    let says = says_least(model, &mut judge, routes, moves);
+    Ok(says)
+}
+
+// Whether it says so of moves from a list of all nodes but 0.
+fn least_is(alloc: Global, model: &Model, moves: &[(Move, i64)]) -> Result<bool, Fail>
+    requires well_formed { IsWellFormed model.now }
+{
+    let lists = one_list(alloc, model)?;
+    let routes = routes_of(alloc, model, &lists)?.ok_or("valid routes")?;
+    let says = filters_say_least(alloc, model, &routes, moves)?;
+    Ok(says)
+}
+
+// Asserts that the judge of filters says so, on the model of a text with further fields.
+fn assert_least(
+    rt: &impl Abort,
+    alloc: Global,
+    start: &str,
+    rest: &str,
+    moves: &[(Move, i64)],
+) -> Result<(), Fail> {
+    let mut text = String::new(alloc);
+    write!(text, "{start}{rest}}}")?;
+    let model = read_model_text(alloc, text.as_str()).ok_or("a model")?;
+    assert!(rt; least_is(alloc, &model, moves)?, "{rest}");
+    Ok(())
+}
+
 fn two_opt(v: u32, a: u32, b: u32) -> Move {
     Move::TwoOpt { v, a, b }
 }
@@ -165,4 +225,24 @@ fn differences_have_all_parts(rt: HostRuntime) -> Result<(), Fail> {
         ",\"groups\":[{\"nodes\":[2],\"penalty\":3}]",
         &optional,
     )
+}
+
+// Without soft bounds and spans it is the difference, as of a move that is refused; with them it is less by all that
+// they cost now.
+#[test]
+fn the_least_is_told_of_any_move(rt: HostRuntime) -> Result<(), Fail> {
+    let alloc = rt.alloc();
+    let vans = [(two_opt(0, 0, 1), -150), (relocate(0, 0, 1, 0), -145)];
+    assert_least(&rt, alloc, TWO_VANS, "", &vans)?;
+    let optional = [
+        (two_opt(0, 0, 1), 0),
+        (make_inactive(0, 0), 0),
+        (make_inactive(0, 1), -5),
+    ];
+    let groups = ",\"groups\":[{\"nodes\":[2],\"penalty\":3}]";
+    assert_least(&rt, alloc, THREE, groups, &optional)?;
+    let spans =
+        ",\"dimensions\":[{\"name\":\"time\",\"evaluators\":[{\"matrix\":0}],\"capacity\":100,\
+        \"slack_max\":0,\"span_cost\":2}]";
+    assert_least(&rt, alloc, THREE, spans, &[(two_opt(0, 0, 1), -36)])
 }
