@@ -1,6 +1,6 @@
 -- Dimensions that are loads: what a vehicle carries grows by what it takes at each node, and nothing else is asked.
-use Rattle.std.specs.Prelude.{◌≡◌, ℕ, ◌<◌, Bool, true, false, ◌&&◌, ◌||◌, ◌==◌, IsTrue, List, length, ℤ, pos, ◌+ℤ◌, int_le}
-use Rattle.std.specs.Prelude.{Option, Some, None}
+use Rattle.std.specs.Prelude.{◌≡◌, ℕ, ◌<◌, Bool, true, false, ◌&&◌, ◌||◌, ◌==◌, IsTrue, List, length, ℤ, pos, ◌+ℤ◌}
+use Rattle.std.specs.Prelude.{int_le, Option, Some, None}
 use Rattle.std.specs.List.{list_all}
 use Rattle.vr_model.specs.tables.Numbers.{number_at, total_by, is_same_number}
 use Rattle.vr_model.specs.tables.Tables.{dimension_at, vehicle_at, evaluator_number}

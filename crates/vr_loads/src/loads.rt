@@ -19,10 +19,11 @@ use vr_routes::{Piece, Routes};
 /// What is kept of one vehicle.
 #[derive(Drop)]
 pub struct Carried {
-    // the number of its evaluator
+    /// The number of its evaluator.
     pub evaluator: u32,
-    // how much it may take along its list: its capacity, less what it takes at its start
+    /// How much it may take along its list: its capacity, less what it takes at its start.
     pub room: i64,
+    /// What it takes before each place of its list.
     pub sums: Sums,
 }
 

@@ -61,8 +61,8 @@ pub record AreRowsOfParts (model : Model) (d : ℕ) (first second : BothWays) (l
   pub second_are : AreRowsOfPart model d lists parts 1 second
 
 -- the rows of each part of a change were made, where rows are kept
-pub record IsReady (model : Model) (d : ℕ) (is_prepared : Bool) (loads : Option (List Carried)) (first second : BothWays)
-    (lists : List (List ℕ)) (parts : List ListAfter) : Type 0 where
+pub record IsReady (model : Model) (d : ℕ) (is_prepared : Bool) (loads : Option (List Carried))
+    (first second : BothWays) (lists : List (List ℕ)) (parts : List ListAfter) : Type 0 where
   pub prepared : is_prepared ≡ true
   pub rows_are : loads ≡ None → AreRowsOfParts model d first second lists parts
   pub rule : IsTrue (holds_of_each (is_feasible_list model d) (changed lists parts))
