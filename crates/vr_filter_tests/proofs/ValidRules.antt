@@ -1,5 +1,5 @@
 -- Valid lists keep the rule of groups.
-use Rattle.std.proofs.Common.{ℕ, Bool, List, length}
+use Rattle.std.proofs.Common.{ℕ, Bool, List}
 use Rattle.std.specs.Prelude.{◌&&◌, IsTrue}
 use Rattle.std.specs.List.{list_all}
 use Rattle.vr_model.specs.deciding.Testing.{and_left, and_right, and_both}

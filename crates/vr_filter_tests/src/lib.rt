@@ -3,6 +3,8 @@
 #![tactic(auto)]
 
 #[cfg(test)]
+mod loads;
+#[cfg(test)]
 mod looked_up;
 #[cfg(test)]
 mod pairs;

@@ -246,7 +246,8 @@ const SWAPPED: &[(Move, bool)] = &[
     (Move::TwoOpt { v: 0, a: 5, b: 6 }, true),
 ];
 
-fn of_text(alloc: Global, text: &str, moves: &[(Move, bool)]) -> Result<bool, NoMemory> {
+// Whether the filter of dimension 0 of the model in a text answers moves from empty lists as expected.
+pub(crate) fn of_text(alloc: Global, text: &str, moves: &[(Move, bool)]) -> Result<bool, NoMemory> {
     match read_model_text(alloc, text) {
         Some(model) => dimension_follows(alloc, &model, moves),
         None => Ok(false),
