@@ -49,7 +49,8 @@ pub enum Rule {
     Cumul,
     /// Each slack is what its cumuls leave, and within its bounds. The vehicle and the arc.
     Slack,
-    /// Breaks are in range, in order and in place, and fit into the slacks. The vehicle, and the number of the dimension.
+    /// Breaks are in range, in order and in place, and fit into the slacks. The vehicle, and the number of the
+    /// dimension.
     Break,
     /// Each part of the cost is its value at the printed cumuls. The place is the number of the part, from 0, in byte
     /// order of the names.

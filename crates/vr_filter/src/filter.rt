@@ -17,8 +17,8 @@ pub trait PathFilter {
     /// The rule holds of lists.
     ghost holds: { Self → List (List ℕ) → Bool };
 
-    /// It may be asked at these lists: what it keeps of the committed lists is so of them, and their visits are those of
-    /// its model.
+    /// It may be asked at these lists: what it keeps of the committed lists is so of them, and their visits are those
+    /// of its model.
     ghost stands_at: { Self → Tours → Type 0 };
 
     /// Whatever a commit of this change of these routes needs is there.

@@ -150,7 +150,8 @@ fn window(alloc: Global, customers: &[Customer], k: usize) -> Result<Value, NoMe
 // The windows of all nodes but 0.
 fn windows(alloc: Global, customers: &[Customer]) -> Result<Value, NoMemory>
     requires { length customers.now ≤ 60 }
-    ensures { IfOk result (λ tree. view tree ≡ trees.listed (trees.window customers.now) (below (length customers.now))) }
+    ensures { IfOk result (λ tree.
+        view tree ≡ trees.listed (trees.window customers.now) (below (length customers.now))) }
 {
     let mut all = Vec::new(alloc);
     for k in 0..customers.len() {

@@ -8,5 +8,6 @@ pub mod LevelEnds
 pub mod OneChosen
 pub mod ChoiceLaws
 pub mod Narrowing
+pub mod LineArcs
 pub mod LinesSound
 pub mod RunCounts

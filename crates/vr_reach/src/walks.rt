@@ -144,8 +144,8 @@ impl Walk {
         Ok(())
     }
 
-    /// Writes the levels at which the walk stands over `levels`. Afterwards nothing is said of where it stands. It takes
-    /// no memory.
+    /// Writes the levels at which the walk stands over `levels`. Afterwards nothing is said of where it stands. It
+    /// takes no memory.
     pub fn hand_over(&mut self, levels: &mut Levels)
         ensures { levels.new ≡ self.old }
     {

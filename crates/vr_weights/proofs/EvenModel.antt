@@ -1,16 +1,14 @@
 -- An even model of three nodes.
 use Rattle.std.proofs.Common.{◌≡◌, ◌≢◌, ℕ, zero, suc, ◌<◌, true, false, List, [], ◌∷◌, length, refl, inl, arith}
-use Rattle.std.specs.Prelude.{ℤ, pos, IsTrue}
-use Rattle.std.specs.List.{All, list_all}
-use Rattle.std.proofs.lemmas.List.Sums.{AllPass-from_list_all}
-use Rattle.vr_model.specs.tables.Numbers.{number_at, within, horizon}
+use Rattle.std.specs.Prelude.{ℤ, pos}
+use Rattle.vr_model.specs.tables.Numbers.{number_at, horizon}
 use Rattle.vr_model.specs.tables.Tables.{dimension_at, transit}
 use Rattle.vr_model.specs.tables.ModelRules.{has_negative_cost, has_large_entry, goes_back}
-use Rattle.vr_model.specs.tables.WellFormed.{least_value, greatest_cost, greatest_value, greatest_coefficient, IsIn, IsMatrix, IsVehicle, IsEvaluator, IsDimension, IsSearch, IsWellFormed}
-use Rattle.vr_model.specs.deciding.Testing.{within_is}
+use Rattle.vr_model.specs.tables.WellFormed.{least_value, greatest_cost, greatest_value, greatest_coefficient, IsMatrix, IsVehicle, IsEvaluator, IsDimension, IsWellFormed}
 use Rattle.vr_model.specs.declared.records.Dimension.{Dimension}
 use Rattle.vr_model.specs.declared.records.Model.{Model}
-use Rattle.vr_model.proofs.worked.WorkedModels.{car, default_search, model_of, time}
+use Rattle.vr_model.proofs.worked.WorkedModels.{car, model_of, time}
+use Rattle.vr_model.proofs.worked.WorkedWellFormed.{default_is_search, in_range, of_none, of_one, one_in_range}
 use Rattle.vr_weights.specs.Even.{IsEven}
 
 abbrev entries : List ℤ
@@ -22,29 +20,6 @@ dimension = record (time 3) { fix_start = true; capacities = horizon ∷ [] }
 abbrev pub three : Model
 three = model_of 3 entries (car ∷ []) (dimension ∷ [])
 
-of_none : {A : Type 0} (P : A → Type 0) → All P []
-of_none P k d low = absurd (omega (arith, low))
-
-of_one : {A : Type 0} (P : A → Type 0) (x : A) → P x → All P (x ∷ [])
-of_one P x h zero d low = h
-of_one P x h (suc k) d low = absurd (omega (arith, low))
-
-all_in : (lo hi : ℤ) (xs : List ℤ) → IsTrue (list_all (within lo hi) xs) → All (IsIn lo hi) xs
-all_in lo hi xs h k d low = let r = within_is lo hi _ (AllPass-from_list_all (within lo hi) xs h k d low) in record { at_least = r.0; at_most = r.1 }
-
-one_in : (lo hi x : ℤ) → IsTrue (within lo hi x) → IsIn lo hi x
-one_in lo hi x h = let r = within_is lo hi x h in record { at_least = r.0; at_most = r.1 }
-
-search_is : IsSearch default_search
-search_is = record {
-  tries_in_range = omega arith;
-  solutions_in_range = (omega arith, omega arith);
-  p_in_range = one_in _ _ _ refl;
-  q_in_range = one_in _ _ _ refl;
-  number_of_neighbourhoods = omega arith;
-  no_neighbourhood_twice = refl;
-}
-
 dimension_is : IsDimension three dimension
 dimension_is = record {
   length_of_name = record { at_least = omega arith; at_most = omega arith };
@@ -52,11 +27,11 @@ dimension_is = record {
   each_evaluator = of_one (IsEvaluator three) _ (record { matrix_in_range = omega arith; values_of_all = inl refl; values_in_range = of_none _ });
   evaluator_of_each_vehicle = refl;
   vehicle_evaluators_in_range = of_one (λ k. k < 1) 0 (omega arith);
-  slack_max_in_range = one_in _ _ _ refl;
+  slack_max_in_range = one_in_range _ _ _ refl;
   capacity_of_each_vehicle = refl;
-  capacities_in_range = all_in (pos 0) horizon (horizon ∷ []) refl;
+  capacities_in_range = in_range (pos 0) horizon (horizon ∷ []) refl;
   visit_time_of_each_node = refl;
-  visit_times_in_range = all_in (pos 0) greatest_value (pos 0 ∷ pos 0 ∷ pos 0 ∷ []) refl;
+  visit_times_in_range = in_range (pos 0) greatest_value (pos 0 ∷ pos 0 ∷ pos 0 ∷ []) refl;
   rows_of_visits = record { number_of_rows = omega arith; each_key_is_visit = of_none _; no_key_twice = refl; each_row = of_none _ };
   rows_of_starts = record { number_of_rows = omega arith; each_key_is_vehicle = of_none _; no_key_twice = refl; each_row = of_none _ };
   rows_of_ends = record { number_of_rows = omega arith; each_key_is_vehicle = of_none _; no_key_twice = refl; each_row = of_none _ };
@@ -65,17 +40,17 @@ dimension_is = record {
   breaks_of_no_vehicle_twice = refl;
   each_breaks = of_none _;
   span_cost_of_each_vehicle = refl;
-  span_costs_in_range = all_in (pos 0) greatest_coefficient (pos 0 ∷ []) refl;
-  global_span_cost_in_range = one_in _ _ _ refl;
+  span_costs_in_range = in_range (pos 0) greatest_coefficient (pos 0 ∷ []) refl;
+  global_span_cost_in_range = one_in_range _ _ _ refl;
 }
 
 well_formed : IsWellFormed three
 well_formed = record {
   number_of_nodes = (omega arith, omega arith);
   number_of_matrices = record { at_least = omega arith; at_most = omega arith };
-  each_matrix = of_one (IsMatrix 3) _ (record { square = refl; entries_in_range = all_in least_value greatest_cost entries refl });
+  each_matrix = of_one (IsMatrix 3) _ (record { square = refl; entries_in_range = in_range least_value greatest_cost entries refl });
   number_of_vehicles = record { at_least = omega arith; at_most = omega arith };
-  each_vehicle = of_one (IsVehicle three) car (record { start_in_range = omega arith; end_in_range = omega arith; costs_in_range = omega arith; fixed_in_range = one_in _ _ _ refl });
+  each_vehicle = of_one (IsVehicle three) car (record { start_in_range = omega arith; end_in_range = omega arith; costs_in_range = omega arith; fixed_in_range = one_in_range _ _ _ refl });
   number_of_dimensions = omega arith;
   each_dimension = of_one (IsDimension three) dimension dimension_is;
   no_name_twice = refl;
@@ -88,7 +63,7 @@ well_formed = record {
   number_of_allowed = omega arith;
   each_allowed = of_none _;
   no_node_allowed_twice = refl;
-  search_in_range = search_is;
+  search_in_range = default_is_search;
   costs_not_negative = costs;
   entries_not_large = entries_small;
   transits_forward = forward;

@@ -10,9 +10,10 @@ use Rattle.vr_model.specs.schedules.SoundLines.{LinesAreSound}
 use Rattle.vr_model.specs.schedules.Weights.{shared_front, shared_back, walk_weight}
 use Rattle.vr_model.specs.deciding.Testing.{and_left, and_right, or_left, test_of_eq}
 use Rattle.vr_model.proofs.tables.Tests.{apart, clash, fails_not}
+use Rattle.vr_model.proofs.schedules.LineArcs.{arcs_of_line}
 use Rattle.vr_steps.specs.Reached.{ArcAlone, RunsAreCounted}
 use Rattle.vr_weights.specs.Even.{SwapIsFeasible, SwapWeighsFive}
-use Rattle.vr_weights.proofs.EvenLines.{arcs_are, steady}
+use Rattle.vr_weights.proofs.EvenLines.{steady}
 use Rattle.vr_weights.proofs.Steady.{goes_through, three_arcs}
 
 shared_before : (front rest others : List ℕ) (a b : ℕ) → a ≢ b → shared_front (front ++ a ∷ rest) (front ++ b ∷ others) ≡ length front
@@ -54,7 +55,7 @@ module _ (sound : LinesAreSound) (at_start : ReachedAtStart) (crossing : Reached
       let other : a ≢ b = differ front back a b tour.distinct in
       let some : is_empty new ≡ false = not_empty front (a ∷ back) b in
       let n : length new ≡ length front + suc (suc (length back)) = length-append front (b ∷ a ∷ back) in
-      let arcs = arcs_are model even sound new some tour.visits tour.distinct tour.few in
+      let arcs = arcs_of_line model 0 0 new in
       let last : length new + 1 - shared_back old new ≡ length front + 3 = (let s = shared_behind front back a b other in omega (arith, n, s)) in
       let weight = three_arcs (line model 0 0 new) (steady model even sound new some tour.visits tour.distinct tour.few) at_start crossing at_end back_over tested end_tested alone counted (length front) (length back) (omega (arith, n, arcs)) in
       ap₂ (λ s t. cond (s || t) 0 (walk_weight (line model 0 0 new) (shared_front old new) (length new + 1 - shared_back old new))) some (not_same front (b ∷ back) (a ∷ back) a b other)
@@ -64,5 +65,5 @@ module _ (sound : LinesAreSound) (at_start : ReachedAtStart) (crossing : Reached
   goes meet chosen model even front back a b tour =
       let new : List ℕ = front ++ b ∷ a ∷ back in
       let some : is_empty new ≡ false = not_empty front (a ∷ back) b in
-      let arcs = arcs_are model even sound new some tour.visits tour.distinct tour.few in
+      let arcs = arcs_of_line model 0 0 new in
       (chosen (line model 0 0 new)).1 (goes_through (line model 0 0 new) (steady model even sound new some tour.visits tour.distinct tour.few) at_start crossing at_end back_over alone meet (length new) (omega (arith, arcs)))

@@ -15,6 +15,7 @@ use Rattle.vr_model.specs.schedules.Schedules.{no_arc, no_break, arc_at}
 use Rattle.vr_model.specs.schedules.SoundLines.{IsSound, LinesAreSound}
 use Rattle.vr_model.specs.deciding.Testing.{and_left, and_right, and_both, or_left, or_right, eq_of_test, test_of_eq, range_list_any}
 use Rattle.vr_model.proofs.tables.Tests.{clash, fails, fails_not}
+use Rattle.vr_model.proofs.schedules.LineArcs.{arcs_of_line}
 use Rattle.vr_model.specs.declared.records.Model.{Model}
 use Rattle.vr_model.specs.declared.records.Dimension.{Dimension}
 use Rattle.vr_model.specs.declared.records.VehicleBreaks.{VehicleBreaks}
@@ -22,14 +23,14 @@ use Rattle.vr_model.specs.declared.records.BreakRow.{BreakRow}
 
 -- ---- arcs
 
-abbrev no_used_arc : UsedArc
+abbrev pub no_used_arc : UsedArc
 no_used_arc = record { vehicle = 0; origin = 0; target = 0 }
 
 -- an arc between two distinct nodes of the model
-record IsTaken (model : Model) (arc : UsedArc) : Type 0 where
-  origin_low : arc.origin < model.nodes
-  target_low : arc.target < model.nodes
-  apart : (arc.origin == arc.target) ≡ false
+pub record IsTaken (model : Model) (arc : UsedArc) : Type 0 where
+  pub origin_low : arc.origin < model.nodes
+  pub target_low : arc.target < model.nodes
+  pub apart : (arc.origin == arc.target) ≡ false
 
 module _ (model : Model) where
   visit_low : (node : ℕ) → IsTrue (is_visit model node) → node < model.nodes
@@ -68,10 +69,6 @@ module _ (model : Model) where
         record { origin_low = start_low; target_low = visit_low x (and_left (is_visit model x) _ visits); apart = apart_back x start (visit_apart x start (and_left (is_visit model x) _ visits) start_ends) }
     from_start start start_low start_ends (x ∷ xs) some visits distinct (suc k) d low =
         from_visit x xs (and_left (is_visit model x) _ visits) (and_right (is_visit model x) _ visits) (fails_not (holds xs x) (and_left (not (holds xs x)) _ distinct)) (and_right (not (holds xs x)) _ distinct) k d (omega (arith, low))
-
-pub length_arcs : (v node : ℕ) (nodes : List ℕ) → length (arcs_from v node nodes) ≡ length nodes
-length_arcs v node [] = refl
-length_arcs v node (next ∷ rest) = ap suc (length_arcs v next rest)
 
 -- ---- breaks
 
@@ -146,12 +143,13 @@ module _ (model : Model) (well : IsWellFormed model) (d v : ℕ) (dimension : d 
         (vehicle_at model v).start (well.each_vehicle v no_vehicle vehicle).start_in_range starts_there list some visits distinct
 
     pub arcs_long : length (line model d v list).arcs ≡ length list + 1
-    arcs_long = length-map (arcs_between model v list) _ ∙ (length_arcs v (vehicle_at model v).start (list ++ (vehicle_at model v).end ∷ []) ∙ length-append list ((vehicle_at model v).end ∷ []))
+    arcs_long = let n = arcs_of_line model d v list in omega (arith, n)
 
-    taken : (k : ℕ) → k < length (line model d v list).arcs → IsTaken model (slice_index_or (arcs_between model v list) k no_used_arc)
+    -- each arc of the line leads from one node of the model to another
+    pub taken : (k : ℕ) → k < length (line model d v list).arcs → IsTaken model (slice_index_or (arcs_between model v list) k no_used_arc)
     taken k low = each_arc k no_used_arc (subst (λ n. k < n) (length-map (arcs_between model v list) _) low)
 
-    arc_is : (k : ℕ) → k < length (line model d v list).arcs → arc_at (line model d v list) k ≡ line_arc model d v (slice_index_or (arcs_between model v list) k no_used_arc)
+    pub arc_is : (k : ℕ) → k < length (line model d v list).arcs → arc_at (line model d v list) k ≡ line_arc model d v (slice_index_or (arcs_between model v list) k no_used_arc)
     arc_is k low = get_or-map (line_arc model d v) (arcs_between model v list) k no_used_arc no_arc (subst (λ n. k < n) (length-map (arcs_between model v list) _) low)
 
     -- and so no arc of the line has a negative transit

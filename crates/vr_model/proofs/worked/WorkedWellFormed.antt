@@ -11,21 +11,23 @@ use Rattle.vr_model.specs.tables.WellFormed.{least_value, greatest_cost, greates
 use Rattle.vr_model.specs.deciding.Testing.{within_is}
 use Rattle.vr_model.proofs.worked.WorkedModels.{default_search, car, rest_row, three_entries, three, rests_entries, rests_time, rests}
 
-of_none : {A : Type 0} (P : A → Type 0) → All P []
+-- all of no entries, and of one
+pub of_none : {A : Type 0} (P : A → Type 0) → All P []
 of_none P k d low = absurd (omega (arith, low))
 
-of_one : {A : Type 0} (P : A → Type 0) (x : A) → P x → All P (x ∷ [])
+pub of_one : {A : Type 0} (P : A → Type 0) (x : A) → P x → All P (x ∷ [])
 of_one P x h zero d low = h
 of_one P x h (suc k) d low = absurd (omega (arith, low))
 
 -- numbers in a range, by a test
-in_range : (lo hi : ℤ) (xs : List ℤ) → IsTrue (list_all (within lo hi) xs) → All (IsIn lo hi) xs
+pub in_range : (lo hi : ℤ) (xs : List ℤ) → IsTrue (list_all (within lo hi) xs) → All (IsIn lo hi) xs
 in_range lo hi xs h k d low = let r = within_is lo hi _ (AllPass-from_list_all (within lo hi) xs h k d low) in record { at_least = r.0; at_most = r.1 }
 
-one_in_range : (lo hi x : ℤ) → IsTrue (within lo hi x) → IsIn lo hi x
+pub one_in_range : (lo hi x : ℤ) → IsTrue (within lo hi x) → IsIn lo hi x
 one_in_range lo hi x h = let r = within_is lo hi x h in record { at_least = r.0; at_most = r.1 }
 
-default_is_search : IsSearch default_search
+-- what a model asks of a search that names nothing
+pub default_is_search : IsSearch default_search
 default_is_search = record {
   tries_in_range = omega arith;
   solutions_in_range = (omega arith, omega arith);
