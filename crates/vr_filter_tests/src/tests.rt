@@ -205,6 +205,65 @@ const INTO_THE_GAP: &[(Move, bool)] = &[
     (Move::TwoOpt { v: 0, a: 0, b: 1 }, false),
 ];
 
+// Three visits, 10 from one another, each with one window. The second vehicle has a break.
+const RUNS: &str = r#"{"format":1,"nodes":4,
+"matrices":[[[0,10,10,10],[10,0,10,10],[10,10,0,10],[10,10,10,0]]],
+"vehicles":[{"start":0,"end":0},{"start":0,"end":0}],
+"dimensions":[{"name":"time","evaluators":[{"matrix":0}],"capacity":100,"slack_max":20,"fix_start":true,
+"breaks":[{"vehicle":1,"breaks":[{"from":12,"to":18,"duration":5}]}],
+"nodes":[{"node":1,"window":[10,20]},{"node":2,"window":[20,30]},{"node":3,"window":[30,35]}]}],
+"groups":[{"nodes":[1,2,3],"penalty":1,"max":3}]}"#;
+
+// The first vehicle is late, in a list that turns round and at its end. Of the second, a walk without its break does not
+// tell of the first list, refuses the next one, and lets the last one pass.
+const ONE_RUN_EACH: &[(Move, bool)] = &[
+    (Move::MakeActive { u: 1, w: 0, t: 0 }, true),
+    (Move::MakeActive { u: 3, w: 0, t: 1 }, true),
+    (Move::MakeActive { u: 2, w: 0, t: 1 }, true),
+    (Move::TwoOpt { v: 0, a: 0, b: 1 }, false),
+    (Move::TwoOpt { v: 0, a: 1, b: 2 }, false),
+    (
+        Move::Relocate {
+            v: 0,
+            a: 0,
+            w: 1,
+            t: 0,
+        },
+        true,
+    ),
+    (
+        Move::Relocate {
+            v: 0,
+            a: 1,
+            w: 1,
+            t: 0,
+        },
+        false,
+    ),
+    (
+        Move::Relocate {
+            v: 0,
+            a: 0,
+            w: 1,
+            t: 1,
+        },
+        true,
+    ),
+];
+
+// At most two of three visits fit into the vehicle.
+const LOADS: &str = r#"{"format":1,"nodes":4,"vehicles":[{"start":0,"end":0}],
+"matrices":[[[0,5,5,5],[5,0,5,5],[5,5,0,5],[5,5,5,0]]],
+"dimensions":[{"name":"load","evaluators":[{"values":[0,1,1,1]}],"capacity":2,"slack_max":0,"fix_start":true}],
+"groups":[{"nodes":[1,2,3],"penalty":1,"max":3}]}"#;
+
+const FULL: &[(Move, bool)] = &[
+    (Move::MakeActive { u: 1, w: 0, t: 0 }, true),
+    (Move::MakeActive { u: 2, w: 0, t: 0 }, true),
+    (Move::MakeActive { u: 3, w: 0, t: 1 }, false),
+    (Move::TwoOpt { v: 0, a: 0, b: 1 }, true),
+];
+
 // Twenty visits, each 5 from the others, and a time without rows.
 const EVEN: &str = r#"{"format":1,"nodes":21,"vehicles":[{"start":0,"end":0}],"matrices":[[
 [0,5,5,5,5,5,5,5,5,5,5,5,5,5,5,5,5,5,5,5,5],[5,0,5,5,5,5,5,5,5,5,5,5,5,5,5,5,5,5,5,5,5],
@@ -260,6 +319,8 @@ fn a_dimension_refuses_what_has_no_schedule(rt: HostRuntime) -> Result<(), Fail>
     assert!(rt; of_text(alloc, WINDOWS, TO_FIRST)?);
     assert!(rt; of_text(alloc, BREAKS, WITH_BREAKS)?);
     assert!(rt; of_text(alloc, GAP, INTO_THE_GAP)?);
+    assert!(rt; of_text(alloc, RUNS, ONE_RUN_EACH)?);
+    assert!(rt; of_text(alloc, LOADS, FULL)?);
     assert!(rt; of_text(alloc, EVEN, SWAPPED)?);
     Ok(())
 }
