@@ -25,7 +25,7 @@ fn filled_lists(
     ensures lists { IfOk result (λ lists. lists.items ≡ path_cheapest_arc model.now) }
     ensures built { IfOk result (λ lists. AreBuilt model.now lists.items) }
 {
-    let candidates = candidates(alloc, model, lookups)?;
+    let candidates = candidates(alloc, lookups)?;
     let mut lists = empty_lists(alloc, model)?;
     let mut marks = vec![in alloc; false; model.nodes as usize]?;
     let mut room = Room::new(alloc);

@@ -394,7 +394,7 @@ pub(crate) fn best_in_list(
     requires may_hold { MayHold model.now list.now candidate.item }
     ensures { IfOk result (λ chosen. chosen ≡ best_in model.now v list.now candidate best) }
 {
-    if !allows_item(model, lookups, v, candidate.item) {
+    if !allows_item(lookups, v, candidate.item) {
         return Ok(best);
     }
     let best = best_where_allowed(room, model, keeps, v, list, candidate, best)?;

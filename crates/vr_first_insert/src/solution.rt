@@ -45,7 +45,7 @@ fn rebuilt_lists(
         ≡ rebuilt model.now (length (items model.now)) routes.now.lists) }
     ensures built { IfOk result (λ lists. AreBuilt model.now lists.items) }
 {
-    let candidates = candidates(alloc, model, lookups)?;
+    let candidates = candidates(alloc, lookups)?;
     let mut marks = active_marks(alloc, model, routes)?;
     let mut built = copies(alloc, routes)?;
     let mut rows = rows_of(alloc, candidates.len(), model.vehicles.len())?;

@@ -29,7 +29,7 @@ fn lists_by_savings(alloc: Global, model: &Model) -> Result<Vec<Seq<u32>>, NoMem
     let mut driving = Driving::new(alloc);
     let singles = single_routes(alloc, model, &tables, &lookups, &mut driving)?;
     let routes = merged(alloc, model, &tables, &lookups, singles, &mut driving)?;
-    let lists = lists_of(alloc, model, ranked(alloc, model, &lookups, &routes)?)?;
+    let lists = lists_of(alloc, model, ranked(alloc, &lookups, &routes)?)?;
     Ok(lists)
 }
 

@@ -1,5 +1,5 @@
 -- Room in groups, and classes of nodes, by the numbers of groups.
-use Rattle.std.proofs.Common.{◌≡◌, ◌∙◌, ◌<◌, ◌≤◌, ℕ, List, [], ◌∷◌, Bool, true, false, cond, not, ◌⊎◌, inl, inr, refl, ap, ap₂, sym, arith, length, get_or}
+use Rattle.std.proofs.Common.{◌≡◌, ◌∙◌, ◌<◌, ◌≤◌, ℕ, List, Bool, true, false, cond, not, ◌⊎◌, inl, inr, refl, ap, ap₂, sym, arith, length, get_or}
 use Rattle.std.specs.Prelude.{◌&&◌, ◌||◌, nat_le, nat_lt, count_by, IsTrue}
 use Rattle.std.specs.List.{list_all}
 use Rattle.std.proofs.lemmas.Bool.{cases_lt}
@@ -13,9 +13,9 @@ use Rattle.vr_model.specs.routes.Routes.{holds}
 use Rattle.vr_model.specs.routes.Rules.{is_grouped}
 use Rattle.vr_model.specs.tables.Numbers.{each}
 use Rattle.vr_model.specs.tables.WellFormed.{IsWellFormed}
-use Rattle.vr_model.proofs.moves.Times.{times, times_of_distinct, all_held}
+use Rattle.vr_model.proofs.moves.Times.{times_of_distinct, all_held}
 use Rattle.vr_model.proofs.routes.Lists.{visit_below, held_at}
-use Rattle.vr_model.proofs.tables.Tests.{all-from_list_all, clash, fails, list_all-true, same_tests}
+use Rattle.vr_model.proofs.tables.Tests.{all-from_list_all, clash, list_all-true, same_tests}
 use Rattle.vr_lists.specs.Nodes.{group_at, group_number, no_group}
 use Rattle.vr_lists.proofs.NodeLemmas.{any_number}
 use Rattle.vr_lists.proofs.GroupLemmas.{nodes_in, number_at, needed-number}

@@ -7,7 +7,6 @@ ghost use Rattle.vr_model.specs.routes.Rules.{is_grouped as is_grouped_of, is_va
 ghost use Rattle.vr_model.specs.tables.WellFormed.{IsWellFormed};
 ghost use Rattle.vr_rules.specs.Placing.{is_complete as is_complete_of, is_filled_by, is_marked, lists_in, AreBuilt};
 
-use crate::items::is_grouped;
 use crate::marks::active_marks;
 use std::alloc::Global;
 use vr_lists::NodeTables;
@@ -20,7 +19,7 @@ fn may_stay_so(model: &Model, lookups: &NodeTables<'_>, marks: &[bool], node: u3
     requires node { node < length marks.now }
     ensures { result ≡ (not (is_visit model.now node) || (is_grouped_of model.now node || is_marked marks.now node)) }
 {
-    marks[node as usize] || is_grouped(model, lookups, node) || !model.is_visit(node)
+    marks[node as usize] || lookups.is_grouped(node) || !model.is_visit(node)
 }
 
 // Whether each visit in no group is marked.

@@ -439,7 +439,7 @@ impl Fronts {
         requires driven { IsDriven model.now (list.now ++ nodes_of item) }
         ensures { IfOk result (λ may. may ≡ is_route_open model.now v (list.now ++ nodes_of item)) }
     {
-        if !allows_item(model, lookups, v, item) {
+        if !allows_item(lookups, v, item) {
             return Ok(false);
         }
         if !is_feasible_with(&self.each, &mut room.walk, model, v, list, item)? {

@@ -9,7 +9,6 @@ ghost use Rattle.vr_model.specs.routes.Rules.{is_route_open as is_route_open_of}
 ghost use Rattle.vr_rules.specs.RoutesOpen.{is_feasible_in_each as is_feasible_in_each_of};
 ghost use Rattle.vr_timings.specs.Tables.{AreTables};
 
-use crate::allowed::allows_each;
 use std::alloc::Global;
 use vr_lists::{NodeTables, PairPlaces, keeps_pairs};
 use vr_model::{Model, NoMemory};
@@ -57,7 +56,7 @@ pub fn is_route_open(
     if list.is_empty() {
         return Ok(true);
     }
-    if !allows_each(model, lookups, v, list) {
+    if !lookups.allows_each(v, list) {
         return Ok(false);
     }
     if !keeps_pairs(model, v, list, &mut driving.pairs) {

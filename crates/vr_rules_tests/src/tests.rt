@@ -133,7 +133,7 @@ fn items_of(alloc: Global, model: &Model) -> Result<Vec<(u32, u32, u32)>, NoMemo
 {
     let lookups = NodeTables::open(alloc, model)?;
     let mut rows = Vec::new(alloc);
-    for candidate in candidates(alloc, model, &lookups)?.iter() {
+    for candidate in candidates(alloc, &lookups)?.iter() {
         let item: Item = candidate.item;
         rows.push((item.number(), item.last(), candidate.class))?;
     }

@@ -1,7 +1,6 @@
 -- What is looked up once of each dimension of a model.
 use Rattle.std.specs.Prelude.{◌≡◌, ℕ, ◌<◌, IsTrue, List, length, map, slice_index_or}
 use Rattle.vr_model.specs.tables.Tables.{dimension_at}
-use Rattle.vr_model.specs.tables.WellFormed.{IsWellFormed}
 use Rattle.vr_model.specs.declared.records.Model.{Model}
 use Rattle.vr_model.specs.declared.records.StopRow.{StopRow}
 use Rattle.vr_walks.specs.Stops.{AreStops}
@@ -24,8 +23,3 @@ pub record IsTable (model : Model) (d : ℕ) (table : Table) : Type 0 where
 pub record AreTables (model : Model) (tables : List Table) : Type 0 where
   pub one_of_each : length tables ≡ length model.dimensions
   pub each : (d : ℕ) (other : Table) → d < length tables → IsTable model d (slice_index_or tables d other)
-
--- the model is well formed, and the tables are those of its dimensions
-pub record AreRules (model : Model) (tables : List Table) : Type 0 where
-  pub well_formed : IsWellFormed model
-  pub of_dimensions : AreTables model tables

@@ -1,9 +1,16 @@
-use Rattle.std.proofs.Common.{◌∙◌, sym}
+use Rattle.std.proofs.Common.{◌∙◌, ap, sym}
+use Rattle.std.specs.List.{list_all}
+use Rattle.vr_model.specs.routes.Rules.{allows_vehicle}
+use Rattle.vr_rules.specs.Placing.{nodes_of}
 use Rattle.vr_first_insert.proofs.KeptLemmas.{item-closed}
 use Rattle.vr_first_insert.proofs.one_list.best_in_list.Goals as goal
 
 pub returns-then-not-allows_item : goal.returns-then-not-allows_item
-returns-then-not-allows_item c = item-closed c.args.model.now c.args.v c.args.list.now c.args.candidate c.args.best c.requires.ready.stands (sym c.allows_item.ensures ∙ c.if-not-allows_item.true)
+returns-then-not-allows_item c =
+    let of_model = ap (λ model. list_all (allows_vehicle model c.args.v) (nodes_of c.args.candidate.item)) c.requires.lookups in
+    item-closed c.args.model.now c.args.v c.args.list.now c.args.candidate c.args.best c.requires.ready.stands (sym of_model ∙ sym c.allows_item.ensures ∙ c.if-not-allows_item.true)
 
 pub best_where_allowed-requires-clause-allowed : goal.best_where_allowed-requires-clause-allowed
-best_where_allowed-requires-clause-allowed c = sym c.allows_item.ensures ∙ c.if-not-allows_item.false
+best_where_allowed-requires-clause-allowed c =
+    let of_model = ap (λ model. list_all (allows_vehicle model c.args.v) (nodes_of c.args.candidate.item)) c.requires.lookups in
+    sym of_model ∙ sym c.allows_item.ensures ∙ c.if-not-allows_item.false

@@ -1,4 +1,5 @@
-use Rattle.std.proofs.Common.{◌≡◌, ◌∙◌, ◌<◌, ◌≤◌, ap, sym, subst, arith, cond, length}
+use Rattle.std.proofs.Common.{◌∙◌, ap, sym, subst, arith, cond}
+use Rattle.vr_model.specs.first.Items.{node_class}
 use Rattle.vr_model.specs.tables.WellFormed.{IsWellFormed}
 use Rattle.vr_lists.specs.Nodes.{group_number, no_group}
 use Rattle.vr_rules.proofs.RoomLemmas.{class_free, class_in}
@@ -6,22 +7,23 @@ use Rattle.vr_rules.proofs.items.node_class.Goals as goal
 
 pub returns-then-g-len : goal.returns-then-g-len
 returns-then-g-len c =
-    let model = c.args.model.now in
-    let at : c.group_number-g.result ≡ group_number model c.args.node = c.group_number-g.ensures ∙ ap (λ m. group_number m c.args.node) c.requires in
-    class_free model c.args.node c.group_number-g.result at (omega (arith, c.if-g-len.true, c.len.ensures))
+    let model = c.model-model.result.now in
+    let is = c.model-model.ensures.model in
+    class_free model c.args.node c.group_number-g.result (c.group_number-g.ensures ∙ ap (λ m. group_number m c.args.node) (sym is)) (omega (arith, c.if-g-len.true, c.len.ensures))
+    ∙ ap (λ m. node_class m c.args.node) is
 
 pub returns-then-is_free_of_penalty : goal.returns-then-is_free_of_penalty
 returns-then-is_free_of_penalty c =
-    let model = c.args.model.now in
-    let at : c.group_number-g.result ≡ group_number model c.args.node = c.group_number-g.ensures ∙ ap (λ m. group_number m c.args.node) c.requires in
-    let well_formed = subst IsWellFormed c.requires c.model-model.ensures.well_formed in
+    let model = c.model-model.result.now in
+    let is = c.model-model.ensures.model in
     sym (ap (λ b. cond b 1 2) c.if-is_free_of_penalty.true)
-    ∙ class_in model well_formed c.args.node c.group_number-g.result c.get.result.now c.is_free_of_penalty.result at (omega (arith, c.if-g-len.false, c.len.ensures)) (c.get.ensures.value no_group) c.is_free_of_penalty.ensures
+    ∙ class_in model (subst IsWellFormed (sym is) c.model-model.ensures.well_formed) c.args.node c.group_number-g.result c.get.result.now c.is_free_of_penalty.result (c.group_number-g.ensures ∙ ap (λ m. group_number m c.args.node) (sym is)) (omega (arith, c.if-g-len.false, c.len.ensures)) (c.get.ensures.value no_group) c.is_free_of_penalty.ensures
+    ∙ ap (λ m. node_class m c.args.node) is
 
 pub returns-else-is_free_of_penalty : goal.returns-else-is_free_of_penalty
 returns-else-is_free_of_penalty c =
-    let model = c.args.model.now in
-    let at : c.group_number-g.result ≡ group_number model c.args.node = c.group_number-g.ensures ∙ ap (λ m. group_number m c.args.node) c.requires in
-    let well_formed = subst IsWellFormed c.requires c.model-model.ensures.well_formed in
+    let model = c.model-model.result.now in
+    let is = c.model-model.ensures.model in
     sym (ap (λ b. cond b 1 2) c.if-is_free_of_penalty.false)
-    ∙ class_in model well_formed c.args.node c.group_number-g.result c.get.result.now c.is_free_of_penalty.result at (omega (arith, c.if-g-len.false, c.len.ensures)) (c.get.ensures.value no_group) c.is_free_of_penalty.ensures
+    ∙ class_in model (subst IsWellFormed (sym is) c.model-model.ensures.well_formed) c.args.node c.group_number-g.result c.get.result.now c.is_free_of_penalty.result (c.group_number-g.ensures ∙ ap (λ m. group_number m c.args.node) (sym is)) (omega (arith, c.if-g-len.false, c.len.ensures)) (c.get.ensures.value no_group) c.is_free_of_penalty.ensures
+    ∙ ap (λ m. node_class m c.args.node) is
