@@ -18,7 +18,7 @@ use Rattle.vr_model.specs.declared.records.Dimension.{Dimension}
 use Rattle.vr_model.specs.declared.records.Evaluator.{Evaluator}
 use Rattle.vr_model.proofs.tables.Tests.{all-from_list_all, same_tests}
 use Rattle.vr_model.proofs.tables.Bounds.{evaluator_low}
-use Rattle.vr_model.proofs.schedules.LinesSound.{length_arcs}
+use Rattle.vr_model.proofs.schedules.LineArcs.{length_arcs}
 use Rattle.vr_loads.specs.Loads.{only_adds, has_no_matrix, has_no_rows, HasLoad, value_of, taken, load_of, LoadsDecide}
 use Rattle.vr_loads.specs.Sums.{IsUpTo}
 use Rattle.vr_loads.proofs.Totals.{AreSmall}
