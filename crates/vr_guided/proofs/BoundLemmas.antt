@@ -1,6 +1,6 @@
 -- Augmented costs are bounded.
-use Rattle.std.proofs.Common.{ℕ, suc, ◌+◌, ◌*◌, ◌^◌, ◌-◌, ◌<◌, List, [], ◌∷◌, ◌++◌, length, inr, sym, subst, arith}
-use Rattle.std.specs.Prelude.{ℤ, pos, ◌+ℤ◌, ◌*ℤ◌, IsTrue, All}
+use Rattle.std.proofs.Common.{◌≡◌, ℕ, zero, suc, ◌+◌, ◌*◌, ◌^◌, ◌-◌, ◌<◌, List, [], ◌∷◌, ◌++◌, length, take, drop, inr, refl, sym, ap, subst, arith}
+use Rattle.std.specs.Prelude.{ℤ, pos, ◌+ℤ◌, ◌-ℤ◌, ◌*ℤ◌, ◌≤ℤ◌, IsTrue, All, slice_range}
 use Rattle.std.proofs.lemmas.Int.{ints}
 use Rattle.std.proofs.lemmas.List.{length-append}
 use Rattle.vr_model.specs.tables.Numbers.{total_by}
@@ -15,11 +15,14 @@ use Rattle.vr_model.proofs.routes.Bounded.{IsUpTo, lists-up_to, product-up_to, u
 use Rattle.vr_model.proofs.routes.CostFits.{costs_are_bounded}
 use Rattle.vr_model.proofs.routes.Lists.{are-lists, are_lists-count, route-below, visits-few}
 use Rattle.vr_model.proofs.tables.Bounds.{arc_cost_in_range}
+use Rattle.vr_balance.specs.Ends.{AreEnds}
+use Rattle.vr_routes.specs.declared.pieces.Piece.{Piece}
+use Rattle.vr_routes.specs.Pieces.{joined}
 use Rattle.vr_guided.specs.Bounding.{AugmentedCostsAreBounded}
 use Rattle.vr_guided.specs.Counts.{AtMost}
-use Rattle.vr_guided.specs.Walks.{route_weight, weight}
-use Rattle.vr_guided.proofs.PartLemmas.{sums}
-use Rattle.vr_guided.proofs.WalkLemmas.{all_push}
+use Rattle.vr_guided.specs.Walks.{last_of, route_weight, stretch_weight, unused_weight, weight}
+use Rattle.vr_guided.proofs.PartLemmas.{part_value, sums, used}
+use Rattle.vr_guided.proofs.WalkLemmas.{all_left, all_push, all_right}
 
 -- the most that a penalised arc adds
 abbrev most : ℕ
@@ -59,6 +62,77 @@ module _ (model : Model) (well : IsWellFormed model) (p : Penalties) (few : AtMo
       subst (IsUpTo (1100 * most)) (sym (sums model p lists))
       (up_to-more _ (lists-up_to lists (λ v. route_weight model p v (route lists v)) 1 most (λ v low. route-up_to v (route lists v) (omega (arith, low, many)) (route-below model lists v are)))
       (omega (arith, visits, nodes, many, fleet)))
+
+-- two heads of one list are the same
+same_head : (x y : ℕ) (xs ys : List ℕ) → x ∷ xs ≡ y ∷ ys → x ≡ y
+same_head x y xs ys e = ap (first_or 0) e
+  where
+    first_or : ℕ → List ℕ → ℕ
+    first_or d [] = d
+    first_or d (z ∷ zs) = z
+
+less_itself : (x y z : ℤ) → x ≡ z +ℤ pos 0 → y ≡ z → pos 0 ≤ℤ (x -ℤ y)
+less_itself x y z e h = omega (arith, ints, e, h)
+
+less_nothing : (x y : ℤ) → pos 0 ≤ℤ x → y ≡ pos 0 → pos 0 ≤ℤ (x -ℤ y)
+less_nothing x y low e = omega (arith, ints, low, e)
+
+module _ (model : Model) (well : IsWellFormed model) (p : Penalties) (few : AtMost 1000000000 p) (v : ℕ) (known : v < length model.vehicles) where
+  abbrev start : ℕ
+  start = (vehicle_at model v).start
+
+  abbrev end : ℕ
+  end = (vehicle_at model v).end
+
+  abbrev Below : List ℕ → Type 0
+  Below nodes = All (λ node. node < model.nodes) nodes
+
+  -- where a path through nodes ends
+  last_below : (x : ℕ) (nodes : List ℕ) → x < model.nodes → Below nodes → last_of x nodes < model.nodes
+  last_below x [] low each = low
+  last_below x (y ∷ ys) low each = last_below y ys (each 0 y (omega arith)) (λ k d l. each (suc k) d (omega (arith, l)))
+
+  next_below : (rest others : List ℕ) (next : ℕ) → Below rest → rest ++ end ∷ [] ≡ next ∷ others → next < model.nodes
+  next_below [] others next each e = subst (λ x. x < model.nodes) (same_head end next [] others e) (well.each_vehicle v no_vehicle known).end_in_range
+  next_below (x ∷ xs) others next each e = subst (λ y. y < model.nodes) (same_head x next (xs ++ end ∷ []) others e) (each 0 x (omega arith))
+
+  -- the arcs of a stretch add nothing less than 0
+  stretch_low : (front middle rest others : List ℕ) (next : ℕ) → rest ++ end ∷ [] ≡ next ∷ others → Below (front ++ (middle ++ rest))
+      → pos 0 ≤ℤ stretch_weight model p v (last_of start front) middle next
+  stretch_low front middle rest others next e each =
+      let vehicle = well.each_vehicle v no_vehicle known in
+      let behind = all_right (λ node. node < model.nodes) front (middle ++ rest) each in
+      let from = last_below start front vehicle.start_in_range (all_left (λ node. node < model.nodes) front (middle ++ rest) each) in
+      let to = next_below rest others next (all_right (λ node. node < model.nodes) middle rest behind) e in
+      (path-up_to model well p few v (last_of start front) (middle ++ next ∷ []) known from (all_push (λ node. node < model.nodes) middle next (all_left (λ node. node < model.nodes) middle rest behind) to)).at_least
+
+  -- nor does it without the arc that a vehicle without visits does not take
+  whole_low : (front middle rest others : List ℕ) (next : ℕ) → rest ++ end ∷ [] ≡ next ∷ others → Below (front ++ (middle ++ rest))
+      → pos 0 ≤ℤ (stretch_weight model p v (last_of start front) middle next -ℤ unused_weight model p v (length (front ++ (middle ++ rest))))
+  whole_low [] [] [] others next e each =
+      less_itself _ _ (weight model p (record { vehicle = v; origin = start; target = end }))
+      (ap (λ x. weight model p (record { vehicle = v; origin = start; target = x }) +ℤ pos 0) (sym (same_head end next [] others e))) refl
+  whole_low (x ∷ xs) middle rest others next e each = less_nothing _ _ (stretch_low (x ∷ xs) middle rest others next e each) (used model p v (length ((x ∷ xs) ++ (middle ++ rest))) (omega arith))
+  whole_low [] (x ∷ xs) rest others next e each = less_nothing _ _ (stretch_low [] (x ∷ xs) rest others next e each) (used model p v (length ((x ∷ xs) ++ rest)) (omega arith))
+  whole_low [] [] (x ∷ xs) others next e each = less_nothing _ _ (stretch_low [] [] (x ∷ xs) others next e each) (used model p v (length (x ∷ xs)) (omega arith))
+
+  unused_low : (len : ℕ) → pos 0 ≤ℤ unused_weight model p v len
+  unused_low zero = let vehicle = well.each_vehicle v no_vehicle known in (weight-up_to model well p few v start end known vehicle.start_in_range vehicle.end_in_range).at_least
+  unused_low (suc n) = subst (λ z. pos 0 ≤ℤ z) (sym (used model p v (suc n) (omega arith))) (omega (arith, ints))
+
+  -- other pieces take no more than what the arcs of the changed stretch add
+  pub part_saved : (lists : List (List ℕ)) (pieces middle : List Piece) (front behind next : ℕ) (others : List ℕ) → AreEnds lists v pieces front behind middle → drop behind (route lists v) ++ end ∷ [] ≡ next ∷ others
+      → Below (joined lists pieces)
+      → (route_weight model p v (route lists v) -ℤ route_weight model p v (joined lists pieces))
+      ≤ℤ stretch_weight model p v (last_of start (take front (route lists v))) (slice_range (route lists v) front behind) next
+  part_saved lists pieces middle front behind next others ends e each =
+      let list : List ℕ = route lists v in
+      let value = part_value model p v lists pieces middle front behind next others ends e in
+      let all = subst Below ends.joins each in
+      let low = whole_low (take front list) (joined lists middle) (drop behind list) others next e all in
+      let same = ap (λ xs. unused_weight model p v (length xs)) ends.joins in
+      let none = unused_low (length list) in
+      omega (arith, ints, value, low, same, none)
 
 -- a sum of the two parts
 sum-up_to : (x y : ℤ) → IsUpTo (1000 * (2 ^ 63 - 1)) x → IsUpTo (1000 * (1100 * most)) y → IsUpTo (2 ^ 100) (x +ℤ y)

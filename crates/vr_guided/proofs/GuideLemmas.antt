@@ -53,6 +53,9 @@ times_low (negsuc n) x some low = absurd (never some)
 not_less : (x y z : ℤ) → pos 0 ≤ℤ (x -ℤ y) → int_lt (y +ℤ z) (pos 0) ≡ false → int_lt (x +ℤ z) (pos 0) ≡ false
 not_less x y z more none = Prim.grind (arith, ints, more, none)
 
+not_less_behind : (z x y : ℤ) → pos 0 ≤ℤ (x -ℤ y) → int_lt (z +ℤ y) (pos 0) ≡ false → int_lt (z +ℤ x) (pos 0) ≡ false
+not_less_behind z x y more none = Prim.grind (arith, ints, more, none)
+
 -- what is no gain with the least difference is none with the difference itself
 still_none : (lambda : Lambda) (least difference change : ℤ) → pos 1 ≤ℤ lambda.q → is_gain lambda least change ≡ false → least ≤ℤ difference → is_gain lambda difference change ≡ false
 still_none lambda least difference change some none low =
@@ -67,6 +70,13 @@ pub passed_over : (model : Model) (lambda : Lambda) (penalties : Penalties) (lis
 passed_over model lambda penalties lists mv least some none low =
     sym (makes_less_where model lambda penalties lists mv (cost_change model lists mv) (penalised_change model penalties lists mv) refl refl)
     ∙ still_none lambda least (cost_change model lists mv) (penalised_change model penalties lists mv) some none low
+
+-- what is no gain with the most that is saved of the penalised arc costs is none with what is saved
+pub none_saved : (lambda : Lambda) (difference change saved : ℤ) → pos 1 ≤ℤ lambda.p → is_gain lambda difference (pos 0 -ℤ saved) ≡ false → pos 0 ≤ℤ (change +ℤ saved) → is_gain lambda difference change ≡ false
+none_saved lambda difference change saved some none low =
+    let more : pos 0 ≤ℤ (change -ℤ (pos 0 -ℤ saved)) = omega (arith, ints, low) in
+    let times : pos 0 ≤ℤ ((lambda.p *ℤ change) -ℤ (lambda.p *ℤ (pos 0 -ℤ saved))) = subst (λ z. pos 0 ≤ℤ z) (spread lambda.p change (pos 0 -ℤ saved)) (times_low lambda.p (change -ℤ (pos 0 -ℤ saved)) some more) in
+    not_less_behind (lambda.q *ℤ difference) (lambda.p *ℤ change) (lambda.p *ℤ (pos 0 -ℤ saved)) times none
 
 -- a bound on the absolute value from both sides
 pub at_least : (n : ℕ) (z : ℤ) → unsigned_abs z ≤ n → neg_ℤ (pos n) ≤ℤ z

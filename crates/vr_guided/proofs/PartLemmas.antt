@@ -37,7 +37,7 @@ module _ (model : Model) (p : Penalties) (v : ℕ) where
   end = (vehicle_at model v).end
 
   -- a vehicle with visits does not go from its start to its end
-  used : (len : ℕ) → 1 ≤ len → unused_weight model p v len ≡ pos 0
+  pub used : (len : ℕ) → 1 ≤ len → unused_weight model p v len ≡ pos 0
   used len some = ap (λ b. cond b (weight model p (record { vehicle = v; origin = start; target = end })) (pos 0)) (differs len some)
     where
       differs : (len : ℕ) → 1 ≤ len → (len == 0) ≡ false

@@ -88,6 +88,53 @@ impl Penalties {
         first + self.change_of_part(model, routes, change.vehicle(1), change.pieces(1))
     }
 
+    /// What a change takes of the penalised arc costs at most: what the arcs of the stretches that it changes add now.
+    /// Takes no memory.
+    pub fn saved_at_most(&self, model: &Model, routes: &Routes, change: &Change) -> i128
+        requires well_formed { IsWellFormed model.now }
+        requires valid { IsTrue (is_valid model.now routes.now.lists) }
+        requires parts { AreParts routes.now.lists change.now }
+        requires after { IsTrue (are_lists model.now (changed routes.now.lists change.now)) }
+        requires covers { self.now.nodes ≡ model.now.nodes }
+        requires few { AtMost 1000000000 (counted self.now) }
+        ensures low { pos 0 ≤ℤ result }
+        ensures high { result ≤ℤ pos (2 ^ 90) }
+        ensures most { (penalised model.now (counted self.now) routes.now.lists
+            -ℤ penalised model.now (counted self.now) (changed routes.now.lists change.now)) ≤ℤ result }
+    {
+        let parts = change.parts();
+        let first = self.saved_by_part(model, routes, change.vehicle(0), change.pieces(0));
+        if parts == 1 {
+            return first;
+        }
+        first + self.saved_by_part(model, routes, change.vehicle(1), change.pieces(1))
+    }
+
+    // What other pieces take of the penalised arc costs of a vehicle at most.
+    fn saved_by_part(&self, model: &Model, routes: &Routes, v: u32, pieces: &[Piece]) -> i128
+        requires well_formed { IsWellFormed model.now }
+        requires vehicle { v < length routes.now.lists }
+        requires of_model { v < length model.now.vehicles }
+        requires old_nodes { All (λ node. node < model.now.nodes) (route routes.now.lists v) }
+        requires old_short { length (route routes.now.lists v) ≤ 1000 }
+        requires within { All (IsWithin routes.now.lists) pieces.now }
+        requires nodes { All (λ node. node < model.now.nodes) (joined routes.now.lists pieces.now) }
+        requires covers { self.now.nodes ≡ model.now.nodes }
+        requires few { AtMost 1000000000 (counted self.now) }
+        ensures low { pos 0 ≤ℤ result }
+        ensures high { result ≤ℤ pos (1001 * 2 ^ 70) }
+        ensures most { (route_weight model.now (counted self.now) v (route routes.now.lists v)
+            -ℤ route_weight model.now (counted self.now) v (joined routes.now.lists pieces.now)) ≤ℤ result }
+    {
+        let list = routes.list(v);
+        let ends = strip(routes, v, pieces);
+        let start = node_before(list, ends.front, start_of(model, v));
+        let next = node_from(list, ends.behind, end_of(model, v));
+        let kept = &list[ends.front as usize..ends.behind as usize];
+        let old = self.old_stretch(model, v, start, kept, next);
+        old.total
+    }
+
     // What other pieces make of the penalised arc costs of a vehicle.
     fn change_of_part(&self, model: &Model, routes: &Routes, v: u32, pieces: &[Piece]) -> i128
         requires well_formed { IsWellFormed model.now }

@@ -28,27 +28,30 @@ impl<'m> Accept for Guiding<'m> {
     ghost takes = { λ s. makes_less s.model.now s.lambda (counted s.penalties.now) };
 
     fn accepts(&self, routes: &Routes, mv: Move, difference: i64) -> bool {
-        self.gains(routes, mv, difference)
+        self.gains(
+            difference,
+            penalised_change(self.model, self.penalties, routes, mv),
+        )
     }
 
     fn may_accept(&self, routes: &Routes, mv: Move, least: i64) -> bool {
-        self.gains(routes, mv, least)
+        let mut change = Change::blank();
+        Change::write(self.model, routes, mv, &mut change);
+        let saved = self.penalties.saved_at_most(self.model, routes, &change);
+        if !self.gains(least, -saved) {
+            return false;
+        }
+        self.gains(least, self.penalties.change(self.model, routes, &change))
     }
 }
 
 impl<'m> Guiding<'m> {
-    // Whether this difference in cost, with what the move makes of the penalised arc costs, makes the augmented cost
-    // less.
+    // Whether this difference in cost, with this change of the penalised arc costs, makes the augmented cost less.
     #[inline]
-    fn gains(&self, routes: &Routes, mv: Move, difference: i64) -> bool
-        requires well_formed { IsWellFormed self.now.model.now }
-        requires of_model { routes.now.visits ≡ visits self.now.model.now }
-        requires valid { IsTrue (is_valid self.now.model.now routes.now.lists) }
-        requires mv { IsTrue (is_move self.now.model.now routes.now.lists mv) }
-        ensures { let penalised = penalised_change self.now.model.now (counted self.now.penalties.now) in
-            result ≡ is_gain self.now.lambda difference (penalised routes.now.lists mv) }
+    fn gains(&self, difference: i64, change: i128) -> bool
+        requires change { unsigned_abs change ≤ 2 ^ 100 }
+        ensures { result ≡ is_gain self.now.lambda difference change }
     {
-        let change = penalised_change(self.model, self.penalties, routes, mv);
         let costs = scaled(self.lambda.q, difference as i128);
         costs + scaled(self.lambda.p, change) < 0
     }

@@ -2,7 +2,6 @@ use Rattle.std.proofs.Common.{◌≡◌, ◌∙◌, ◌*◌, ◌^◌, ap, ap₂,
 use Rattle.std.specs.Int.{w128}
 use Rattle.std.specs.Prelude.{pos, ◌+ℤ◌, ◌*ℤ◌, int_lt}
 use Rattle.std.proofs.lemmas.Int.{ints}
-use Rattle.vr_guided.specs.Guides.{is_gain}
 use Rattle.vr_guided.proofs.GuideLemmas.{at_least, at_most}
 use Rattle.vr_guided.proofs.guiding.Guiding.gains.Goals as goal
 
@@ -30,10 +29,9 @@ returns c =
     let q_same : to_z w64 (of_z w64 c.args.self.now.lambda.q) ≡ c.args.self.now.lambda.q = omega (arith, ints, q_from, q_to) in
     let p_same : to_z w64 (of_z w64 c.args.self.now.lambda.p) ≡ c.args.self.now.lambda.p = omega (arith, ints, p_from, p_to) in
     let d_same : to_z w128 (of_z w128 (to_z w64 (of_z w64 c.args.difference))) ≡ c.args.difference = omega (arith, ints, range) in
-    let least = at_least (2 ^ 100) c.penalised_change-change.result c.penalised_change-change.ensures.bound in
-    let most = at_most (2 ^ 100) c.penalised_change-change.result c.penalised_change-change.ensures.bound in
-    let c_same : to_z w128 (of_z w128 c.penalised_change-change.result) ≡ c.penalised_change-change.result = omega (arith, ints, least, most) in
+    let least = at_least (2 ^ 100) c.args.change c.requires.change in
+    let most = at_most (2 ^ 100) c.args.change c.requires.change in
+    let c_same : to_z w128 (of_z w128 c.args.change) ≡ c.args.change = omega (arith, ints, least, most) in
     let costs : c.scaled-costs.result ≡ c.args.self.now.lambda.q *ℤ c.args.difference = c.scaled-costs.ensures.value ∙ ap₂ (λ x y. x *ℤ y) q_same d_same in
-    let change : c.scaled.result ≡ c.args.self.now.lambda.p *ℤ c.penalised_change-change.result = c.scaled.ensures.value ∙ ap₂ (λ x y. x *ℤ y) p_same c_same in
+    let change : c.scaled.result ≡ c.args.self.now.lambda.p *ℤ c.args.change = c.scaled.ensures.value ∙ ap₂ (λ x y. x *ℤ y) p_same c_same in
     ap (λ z. int_lt z (pos 0)) (sum ∙ ap₂ (λ x y. x +ℤ y) costs change)
-    ∙ ap (λ x. is_gain c.args.self.now.lambda c.args.difference x) c.penalised_change-change.ensures.value

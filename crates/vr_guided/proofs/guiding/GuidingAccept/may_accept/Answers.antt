@@ -1,9 +1,48 @@
-use Rattle.std.proofs.Common.{◌≡◌, ◌∙◌, ap, sym, arith, w64, to_z, of_z}
+use Rattle.std.proofs.Common.{◌≡◌, ◌∙◌, ◌^◌, ap, ap₂, sym, subst, arith, w64, to_z, of_z}
+use Rattle.std.specs.Int.{w128}
+use Rattle.std.specs.Prelude.{ℤ, pos, ◌+ℤ◌, ◌-ℤ◌, ◌≤ℤ◌, IsTrue}
 use Rattle.std.proofs.lemmas.Int.{ints}
+use Rattle.vr_model.specs.moves.Moves.{apply}
+use Rattle.vr_model.specs.routes.Routes.{are_lists}
+use Rattle.vr_model.specs.search.GuidedSearches.{penalised}
+use Rattle.vr_model.proofs.moves.KeptLists.{moves_keep_lists}
+use Rattle.vr_model.proofs.routes.Lists.{are-lists}
 use Rattle.vr_guided.specs.Counts.{counted}
 use Rattle.vr_guided.specs.Guides.{is_gain, penalised_change}
-use Rattle.vr_guided.proofs.GuideLemmas.{passed_over}
+use Rattle.vr_guided.proofs.GuideLemmas.{at_least, at_most, none_saved, passed_over}
 use Rattle.vr_guided.proofs.guiding.GuidingAccept.may_accept.Goals as goal
+
+-- what is taken at most, told of the change
+told : (before after saved : ℤ) → (before -ℤ after) ≤ℤ saved → pos 0 ≤ℤ ((after -ℤ before) +ℤ saved)
+told before after saved most = omega (arith, ints, most)
+
+pub saved_at_most-saved-requires-clause-after : goal.saved_at_most-saved-requires-clause-after
+saved_at_most-saved-requires-clause-after c =
+    let model = c.args.self.now.model.now in
+    let lists = c.args.routes.now.lists in
+    subst (λ ls. IsTrue (are_lists model ls)) (sym c.write.ensures.lists_are) (moves_keep_lists model c.requires.well_formed lists c.args.mv (are-lists model lists c.requires.valid) c.requires.mv)
+
+pub change-requires-clause-after : goal.change-requires-clause-after
+change-requires-clause-after c =
+    let model = c.args.self.now.model.now in
+    let lists = c.args.routes.now.lists in
+    subst (λ ls. IsTrue (are_lists model ls)) (sym c.write.ensures.lists_are) (moves_keep_lists model c.requires.well_formed lists c.args.mv (are-lists model lists c.requires.valid) c.requires.mv)
+
+pub returns-then-not-gains : goal.returns-then-not-gains
+returns-then-not-gains c refused valid low =
+    let at = c.args.self.now in
+    let p = counted at.penalties.now in
+    let lists = c.args.routes.now.lists in
+    let range = c.ranges.least in
+    let same : to_z w64 (of_z w64 c.args.least) ≡ c.args.least = omega (arith, ints, range) in
+    let saved = c.saved_at_most-saved.result in
+    let from = c.saved_at_most-saved.ensures.low in
+    let to = c.saved_at_most-saved.ensures.high in
+    let as_read : to_z w128 (of_z w128 (pos 0 -ℤ to_z w128 (of_z w128 saved))) ≡ pos 0 -ℤ saved = omega (arith, ints, from, to) in
+    let most = subst (λ ls. (penalised at.model.now p lists -ℤ penalised at.model.now p ls) ≤ℤ saved) c.write.ensures.lists_are c.saved_at_most-saved.ensures.most in
+    let none = sym (c.gains.ensures ∙ ap₂ (is_gain at.lambda) same as_read) ∙ c.if-not-gains.true in
+    let no_gain = none_saved at.lambda c.args.least (penalised_change at.model.now p lists c.args.mv) saved at.sound.p_from_one none (told (penalised at.model.now p lists) (penalised at.model.now p (apply at.model.now lists c.args.mv)) saved most) in
+    passed_over at.model.now at.lambda p lists c.args.mv c.args.least at.sound.q_from_one no_gain low
 
 pub returns : goal.returns
 returns c refused valid low =
@@ -12,5 +51,10 @@ returns c refused valid low =
     let lists = c.args.routes.now.lists in
     let range = c.ranges.least in
     let same : to_z w64 (of_z w64 c.args.least) ≡ c.args.least = omega (arith, ints, range) in
-    let none = sym (c.gains.ensures ∙ ap (λ d. is_gain at.lambda d (penalised_change at.model.now p lists c.args.mv)) same) ∙ refused in
+    let change = c.change.ensures in
+    let from = at_least (2 ^ 100) c.change.result change.bound in
+    let to = at_most (2 ^ 100) c.change.result change.bound in
+    let as_read : to_z w128 (of_z w128 c.change.result) ≡ c.change.result = omega (arith, ints, from, to) in
+    let value = change.value ∙ ap (λ ls. penalised at.model.now p ls -ℤ penalised at.model.now p lists) c.write.ensures.lists_are in
+    let none = sym (c.gains-2.ensures ∙ ap₂ (is_gain at.lambda) same (as_read ∙ value)) ∙ refused in
     passed_over at.model.now at.lambda p lists c.args.mv c.args.least at.sound.q_from_one none low
