@@ -13,9 +13,10 @@ ghost use Rattle.vr_costfilter.specs.Along.{IsAlong, StandsAlong};
 ghost use Rattle.vr_timings.specs.Bounds.{IsAround};
 
 use crate::CostPart;
+use crate::costs::ArcCosts;
 use crate::lists::{ListCost, added_by};
 use crate::sums::Sums;
-use crate::walks::{Along, cost_between};
+use crate::walks::{Along, Gap, cost_between, stop_at, stop_before};
 use std::alloc::Global;
 use std::marker::Model;
 use vr_balance::strip;
@@ -109,23 +110,26 @@ impl<'m> ListCost for ArcCost<'m> {
 
     fn list_adds(&self, routes: &Routes, v: u32, pieces: &[Piece]) -> i64 {
         let ends = strip(routes, v, pieces);
+        let gap = Gap {
+            front: ends.front,
+            behind: ends.behind,
+            from: stop_before(self.model, routes, v, ends.front),
+            to: stop_at(self.model, routes, v, ends.behind),
+        };
         let old = [Piece::Chain {
             vehicle: v,
             from: ends.front,
             to: ends.behind,
             reversed: false,
         }];
-        let (front, behind) = (ends.front, ends.behind);
-        let before = cost_between(self.model, &self.along, routes, v, front, &old, behind);
-        let after = cost_between(
-            self.model,
-            &self.along,
-            routes,
-            v,
-            front,
-            ends.middle,
-            behind,
-        );
+        let number = self.model.vehicles.get(v as usize).costs;
+        let costs = ArcCosts {
+            model: self.model,
+            vehicle: v,
+            entries: self.model.matrices.get(number as usize).entries.as_slice(),
+        };
+        let before = cost_between(&costs, &self.along, routes, gap, &old);
+        let after = cost_between(&costs, &self.along, routes, gap, ends.middle);
         after - before
     }
 }

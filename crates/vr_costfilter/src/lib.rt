@@ -3,6 +3,7 @@
 #![tactic(auto)]
 
 mod arcs;
+mod costs;
 mod fixed;
 mod globals;
 mod groups;

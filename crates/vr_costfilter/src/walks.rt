@@ -10,6 +10,7 @@ ghost use Rattle.vr_routes.specs.Pieces.{joined, nodes_of, IsWithin};
 ghost use Rattle.vr_costfilter.specs.Chains.{chain_sum, first_of, path_sum, last_of, turned, IsUpTo};
 ghost use Rattle.vr_costfilter.specs.Along.{between_cost, AreAlong};
 
+use crate::costs::ArcCosts;
 use crate::sums::{Sums, arc};
 use vr_model::Model;
 use vr_routes::{Piece, Routes};
@@ -29,45 +30,56 @@ pub struct Path {
     pub visits: u32,
 }
 
-/// What the arcs of a vehicle cost from the stop before place `front` of its list along pieces to the stop at place
-/// `behind`, 0 where no node is left of the list then.
-pub fn cost_between(
-    model: &Model,
-    along: &[Along],
-    routes: &Routes,
-    v: u32,
-    front: u32,
-    pieces: &[Piece],
-    behind: u32,
-) -> i64
-    requires well_formed { IsWellFormed model.now }
-    requires many { length along.now ≡ length model.now.vehicles }
-    requires as_many { length routes.now.lists ≡ length model.now.vehicles }
-    requires along { AreAlong model.now routes.now.lists along.now }
-    requires vehicle { v < length model.now.vehicles }
-    requires within { All (IsWithin routes.now.lists) pieces.now }
-    requires few { length pieces.now ≤ 8 }
-    requires nodes { All (λ node. node < model.now.nodes) (joined routes.now.lists pieces.now) }
-    requires old_nodes { All (λ node. node < model.now.nodes) (route routes.now.lists v) }
-    requires order { front ≤ behind }
-    requires place { behind ≤ length (route routes.now.lists v) }
-    ensures value { result ≡ between_cost model.now v (route routes.now.lists v) front behind
-        (joined routes.now.lists pieces.now) }
-    ensures range { IsUpTo 10000 result }
-{
-    let n = routes.len(v);
-    let from = stop_before(model, routes, v, front);
-    let to = stop_at(model, routes, v, behind);
-    let path = path_along(model, along, routes, v, from, pieces);
-    if front + path.visits + (n - behind) == 0 {
-        return 0;
-    }
-    path.cost + model.arc_cost(v, path.at, to)
+/// What stays of the list of a vehicle beside a stretch that changes: how many places before it, from which place on
+/// behind it, and the nodes of the stops next to it.
+#[derive(Clone, Copy)]
+pub struct Gap {
+    pub front: u32,
+    pub behind: u32,
+    pub from: u32,
+    pub to: u32,
 }
 
-// The node of the stop before a place of the list of a vehicle.
+/// What the arcs of a vehicle cost from the stop before a gap of its list along pieces to the stop behind it, 0 where
+/// no node is left of the list then.
+pub fn cost_between(
+    costs: &ArcCosts,
+    along: &[Along],
+    routes: &Routes,
+    gap: Gap,
+    pieces: &[Piece],
+) -> i64
+    requires well_formed { IsWellFormed costs.now.model.now }
+    requires many { length along.now ≡ length costs.now.model.now.vehicles }
+    requires as_many { length routes.now.lists ≡ length costs.now.model.now.vehicles }
+    requires along { AreAlong costs.now.model.now routes.now.lists along.now }
+    requires vehicle { costs.now.vehicle < length costs.now.model.now.vehicles }
+    requires within { All (IsWithin routes.now.lists) pieces.now }
+    requires few { length pieces.now ≤ 8 }
+    requires nodes { All (λ node. node < costs.now.model.now.nodes) (joined routes.now.lists pieces.now) }
+    requires order { gap.front ≤ gap.behind }
+    requires place { gap.behind ≤ length (route routes.now.lists costs.now.vehicle) }
+    requires from { gap.from ≡ last_of (vehicle_at costs.now.model.now costs.now.vehicle).start
+        (take gap.front (route routes.now.lists costs.now.vehicle)) }
+    requires to { gap.to ≡ first_of (drop gap.behind (route routes.now.lists costs.now.vehicle))
+        (vehicle_at costs.now.model.now costs.now.vehicle).end }
+    requires from_known { gap.from < costs.now.model.now.nodes }
+    requires to_known { gap.to < costs.now.model.now.nodes }
+    ensures value { result ≡ between_cost costs.now.model.now costs.now.vehicle
+        (route routes.now.lists costs.now.vehicle) gap.front gap.behind (joined routes.now.lists pieces.now) }
+    ensures range { IsUpTo 10000 result }
+{
+    let n = routes.len(costs.vehicle);
+    let path = path_along(costs, along, routes, gap.from, pieces);
+    if gap.front + path.visits + (n - gap.behind) == 0 {
+        return 0;
+    }
+    path.cost + costs.cost(path.at, gap.to)
+}
+
+/// The node of the stop before a place of the list of a vehicle.
 #[inline]
-fn stop_before(model: &Model, routes: &Routes, v: u32, place: u32) -> u32
+pub fn stop_before(model: &Model, routes: &Routes, v: u32, place: u32) -> u32
     requires well_formed { IsWellFormed model.now }
     requires as_many { length routes.now.lists ≡ length model.now.vehicles }
     requires vehicle { v < length model.now.vehicles }
@@ -82,9 +94,9 @@ fn stop_before(model: &Model, routes: &Routes, v: u32, place: u32) -> u32
     routes.node_at(v, place - 1)
 }
 
-// The node of the stop at a place of the list of a vehicle.
+/// The node of the stop at a place of the list of a vehicle.
 #[inline]
-fn stop_at(model: &Model, routes: &Routes, v: u32, place: u32) -> u32
+pub fn stop_at(model: &Model, routes: &Routes, v: u32, place: u32) -> u32
     requires well_formed { IsWellFormed model.now }
     requires as_many { length routes.now.lists ≡ length model.now.vehicles }
     requires vehicle { v < length model.now.vehicles }
@@ -100,28 +112,22 @@ fn stop_at(model: &Model, routes: &Routes, v: u32, place: u32) -> u32
 }
 
 // The path of a vehicle from a node along pieces.
-fn path_along(
-    model: &Model,
-    along: &[Along],
-    routes: &Routes,
-    v: u32,
-    at: u32,
-    pieces: &[Piece],
-) -> Path
-    requires well_formed { IsWellFormed model.now }
-    requires many { length along.now ≡ length model.now.vehicles }
-    requires as_many { length routes.now.lists ≡ length model.now.vehicles }
-    requires along { AreAlong model.now routes.now.lists along.now }
-    requires vehicle { v < length model.now.vehicles }
+fn path_along(costs: &ArcCosts, along: &[Along], routes: &Routes, at: u32, pieces: &[Piece]) -> Path
+    requires well_formed { IsWellFormed costs.now.model.now }
+    requires many { length along.now ≡ length costs.now.model.now.vehicles }
+    requires as_many { length routes.now.lists ≡ length costs.now.model.now.vehicles }
+    requires along { AreAlong costs.now.model.now routes.now.lists along.now }
+    requires vehicle { costs.now.vehicle < length costs.now.model.now.vehicles }
     requires within { All (IsWithin routes.now.lists) pieces.now }
     requires few { length pieces.now ≤ 8 }
-    requires nodes { All (λ node. node < model.now.nodes) (joined routes.now.lists pieces.now) }
-    requires at { at < model.now.nodes }
+    requires nodes { All (λ node. node < costs.now.model.now.nodes) (joined routes.now.lists pieces.now) }
+    requires at { at < costs.now.model.now.nodes }
     ensures at { result.at ≡ last_of at (joined routes.now.lists pieces.now) }
-    ensures cost { result.cost ≡ path_sum (arc_cost model.now v) at (joined routes.now.lists pieces.now) }
+    ensures cost { result.cost
+        ≡ path_sum (arc_cost costs.now.model.now costs.now.vehicle) at (joined routes.now.lists pieces.now) }
     ensures visits { result.visits ≡ length (joined routes.now.lists pieces.now) }
     ensures few { result.visits ≤ 8000 }
-    ensures known { result.at < model.now.nodes }
+    ensures known { result.at < costs.now.model.now.nodes }
     ensures range { IsUpTo 8000 result.cost }
 {
     let mut path = Path {
@@ -130,7 +136,7 @@ fn path_along(
         visits: 0,
     };
     for k in 0..pieces.len() {
-        path = path.along(model, along, routes, v, pieces[k]);
+        path = path.along(costs, along, routes, pieces[k]);
     }
     path
 }
@@ -138,25 +144,25 @@ fn path_along(
 impl Path {
     // The path goes on along a piece.
     #[inline]
-    fn along(self, model: &Model, along: &[Along], routes: &Routes, v: u32, piece: Piece) -> Path
-        requires well_formed { IsWellFormed model.now }
-        requires many { length along.now ≡ length model.now.vehicles }
-        requires as_many { length routes.now.lists ≡ length model.now.vehicles }
-        requires along { AreAlong model.now routes.now.lists along.now }
-        requires vehicle { v < length model.now.vehicles }
+    fn along(self, costs: &ArcCosts, along: &[Along], routes: &Routes, piece: Piece) -> Path
+        requires well_formed { IsWellFormed costs.now.model.now }
+        requires many { length along.now ≡ length costs.now.model.now.vehicles }
+        requires as_many { length routes.now.lists ≡ length costs.now.model.now.vehicles }
+        requires along { AreAlong costs.now.model.now routes.now.lists along.now }
+        requires vehicle { costs.now.vehicle < length costs.now.model.now.vehicles }
         requires within { IsWithin routes.now.lists piece }
-        requires nodes { All (λ node. node < model.now.nodes) (nodes_of routes.now.lists piece) }
-        requires at { self.at < model.now.nodes }
+        requires nodes { All (λ node. node < costs.now.model.now.nodes) (nodes_of routes.now.lists piece) }
+        requires at { self.at < costs.now.model.now.nodes }
         requires cost { IsUpTo 8008 self.cost }
         requires visits { self.visits ≤ 8000 }
         ensures at { result.at ≡ last_of self.at (nodes_of routes.now.lists piece) }
-        ensures cost { result.cost
-            ≡ self.cost +ℤ path_sum (arc_cost model.now v) self.at (nodes_of routes.now.lists piece) }
+        ensures cost { let cost = arc_cost costs.now.model.now costs.now.vehicle in
+            result.cost ≡ self.cost +ℤ path_sum cost self.at (nodes_of routes.now.lists piece) }
         ensures visits { result.visits ≡ self.visits + length (nodes_of routes.now.lists piece) }
         ensures few { result.visits ≤ self.visits + 1000 }
     {
         match piece {
-            Piece::Node { node } => self.to_node(model, v, node),
+            Piece::Node { node } => self.to_node(costs, node),
             Piece::Chain {
                 vehicle,
                 from,
@@ -167,58 +173,60 @@ impl Path {
                     return self;
                 }
                 let (first, last) = ends_of(routes, vehicle, reversed, from, to);
-                let inner = chain_cost(model, along, routes, v, vehicle, reversed, from, to);
-                self.along_chain(model, v, first, last, inner, to - from)
+                let inner = chain_cost(
+                    costs.model,
+                    along,
+                    routes,
+                    costs.vehicle,
+                    vehicle,
+                    reversed,
+                    from,
+                    to,
+                );
+                self.along_chain(costs, first, last, inner, to - from)
             }
         }
     }
 
     // The path goes on to a node.
     #[inline]
-    fn to_node(self, model: &Model, v: u32, node: u32) -> Path
-        requires well_formed { IsWellFormed model.now }
-        requires vehicle { v < length model.now.vehicles }
-        requires at { self.at < model.now.nodes }
-        requires node { node < model.now.nodes }
+    fn to_node(self, costs: &ArcCosts, node: u32) -> Path
+        requires well_formed { IsWellFormed costs.now.model.now }
+        requires vehicle { costs.now.vehicle < length costs.now.model.now.vehicles }
+        requires at { self.at < costs.now.model.now.nodes }
+        requires node { node < costs.now.model.now.nodes }
         requires cost { IsUpTo 8008 self.cost }
         requires visits { self.visits ≤ 8000 }
         ensures at { result.at ≡ node }
-        ensures cost { result.cost ≡ self.cost +ℤ arc_cost model.now v self.at node }
+        ensures cost { result.cost ≡ self.cost +ℤ arc_cost costs.now.model.now costs.now.vehicle self.at node }
         ensures visits { result.visits ≡ self.visits + 1 }
     {
         Path {
             at: node,
-            cost: self.cost + model.arc_cost(v, self.at, node),
+            cost: self.cost + costs.cost(self.at, node),
             visits: self.visits + 1,
         }
     }
 
     // The path goes on along a chain, of which its ends, the costs of its arcs and how many nodes it has are known.
     #[inline]
-    fn along_chain(
-        self,
-        model: &Model,
-        v: u32,
-        first: u32,
-        last: u32,
-        inner: i64,
-        nodes: u32,
-    ) -> Path
-        requires well_formed { IsWellFormed model.now }
-        requires vehicle { v < length model.now.vehicles }
-        requires at { self.at < model.now.nodes }
-        requires first { first < model.now.nodes }
+    fn along_chain(self, costs: &ArcCosts, first: u32, last: u32, inner: i64, nodes: u32) -> Path
+        requires well_formed { IsWellFormed costs.now.model.now }
+        requires vehicle { costs.now.vehicle < length costs.now.model.now.vehicles }
+        requires at { self.at < costs.now.model.now.nodes }
+        requires first { first < costs.now.model.now.nodes }
         requires cost { IsUpTo 8008 self.cost }
         requires inner { IsUpTo 1000 inner }
         requires visits { self.visits ≤ 8000 }
         requires few { nodes ≤ 1000 }
         ensures at { result.at ≡ last }
-        ensures cost { result.cost ≡ self.cost +ℤ (arc_cost model.now v self.at first +ℤ inner) }
+        ensures cost { result.cost
+            ≡ self.cost +ℤ (arc_cost costs.now.model.now costs.now.vehicle self.at first +ℤ inner) }
         ensures visits { result.visits ≡ self.visits + nodes }
     {
         Path {
             at: last,
-            cost: self.cost + (model.arc_cost(v, self.at, first) + inner),
+            cost: self.cost + (costs.cost(self.at, first) + inner),
             visits: self.visits + nodes,
         }
     }

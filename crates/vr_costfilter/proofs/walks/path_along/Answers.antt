@@ -15,22 +15,22 @@ abbrev first_piece : Piece
 first_piece = Chain 0 0 0 false
 
 pub along-path-requires-clause-nodes : goal.along-path-requires-clause-nodes
-along-path-requires-clause-nodes c = all-at (λ node. node < c.args.model.now.nodes) c.args.routes.now.lists c.args.pieces.now c.loop-k.k first_piece c.loop-k-test.true c.requires.nodes
+along-path-requires-clause-nodes c = all-at (λ node. node < c.args.costs.now.model.now.nodes) c.args.routes.now.lists c.args.pieces.now c.loop-k.k first_piece c.loop-k-test.true c.requires.nodes
 
 pub along-path-requires-clause-at : goal.along-path-requires-clause-at
 along-path-requires-clause-at c =
-    let Below : ℕ → Type 0 = λ node. node < c.args.model.now.nodes in
+    let Below : ℕ → Type 0 = λ node. node < c.args.costs.now.model.now.nodes in
     let nodes : List ℕ = joined c.args.routes.now.lists (take c.loop-k.k c.args.pieces.now) in
     let all : All Below nodes = all-so-far Below c.args.routes.now.lists c.args.pieces.now c.loop-k.k c.requires.nodes in
     subst Below (sym c.loop-k.invariant.at) (last-below Below c.args.at nodes c.requires.at all)
 
 pub along-path-requires-clause-cost : goal.along-path-requires-clause-cost
 along-path-requires-clause-cost c =
-    let Below : ℕ → Type 0 = λ node. node < c.args.model.now.nodes in
+    let Below : ℕ → Type 0 = λ node. node < c.args.costs.now.model.now.nodes in
     let nodes : List ℕ = joined c.args.routes.now.lists (take c.loop-k.k c.args.pieces.now) in
     let all : All Below nodes = all-so-far Below c.args.routes.now.lists c.args.pieces.now c.loop-k.k c.requires.nodes in
     let few : length nodes ≤ 8000 = (let a = c.loop-k.invariant.visits in let b = c.loop-k.invariant.few in let k = c.loop-k.auto.k-end in let m = c.requires.few in omega (arith, a, b, k, m)) in
-    let u = path-up c.args.model.now c.requires.well_formed c.args.v c.requires.vehicle c.args.at c.requires.at nodes all few in
+    let u = path-up c.args.costs.now.model.now c.requires.well_formed c.args.costs.now.vehicle c.requires.vehicle c.args.at c.requires.at nodes all few in
     let i = c.loop-k.invariant in
     record { low = omega (arith, ints, u.low, i.cost); high = omega (arith, ints, u.high, i.cost) }
 
@@ -39,7 +39,7 @@ loop-k-preserved c =
     let lists : List (List ℕ) = c.args.routes.now.lists in
     let pieces = c.args.pieces.now in
     let k = c.loop-k.k in
-    let cost = arc_cost c.args.model.now c.args.v in
+    let cost = arc_cost c.args.costs.now.model.now c.args.costs.now.vehicle in
     let start = c.args.at in
     let before : List ℕ = joined lists (take k pieces) in
     let piece : List ℕ = nodes_of lists (slice_index_or pieces k first_piece) in
@@ -60,7 +60,7 @@ pub returns-clause-at : goal.returns-clause-at
 returns-clause-at c = c.loop-k.invariant.at ∙ ap (λ ps. last_of c.args.at (joined c.args.routes.now.lists ps)) (take_all c.loop-k.k c.args.pieces.now c.loop-k-test.false)
 
 pub returns-clause-cost : goal.returns-clause-cost
-returns-clause-cost c = c.loop-k.invariant.cost ∙ ap (λ ps. path_sum (arc_cost c.args.model.now c.args.v) c.args.at (joined c.args.routes.now.lists ps)) (take_all c.loop-k.k c.args.pieces.now c.loop-k-test.false)
+returns-clause-cost c = c.loop-k.invariant.cost ∙ ap (λ ps. path_sum (arc_cost c.args.costs.now.model.now c.args.costs.now.vehicle) c.args.at (joined c.args.routes.now.lists ps)) (take_all c.loop-k.k c.args.pieces.now c.loop-k-test.false)
 
 pub returns-clause-visits : goal.returns-clause-visits
 returns-clause-visits c = c.loop-k.invariant.visits ∙ ap (λ ps. length (joined c.args.routes.now.lists ps)) (take_all c.loop-k.k c.args.pieces.now c.loop-k-test.false)
@@ -70,7 +70,7 @@ returns-clause-few c = let b = c.loop-k.invariant.few in let k = c.loop-k.auto.k
 
 pub returns-clause-known : goal.returns-clause-known
 returns-clause-known c =
-    let Below : ℕ → Type 0 = λ node. node < c.args.model.now.nodes in
+    let Below : ℕ → Type 0 = λ node. node < c.args.costs.now.model.now.nodes in
     subst Below (sym (returns-clause-at c)) (last-below Below c.args.at (joined c.args.routes.now.lists c.args.pieces.now) c.requires.at c.requires.nodes)
 
 pub returns-clause-range : goal.returns-clause-range
@@ -78,4 +78,4 @@ returns-clause-range c =
     let visits = returns-clause-visits c in
     let few = returns-clause-few c in
     let nodes : List ℕ = joined c.args.routes.now.lists c.args.pieces.now in
-    subst (IsUpTo 8000) (sym (returns-clause-cost c)) (path-up c.args.model.now c.requires.well_formed c.args.v c.requires.vehicle c.args.at c.requires.at nodes c.requires.nodes (omega (arith, visits, few)))
+    subst (IsUpTo 8000) (sym (returns-clause-cost c)) (path-up c.args.costs.now.model.now c.requires.well_formed c.args.costs.now.vehicle c.requires.vehicle c.args.at c.requires.at nodes c.requires.nodes (omega (arith, visits, few)))

@@ -7,7 +7,7 @@ use Rattle.vr_costfilter.proofs.walks.path_along.Given as goal
 abbrev pub invariant-loop-k : goal.invariant-loop-k
 invariant-loop-k l = record {
   at : l.path.at ≡ last_of l.at (joined l.routes.lists (take l.k l.pieces));
-  cost : l.path.cost ≡ path_sum (arc_cost l.model l.v) l.at (joined l.routes.lists (take l.k l.pieces));
+  cost : l.path.cost ≡ path_sum (arc_cost l.costs.model.now l.costs.vehicle) l.at (joined l.routes.lists (take l.k l.pieces));
   visits : l.path.visits ≡ length (joined l.routes.lists (take l.k l.pieces));
   few : l.path.visits ≤ 1000 * l.k;
 }

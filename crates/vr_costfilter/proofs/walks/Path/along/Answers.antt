@@ -12,7 +12,7 @@ use Rattle.vr_costfilter.proofs.walks.Path.along.Goals as goal
 pub returns-else-from-to-clause-cost : goal.returns-else-from-to-clause-cost
 returns-else-from-to-clause-cost c =
     let lists : List (List ℕ) = c.args.routes.now.lists in
-    let cost = arc_cost c.args.model.now c.args.v in
+    let cost = arc_cost c.args.costs.now.model.now c.args.costs.now.vehicle in
     let at = c.args.self.at in
     let p = c.in-Chain in
     let w = subst (IsWithin lists) p.is c.requires.within in
