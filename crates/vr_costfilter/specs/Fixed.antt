@@ -16,7 +16,7 @@ pub record KeptFixed : Type 0 where
   pub model : Model
   pub pays : Bool
 
--- these are valid lists of the model, and some vehicle has a fixed cost that is not 0 unless it is said that none pays
+-- these are valid lists of the model, and where it is said that none pays, each vehicle has a fixed cost of 0
 pub record StandsFixed (kept : KeptFixed) (tours : Tours) : Type 0 where
   pub well_formed : IsWellFormed kept.model
   pub of_model : tours.visits ≡ visits kept.model

@@ -43,8 +43,8 @@ AreFew saved = (node : ℕ) → IsUpTo 1 (number_at saved node)
 abbrev pub saved_in : List ℤ → List (List ℕ) → List Piece → ℤ
 saved_in saved lists pieces = total_by (λ piece. total_by (number_at saved) (nodes_of lists piece)) pieces
 
--- these are valid lists of the model, each node has what it saves, and some group has a penalty that is not 0 unless it
--- is said that none pays
+-- these are valid lists of the model, each node has what it saves, and where it is said that none pays, each group has
+-- a penalty of 0 or none
 pub record StandsGroups (kept : KeptGroups) (tours : Tours) : Type 0 where
   pub well_formed : IsWellFormed kept.model
   pub of_model : tours.visits ≡ visits kept.model

@@ -24,7 +24,7 @@ use vr_routes::{Change, Piece, Routes};
 #[derive(Drop)]
 pub struct FixedCost<'m> {
     model: &'m RoutingModel,
-    // whether some vehicle has a fixed cost that is not 0
+    // where this is false, each vehicle has a fixed cost of 0
     pays: bool,
 }
 

@@ -214,8 +214,8 @@ const RUNS: &str = r#"{"format":1,"nodes":4,
 "nodes":[{"node":1,"window":[10,20]},{"node":2,"window":[20,30]},{"node":3,"window":[30,35]}]}],
 "groups":[{"nodes":[1,2,3],"penalty":1,"max":3}]}"#;
 
-// The first vehicle is late, in a list that turns round and at its end. Of the second, a walk without its break does not
-// tell of the first list, refuses the next one, and lets the last one pass.
+// The first vehicle is late, in a list that turns round and at its end. Of the second, a walk without its break does
+// not tell of the first list, refuses the next one, and lets the last one pass.
 const ONE_RUN_EACH: &[(Move, bool)] = &[
     (Move::MakeActive { u: 1, w: 0, t: 0 }, true),
     (Move::MakeActive { u: 3, w: 0, t: 1 }, true),

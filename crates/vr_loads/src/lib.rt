@@ -1,5 +1,5 @@
 //! Dimensions that are loads: whether a vehicle can carry what it takes along a list is told by sums that are kept of
-//! the committed lists, with one subtraction for each piece of a change.
+//! the committed lists, with one subtraction for each piece of a change that is of a vehicle with the same evaluator.
 #![tactic(auto)]
 
 mod kind;

@@ -56,7 +56,7 @@ impl Carried {
 }
 
 /// What is kept of the lists of all vehicles in a dimension that is a load: sums of what they take. With them a change
-/// is judged in a time that does not depend on how long the lists are.
+/// is judged in a time that does not depend on how long the lists are, where the vehicles have the same evaluator.
 #[derive(Drop)]
 pub struct Loads {
     vehicles: Vec<Carried>,

@@ -33,9 +33,9 @@ use vr_walks::{Stops, no_line, passes_along, write_rows};
 
 /// Lets a change pass where the line of each used vehicle in one dimension has a schedule afterwards (the path cumul
 /// filter of a `RoutingDimension` in OR-Tools). Of a load it keeps sums of the committed lists, and judges a change by
-/// them in a time that does not depend on how long the lists are. Of another dimension it keeps the rows of the
-/// committed lists, and walks only through what a change changes: `passes` takes memory only where a set has more than
-/// four runs, or where there are breaks.
+/// them in a time that does not depend on how long the lists are, where the vehicles have the same evaluator. Of any
+/// other dimension it keeps the rows of the committed lists, and walks only through what a change changes: `passes`
+/// takes memory only where a set has more than four runs, or where there are breaks.
 #[derive(Drop)]
 pub struct DimensionFilter<'m> {
     model: &'m Model,
