@@ -4,7 +4,7 @@ ghost use Rattle.std.specs.Prelude.{◌≡◌, suc, ◌<◌, ◌≤◌, ◌+◌,
 ghost use Rattle.std.specs.List.{list_all};
 ghost use Rattle.std.specs.Option.{option_copied};
 ghost use Rattle.vr_model.specs.tables.Numbers.{horizon, number_at};
-ghost use Rattle.vr_model.specs.tables.Tables.{is_visit};
+ghost use Rattle.vr_model.specs.tables.Tables.{dimension_at, is_visit};
 ghost use Rattle.vr_model.specs.routes.Routes.{is_distinct};
 ghost use Rattle.vr_model.specs.routes.Costs.{row_cost};
 ghost use Rattle.vr_model.specs.tables.WellFormed.{IsWellFormed, IsStopRow, IsIn, WherePresent};
@@ -19,7 +19,7 @@ use std::alloc::Global;
 use vr_model::{Dimension, Model, NoMemory, Seq, StopRow};
 use vr_plan::Chooser;
 use vr_steps::{Breaks, Line};
-use vr_walks::write_line;
+use vr_walks::{Cumuls, write_earliest, write_line};
 
 /// What the soft upper bounds of a list cost at its chosen schedule, and the cumuls of its start and end.
 #[derive(Clone, Copy)]
@@ -36,6 +36,7 @@ pub struct Timing {
 #[derive(Drop)]
 pub struct Timer {
     alloc: Global,
+    early: Cumuls,
     line: Line,
     chooser: Chooser,
 }
@@ -45,6 +46,7 @@ impl Timer {
     pub fn new(alloc: Global) -> Timer {
         Timer {
             alloc,
+            early: Cumuls::new(),
             line: Line {
                 allowed: Seq::new(alloc),
                 hops: Seq::new(alloc),
@@ -78,6 +80,9 @@ pub fn timing_of(
     ensures timing { IfOk result (IsTiming model.now d v list.now) }
     ensures range { IfOk result (IsTimingOf (length list.now + 2)) }
 {
+    if write_earliest(model, d, v, &table.stops, list, &mut timer.early) {
+        return Ok(timing_at(model, table, d, v, list, timer.early.as_slice()));
+    }
     write_line(model, d, v, &table.stops, list, &mut timer.line)?;
     if !timer.chooser.choose(timer.alloc, &timer.line)? {
         return Ok(Timing {
@@ -86,13 +91,29 @@ pub fn timing_of(
             last: 0,
         });
     }
+    Ok(timing_at(model, table, d, v, list, timer.chooser.cumuls()))
+}
+
+// What a list comes to with these cumuls in dimension `d`.
+fn timing_at(model: &Model, table: &Table, d: u32, v: u32, list: &[u32], cumuls: &[i64]) -> Timing
+    requires well_formed { IsWellFormed model.now }
+    requires dimension { d < length model.now.dimensions }
+    requires visits { IsTrue (list_all (is_visit model.now) list.now) }
+    requires few { length list.now ≤ 1000 }
+    requires table { IsTable model.now d table.now }
+    requires stops { length cumuls.now ≡ suc (suc (length list.now)) }
+    requires cumuls { All (IsIn (pos 0) horizon) cumuls.now }
+    ensures soft { result.soft ≡ soft_of (dimension_at model.now d) v list.now cumuls.now }
+    ensures start { result.start ≡ number_at cumuls.now 0 }
+    ensures last { result.last ≡ number_at cumuls.now (suc (length list.now)) }
+    ensures range { IsTimingOf (length list.now + 2) result }
+{
     let dimension = model.dimensions.get(d as usize);
-    let cumuls = timer.chooser.cumuls();
-    Ok(Timing {
+    Timing {
         soft: soft_cost(dimension, &table.rows, v, list, cumuls),
         start: cumuls[0],
         last: cumuls[list.len() + 1],
-    })
+    }
 }
 
 // What cumuls cost by the soft upper bounds of the stops.

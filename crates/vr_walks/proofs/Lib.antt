@@ -8,4 +8,5 @@ pub mod StandingLemmas
 pub mod Splicing
 pub mod RunLemmas
 pub mod SingleLemmas
+pub mod EarlyLemmas
 pub mod ProbeLemmas

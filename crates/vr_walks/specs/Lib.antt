@@ -8,3 +8,4 @@ pub mod Stops
 pub mod Stretches
 pub mod KnownRows
 pub mod Standing
+pub mod Early

@@ -2,6 +2,7 @@
 //! walks through what differs from a list whose rows are known.
 #![tactic(auto)]
 
+mod early;
 mod ends;
 mod lines;
 mod probing;
@@ -14,6 +15,7 @@ mod stretches;
 mod visits;
 mod walking;
 
+pub use early::{Cumuls, write_earliest};
 pub use lines::{no_line, write_line, write_rows};
 pub use standing::{go_on, goes_between, goes_from, is_stuck, leave_rows};
 pub use stops::Stops;

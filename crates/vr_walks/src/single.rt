@@ -215,7 +215,7 @@ pub(crate) fn carry_run<L: Ledger>(
 
 // The stop behind the arc from stop `k` of vehicle `v` with a list.
 #[inline]
-fn stop_ahead(
+pub(crate) fn stop_ahead(
     model: &Model,
     d: u32,
     v: u32,
@@ -287,7 +287,7 @@ fn cross_by_run(
 
 // The greatest slack of dimension `d`.
 #[inline]
-fn slack_of(model: &Model, d: u32) -> i64
+pub(crate) fn slack_of(model: &Model, d: u32) -> i64
     requires well_formed { IsWellFormed model.now }
     requires dimension { d < length model.now.dimensions }
     ensures value { result ≡ (dimension_at model.now d).slack_max }
@@ -298,7 +298,7 @@ fn slack_of(model: &Model, d: u32) -> i64
 
 // The transit of vehicle `v` from one node to another, by its evaluator.
 #[inline]
-fn transit_between(
+pub(crate) fn transit_between(
     model: &Model,
     d: u32,
     v: u32,

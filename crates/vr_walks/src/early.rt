@@ -1,0 +1,146 @@
+//! The earliest cumuls along a list: where each stop allows one run and there are no breaks, they are chosen.
+
+ghost use Rattle.std.specs.Prelude.{◌≡◌, ◌+◌, ◌<◌, ◌≤◌, ◌≤ℤ◌, ◌^◌, suc, All, IfSome, IsTrue, [], length, neg_ℤ, pos};
+ghost use Rattle.vr_model.specs.schedules.Lines.{line};
+ghost use Rattle.vr_model.specs.tables.Numbers.{horizon};
+ghost use Rattle.vr_model.specs.tables.Tables.{breaks_of, dimension_at};
+ghost use Rattle.vr_model.specs.tables.WellFormed.{IsIn, IsWellFormed};
+ghost use Rattle.vr_steps.specs.Stops.{allowed_by};
+ghost use Rattle.vr_steps.specs.declared.stops.StopName.TheVariants.{Start};
+ghost use Rattle.vr_walks.specs.Early.{AreChosen, AreEarly, IsEarliestBehind};
+ghost use Rattle.vr_walks.specs.Lists.{IsUsed};
+ghost use Rattle.vr_walks.specs.Stops.{AreStops};
+ghost use Rattle.vr_walks.specs.VisitRuns.{AreVisitRuns, HasCumulEnds, IsFinish, IsRunFor};
+
+use crate::runs::run_of;
+use crate::single::{Ahead, finish_of, slack_of, stop_ahead, transit_between};
+use crate::spliced::Spliced;
+use crate::stops::{Stops, node_at};
+use arrayvec::ArrayVec;
+use vr_model::{Model, laws};
+use vr_spans::Run;
+
+/// The cumuls of the stops of one list.
+pub type Cumuls = ArrayVec<i64, 1002>;
+
+// The run of cumuls that each stop of a vehicle allows.
+#[derive(Drop)]
+struct StopRuns<'a> {
+    start: Run,
+    visits: &'a [Run],
+    finish: Ahead,
+}
+
+// The run of cumuls that each stop of vehicle `v` allows, nothing where it has breaks or some stop allows more than one.
+fn single_runs<'a>(model: &Model, d: u32, v: u32, stops: &'a Stops) -> Option<StopRuns<'a>>
+    requires vehicle { v < length model.now.vehicles }
+    requires stops { AreStops model.now d stops.now }
+    ensures no_breaks { IfSome result (λ runs. breaks_of (dimension_at model.now d) v ≡ []) }
+    ensures start { IfSome result (λ runs. IsRunFor (allowed_by model.now d v Start) runs.start) }
+    ensures visits { IfSome result (λ runs. AreVisitRuns model.now d v runs.visits.now) }
+    ensures finish { IfSome result (λ runs. IsFinish model.now d v runs.finish) }
+{
+    let ends = &stops.ends[v as usize];
+    if !ends.breaks.rows.is_empty() {
+        return None;
+    }
+    let start = run_of(&ends.start_set)?;
+    let finish = finish_of(model, d, v, ends)?;
+    let visits = stops.runs_of(model, d, v)?;
+    Some(StopRuns {
+        start,
+        visits,
+        finish,
+    })
+}
+
+/// Writes the cumuls of the chosen schedule of a list over others, where they are found stop by stop, each the least
+/// that the one before leaves: where the vehicle has no breaks, no stop allows more than one run of cumuls, and no
+/// slack would be too great. False where they are not found so, also where there is no schedule.
+pub fn write_earliest(
+    model: &Model,
+    d: u32,
+    v: u32,
+    stops: &Stops,
+    list: &[u32],
+    cumuls: &mut Cumuls,
+) -> bool
+    requires well_formed { IsWellFormed model.now }
+    requires dimension { d < length model.now.dimensions }
+    requires vehicle { v < length model.now.vehicles }
+    requires stops { AreStops model.now d stops.now }
+    requires used { IsUsed model.now list.now }
+    requires few { length list.now ≤ 1000 }
+    ensures chosen { IsTrue result → AreChosen (line model.now d v list.now) cumuls.new.items }
+    ensures stops { IsTrue result → length cumuls.new.items ≡ suc (suc (length list.now)) }
+    ensures range { IsTrue result → All (IsIn (pos 0) horizon) cumuls.new.items }
+{
+    laws::chosen_is_least();
+    laws::lines_are_sound();
+    match single_runs(model, d, v, stops) {
+        Some(runs) => {
+            if runs.start.lo > runs.start.hi {
+                return false;
+            }
+            drive(model, d, v, &runs, list, cumuls)
+        }
+        None => false,
+    }
+}
+
+// Writes the earliest cumuls of all stops, where each can be had from the one before.
+fn drive(model: &Model, d: u32, v: u32, runs: &StopRuns, list: &[u32], cumuls: &mut Cumuls) -> bool
+    requires well_formed { IsWellFormed model.now }
+    requires dimension { d < length model.now.dimensions }
+    requires vehicle { v < length model.now.vehicles }
+    requires used { IsUsed model.now list.now }
+    requires few { length list.now ≤ 1000 }
+    requires start { IsRunFor (allowed_by model.now d v Start) runs.now.start }
+    requires some { runs.now.start.lo ≤ℤ runs.now.start.hi }
+    requires visits { AreVisitRuns model.now d v runs.now.visits.now }
+    requires finish { IsFinish model.now d v runs.now.finish }
+    ensures { IsTrue result → AreEarly (line model.now d v list.now) (length list.now + 1) cumuls.new.items }
+{
+    laws::lines_are_sound();
+    let evaluator = model.dimensions.get(d as usize).evaluator_of(v);
+    let slack = slack_of(model, d);
+    let whole = Spliced::whole(list);
+    let mut origin = node_at(model, v, &whole, 0);
+    let mut cumul = runs.start.lo;
+    cumuls.clear();
+    cumuls.push(cumul);
+    for k in 0..list.len() + 1 {
+        let ahead = stop_ahead(model, d, v, runs.visits, runs.finish, &whole, k);
+        let transit = transit_between(model, d, v, evaluator, origin, ahead.node);
+        match earliest_behind(cumul, transit, slack, ahead.allowed) {
+            Some(next) => cumul = next,
+            None => return false,
+        }
+        cumuls.push(cumul);
+        origin = ahead.node;
+    }
+    true
+}
+
+// The least cumul of a stop behind an arc from a cumul, nothing where the stop allows none that is reached, or where the
+// slack would be too great.
+#[inline]
+fn earliest_behind(cumul: i64, transit: i64, slack: i64, allowed: Run) -> Option<i64>
+    requires cumul { IsIn (pos 0) horizon cumul }
+    requires least { neg_ℤ (pos (2 ^ 31)) ≤ℤ transit }
+    requires greatest { transit ≤ℤ pos (2 ^ 31) }
+    requires slack { IsIn (pos 0) horizon slack }
+    requires allowed { HasCumulEnds allowed }
+    ensures exact { IfSome result (IsEarliestBehind cumul transit slack allowed) }
+    ensures range { IfSome result (IsIn (pos 0) horizon) }
+{
+    let reached = cumul + transit;
+    let next = reached.max(allowed.lo);
+    if next > allowed.hi {
+        return None;
+    }
+    if next - reached > slack {
+        return None;
+    }
+    Some(next)
+}
