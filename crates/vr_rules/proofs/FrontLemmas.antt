@@ -10,7 +10,8 @@ use Rattle.std.proofs.lemmas.List.Folds.{list_all-append}
 use Rattle.vr_model.specs.tables.Tables.{is_visit}
 use Rattle.vr_model.specs.deciding.Testing.{and_both, and_left, and_right}
 use Rattle.vr_model.proofs.routes.Lists.{visit_below}
-use Rattle.std.proofs.lemmas.List.{append-nil, get_or-set_other, get_or-set_same, length-append, length-map, length-set}
+use Rattle.vr_model.proofs.schedules.LineArcs.{arcs_of_line}
+use Rattle.std.proofs.lemmas.List.{append-nil, get_or-set_other, get_or-set_same, length-append, length-set}
 use Rattle.vr_spans.specs.declared.runs.Run.{Run}
 use Rattle.vr_model.specs.tables.Tables.{breaks_of, dimension_at, vehicle_at, row_of}
 use Rattle.vr_model.specs.tables.Numbers.{number_at}
@@ -104,10 +105,6 @@ pub item_last : (origin : ℕ) (list : List ℕ) (item : Item) → last_node (no
 item_last origin list (Visited n) = sym (last_behind origin list (n ∷ []))
 item_last origin list (PickupAndDelivery p d) = sym (last_behind origin list (p ∷ d ∷ []))
 
-length_arcs : (v origin : ℕ) (nodes : List ℕ) → length (arcs_from v origin nodes) ≡ length nodes
-length_arcs v origin [] = refl
-length_arcs v origin (n ∷ ns) = ap suc (length_arcs v n ns)
-
 -- the arc behind a list
 arc_behind : (f : UsedArc → Arc) (v origin : ℕ) (list : List ℕ) (node : ℕ) (rest : List ℕ) (d : Arc)
     → get_or (map f (arcs_from v origin (list ++ node ∷ rest))) (length list) d ≡ f (record { vehicle = v; origin = last_of origin list; target = node })
@@ -124,15 +121,6 @@ end_behind : {B : Type 0} (f : ℕ → B) (list : List ℕ) (last d : B) → get
 end_behind f [] last d = refl
 end_behind f (n ∷ ns) last d = end_behind f ns last d
 
--- the number of arcs of a line
-pub number_of_arcs : (model : Model) (d v : ℕ) (list : List ℕ) → length (line model d v list).arcs ≡ suc (length list)
-number_of_arcs model d v list =
-    let ends : List ℕ = (vehicle_at model v).end ∷ [] in
-    let first = length-map (arcs_from v (vehicle_at model v).start (list ++ ends)) (line_arc model d v) in
-    let second = length_arcs v (vehicle_at model v).start (list ++ ends) in
-    let third = length-append list ends in
-    omega (arith, first, second, third)
-
 module _ (lines : LinesAreSound) (model : Model) (well_formed : IsWellFormed model) (d v : ℕ) (low_d : d < length model.dimensions) (low_v : v < length model.vehicles) where
   pub sound_line : (list : List ℕ) → IsDriven model list → IsSound (line model d v list)
   sound_line list driven = lines model well_formed d v low_d low_v list driven.some driven.visits driven.distinct
@@ -146,7 +134,7 @@ module _ (lines : LinesAreSound) (model : Model) (well_formed : IsWellFormed mod
     in_line : (whole : List ℕ) → IsDriven model whole → AreReached (line model d v whole) (length list) from → length list < suc (length whole)
         → hop ≡ hop_at (line model d v whole) (length list) → IsAllowedSet (line model d v whole) (suc (length list)) set → AreReached (line model d v whole) (suc (length list)) new
     in_line whole driven before few hop_is allowed =
-        law (line model d v whole) (sound_line whole driven) (length list) (let n = number_of_arcs model d v whole in omega (arith, few, n)) set from new allowed before
+        law (line model d v whole) (sound_line whole driven) (length list) (let n = arcs_of_line model d v whole in omega (arith, few, n)) set from new allowed before
         (subst (λ h. AreCrossed from h set (breaks_of (dimension_at model d) v) new) hop_is (subst (λ rows. AreCrossed from hop set rows new) breaks_are crossed))
 
     -- one visit more
@@ -185,7 +173,7 @@ module _ (lines : LinesAreSound) (model : Model) (well_formed : IsWellFormed mod
     at_end hop_is is driven = record {
       sound = sound_line list driven;
       breaks_are = sym breaks_are;
-      reached = subst (λ k. AreReached (line model d v list) k new) (sym (number_of_arcs model d v list))
+      reached = subst (λ k. AreReached (line model d v list) k new) (sym (arcs_of_line model d v list))
           (in_line list driven (subst (λ whole. AreReached (line model d v whole) (length list) from) whole_is (reached [] (subst (IsDriven model) (sym whole_is) driven))) (omega arith)
           (hop_is ∙ ap (hop_of (dimension_at model d).slack_max) (sym arc)) (record { exact = λ x. is.exact x ∙ ap (λ f. f x) (sym stop); cumuls = is.cumuls }));
     }

@@ -3,9 +3,9 @@ use Rattle.std.proofs.Common.{◌≡◌, ℕ, zero, suc, ◌+◌, ◌-◌, ◌<�
 use Rattle.std.specs.Prelude.{IsTrue, ◌↔◌}
 use Rattle.std.specs.List.{list_all}
 use Rattle.std.proofs.lemmas.Bool.{and_parts}
+use Rattle.std.proofs.lemmas.List.{length-append}
 use Rattle.vr_spans.specs.declared.runs.Run.{Run}
 use Rattle.vr_model.specs.tables.Tables.{vehicle_at, dimension_at, breaks_of, is_visit}
-use Rattle.vr_model.specs.routes.Routes.{UsedArc, arcs_from}
 use Rattle.vr_model.specs.schedules.Lines.{Line, line, line_arc}
 use Rattle.vr_model.specs.schedules.Schedules.{IsFeasible, no_arc}
 use Rattle.vr_model.specs.schedules.Choices.{is_feasible}
@@ -14,6 +14,7 @@ use Rattle.vr_model.specs.schedules.ChosenLaws.{ChosenWhereFeasible}
 use Rattle.vr_model.specs.tables.WellFormed.{IsWellFormed}
 use Rattle.vr_model.specs.declared.records.Model.{Model}
 use Rattle.vr_model.specs.declared.records.BreakRow.{BreakRow}
+use Rattle.vr_model.proofs.schedules.LineArcs.{arc_through, arcs_of_line}
 use Rattle.vr_steps.specs.declared.hops.Hop.{Hop}
 use Rattle.vr_steps.specs.Lines.{hop_of}
 use Rattle.vr_steps.specs.declared.stops.StopName.TheVariants.{Start, End}
@@ -25,30 +26,13 @@ use Rattle.vr_walks.specs.Lists.{IsTour, IsUsed, node_at_stop}
 use Rattle.vr_walks.specs.VisitRuns.{AreVisitRuns, IsAllowedRun, IsRunFor}
 use Rattle.vr_walks.specs.VisitSets.{AreVisitSets}
 
-arc_of_target : {B : Type 0} (f : UsedArc → B) (v node : ℕ) (ts : List ℕ) (k : ℕ) (none : B) → k < length ts → get_or (map f (arcs_from v node ts)) k none ≡ f (record { vehicle = v; origin = get_or (node ∷ ts) k 0; target = get_or ts k 0 })
-arc_of_target f v node [] k none lt = absurd (omega (arith, lt))
-arc_of_target f v node (t ∷ ts) zero none lt = refl
-arc_of_target f v node (t ∷ ts) (suc k) none lt = arc_of_target f v t ts k none (omega (arith, lt))
-
-as_many_arcs : {B : Type 0} (f : UsedArc → B) (v node : ℕ) (ts : List ℕ) → length (map f (arcs_from v node ts)) ≡ length ts
-as_many_arcs f v node [] = refl
-as_many_arcs f v node (t ∷ ts) = ap suc (as_many_arcs f v t ts)
-
-one_behind : (list : List ℕ) (x : ℕ) → length (list ++ x ∷ []) ≡ suc (length list)
-one_behind [] x = refl
-one_behind (y ∷ ys) x = ap suc (one_behind ys x)
-
--- a line has one arc more than visits
-pub arcs_of_line : (model : Model) (d v : ℕ) (list : List ℕ) → length (line model d v list).arcs ≡ suc (length list)
-arcs_of_line model d v list = as_many_arcs (line_arc model d v) v (vehicle_at model v).start (list ++ (vehicle_at model v).end ∷ []) ∙ one_behind list (vehicle_at model v).end
-
 -- the arc from stop k leads between the nodes of two stops
 pub hop_between_stops : (model : Model) (d v : ℕ) (list : List ℕ) (k origin target : ℕ) (hop : Hop) → k ≤ length list → origin ≡ node_at_stop model v list k → target ≡ node_at_stop model v list (k + 1)
     → hop ≡ hop_of (dimension_at model d).slack_max (line_arc model d v (record { vehicle = v; origin = origin; target = target })) → hop ≡ hop_at (line model d v list) k
 hop_between_stops model d v list k origin target hop le from to is =
     let ts : List ℕ = list ++ (vehicle_at model v).end ∷ [] in
-    let low : k < length ts = (let n = one_behind list (vehicle_at model v).end in omega (arith, n, le)) in
-    let arc = arc_of_target (line_arc model d v) v (vehicle_at model v).start ts k no_arc low in
+    let low : k < length ts = (let n = length-append list ((vehicle_at model v).end ∷ []) in omega (arith, n, le)) in
+    let arc = arc_through (line_arc model d v) v (vehicle_at model v).start ts k no_arc low in
     let next : k + 1 ≡ suc k = omega arith in
     let to_ts : target ≡ get_or ts k 0 = to ∙ ap (node_at_stop model v list) next in
     is ∙ ap (hop_of (dimension_at model d).slack_max) (ap₂ (λ o t. line_arc model d v (record { vehicle = v; origin = o; target = t })) from to_ts ∙ sym arc)

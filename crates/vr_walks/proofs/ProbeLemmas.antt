@@ -1,12 +1,10 @@
 -- What walks without a break tell of a line that has some.
-use Rattle.std.proofs.Common.{ℕ, zero, suc, ◌+◌, ◌<◌, ◌≤◌, Bool, List, [], ◌∷◌, length, get_or, drop, ℤ, pos, neg_ℤ, ◌+ℤ◌, ◌≤ℤ◌, refl, sym, subst, inl, inr, arith}
+use Rattle.std.proofs.Common.{ℕ, zero, suc, ◌+◌, ◌<◌, ◌≤◌, Bool, List, [], ◌∷◌, length, get_or, drop, ℤ, pos, ◌+ℤ◌, ◌≤ℤ◌, refl, sym, subst, inl, inr, arith}
 use Rattle.std.specs.Prelude.{IsTrue}
-use Rattle.std.specs.Int.{int_max}
 use Rattle.std.proofs.lemmas.Bool.{or_cases, or_left, or_right}
-use Rattle.std.proofs.lemmas.Int.{ints, clamps}
 use Rattle.std.proofs.lemmas.List.{drop_all, drop_more}
 use Rattle.vr_spans.specs.declared.runs.Run.{Run}
-use Rattle.vr_spans.specs.Runs.{has, in_run, limit, IsNormal, IsNormalFrom, ShareANumber}
+use Rattle.vr_spans.specs.Runs.{has, in_run, IsNormalFrom, ShareANumber}
 use Rattle.vr_model.specs.schedules.Lines.{Arc, Line}
 use Rattle.vr_model.specs.schedules.Schedules.{Plan, Sides, KeepsRules, before_only, after_only, IsFeasible, IsReached, ReachesEnd}
 use Rattle.vr_model.specs.schedules.SoundLines.{IsSound}
@@ -66,26 +64,22 @@ run_first [] k d low x there = absurd (omega (arith, low))
 run_first (r ∷ rs) zero d low x there = or_left (in_run r x) (has rs x) there
 run_first (r ∷ rs) (suc k) d low x there = or_right (in_run r x) (has rs x) (run_first rs k d (omega (arith, low)) x there)
 
-in_order : (m : ℤ) (set : List Run) (k : ℕ) (d : Run) → IsNormalFrom m set → k < length set → (get_or set k d).lo ≤ℤ (get_or set k d).hi
+-- no run of a set in normal form is empty
+pub in_order : (m : ℤ) (set : List Run) (k : ℕ) (d : Run) → IsNormalFrom m set → k < length set → (get_or set k d).lo ≤ℤ (get_or set k d).hi
 in_order m [] k d normal low = absurd (omega (arith, low))
 in_order m (r ∷ rs) zero d normal low = normal.1
 in_order m (r ∷ rs) (suc k) d normal low = in_order (r.hi +ℤ pos 2) rs k d normal.3 (omega (arith, low))
 
--- a run that overlaps one of a set shares a number with it
-pub overlaps : (run : Run) (set : List Run) (k : ℕ) (d : Run) → IsNormal set → k < length set → run.lo ≤ℤ run.hi → run.lo ≤ℤ (get_or set k d).hi → (get_or set k d).lo ≤ℤ run.hi → ShareANumber (run ∷ []) set
-overlaps run set k d normal low some first second =
-    let other = get_or set k d in
-    let order = in_order (neg_ℤ limit) set k d normal low in
-    let x = int_max run.lo other.lo in
-    (x, in_alone run x (grind (arith, ints, clamps, some, second)), run_first set k d low x (grind (arith, ints, clamps, first, order)))
+-- what a run shares with one of a set, it shares with the set
+pub shared_with_one : (run : Run) (set : List Run) (k : ℕ) (d : Run) → k < length set → ShareANumber (run ∷ []) (get_or set k d ∷ []) → ShareANumber (run ∷ []) set
+shared_with_one run set k d low (x, first, second) = (x, first, run_first set k d low x (alone_in (get_or set k d) x second))
 
--- a run shares a number with what is left of a set, behind a run that it does not overlap
-pub shared_behind : (run : Run) (set : List Run) (k : ℕ) (d : Run) → k < length set → (run.lo ≤ℤ (get_or set k d).hi → (get_or set k d).lo ≤ℤ run.hi → ⊥) → ShareANumber (run ∷ []) (drop k set) → ShareANumber (run ∷ []) (drop (k + 1) set)
+-- a run shares a number with what is left of a set, behind a run with which it shares none
+pub shared_behind : (run : Run) (set : List Run) (k : ℕ) (d : Run) → k < length set → (ShareANumber (run ∷ []) (get_or set k d ∷ []) → ⊥) → ShareANumber (run ∷ []) (drop k set) → ShareANumber (run ∷ []) (drop (k + 1) set)
 shared_behind run set k d low apart (x, first, second) =
     let other = get_or set k d in
-    let there = alone_in run x first in
     let here = subst (λ rs. IsTrue (has rs x)) (drop_more set k d low) second in
     elim (or_cases (in_run other x) (has (drop (k + 1) set) x) here) [
-      | inl at ↦ absurd (apart (grind (arith, ints, there, at)) (grind (arith, ints, there, at)))
+      | inl at ↦ absurd (apart (x, first, in_alone other x at))
       | inr later ↦ (x, first, later)
     ]

@@ -20,6 +20,7 @@ use Rattle.vr_model.specs.schedules.Levels.{FeasibleWhereLevelsMeet, ReachedByCr
 use Rattle.vr_model.specs.schedules.Choices.{is_reached, reaches_end}
 use Rattle.vr_model.specs.schedules.ChosenLaws.{ReachedAsTested, EndReachedAsTested}
 use Rattle.vr_model.specs.schedules.Weights.{runs}
+use Rattle.vr_model.proofs.schedules.LineArcs.{arcs_of_line}
 use Rattle.vr_steps.specs.declared.hops.Hop.{Hop}
 use Rattle.vr_steps.specs.Arcs.{Leads, between}
 use Rattle.vr_steps.specs.Lines.{hop_of}
@@ -32,7 +33,7 @@ use Rattle.vr_walks.specs.Singles.{IsCumulRun, IsOnlyRun, IsReachedRun, IsReachi
 use Rattle.vr_walks.specs.VisitRuns.{HasCumulEnds, IsAllowedRun}
 use Rattle.vr_walks.specs.Lists.{IsUsed, node_at_stop}
 use Rattle.vr_walks.proofs.Counting.{first_arc, runs_of}
-use Rattle.vr_walks.proofs.LineParts.{arcs_of_line, hop_between_stops, sound_line}
+use Rattle.vr_walks.proofs.LineParts.{hop_between_stops, sound_line}
 
 -- a cumul that is reached is allowed
 reached_allowed : (line : Line) → IsSound line → (k b : ℕ) (x : ℤ) → k ≤ length line.arcs → IsReached line k b x → IsTrue (allows line k x)
@@ -213,18 +214,21 @@ none_shared run to less (x, first, second) = by (alone_in run x first)
     by : IsTrue (in_run run x) → ⊥
     by there = grind (arith, ints, less, there)
 
--- two runs share a number where the greater begin is no later than the lesser end
-pub share_where : (a b : Run) → IsTrue (int_le (int_max a.lo b.lo) (int_min a.hi b.hi)) ↔ ShareANumber (a ∷ []) (b ∷ [])
-share_where a b = (to, from)
-  where
-    to : IsTrue (int_le (int_max a.lo b.lo) (int_min a.hi b.hi)) → ShareANumber (a ∷ []) (b ∷ [])
-    to t = (int_max a.lo b.lo, in_alone a (int_max a.lo b.lo) (grind (arith, ints, clamps, t)), in_alone b (int_max a.lo b.lo) (grind (arith, ints, clamps, t)))
+-- two runs of a number each share one where neither begins behind the end of the other
+pub overlap : (a b : Run) → a.lo ≤ℤ a.hi → b.lo ≤ℤ b.hi → a.lo ≤ℤ b.hi → b.lo ≤ℤ a.hi → ShareANumber (a ∷ []) (b ∷ [])
+overlap a b some some_too first second =
+    (int_max a.lo b.lo, in_alone a (int_max a.lo b.lo) (grind (arith, ints, clamps, some, second)), in_alone b (int_max a.lo b.lo) (grind (arith, ints, clamps, some_too, first)))
 
-    from : ShareANumber (a ∷ []) (b ∷ []) → IsTrue (int_le (int_max a.lo b.lo) (int_min a.hi b.hi))
-    from (x, first, second) = by (alone_in a x first) (alone_in b x second)
-      where
-        by : IsTrue (in_run a x) → IsTrue (in_run b x) → IsTrue (int_le (int_max a.lo b.lo) (int_min a.hi b.hi))
-        by h k = grind (arith, ints, clamps, h, k)
+-- then the first begins no later than the other ends
+pub begins_within : (a b : Run) → ShareANumber (a ∷ []) (b ∷ []) → a.lo ≤ℤ b.hi
+begins_within a b (x, first, second) = by (alone_in a x first) (alone_in b x second)
+  where
+    by : IsTrue (in_run a x) → IsTrue (in_run b x) → a.lo ≤ℤ b.hi
+    by h k = grind (arith, ints, h, k)
+
+-- the same, the other way round
+pub turned : (a b : Run) → ShareANumber (a ∷ []) (b ∷ []) → ShareANumber (b ∷ []) (a ∷ [])
+turned a b (x, first, second) = (x, second, first)
 
 -- the run of a level is what is reached with as many breaks
 pub run_reached : (L : Line) (k b : ℕ) (levels : List (List Run)) (run : Run) → b ≤ length L.breaks → AreReached L k levels → IsOnlyRun (level_at levels b) run → IsReachedRun L k b run

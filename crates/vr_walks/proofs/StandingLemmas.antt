@@ -11,10 +11,11 @@ use Rattle.vr_model.specs.schedules.ChosenLaws.{ChosenWhereFeasible}
 use Rattle.vr_model.specs.schedules.SoundLines.{LinesAreSound}
 use Rattle.vr_model.specs.declared.records.Model.{Model}
 use Rattle.vr_model.proofs.tables.Tests.{clash, fails}
+use Rattle.vr_model.proofs.schedules.LineArcs.{arcs_of_line}
 use Rattle.vr_steps.specs.Levels.{level_at}
 use Rattle.vr_walks.specs.Standing.{IsReachedAt, IsStuck, ReachesNoEnd}
 use Rattle.vr_walks.specs.Stretches.{SharesFront}
-use Rattle.vr_walks.proofs.LineParts.{arcs_of_line, sound_line}
+use Rattle.vr_walks.proofs.LineParts.{sound_line}
 use Rattle.vr_walks.proofs.Transfer.{reached_too}
 
 -- a list that shares the nodes up to a stop reaches the same there

@@ -1,11 +1,10 @@
 //! Walks without a break, which often tell whether a list of a vehicle with breaks is feasible.
 
-ghost use Rattle.std.specs.Prelude.{◌≡◌, ◌<◌, ◌≤◌, ◌↔◌, suc, All, IfSome, IsTrue, length, [], ◌∷◌};
+ghost use Rattle.std.specs.Prelude.{◌≡◌, ◌<◌, ◌≤◌, suc, IfSome, IsTrue, length};
 ghost use Rattle.vr_model.specs.schedules.Choices.{is_feasible};
 ghost use Rattle.vr_model.specs.schedules.Lines.{line};
 ghost use Rattle.vr_model.specs.schedules.Schedules.{IsFeasible};
 ghost use Rattle.vr_model.specs.tables.WellFormed.{IsWellFormed};
-ghost use Rattle.vr_spans.specs.Runs.{ShareANumber};
 ghost use Rattle.vr_steps.specs.Levels.{AreLevels};
 ghost use Rattle.vr_steps.specs.Reached.{AreReached, AreReachingEnd};
 ghost use Rattle.vr_walks.specs.Lists.{IsUsed};
@@ -13,11 +12,12 @@ ghost use Rattle.vr_walks.specs.Stops.{AreEndsOf};
 ghost use Rattle.vr_walks.specs.VisitRuns.{AreVisitRuns, IsFinish};
 
 use crate::ends::Ends;
+use crate::runs::shares_with;
 use crate::single::{Ahead, carry_run, finish_of, run_at};
 use crate::spliced::Spliced;
 use std::sync::ledger::{Blank, Ledger};
 use vr_model::{Model, Steps, laws};
-use vr_spans::{Run, Spans};
+use vr_spans::Run;
 use vr_steps::Levels;
 
 // Whether the line of a list is feasible, where walks without a break on the way tell, and no visit allows more than
@@ -157,22 +157,4 @@ fn goes_with<L: Ledger>(
     );
     let goes = shares_with(run, to.level(taken));
     goes
-}
-
-// Whether a run has a number in common with a set.
-fn shares_with(run: Run, set: &Spans) -> bool
-    ensures { IsTrue result ↔ ShareANumber (run ∷ []) set.now }
-{
-    if run.lo > run.hi {
-        return false;
-    }
-    // that a set has no empty run
-    let runs = set.len();
-    for k in 0..runs {
-        let other = set.run(k);
-        if run.lo <= other.hi && other.lo <= run.hi {
-            return true;
-        }
-    }
-    false
 }

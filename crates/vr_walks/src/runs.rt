@@ -1,6 +1,7 @@
-//! The one run of cumuls that each visit allows, where none allows more than one.
+//! The one run of cumuls that each visit allows, where none allows more than one, and what runs share.
 
-ghost use Rattle.std.specs.Prelude.{IfOk, IfSome};
+ghost use Rattle.std.specs.Prelude.{IfOk, IfSome, IsTrue, ◌↔◌, ◌≤ℤ◌, [], ◌∷◌};
+ghost use Rattle.vr_spans.specs.Runs.{ShareANumber};
 ghost use Rattle.vr_walks.specs.VisitRuns.{IsRunOf, AreRunsOf, AreRunTables};
 
 use std::alloc::Global;
@@ -47,4 +48,31 @@ pub(crate) fn run_of(set: &Spans) -> Option<Run>
         return Some(set.run(0));
     }
     Some(Run { lo: 1, hi: 0 })
+}
+
+// Whether a run has a number in common with a set.
+pub(crate) fn shares_with(run: Run, set: &Spans) -> bool
+    ensures { IsTrue result ↔ ShareANumber (run ∷ []) set.now }
+{
+    if run.lo > run.hi {
+        return false;
+    }
+    // that a set has no empty run
+    let runs = set.len();
+    for k in 0..runs {
+        if share(run, set.run(k)) {
+            return true;
+        }
+    }
+    false
+}
+
+// Whether two runs, of a number each at least, have one in common.
+#[inline]
+pub(crate) fn share(a: Run, b: Run) -> bool
+    requires first { a.lo ≤ℤ a.hi }
+    requires second { b.lo ≤ℤ b.hi }
+    ensures { IsTrue result ↔ ShareANumber (a ∷ []) (b ∷ []) }
+{
+    a.lo <= b.hi && b.lo <= a.hi
 }

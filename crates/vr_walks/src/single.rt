@@ -1,6 +1,6 @@
 //! Walks that carry one run of cumuls from stop to stop.
 
-ghost use Rattle.std.specs.Prelude.{◌≡◌, ◌+◌, ◌<◌, ◌≤◌, ◌^◌, ◌↔◌, suc, All, IfSome, IsTrue, length, [], ◌∷◌};
+ghost use Rattle.std.specs.Prelude.{◌≡◌, ◌+◌, ◌<◌, ◌≤◌, ◌^◌, suc, All, IfSome, length, []};
 ghost use Rattle.std.specs.Prelude.{pos, neg_ℤ, ◌+ℤ◌, ◌≤ℤ◌};
 ghost use Rattle.std.specs.Int.{int_max, int_min};
 ghost use Rattle.vr_model.specs.schedules.Choices.{is_feasible};
@@ -9,7 +9,6 @@ ghost use Rattle.vr_model.specs.schedules.Weights.{walk_weight};
 ghost use Rattle.vr_model.specs.tables.Tables.{dimension_at, evaluator_of, transit};
 ghost use Rattle.vr_model.specs.tables.Numbers.{horizon};
 ghost use Rattle.vr_model.specs.tables.WellFormed.{IsIn, IsWellFormed};
-ghost use Rattle.vr_spans.specs.Runs.{ShareANumber};
 ghost use Rattle.vr_steps.specs.Levels.{AreLevels, IsCumuls, level_at};
 ghost use Rattle.vr_walks.specs.Counts.{steps_between};
 ghost use Rattle.vr_walks.specs.Lists.{node_at_stop, IsTour, IsUsed};
@@ -18,7 +17,7 @@ ghost use Rattle.vr_walks.specs.Stops.{AreEndsOf};
 ghost use Rattle.vr_walks.specs.VisitRuns.{AreVisitRuns, HasCumulEnds, IsAllowedRun, IsFinish};
 
 use crate::ends::Ends;
-use crate::runs::run_of;
+use crate::runs::{run_of, share};
 use crate::spliced::Spliced;
 use crate::stops::node_at;
 use std::sync::ledger::Ledger;
@@ -148,16 +147,6 @@ pub(crate) fn walk_by_runs<L: Ledger>(
     steps.tick();
     steps.tick();
     share(run, between.to)
-}
-
-// Whether two runs have a number in common.
-#[inline]
-fn share(a: Run, b: Run) -> bool
-    requires first { IsCumulRun a }
-    requires second { IsCumulRun b }
-    ensures { IsTrue result ↔ ShareANumber (a ∷ []) (b ∷ []) }
-{
-    a.lo.max(b.lo) <= a.hi.min(b.hi)
 }
 
 // The run that is reached at stop `last` by a walk without breaks from stop `begin`, where this run is reached with

@@ -146,8 +146,8 @@ fn walk_by_sets<L: Ledger>(
 /// each number of further breaks, and one for each run on both sides where it joins the rows: at most the weight that
 /// the definitions give the changed list. Afterwards nothing is said of where the walk stands.
 ///
-/// Where no visit allows more than one run, it carries one run in place of sets; of a vehicle with breaks, walks without
-/// a break are tried before, which tell of most moves and count nothing.
+/// Where no visit allows more than one run, it carries one run in place of sets; of a vehicle with breaks, walks
+/// without a break are tried before, which tell of most moves and count nothing.
 ///
 /// `NoMemory` where there was no memory: it is taken only where a set has more than four runs, or a vehicle more breaks
 /// than any before.

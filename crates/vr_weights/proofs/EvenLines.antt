@@ -1,17 +1,16 @@
 -- The lines of even models are steady.
 use Rattle.std.proofs.Common.{◌≡◌, ◌∙◌, ℕ, zero, suc, ◌<◌, ◌≤◌, Bool, true, false, List, [], ◌∷◌, ◌++◌, length, map, ℤ, pos, None, refl, sym, ap, subst, arith}
-use Rattle.std.specs.Prelude.{IsTrue, ◌↔◌, ◌&&◌, ◌||◌, ◌==◌, not, slice_index_or}
-use Rattle.std.specs.List.{list_all, list_any}
+use Rattle.std.specs.Prelude.{IsTrue, ◌↔◌, ◌&&◌, ◌==◌, slice_index_or}
+use Rattle.std.specs.List.{list_all}
 use Rattle.std.proofs.lemmas.Int.{ints}
 use Rattle.vr_model.specs.tables.Numbers.{number_at, horizon, within, is_same_number}
-use Rattle.vr_model.specs.tables.Tables.{dimension_at, vehicle_at, no_vehicle, row_of, breaks_of, is_terminal, is_visit}
+use Rattle.vr_model.specs.tables.Tables.{dimension_at, row_of, breaks_of, is_visit}
 use Rattle.vr_model.specs.routes.Routes.{arcs_between, is_distinct, is_empty}
-use Rattle.vr_model.specs.schedules.Lines.{Line, line, line_arc, start_allows, stop_allows}
-use Rattle.vr_model.specs.schedules.Schedules.{allows, arc_at, no_arc}
+use Rattle.vr_model.specs.schedules.Lines.{Line, line, start_allows, stop_allows}
+use Rattle.vr_model.specs.schedules.Schedules.{allows, arc_at}
 use Rattle.vr_model.specs.schedules.SoundLines.{IsSound, LinesAreSound}
-use Rattle.vr_model.specs.deciding.Testing.{and_left, and_right, and_both, eq_of_tests, or_left, or_right, test_of_eq, test_of_within}
+use Rattle.vr_model.specs.deciding.Testing.{and_left, and_right, and_both, eq_of_tests, test_of_eq, test_of_within}
 use Rattle.vr_model.specs.declared.records.Model.{Model}
-use Rattle.vr_model.specs.declared.records.Vehicle.{Vehicle}
 use Rattle.vr_model.specs.declared.records.Dimension.{Dimension}
 use Rattle.vr_model.proofs.tables.Tests.{clash}
 use Rattle.vr_model.proofs.schedules.LineArcs.{arcs_of_line}

@@ -4,9 +4,9 @@ use Rattle.std.proofs.lemmas.List.Elements.{All-push}
 use Rattle.vr_model.specs.tables.Tables.{dimension_at}
 use Rattle.vr_model.specs.schedules.Lines.{line}
 use Rattle.vr_model.specs.schedules.Schedules.{no_arc}
+use Rattle.vr_model.proofs.schedules.LineArcs.{arcs_of_line}
 use Rattle.vr_steps.specs.Arcs.{IsSoundHop}
 use Rattle.vr_steps.specs.Lines.{hop_of, hops_along}
-use Rattle.vr_walks.proofs.LineParts.{arcs_of_line}
 use Rattle.vr_walks.proofs.Tables.{push_taken, read_map}
 use Rattle.vr_walks.proofs.lines.write_hops.Goals as goal
 

@@ -1,8 +1,9 @@
 use Rattle.std.proofs.Common.{◌≤◌, ◌∷◌, [], length, sym, subst, arith}
 use Rattle.vr_model.specs.schedules.Lines.{line}
+use Rattle.vr_model.proofs.schedules.LineArcs.{arcs_of_line}
 use Rattle.vr_spans.specs.Runs.{ShareANumber}
 use Rattle.vr_steps.proofs.LevelLemmas.{level_is}
-use Rattle.vr_walks.proofs.LineParts.{arcs_of_line, sound_line}
+use Rattle.vr_walks.proofs.LineParts.{sound_line}
 use Rattle.vr_walks.proofs.ProbeLemmas.{accepted}
 use Rattle.vr_walks.proofs.probing.goes_with.Goals as goal
 

@@ -1,10 +1,11 @@
 use Rattle.std.proofs.Common.{◌≡◌, ◌∙◌, ◌-◌, ◌≤◌, ◌∷◌, [], true, false, length, ap, sym, subst, refl, arith}
 use Rattle.vr_model.specs.schedules.Lines.{line}
 use Rattle.vr_model.proofs.tables.Tests.{clash}
+use Rattle.vr_model.proofs.schedules.LineArcs.{arcs_of_line}
 use Rattle.vr_spans.specs.Runs.{ShareANumber}
 use Rattle.vr_steps.specs.Levels.{level_at}
 use Rattle.vr_steps.proofs.LevelLemmas.{level_is}
-use Rattle.vr_walks.proofs.LineParts.{arcs_of_line, feasible_as_tested, sound_line}
+use Rattle.vr_walks.proofs.LineParts.{feasible_as_tested, sound_line}
 use Rattle.vr_walks.proofs.ProbeLemmas.{accepted, refused}
 use Rattle.vr_walks.proofs.probing.told_without_breaks.Goals as goal
 

@@ -1,8 +1,9 @@
 use Rattle.std.proofs.Common.{◌≡◌, ◌+◌, ◌≤◌, ◌≤ℤ◌, ◌<ℤ◌, ℕ, length, false, refl, arith}
 use Rattle.std.proofs.lemmas.Int.{ints}
 use Rattle.vr_model.specs.schedules.Lines.{line}
+use Rattle.vr_model.proofs.schedules.LineArcs.{arcs_of_line}
 use Rattle.vr_walks.specs.Counts.{join_steps, steps_between}
-use Rattle.vr_walks.proofs.LineParts.{arcs_of_line, feasible_as_tested, sound_line}
+use Rattle.vr_walks.proofs.LineParts.{feasible_as_tested, sound_line}
 use Rattle.vr_walks.proofs.SingleLemmas.{feasible_by_runs, none_shared, two_steps}
 use Rattle.vr_walks.proofs.single.walk_by_runs.Goals as goal
 
@@ -29,7 +30,10 @@ returns-then-run-clause-count g c =
     within_both c.args.steps.now (steps_between L c.args.begin c.args.last) (join_steps L c.args.last) c.carry_run-run.new.steps (c.carry_run-run.ensures.count refl)
 
 pub share-requires-clause-first : goal.share-requires-clause-first
-share-requires-clause-first g c = c.carry_run-run.ensures.cumuls (let test = c.if-run.false in omega (arith, ints, test))
+share-requires-clause-first g c = let test = c.if-run.false in omega (arith, ints, test)
+
+pub share-requires-clause-second : goal.share-requires-clause-second
+share-requires-clause-second g c = c.requires.to_cumuls.some
 
 pub returns-clause-exact : goal.returns-clause-exact
 returns-clause-exact g c =

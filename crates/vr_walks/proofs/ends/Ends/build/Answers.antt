@@ -1,9 +1,10 @@
 use Rattle.std.proofs.Common.{sym, ap, subst, ◌∙◌}
 use Rattle.vr_model.specs.tables.Tables.{breaks_of, no_dimension}
 use Rattle.vr_model.specs.schedules.Lines.{line}
+use Rattle.vr_model.proofs.schedules.LineArcs.{arcs_of_line}
 use Rattle.vr_steps.specs.Levels.{AreStartLevels, AreEndLevels}
 use Rattle.vr_steps.specs.Reached.{IsAllowedSet, AreReachingEnd}
-use Rattle.vr_walks.proofs.LineParts.{arcs_of_line, end_allows, sound_line}
+use Rattle.vr_walks.proofs.LineParts.{end_allows, sound_line}
 use Rattle.vr_walks.proofs.ends.Ends.build.Goals as goal
 
 pub returns : goal.returns
