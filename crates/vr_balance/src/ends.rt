@@ -21,6 +21,7 @@ pub struct Ends<'a> {
 }
 
 // Where a piece ends that keeps the front of the list of a vehicle, else 0.
+#[inline]
 fn front_end(piece: &Piece, v: u32) -> u32
     ensures { 0 < result → piece.now ≡ Chain v 0 result false }
 {
@@ -36,6 +37,7 @@ fn front_end(piece: &Piece, v: u32) -> u32
 }
 
 // Where a piece begins that keeps the list of a vehicle, of `n` visits, up to its end, else `n`.
+#[inline]
 fn behind_start(piece: &Piece, v: u32, n: u32) -> u32
     ensures { result < n → piece.now ≡ Chain v result n false }
 {
@@ -51,6 +53,7 @@ fn behind_start(piece: &Piece, v: u32, n: u32) -> u32
 }
 
 // What the pieces of a vehicle's list keep of its front.
+#[inline]
 fn strip_front<'a>(routes: &Routes, v: u32, pieces: &'a [Piece]) -> Ends<'a>
     requires vehicle { v < length routes.now.lists }
     requires within { All (IsWithin routes.now.lists) pieces.now }
@@ -79,6 +82,7 @@ fn strip_front<'a>(routes: &Routes, v: u32, pieces: &'a [Piece]) -> Ends<'a>
 }
 
 /// What the pieces of a vehicle's list keep of it at both ends, as far as the first piece and the last one tell it.
+#[inline]
 pub fn strip<'a>(routes: &Routes, v: u32, pieces: &'a [Piece]) -> Ends<'a>
     requires vehicle { v < length routes.now.lists }
     requires within { All (IsWithin routes.now.lists) pieces.now }

@@ -1,25 +1,16 @@
 -- Sums of arc costs along lists, taken apart.
-use Rattle.std.proofs.Common.{◌≡◌, ◌∙◌, ℕ, zero, suc, ◌+◌, ◌-◌, ◌<◌, ◌≤◌, Bool, true, false, List, [], ◌∷◌, ◌++◌, length, reverse, take, drop, refl, sym, ap, subst, arith, length-append, ◌⊎◌, inl, inr, to_z, of_z, w64}
-use Rattle.std.specs.Prelude.{ℤ, pos, ◌+ℤ◌, ◌-ℤ◌, ◌≤ℤ◌, slice_range, slice_index_or, All}
-use Rattle.std.proofs.lemmas.List.{get_or_append_left, get_or_push}
+use Rattle.std.proofs.Common.{◌≡◌, ◌∙◌, ℕ, zero, suc, ◌+◌, ◌-◌, ◌<◌, ◌≤◌, Bool, true, false, List, [], ◌∷◌, ◌++◌, length, reverse, take, refl, sym, ap, arith}
+use Rattle.std.specs.Prelude.{ℤ, pos, ◌+ℤ◌, ◌≤ℤ◌, slice_index_or, All}
 use Rattle.std.proofs.lemmas.List.Elements.{All-take}
-use Rattle.std.proofs.lemmas.Bool.{cases_lt}
-use Rattle.vr_model.specs.tables.Numbers.{number_at}
 use Rattle.std.proofs.lemmas.Int.{ints}
 use Rattle.std.proofs.lemmas.List.{reverse-append}
 use Rattle.vr_model.specs.declared.records.Model.{Model}
 use Rattle.vr_model.specs.tables.WellFormed.{IsWellFormed}
 use Rattle.vr_model.specs.tables.Tables.{arc_cost, entry, vehicle_at}
 use Rattle.vr_model.proofs.tables.Bounds.{arc_cost_in_range}
-use Rattle.vr_costfilter.specs.Chains.{path_sum, chain_sum, last_of, turned, IsUpTo, AreSumsTo}
-
-pub last-append : (at : ℕ) (xs ys : List ℕ) → last_of at (xs ++ ys) ≡ last_of (last_of at xs) ys
-last-append at [] ys = refl
-last-append at (x ∷ xs) ys = last-append x xs ys
-
-pub path-append : (cost : ℕ → ℕ → ℤ) (at : ℕ) (xs ys : List ℕ) → path_sum cost at (xs ++ ys) ≡ path_sum cost at xs +ℤ path_sum cost (last_of at xs) ys
-path-append cost at [] ys = omega (arith, ints)
-path-append cost at (x ∷ xs) ys = let i = path-append cost x xs ys in omega (arith, ints, i)
+use Rattle.vr_sums.specs.Sums.{path_sum, last_of, IsUpTo}
+use Rattle.vr_sums.proofs.Paths.{last-append, path-append}
+use Rattle.vr_costfilter.specs.Chains.{chain_sum, turned}
 
 -- a path whose first step is told
 pub path-first : (cost : ℕ → ℕ → ℤ) (at : ℕ) (xs : List ℕ) → 0 < length xs → path_sum cost at xs ≡ cost at (slice_index_or xs 0 0) +ℤ chain_sum cost xs
@@ -41,22 +32,6 @@ chain-more cost [] k low = absurd (omega (arith, low))
 chain-more cost (x ∷ []) k low = absurd (omega (arith, low))
 chain-more cost (x ∷ y ∷ ys) zero low = omega (arith, ints)
 chain-more cost (x ∷ y ∷ ys) (suc k) low = let i = chain-more cost (y ∷ ys) k (omega (arith, low)) in omega (arith, ints, i)
-
--- the sum up to a place, and from there on
-pub chain-between : (cost : ℕ → ℕ → ℤ) (list : List ℕ) (f t : ℕ) → f ≤ t → t < length list
-    → chain_sum cost (take (suc t) list) ≡ chain_sum cost (take (suc f) list) +ℤ chain_sum cost (slice_range list f (suc t))
-chain-between cost [] f t order low = absurd (omega (arith, low))
-chain-between cost (x ∷ xs) zero t order low =
-    let e : suc t - 0 ≡ suc t = omega arith in
-    let same : chain_sum cost (slice_range (x ∷ xs) 0 (suc t)) ≡ chain_sum cost (take (suc t) (x ∷ xs)) = ap (λ n. chain_sum cost (take n (x ∷ xs))) e in
-    omega (arith, ints, same)
-chain-between cost (x ∷ xs) (suc f) zero order low = absurd (omega (arith, order))
-chain-between cost (x ∷ []) (suc f) (suc t) order low = absurd (omega (arith, low))
-chain-between cost (x ∷ y ∷ ys) (suc f) (suc t) order low =
-    let i = chain-between cost (y ∷ ys) f t (omega (arith, order)) (omega (arith, low)) in
-    let e : suc (suc t) - suc f ≡ suc t - f = omega arith in
-    let same : chain_sum cost (slice_range (x ∷ y ∷ ys) (suc f) (suc (suc t))) ≡ chain_sum cost (slice_range (y ∷ ys) f (suc t)) = ap (λ n. chain_sum cost (take n (drop f (y ∷ ys)))) e in
-    omega (arith, ints, i, same)
 
 -- the arcs of a list backwards are those of the reversed list
 chain-two : (cost : ℕ → ℕ → ℤ) (zs : List ℕ) (y x : ℕ) → chain_sum cost ((zs ++ y ∷ []) ++ x ∷ []) ≡ chain_sum cost (zs ++ y ∷ []) +ℤ cost y x
@@ -135,56 +110,7 @@ pub chain-one : (cost : ℕ → ℕ → ℤ) (xs : List ℕ) → chain_sum cost 
 chain-one cost [] = refl
 chain-one cost (x ∷ xs) = refl
 
-pub sums-none : (cost : ℕ → ℕ → ℤ) (list : List ℕ) (sums : List ℤ) → sums ≡ [] → AreSumsTo cost list 0 sums
-sums-none cost list sums e = record { many = ap length e; each = λ k low. absurd (omega (arith, low)); range = λ k low. absurd (let l = ap length e in omega (arith, low, l)) }
-
-pub sums-more : (cost : ℕ → ℕ → ℤ) (list : List ℕ) (n : ℕ) (sums more : List ℤ) (x : ℤ) → AreSumsTo cost list n sums → x ≡ chain_sum cost (take (suc n) list) → IsUpTo 1000 x → more ≡ sums ++ x ∷ [] → AreSumsTo cost list (n + 1) more
-sums-more cost list n sums more x h e up is = record {
-  many = ap length is ∙ length-append sums (x ∷ []) ∙ ap (λ m. m + 1) h.many;
-  each = λ k low. each k (cases_lt k n) low;
-  range = λ k low. range k (cases_lt k n) (let l = ap length is in let m = length-append sums (x ∷ []) in let w = h.many in omega (arith, low, l, m, w));
-}
-  where
-    before : (k : ℕ) → k < n → number_at more k ≡ number_at sums k
-    before k low = ap (λ l. number_at l k) is ∙ get_or_append_left sums (x ∷ []) (pos 0) k (let w = h.many in omega (arith, low, w))
-
-    at : (k : ℕ) → k ≡ n → number_at more k ≡ x
-    at k same = ap (λ l. number_at l k) is ∙ get_or_push sums x (pos 0) k (h.many ∙ sym same)
-
-    each : (k : ℕ) → (k < n) ⊎ (n ≤ k) → k < n + 1 → number_at more k ≡ chain_sum cost (take (suc k) list)
-    each k (inl low) _ = before k low ∙ h.each k low
-    each k (inr high) low = let same : k ≡ n = omega (arith, high, low) in at k same ∙ e ∙ ap (λ m. chain_sum cost (take (suc m) list)) (sym same)
-
-    range : (k : ℕ) → (k < n) ⊎ (n ≤ k) → k < n + 1 → IsUpTo 1000 (number_at more k)
-    range k (inl low) _ = subst (IsUpTo 1000) (sym (before k low)) (h.range k (let w = h.many in omega (arith, low, w)))
-    range k (inr high) low = subst (IsUpTo 1000) (sym (at k (omega (arith, high, low)))) up
-
--- a sum is read as it is
-pub read-up : (x : ℤ) → IsUpTo 1000 x → to_z w64 (of_z w64 x) ≡ x
-read-up x h = omega (arith, ints, h.low, h.high)
-
--- the arcs between two places, from the sums there
-pub sums-between : (cost : ℕ → ℕ → ℤ) (list : List ℕ) (sums : List ℤ) (f t : ℕ) → AreSumsTo cost list (length list) sums → f < t → t ≤ length list
-    → number_at sums (t - 1) -ℤ number_at sums f ≡ chain_sum cost (slice_range list f t)
-sums-between cost list sums f zero h order low = absurd (omega (arith, order))
-sums-between cost list sums f (suc t) h order low =
-    let a = h.each t (omega (arith, low)) in
-    let b = h.each f (omega (arith, order, low)) in
-    let s = chain-between cost list f t (omega (arith, order)) (omega (arith, low)) in
-    let e : suc t - 1 ≡ t = omega arith in
-    rw e (omega (arith, ints, a, b, s))
-
--- the sum at a place is the one before it and the arc between
-pub sum-next : (cost : ℕ → ℕ → ℤ) (list : List ℕ) (sums : List ℤ) (k : ℕ) → AreSumsTo cost list k sums → (k ≡ 0 → ⊥) → k < length list
-    → number_at sums (k - 1) +ℤ cost (slice_index_or list (k - 1) 0) (slice_index_or list k 0) ≡ chain_sum cost (take (suc k) list)
-sum-next cost list sums zero h some low = absurd (some refl)
-sum-next cost list sums (suc k) h some low =
-    let a = h.each k (omega arith) in
-    let s = chain-more cost list k low in
-    let e : suc k - 1 ≡ k = omega arith in
-    rw e (omega (arith, ints, a, s))
-
--- the same over a list alone
+-- one node more, counted otherwise
 pub chain-next : (cost : ℕ → ℕ → ℤ) (list : List ℕ) (k : ℕ) → 1 ≤ k → k < length list
     → chain_sum cost (take (k + 1) list) ≡ chain_sum cost (take k list) +ℤ cost (slice_index_or list (k - 1) 0) (slice_index_or list k 0)
 chain-next cost list zero some low = absurd (omega (arith, some))

@@ -1,6 +1,7 @@
 -- What a change adds to the penalties of groups.
 use Rattle.std.proofs.Common.{◌≡◌, ◌∙◌, ℕ, zero, suc, ◌+◌, ◌*◌, ◌<◌, ◌≤◌, Bool, true, false, cond, List, [], ◌∷◌, length, take, drop, drop-cons, add-one, sum_by, refl, sym, ap, subst, inl, inr, arith}
 use Rattle.std.specs.Prelude.{All, IsTrue, reverse, slice_range, slice_index_or, Option, Some, None, ℤ, pos, negsuc, ◌+ℤ◌, ◌-ℤ◌, ◌*ℤ◌}
+use Rattle.std.specs.List.{list_all}
 use Rattle.std.proofs.lemmas.Bool.{cases_lt}
 use Rattle.std.proofs.lemmas.Int.{ints}
 use Rattle.std.proofs.Math.IntN.{suc_ℤ-*ℤ, zero-*ℤ}
@@ -12,12 +13,13 @@ use Rattle.std.proofs.lemmas.List.Sums.{sum_by-cons}
 use Rattle.vr_model.specs.tables.Numbers.{total_by, number_at, each}
 use Rattle.vr_model.specs.tables.WellFormed.{greatest_cost, IsIn, IsWellFormed, WherePresent}
 use Rattle.vr_model.specs.tables.Tables.{is_visit}
-use Rattle.vr_model.specs.routes.Routes.{holds, route}
-use Rattle.vr_model.specs.routes.Rules.{active_in}
+use Rattle.vr_model.specs.routes.Routes.{are_lists, holds, route, vehicles}
+use Rattle.vr_model.specs.routes.Rules.{active_in, fits_group, is_open, is_route_open, is_valid}
+use Rattle.vr_model.specs.deciding.Testing.{and_left, and_right}
 use Rattle.vr_model.specs.routes.Costs.{penalty_for, penalty_part}
 use Rattle.vr_model.specs.declared.records.Model.{Model}
 use Rattle.vr_model.specs.declared.records.Group.{Group}
-use Rattle.vr_model.proofs.tables.Tests.{fails}
+use Rattle.vr_model.proofs.tables.Tests.{all-from_list_all, fails}
 use Rattle.vr_model.proofs.moves.Times.{times, times_append, times_of_distinct}
 use Rattle.vr_model.proofs.routes.Lists.{place_of_held, visit_below}
 use Rattle.vr_routes.specs.declared.pieces.Piece.{Piece}
@@ -253,3 +255,17 @@ total-turned f (x ∷ xs) =
 pub total-chain : (f : ℕ → ℤ) (lists : List (List ℕ)) (v from to : ℕ) (reversed : Bool) → total_by f (nodes_of lists (Chain v from to reversed)) ≡ total_by f (slice_range (route lists v) from to)
 total-chain f lists v from to false = refl
 total-chain f lists v from to true = total-turned f (slice_range (route lists v) from to)
+
+-- ---- what the groups cost
+
+-- what a group costs at lists
+abbrev pub group_cost : List (List ℕ) → Group → ℤ
+group_cost lists group = penalty_for group.penalty group.max (active_in lists group)
+
+-- no group of valid lists has more active nodes than it may have
+pub all-fit : (model : Model) (lists : List (List ℕ)) → IsTrue (is_valid model lists) → All (λ group. IsTrue (fits_group lists group)) model.groups
+unfolding is_valid is_open
+all-fit model lists valid =
+    all-from_list_all (fits_group lists) model.groups
+    (and_right (list_all (λ v. is_route_open model v (route lists v)) (vehicles lists)) (list_all (fits_group lists) model.groups)
+    (and_left (is_open model lists) _ (and_right (are_lists model lists) _ valid)))

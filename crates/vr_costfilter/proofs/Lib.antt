@@ -1,6 +1,7 @@
 pub mod ChainLemmas
 pub mod PieceLemmas
 pub mod PathLemmas
+pub mod LineLemmas
 pub mod SumLemmas
 pub mod PartLemmas
 pub mod RowLemmas

@@ -12,9 +12,12 @@ use Rattle.vr_model.specs.tables.WellFormed.{IsWellFormed}
 use Rattle.vr_model.specs.routes.Routes.{arcs_from, cost_of_arc, is_empty, route_cost}
 use Rattle.vr_routes.specs.declared.pieces.Piece.{Piece}
 use Rattle.vr_routes.specs.Pieces.{joined, nodes_of}
-use Rattle.vr_costfilter.specs.Chains.{first_of, path_sum, last_of, IsUpTo}
+use Rattle.vr_sums.specs.Sums.{path_sum, last_of, IsUpTo}
+use Rattle.vr_sums.proofs.Paths.{path-append, last-append}
+use Rattle.vr_costfilter.specs.Chains.{first_of}
 use Rattle.vr_costfilter.specs.Along.{between_cost}
-use Rattle.vr_costfilter.proofs.ChainLemmas.{path-append, path-bounds, costs-of, last-append, last-at}
+use Rattle.vr_costfilter.proofs.FixedLemmas.{empty-where, some-where}
+use Rattle.vr_costfilter.proofs.ChainLemmas.{path-bounds, costs-of, last-at}
 
 pub joined-next : (lists : List (List ℕ)) (pieces : List Piece) (k : ℕ) (d : Piece) → k < length pieces
     → joined lists (take (k + 1) pieces) ≡ joined lists (take k pieces) ++ nodes_of lists (slice_index_or pieces k d)
@@ -69,6 +72,14 @@ path-up model well v known at here xs all few =
 
 -- ---- a list of which both ends are kept
 
+-- the places of a list below one, those from there on below another, and those from it on, are the list
+pub whole-apart : (list : List ℕ) (f b : ℕ) → f ≤ b → take f list ++ (slice_range list f b ++ drop b list) ≡ list
+whole-apart list f b order =
+    let e : f + (b - f) ≡ b = omega (arith, order) in
+    let rest : drop b list ≡ drop (b - f) (drop f list) = ap (λ n. drop n list) (sym e) ∙ sym (drop-drop (b - f) f list) in
+    ap (λ l. take f list ++ (slice_range list f b ++ l)) rest
+    ∙ ap (λ l. take f list ++ l) (take-append-drop (b - f) (drop f list)) ∙ take-append-drop f list
+
 -- the arcs from the first of nodes on to the end of a vehicle, none where there are no nodes
 abbrev tail_cost : (ℕ → ℕ → ℤ) → List ℕ → ℕ → ℤ
 tail_cost cost [] end = pos 0
@@ -112,18 +123,23 @@ module _ (model : Model) (v : ℕ) where
   pub cost-between : (list nodes : List ℕ) (f b : ℕ) → f ≤ b → b ≤ length list
       → route_cost model v (take f list ++ (nodes ++ drop b list)) -ℤ route_cost model v list ≡ between_cost model v list f b nodes -ℤ between_cost model v list f b (slice_range list f b)
   cost-between list nodes f b order high =
-      let whole : take f list ++ (slice_range list f b ++ drop b list) ≡ list = parts in
       let new = apart (take f list) nodes (drop b list) in
       let old = apart (take f list) (slice_range list f b) (drop b list) in
-      let same = ap (route_cost model v) whole in
+      let same = ap (route_cost model v) (whole-apart list f b order) in
       omega (arith, ints, new, old, same)
-    where
-      parts : take f list ++ (slice_range list f b ++ drop b list) ≡ list
-      parts =
-          let e : f + (b - f) ≡ b = omega (arith, order) in
-          let rest : drop b list ≡ drop (b - f) (drop f list) = ap (λ n. drop n list) (sym e) ∙ sym (drop-drop (b - f) f list) in
-          ap (λ l. take f list ++ (slice_range list f b ++ l)) rest
-          ∙ ap (λ l. take f list ++ l) (take-append-drop (b - f) (drop f list)) ∙ take-append-drop f list
+
+  -- what the arcs between two places of a list cost
+  pub stretch-unused : (list : List ℕ) (f b : ℕ) → f ≤ b → length list ≡ 0 → between_cost model v list f b (slice_range list f b) ≡ pos 0
+  stretch-unused list f b order none =
+      let x : ℤ = path_sum (arc_cost model v) (last_of start (take f list)) (slice_range list f b) +ℤ arc_cost model v (last_of (last_of start (take f list)) (slice_range list f b)) (first_of (drop b list) end) in
+      ap (λ e. cond e (pos 0) x) (ap is_empty (whole-apart list f b order) ∙ empty-where list none)
+
+  pub stretch-used : (list : List ℕ) (f b : ℕ) → f ≤ b → 0 < length list
+      → between_cost model v list f b (slice_range list f b)
+      ≡ path_sum (arc_cost model v) (last_of start (take f list)) (slice_range list f b) +ℤ arc_cost model v (last_of (last_of start (take f list)) (slice_range list f b)) (first_of (drop b list) end)
+  stretch-used list f b order some =
+      let x : ℤ = path_sum (arc_cost model v) (last_of start (take f list)) (slice_range list f b) +ℤ arc_cost model v (last_of (last_of start (take f list)) (slice_range list f b)) (first_of (drop b list) end) in
+      ap (λ e. cond e (pos 0) x) (ap is_empty (whole-apart list f b order) ∙ some-where list (λ e. absurd (omega (arith, some, e))))
 
 -- how many nodes such a list has
 pub many-apart : (list nodes : List ℕ) (f b : ℕ) → f ≤ b → b ≤ length list → length (take f list ++ (nodes ++ drop b list)) ≡ f + length nodes + (length list - b)

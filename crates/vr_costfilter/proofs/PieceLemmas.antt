@@ -3,12 +3,9 @@ use Rattle.std.proofs.Common.{◌≡◌, ◌∙◌, ℕ, suc, ◌+◌, ◌-◌, 
 use Rattle.std.specs.Prelude.{ℤ, slice_range, slice_index_or, All}
 use Rattle.std.proofs.lemmas.List.{get_or-reverse, length-reverse}
 use Rattle.std.proofs.lemmas.List.Edits.{get_or-between, length-between}
-use Rattle.vr_costfilter.specs.Chains.{chain_sum, last_of, turned}
+use Rattle.vr_sums.specs.Sums.{last_of}
+use Rattle.vr_costfilter.specs.Chains.{chain_of, chain_sum, turned}
 use Rattle.vr_costfilter.proofs.ChainLemmas.{last-at, last-reversed, chain-turned}
-
--- a chain of a list, or the chain backwards
-abbrev pub chain_of : Bool → List ℕ → ℕ → ℕ → List ℕ
-chain_of back list f t = cond back (reverse (slice_range list f t)) (slice_range list f t)
 
 module _ (list : List ℕ) (f t : ℕ) (order : f < t) (within : t ≤ length list) where
   many : length (slice_range list f t) ≡ t - f

@@ -4,6 +4,7 @@ use Rattle.std.specs.Prelude.{ℤ, pos, negsuc}
 use Rattle.vr_model.specs.tables.Numbers.{number_at, total_by}
 use Rattle.vr_model.specs.tables.Tables.{visits}
 use Rattle.vr_model.specs.routes.Routes.{holds}
+use Rattle.vr_model.specs.routes.Costs.{penalty_part}
 use Rattle.vr_model.specs.routes.Rules.{is_valid}
 use Rattle.vr_model.specs.tables.WellFormed.{IsWellFormed}
 use Rattle.vr_model.specs.declared.records.Model.{Model}
@@ -11,7 +12,7 @@ use Rattle.vr_model.specs.declared.records.Group.{Group}
 use Rattle.vr_routes.specs.Pieces.{nodes_of}
 use Rattle.vr_routes.specs.Tours.{Tours}
 use Rattle.vr_routes.specs.declared.pieces.Piece.{Piece}
-use Rattle.vr_costfilter.specs.Chains.{IsUpTo}
+use Rattle.vr_sums.specs.Sums.{IsUpTo}
 
 -- what an active node of a group saves
 abbrev pub pay : Option ℤ → ℕ
@@ -29,6 +30,7 @@ pub record KeptGroups : Type 0 where
   pub model : Model
   pub saved : List ℤ
   pub pays : Bool
+  pub total : ℤ
 
 -- each node has what it saves
 pub record AreSaved (model : Model) (saved : List ℤ) : Type 0 where
@@ -43,11 +45,12 @@ AreFew saved = (node : ℕ) → IsUpTo 1 (number_at saved node)
 abbrev pub saved_in : List ℤ → List (List ℕ) → List Piece → ℤ
 saved_in saved lists pieces = total_by (λ piece. total_by (number_at saved) (nodes_of lists piece)) pieces
 
--- these are valid lists of the model, each node has what it saves, and where it is said that none pays, each group has
--- a penalty of 0 or none
+-- these are valid lists of the model, each node has what it saves, where it is said that none pays, each group has a
+-- penalty of 0 or none, and the total is what the groups cost
 pub record StandsGroups (kept : KeptGroups) (tours : Tours) : Type 0 where
   pub well_formed : IsWellFormed kept.model
   pub of_model : tours.visits ≡ visits kept.model
   pub valid : IsTrue (is_valid kept.model tours.lists)
   pub saved_are : AreSaved kept.model kept.saved
   pub none_pays : kept.pays ≡ false → All (λ group. pay group.penalty ≡ 0) kept.model.groups
+  pub total_is : kept.total ≡ penalty_part kept.model tours.lists

@@ -1,6 +1,6 @@
 //! The arc costs of used vehicles.
 
-ghost use Rattle.std.specs.Prelude.{◌≡◌, ◌<◌, ◌≤◌, ◌-ℤ◌, All, IsTrue, IfOk, IsOk, OnOk, OnErr, length};
+ghost use Rattle.std.specs.Prelude.{◌≡◌, ◌<◌, ◌≤◌, ◌-ℤ◌, IsTrue, IfOk, IsOk, OnOk, OnErr, length};
 ghost use Rattle.vr_model.specs.routes.Costs.{arcs_part};
 ghost use Rattle.vr_model.specs.routes.Routes.{route, route_cost};
 ghost use Rattle.vr_model.specs.tables.Tables.{visits};
@@ -9,14 +9,14 @@ ghost use Rattle.vr_model.specs.tables.WellFormed.{IsWellFormed};
 ghost use Rattle.vr_routes.specs.Pieces.{changed, joined, IsWithin};
 ghost use Rattle.vr_routes.specs.Changes.{IsMadeOn};
 ghost use Rattle.vr_costfilter.specs.Parts.{NothingReady};
-ghost use Rattle.vr_costfilter.specs.Along.{IsAlong, StandsAlong};
+ghost use Rattle.vr_costfilter.specs.Along.{StandsAlong};
 ghost use Rattle.vr_timings.specs.Bounds.{IsAround};
 
 use crate::CostPart;
 use crate::costs::ArcCosts;
+use crate::lines::Along;
 use crate::lists::{ListCost, added_by};
-use crate::sums::Sums;
-use crate::walks::{Along, Gap, cost_between, stop_at, stop_before};
+use crate::walks::{Gap, cost_between, stop_at, stop_before};
 use std::alloc::Global;
 use std::marker::Model;
 use vr_balance::strip;
@@ -39,28 +39,6 @@ impl<'m> Model for ArcCost<'m> {
     ghost Value = { KeptAlong };
 
     ghost view = { λ part. record { model = part.model.now; along = part.along.items } };
-}
-
-impl Along {
-    // The sums of an empty list.
-    fn new() -> Along {
-        Along {
-            ahead: Sums::new(),
-            behind: Sums::new(),
-        }
-    }
-
-    // Writes the sums of the list of a vehicle.
-    fn write(&mut self, model: &RoutingModel, v: u32, list: &[u32])
-        requires well_formed { IsWellFormed model.now }
-        requires vehicle { v < length model.now.vehicles }
-        requires nodes { All (λ node. node < model.now.nodes) list.now }
-        requires few { length list.now ≤ 1000 }
-        ensures { IsAlong model.now v list.now self.new }
-    {
-        self.ahead.write(model, v, false, list);
-        self.behind.write(model, v, true, list);
-    }
 }
 
 impl<'m> ArcCost<'m> {
@@ -108,6 +86,7 @@ impl<'m> ListCost for ArcCost<'m> {
 
     ghost keeps = { StandsAlong };
 
+    #[inline]
     fn list_adds(&self, routes: &Routes, v: u32, pieces: &[Piece]) -> i64 {
         let ends = strip(routes, v, pieces);
         let gap = Gap {
@@ -116,19 +95,13 @@ impl<'m> ListCost for ArcCost<'m> {
             from: stop_before(self.model, routes, v, ends.front),
             to: stop_at(self.model, routes, v, ends.behind),
         };
-        let old = [Piece::Chain {
-            vehicle: v,
-            from: ends.front,
-            to: ends.behind,
-            reversed: false,
-        }];
         let number = self.model.vehicles.get(v as usize).costs;
         let costs = ArcCosts {
             model: self.model,
             vehicle: v,
             entries: self.model.matrices.get(number as usize).entries.as_slice(),
         };
-        let before = cost_between(&costs, &self.along, routes, gap, &old);
+        let before = self.along[v as usize].stretch(routes.len(v), ends.front, ends.behind);
         let after = cost_between(&costs, &self.along, routes, gap, ends.middle);
         after - before
     }

@@ -3,6 +3,7 @@
 ghost use Rattle.std.specs.Prelude.{◌≡◌, ◌<◌, ◌≤ℤ◌, ◌^◌, length, pos};
 ghost use Rattle.vr_model.specs.tables.Tables.{arc_cost, matrix_at, vehicle_at};
 ghost use Rattle.vr_model.specs.tables.WellFormed.{IsWellFormed};
+ghost use Rattle.vr_costfilter.specs.Chains.{turned};
 
 use vr_model::Model;
 
@@ -28,5 +29,23 @@ impl<'m> ArcCosts<'m> {
         ensures bound { result ≤ℤ pos (2 ^ 40) }
     {
         self.entries[i as usize * self.model.nodes as usize + j as usize]
+    }
+
+    /// The cost of the arc from one node to another, or of the arc back.
+    #[inline]
+    pub fn turned(&self, back: bool, i: u32, j: u32) -> i64
+        requires well_formed { IsWellFormed self.now.model.now }
+        requires vehicle { self.now.vehicle < length self.now.model.now.vehicles }
+        requires origin { i < self.now.model.now.nodes }
+        requires target { j < self.now.model.now.nodes }
+        ensures value { result ≡ turned back (arc_cost self.now.model.now self.now.vehicle) i j }
+        ensures not_negative { pos 0 ≤ℤ result }
+        ensures bound { result ≤ℤ pos (2 ^ 40) }
+    {
+        if back {
+            self.cost(j, i)
+        } else {
+            self.cost(i, j)
+        }
     }
 }

@@ -12,7 +12,7 @@ ghost use Rattle.vr_routes.specs.Changes.{IsMadeOn};
 ghost use Rattle.vr_costfilter.specs.Parts.{NothingReady};
 ghost use Rattle.vr_costfilter.specs.Fixed.{fixed_with, StandsFixed};
 ghost use Rattle.vr_timings.specs.Bounds.{IsAround};
-ghost use Rattle.vr_costfilter.specs.Chains.{IsUpTo};
+ghost use Rattle.vr_sums.specs.Sums.{IsUpTo};
 
 use crate::CostPart;
 use crate::lists::{ListCost, added_by};
@@ -105,8 +105,8 @@ impl<'m> FixedCost<'m> {
     }
 }
 
-// How many nodes pieces have.
-fn nodes_in(_routes: &Routes, pieces: &[Piece]) -> usize
+/// How many nodes pieces have.
+pub fn nodes_in(_routes: &Routes, pieces: &[Piece]) -> usize
     requires within { All (IsWithin _routes.now.lists) pieces.now }
     requires few { length pieces.now ≤ 8 }
     ensures { result ≡ length (joined _routes.now.lists pieces.now) }

@@ -1,23 +1,23 @@
 //! The penalties of groups.
 
-ghost use Rattle.std.specs.Prelude.{◌≡◌, ◌<◌, ◌≤◌, ◌-ℤ◌, ℕ, ℤ, false, pos, All, IsTrue, IfOk, IsOk, OnOk, OnErr, length};
+ghost use Rattle.std.specs.Prelude.{◌≡◌, ◌<◌, ◌≤◌, ◌-ℤ◌, ◌*ℤ◌, ◌≤ℤ◌, ℕ, ℤ, false, pos, All, IsTrue, IfOk, IsOk, OnOk, OnErr, length};
 ghost use Rattle.vr_model.specs.tables.Numbers.{number_at, total_by};
 ghost use Rattle.vr_model.specs.tables.Tables.{visits};
 ghost use Rattle.vr_model.specs.tables.WellFormed.{greatest_cost, IsIn, IsWellFormed, WherePresent};
 ghost use Rattle.vr_model.specs.routes.Routes.{holds};
-ghost use Rattle.vr_model.specs.routes.Costs.{penalty_part};
-ghost use Rattle.vr_model.specs.routes.Rules.{is_valid};
+ghost use Rattle.vr_model.specs.routes.Costs.{penalty_for, penalty_part};
+ghost use Rattle.vr_model.specs.routes.Rules.{active_in as active_in_of, fits_group, is_valid};
 ghost use Rattle.vr_routes.specs.Changes.{IsMadeOn};
 ghost use Rattle.vr_routes.specs.Pieces.{changed, nodes_of, IsWithin};
 ghost use Rattle.vr_timings.specs.Bounds.{IsAround};
 ghost use Rattle.vr_costfilter.specs.Parts.{NothingReady};
-ghost use Rattle.vr_costfilter.specs.Chains.{IsUpTo};
+ghost use Rattle.vr_sums.specs.Sums.{IsUpTo};
 ghost use Rattle.vr_costfilter.specs.Groups.{pay, saved_by, saved_in as saved_in_of, AreSaved, AreFew, StandsGroups};
 
 use crate::CostPart;
 use std::alloc::Global;
 use std::marker::Model;
-use vr_balance::Balance;
+use vr_balance::{Balance, active_in};
 use vr_model::{Group, Model as RoutingModel, NoMemory, Seq};
 use vr_routes::{Change, Piece, Routes};
 
@@ -30,6 +30,8 @@ pub struct GroupCost<'m> {
     saved: Seq<i64>,
     // whether some group has a penalty that is not 0
     pays: bool,
+    // the penalties at the committed lists
+    total: i64,
     balance: Balance,
 }
 
@@ -38,7 +40,12 @@ impl<'m> Model for GroupCost<'m> {
 
     ghost Value = { KeptGroups };
 
-    ghost view = { λ part. record { model = part.model.now; saved = part.saved; pays = part.pays } };
+    ghost view = { λ part. record {
+      model = part.model.now;
+      saved = part.saved;
+      pays = part.pays;
+      total = part.total;
+    } };
 }
 
 // What an active node of a group saves.
@@ -160,6 +167,44 @@ fn saved_in(saved: &Seq<i64>, routes: &Routes, pieces: &[Piece]) -> i64
     total
 }
 
+// A penalty for each of so many nodes.
+fn for_each(penalty: i64, nodes: u32) -> i64
+    requires penalty { IsUpTo 1 penalty }
+    requires few { nodes ≤ 1000 }
+    ensures value { result ≡ (penalty *ℤ pos nodes) }
+    ensures range { IsUpTo 1000 result }
+{
+    penalty * i64::from(nodes)
+}
+
+// What a group costs: its penalty for each node that it lacks.
+fn penalty_of(routes: &Routes, group: &Group) -> i64
+    requires present { WherePresent (IsIn (pos 0) greatest_cost) group.now.penalty }
+    requires few { group.now.max ≤ 1000 }
+    requires fits { IsTrue (fits_group routes.now.lists group.now) }
+    ensures value { result ≡ penalty_for group.now.penalty group.now.max (active_in_of routes.now.lists group.now) }
+    ensures range { IsUpTo 1000 result }
+{
+    let active = active_in(routes, group);
+    match group.penalty {
+        Some(penalty) => for_each(penalty, group.max - active as u32),
+        None => 0,
+    }
+}
+
+// What the groups cost.
+fn penalties(model: &RoutingModel, routes: &Routes) -> i64
+    requires well_formed { IsWellFormed model.now }
+    requires valid { IsTrue (is_valid model.now routes.now.lists) }
+    ensures { result ≡ penalty_part model.now routes.now.lists }
+{
+    let mut total = 0;
+    for g in 0..model.groups.len() {
+        total += penalty_of(routes, model.groups.get(g));
+    }
+    total
+}
+
 impl<'m> GroupCost<'m> {
     /// The penalties at the lists of routes. The only refusal is want of memory.
     pub fn open(
@@ -175,10 +220,12 @@ impl<'m> GroupCost<'m> {
     {
         let saved = savings(alloc, model)?;
         let pays = is_some_paid(model);
+        let total = penalties(model, routes);
         Ok(GroupCost {
             model,
             saved,
             pays,
+            total,
             balance: Balance::new(),
         })
     }
@@ -199,6 +246,25 @@ impl<'m> GroupCost<'m> {
         let gone = saved_in(&self.saved, routes, self.balance.gone());
         let come = saved_in(&self.saved, routes, self.balance.come());
         gone - come
+    }
+
+    /// What a change of the committed lists adds at least, where the lists after it are valid: where they have no
+    /// penalty to pay it does not look at the change.
+    #[inline]
+    pub fn least(&mut self, routes: &Routes, change: &Change) -> i64
+        requires stands { StandsGroups self.old routes.now }
+        requires made { IsMadeOn routes.now change.now }
+        ensures least { IsTrue (is_valid self.old.model (changed routes.now.lists change.now))
+            → result ≤ℤ (penalty_part self.old.model (changed routes.now.lists change.now)
+            -ℤ penalty_part self.old.model routes.now.lists) }
+        ensures range { IsAround 21990232555520000 result }
+        ensures stays { self.new ≡ self.old }
+    {
+        if self.total == 0 {
+            return 0;
+        }
+        let added = self.added(routes, change);
+        added
     }
 }
 
@@ -240,5 +306,8 @@ impl<'m> CostPart for GroupCost<'m> {
         Ok(())
     }
 
-    fn commit(&mut self, _routes: &Routes, _change: &Change) {}
+    fn commit(&mut self, routes: &Routes, change: &Change) {
+        let added = self.added(routes, change);
+        self.total += added;
+    }
 }

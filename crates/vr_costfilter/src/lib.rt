@@ -7,12 +7,12 @@ mod costs;
 mod fixed;
 mod globals;
 mod groups;
+mod lines;
 mod lists;
 mod part;
 mod plans;
 mod reaches;
 mod schedules;
-mod sums;
 mod walks;
 
 pub use arcs::ArcCost;

@@ -41,6 +41,7 @@ pub trait ListCost {
 }
 
 /// What a change adds to such a part: what each changed list adds. The lists after it need not be valid.
+#[inline]
 pub fn added_by<C: ListCost>(cost: &C, routes: &Routes, change: &Change) -> i64
     requires well_formed { IsWellFormed (C.of_model cost.now) }
     requires keeps { C.keeps cost.now routes.now }

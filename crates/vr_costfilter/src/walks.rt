@@ -1,34 +1,21 @@
 //! Paths of vehicles along pieces of lists.
 
-ghost use Rattle.std.specs.Prelude.{◌≡◌, ◌<◌, ◌≤◌, ◌+◌, ◌+ℤ◌, ◌≤ℤ◌, ◌*◌};
-ghost use Rattle.std.specs.Prelude.{ℕ, pos, All, drop, length, slice_index_or, take};
-ghost use Rattle.vr_model.specs.tables.Tables.{arc_cost, vehicle_at, visits};
-ghost use Rattle.vr_model.specs.routes.Routes.{route};
+ghost use Rattle.std.specs.Prelude.{◌≡◌, ◌<◌, ◌≤◌, ◌+◌, ◌+ℤ◌, ◌++◌};
+ghost use Rattle.std.specs.Prelude.{ℕ, All, drop, length, slice_index_or, take};
+ghost use Rattle.vr_model.specs.tables.Tables.{arc_cost, vehicle_at};
+ghost use Rattle.vr_model.specs.routes.Routes.{is_empty, route};
 ghost use Rattle.vr_model.specs.tables.WellFormed.{IsWellFormed};
 ghost use Rattle.vr_routes.specs.declared.pieces.Piece.TheVariants.{Chain};
 ghost use Rattle.vr_routes.specs.Pieces.{joined, nodes_of, IsWithin};
-ghost use Rattle.vr_costfilter.specs.Chains.{chain_sum, first_of, path_sum, last_of, turned, IsUpTo};
+ghost use Rattle.vr_sums.specs.Sums.{last_of, path_sum, IsUpTo};
+ghost use Rattle.vr_costfilter.specs.Chains.{chain_sum, first_of, turned};
 ghost use Rattle.vr_costfilter.specs.Along.{between_cost, AreAlong};
 
 use crate::costs::ArcCosts;
-use crate::sums::{Sums, arc};
+use crate::fixed::nodes_in;
+use crate::lines::Along;
 use vr_model::Model;
 use vr_routes::{Piece, Routes};
-
-/// The sums of arc costs along the list of a vehicle, and along the list backwards.
-#[derive(Drop)]
-pub struct Along {
-    pub ahead: Sums,
-    pub behind: Sums,
-}
-
-/// Where a path stands: at which node, what its arcs cost, and how many visits it has made.
-#[derive(Clone, Copy)]
-pub struct Path {
-    pub at: u32,
-    pub cost: i64,
-    pub visits: u32,
-}
 
 /// What stays of the list of a vehicle beside a stretch that changes: how many places before it, from which place on
 /// behind it, and the nodes of the stops next to it.
@@ -42,6 +29,7 @@ pub struct Gap {
 
 /// What the arcs of a vehicle cost from the stop before a gap of its list along pieces to the stop behind it, 0 where
 /// no node is left of the list then.
+#[inline]
 pub fn cost_between(
     costs: &ArcCosts,
     along: &[Along],
@@ -67,14 +55,33 @@ pub fn cost_between(
     requires to_known { gap.to < costs.now.model.now.nodes }
     ensures value { result ≡ between_cost costs.now.model.now costs.now.vehicle
         (route routes.now.lists costs.now.vehicle) gap.front gap.behind (joined routes.now.lists pieces.now) }
-    ensures range { IsUpTo 10000 result }
+    ensures range { IsUpTo 8009 result }
 {
-    let n = routes.len(costs.vehicle);
-    let path = path_along(costs, along, routes, gap.from, pieces);
-    if gap.front + path.visits + (n - gap.behind) == 0 {
+    if is_left_empty(routes, costs.vehicle, gap, pieces) {
         return 0;
     }
+    let path = path_along(costs, along, routes, gap.from, pieces);
     path.cost + costs.cost(path.at, gap.to)
+}
+
+// Whether no node is left of the list of a vehicle with pieces in its gap.
+#[inline]
+fn is_left_empty(routes: &Routes, v: u32, gap: Gap, pieces: &[Piece]) -> bool
+    requires vehicle { v < length routes.now.lists }
+    requires within { All (IsWithin routes.now.lists) pieces.now }
+    requires few { length pieces.now ≤ 8 }
+    requires order { gap.front ≤ gap.behind }
+    requires place { gap.behind ≤ length (route routes.now.lists v) }
+    ensures { result ≡ is_empty (take gap.front (route routes.now.lists v)
+        ++ (joined routes.now.lists pieces.now ++ drop gap.behind (route routes.now.lists v))) }
+{
+    if gap.front > 0 {
+        return false;
+    }
+    if gap.behind < routes.len(v) {
+        return false;
+    }
+    nodes_in(routes, pieces) == 0
 }
 
 /// The node of the stop before a place of the list of a vehicle.
@@ -111,7 +118,15 @@ pub fn stop_at(model: &Model, routes: &Routes, v: u32, place: u32) -> u32
     routes.node_at(v, place)
 }
 
+// Where a path stands, and what its arcs cost.
+#[derive(Clone, Copy)]
+struct Path {
+    at: u32,
+    cost: i64,
+}
+
 // The path of a vehicle from a node along pieces.
+#[inline]
 fn path_along(costs: &ArcCosts, along: &[Along], routes: &Routes, at: u32, pieces: &[Piece]) -> Path
     requires well_formed { IsWellFormed costs.now.model.now }
     requires many { length along.now ≡ length costs.now.model.now.vehicles }
@@ -125,16 +140,10 @@ fn path_along(costs: &ArcCosts, along: &[Along], routes: &Routes, at: u32, piece
     ensures at { result.at ≡ last_of at (joined routes.now.lists pieces.now) }
     ensures cost { result.cost
         ≡ path_sum (arc_cost costs.now.model.now costs.now.vehicle) at (joined routes.now.lists pieces.now) }
-    ensures visits { result.visits ≡ length (joined routes.now.lists pieces.now) }
-    ensures few { result.visits ≤ 8000 }
     ensures known { result.at < costs.now.model.now.nodes }
-    ensures range { IsUpTo 8000 result.cost }
+    ensures range { IsUpTo 8008 result.cost }
 {
-    let mut path = Path {
-        at,
-        cost: 0,
-        visits: 0,
-    };
+    let mut path = Path { at, cost: 0 };
     for k in 0..pieces.len() {
         path = path.along(costs, along, routes, pieces[k]);
     }
@@ -154,15 +163,13 @@ impl Path {
         requires nodes { All (λ node. node < costs.now.model.now.nodes) (nodes_of routes.now.lists piece) }
         requires at { self.at < costs.now.model.now.nodes }
         requires cost { IsUpTo 8008 self.cost }
-        requires visits { self.visits ≤ 8000 }
         ensures at { result.at ≡ last_of self.at (nodes_of routes.now.lists piece) }
         ensures cost { let cost = arc_cost costs.now.model.now costs.now.vehicle in
             result.cost ≡ self.cost +ℤ path_sum cost self.at (nodes_of routes.now.lists piece) }
-        ensures visits { result.visits ≡ self.visits + length (nodes_of routes.now.lists piece) }
-        ensures few { result.visits ≤ self.visits + 1000 }
+        ensures range { (n : ℕ) → IsUpTo n self.cost → IsUpTo (n + 1001) result.cost }
     {
         match piece {
-            Piece::Node { node } => self.to_node(costs, node),
+            Piece::Node { node } => self.through(costs, node, node, 0),
             Piece::Chain {
                 vehicle,
                 from,
@@ -173,61 +180,29 @@ impl Path {
                     return self;
                 }
                 let (first, last) = ends_of(routes, vehicle, reversed, from, to);
-                let inner = chain_cost(
-                    costs.model,
-                    along,
-                    routes,
-                    costs.vehicle,
-                    vehicle,
-                    reversed,
-                    from,
-                    to,
-                );
-                self.along_chain(costs, first, last, inner, to - from)
+                let inner = chain_cost(costs, along, routes, vehicle, reversed, from, to);
+                self.through(costs, first, last, inner)
             }
         }
     }
 
-    // The path goes on to a node.
+    // The path goes on to a node, and from there by arcs of a known cost to another one.
     #[inline]
-    fn to_node(self, costs: &ArcCosts, node: u32) -> Path
-        requires well_formed { IsWellFormed costs.now.model.now }
-        requires vehicle { costs.now.vehicle < length costs.now.model.now.vehicles }
-        requires at { self.at < costs.now.model.now.nodes }
-        requires node { node < costs.now.model.now.nodes }
-        requires cost { IsUpTo 8008 self.cost }
-        requires visits { self.visits ≤ 8000 }
-        ensures at { result.at ≡ node }
-        ensures cost { result.cost ≡ self.cost +ℤ arc_cost costs.now.model.now costs.now.vehicle self.at node }
-        ensures visits { result.visits ≡ self.visits + 1 }
-    {
-        Path {
-            at: node,
-            cost: self.cost + costs.cost(self.at, node),
-            visits: self.visits + 1,
-        }
-    }
-
-    // The path goes on along a chain, of which its ends, the costs of its arcs and how many nodes it has are known.
-    #[inline]
-    fn along_chain(self, costs: &ArcCosts, first: u32, last: u32, inner: i64, nodes: u32) -> Path
+    fn through(self, costs: &ArcCosts, first: u32, last: u32, inner: i64) -> Path
         requires well_formed { IsWellFormed costs.now.model.now }
         requires vehicle { costs.now.vehicle < length costs.now.model.now.vehicles }
         requires at { self.at < costs.now.model.now.nodes }
         requires first { first < costs.now.model.now.nodes }
         requires cost { IsUpTo 8008 self.cost }
         requires inner { IsUpTo 1000 inner }
-        requires visits { self.visits ≤ 8000 }
-        requires few { nodes ≤ 1000 }
         ensures at { result.at ≡ last }
         ensures cost { result.cost
             ≡ self.cost +ℤ (arc_cost costs.now.model.now costs.now.vehicle self.at first +ℤ inner) }
-        ensures visits { result.visits ≡ self.visits + nodes }
+        ensures range { (n : ℕ) → IsUpTo n self.cost → IsUpTo (n + 1001) result.cost }
     {
         Path {
             at: last,
             cost: self.cost + (costs.cost(self.at, first) + inner),
-            visits: self.visits + nodes,
         }
     }
 }
@@ -250,56 +225,51 @@ fn ends_of(routes: &Routes, w: u32, reversed: bool, from: u32, to: u32) -> (u32,
     }
 }
 
-// The arc costs of vehicle `v` along a chain of the list of vehicle `w`, or along the chain backwards. Where both
+// The arc costs of a vehicle along a chain of the list of vehicle `w`, or along the chain backwards. Where both
 // vehicles have the same costs it takes no longer for a long chain than for a short one.
 #[inline]
 fn chain_cost(
-    model: &Model,
+    costs: &ArcCosts,
     along: &[Along],
     routes: &Routes,
-    v: u32,
     w: u32,
     reversed: bool,
     from: u32,
     to: u32,
 ) -> i64
-    requires well_formed { IsWellFormed model.now }
-    requires many { length along.now ≡ length model.now.vehicles }
-    requires as_many { length routes.now.lists ≡ length model.now.vehicles }
-    requires along { AreAlong model.now routes.now.lists along.now }
-    requires vehicle { v < length model.now.vehicles }
-    requires other { w < length model.now.vehicles }
+    requires well_formed { IsWellFormed costs.now.model.now }
+    requires many { length along.now ≡ length costs.now.model.now.vehicles }
+    requires as_many { length routes.now.lists ≡ length costs.now.model.now.vehicles }
+    requires along { AreAlong costs.now.model.now routes.now.lists along.now }
+    requires vehicle { costs.now.vehicle < length costs.now.model.now.vehicles }
+    requires other { w < length costs.now.model.now.vehicles }
     requires order { from < to }
     requires within { to ≤ length (route routes.now.lists w) }
-    requires nodes { All (λ node. node < model.now.nodes) (nodes_of routes.now.lists (Chain w from to reversed)) }
-    ensures value { result ≡ chain_sum (arc_cost model.now v) (nodes_of routes.now.lists (Chain w from to reversed)) }
+    requires nodes { All (λ node. node < costs.now.model.now.nodes)
+        (nodes_of routes.now.lists (Chain w from to reversed)) }
+    ensures value { result ≡ chain_sum (arc_cost costs.now.model.now costs.now.vehicle)
+        (nodes_of routes.now.lists (Chain w from to reversed)) }
     ensures range { IsUpTo 1000 result }
-    ensures few { to ≤ 1000 }
 {
-    let list = routes.list(w);
-    if model.vehicles.get(v as usize).costs != model.vehicles.get(w as usize).costs {
-        return costs_along(model, v, reversed, &list[from as usize..to as usize]);
+    let vehicles = &costs.model.vehicles;
+    if vehicles.get(costs.vehicle as usize).costs != vehicles.get(w as usize).costs {
+        return costs_along(costs, reversed, &routes.list(w)[from as usize..to as usize]);
     }
-    let along = &along[w as usize];
-    if reversed {
-        along.behind.between(from, to)
-    } else {
-        along.ahead.between(from, to)
-    }
+    along[w as usize].chain(reversed, from, to)
 }
 
 // The arc costs of a vehicle along a chain, or along the chain backwards, added up.
-fn costs_along(model: &Model, v: u32, reversed: bool, chain: &[u32]) -> i64
-    requires well_formed { IsWellFormed model.now }
-    requires vehicle { v < length model.now.vehicles }
+fn costs_along(costs: &ArcCosts, reversed: bool, chain: &[u32]) -> i64
+    requires well_formed { IsWellFormed costs.now.model.now }
+    requires vehicle { costs.now.vehicle < length costs.now.model.now.vehicles }
     requires few { length chain.now ≤ 1000 }
-    requires nodes { All (λ node. node < model.now.nodes) chain.now }
-    ensures value { result ≡ chain_sum (turned reversed (arc_cost model.now v)) chain.now }
+    requires nodes { All (λ node. node < costs.now.model.now.nodes) chain.now }
+    ensures value { result ≡ chain_sum (turned reversed (arc_cost costs.now.model.now costs.now.vehicle)) chain.now }
     ensures range { IsUpTo 1000 result }
 {
     let mut cost = 0;
     for k in 1..chain.len() {
-        cost += arc(model, v, reversed, chain[k - 1], chain[k]);
+        cost += costs.turned(reversed, chain[k - 1], chain[k]);
     }
     cost
 }

@@ -12,9 +12,11 @@ use Rattle.vr_model.proofs.tables.Totals.{total_by-append}
 use Rattle.vr_routes.specs.declared.pieces.Piece.{Piece}
 use Rattle.vr_routes.specs.declared.pieces.Piece.TheVariants.{Chain}
 use Rattle.vr_routes.specs.Pieces.{joined, nodes_of}
-use Rattle.vr_loads.specs.Sums.{IsUpTo, AreSums}
+use Rattle.vr_sums.specs.Sums.{last_of, IsUpTo}
+use Rattle.vr_sums.proofs.Paths.{read-up, sums-between}
+use Rattle.vr_loads.specs.Kept.{at_target, AreTaken}
 use Rattle.vr_loads.proofs.Totals.{AreSmall, total-bounds, total-reversed, up-to-few}
-use Rattle.vr_loads.proofs.ValueLemmas.{read-up, sums-between}
+use Rattle.vr_loads.proofs.ValueLemmas.{taken-total}
 
 -- ---- one piece more
 
@@ -66,37 +68,39 @@ chain-total f lists v from to true = sym (total-reversed f (slice_range (route l
 -- a chain's sum, and how it is read
 module _ (f : ℕ → ℤ) (small : AreSmall f) (lists : List (List ℕ)) (v from to : ℕ) (back : Bool) (within : to ≤ length (route lists v)) where
   -- of a short list
-  pub chain-up : length (route lists v) ≤ 1000 → IsUpTo 1000 (total_by f (nodes_of lists (Chain v from to back)))
+  pub chain-up : length (route lists v) ≤ 1000 → IsUpTo 1001 (total_by f (nodes_of lists (Chain v from to back)))
   chain-up few =
-      subst (IsUpTo 1000) (chain-total f lists v from to back)
-      (up-to-few f small (slice_range (route lists v) from to) (let n = length-between (route lists v) from to within in omega (arith, n, few, within)))
+      let u = up-to-few f small (slice_range (route lists v) from to) (let n = length-between (route lists v) from to within in omega (arith, n, few, within)) in
+      subst (IsUpTo 1001) (chain-total f lists v from to back) (record { low = u.low; high = omega (arith, ints, u.high) })
 
   -- of a list whose sums are kept
-  pub chain-kept : (sums : List ℤ) → AreSums f (route lists v) sums → from ≤ to → IsUpTo 1000 (total_by f (nodes_of lists (Chain v from to back)))
+  pub chain-kept : (sums : List ℤ) → AreTaken f (route lists v) sums → from ≤ to → IsUpTo 1001 (total_by f (nodes_of lists (Chain v from to back)))
   chain-kept sums h order =
       let many = h.many in
+      let few = h.range.few in
       let low : to < length sums = omega (arith, many, within) in
-      let b = sums-between f (route lists v) sums from to h order low in
-      let x = h.range to low in
-      let y = h.range from (omega (arith, low, order)) in
+      let b = sums-between (at_target f) 0 (route lists v) sums from to h order low in
+      let t = taken-total f (last_of 0 (take from (route lists v))) (slice_range (route lists v) from to) in
+      let x = h.range.each to low in
+      let y = h.range.each from (omega (arith, low, order)) in
       let z = total-bounds f small (slice_range (route lists v) from to) in
-      subst (IsUpTo 1000) (chain-total f lists v from to back) (record { low = z.low; high = omega (arith, ints, b, x.high, y.low) })
+      subst (IsUpTo 1001) (chain-total f lists v from to back) (record { low = z.low; high = omega (arith, ints, b, t, x.high, y.low, few, low) })
 
-  pub chain-read : IsUpTo 1000 (total_by f (nodes_of lists (Chain v from to back))) → (result : ℤ) → result ≡ total_by f (slice_range (route lists v) from to) → to_z w64 (of_z w64 result) ≡ total_by f (nodes_of lists (Chain v from to back))
+  pub chain-read : IsUpTo 1001 (total_by f (nodes_of lists (Chain v from to back))) → (result : ℤ) → result ≡ total_by f (slice_range (route lists v) from to) → to_z w64 (of_z w64 result) ≡ total_by f (nodes_of lists (Chain v from to back))
   chain-read up result is =
-      ap (λ x. to_z w64 (of_z w64 x)) (is ∙ chain-total f lists v from to back) ∙ read-up (total_by f (nodes_of lists (Chain v from to back))) up
+      ap (λ x. to_z w64 (of_z w64 x)) (is ∙ chain-total f lists v from to back) ∙ read-up 1001 (total_by f (nodes_of lists (Chain v from to back))) up (omega arith)
 
 -- one piece more, and how it is read
 module _ (f : ℕ → ℤ) (lists : List (List ℕ)) (pieces : List Piece) (k : ℕ) (d : Piece) (low : k < length pieces) (few : length pieces ≤ 8) (sum more : ℤ)
-    (is : sum ≡ total_by f (joined lists (take k pieces))) (up : IsUpTo (1000 * k) sum) (next : more ≡ total_by f (nodes_of lists (slice_index_or pieces k d))) (up_next : IsUpTo 1000 more) where
+    (is : sum ≡ total_by f (joined lists (take k pieces))) (up : IsUpTo (1001 * k) sum) (next : more ≡ total_by f (nodes_of lists (slice_index_or pieces k d))) (up_next : IsUpTo 1001 more) where
   plain : to_z w64 (of_z w64 (sum +ℤ to_z w64 (of_z w64 more))) ≡ sum +ℤ more
   plain = omega (arith, ints, up.low, up.high, up_next.low, up_next.high, low, few)
 
   pub piece-read : to_z w64 (of_z w64 (sum +ℤ to_z w64 (of_z w64 more))) ≡ total_by f (joined lists (take (k + 1) pieces))
   piece-read = let t = total-piece f lists pieces k d low in plain ∙ omega (arith, ints, is, next, t)
 
-  pub piece-up : IsUpTo (1000 * (k + 1)) (to_z w64 (of_z w64 (sum +ℤ to_z w64 (of_z w64 more))))
-  piece-up = subst (IsUpTo (1000 * (k + 1))) (sym plain) (record { low = omega (arith, ints, up.low, up_next.low); high = omega (arith, ints, up.high, up_next.high) })
+  pub piece-up : IsUpTo (1001 * (k + 1)) (to_z w64 (of_z w64 (sum +ℤ to_z w64 (of_z w64 more))))
+  piece-up = subst (IsUpTo (1001 * (k + 1))) (sym plain) (record { low = omega (arith, ints, up.low, up_next.low); high = omega (arith, ints, up.high, up_next.high) })
 
 -- ---- no node at all
 

@@ -1,24 +1,16 @@
 -- Sums of values, and how they are read.
-use Rattle.std.proofs.Common.{◌≡◌, ◌∙◌, ℕ, ◌+◌, ◌<◌, ◌≤◌, List, [], ◌∷◌, ◌++◌, length, take, ap, sym, subst, arith, add-one, to_z, of_z, w64}
-use Rattle.std.specs.Prelude.{ℤ, ◌+ℤ◌, ◌-ℤ◌, slice_range, slice_index_or}
+use Rattle.std.proofs.Common.{◌≡◌, ℕ, ◌+◌, ◌<◌, ◌≤◌, List, [], ◌∷◌, length, take, ap, refl, arith, add-one, to_z, of_z, w64}
+use Rattle.std.specs.Prelude.{ℤ, ◌+ℤ◌, slice_index_or}
 use Rattle.std.proofs.lemmas.Int.{ints}
-use Rattle.vr_model.specs.tables.Numbers.{number_at, total_by}
-use Rattle.vr_loads.specs.Sums.{IsUpTo, AreSums, AreSumsTo}
-use Rattle.vr_loads.proofs.Totals.{AreSmall, total-next, total-between, so-far, sums-more}
+use Rattle.vr_model.specs.tables.Numbers.{total_by}
+use Rattle.vr_sums.specs.Sums.{path_sum}
+use Rattle.vr_loads.specs.Kept.{at_target}
+use Rattle.vr_loads.proofs.Totals.{AreSmall, total-next, so-far}
 
--- a sum is read as it is
-pub read-up : (x : ℤ) → IsUpTo 1000 x → to_z w64 (of_z w64 x) ≡ x
-read-up x h = omega (arith, ints, h.low, h.high)
-
--- what is taken between two places, from the sums there
-pub sums-between : (f : ℕ → ℤ) (list : List ℕ) (sums : List ℤ) (a b : ℕ) → AreSums f list sums → a ≤ b → b < length sums
-    → number_at sums b -ℤ number_at sums a ≡ total_by f (slice_range list a b)
-sums-between f list sums a b h order low =
-    let many = h.many in
-    let x = h.each b (omega (arith, low, many)) in
-    let y = h.each a (omega (arith, low, order, many)) in
-    let t = total-between f list a b order in
-    omega (arith, ints, x, y, t)
+-- what is taken along nodes, as a sum along arcs
+pub taken-total : (f : ℕ → ℤ) (at : ℕ) (xs : List ℕ) → path_sum (at_target f) at xs ≡ total_by f xs
+taken-total f at [] = refl
+taken-total f at (x ∷ xs) = ap (λ s. f x +ℤ s) (taken-total f x xs)
 
 -- one value more
 next-sum : (f : ℕ → ℤ) (list : List ℕ) (k : ℕ) (sum more : ℤ) → k < length list → sum ≡ total_by f (take k list) → more ≡ f (slice_index_or list k 0)
@@ -37,7 +29,6 @@ module _ (f : ℕ → ℤ) (small : AreSmall f) (list : List ℕ) (few : length 
       let n = next-sum f list k sum more low is next in
       omega (arith, ints, u.low, u.high, h.low, h.high, is, next, n)
 
-  pub next-sums : (sums new : List ℤ) → AreSumsTo f list k sums → new ≡ sums ++ to_z w64 (of_z w64 (sum +ℤ to_z w64 (of_z w64 more))) ∷ [] → AreSumsTo f list (k + 1) new
-  next-sums sums new h e =
-      sums-more f list k sums new (to_z w64 (of_z w64 (sum +ℤ to_z w64 (of_z w64 more)))) h (next-read ∙ ap (λ n. total_by f (take n list)) (add-one k))
-      (subst (IsUpTo 1000) (sym next-read) (so-far f small list few (k + 1))) e
+-- a value is read as it is
+pub value-read : (f : ℕ → ℤ) → AreSmall f → (value : ℤ) (x : ℕ) → value ≡ f x → to_z w64 (of_z w64 value) ≡ f x
+value-read f small value x is = let h = small.each x in omega (arith, ints, is, h.low, h.high)

@@ -6,15 +6,16 @@ ghost use Rattle.vr_model.specs.tables.Tables.{dimension_at, evaluator_number, v
 ghost use Rattle.vr_model.specs.routes.Routes.{is_empty, route};
 ghost use Rattle.vr_model.specs.moves.Moves.{with_route};
 ghost use Rattle.vr_routes.specs.Pieces.{joined, nodes_of, IsWithin};
+ghost use Rattle.vr_sums.specs.Sums.{IsUpTo};
 ghost use Rattle.vr_loads.specs.Loads.{HasLoad, can_carry, taken, value_of};
 ghost use Rattle.vr_loads.specs.Kept.{AreCarried, IsCarried};
-ghost use Rattle.vr_loads.specs.Sums.{IsUpTo};
 
-use crate::sums::{Sums, sum_of, value};
+use crate::sums::{sum_of, value, write_sums};
 use std::alloc::Global;
 use std::marker::Model;
 use vr_model::{Model as RoutingModel, NoMemory};
 use vr_routes::{Piece, Routes};
+use vr_sums::Sums;
 
 /// What is kept of one vehicle.
 #[derive(Drop)]
@@ -51,7 +52,7 @@ impl Carried {
         let capacity = *dimension.capacities.get(v as usize);
         self.evaluator = evaluator;
         self.room = capacity - value(model, d, evaluator, start);
-        self.sums.write(model, d, evaluator, list);
+        write_sums(model, d, evaluator, list, &mut self.sums);
     }
 }
 
@@ -153,7 +154,7 @@ impl Loads {
         requires within { IsWithin routes.now.lists piece }
         requires nodes { All (λ node. node < model.now.nodes) (nodes_of routes.now.lists piece) }
         ensures value { result ≡ total_by (value_of model.now d evaluator) (nodes_of routes.now.lists piece) }
-        ensures range { IsUpTo 1000 result }
+        ensures range { IsUpTo 1001 result }
     {
         match piece {
             Piece::Node { node } => value(model, d, evaluator, node),

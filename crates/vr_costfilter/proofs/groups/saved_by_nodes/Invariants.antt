@@ -1,6 +1,6 @@
 use Rattle.std.proofs.Common.{◌≡◌, take}
 use Rattle.vr_model.specs.tables.Numbers.{total_by, number_at}
-use Rattle.vr_costfilter.specs.Chains.{IsUpTo}
+use Rattle.vr_sums.specs.Sums.{IsUpTo}
 use Rattle.vr_costfilter.proofs.groups.saved_by_nodes.Given as goal
 
 -- what the nodes so far save

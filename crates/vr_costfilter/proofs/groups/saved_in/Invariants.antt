@@ -1,5 +1,5 @@
 use Rattle.std.proofs.Common.{◌≡◌, ◌*◌, take}
-use Rattle.vr_costfilter.specs.Chains.{IsUpTo}
+use Rattle.vr_sums.specs.Sums.{IsUpTo}
 use Rattle.vr_costfilter.specs.Groups.{saved_in}
 use Rattle.vr_costfilter.proofs.groups.saved_in.Given as goal
 

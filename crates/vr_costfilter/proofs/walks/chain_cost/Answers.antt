@@ -1,85 +1,64 @@
-use Rattle.std.proofs.Common.{◌≡◌, ◌∙◌, ◌<◌, ℕ, List, true, false, length, ap, sym, subst, arith}
+use Rattle.std.proofs.Common.{◌≡◌, ◌∙◌, ◌<◌, ℕ, List, false, ap, sym, subst, arith}
 use Rattle.std.proofs.lemmas.Int.{ints}
-use Rattle.std.proofs.lemmas.List.{get_or_default}
 use Rattle.std.specs.Prelude.{slice_range, All}
 use Rattle.vr_model.specs.tables.Tables.{arc_cost, vehicle_at, no_vehicle}
 use Rattle.vr_model.specs.routes.Routes.{route}
-use Rattle.vr_costfilter.specs.Chains.{chain_sum, turned, IsUpTo, AreSums}
-use Rattle.vr_costfilter.specs.Along.{no_sums}
-use Rattle.vr_costfilter.proofs.ChainLemmas.{same-costs, up-to-few, read-up}
-use Rattle.vr_costfilter.proofs.PieceLemmas.{chain_of, chain-costs, chain-length, all-of-chain}
+use Rattle.vr_sums.specs.Sums.{IsUpTo}
+use Rattle.vr_sums.proofs.Paths.{read-up}
+use Rattle.vr_costfilter.specs.Chains.{chain_of, chain_sum, turned}
+use Rattle.vr_costfilter.proofs.ChainLemmas.{same-costs, up-to-few}
+use Rattle.vr_costfilter.proofs.LineLemmas.{along-at, few-along}
+use Rattle.vr_costfilter.proofs.PieceLemmas.{chain-costs, chain-length, all-of-chain}
 use Rattle.vr_costfilter.proofs.walks.chain_cost.Goals as goal
 
 pub costs_along-requires-clause-nodes : goal.costs_along-requires-clause-nodes
 costs_along-requires-clause-nodes c =
     let list : List ℕ = route c.args.routes.now.lists c.args.w in
-    subst (λ l. All (λ node. node < c.args.model.now.nodes) (slice_range l c.args.from c.args.to)) (sym c.list-list.ensures.value)
-    (all-of-chain (λ node. node < c.args.model.now.nodes) list c.args.from c.args.to c.args.reversed c.requires.nodes)
+    subst (λ l. All (λ node. node < c.args.costs.now.model.now.nodes) (slice_range l c.args.from c.args.to)) (sym c.list.ensures.value)
+    (all-of-chain (λ node. node < c.args.costs.now.model.now.nodes) list c.args.from c.args.to c.args.reversed c.requires.nodes)
 
 pub returns-then-get-clause-value : goal.returns-then-get-clause-value
 returns-then-get-clause-value c =
     let list : List ℕ = route c.args.routes.now.lists c.args.w in
-    let cost = arc_cost c.args.model.now c.args.v in
+    let cost = arc_cost c.args.costs.now.model.now c.args.costs.now.vehicle in
     let a = c.costs_along.ensures in
-    let v = a.value ∙ ap (λ l. chain_sum (turned c.args.reversed cost) (slice_range l c.args.from c.args.to)) c.list-list.ensures.value in
+    let v = a.value ∙ ap (λ l. chain_sum (turned c.args.reversed cost) (slice_range l c.args.from c.args.to)) c.list.ensures.value in
     let e = chain-costs cost list c.args.from c.args.to c.args.reversed in
     omega (arith, ints, a.range.low, a.range.high, v, e)
 
 pub returns-then-get-clause-range : goal.returns-then-get-clause-range
 returns-then-get-clause-range c =
     let a = c.costs_along.ensures.range in
-    subst (IsUpTo 1000) (sym (read-up c.costs_along.result a)) a
+    subst (IsUpTo 1000) (sym (read-up 1000 c.costs_along.result a (omega arith))) a
 
-pub returns-then-reversed-clause-value : goal.returns-then-reversed-clause-value
-returns-then-reversed-clause-value c =
-    let model = c.args.model.now in
-    let list : List ℕ = route c.args.routes.now.lists c.args.w in
-    let low = subst (λ n. c.args.w < n) (sym c.requires.as_many) c.requires.other in
-    let kept = c.requires.along c.args.w low in
-    let same = c.index-along-w.is ∙ get_or_default c.args.along.now c.args.w c.index-along-w.result no_sums (subst (λ n. c.args.w < n) (sym c.requires.many) c.requires.other) in
-    let sums = subst (λ a. AreSums (turned true (arc_cost model c.args.w)) list a.behind) (sym same) kept.behind in
-    let v = c.between.ensures.value (turned true (arc_cost model c.args.w)) list sums in
-    let costs : (vehicle_at model c.args.v).costs ≡ (vehicle_at model c.args.w).costs = ap (λ x. x.costs) (c.get.ensures.value no_vehicle) ∙ c.if-get.false ∙ ap (λ x. x.costs) (sym (c.get-2.ensures.value no_vehicle)) in
-    let e = same-costs model c.args.v c.args.w true (slice_range list c.args.from c.args.to) costs in
-    let t = chain-costs (arc_cost model c.args.v) list c.args.from c.args.to true in
-    let u : chain_sum (arc_cost model c.args.v) (chain_of true list c.args.from c.args.to) ≡ chain_sum (arc_cost model c.args.v) (chain_of c.args.reversed list c.args.from c.args.to) = ap (λ b. chain_sum (arc_cost model c.args.v) (chain_of b list c.args.from c.args.to)) (sym c.if-reversed.true) in
-    let r = c.between.ensures.range in
-    omega (arith, ints, r.at_least, r.at_most, v, e, t, u)
+pub returns-clause-value : goal.returns-clause-value
+returns-clause-value c =
+    let model = c.args.costs.now.model.now in
+    let v = c.args.costs.now.vehicle in
+    let w = c.args.w in
+    let list : List ℕ = route c.args.routes.now.lists w in
+    let as_many = c.requires.as_many in
+    let many = c.requires.many in
+    let other = c.requires.other in
+    let kept = along-at model c.args.routes.now.lists c.args.along.now w c.index-along-w.result c.requires.along (omega (arith, as_many, many)) (omega (arith, as_many, other)) c.index-along-w.is in
+    let chain : List ℕ = chain_of c.args.reversed list c.args.from c.args.to in
+    let a = c.chain.ensures in
+    let value = a.value model w list kept c.requires.within in
+    let costs : (vehicle_at model v).costs ≡ (vehicle_at model w).costs = ap (λ x. x.costs) (c.get.ensures.value no_vehicle) ∙ c.if-get.false ∙ ap (λ x. x.costs) (sym (c.get-2.ensures.value no_vehicle)) in
+    let same = same-costs model v w false chain costs in
+    omega (arith, ints, a.range.at_least, a.range.at_most, value, same)
 
-pub returns-then-reversed-clause-range : goal.returns-then-reversed-clause-range
-returns-then-reversed-clause-range c =
-    let model = c.args.model.now in
-    let list : List ℕ = route c.args.routes.now.lists c.args.w in
-    let value = returns-then-reversed-clause-value c in
-    let few = c.list-list.ensures.few in
-    let same = ap length c.list-list.ensures.value in
-    let many = chain-length list c.args.from c.args.to c.requires.order c.requires.within c.args.reversed in
-    let w = c.requires.within in
-    subst (IsUpTo 1000) (sym value) (up-to-few model c.requires.well_formed c.args.v c.requires.vehicle false (chain_of c.args.reversed list c.args.from c.args.to) (omega (arith, few, same, many, w)) c.requires.nodes)
-
-pub returns-else-reversed-clause-value : goal.returns-else-reversed-clause-value
-returns-else-reversed-clause-value c =
-    let model = c.args.model.now in
-    let list : List ℕ = route c.args.routes.now.lists c.args.w in
-    let low = subst (λ n. c.args.w < n) (sym c.requires.as_many) c.requires.other in
-    let kept = c.requires.along c.args.w low in
-    let same = c.index-along-w.is ∙ get_or_default c.args.along.now c.args.w c.index-along-w.result no_sums (subst (λ n. c.args.w < n) (sym c.requires.many) c.requires.other) in
-    let sums = subst (λ a. AreSums (turned false (arc_cost model c.args.w)) list a.ahead) (sym same) kept.ahead in
-    let v = c.between-else-reversed.ensures.value (turned false (arc_cost model c.args.w)) list sums in
-    let costs : (vehicle_at model c.args.v).costs ≡ (vehicle_at model c.args.w).costs = ap (λ x. x.costs) (c.get.ensures.value no_vehicle) ∙ c.if-get.false ∙ ap (λ x. x.costs) (sym (c.get-2.ensures.value no_vehicle)) in
-    let e = same-costs model c.args.v c.args.w false (slice_range list c.args.from c.args.to) costs in
-    let t = chain-costs (arc_cost model c.args.v) list c.args.from c.args.to false in
-    let u : chain_sum (arc_cost model c.args.v) (chain_of false list c.args.from c.args.to) ≡ chain_sum (arc_cost model c.args.v) (chain_of c.args.reversed list c.args.from c.args.to) = ap (λ b. chain_sum (arc_cost model c.args.v) (chain_of b list c.args.from c.args.to)) (sym c.if-reversed.false) in
-    let r = c.between-else-reversed.ensures.range in
-    omega (arith, ints, r.at_least, r.at_most, v, e, t, u)
-
-pub returns-else-reversed-clause-range : goal.returns-else-reversed-clause-range
-returns-else-reversed-clause-range c =
-    let model = c.args.model.now in
-    let list : List ℕ = route c.args.routes.now.lists c.args.w in
-    let value = returns-else-reversed-clause-value c in
-    let few = c.list-list.ensures.few in
-    let same = ap length c.list-list.ensures.value in
-    let many = chain-length list c.args.from c.args.to c.requires.order c.requires.within c.args.reversed in
-    let w = c.requires.within in
-    subst (IsUpTo 1000) (sym value) (up-to-few model c.requires.well_formed c.args.v c.requires.vehicle false (chain_of c.args.reversed list c.args.from c.args.to) (omega (arith, few, same, many, w)) c.requires.nodes)
+pub returns-clause-range : goal.returns-clause-range
+returns-clause-range c =
+    let model = c.args.costs.now.model.now in
+    let w = c.args.w in
+    let list : List ℕ = route c.args.routes.now.lists w in
+    let as_many = c.requires.as_many in
+    let many = c.requires.many in
+    let other = c.requires.other in
+    let kept = along-at model c.args.routes.now.lists c.args.along.now w c.index-along-w.result c.requires.along (omega (arith, as_many, many)) (omega (arith, as_many, other)) c.index-along-w.is in
+    let few = few-along model w list c.index-along-w.result kept in
+    let long = chain-length list c.args.from c.args.to c.requires.order c.requires.within c.args.reversed in
+    let within = c.requires.within in
+    subst (IsUpTo 1000) (sym (returns-clause-value c))
+    (up-to-few model c.requires.well_formed c.args.costs.now.vehicle c.requires.vehicle false (chain_of c.args.reversed list c.args.from c.args.to) (omega (arith, few, long, within)) c.requires.nodes)

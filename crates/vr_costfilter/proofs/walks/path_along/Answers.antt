@@ -1,4 +1,4 @@
-use Rattle.std.proofs.Common.{◌≡◌, ◌∙◌, ◌<◌, ◌≤◌, ◌+◌, ◌++◌, ℕ, List, false, length, take, ap, sym, subst, arith, length-append}
+use Rattle.std.proofs.Common.{◌≡◌, ◌∙◌, ◌<◌, ◌+◌, ◌*◌, ◌++◌, ℕ, List, false, take, ap, sym, subst, arith}
 use Rattle.std.proofs.lemmas.Int.{ints}
 use Rattle.std.proofs.lemmas.List.{take_all}
 use Rattle.std.specs.Prelude.{slice_index_or, All}
@@ -6,9 +6,10 @@ use Rattle.vr_model.specs.tables.Tables.{arc_cost}
 use Rattle.vr_routes.specs.declared.pieces.Piece.{Piece}
 use Rattle.vr_routes.specs.declared.pieces.Piece.TheVariants.{Chain}
 use Rattle.vr_routes.specs.Pieces.{joined, nodes_of}
-use Rattle.vr_costfilter.specs.Chains.{path_sum, last_of, IsUpTo}
-use Rattle.vr_costfilter.proofs.ChainLemmas.{path-append, last-append, last-below}
-use Rattle.vr_costfilter.proofs.PathLemmas.{joined-next, all-so-far, all-at, path-up}
+use Rattle.vr_sums.specs.Sums.{path_sum, last_of, IsUpTo}
+use Rattle.vr_sums.proofs.Paths.{path-append, last-append}
+use Rattle.vr_costfilter.proofs.ChainLemmas.{last-below}
+use Rattle.vr_costfilter.proofs.PathLemmas.{joined-next, all-so-far, all-at}
 use Rattle.vr_costfilter.proofs.walks.path_along.Goals as goal
 
 abbrev first_piece : Piece
@@ -26,13 +27,10 @@ along-path-requires-clause-at c =
 
 pub along-path-requires-clause-cost : goal.along-path-requires-clause-cost
 along-path-requires-clause-cost c =
-    let Below : ℕ → Type 0 = λ node. node < c.args.costs.now.model.now.nodes in
-    let nodes : List ℕ = joined c.args.routes.now.lists (take c.loop-k.k c.args.pieces.now) in
-    let all : All Below nodes = all-so-far Below c.args.routes.now.lists c.args.pieces.now c.loop-k.k c.requires.nodes in
-    let few : length nodes ≤ 8000 = (let a = c.loop-k.invariant.visits in let b = c.loop-k.invariant.few in let k = c.loop-k.auto.k-end in let m = c.requires.few in omega (arith, a, b, k, m)) in
-    let u = path-up c.args.costs.now.model.now c.requires.well_formed c.args.costs.now.vehicle c.requires.vehicle c.args.at c.requires.at nodes all few in
-    let i = c.loop-k.invariant in
-    record { low = omega (arith, ints, u.low, i.cost); high = omega (arith, ints, u.high, i.cost) }
+    let r = c.loop-k.invariant.range in
+    let k = c.loop-k.auto.k-end in
+    let few = c.requires.few in
+    record { low = r.low; high = omega (arith, ints, r.high, k, few) }
 
 pub loop-k-preserved : goal.loop-k-preserved
 loop-k-preserved c =
@@ -49,11 +47,11 @@ loop-k-preserved c =
     let cost_next = path-append cost start before piece in
     let cost_same = ap (path_sum cost start) next in
     let cost_piece = ap (λ n. path_sum cost n piece) i.at in
+    let more : 1001 * k + 1001 ≡ 1001 * (k + 1) = omega arith in
     record {
       at = w.at ∙ ap (λ n. last_of n piece) i.at ∙ sym (last-append start before piece) ∙ ap (last_of start) (sym next);
       cost = omega (arith, ints, w.cost, i.cost, cost_next, cost_same, cost_piece);
-      visits = (let l = length-append before piece in let m = ap length next in let a = w.visits in let b = i.visits in omega (arith, l, m, a, b));
-      few = (let a = w.few in let b = i.few in omega (arith, a, b));
+      range = subst (λ n. IsUpTo n c.along-path.result.cost) more (w.range (1001 * k) i.range);
     }
 
 pub returns-clause-at : goal.returns-clause-at
@@ -62,12 +60,6 @@ returns-clause-at c = c.loop-k.invariant.at ∙ ap (λ ps. last_of c.args.at (jo
 pub returns-clause-cost : goal.returns-clause-cost
 returns-clause-cost c = c.loop-k.invariant.cost ∙ ap (λ ps. path_sum (arc_cost c.args.costs.now.model.now c.args.costs.now.vehicle) c.args.at (joined c.args.routes.now.lists ps)) (take_all c.loop-k.k c.args.pieces.now c.loop-k-test.false)
 
-pub returns-clause-visits : goal.returns-clause-visits
-returns-clause-visits c = c.loop-k.invariant.visits ∙ ap (λ ps. length (joined c.args.routes.now.lists ps)) (take_all c.loop-k.k c.args.pieces.now c.loop-k-test.false)
-
-pub returns-clause-few : goal.returns-clause-few
-returns-clause-few c = let b = c.loop-k.invariant.few in let k = c.loop-k.auto.k-end in let m = c.requires.few in omega (arith, b, k, m)
-
 pub returns-clause-known : goal.returns-clause-known
 returns-clause-known c =
     let Below : ℕ → Type 0 = λ node. node < c.args.costs.now.model.now.nodes in
@@ -75,7 +67,7 @@ returns-clause-known c =
 
 pub returns-clause-range : goal.returns-clause-range
 returns-clause-range c =
-    let visits = returns-clause-visits c in
-    let few = returns-clause-few c in
-    let nodes : List ℕ = joined c.args.routes.now.lists c.args.pieces.now in
-    subst (IsUpTo 8000) (sym (returns-clause-cost c)) (path-up c.args.costs.now.model.now c.requires.well_formed c.args.costs.now.vehicle c.requires.vehicle c.args.at c.requires.at nodes c.requires.nodes (omega (arith, visits, few)))
+    let r = c.loop-k.invariant.range in
+    let k = c.loop-k.auto.k-end in
+    let few = c.requires.few in
+    record { low = r.low; high = omega (arith, ints, r.high, k, few) }

@@ -1,10 +1,10 @@
-use Rattle.std.proofs.Common.{◌≡◌, ◌∙◌, ◌<◌, ◌++◌, ℕ, List, [], take, drop, ap, sym, subst, arith}
+use Rattle.std.proofs.Common.{◌≡◌, ◌∙◌, ◌<◌, ◌++◌, ℕ, List, take, drop, ap, sym, subst, arith}
 use Rattle.std.proofs.lemmas.Int.{ints}
-use Rattle.std.proofs.lemmas.List.{append-nil}
 use Rattle.std.specs.Prelude.{slice_range, All}
 use Rattle.vr_model.specs.routes.Routes.{route, route_cost}
 use Rattle.vr_routes.specs.Pieces.{joined}
-use Rattle.vr_costfilter.specs.Along.{between_cost}
+use Rattle.vr_costfilter.specs.Along.{between_cost, StandsAlong}
+use Rattle.vr_costfilter.proofs.LineLemmas.{along-at}
 use Rattle.vr_costfilter.proofs.PathLemmas.{all-left, all-right, cost-between}
 use Rattle.vr_costfilter.proofs.arcs.ArcCostListCost.list_adds.Goals as goal
 
@@ -21,6 +21,7 @@ cost_between-after-requires-clause-nodes c =
 
 pub returns-clause-value : goal.returns-clause-value
 returns-clause-value c =
+    let s = subst (λ k. StandsAlong k c.args.routes.now) (sym c.self.view_is) c.requires.keeps in
     let model : c.self.inside.model.now ≡ c.args.self.now.model = ap (λ s. s.model) c.self.view_is in
     let lists : List (List ℕ) = c.args.routes.now.lists in
     let v = c.args.v in
@@ -28,11 +29,13 @@ returns-clause-value c =
     let ends = c.strip-ends.result in
     let e = c.strip-ends.ensures in
     let middle : List ℕ = joined lists ends.middle.now in
+    let many = s.many in
+    let as_many = s.as_many in
+    let kept = along-at c.self.inside.model.now lists c.self.inside.along.items v c.index.result.now s.along (omega (arith, many, as_many)) c.requires.vehicle c.index.ensures in
     let a = c.cost_between-after.ensures in
-    let b = c.cost_between-before.ensures in
+    let b = c.stretch-before.ensures in
     let after = a.value ∙ ap (λ m. between_cost m v list ends.front ends.behind middle) model in
-    let before = b.value ∙ ap (λ m. between_cost m v list ends.front ends.behind (slice_range list ends.front ends.behind ++ [])) model
-    ∙ ap (between_cost c.args.self.now.model v list ends.front ends.behind) (append-nil (slice_range list ends.front ends.behind)) in
+    let before = b.value c.self.inside.model.now v list kept ∙ ap (λ m. between_cost m v list ends.front ends.behind (slice_range list ends.front ends.behind)) model in
     let joins = ap (route_cost c.args.self.now.model v) e.joins in
     let change = cost-between c.args.self.now.model v list middle ends.front ends.behind e.order e.high in
-    omega (arith, ints, a.range.low, a.range.high, b.range.low, b.range.high, after, before, joins, change)
+    omega (arith, ints, a.range.low, a.range.high, b.range.at_least, b.range.at_most, after, before, joins, change)

@@ -4,7 +4,7 @@ use Rattle.vr_model.specs.tables.Tables.{arc_cost}
 use Rattle.vr_model.specs.routes.Routes.{route}
 use Rattle.vr_routes.specs.declared.pieces.Piece.TheVariants.{Chain}
 use Rattle.vr_routes.specs.Pieces.{nodes_of, IsWithin}
-use Rattle.vr_costfilter.specs.Chains.{path_sum}
+use Rattle.vr_sums.specs.Sums.{path_sum}
 use Rattle.vr_costfilter.proofs.ChainLemmas.{path-first}
 use Rattle.vr_costfilter.proofs.PieceLemmas.{chain-length}
 use Rattle.vr_costfilter.proofs.walks.Path.along.Goals as goal
@@ -22,18 +22,7 @@ returns-else-from-to-clause-cost c =
     let some : 0 < length nodes = omega (arith, order, many) in
     let first = path-first cost at nodes some in
     let same : path_sum cost at (nodes_of lists c.args.piece) ≡ path_sum cost at nodes = ap (λ q. path_sum cost at (nodes_of lists q)) p.is in
-    let a = c.along_chain.ensures.cost in
+    let a = c.through-in-Chain.ensures.cost in
     let f = ap (cost at) c.ends_of-first.ensures.first in
     let g = c.chain_cost-inner.ensures.value in
     omega (arith, ints, first, same, a, f, g)
-
-pub returns-else-from-to-clause-visits : goal.returns-else-from-to-clause-visits
-returns-else-from-to-clause-visits c =
-    let lists : List (List ℕ) = c.args.routes.now.lists in
-    let p = c.in-Chain in
-    let w = subst (IsWithin lists) p.is c.requires.within in
-    let order : p.from < p.to = (let f = c.if-from-to.false in let m = w.1 in omega (arith, f, m)) in
-    let many = chain-length (route lists p.vehicle) p.from p.to order w.2 p.reversed in
-    let same : length (nodes_of lists c.args.piece) ≡ length (nodes_of lists (Chain p.vehicle p.from p.to p.reversed)) = ap (λ q. length (nodes_of lists q)) p.is in
-    let a = c.along_chain.ensures.visits in
-    omega (arith, many, same, a)

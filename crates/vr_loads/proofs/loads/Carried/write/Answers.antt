@@ -7,8 +7,8 @@ use Rattle.vr_loads.specs.Loads.{taken, value_of}
 use Rattle.vr_loads.proofs.LoadLines.{capacity_in_range, number_low}
 use Rattle.vr_loads.proofs.loads.Carried.write.Goals as goal
 
-pub write-requires-clause-evaluator : goal.write-requires-clause-evaluator
-write-requires-clause-evaluator c =
+pub write_sums-requires-clause-evaluator : goal.write_sums-requires-clause-evaluator
+write_sums-requires-clause-evaluator c =
     let number : c.get-evaluator.result.now ≡ evaluator_number (dimension_at c.args.model.now c.args.d) c.args.v =
     sym (c.get-evaluator.ensures.value 0) ∙ ap (λ x. slice_index_or x.vehicle_evaluators c.args.v 0) (sym (c.get-dimension.ensures.value no_dimension)) in
     subst (λ e. e < length (dimension_at c.args.model.now c.args.d).evaluators) (sym number) (number_low c.args.model.now c.args.d c.requires.load c.args.v c.requires.vehicle)
@@ -37,5 +37,5 @@ returns c =
     record {
       evaluator_is = number;
       room_is = omega (arith, ints, r.at_least, r.at_most, capacity, b.low, b.high, first);
-      sums_are = c.write.ensures;
+      sums_are = c.write_sums.ensures;
     }

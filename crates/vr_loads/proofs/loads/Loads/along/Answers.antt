@@ -4,8 +4,10 @@ use Rattle.vr_model.specs.tables.Numbers.{total_by}
 use Rattle.vr_model.specs.routes.Routes.{route}
 use Rattle.vr_routes.specs.Pieces.{nodes_of, IsWithin}
 use Rattle.vr_loads.specs.Loads.{value_of}
-use Rattle.vr_loads.specs.Sums.{AreSums, IsUpTo}
+use Rattle.vr_sums.specs.Sums.{IsUpTo}
+use Rattle.vr_loads.specs.Kept.{at_target, AreTaken}
 use Rattle.vr_loads.proofs.KeptLemmas.{kept-at}
+use Rattle.vr_loads.proofs.ValueLemmas.{taken-total}
 use Rattle.vr_loads.proofs.LoadLines.{small}
 use Rattle.vr_loads.proofs.PieceLemmas.{all-of-chain, chain-kept, chain-read, chain-up}
 use Rattle.vr_loads.proofs.loads.Loads.along.Goals as goal
@@ -21,8 +23,8 @@ returns-then-other-evaluator-clause-value c =
     let kept = kept-at m d lists c.args.self.now c.self.inside.vehicles.items p.vehicle other c.requires.carried w.0 c.self.view_is c.index-other.ensures in
     let f = value_of m d c.args.evaluator in
     let less = small m d c.requires.load c.args.evaluator c.requires.evaluator in
-    let sums = subst (λ e. AreSums (value_of m d e) (route lists p.vehicle) other.sums) c.if-other-evaluator.true kept.sums_are in
-    chain-read f less lists p.vehicle p.from p.to p.reversed w.2 (chain-kept f less lists p.vehicle p.from p.to p.reversed w.2 other.sums sums w.1) c.between.result (c.between.ensures f (route lists p.vehicle) sums)
+    let sums = subst (λ e. AreTaken (value_of m d e) (route lists p.vehicle) other.sums) c.if-other-evaluator.true kept.sums_are in
+    chain-read f less lists p.vehicle p.from p.to p.reversed w.2 (chain-kept f less lists p.vehicle p.from p.to p.reversed w.2 other.sums sums w.1) c.between.result (c.between.ensures.value (at_target f) 0 (route lists p.vehicle) sums ∙ taken-total f _ (slice_range (route lists p.vehicle) p.from p.to))
     ∙ ap (λ q. total_by f (nodes_of lists q)) (sym p.is)
 
 pub returns-then-other-evaluator-clause-range : goal.returns-then-other-evaluator-clause-range
@@ -35,8 +37,8 @@ returns-then-other-evaluator-clause-range c =
     let other = c.index-other.result.now in
     let kept = kept-at m d lists c.args.self.now c.self.inside.vehicles.items p.vehicle other c.requires.carried w.0 c.self.view_is c.index-other.ensures in
     let f = value_of m d c.args.evaluator in
-    let sums = subst (λ e. AreSums (value_of m d e) (route lists p.vehicle) other.sums) c.if-other-evaluator.true kept.sums_are in
-    subst (IsUpTo 1000) (ap (λ q. total_by f (nodes_of lists q)) (sym p.is) ∙ sym (returns-then-other-evaluator-clause-value c))
+    let sums = subst (λ e. AreTaken (value_of m d e) (route lists p.vehicle) other.sums) c.if-other-evaluator.true kept.sums_are in
+    subst (IsUpTo 1001) (ap (λ q. total_by f (nodes_of lists q)) (sym p.is) ∙ sym (returns-then-other-evaluator-clause-value c))
     (chain-kept f (small m d c.requires.load c.args.evaluator c.requires.evaluator) lists p.vehicle p.from p.to p.reversed w.2 other.sums sums w.1)
 
 pub sum_of-requires-clause-nodes : goal.sum_of-requires-clause-nodes
@@ -69,5 +71,5 @@ returns-else-other-evaluator-clause-range c =
     let w = subst (IsWithin lists) p.is c.requires.within in
     let few = subst (λ l. length l ≤ 1000) c.list-list.ensures.value c.list-list.ensures.few in
     let f = value_of m d c.args.evaluator in
-    subst (IsUpTo 1000) (ap (λ q. total_by f (nodes_of lists q)) (sym p.is) ∙ sym (returns-else-other-evaluator-clause-value c))
+    subst (IsUpTo 1001) (ap (λ q. total_by f (nodes_of lists q)) (sym p.is) ∙ sym (returns-else-other-evaluator-clause-value c))
     (chain-up f (small m d c.requires.load c.args.evaluator c.requires.evaluator) lists p.vehicle p.from p.to p.reversed w.2 few)
