@@ -9,15 +9,19 @@ ghost use Rattle.vr_model.specs.tables.Tables.{visits};
 ghost use Rattle.vr_model.specs.tables.WellFormed.{IsWellFormed};
 ghost use Rattle.vr_model.specs.declared.neighbours.Move.{Move as Step};
 ghost use Rattle.vr_model.specs.declared.records.Model.{Model as RoutingModel};
+ghost use Rattle.vr_routes.specs.Changes.{IsChange};
 ghost use Rattle.vr_routes.specs.Judging.{cost_change};
 
 use vr_model::Move;
-use vr_routes::Routes;
+use vr_routes::{Change, Routes};
 
 /// Says which moves a search takes. It means a model, and a test on lists, a move of theirs and the difference that the
-/// move makes in cost.
+/// move makes in cost. It is asked only about lists that it is ready for.
 pub trait Accept {
     ghost model: { Self → RoutingModel };
+
+    /// It is ready for these lists: what it keeps of lists is of them.
+    ghost stands_at: { Self → List (List ℕ) → Type 0 };
 
     /// Whether a move of lists is taken that makes this difference in cost.
     ghost takes: { Self → List (List ℕ) → Step → ℤ → Bool };
@@ -26,6 +30,7 @@ pub trait Accept {
     fn accepts(&self, routes: &Routes, mv: Move, difference: i64) -> bool
         requires well_formed { IsWellFormed (model self.now) }
         requires of_model { routes.now.visits ≡ visits (model self.now) }
+        requires stands { stands_at self.now routes.now.lists }
         requires valid { IsTrue (is_valid (model self.now) routes.now.lists) }
         requires mv { IsTrue (is_move (model self.now) routes.now.lists mv) }
         requires after { IsTrue (is_valid (model self.now) (apply (model self.now) routes.now.lists mv)) }
@@ -33,12 +38,14 @@ pub trait Accept {
         ensures { result ≡ takes self.now routes.now.lists mv difference };
 
     /// Whether the move may be taken where it makes a difference of `least` or more: false only where it is not. A
-    /// search asks this before it has a move judged. Takes no memory.
-    fn may_accept(&self, routes: &Routes, mv: Move, least: i64) -> bool
+    /// search asks this before it has a move judged, and hands in the change that the move makes. Takes no memory.
+    fn may_accept(&self, routes: &Routes, mv: Move, change: &Change, least: i64) -> bool
         requires well_formed { IsWellFormed (model self.now) }
         requires of_model { routes.now.visits ≡ visits (model self.now) }
+        requires stands { stands_at self.now routes.now.lists }
         requires valid { IsTrue (is_valid (model self.now) routes.now.lists) }
         requires mv { IsTrue (is_move (model self.now) routes.now.lists mv) }
+        requires change { IsChange (model self.now) routes.now.lists mv change.now }
         ensures { result ≡ false → IsPassedOver (model self.now) (takes self.now) routes.now.lists mv least }
     {
         true

@@ -10,7 +10,7 @@ ghost use Rattle.vr_watch.specs.Told.{Told, ToldInPart};
 use crate::{Accept, Progress, ScanEnd};
 use std::sync::ledger::Ledger;
 use vr_model::{End, Kind, Limit, Model, Move, NoMemory, Report, Steps};
-use vr_routes::{Judge, Routes};
+use vr_routes::{Change, Judge, Routes};
 use vr_watch::{Watch, note_all};
 
 // Takes each move that makes the cost less.
@@ -22,13 +22,15 @@ struct Cheaper<'m> {
 impl<'m> Accept for Cheaper<'m> {
     ghost model = { λ s. s.model.now };
 
+    ghost stands_at = { λ s lists. Unit {0} };
+
     ghost takes = { λ s lists mv difference. int_lt difference (pos 0) };
 
     fn accepts(&self, _routes: &Routes, _mv: Move, difference: i64) -> bool {
         difference < 0
     }
 
-    fn may_accept(&self, _routes: &Routes, _mv: Move, least: i64) -> bool {
+    fn may_accept(&self, _routes: &Routes, _mv: Move, _change: &Change, least: i64) -> bool {
         least < 0
     }
 }

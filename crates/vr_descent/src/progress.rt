@@ -45,6 +45,7 @@ impl Progress {
         requires well_formed { IsWellFormed model.now }
         requires judge_model { J.model judge.old ≡ model.now }
         requires accept_model { A.model accept.now ≡ model.now }
+        requires accept_stands { A.stands_at accept.now routes.old.lists }
         requires holds { HoldSame model.now (J.committed judge.old) routes.old }
         requires cost { self.old.cost ≡ cost model.now routes.old.lists }
         requires tries { limit.tries ≤ 1000000000 }

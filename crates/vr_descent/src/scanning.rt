@@ -11,7 +11,7 @@ ghost use Rattle.vr_routes.specs.Judging.{HoldSame};
 use crate::{Accept, moves};
 use std::sync::ledger::Ledger;
 use vr_model::{Model, Move, NoMemory, Steps};
-use vr_routes::{Judge, Routes, Verdict};
+use vr_routes::{Change, Judge, Routes, Verdict};
 
 /// How a scan of a list of moves ends.
 #[derive(Clone, Copy)]
@@ -33,6 +33,7 @@ pub enum ScanEnd {
 /// Tries the moves of the model's neighbourhoods in order, at most `rest` of them, up to the first that is acceptable:
 /// the lists after it are valid, and `accept` takes it. Each try is one step of the list of moves and at most one
 /// question to the judge: a move that `accept` does not take with the least difference that it may make is not judged.
+/// What a move changes is written once, for both.
 ///
 /// The only refusal is want of memory, which is taken by the judge alone; the judge still holds the same lists then.
 pub fn scan<J: Judge, A: Accept, L: Ledger>(
@@ -46,6 +47,7 @@ pub fn scan<J: Judge, A: Accept, L: Ledger>(
     requires well_formed { IsWellFormed model.now }
     requires judge_model { J.model judge.old ≡ model.now }
     requires accept_model { A.model accept.now ≡ model.now }
+    requires accept_stands { A.stands_at accept.now routes.now.lists }
     requires holds { HoldSame model.now (J.committed judge.old) routes.now }
     ensures ends { IfOk result (λ ended. ended ≡ scan_end model.now routes.now.lists
         (scan (moves model.now routes.now.lists)
@@ -56,13 +58,15 @@ pub fn scan<J: Judge, A: Accept, L: Ledger>(
     ensures asked_at_most { OnErr result (J.asked judge.new ≤ J.asked judge.old + rest) }
 {
     let mut list = moves(model, routes);
+    let mut change = Change::blank();
     let mut place = 0;
     while let Some(mv) = list.next() {
         if place == rest {
             return Ok(ScanEnd::Cut);
         }
         place += 1;
-        if let Some(difference) = try_move(judge, routes, accept, mv, steps)? {
+        let tried = try_move(model, judge, routes, accept, mv, &mut change, steps)?;
+        if let Some(difference) = tried {
             return Ok(ScanEnd::Accepted {
                 place,
                 mv,
@@ -73,27 +77,33 @@ pub fn scan<J: Judge, A: Accept, L: Ledger>(
     Ok(ScanEnd::Complete { length: place })
 }
 
-// The difference that a move makes, where it is acceptable. The judge is asked only where it may be taken.
+// The difference that a move makes, where it is acceptable. What it changes is written over `change`. The judge is asked
+// only where the move may be taken.
 #[inline]
 fn try_move<J: Judge, A: Accept, L: Ledger>(
+    model: &Model,
     judge: &mut J,
     routes: &Routes,
     accept: &A,
     mv: Move,
+    change: &mut Change,
     steps: &mut Steps<L>,
 ) -> Result<Option<i64>, NoMemory>
-    requires well_formed { IsWellFormed (J.model judge.old) }
-    requires accept_model { A.model accept.now ≡ J.model judge.old }
-    requires holds { HoldSame (J.model judge.old) (J.committed judge.old) routes.now }
-    requires mv { IsTrue (is_move (J.model judge.old) routes.now.lists mv) }
+    requires well_formed { IsWellFormed model.now }
+    requires judge_model { J.model judge.old ≡ model.now }
+    requires accept_model { A.model accept.now ≡ model.now }
+    requires accept_stands { A.stands_at accept.now routes.now.lists }
+    requires holds { HoldSame model.now (J.committed judge.old) routes.now }
+    requires mv { IsTrue (is_move model.now routes.now.lists mv) }
     ensures answer { IfOk result (λ answer. answer
-        ≡ taken (J.model judge.old) (A.takes accept.now) routes.now.lists mv) }
+        ≡ taken model.now (A.takes accept.now) routes.now.lists mv) }
     ensures model { J.model judge.new ≡ J.model judge.old }
     ensures committed { J.committed judge.new ≡ J.committed judge.old }
     ensures asked { J.asked judge.new ≤ J.asked judge.old + 1 }
 {
-    let least = judge.least_difference(routes, mv);
-    if !accept.may_accept(routes, mv, least) {
+    Change::write(model, routes, mv, change);
+    let least = judge.least_difference(routes, mv, change);
+    if !accept.may_accept(routes, mv, change, least) {
         return Ok(None);
     }
     match judge.judge(routes, mv, steps)? {

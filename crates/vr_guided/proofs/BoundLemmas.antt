@@ -25,7 +25,7 @@ use Rattle.vr_guided.proofs.PartLemmas.{part_value, sums, used}
 use Rattle.vr_guided.proofs.WalkLemmas.{all_left, all_push, all_right}
 
 -- the most that a penalised arc adds
-abbrev most : ℕ
+abbrev pub most : ℕ
 most = 1000000000 * 1099511627776
 
 module _ (model : Model) (well : IsWellFormed model) (p : Penalties) (few : AtMost 1000000000 p) where
@@ -36,7 +36,7 @@ module _ (model : Model) (well : IsWellFormed model) (p : Penalties) (few : AtMo
       let often = few.each origin target in
       product-up_to 1000000000 1099511627776 (pos (p origin target)) _ (record { at_least = omega (arith, ints); at_most = omega (arith, ints, often) }) costs.at_most (inr costs.at_least)
 
-  path-up_to : (v node : ℕ) (nodes : List ℕ) → v < length model.vehicles → node < model.nodes → All (λ x. x < model.nodes) nodes
+  pub path-up_to : (v node : ℕ) (nodes : List ℕ) → v < length model.vehicles → node < model.nodes → All (λ x. x < model.nodes) nodes
       → IsUpTo (length nodes * most) (total_by (weight model p) (arcs_from v node nodes))
   path-up_to v node [] known low each = up_to-zero _
   path-up_to v node (next ∷ rest) known low each =
@@ -88,7 +88,7 @@ module _ (model : Model) (well : IsWellFormed model) (p : Penalties) (few : AtMo
   Below nodes = All (λ node. node < model.nodes) nodes
 
   -- where a path through nodes ends
-  last_below : (x : ℕ) (nodes : List ℕ) → x < model.nodes → Below nodes → last_of x nodes < model.nodes
+  pub last_below : (x : ℕ) (nodes : List ℕ) → x < model.nodes → Below nodes → last_of x nodes < model.nodes
   last_below x [] low each = low
   last_below x (y ∷ ys) low each = last_below y ys (each 0 y (omega arith)) (λ k d l. each (suc k) d (omega (arith, l)))
 

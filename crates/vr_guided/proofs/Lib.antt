@@ -3,6 +3,9 @@ pub mod PartLemmas
 pub mod WalkLemmas
 pub mod RaiseLemmas
 pub mod LocalChanges
+pub mod SumLemmas
+pub mod StretchLemmas
+pub mod LineLemmas
 pub mod ArcLemmas
 pub mod CountLemmas
 pub mod GuideLemmas

@@ -20,7 +20,7 @@ module _ (f : UsedArc → ℤ) (v : ℕ) where
   abbrev pub along : ℕ → List ℕ → ℤ
   along x nodes = total_by f (arcs_from v x nodes)
 
-  along_split : (x : ℕ) (front rest : List ℕ) → along x (front ++ rest) ≡ along x front +ℤ along (last_of x front) rest
+  pub along_split : (x : ℕ) (front rest : List ℕ) → along x (front ++ rest) ≡ along x front +ℤ along (last_of x front) rest
   along_split x front rest = ap (total_by f) (arcs_split v x front rest) ∙ total_by-append f (arcs_from v x front) (arcs_from v (last_of x front) rest)
 
   -- a stretch up to the node `next`, and the nodes behind

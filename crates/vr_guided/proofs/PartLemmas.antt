@@ -1,6 +1,6 @@
 -- What other pieces make of the penalised arc costs of a vehicle, and what all parts of a change make of them.
-use Rattle.std.proofs.Common.{◌≡◌, ◌≢◌, ◌∙◌, ℕ, zero, suc, ◌+◌, ◌*◌, ◌^◌, ◌-◌, to_z, of_z, ◌<◌, ◌≤◌, true, false, cond, nat_lt, List, [], ◌∷◌, ◌++◌, length, length-set, take, drop, sym, ap, ap₂, subst, inl, inr, arith, append_assoc}
-use Rattle.std.specs.Prelude.{ℤ, pos, negsuc, unsigned_abs, ◌+ℤ◌, ◌-ℤ◌, ◌≤ℤ◌, ◌==◌, ◌⊎◌, slice_range, slice_set, slice_index_or}
+use Rattle.std.proofs.Common.{◌≡◌, ◌≢◌, ◌∙◌, ℕ, zero, suc, ◌+◌, ◌*◌, ◌^◌, ◌-◌, to_z, of_z, ◌<◌, ◌≤◌, true, false, cond, nat_lt, List, [], ◌∷◌, ◌++◌, length, length-set, take, drop, refl, sym, ap, ap₂, subst, inl, inr, arith, append_assoc}
+use Rattle.std.specs.Prelude.{ℤ, pos, negsuc, unsigned_abs, ◌+ℤ◌, ◌-ℤ◌, ◌≤ℤ◌, ◌==◌, ◌⊎◌, All, IsTrue, slice_range, slice_set, slice_index_or}
 use Rattle.std.specs.Int.{w128}
 use Rattle.std.proofs.lemmas.Int.{ints}
 use Rattle.std.proofs.lemmas.Bool.{le-ltb, lt-ltb}
@@ -8,14 +8,18 @@ use Rattle.std.proofs.lemmas.Bool.Decides.{eqb_tells}
 use Rattle.std.proofs.lemmas.List.{drop-drop, take-append-drop, length-append, length-drop}
 use Rattle.vr_model.specs.tables.Numbers.{below, total_by}
 use Rattle.vr_model.specs.tables.Tables.{vehicle_at}
-use Rattle.vr_model.specs.routes.Routes.{arcs_of, route, vehicles}
-use Rattle.vr_model.specs.search.GuidedSearches.{Penalties, penalised}
+use Rattle.vr_model.specs.routes.Routes.{are_lists, arcs_of, cost_of_arc, route, used_arcs, vehicles}
+use Rattle.vr_model.specs.search.GuidedSearches.{Penalties, no_penalties, penalised}
 use Rattle.vr_model.specs.declared.records.Model.{Model}
 use Rattle.vr_model.proofs.tables.Totals.{total_by-more}
 use Rattle.vr_routes.specs.declared.pieces.Piece.{Piece}
 use Rattle.vr_routes.specs.Changes.{AreParts}
-use Rattle.vr_routes.specs.Pieces.{ListAfter, changed, joined}
-use Rattle.vr_model.proofs.routes.Lists.{route_set_same, route_set_other}
+use Rattle.vr_routes.specs.Pieces.{IsWithin, ListAfter, changed, joined, no_part, part_at}
+use Rattle.vr_model.proofs.routes.Lists.{are_lists-count, route-below, route-few, route_set_same, route_set_other}
+use Rattle.vr_model.specs.tables.WellFormed.{IsWellFormed}
+use Rattle.std.proofs.Math.IntN.{zero-*ℤ}
+use Rattle.vr_routes.proofs.PartLemmas.{part_is}
+use Rattle.vr_guided.specs.Parts.{IsPart}
 use Rattle.vr_balance.specs.Ends.{AreEnds}
 use Rattle.vr_guided.specs.Walks.{last_of, route_weight, stretch_weight, unused_weight, weight}
 use Rattle.vr_guided.proofs.LocalChanges.{along, local_change, total_by_each}
@@ -178,3 +182,40 @@ as_read n o u w n_low n_high o_low o_high u_low u_high w_low w_high =
     let before : to_z w128 (of_z w128 (to_z w128 (of_z w128 o) -ℤ to_z w128 (of_z w128 u))) ≡ o -ℤ u = omega (arith, ints, o_low, o_high, u_low, u_high) in
     let same : to_z w128 (of_z w128 ((n -ℤ w) -ℤ (o -ℤ u))) ≡ (n -ℤ w) -ℤ (o -ℤ u) = omega (arith, ints, n_low, n_high, o_low, o_high, u_low, u_high, w_low, w_high) in
     ap₂ (λ x y. to_z w128 (of_z w128 (x -ℤ y))) after before ∙ same
+
+-- ---- the premises of a part
+
+-- a second part is there
+pub second_there : (n k : ℕ) → k ≡ n → 1 ≤ k → (k ≡ 1 → ⊥) → 1 < n
+second_there n k e some apart = Prim.grind (arith, e, some, apart)
+
+-- a part of a change of lists is one of a vehicle of the model
+pub part-of : (model : Model) → IsWellFormed model → (lists : List (List ℕ)) → IsTrue (are_lists model lists) → (parts : List ListAfter) → AreParts lists parts → IsTrue (are_lists model (changed lists parts))
+    → (k v : ℕ) (pieces : List Piece) → k < length parts → v ≡ (part_at parts k).vehicle → pieces ≡ (part_at parts k).pieces → IsPart model lists v pieces
+part-of model well lists valid parts are after k v pieces low is same =
+    let most = well.number_of_nodes.1 in
+    let count = are_lists-count model lists valid in
+    let there : v < length lists = subst (λ w. w < length lists) (sym is) (are.each_vehicle k no_part low) in
+    let few = route-few model lists v valid in
+    let later = route-few model (changed lists parts) (part_at parts k).vehicle after in
+    let here : route (changed lists parts) (part_at parts k).vehicle ≡ joined lists pieces = part_is lists parts are k low ∙ ap (joined lists) (sym same) in
+    let len = ap length here in
+    record {
+      vehicle = there;
+      of_model = omega (arith, count, there);
+      old_nodes = route-below model lists v valid;
+      old_short = omega (arith, few, most);
+      within = subst (λ ps. All (IsWithin lists) ps) (sym same) (are.each_within k no_part low);
+      nodes = subst (λ xs. All (λ node. node < model.nodes) xs) here (route-below model (changed lists parts) (part_at parts k).vehicle after);
+      short = omega (arith, later, most, len);
+    }
+
+-- ---- no penalties
+
+total-none : {X : Type 0} (f : X → ℤ) (xs : List X) → ((x : X) → f x ≡ pos 0) → total_by f xs ≡ pos 0
+total-none f [] none = refl
+total-none f (x ∷ xs) none = let here = none x in let rest = total-none f xs none in omega (arith, ints, here, rest)
+
+-- where no pair was penalised, nothing is added
+pub unpenalised : (model : Model) (p : Penalties) (lists : List (List ℕ)) → p ≡ no_penalties → penalised model p lists ≡ pos 0
+unpenalised model p lists none = ap (λ q. penalised model q lists) none ∙ total-none (weight model no_penalties) (used_arcs model lists) (λ arc. zero-*ℤ (cost_of_arc model arc))

@@ -30,6 +30,11 @@ all_unreversed P [] h = h
 all_unreversed P (x ∷ xs) h = let parts = subst (λ zs. All P zs) (reverse-append (x ∷ []) xs) h in
     All-cons P x xs (All-head P x [] (all_right P (reverse xs) (x ∷ []) parts)) (all_unreversed P xs (all_left P (reverse xs) (x ∷ []) parts))
 
+-- the first of some nodes, where one more stands behind them
+pub some_next : (nodes : List ℕ) (end : ℕ) → (next : ℕ) × ((others : List ℕ) × (nodes ++ end ∷ [] ≡ next ∷ others))
+some_next [] end = (end, ([], refl))
+some_next (x ∷ xs) end = (x, (xs ++ end ∷ [], refl))
+
 -- the last of the first few nodes
 pub last_taken : (x : ℕ) (nodes : List ℕ) (k : ℕ) → k < length nodes → last_of x (take (k + 1) nodes) ≡ get_or nodes k 0
 last_taken x nodes k low = ap (last_of x) (take_more nodes k 0 low) ∙ last_behind x (get_or nodes k 0) (take k nodes)

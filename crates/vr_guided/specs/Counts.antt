@@ -1,7 +1,8 @@
 -- How often each ordered pair of nodes was penalised, row by row.
-use Rattle.std.specs.Prelude.{◌≡◌, ℕ, ◌+◌, ◌*◌, ◌≤◌, ◌&&◌, cond, nat_lt, List, slice_index_or, pos, ◌≤ℤ◌}
+use Rattle.std.specs.Prelude.{◌≡◌, ℕ, ◌+◌, ◌*◌, ◌≤◌, Bool, false, ◌&&◌, cond, nat_lt, List, length, slice_index_or, pos}
+use Rattle.std.specs.Prelude.{◌≤ℤ◌}
 use Rattle.vr_model.specs.declared.search.Lambda.{Lambda}
-use Rattle.vr_model.specs.search.GuidedSearches.{Penalties}
+use Rattle.vr_model.specs.search.GuidedSearches.{Penalties, no_penalties}
 
 -- the counts of n nodes
 pub record Counts : Type 0 where
@@ -12,6 +13,11 @@ pub record Counts : Type 0 where
 abbrev pub counted : Counts → Penalties
 counted c origin target =
     cond (nat_lt origin c.nodes && nat_lt target c.nodes) (slice_index_or c.counts (origin * c.nodes + target) 0) 0
+
+-- counts of n nodes, none of them above 0 where no pair was penalised
+pub record AreCounts (n : ℕ) (counts : List ℕ) (any : Bool) : Type 0 where
+  pub square : length counts ≡ n * n
+  pub none : any ≡ false → counted (record { nodes = n; counts = counts }) ≡ no_penalties
 
 -- no pair was penalised more often
 pub record AtMost (most : ℕ) (p : Penalties) : Type 0 where

@@ -1,5 +1,8 @@
 pub mod Counts
 pub mod Kept
+pub mod Parts
+pub mod Sums
+pub mod Lines
 pub mod Guides
 pub mod Standing
 pub mod Worths

@@ -1,5 +1,5 @@
 -- Where guided search in code stands.
-use Rattle.std.specs.Prelude.{◌≡◌, ℕ, suc, ◌-◌, ◌≤◌, List, IsTrue, pos, ◌≤ℤ◌}
+use Rattle.std.specs.Prelude.{◌≡◌, ℕ, suc, ◌-◌, ◌≤◌, List, length, IsTrue, pos, ◌≤ℤ◌}
 use Rattle.vr_model.specs.routes.Costs.{cost}
 use Rattle.vr_model.specs.routes.Rules.{is_valid}
 use Rattle.vr_model.specs.search.Outcomes.{SearchState, Outcome}
@@ -31,7 +31,8 @@ pub record IsBest (model : Model) (visits : List ℕ) (best : Best) : Type 0 whe
   pub same_visits : best.routes.visits ≡ visits
 
 -- routes and judge hold the same valid lists; their cost, the tries and the solutions are counted; the best routes are
--- valid; no arc was penalised more often than a move was tried; and each pair of nodes has a count
+-- valid; no arc was penalised more often than a move was tried; each pair of nodes has a count; and each vehicle has a
+-- line
 pub record Stands (model : Model) (limit : Limit) (committed : List (List ℕ)) (routes : Tours) (state : State) :
     Type 0 where
   pub holds : HoldSame model committed routes
@@ -42,6 +43,7 @@ pub record Stands (model : Model) (limit : Limit) (committed : List (List ℕ)) 
   pub best : IsBest model routes.visits state.best
   pub few : AtMost state.at.used (counted state.penalties)
   pub covers : state.penalties.nodes ≡ model.nodes
+  pub lines : length state.lines ≡ length model.vehicles
 
 -- where the definition stands
 abbrev pub standing : List (List ℕ) → List (List ℕ) → ℕ → ℕ → SearchState

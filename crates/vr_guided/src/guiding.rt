@@ -2,12 +2,14 @@
 
 ghost use Rattle.std.specs.Prelude.{◌≡◌, ◌≤◌, ◌*◌, ◌^◌, ◌*ℤ◌, IsTrue, unsigned_abs};
 ghost use Rattle.vr_guided.specs.Counts.{AtMost, IsSoundGuide, counted};
+ghost use Rattle.vr_guided.specs.Lines.{AreLines};
 ghost use Rattle.vr_guided.specs.Guides.{is_gain, makes_less, penalised_change};
 ghost use Rattle.vr_model.specs.moves.MoveTests.{is_move};
 ghost use Rattle.vr_model.specs.routes.Rules.{is_valid};
 ghost use Rattle.vr_model.specs.tables.Tables.{visits};
 ghost use Rattle.vr_model.specs.tables.WellFormed.{IsWellFormed};
 
+use crate::lines::Lines;
 use crate::penalties::Penalties;
 use vr_descent::Accept;
 use vr_model::{Lambda, Model, Move};
@@ -19,33 +21,55 @@ pub struct Guiding<'m> {
     pub model: &'m Model,
     pub lambda: Lambda,
     pub penalties: &'m Penalties,
+    pub lines: &'m Lines,
     ghost sound: { IsSoundGuide model.now.nodes lambda penalties.now },
 }
 
 impl<'m> Accept for Guiding<'m> {
     ghost model = { λ s. s.model.now };
 
+    ghost stands_at = { λ s lists. AreLines s.model.now (counted s.penalties.now) lists s.lines.now };
+
     ghost takes = { λ s. makes_less s.model.now s.lambda (counted s.penalties.now) };
 
     fn accepts(&self, routes: &Routes, mv: Move, difference: i64) -> bool {
-        self.gains(
-            difference,
-            penalised_change(self.model, self.penalties, routes, mv),
-        )
+        self.gains(difference, self.penalised_change(routes, mv))
     }
 
-    fn may_accept(&self, routes: &Routes, mv: Move, least: i64) -> bool {
-        let mut change = Change::blank();
-        Change::write(self.model, routes, mv, &mut change);
-        let saved = self.penalties.saved_at_most(self.model, routes, &change);
+    fn may_accept(&self, routes: &Routes, _mv: Move, change: &Change, least: i64) -> bool {
+        let saved = self
+            .penalties
+            .saved_at_most(self.model, routes, self.lines, change);
         if !self.gains(least, -saved) {
             return false;
         }
-        self.gains(least, self.penalties.change(self.model, routes, &change))
+        self.gains(
+            least,
+            self.penalties
+                .change(self.model, routes, self.lines, change),
+        )
     }
 }
 
 impl<'m> Guiding<'m> {
+    // What a move makes of the penalised arc costs, by the arcs that change. Takes no memory.
+    fn penalised_change(&self, routes: &Routes, mv: Move) -> i128
+        requires well_formed { IsWellFormed self.now.model.now }
+        requires of_model { routes.now.visits ≡ visits self.now.model.now }
+        requires valid { IsTrue (is_valid self.now.model.now routes.now.lists) }
+        requires mv { IsTrue (is_move self.now.model.now routes.now.lists mv) }
+        requires lines { AreLines self.now.model.now (counted self.now.penalties.now) routes.now.lists
+            self.now.lines.now }
+        ensures bound { unsigned_abs result ≤ 2 ^ 100 }
+        ensures value { result
+            ≡ penalised_change self.now.model.now (counted self.now.penalties.now) routes.now.lists mv }
+    {
+        let mut change = Change::blank();
+        Change::write(self.model, routes, mv, &mut change);
+        self.penalties
+            .change(self.model, routes, self.lines, &change)
+    }
+
     // Whether this difference in cost, with this change of the penalised arc costs, makes the augmented cost less.
     #[inline]
     fn gains(&self, difference: i64, change: i128) -> bool
@@ -66,20 +90,4 @@ fn scaled(factor: i64, change: i128) -> i128
     ensures bound { unsigned_abs result ≤ 1000 * 2 ^ 100 }
 {
     factor as i128 * change
-}
-
-// What a move makes of the penalised arc costs, by the arcs that change. Takes no memory.
-fn penalised_change(model: &Model, penalties: &Penalties, routes: &Routes, mv: Move) -> i128
-    requires well_formed { IsWellFormed model.now }
-    requires of_model { routes.now.visits ≡ visits model.now }
-    requires valid { IsTrue (is_valid model.now routes.now.lists) }
-    requires mv { IsTrue (is_move model.now routes.now.lists mv) }
-    requires covers { penalties.now.nodes ≡ model.now.nodes }
-    requires few { AtMost 1000000000 (counted penalties.now) }
-    ensures bound { unsigned_abs result ≤ 2 ^ 100 }
-    ensures value { result ≡ penalised_change model.now (counted penalties.now) routes.now.lists mv }
-{
-    let mut change = Change::blank();
-    Change::write(model, routes, mv, &mut change);
-    penalties.change(model, routes, &change)
 }

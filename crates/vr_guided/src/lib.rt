@@ -6,9 +6,11 @@ mod changing;
 mod costly;
 mod guiding;
 mod laws;
+mod lines;
 mod penalties;
 mod raising;
 mod searching;
+mod sums;
 mod walks;
 mod worths;
 

@@ -1,6 +1,6 @@
 //! How often each arc was penalised.
 
-ghost use Rattle.std.specs.Prelude.{◌≡◌, ◌<◌, ◌≤◌, ◌+◌, ◌*◌, ℕ, length, IfOk};
+ghost use Rattle.std.specs.Prelude.{◌≡◌, ◌<◌, ◌≤◌, ◌+◌, ◌*◌, ℕ, false, length, IfOk};
 ghost use Rattle.vr_guided.specs.Counts.{AtMost, counted};
 ghost use Rattle.vr_guided.specs.Worths.{increased};
 ghost use Rattle.vr_model.specs.search.GuidedSearches.{no_penalties};
@@ -14,17 +14,18 @@ use vr_model::NoMemory;
 pub struct Penalties {
     nodes: u32,
     counts: Vec<u32>,
+    // where this is false, no pair was penalised
+    any: bool,
 }
 
 impl Model for Penalties {
-    ghost use Rattle.std.specs.Prelude.{◌≡◌, ◌*◌, length};
-    ghost use Rattle.vr_guided.specs.Counts.{Counts};
+    ghost use Rattle.vr_guided.specs.Counts.{AreCounts, Counts};
 
     ghost Value = { Counts };
 
     ghost view = { λ p. record { nodes = p.nodes; counts = p.counts.items } };
 
-    ghost invariant = { λ p. length p.counts.items ≡ p.nodes * p.nodes };
+    ghost invariant = { λ p. AreCounts p.nodes p.counts.items p.any };
 }
 
 impl Penalties {
@@ -36,7 +37,19 @@ impl Penalties {
     {
         let cells = nodes as usize * nodes as usize;
         let counts = vec![in alloc; 0; cells]?;
-        Ok(Penalties { nodes, counts })
+        Ok(Penalties {
+            nodes,
+            counts,
+            any: false,
+        })
+    }
+
+    /// Whether a pair may have been penalised: where not, none was.
+    #[inline]
+    pub fn is_any(&self) -> bool
+        ensures { result ≡ false → counted self.now ≡ no_penalties }
+    {
+        self.any
     }
 
     /// How often the arc from one node to another was penalised.
@@ -60,6 +73,7 @@ impl Penalties {
             ≡ increased (counted self.old) (record { vehicle = vehicle; origin = origin; target = target }) }
     {
         let cell = self.cell(origin, target);
+        self.any = true;
         self.counts[cell] += 1;
     }
 

@@ -12,6 +12,7 @@ ghost use Rattle.vr_watch.specs.Told.{Told, ToldInPart};
 use crate::best::Best;
 use crate::costly::has_costly_arc;
 use crate::guiding::Guiding;
+use crate::lines::Lines;
 use crate::penalties::Penalties;
 use std::alloc::Global;
 use std::sync::ledger::Ledger;
@@ -92,6 +93,7 @@ pub fn guide<J: Judge, L: Ledger>(
             cost: first_cost,
         },
         penalties: Penalties::new(alloc, model.nodes)?,
+        lines: Lines::new(alloc, model)?,
     };
     note_all(watch, state.at.event(Kind::First))?;
     let end = improve(
@@ -109,6 +111,7 @@ struct State {
     at: Progress,
     best: Best,
     penalties: Penalties,
+    lines: Lines,
 }
 
 // Searches on from where it stands, and says why it ended.
@@ -142,10 +145,12 @@ fn improve<J: Judge, L: Ledger>(
     ensures asked_at_most { OnErr result (J.asked judge.new + state.old.at.used ≤ J.asked judge.old + limit.tries) }
 {
     'scans: while state.at.found != limit.solutions {
+        state.lines.write(model, &state.penalties, routes);
         let guiding = Guiding {
             model,
             lambda,
             penalties: &state.penalties,
+            lines: &state.lines,
         };
         let ended = state
             .at

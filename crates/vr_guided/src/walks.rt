@@ -2,8 +2,9 @@
 
 ghost use Rattle.std.specs.Prelude.{◌≡◌, ◌<◌, ◌≤◌, ◌≤ℤ◌, ◌*ℤ◌, ◌+◌, ◌^◌, All, length, pos, reverse};
 ghost use Rattle.vr_guided.specs.Counts.{AtMost, counted};
+ghost use Rattle.vr_guided.specs.Sums.{weight_by};
 ghost use Rattle.vr_guided.specs.Walks.{IsSoundWalk, begun, stepped, walked, weight};
-ghost use Rattle.vr_model.specs.tables.WellFormed.{IsWellFormed};
+ghost use Rattle.vr_model.specs.tables.WellFormed.{IsIn, IsWellFormed};
 ghost use Rattle.vr_routes.specs.Pieces.{IsWithin, joined, nodes_of};
 
 use crate::penalties::Penalties;
@@ -52,6 +53,33 @@ impl Penalties {
             return 0;
         }
         times(penalty, model.arc_cost(vehicle, origin, target))
+    }
+
+    /// What an arc adds that is taken on, or back from its target to its origin.
+    #[inline]
+    pub fn weight_by(
+        &self,
+        model: &Model,
+        vehicle: u32,
+        origin: u32,
+        target: u32,
+        back: bool,
+    ) -> i128
+        requires well_formed { IsWellFormed model.now }
+        requires vehicle { vehicle < length model.now.vehicles }
+        requires origin { origin < model.now.nodes }
+        requires target { target < model.now.nodes }
+        requires covers { self.now.nodes ≡ model.now.nodes }
+        requires few { AtMost 1000000000 (counted self.now) }
+        ensures value { result ≡ weight_by model.now (counted self.now) back
+            (record { vehicle = vehicle; origin = origin; target = target }) }
+        ensures range { IsIn (pos 0) (pos (2 ^ 70)) result }
+    {
+        if back {
+            self.weight(model, vehicle, target, origin)
+        } else {
+            self.weight(model, vehicle, origin, target)
+        }
     }
 
     /// A walk goes on to a node.

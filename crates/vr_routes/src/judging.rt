@@ -7,9 +7,10 @@ ghost use Rattle.vr_model.specs.routes.Rules.{is_valid};
 ghost use Rattle.vr_model.specs.tables.WellFormed.{IsWellFormed};
 ghost use Rattle.vr_model.specs.declared.neighbours.Move.{Move as Step};
 ghost use Rattle.vr_model.specs.declared.records.Model.{Model as RoutingModel};
+ghost use Rattle.vr_routes.specs.Changes.{IsChange};
 ghost use Rattle.vr_routes.specs.Judging.{HoldSame, cost_change, moved, verdict_of};
 
-use crate::Routes;
+use crate::{Change, Routes};
 use std::sync::ledger::Ledger;
 use vr_model::{Move, NoMemory, Steps, laws};
 
@@ -52,14 +53,15 @@ pub trait Judge {
         ensures asked { asked self.new ≤ asked self.old + 1 }
         ensures steps { steps.new ≤ steps.old + weight self.old mv };
 
-    /// A number that the difference of a move is never below, where the lists after it are valid; of other moves it says
-    /// nothing. A search asks it first, since it takes few moves and most can be passed over by what they cost at least.
-    /// It does not judge the move, takes no memory and counts no steps. A judge that knows no better number says the
-    /// least of all.
-    fn least_difference(&mut self, routes: &Routes, mv: Move) -> i64
+    /// A number that the difference of a move is never below, where the lists after it are valid; of other moves it
+    /// says nothing. A search asks it first, since it takes few moves and most can be passed over by what they cost at
+    /// least. The caller hands in the change that the move makes. It does not judge the move, takes no memory and counts
+    /// no steps. A judge that knows no better number says the least of all.
+    fn least_difference(&mut self, routes: &Routes, mv: Move, change: &Change) -> i64
         requires well_formed { IsWellFormed (model self.old) }
         requires holds { HoldSame (model self.old) (committed self.old) routes.now }
         requires mv { IsTrue (is_move (model self.old) routes.now.lists mv) }
+        requires change { IsChange (model self.old) routes.now.lists mv change.now }
         ensures least { IsTrue (is_valid (model self.old) (apply (model self.old) routes.now.lists mv))
             → result ≤ℤ cost_change (model self.old) routes.now.lists mv }
         ensures model { model self.new ≡ model self.old }

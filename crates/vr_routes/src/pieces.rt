@@ -1,10 +1,12 @@
 //! Pieces that lists after a change are made of.
 
-ghost use Rattle.std.specs.Prelude.{◌≡◌, ℕ, ◌+◌, ◌<◌, ◌≤◌, List, [], ◌∷◌, ◌++◌, length, reverse, slice_range};
+ghost use Rattle.std.specs.Prelude.{All, ◌≡◌, ℕ, ◌+◌, ◌<◌, ◌≤◌, List, [], ◌∷◌, ◌++◌, length, reverse, slice_range};
 ghost use Rattle.vr_model.specs.routes.Routes.{route};
 ghost use Rattle.vr_routes.specs.Changes.{IsAfter};
 ghost use Rattle.vr_routes.specs.Pairs.{is_past};
+ghost use Rattle.vr_routes.specs.Pieces.{IsWithin, joined, nodes_of};
 
+use crate::Routes;
 use arrayvec::ArrayVec;
 use std::marker::Model;
 
@@ -26,6 +28,35 @@ pub enum Piece {
 impl Default for Piece {
     fn default() -> Piece {
         Piece::Node { node: 0 }
+    }
+}
+
+impl Piece {
+    /// How many nodes it has of the lists that it lies within.
+    #[inline]
+    pub fn nodes(&self, _routes: &Routes) -> usize
+        requires within { IsWithin _routes.now.lists self.now }
+        ensures value { result ≡ length (nodes_of _routes.now.lists self.now) }
+        ensures few { result < 4294967296 }
+    {
+        match *self {
+            Piece::Node { .. } => 1,
+            Piece::Chain { from, to, .. } => (to - from) as usize,
+        }
+    }
+
+    /// How many nodes several pieces have.
+    #[inline]
+    pub fn nodes_in(routes: &Routes, pieces: &[Piece]) -> usize
+        requires within { All (IsWithin routes.now.lists) pieces.now }
+        requires few { length pieces.now ≤ 8 }
+        ensures { result ≡ length (joined routes.now.lists pieces.now) }
+    {
+        let mut nodes = 0;
+        for piece in pieces {
+            nodes += piece.nodes(routes);
+        }
+        nodes
     }
 }
 

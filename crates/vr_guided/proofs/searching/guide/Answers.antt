@@ -26,6 +26,11 @@ returns-in_err-new-clause-told_in_part g c =
     let start : Goes (λ w. (goal.Watch-dyn g (w.vtable, w.value)).after w.value) (guided c.args.model.now c.args.routes.now.lists c.args.limit c.args.lambda) (behind ((event_at c.args.model.now (begun c.args.routes.now.lists) kind.First) ∷ []) (from_here c.args.model.now c.args.limit c.args.lambda no_penalties c.args.routes.now.lists c.args.routes.now.lists 0 1)) c.args.watch.now.items c.args.watch.now.items = record { told = []; outcome = at_start c.args.model.now c.args.limit c.args.lambda c.args.routes.now.lists; heard = told_nothing (λ w. (goal.Watch-dyn g (w.vtable, w.value)).after w.value) _ } in
     on_err c.from_residual-in_err-new.result (goes_nowhere (λ w. (goal.Watch-dyn g (w.vtable, w.value)).after w.value) (guided c.args.model.now c.args.routes.now.lists c.args.limit c.args.lambda) _ _ _ start)
 
+pub returns-in_err-new-2-clause-told_in_part : goal.returns-in_err-new-2-clause-told_in_part
+returns-in_err-new-2-clause-told_in_part g c =
+    let start : Goes (λ w. (goal.Watch-dyn g (w.vtable, w.value)).after w.value) (guided c.args.model.now c.args.routes.now.lists c.args.limit c.args.lambda) (behind ((event_at c.args.model.now (begun c.args.routes.now.lists) kind.First) ∷ []) (from_here c.args.model.now c.args.limit c.args.lambda no_penalties c.args.routes.now.lists c.args.routes.now.lists 0 1)) c.args.watch.now.items c.args.watch.now.items = record { told = []; outcome = at_start c.args.model.now c.args.limit c.args.lambda c.args.routes.now.lists; heard = told_nothing (λ w. (goal.Watch-dyn g (w.vtable, w.value)).after w.value) _ } in
+    on_err c.from_residual-in_err-new-2.result (goes_nowhere (λ w. (goal.Watch-dyn g (w.vtable, w.value)).after w.value) (guided c.args.model.now c.args.routes.now.lists c.args.limit c.args.lambda) _ _ _ start)
+
 pub returns-in_err-note_all-clause-told_in_part : goal.returns-in_err-note_all-clause-told_in_part
 returns-in_err-note_all-clause-told_in_part g c =
     let fits = costs_are_bounded c.args.model.now c.requires.well_formed c.args.routes.now.lists c.requires.holds.valid in
@@ -62,6 +67,7 @@ improve-requires-clause-stands g c =
       };
       few = subst (λ p. AtMost 0 p) (sym c.in_ok-new.ensures.none) none_at_first;
       covers = c.in_ok-new.ensures.nodes;
+      lines = c.in_ok-new-2.ensures;
     }
 
 pub returns-in_err-end-clause-judge_model : goal.returns-in_err-end-clause-judge_model

@@ -54,6 +54,10 @@ pub advance-requires-clause-holds : goal.advance-requires-clause-holds
 advance-requires-clause-holds g c =
     c.scans.invariant.stands.holds
 
+pub advance-requires-clause-accept_stands : goal.advance-requires-clause-accept_stands
+advance-requires-clause-accept_stands g c =
+    c.write.ensures
+
 pub advance-requires-clause-cost : goal.advance-requires-clause-cost
 advance-requires-clause-cost g c =
     c.scans.invariant.stands.costs
@@ -127,6 +131,7 @@ scans-preserved-in-Accepted g c =
             (record { costs = costs_new; valid = c.in_ok-ended.ensures.holds.valid; same_visits = refl }));
         few = few_more (counted c.scans.state.penalties) c.scans.state.at.used c.advance.new.self.used (omega (arith, used_new)) c.scans.invariant.stands.few;
         covers = c.scans.invariant.stands.covers;
+        lines = c.write.ensures.many;
       };
       asked = omega (arith, c.in_ok-ended.ensures.asked, c.scans.invariant.asked);
       no_dearer = subst (λ b. b.cost ≤ℤ c.args.state.now.best.cost) (sym offered) (kept_no_dearer c.scans.state.best c.advance.new.routes c.advance.new.self.cost c.args.state.now.best.cost c.scans.invariant.no_dearer);
@@ -228,6 +233,7 @@ scans-preserved g c =
         best = record { costs = best_old.costs; valid = best_old.valid; same_visits = best_old.same_visits ∙ sym (ap (λ r. r.visits) routes_new) };
         few = subst (λ k. AtMost k (counted c.raise.new.self)) (sym used_new) (subst (λ p. AtMost (c.scans.state.at.used + c.in-Complete.length) p) (sym raised_new) (few_raised c.args.model.now (counted c.scans.state.penalties) c.scans.routes.lists c.scans.state.at.used c.in-Complete.length one c.scans.invariant.stands.few));
         covers = c.raise.ensures.nodes ∙ c.scans.invariant.stands.covers;
+        lines = c.write.ensures.many;
       };
       asked = omega (arith, c.in_ok-ended.ensures.asked, c.scans.invariant.asked);
       no_dearer = c.scans.invariant.no_dearer;
@@ -289,6 +295,7 @@ returns-then-is_stuck-clause-stands g c =
       best = record { costs = best_old.costs; valid = best_old.valid; same_visits = best_old.same_visits ∙ sym (ap (λ r. r.visits) routes_new) };
       few = few_more (counted c.scans.state.penalties) c.scans.state.at.used c.advance.new.self.used (omega (arith, used_new, c.scans.invariant.stands.used)) c.scans.invariant.stands.few;
       covers = c.scans.invariant.stands.covers;
+      lines = c.write.ensures.many;
     }
 
 pub returns-then-is_stuck-clause-no_dearer : goal.returns-then-is_stuck-clause-no_dearer
@@ -348,6 +355,7 @@ returns-in-Cut-clause-stands g c =
       best = record { costs = best_old.costs; valid = best_old.valid; same_visits = best_old.same_visits ∙ sym (ap (λ r. r.visits) routes_new) };
       few = few_more (counted c.scans.state.penalties) c.scans.state.at.used c.advance.new.self.used (omega (arith, used_new, c.scans.invariant.stands.used)) c.scans.invariant.stands.few;
       covers = c.scans.invariant.stands.covers;
+      lines = c.write.ensures.many;
     }
 
 pub returns-in-Cut-clause-no_dearer : goal.returns-in-Cut-clause-no_dearer

@@ -1,94 +1,31 @@
-use Rattle.std.proofs.Common.{◌≡◌, ◌∙◌, ◌<◌, ◌≤◌, ℕ, length, to_z, of_z, ap, ap₂, sym, subst, arith}
+use Rattle.std.proofs.Common.{◌≡◌, ◌∙◌, length, to_z, of_z, ap₂, sym, arith}
 use Rattle.std.specs.Int.{w128}
-use Rattle.std.specs.Prelude.{◌+ℤ◌, ◌-ℤ◌, All}
+use Rattle.std.specs.Prelude.{◌+ℤ◌, ◌-ℤ◌}
 use Rattle.std.proofs.lemmas.Int.{ints}
-use Rattle.vr_model.proofs.routes.Lists.{are-lists, are_lists-count, route-below, route-few}
-use Rattle.vr_routes.specs.Pieces.{IsWithin, changed, joined, no_part, part_at}
+use Rattle.vr_model.proofs.routes.Lists.{are-lists}
+use Rattle.vr_routes.specs.Pieces.{changed, joined, no_part, part_at}
 use Rattle.vr_model.specs.routes.Routes.{route}
-use Rattle.vr_routes.proofs.PartLemmas.{part_is}
 use Rattle.vr_guided.specs.Counts.{counted}
 use Rattle.vr_guided.specs.Walks.{route_weight}
-use Rattle.vr_guided.proofs.PartLemmas.{one_part, two_parts, part_change}
+use Rattle.vr_guided.proofs.PartLemmas.{one_part, two_parts, part_change, part-of, second_there, unpenalised}
 use Rattle.vr_guided.proofs.penalties.Penalties.change.Goals as goal
 
-second_there : (n k : ℕ) → k ≡ n → 1 ≤ k → (k ≡ 1 → ⊥) → 1 < n
-second_there n k e some apart = Prim.grind (arith, e, some, apart)
+pub change_of_part-first-requires-clause-part : goal.change_of_part-first-requires-clause-part
+change_of_part-first-requires-clause-part c =
+    part-of c.args.model.now c.requires.well_formed c.args.routes.now.lists (are-lists c.args.model.now c.args.routes.now.lists c.requires.valid) c.args.change.now c.requires.parts c.requires.after 0 c.vehicle.result c.pieces.result.now
+    (omega (arith, c.parts-parts.ensures.value, c.parts-parts.ensures.some)) c.vehicle.ensures c.pieces.ensures.value
 
-pub change_of_part-first-requires-clause-vehicle : goal.change_of_part-first-requires-clause-vehicle
-change_of_part-first-requires-clause-vehicle c = subst (λ v. v < length c.args.routes.now.lists) (sym c.vehicle.ensures) (c.requires.parts.each_vehicle 0 no_part (omega (arith, c.parts-parts.ensures.value, c.parts-parts.ensures.some)))
+pub change_of_part-requires-clause-part : goal.change_of_part-requires-clause-part
+change_of_part-requires-clause-part c =
+    part-of c.args.model.now c.requires.well_formed c.args.routes.now.lists (are-lists c.args.model.now c.args.routes.now.lists c.requires.valid) c.args.change.now c.requires.parts c.requires.after 1 c.vehicle-2.result c.pieces-2.result.now
+    (second_there _ _ c.parts-parts.ensures.value c.parts-parts.ensures.some c.if-parts-eq1.false) c.vehicle-2.ensures c.pieces-2.ensures.value
 
-pub change_of_part-first-requires-clause-of_model : goal.change_of_part-first-requires-clause-of_model
-change_of_part-first-requires-clause-of_model c =
-    let count = are_lists-count c.args.model.now c.args.routes.now.lists (are-lists c.args.model.now c.args.routes.now.lists c.requires.valid) in
-    let there : c.vehicle.result < length c.args.routes.now.lists = subst (λ v. v < length c.args.routes.now.lists) (sym c.vehicle.ensures) (c.requires.parts.each_vehicle 0 no_part (omega (arith, c.parts-parts.ensures.value, c.parts-parts.ensures.some))) in
-    omega (arith, count, there)
-
-pub change_of_part-first-requires-clause-old_nodes : goal.change_of_part-first-requires-clause-old_nodes
-change_of_part-first-requires-clause-old_nodes c = route-below c.args.model.now c.args.routes.now.lists c.vehicle.result (are-lists c.args.model.now c.args.routes.now.lists c.requires.valid)
-
-pub change_of_part-first-requires-clause-old_short : goal.change_of_part-first-requires-clause-old_short
-change_of_part-first-requires-clause-old_short c =
-    let few = route-few c.args.model.now c.args.routes.now.lists c.vehicle.result (are-lists c.args.model.now c.args.routes.now.lists c.requires.valid) in
-    let most = c.requires.well_formed.number_of_nodes.1 in
-    omega (arith, few, most)
-
-pub change_of_part-first-requires-clause-within : goal.change_of_part-first-requires-clause-within
-change_of_part-first-requires-clause-within c = subst (λ ps. All (IsWithin c.args.routes.now.lists) ps) (sym c.pieces.ensures.value) (c.requires.parts.each_within 0 no_part (omega (arith, c.parts-parts.ensures.value, c.parts-parts.ensures.some)))
-
-pub change_of_part-first-requires-clause-nodes : goal.change_of_part-first-requires-clause-nodes
-change_of_part-first-requires-clause-nodes c =
-    let lists = c.args.routes.now.lists in
-    let after = changed lists c.args.change.now in
-    let here = part_is lists c.args.change.now c.requires.parts 0 (omega (arith, c.parts-parts.ensures.value, c.parts-parts.ensures.some)) in
-    subst (λ xs. All (λ node. node < c.args.model.now.nodes) xs) (here ∙ ap (joined lists) (sym c.pieces.ensures.value)) (route-below c.args.model.now after _ c.requires.after)
-
-pub change_of_part-first-requires-clause-short : goal.change_of_part-first-requires-clause-short
-change_of_part-first-requires-clause-short c =
-    let lists = c.args.routes.now.lists in
-    let after = changed lists c.args.change.now in
-    let here = part_is lists c.args.change.now c.requires.parts 0 (omega (arith, c.parts-parts.ensures.value, c.parts-parts.ensures.some)) in
-    let same = ap length (here ∙ ap (joined lists) (sym c.pieces.ensures.value)) in
-    let few = route-few c.args.model.now after (part_at c.args.change.now 0).vehicle c.requires.after in
-    let most = c.requires.well_formed.number_of_nodes.1 in
-    omega (arith, few, most, same)
-
-pub change_of_part-requires-clause-vehicle : goal.change_of_part-requires-clause-vehicle
-change_of_part-requires-clause-vehicle c = subst (λ v. v < length c.args.routes.now.lists) (sym c.vehicle-2.ensures) (c.requires.parts.each_vehicle 1 no_part (second_there _ _ c.parts-parts.ensures.value c.parts-parts.ensures.some c.if-parts-eq1.false))
-
-pub change_of_part-requires-clause-of_model : goal.change_of_part-requires-clause-of_model
-change_of_part-requires-clause-of_model c =
-    let count = are_lists-count c.args.model.now c.args.routes.now.lists (are-lists c.args.model.now c.args.routes.now.lists c.requires.valid) in
-    let there : c.vehicle-2.result < length c.args.routes.now.lists = subst (λ v. v < length c.args.routes.now.lists) (sym c.vehicle-2.ensures) (c.requires.parts.each_vehicle 1 no_part (second_there _ _ c.parts-parts.ensures.value c.parts-parts.ensures.some c.if-parts-eq1.false)) in
-    omega (arith, count, there)
-
-pub change_of_part-requires-clause-old_nodes : goal.change_of_part-requires-clause-old_nodes
-change_of_part-requires-clause-old_nodes c = route-below c.args.model.now c.args.routes.now.lists c.vehicle-2.result (are-lists c.args.model.now c.args.routes.now.lists c.requires.valid)
-
-pub change_of_part-requires-clause-old_short : goal.change_of_part-requires-clause-old_short
-change_of_part-requires-clause-old_short c =
-    let few = route-few c.args.model.now c.args.routes.now.lists c.vehicle-2.result (are-lists c.args.model.now c.args.routes.now.lists c.requires.valid) in
-    let most = c.requires.well_formed.number_of_nodes.1 in
-    omega (arith, few, most)
-
-pub change_of_part-requires-clause-within : goal.change_of_part-requires-clause-within
-change_of_part-requires-clause-within c = subst (λ ps. All (IsWithin c.args.routes.now.lists) ps) (sym c.pieces-2.ensures.value) (c.requires.parts.each_within 1 no_part (second_there _ _ c.parts-parts.ensures.value c.parts-parts.ensures.some c.if-parts-eq1.false))
-
-pub change_of_part-requires-clause-nodes : goal.change_of_part-requires-clause-nodes
-change_of_part-requires-clause-nodes c =
-    let lists = c.args.routes.now.lists in
-    let after = changed lists c.args.change.now in
-    let here = part_is lists c.args.change.now c.requires.parts 1 (second_there _ _ c.parts-parts.ensures.value c.parts-parts.ensures.some c.if-parts-eq1.false) in
-    subst (λ xs. All (λ node. node < c.args.model.now.nodes) xs) (here ∙ ap (joined lists) (sym c.pieces-2.ensures.value)) (route-below c.args.model.now after _ c.requires.after)
-
-pub change_of_part-requires-clause-short : goal.change_of_part-requires-clause-short
-change_of_part-requires-clause-short c =
-    let lists = c.args.routes.now.lists in
-    let after = changed lists c.args.change.now in
-    let here = part_is lists c.args.change.now c.requires.parts 1 (second_there _ _ c.parts-parts.ensures.value c.parts-parts.ensures.some c.if-parts-eq1.false) in
-    let same = ap length (here ∙ ap (joined lists) (sym c.pieces-2.ensures.value)) in
-    let few = route-few c.args.model.now after (part_at c.args.change.now 1).vehicle c.requires.after in
-    let most = c.requires.well_formed.number_of_nodes.1 in
-    omega (arith, few, most, same)
+pub returns-then-not-is_any-clause-value : goal.returns-then-not-is_any-clause-value
+returns-then-not-is_any-clause-value c =
+    let none = c.is_any.ensures c.if-not-is_any.true in
+    let before = unpenalised c.args.model.now (counted c.args.self.now) c.args.routes.now.lists none in
+    let after = unpenalised c.args.model.now (counted c.args.self.now) (changed c.args.routes.now.lists c.args.change.now) none in
+    omega (arith, ints, before, after)
 
 pub returns-then-parts-eq1-clause-value : goal.returns-then-parts-eq1-clause-value
 returns-then-parts-eq1-clause-value c =

@@ -1,0 +1,16 @@
+-- The list of a vehicle, before a change and after it.
+use Rattle.std.specs.Prelude.{ℕ, ◌<◌, ◌≤◌, List, length, All}
+use Rattle.vr_model.specs.routes.Routes.{route}
+use Rattle.vr_model.specs.declared.records.Model.{Model}
+use Rattle.vr_routes.specs.declared.pieces.Piece.{Piece}
+use Rattle.vr_routes.specs.Pieces.{IsWithin, joined}
+
+-- a vehicle of a model, whose list and whose pieces are nodes of it, 1000 of each at most
+pub record IsPart (model : Model) (lists : List (List ℕ)) (v : ℕ) (pieces : List Piece) : Type 0 where
+  pub vehicle : v < length lists
+  pub of_model : v < length model.vehicles
+  pub old_nodes : All (λ node. node < model.nodes) (route lists v)
+  pub old_short : length (route lists v) ≤ 1000
+  pub within : All (IsWithin lists) pieces
+  pub nodes : All (λ node. node < model.nodes) (joined lists pieces)
+  pub short : length (joined lists pieces) ≤ 1000

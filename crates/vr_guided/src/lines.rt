@@ -1,0 +1,97 @@
+//! The sums of all vehicles with their lists.
+
+ghost use Rattle.std.specs.Prelude.{◌≡◌, ◌<◌, ◌≤◌, All, IfOk, IsTrue, length, slice_index_or};
+ghost use Rattle.vr_guided.specs.Counts.{AtMost, counted};
+ghost use Rattle.vr_guided.specs.Lines.{AreLines, IsLine, no_line};
+ghost use Rattle.vr_model.specs.routes.Routes.{route};
+ghost use Rattle.vr_model.specs.routes.Rules.{is_valid};
+ghost use Rattle.vr_model.specs.tables.WellFormed.{IsWellFormed};
+
+use crate::penalties::Penalties;
+use crate::sums::Sums;
+use std::alloc::Global;
+use std::marker::Model;
+use vr_model::{Model as RoutingModel, NoMemory};
+use vr_routes::Routes;
+
+/// What the arcs of one vehicle add up to before each stop, taken on and back.
+#[derive(Drop)]
+pub struct Line {
+    pub on: Sums,
+    pub back: Sums,
+}
+
+impl Line {
+    // Of no list.
+    fn new() -> Line {
+        Line {
+            on: Sums::new(),
+            back: Sums::new(),
+        }
+    }
+
+    // Becomes that of vehicle `v` with a list.
+    fn write(&mut self, model: &RoutingModel, penalties: &Penalties, v: u32, list: &[u32])
+        requires well_formed { IsWellFormed model.now }
+        requires vehicle { v < length model.now.vehicles }
+        requires nodes { All (λ node. node < model.now.nodes) list.now }
+        requires short { length list.now ≤ 1000 }
+        requires covers { penalties.now.nodes ≡ model.now.nodes }
+        requires few { AtMost 1000000000 (counted penalties.now) }
+        ensures { IsLine model.now (counted penalties.now) v list.now self.new }
+    {
+        self.on.write(model, penalties, v, list, false);
+        self.back.write(model, penalties, v, list, true);
+    }
+}
+
+/// The line of each vehicle. With them the penalised arc costs of a stretch of a list are one subtraction.
+#[derive(Drop)]
+pub struct Lines {
+    vehicles: Vec<Line>,
+}
+
+impl Model for Lines {
+    ghost use Rattle.std.specs.Prelude.{List};
+    ghost use Rattle.vr_guided.specs.declared.lines.Line.{Line};
+
+    ghost Value = { List Line };
+
+    ghost view = { λ s. s.vehicles.items };
+}
+
+impl Lines {
+    /// Memory for the line of each vehicle. The only refusal is want of it.
+    pub fn new(alloc: Global, model: &RoutingModel) -> Result<Lines, NoMemory>
+        ensures { IfOk result (λ lines. length lines ≡ length model.now.vehicles) }
+    {
+        let mut vehicles = Vec::with_capacity(alloc, model.vehicles.len())?;
+        for _ in 0..model.vehicles.len() {
+            vehicles.push(Line::new())?;
+        }
+        Ok(Lines { vehicles })
+    }
+
+    /// Becomes those of the lists of routes. Takes no memory.
+    pub fn write(&mut self, model: &RoutingModel, penalties: &Penalties, routes: &Routes)
+        requires well_formed { IsWellFormed model.now }
+        requires valid { IsTrue (is_valid model.now routes.now.lists) }
+        requires many { length self.old ≡ length model.now.vehicles }
+        requires covers { penalties.now.nodes ≡ model.now.nodes }
+        requires few { AtMost 1000000000 (counted penalties.now) }
+        ensures { AreLines model.now (counted penalties.now) routes.now.lists self.new }
+    {
+        for v in 0..model.vehicles.len() as u32 {
+            self.vehicles[v as usize].write(model, penalties, v, routes.list(v));
+        }
+    }
+
+    /// The line of a vehicle.
+    #[inline]
+    pub fn of(&self, v: u32) -> &Line
+        requires vehicle { v < length self.now }
+        ensures { result.now ≡ slice_index_or self.now v no_line }
+    {
+        &self.vehicles[v as usize]
+    }
+}

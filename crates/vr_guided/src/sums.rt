@@ -1,0 +1,104 @@
+//! Sums of what arcs add along a line of stops.
+
+ghost use Rattle.std.specs.Prelude.{◌≡◌, ◌<◌, ◌≤◌, ◌++◌, ◌∷◌, [], ◌-◌, ◌^◌, ◌+ℤ◌, All, List, ℕ, ℤ, length, pos};
+ghost use Rattle.std.specs.Prelude.{slice_range, take};
+ghost use Rattle.vr_guided.specs.Counts.{AtMost, counted};
+ghost use Rattle.vr_guided.specs.Sums.{AreSums, stops, weight_by};
+ghost use Rattle.vr_guided.specs.Walks.{last_of};
+ghost use Rattle.vr_model.specs.routes.Routes.{UsedArc, arcs_from};
+ghost use Rattle.vr_model.specs.tables.Numbers.{number_at, total_by};
+ghost use Rattle.vr_model.specs.tables.Tables.{vehicle_at};
+ghost use Rattle.vr_model.specs.tables.WellFormed.{IsIn, IsWellFormed};
+
+use crate::penalties::Penalties;
+use arrayvec::ArrayVec;
+use std::marker::Model;
+use vr_model::Model as RoutingModel;
+
+/// At each stop of a line, what the arcs before it add up to.
+#[derive(Drop)]
+pub struct Sums {
+    items: ArrayVec<i128, 1002>,
+}
+
+impl Model for Sums {
+    ghost use Rattle.std.specs.Prelude.{ℤ, List};
+    ghost use Rattle.vr_guided.specs.Sums.{HaveRange};
+
+    ghost Value = { List ℤ };
+
+    ghost view = { λ s. s.items.items };
+
+    ghost invariant = { λ s. HaveRange s.items.items };
+}
+
+impl Sums {
+    /// No sums.
+    pub fn new() -> Sums
+        ensures { result ≡ [] }
+    {
+        Sums {
+            items: ArrayVec::new(),
+        }
+    }
+
+    /// Writes the sums of a vehicle's line with a list, of arcs that are taken on, or back.
+    pub fn write(
+        &mut self,
+        model: &RoutingModel,
+        penalties: &Penalties,
+        v: u32,
+        list: &[u32],
+        back: bool,
+    )
+        requires well_formed { IsWellFormed model.now }
+        requires vehicle { v < length model.now.vehicles }
+        requires nodes { All (λ node. node < model.now.nodes) list.now }
+        requires short { length list.now ≤ 1000 }
+        requires covers { penalties.now.nodes ≡ model.now.nodes }
+        requires few { AtMost 1000000000 (counted penalties.now) }
+        ensures { AreSums (weight_by model.now (counted penalties.now) back) v (vehicle_at model.now v).start
+            (stops model.now v list.now) self.new }
+    {
+        let ends = model.vehicles.get(v as usize);
+        self.begin();
+        let mut at = ends.start;
+        for &node in list {
+            self.add(penalties.weight_by(model, v, at, node, back));
+            at = node;
+        }
+        self.add(penalties.weight_by(model, v, at, ends.end, back));
+    }
+
+    // Begins a line: before its first stop nothing was added.
+    fn begin(&mut self)
+        ensures { self.new ≡ pos 0 ∷ [] }
+    {
+        self.items.clear();
+        self.items.push(0);
+    }
+
+    // Adds what one more arc adds.
+    #[inline]
+    fn add(&mut self, weight: i128)
+        requires some { 1 ≤ length self.old }
+        requires room { length self.old ≤ 1001 }
+        requires weight { IsIn (pos 0) (pos (2 ^ 70)) weight }
+        ensures { self.new ≡ self.old ++ (number_at self.old (length self.old - 1) +ℤ weight) ∷ [] }
+    {
+        let sum = self.items[self.items.len() - 1] + weight;
+        self.items.push(sum);
+    }
+
+    /// What the arcs between two places add up to.
+    #[inline]
+    pub fn between(&self, from: usize, to: usize) -> i128
+        requires order { from ≤ to }
+        requires place { to < length self.now }
+        requires few { to ≤ 1001 }
+        ensures { (f : UsedArc → ℤ) (v node : ℕ) (nodes : List ℕ) → AreSums f v node nodes self.now
+            → result ≡ total_by f (arcs_from v (last_of node (take from nodes)) (slice_range nodes from to)) }
+    {
+        self.items[to] - self.items[from]
+    }
+}
