@@ -3,3 +3,4 @@ pub mod PartWeights
 pub mod Knowing
 pub mod GroupNumbers
 pub mod GroupLemmas
+pub mod VehicleLemmas
