@@ -4,3 +4,4 @@ pub mod Knowing
 pub mod GroupNumbers
 pub mod GroupLemmas
 pub mod VehicleLemmas
+pub mod PairLemmas
