@@ -1,10 +1,10 @@
 //! What a change keeps of a list at its ends.
 
-ghost use Rattle.std.specs.Prelude.{◌≡◌, ◌<◌, All, false, length};
+ghost use Rattle.std.specs.Prelude.{◌≡◌, ◌<◌, ◌&&◌, All, ℕ, false, length, nat_le, nat_lt};
 ghost use Rattle.vr_model.specs.routes.Routes.{route};
 ghost use Rattle.vr_routes.specs.Pieces.{IsWithin};
 ghost use Rattle.vr_routes.specs.declared.pieces.Piece.TheVariants.{Chain};
-ghost use Rattle.vr_balance.specs.Ends.{AreEnds};
+ghost use Rattle.vr_balance.specs.Ends.{AreEnds, AreFront, is_end, is_front};
 
 use vr_routes::{Piece, Routes};
 
@@ -23,7 +23,8 @@ pub struct Ends<'a> {
 // Where a piece ends that keeps the front of the list of a vehicle, else 0.
 #[inline]
 fn front_end(piece: &Piece, v: u32) -> u32
-    ensures { 0 < result → piece.now ≡ Chain v 0 result false }
+    ensures keeps { 0 < result → piece.now ≡ Chain v 0 result false }
+    ensures told { is_front v piece.now ≡ nat_lt 0 result }
 {
     match *piece {
         Piece::Chain {
@@ -39,7 +40,8 @@ fn front_end(piece: &Piece, v: u32) -> u32
 // Where a piece begins that keeps the list of a vehicle, of `n` visits, up to its end, else `n`.
 #[inline]
 fn behind_start(piece: &Piece, v: u32, n: u32) -> u32
-    ensures { result < n → piece.now ≡ Chain v result n false }
+    ensures keeps { result < n → piece.now ≡ Chain v result n false }
+    ensures told { (front : ℕ) → is_end v n front piece.now ≡ (nat_le front result && nat_lt result n) }
 {
     match *piece {
         Piece::Chain {
@@ -57,7 +59,7 @@ fn behind_start(piece: &Piece, v: u32, n: u32) -> u32
 fn strip_front<'a>(routes: &Routes, v: u32, pieces: &'a [Piece]) -> Ends<'a>
     requires vehicle { v < length routes.now.lists }
     requires within { All (IsWithin routes.now.lists) pieces.now }
-    ensures ends { AreEnds routes.now.lists v pieces.now result.front result.behind result.middle.now }
+    ensures front { AreFront routes.now.lists v pieces.now result.front result.middle.now }
     ensures whole { result.behind ≡ length (route routes.now.lists v) }
 {
     let whole = Ends {

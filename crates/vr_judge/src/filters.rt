@@ -37,7 +37,7 @@ pub(crate) fn filters_of<'m>(
 {
     let groups = GroupFilter::open(alloc, model, routes)?;
     let vehicles = VehicleFilter::open(alloc, model, routes)?;
-    let pairs = PairFilter::open(model, routes)?;
+    let pairs = PairFilter::open(alloc, model, routes)?;
     let dimensions = filters_of_dimensions(alloc, model, routes)?;
     Ok(Both {
         a: groups,

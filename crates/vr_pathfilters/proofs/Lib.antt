@@ -3,3 +3,5 @@ pub mod PartWeights
 pub mod Knowing
 pub mod GroupNumbers
 pub mod GroupLemmas
+pub mod VehicleLemmas
+pub mod PairLemmas

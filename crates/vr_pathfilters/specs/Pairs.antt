@@ -1,10 +1,42 @@
--- What the filter of pairs knows.
+-- What the filter of pairs knows and asks.
+use Rattle.std.specs.Prelude.{◌≡◌, ℕ, ◌<◌, ◌≤◌, Bool, true, List, length, slice_index, IsTrue, Option, Some, None}
+use Rattle.vr_model.specs.first.Items.{pair_of}
+use Rattle.vr_model.specs.routes.Routes.{route, holds, is_distinct}
+use Rattle.vr_model.specs.routes.Rules.{serves_pair}
 use Rattle.vr_model.specs.tables.WellFormed.{IsWellFormed}
 use Rattle.vr_model.specs.declared.records.Model.{Model}
+use Rattle.vr_model.specs.declared.records.Pair.{Pair}
+use Rattle.vr_routes.specs.Seats.{IsOnce}
 use Rattle.vr_routes.specs.Tours.{Tours}
+use Rattle.vr_walks.specs.Spliced.{spliced, AreSeams}
 use Rattle.vr_pathfilters.specs.TourLists.{AreTours}
 
 -- the tours are those of a well-formed model
 pub record KnowsPairs (model : Model) (tours : Tours) : Type 0 where
   pub well_formed : IsWellFormed model
   pub tours_are : AreTours model tours
+
+-- a list serves a pair, where there is one
+abbrev pub serves_if_any : List ℕ → Option Pair → Bool
+serves_if_any list None = true
+serves_if_any list (Some pair) = serves_pair list pair
+
+-- a list serves the pair that a node is in
+abbrev pub serves_node : Model → List ℕ → ℕ → Bool
+serves_node model list node = serves_if_any list (pair_of model node)
+
+-- the mark of each node of a list is a place of it
+abbrev pub AreMarked : List ℕ → List ℕ → Type 0
+AreMarked list marks = (node : ℕ) → IsTrue (holds list node)
+    → (slice_index marks node < length list) × (slice_index list (slice_index marks node) ≡ node)
+
+-- the list of vehicle v keeps its front and its end, with marked nodes in the place of those between, and no node
+-- stands twice in what it becomes
+pub record IsNewList (lists : List (List ℕ)) (v front behind : ℕ) (middle marks : List ℕ) : Type 0 where
+  pub vehicle : v < length lists
+  pub once : IsOnce lists
+  pub seams : AreSeams (length (route lists v)) front behind
+  pub marked : AreMarked middle marks
+  pub few : length (route lists v) ≤ 1000
+  pub few_between : length middle ≤ 1000
+  pub distinct : IsTrue (is_distinct (spliced (route lists v) front behind middle))

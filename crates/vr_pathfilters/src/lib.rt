@@ -5,6 +5,7 @@ mod dimensions;
 mod groups;
 mod lists;
 mod loads;
+mod new_lists;
 mod pairs;
 mod vehicles;
 

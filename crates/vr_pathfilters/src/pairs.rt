@@ -1,13 +1,17 @@
 //! The filter of pickup and delivery pairs.
 
-ghost use Rattle.std.specs.Prelude.{◌≡◌, ◌+◌, ◌<◌, ◌≤◌, ℕ, Bool, true, false, List, length, IsOk, IsTrue, IfOk, OnOk, OnErr};
-ghost use Rattle.vr_model.specs.routes.Routes.{route};
+ghost use Rattle.std.specs.Prelude.{◌≡◌, ◌+◌, ◌<◌, ◌≤◌, ℕ, All, Bool, true, false, List, length};
+ghost use Rattle.std.specs.Prelude.{IsOk, IsTrue, IfOk, OnOk, OnErr};
+ghost use Rattle.std.specs.List.{list_all};
+ghost use Rattle.vr_model.specs.routes.Routes.{is_distinct, route};
+ghost use Rattle.vr_model.specs.routes.Rules.{serves_pair};
 ghost use Rattle.vr_model.specs.tables.Tables.{visits};
 ghost use Rattle.vr_model.specs.tables.WellFormed.{IsWellFormed};
 ghost use Rattle.vr_lists.specs.Pairs.{keeps_pairs};
 ghost use Rattle.vr_routes.specs.Changes.{IsMadeOn};
 ghost use Rattle.vr_routes.specs.Pieces.{ListAfter, changed, joined, part_at};
 ghost use Rattle.vr_routes.specs.Tours.{Tours};
+ghost use Rattle.vr_walks.specs.Spliced.{AreSeams, spliced};
 ghost use Rattle.vr_filter.specs.Filters.{after};
 ghost use Rattle.vr_pathfilters.specs.AfterChanges.{pairs_known_after};
 ghost use Rattle.vr_pathfilters.specs.Lists.{holds_of_each};
@@ -15,45 +19,113 @@ ghost use Rattle.vr_pathfilters.specs.ListFilters.{StandsBy};
 ghost use Rattle.vr_pathfilters.specs.Pairs.{KnowsPairs};
 
 use crate::lists::{ListFilter, ListRule};
+use crate::new_lists::{NewList, mark};
+use std::alloc::Global;
+use vr_balance::strip;
 use vr_filter::PathFilter;
-use vr_lists::{PairPlaces, keeps_pairs};
-use vr_model::{Model, NoMemory};
+use vr_lists::{NodeTables, PairPlaces, keeps_pairs};
+use vr_model::{Model, NoMemory, Policy};
 use vr_routes::{Change, Routes, Row};
 
 /// The rule that a list serves each pair in order and keeps the policy of its vehicle.
 #[derive(Drop)]
 pub struct PairRule<'m> {
-    model: &'m Model,
-    // room for a list that a change makes
+    lookups: NodeTables<'m>,
+    // room for the nodes that a change puts between the ends of a list, or for the whole list
     list: Row,
+    // room for the place of each of them there
+    marks: [u32; 1000],
     places: PairPlaces,
 }
 
-impl<'m> ListRule for PairRule<'m> {
-    ghost rule = { λ r v list. keeps_pairs r.model.now v list };
+// Whether the list of a vehicle serves each pair, with other nodes between the ends that it keeps. It looks at the
+// nodes that come between them, and at those that stood there.
+fn serves_between(
+    lookups: &NodeTables<'_>,
+    routes: &Routes,
+    v: u32,
+    front: u32,
+    behind: u32,
+    middle: &[u32],
+    marks: &mut [u32; 1000],
+) -> bool
+    requires vehicle { v < length routes.now.lists }
+    requires seams { AreSeams (length (route routes.now.lists v)) front behind }
+    requires nodes { All (λ node. node < 1000) middle.now }
+    requires few { length middle.now ≤ 1000 }
+    requires before { IsTrue (list_all (serves_pair (route routes.now.lists v)) lookups.now.pairs) }
+    requires distinct { IsTrue (is_distinct (spliced (route routes.now.lists v) front behind middle.now)) }
+    ensures { result ≡ list_all (serves_pair (spliced (route routes.now.lists v) front behind middle.now))
+        lookups.now.pairs }
+{
+    // what holds of the model is known
+    let _model = lookups.model();
+    routes.know_once();
+    let marks = &mut marks[..];
+    mark(middle, marks);
+    let old = routes.list(v);
+    let new = NewList {
+        routes,
+        v,
+        front,
+        behind,
+        middle,
+        marks,
+    };
+    new.serves_each(lookups, middle)
+        && new.serves_each(lookups, &old[front as usize..behind as usize])
+}
 
-    ghost knows = { λ r tours. KnowsPairs r.model.now tours };
+impl<'m> ListRule for PairRule<'m> {
+    ghost rule = { λ r v list. keeps_pairs r.lookups v list };
+
+    ghost knows = { λ r tours. KnowsPairs r.lookups tours };
 
     fn keeps(&mut self, routes: &Routes, change: &Change, k: usize) -> bool {
-        if self.model.pairs.is_empty() {
+        let model = self.lookups.model();
+        if model.pairs.is_empty() {
             return true;
         }
         let v = change.vehicle(k);
-        routes.write_after(change, k, &mut self.list);
-        keeps_pairs(self.model, v, self.list.as_slice(), &mut self.places)
+        let ends = strip(routes, v, change.pieces(k));
+        routes.join_into(ends.middle, &mut self.list);
+        if !serves_between(
+            &self.lookups,
+            routes,
+            v,
+            ends.front,
+            ends.behind,
+            self.list.as_slice(),
+            &mut self.marks,
+        ) {
+            return false;
+        }
+        match model.vehicles.get(v as usize).policy {
+            Policy::Any => true,
+            _ => {
+                routes.write_after(change, k, &mut self.list);
+                keeps_pairs(model, v, self.list.as_slice(), &mut self.places)
+            }
+        }
     }
 
-    ghost knows_after = { λ r tours parts knows made. pairs_known_after r.model.now tours parts knows made };
+    ghost knows_after = { λ r tours parts knows made. pairs_known_after r.lookups tours parts knows made };
 }
 
 /// Lets a change pass where each list afterwards serves each pair in order, and keeps the policy of its vehicle
 /// (`PickupDeliveryFilter` in OR-Tools, by `AddPickupAndDelivery` and `SetPickupAndDeliveryPolicyOfVehicle`). It
-/// takes no memory, and in a model without pairs it looks at no list.
+/// looks at what the change brings into a list and takes out of it, however long the list is beside that; where the
+/// policy of the vehicle asks something of the order of pairs, it then looks at the whole list. It takes memory only
+/// when it is opened, and in a model without pairs it looks at no list.
 pub type PairFilter<'m> = ListFilter<PairRule<'m>>;
 
 impl<'m> PairFilter<'m> {
-    /// A filter that stands at the lists of routes, which keep the rule. It takes no memory.
-    pub fn open(model: &'m Model, routes: &Routes) -> Result<PairFilter<'m>, NoMemory>
+    /// A filter that stands at the lists of routes, which keep the rule. The only refusal is want of memory.
+    pub fn open(
+        alloc: Global,
+        model: &'m Model,
+        routes: &Routes,
+    ) -> Result<PairFilter<'m>, NoMemory>
         requires well_formed { IsWellFormed model.now }
         requires visits { routes.now.visits ≡ visits model.now }
         requires many { length routes.now.lists ≡ length model.now.vehicles }
@@ -66,10 +138,12 @@ impl<'m> PairFilter<'m> {
     {
         routes.know_once();
         routes.know_entries();
+        let lookups = NodeTables::open(alloc, model)?;
         Ok(ListFilter {
             rule: PairRule {
-                model,
+                lookups,
                 list: Row::new(),
+                marks: [0; 1000],
                 places: PairPlaces::new(),
             },
             is_prepared: false,

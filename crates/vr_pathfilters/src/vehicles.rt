@@ -1,32 +1,32 @@
 //! The filter of allowed vehicles.
 
-ghost use Rattle.std.specs.Prelude.{◌≡◌, ◌+◌, ◌<◌, ◌≤◌, ℕ, Bool, true, false, List, length, IsOk, IsTrue, IfOk, OnOk, OnErr};
+ghost use Rattle.std.specs.Prelude.{◌≡◌, ◌+◌, ◌<◌, ◌≤◌, ℕ, All, Bool, true, false, List, length};
+ghost use Rattle.std.specs.Prelude.{IsOk, IsTrue, IfOk, OnOk, OnErr};
 ghost use Rattle.vr_model.specs.routes.Routes.{route};
 ghost use Rattle.vr_model.specs.tables.Tables.{visits};
 ghost use Rattle.vr_model.specs.tables.WellFormed.{IsWellFormed};
 ghost use Rattle.vr_routes.specs.Changes.{IsMadeOn};
-ghost use Rattle.vr_routes.specs.Pieces.{ListAfter, changed, joined, part_at};
+ghost use Rattle.vr_routes.specs.Pieces.{ListAfter, IsWithin, changed, joined, nodes_of, part_at};
 ghost use Rattle.vr_routes.specs.Tours.{Tours};
 ghost use Rattle.vr_filter.specs.Filters.{after};
 ghost use Rattle.vr_pathfilters.specs.Lists.{holds_of_each};
 ghost use Rattle.vr_pathfilters.specs.TourLists.{AreTours};
 ghost use Rattle.vr_pathfilters.specs.ListFilters.{StandsBy};
-ghost use Rattle.vr_pathfilters.specs.Vehicles.{is_allowed_list};
+ghost use Rattle.vr_pathfilters.specs.Vehicles.{are_allowed_pieces, is_allowed_list};
 ghost use Rattle.vr_pathfilters.specs.AfterChanges.{tours_after};
 
 use crate::lists::{ListFilter, ListRule};
 use std::alloc::Global;
+use vr_balance::strip;
 use vr_filter::PathFilter;
 use vr_lists::NodeTables;
 use vr_model::{Model, NoMemory};
-use vr_routes::{Change, Routes, Row};
+use vr_routes::{Change, Piece, Routes};
 
 /// The rule that each visit of a list allows its vehicle.
 #[derive(Drop)]
 pub struct VehicleRule<'m> {
     lookups: NodeTables<'m>,
-    // room for a list that a change makes
-    list: Row,
 }
 
 impl<'m> ListRule for VehicleRule<'m> {
@@ -39,15 +39,52 @@ impl<'m> ListRule for VehicleRule<'m> {
             return true;
         }
         let v = change.vehicle(k);
-        routes.write_after(change, k, &mut self.list);
-        self.lookups.allows_each(v, self.list.as_slice())
+        let ends = strip(routes, v, change.pieces(k));
+        pieces_allow(&self.lookups, routes, v, ends.middle)
     }
 
     ghost knows_after = { λ r tours parts knows made. tours_after r.lookups tours knows parts made };
 }
 
+// Whether the nodes of a piece allow a vehicle. Those of its own list do.
+fn piece_allows(lookups: &NodeTables<'_>, routes: &Routes, v: u32, piece: Piece) -> bool
+    requires rule { IsTrue (is_allowed_list lookups.now v (route routes.now.lists v)) }
+    requires within { IsWithin routes.now.lists piece }
+    ensures { result ≡ is_allowed_list lookups.now v (nodes_of routes.now.lists piece) }
+{
+    match piece {
+        Piece::Node { node } => lookups.allows_vehicle(v, node),
+        Piece::Chain {
+            vehicle,
+            from,
+            to,
+            ..
+        } => {
+            if vehicle == v {
+                return true;
+            }
+            lookups.allows_each(v, &routes.list(vehicle)[from as usize..to as usize])
+        }
+    }
+}
+
+// Whether the nodes of pieces allow a vehicle.
+fn pieces_allow(lookups: &NodeTables<'_>, routes: &Routes, v: u32, pieces: &[Piece]) -> bool
+    requires rule { IsTrue (is_allowed_list lookups.now v (route routes.now.lists v)) }
+    requires within { All (IsWithin routes.now.lists) pieces.now }
+    ensures { result ≡ are_allowed_pieces lookups.now routes.now.lists v pieces.now }
+{
+    for k in 0..pieces.len() {
+        if !piece_allows(lookups, routes, v, pieces[k]) {
+            return false;
+        }
+    }
+    true
+}
+
 /// Lets a change pass where each visit of each list allows its vehicle afterwards (`SetAllowedVehiclesForIndex` in
-/// OR-Tools). It takes memory only when it is opened.
+/// OR-Tools). It asks only the nodes that come to another vehicle, however long the lists are, and takes memory only
+/// when it is opened.
 pub type VehicleFilter<'m> = ListFilter<VehicleRule<'m>>;
 
 impl<'m> VehicleFilter<'m> {
@@ -73,10 +110,7 @@ impl<'m> VehicleFilter<'m> {
         routes.know_entries();
         let lookups = NodeTables::open(alloc, model)?;
         Ok(ListFilter {
-            rule: VehicleRule {
-                lookups,
-                list: Row::new(),
-            },
+            rule: VehicleRule { lookups },
             is_prepared: false,
         })
     }

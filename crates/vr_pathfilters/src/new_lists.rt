@@ -1,0 +1,141 @@
+//! The list of a vehicle after a change, which is asked by places and not written out.
+
+ghost use Rattle.std.specs.Prelude.{◌≡◌, ◌==◌, ◌&&◌, ◌<◌, ◌≤◌, All, length, nat_lt, slice_index};
+ghost use Rattle.std.specs.List.{list_all};
+ghost use Rattle.vr_model.specs.routes.Routes.{route};
+ghost use Rattle.vr_model.specs.routes.Rules.{place_of, serves_pair};
+ghost use Rattle.vr_pathfilters.specs.Pairs.{AreMarked, serves_node};
+
+use std::marker::Model;
+use vr_lists::NodeTables;
+use vr_model::Pair;
+use vr_routes::Routes;
+
+/// The list of a vehicle after a change: what it keeps at both ends, with other nodes between. Contracts see the list.
+/// Where a node stands in it is looked up, however long it is.
+#[derive(Drop)]
+pub(crate) struct NewList<'a> {
+    pub(crate) routes: &'a Routes,
+    pub(crate) v: u32,
+    // how many nodes are kept at the front
+    pub(crate) front: u32,
+    // the place from which on nodes are kept
+    pub(crate) behind: u32,
+    // the nodes between
+    pub(crate) middle: &'a [u32],
+    // the place of each of them there; the marks of others are of no account
+    pub(crate) marks: &'a [u32],
+}
+
+impl<'a> Model for NewList<'a> {
+    ghost use Rattle.std.specs.Prelude.{ℕ, List};
+    ghost use Rattle.vr_model.specs.routes.Routes.{route};
+    ghost use Rattle.vr_walks.specs.Spliced.{spliced};
+    ghost use Rattle.vr_pathfilters.specs.Pairs.{IsNewList};
+
+    ghost Value = { List ℕ };
+
+    ghost view = { λ s. spliced (route s.routes.now.lists s.v) s.front s.behind s.middle.now };
+
+    ghost invariant = { λ s. IsNewList s.routes.now.lists s.v s.front s.behind s.middle.now s.marks.now };
+}
+
+/// Marks each node of a list with a place of it.
+pub(crate) fn mark(list: &[u32], marks: &mut [u32])
+    requires nodes { All (λ node. node < length marks.old) list.now }
+    requires few { length list.now ≤ 1000 }
+    ensures { AreMarked list.now marks.new }
+{
+    for k in 0..list.len() {
+        marks[list[k] as usize] = k as u32;
+    }
+}
+
+// The mark of a node.
+#[inline]
+fn mark_of(marks: &[u32], node: u32) -> u32
+    ensures { result ≡ slice_index marks.now node }
+{
+    if (node as usize) < marks.len() {
+        return marks[node as usize];
+    }
+    0
+}
+
+// Whether a node stands at a place of a list.
+#[inline]
+fn is_at(list: &[u32], place: u32, node: u32) -> bool
+    ensures { result ≡ (nat_lt place (length list.now) && (slice_index list.now place == node)) }
+{
+    (place as usize) < list.len() && list[place as usize] == node
+}
+
+impl<'a> NewList<'a> {
+    // How many nodes the list has.
+    #[inline]
+    fn len(&self) -> u32
+        ensures { result ≡ length self.now }
+    {
+        self.front + self.middle.len() as u32 + (self.routes.len(self.v) - self.behind)
+    }
+
+    // The place of a node, the length of the list where it is absent.
+    #[inline]
+    fn place(&self, node: u32) -> u32
+        ensures { result ≡ place_of self.now node }
+    {
+        let place = mark_of(self.marks, node);
+        if is_at(self.middle, place, node) {
+            return self.front + place;
+        }
+        match self.routes.seat(node) {
+            None => self.len(),
+            Some(seat) => {
+                if seat.vehicle != self.v {
+                    return self.len();
+                }
+                if seat.place < self.front {
+                    return seat.place;
+                }
+                if seat.place < self.behind {
+                    return self.len();
+                }
+                self.front + self.middle.len() as u32 + (seat.place - self.behind)
+            }
+        }
+    }
+
+    // Whether the list has a pair with both nodes, the pickup first, or with neither.
+    #[inline]
+    fn serves(&self, pair: Pair) -> bool
+        ensures { result ≡ serves_pair self.now pair }
+    {
+        // no node stands twice
+        let _ = &self.routes;
+        let pickup = self.place(pair.pickup);
+        let delivery = self.place(pair.delivery);
+        if pickup < delivery {
+            delivery < self.len()
+        } else {
+            delivery == self.len()
+        }
+    }
+
+    // Whether the list serves the pair that a node is in.
+    #[inline]
+    fn serves_node(&self, lookups: &NodeTables<'_>, node: u32) -> bool
+        ensures { result ≡ serves_node lookups.now self.now node }
+    {
+        match lookups.pair_of(node) {
+            Some(pair) => self.serves(pair),
+            None => true,
+        }
+    }
+
+    /// Whether the list serves the pairs that some nodes are in.
+    pub(crate) fn serves_each(&self, lookups: &NodeTables<'_>, nodes: &[u32]) -> bool
+        ensures { result ≡ list_all (serves_node lookups.now self.now) nodes.now }
+    {
+        nodes.iter().all(|&node| self.serves_node(lookups, node))
+    }
+}
