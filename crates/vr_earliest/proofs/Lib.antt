@@ -1,0 +1,4 @@
+pub mod FloorLemmas
+pub mod WayLemmas
+pub mod Earlier
+pub mod NoEarlier

@@ -1,0 +1,63 @@
+use Rattle.std.proofs.Common.{◌≡◌, ◌∙◌, ℕ, List, ap, ap₂, arith, to_z, of_z, w64}
+use Rattle.std.specs.Prelude.{pos, negsuc}
+use Rattle.std.specs.Int.{int_max, int_min}
+use Rattle.std.proofs.lemmas.Int.{ints, int_max_is, int_min_is}
+use Rattle.vr_routes.specs.Pieces.{joined}
+use Rattle.vr_earliest.specs.declared.ways.Way.{Way}
+use Rattle.vr_earliest.specs.Ways.{span_by, whole_way}
+use Rattle.vr_earliest.proofs.earliest.Earliest.after.Goals as goal
+
+pub returns-clause-last : goal.returns-clause-last
+returns-clause-last c =
+    let list : List ℕ = joined c.args.routes.now.lists c.args.pieces.now in
+    let way = whole_way c.args.self.now c.args.d c.args.v list in
+    let e = ap (λ (w : Way). w.time) (c.way_after-way.ensures.value ∙ ap (λ m. whole_way m c.args.d c.args.v list) c.self.view_is) in
+    let early = c.way_after-way.ensures.range.early in
+    let late = c.way_after-way.ensures.range.late in
+    let read : to_z w64 (of_z w64 c.way_after-way.result.time) ≡ c.way_after-way.result.time = omega (arith, ints, early, late) in
+    let is = c.min.ensures.value ∙ ap (λ x. int_min x (pos 68719476736)) (read ∙ e) in
+    let m = int_min_is way.time (pos 68719476736) in
+    let n = int_min_is (pos 68719476736) way.time in
+    omega (arith, ints, is, m, n, e, early, late)
+
+pub returns-clause-last_range : goal.returns-clause-last_range
+returns-clause-last_range c =
+    let early = c.way_after-way.ensures.range.early in
+    let late = c.way_after-way.ensures.range.late in
+    let time = c.way_after-way.result.time in
+    let read : to_z w64 (of_z w64 time) ≡ time = omega (arith, ints, early, late) in
+    let is = c.min.ensures.value ∙ ap (λ x. int_min x (pos 68719476736)) read in
+    let m = int_min_is time (pos 68719476736) in
+    record { at_least = omega (arith, ints, is, m, early, late); at_most = omega (arith, ints, is, m, early, late) }
+
+pub returns-clause-span : goal.returns-clause-span
+returns-clause-span c =
+    let list : List ℕ = joined c.args.routes.now.lists c.args.pieces.now in
+    let span = span_by c.args.self.now c.args.d c.args.v (whole_way c.args.self.now c.args.d c.args.v list) in
+    let e = c.way_after-way.ensures.value ∙ ap (λ m. whole_way m c.args.d c.args.v list) c.self.view_is in
+    let s = c.span_by-span.ensures ∙ ap₂ (λ m w. span_by m c.args.d c.args.v w) c.self.view_is e in
+    let fits = c.span_by-span.type_inv in
+    let read : to_z w64 (of_z w64 c.span_by-span.result) ≡ c.span_by-span.result = omega (arith, ints, fits) in
+    let a = c.min-2.ensures.value ∙ ap (λ x. int_min x (pos 68719476736)) (read ∙ s) in
+    let m = int_min_is span (pos 68719476736) in
+    let n = int_min_is (pos 68719476736) span in
+    let fits_min = c.min-2.type_inv in
+    let same : to_z w64 (of_z w64 c.min-2.result) ≡ int_min (pos 68719476736) span = omega (arith, ints, a, m, n, fits_min) in
+    let b = c.max.ensures.value ∙ ap (λ x. int_max x (negsuc 68719476735)) same in
+    let x = int_max_is (int_min (pos 68719476736) span) (negsuc 68719476735) in
+    let y = int_max_is (negsuc 68719476735) (int_min (pos 68719476736) span) in
+    let fits_max = c.max.type_inv in
+    omega (arith, ints, b, x, y, fits_max)
+
+pub returns-clause-span_range : goal.returns-clause-span_range
+returns-clause-span_range c =
+    let fits = c.span_by-span.type_inv in
+    let read : to_z w64 (of_z w64 c.span_by-span.result) ≡ c.span_by-span.result = omega (arith, ints, fits) in
+    let a = c.min-2.ensures.value ∙ ap (λ x. int_min x (pos 68719476736)) read in
+    let m = int_min_is c.span_by-span.result (pos 68719476736) in
+    let fits_min = c.min-2.type_inv in
+    let same : to_z w64 (of_z w64 c.min-2.result) ≡ c.min-2.result = omega (arith, ints, fits_min) in
+    let b = c.max.ensures.value ∙ ap (λ x. int_max x (negsuc 68719476735)) same in
+    let x = int_max_is c.min-2.result (negsuc 68719476735) in
+    let fits_max = c.max.type_inv in
+    record { at_least = omega (arith, ints, a, m, b, x, fits_max); at_most = omega (arith, ints, a, m, b, x, fits_max) }

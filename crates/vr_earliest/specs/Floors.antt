@@ -1,0 +1,60 @@
+-- Floors: numbers below which a stop allows no cumul.
+use Rattle.std.specs.Prelude.{◌≡◌, ℕ, ◌<◌, ◌&&◌, Bool, true, List, length, fold, cond, ℤ, pos, ◌+ℤ◌, Option, Some, None}
+use Rattle.std.specs.Prelude.{slice_index_or}
+use Rattle.std.specs.Int.{int_min}
+use Rattle.vr_model.specs.tables.Numbers.{horizon, number_at, within}
+use Rattle.vr_model.specs.tables.Tables.{breaks_of, dimension_at, row_of}
+use Rattle.vr_model.specs.tables.WellFormed.{IsIn, IsWellFormed}
+use Rattle.vr_model.specs.routes.Routes.{is_empty}
+use Rattle.vr_model.specs.declared.records.Model.{Model}
+use Rattle.vr_model.specs.declared.records.Dimension.{Dimension}
+use Rattle.vr_model.specs.declared.records.Interval.{Interval}
+use Rattle.vr_model.specs.declared.records.StopRow.{StopRow}
+use Rattle.vr_earliest.specs.declared.floors.Floors.{Floors}
+
+-- x, or the number behind a forbidden interval where x lies in it
+abbrev pub behind : ℤ → Interval → ℤ
+behind x interval = cond (within interval.lo interval.hi x) (interval.hi +ℤ pos 1) x
+
+-- where a window begins, 0 where there is none
+abbrev pub opening : Option Interval → ℤ
+opening None = pos 0
+opening (Some window) = window.lo
+
+-- the floor of a stop with this row: where its window begins, behind each forbidden interval in turn
+abbrev pub floor_of : Option StopRow → ℤ
+floor_of None = pos 0
+floor_of (Some row) = int_min horizon (fold behind (opening row.window) row.forbidden)
+
+-- no number is forbidden between others
+abbrev pub forbids_none : Option StopRow → Bool
+forbids_none None = true
+forbids_none (Some row) = is_empty row.forbidden
+
+-- vehicle v has no breaks, and its start forbids no number between others
+abbrev pub starts_freely : Dimension → ℕ → Bool
+starts_freely dimension v = is_empty (breaks_of dimension v) && forbids_none (row_of dimension.starts v)
+
+-- for each key below n the floor of the row with it
+pub record HaveFloors (rows : List StopRow) (n : ℕ) (floors : List ℤ) : Type 0 where
+  pub many : length floors ≡ n
+  pub each : (key : ℕ) → key < n → number_at floors key ≡ floor_of (row_of rows key)
+  pub range : (key : ℕ) → key < n → IsIn (pos 0) horizon (number_at floors key)
+
+-- which of n vehicles start freely
+pub record AreFree (dimension : Dimension) (n : ℕ) (free : List Bool) : Type 0 where
+  pub many : length free ≡ n
+  pub each : (v : ℕ) (other : Bool) → v < n → slice_index_or free v other ≡ starts_freely dimension v
+
+-- the floors of the visits, the starts and the ends of a dimension, and which vehicles start freely
+pub record AreFloors (model : Model) (d : ℕ) (floors : Floors) : Type 0 where
+  pub visits : HaveFloors (dimension_at model d).nodes model.nodes floors.visits.items
+  pub starts : HaveFloors (dimension_at model d).starts (length model.vehicles) floors.starts.items
+  pub ends : HaveFloors (dimension_at model d).ends (length model.vehicles) floors.ends.items
+  pub free : AreFree (dimension_at model d) (length model.vehicles) floors.free.items
+
+-- the model is well formed, and the floors are those of its dimensions
+pub record AreOfModel (model : Model) (floors : List Floors) : Type 0 where
+  pub well_formed : IsWellFormed model
+  pub many : length floors ≡ length model.dimensions
+  pub each : (d : ℕ) (other : Floors) → d < length floors → AreFloors model d (slice_index_or floors d other)
