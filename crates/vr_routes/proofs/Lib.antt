@@ -1,6 +1,7 @@
 pub mod SeatLemmas
 pub mod TourLemmas
 pub mod PieceLemmas
+pub mod JoinedPieces
 pub mod ChangeLemmas
 pub mod NestLemmas
 pub mod OnceLemmas
