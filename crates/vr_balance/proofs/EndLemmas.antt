@@ -6,14 +6,12 @@ use Rattle.std.proofs.lemmas.List.Elements.{All-head, All-tail, All-take}
 use Rattle.std.proofs.Math.Seq.{take-append_seam}
 use Rattle.std.proofs.lemmas.Grind.{flat_map-append}
 use Rattle.vr_model.specs.routes.Routes.{route}
+use Rattle.vr_routes.proofs.JoinedPieces.{all_left}
 use Rattle.vr_routes.specs.declared.pieces.Piece.{Piece}
 use Rattle.vr_routes.specs.declared.pieces.Piece.TheVariants.{Chain}
 use Rattle.vr_routes.specs.Pieces.{joined, nodes_of, IsWithin}
 use Rattle.vr_routes.proofs.PieceLemmas.{slice_to_end}
 use Rattle.vr_balance.specs.Ends.{AreEnds, AreFront, BeginElsewhere, EndElsewhere}
-
-all_left : {X : Type 0} (P : X → Type 0) (xs ys : List X) → All P (xs ++ ys) → All P xs
-all_left P xs ys h = subst (λ zs. All P zs) (take-append_seam xs ys) (All-take P (length xs) (xs ++ ys) h)
 
 module _ (lists : List (List ℕ)) (v : ℕ) where
   -- the first piece keeps the front

@@ -22,7 +22,8 @@ use Rattle.vr_guided.specs.Bounding.{AugmentedCostsAreBounded}
 use Rattle.vr_guided.specs.Counts.{AtMost}
 use Rattle.vr_guided.specs.Walks.{last_of, route_weight, stretch_weight, unused_weight, weight}
 use Rattle.vr_guided.proofs.PartLemmas.{part_value, sums, used}
-use Rattle.vr_guided.proofs.WalkLemmas.{all_left, all_push, all_right}
+use Rattle.vr_routes.proofs.JoinedPieces.{all_left, all_right}
+use Rattle.vr_guided.proofs.WalkLemmas.{all_push}
 
 -- the most that a penalised arc adds
 abbrev pub most : ℕ

@@ -8,16 +8,11 @@ use Rattle.std.proofs.Math.Seq.{take-append_seam, drop-append_seam}
 use Rattle.vr_model.specs.search.GuidedSearches.{Penalties}
 use Rattle.vr_model.specs.declared.records.Model.{Model}
 use Rattle.vr_routes.specs.Pieces.{joined, nodes_of}
+use Rattle.vr_routes.proofs.JoinedPieces.{all_left, all_right}
 use Rattle.vr_routes.specs.declared.pieces.Piece.{Piece}
 use Rattle.vr_guided.specs.declared.walks.Walk.{Walk}
 use Rattle.vr_guided.specs.Walks.{weight, stepped, stretch_weight, walked, begun, last_of}
 use Rattle.vr_guided.proofs.LocalChanges.{along, last_behind}
-
-pub all_left : {X : Type 0} (P : X → Type 0) (xs ys : List X) → All P (xs ++ ys) → All P xs
-all_left P xs ys h = subst (λ zs. All P zs) (take-append_seam xs ys) (All-take P (length xs) (xs ++ ys) h)
-
-pub all_right : {X : Type 0} (P : X → Type 0) (xs ys : List X) → All P (xs ++ ys) → All P ys
-all_right P xs ys h = subst (λ zs. All P zs) (drop-append_seam xs ys) (All-drop P (length xs) (xs ++ ys) h)
 
 -- what holds of each entry of a list and of one more behind it
 pub all_push : {X : Type 0} (P : X → Type 0) (xs : List X) (x : X) → All P xs → P x → All P (xs ++ x ∷ [])

@@ -12,6 +12,7 @@ use Rattle.vr_model.proofs.tables.Totals.{total_by-append}
 use Rattle.vr_routes.specs.declared.pieces.Piece.{Piece}
 use Rattle.vr_routes.specs.declared.pieces.Piece.TheVariants.{Chain}
 use Rattle.vr_routes.specs.Pieces.{joined, nodes_of}
+use Rattle.vr_routes.proofs.JoinedPieces.{joined_next, joined_rest}
 use Rattle.vr_sums.specs.Sums.{last_of, IsUpTo}
 use Rattle.vr_sums.proofs.Paths.{read-up, sums-between}
 use Rattle.vr_loads.specs.Kept.{at_target, AreTaken}
@@ -20,33 +21,11 @@ use Rattle.vr_loads.proofs.ValueLemmas.{taken-total}
 
 -- ---- one piece more
 
-pub joined-next : (lists : List (List ℕ)) (pieces : List Piece) (k : ℕ) (d : Piece) → k < length pieces
-    → joined lists (take (k + 1) pieces) ≡ joined lists (take k pieces) ++ nodes_of lists (slice_index_or pieces k d)
-joined-next lists pieces k d low =
-    ap (λ n. joined lists (take n pieces)) (add-one k) ∙ ap (joined lists) (take-suc pieces k d low)
-    ∙ flat_map-append (nodes_of lists) (take k pieces) (slice_index_or pieces k d ∷ [])
-    ∙ ap (λ l. joined lists (take k pieces) ++ l) (append-nil (nodes_of lists (slice_index_or pieces k d)))
-
-pub joined-rest : (lists : List (List ℕ)) (pieces : List Piece) (k : ℕ) → joined lists pieces ≡ joined lists (take k pieces) ++ joined lists (drop k pieces)
-joined-rest lists pieces k = ap (joined lists) (sym (take-append-drop k pieces)) ∙ flat_map-append (nodes_of lists) (take k pieces) (drop k pieces)
-
 pub total-piece : (f : ℕ → ℤ) (lists : List (List ℕ)) (pieces : List Piece) (k : ℕ) (d : Piece) → k < length pieces
     → total_by f (joined lists (take (k + 1) pieces)) ≡ total_by f (joined lists (take k pieces)) +ℤ total_by f (nodes_of lists (slice_index_or pieces k d))
-total-piece f lists pieces k d low = ap (total_by f) (joined-next lists pieces k d low) ∙ total_by-append f (joined lists (take k pieces)) (nodes_of lists (slice_index_or pieces k d))
+total-piece f lists pieces k d low = ap (total_by f) (joined_next lists pieces k d low) ∙ total_by-append f (joined lists (take k pieces)) (nodes_of lists (slice_index_or pieces k d))
 
 -- ---- what holds of all nodes
-
-all-left : (P : ℕ → Type 0) (xs ys : List ℕ) → All P (xs ++ ys) → All P xs
-all-left P xs ys h k d low = subst P (get_or_append_left xs ys d k low) (h k d (let l = length-append xs ys in omega (arith, l, low)))
-
-all-right : (P : ℕ → Type 0) (xs ys : List ℕ) → All P (xs ++ ys) → All P ys
-all-right P xs ys h k d low =
-    let e : length xs + k - length xs ≡ k = omega arith in
-    subst P (get_or-append_right xs ys (length xs) (length xs + k) d refl (omega arith) ∙ ap (λ n. slice_index_or ys n d) e) (h (length xs + k) d (let l = length-append xs ys in omega (arith, l, low)))
-
-pub all-at : (P : ℕ → Type 0) (lists : List (List ℕ)) (pieces : List Piece) (k : ℕ) (d : Piece) → k < length pieces → All P (joined lists pieces) → All P (nodes_of lists (slice_index_or pieces k d))
-all-at P lists pieces k d low h =
-    all-right P (joined lists (take k pieces)) _ (subst (All P) (joined-next lists pieces k d low) (all-left P _ (joined lists (drop (k + 1) pieces)) (subst (All P) (joined-rest lists pieces (k + 1)) h)))
 
 all-reversed : (P : ℕ → Type 0) (xs : List ℕ) → All P (reverse xs) → All P xs
 all-reversed P xs h k d low =
@@ -111,9 +90,9 @@ empty-append (x ∷ xs) ys = refl
 -- a piece with a node
 pub some-piece : (lists : List (List ℕ)) (pieces : List Piece) (k : ℕ) (d : Piece) → k < length pieces → is_empty (nodes_of lists (slice_index_or pieces k d)) ≡ false → is_empty (joined lists pieces) ≡ false
 some-piece lists pieces k d low some =
-    ap is_empty (joined-rest lists pieces (k + 1)) ∙ (empty-append (joined lists (take (k + 1) pieces)) (joined lists (drop (k + 1) pieces))
+    ap is_empty (joined_rest lists pieces (k + 1)) ∙ (empty-append (joined lists (take (k + 1) pieces)) (joined lists (drop (k + 1) pieces))
     ∙ first (is_empty (joined lists (take (k + 1) pieces))) (is_empty (joined lists (drop (k + 1) pieces)))
-    (ap is_empty (joined-next lists pieces k d low) ∙ (empty-append (joined lists (take k pieces)) (nodes_of lists (slice_index_or pieces k d)) ∙ second (is_empty (joined lists (take k pieces))) (is_empty (nodes_of lists (slice_index_or pieces k d))) some)))
+    (ap is_empty (joined_next lists pieces k d low) ∙ (empty-append (joined lists (take k pieces)) (nodes_of lists (slice_index_or pieces k d)) ∙ second (is_empty (joined lists (take k pieces))) (is_empty (nodes_of lists (slice_index_or pieces k d))) some)))
   where
     first : (a b : Bool) → a ≡ false → (a && b) ≡ false
     first false b e = refl

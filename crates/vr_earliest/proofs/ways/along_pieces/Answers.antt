@@ -4,7 +4,7 @@ use Rattle.std.proofs.lemmas.List.Sums.{fold-append}
 use Rattle.vr_routes.specs.declared.pieces.Piece.{Piece}
 use Rattle.vr_routes.specs.declared.pieces.Piece.TheVariants.{Chain}
 use Rattle.vr_routes.specs.Pieces.{joined, nodes_of}
-use Rattle.vr_loads.proofs.PieceLemmas.{all-at, joined-next}
+use Rattle.vr_routes.proofs.JoinedPieces.{all_at, joined_next}
 use Rattle.vr_earliest.specs.Ways.{along, to_visit, IsWayOf}
 use Rattle.vr_earliest.proofs.WayLemmas.{along-way, way-more}
 use Rattle.vr_earliest.proofs.ways.along_pieces.Goals as goal
@@ -13,7 +13,7 @@ abbrev first_piece : Piece
 first_piece = Chain 0 0 0 false
 
 pub along_piece-gone-requires-clause-nodes : goal.along_piece-gone-requires-clause-nodes
-along_piece-gone-requires-clause-nodes c = all-at (λ node. node < c.args.model.now.nodes) c.args.routes.now.lists c.args.pieces.now c.loop-k.k first_piece c.loop-k-test.true c.requires.nodes
+along_piece-gone-requires-clause-nodes c = all_at (λ node. node < c.args.model.now.nodes) c.args.routes.now.lists c.args.pieces.now c.loop-k.k first_piece c.loop-k-test.true c.requires.nodes
 
 pub along_piece-gone-requires-clause-way : goal.along_piece-gone-requires-clause-way
 along_piece-gone-requires-clause-way c =
@@ -32,10 +32,10 @@ loop-k-preserved c =
     let nodes : List ℕ = nodes_of lists piece in
     let e = c.along_piece-gone.ensures in
     let few = e.few in
-    let all = all-at (λ node. node < m.nodes) lists c.args.pieces.now k first_piece c.loop-k-test.true c.requires.nodes in
+    let all = all_at (λ node. node < m.nodes) lists c.args.pieces.now k first_piece c.loop-k-test.true c.requires.nodes in
     record {
       value = e.value ∙ ap (λ way. along m d v way nodes) c.loop-k.invariant.value
-          ∙ sym (ap (along m d v c.args.way) (joined-next lists c.args.pieces.now k first_piece c.loop-k-test.true) ∙ fold-append (to_visit m d v) c.args.way (joined lists (take k c.args.pieces.now)) nodes);
+          ∙ sym (ap (along m d v c.args.way) (joined_next lists c.args.pieces.now k first_piece c.loop-k-test.true) ∙ fold-append (to_visit m d v) c.args.way (joined lists (take k c.args.pieces.now)) nodes);
       range = subst (IsWayOf m (1000 * (k + 1))) (sym e.value)
           (way-more m (1000 * k + length nodes) (1000 * (k + 1)) (along m d v c.loop-k.gone nodes) (omega (arith, few))
           (along-way m c.requires.well_formed d v c.requires.dimension c.requires.vehicle c.args.floors.now c.requires.floors nodes all (1000 * k) c.loop-k.gone c.loop-k.invariant.range));

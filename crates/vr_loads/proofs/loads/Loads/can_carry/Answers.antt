@@ -7,14 +7,15 @@ use Rattle.vr_routes.specs.declared.pieces.Piece.TheVariants.{Chain}
 use Rattle.vr_routes.specs.Pieces.{joined}
 use Rattle.vr_loads.specs.Loads.{value_of}
 use Rattle.vr_loads.proofs.KeptLemmas.{kept-at, carries, carries-nothing}
-use Rattle.vr_loads.proofs.PieceLemmas.{all-at, piece-read, piece-up}
+use Rattle.vr_routes.proofs.JoinedPieces.{all_at}
+use Rattle.vr_loads.proofs.PieceLemmas.{piece-read, piece-up}
 use Rattle.vr_loads.proofs.loads.Loads.can_carry.Goals as goal
 
 abbrev first_piece : Piece
 first_piece = Chain 0 0 0 false
 
 pub along-sum-requires-clause-nodes : goal.along-sum-requires-clause-nodes
-along-sum-requires-clause-nodes c = all-at (λ node. node < c.args.model.now.nodes) c.args.routes.now.lists c.args.pieces.now c.loop-k.k first_piece c.loop-k-test.true c.requires.nodes
+along-sum-requires-clause-nodes c = all_at (λ node. node < c.args.model.now.nodes) c.args.routes.now.lists c.args.pieces.now c.loop-k.k first_piece c.loop-k-test.true c.requires.nodes
 
 pub loop-k-preserved : goal.loop-k-preserved
 loop-k-preserved c =
