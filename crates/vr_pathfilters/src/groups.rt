@@ -1,9 +1,8 @@
 //! The filter of groups.
 
 ghost use Rattle.std.specs.Prelude.{◌≡◌, ◌+◌, ◌*◌, ◌<◌, ◌≤◌, ◌&&◌, ℕ, Bool, true, false, List, All, length, sum_by};
-ghost use Rattle.std.specs.Prelude.{count_by, IsTrue, IsOk, IfOk, OnOk, OnErr};
+ghost use Rattle.std.specs.Prelude.{IsTrue, IsOk, IfOk, OnOk, OnErr};
 ghost use Rattle.std.specs.List.{list_all};
-ghost use Rattle.vr_model.specs.routes.Rules.{active_in as active_in_of};
 ghost use Rattle.vr_model.specs.tables.Tables.{visits};
 ghost use Rattle.vr_model.specs.tables.WellFormed.{IsWellFormed};
 ghost use Rattle.vr_routes.specs.Changes.{IsMadeOn};
@@ -17,10 +16,10 @@ ghost use Rattle.vr_pathfilters.specs.Groups.{allows_number, allows_node, allows
 
 use std::alloc::Global;
 use std::sync::ledger::Ledger;
-use vr_balance::Balance;
+use vr_balance::{Balance, active_in};
 use vr_filter::PathFilter;
 use vr_lists::group_numbers;
-use vr_model::{Group, Model, NoMemory, Seq, Steps};
+use vr_model::{Model, NoMemory, Seq, Steps};
 use vr_routes::{Change, Piece, Routes};
 
 /// Lets a change pass where afterwards no group has more active nodes than it may have, each visit in no group is
@@ -93,20 +92,6 @@ fn many_in_pieces(numbers: &Seq<u32>, routes: &Routes, pieces: &[Piece], g: u32)
         many += many_in_piece(numbers, routes, pieces[k], g);
     }
     many
-}
-
-// How many nodes of a group are active.
-fn active_in(routes: &Routes, group: &Group) -> usize
-    ensures value { result ≡ active_in_of routes.now.lists group.now }
-    ensures few { result ≤ length group.now.nodes }
-{
-    let mut active = 0;
-    for &node in group.nodes.as_slice() {
-        if routes.is_active(node) {
-            active += 1;
-        }
-    }
-    active
 }
 
 // Whether so many nodes of group g may come and go.
