@@ -7,23 +7,13 @@ use Rattle.std.proofs.lemmas.List.{length-map, length-append}
 use Rattle.vr_model.specs.tables.Numbers.{within, horizon, number_at, is_same_number}
 use Rattle.vr_model.specs.tables.Tables.{no_dimension, dimension_at, vehicle_at, row_of}
 use Rattle.vr_model.specs.tables.WellFormed.{IsWellFormed}
-use Rattle.vr_model.specs.routes.Routes.{UsedArc, arcs_from, stops}
-use Rattle.vr_model.specs.schedules.Lines.{Arc, line, line_arc, stop_allows, start_allows, stop_rows, row_allows}
+use Rattle.vr_model.specs.routes.Routes.{stops}
+use Rattle.vr_model.specs.schedules.Lines.{line, line_arc, stop_allows, start_allows, stop_rows, row_allows}
 use Rattle.vr_model.specs.schedules.Schedules.{allows, arc_at, no_arc}
+use Rattle.vr_model.proofs.schedules.LineArcs.{arc_through, arcs_of_line}
 use Rattle.vr_model.specs.deciding.Testing.{within_is, test_of_within}
 use Rattle.vr_model.specs.declared.records.Model.{Model}
 use Rattle.vr_model.specs.declared.records.StopRow.{StopRow}
-
--- the arcs through some nodes: arc k leads from the node at place k to the next one
-arc_from : (v node : ℕ) (rest : List ℕ) (f : UsedArc → Arc) (k : ℕ) → k < length rest
-    → slice_index_or (map f (arcs_from v node rest)) k no_arc ≡ f (record { vehicle = v; origin = get_or (node ∷ rest) k 0; target = get_or rest k 0 })
-arc_from v node [] f k low = absurd (omega arith)
-arc_from v node (next ∷ rest) f zero low = refl
-arc_from v node (next ∷ rest) f (suc k) low = arc_from v next rest f k (omega arith)
-
-length_arcs : (v node : ℕ) (rest : List ℕ) → length (arcs_from v node rest) ≡ length rest
-length_arcs v node [] = refl
-length_arcs v node (next ∷ rest) = ap suc (length_arcs v next rest)
 
 ends_and_middle : {B : Type 0} (f : ℕ → B) (list : List ℕ) (first last : B) → length (first ∷ (map f list ++ last ∷ [])) ≡ length list + 2
 ends_and_middle f list first last = omega (arith, length-append (map f list) (last ∷ []), length-map list f)
@@ -50,8 +40,7 @@ not_start j = grind arith
 
 module _ (model : Model) (d v : ℕ) (list : List ℕ) where
   pub line_arcs : length (line model d v list).arcs ≡ length list + 1
-  line_arcs = length-map (arcs_from v (vehicle_at model v).start (list ++ (vehicle_at model v).end ∷ [])) (line_arc model d v)
-      ∙ length_arcs v (vehicle_at model v).start (list ++ (vehicle_at model v).end ∷ []) ∙ length-append list ((vehicle_at model v).end ∷ [])
+  line_arcs = let n = arcs_of_line model d v list in omega (arith, n)
 
   pub line_stops : length (line model d v list).allowed ≡ length list + 2
   line_stops =
@@ -59,7 +48,7 @@ module _ (model : Model) (d v : ℕ) (list : List ℕ) where
       ends_and_middle (λ node. stop_allows capacity (row_of (dimension_at model d).nodes node)) list (start_allows (dimension_at model d) capacity (row_of (dimension_at model d).starts v)) (stop_allows capacity (row_of (dimension_at model d).ends v))
 
   pub arc_is : (k : ℕ) → k ≤ length list → arc_at (line model d v list) k ≡ line_arc model d v (record { vehicle = v; origin = get_or (stops model v list) k 0; target = get_or (stops model v list) (suc k) 0 })
-  arc_is k low = arc_from v (vehicle_at model v).start (list ++ (vehicle_at model v).end ∷ []) (line_arc model d v) k (omega (arith, low, length-append list ((vehicle_at model v).end ∷ [])))
+  arc_is k low = arc_through (line_arc model d v) v (vehicle_at model v).start (list ++ (vehicle_at model v).end ∷ []) k no_arc (omega (arith, low, length-append list ((vehicle_at model v).end ∷ [])))
 
   -- what a stop allows, by its row
   pub allows_by_its_row : number_at (dimension_at model d).capacities v ≤ℤ horizon → (k : ℕ) (x : ℤ) → k ≤ length list + 1
