@@ -1,18 +1,16 @@
 -- What is taken along the pieces of a list.
-use Rattle.std.proofs.Common.{◌≡◌, ◌∙◌, ℕ, ◌+◌, ◌-◌, ◌*◌, ◌<◌, ◌≤◌, Bool, true, false, List, [], ◌∷◌, ◌++◌, length, take, drop, reverse, refl, sym, ap, subst, arith, add-one, length-append, to_z, of_z, w64}
-use Rattle.std.specs.Prelude.{ℤ, ◌+ℤ◌, ◌&&◌, slice_range, slice_index_or, All}
+use Rattle.std.proofs.Common.{◌≡◌, ◌∙◌, ℕ, ◌+◌, ◌-◌, ◌*◌, ◌<◌, ◌≤◌, Bool, true, false, List, length, take, reverse, refl, sym, ap, subst, arith, to_z, of_z, w64}
+use Rattle.std.specs.Prelude.{ℤ, ◌+ℤ◌, slice_range, slice_index_or, All}
 use Rattle.std.proofs.lemmas.Int.{ints}
-use Rattle.std.proofs.lemmas.List.{get_or_append_left, get_or-append_right, append-nil, take-append-drop, get_or-reverse, length-reverse}
+use Rattle.std.proofs.lemmas.List.{get_or-reverse, length-reverse}
 use Rattle.std.proofs.lemmas.List.Edits.{length-between}
-use Rattle.std.proofs.lemmas.Grind.{flat_map-append}
-use Rattle.std.proofs.Math.Seq.{take-suc}
 use Rattle.vr_model.specs.tables.Numbers.{total_by}
-use Rattle.vr_model.specs.routes.Routes.{route, is_empty}
+use Rattle.vr_model.specs.routes.Routes.{route}
 use Rattle.vr_model.proofs.tables.Totals.{total_by-append}
 use Rattle.vr_routes.specs.declared.pieces.Piece.{Piece}
 use Rattle.vr_routes.specs.declared.pieces.Piece.TheVariants.{Chain}
 use Rattle.vr_routes.specs.Pieces.{joined, nodes_of}
-use Rattle.vr_routes.proofs.JoinedPieces.{joined_next, joined_rest}
+use Rattle.vr_routes.proofs.JoinedPieces.{joined_next}
 use Rattle.vr_sums.specs.Sums.{last_of, IsUpTo}
 use Rattle.vr_sums.proofs.Paths.{read-up, sums-between}
 use Rattle.vr_loads.specs.Kept.{at_target, AreTaken}
@@ -80,24 +78,3 @@ module _ (f : ℕ → ℤ) (lists : List (List ℕ)) (pieces : List Piece) (k : 
 
   pub piece-up : IsUpTo (1001 * (k + 1)) (to_z w64 (of_z w64 (sum +ℤ to_z w64 (of_z w64 more))))
   piece-up = subst (IsUpTo (1001 * (k + 1))) (sym plain) (record { low = omega (arith, ints, up.low, up_next.low); high = omega (arith, ints, up.high, up_next.high) })
-
--- ---- no node at all
-
-pub empty-append : (xs ys : List ℕ) → is_empty (xs ++ ys) ≡ (is_empty xs && is_empty ys)
-empty-append [] ys = refl
-empty-append (x ∷ xs) ys = refl
-
--- a piece with a node
-pub some-piece : (lists : List (List ℕ)) (pieces : List Piece) (k : ℕ) (d : Piece) → k < length pieces → is_empty (nodes_of lists (slice_index_or pieces k d)) ≡ false → is_empty (joined lists pieces) ≡ false
-some-piece lists pieces k d low some =
-    ap is_empty (joined_rest lists pieces (k + 1)) ∙ (empty-append (joined lists (take (k + 1) pieces)) (joined lists (drop (k + 1) pieces))
-    ∙ first (is_empty (joined lists (take (k + 1) pieces))) (is_empty (joined lists (drop (k + 1) pieces)))
-    (ap is_empty (joined_next lists pieces k d low) ∙ (empty-append (joined lists (take k pieces)) (nodes_of lists (slice_index_or pieces k d)) ∙ second (is_empty (joined lists (take k pieces))) (is_empty (nodes_of lists (slice_index_or pieces k d))) some)))
-  where
-    first : (a b : Bool) → a ≡ false → (a && b) ≡ false
-    first false b e = refl
-    first true b e = absurd (cc)
-
-    second : (a b : Bool) → b ≡ false → (a && b) ≡ false
-    second false b e = refl
-    second true b e = e

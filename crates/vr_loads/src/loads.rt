@@ -1,9 +1,9 @@
 //! What is kept of the lists of vehicles in a dimension that is a load.
 
-ghost use Rattle.std.specs.Prelude.{◌≡◌, ◌<◌, ◌≤◌, ◌≤ℤ◌, ◌-ℤ◌, ◌^◌, ℕ, List, pos, All, IfOk, length, not};
+ghost use Rattle.std.specs.Prelude.{◌≡◌, ◌<◌, ◌≤◌, ◌≤ℤ◌, ◌-ℤ◌, ◌^◌, ℕ, List, pos, All, IfOk, length};
 ghost use Rattle.vr_model.specs.tables.Numbers.{number_at, total_by};
 ghost use Rattle.vr_model.specs.tables.Tables.{dimension_at, evaluator_number, vehicle_at};
-ghost use Rattle.vr_model.specs.routes.Routes.{is_empty, route};
+ghost use Rattle.vr_model.specs.routes.Routes.{route};
 ghost use Rattle.vr_model.specs.moves.Moves.{with_route};
 ghost use Rattle.vr_routes.specs.Pieces.{joined, nodes_of, IsWithin};
 ghost use Rattle.vr_sums.specs.Sums.{IsUpTo};
@@ -135,7 +135,7 @@ impl Loads {
         if sum <= self.vehicles[v as usize].room {
             return true;
         }
-        have_no_node(routes, pieces)
+        Piece::nodes_in(routes, pieces) == 0
     }
 
     // What an evaluator gives for the nodes of a piece, added up: by one subtraction where the sums are kept by it.
@@ -172,30 +172,5 @@ impl Loads {
                 sum_of(model, d, evaluator, &list[from as usize..to as usize])
             }
         }
-    }
-}
-
-// Whether pieces have no node at all.
-fn have_no_node(_routes: &Routes, pieces: &[Piece]) -> bool
-    requires within { All (IsWithin _routes.now.lists) pieces.now }
-    ensures { result ≡ is_empty (joined _routes.now.lists pieces.now) }
-{
-    for k in 0..pieces.len() {
-        if has_node(_routes, pieces[k]) {
-            return false;
-        }
-    }
-    true
-}
-
-// Whether a piece has a node.
-#[inline]
-fn has_node(_routes: &Routes, piece: Piece) -> bool
-    requires within { IsWithin _routes.now.lists piece }
-    ensures { result ≡ not (is_empty (nodes_of _routes.now.lists piece)) }
-{
-    match piece {
-        Piece::Node { .. } => true,
-        Piece::Chain { from, to, .. } => from < to,
     }
 }

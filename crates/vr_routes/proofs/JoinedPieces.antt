@@ -1,10 +1,11 @@
 -- Pieces that are joined one after the other, and what holds of all their nodes.
-use Rattle.std.proofs.Common.{◌≡◌, ◌∙◌, ℕ, ◌+◌, ◌<◌, List, [], ◌∷◌, ◌++◌, length, take, drop, sym, ap, subst, add-one}
-use Rattle.std.specs.Prelude.{slice_index_or, All}
+use Rattle.std.proofs.Common.{◌≡◌, ◌∙◌, ℕ, ◌+◌, ◌<◌, List, [], ◌∷◌, ◌++◌, length, take, drop, refl, sym, ap, subst, add-one, arith}
+use Rattle.std.specs.Prelude.{◌==◌, slice_index_or, All}
 use Rattle.std.proofs.lemmas.List.{append-nil, take-append-drop}
 use Rattle.std.proofs.lemmas.List.Elements.{All-take, All-drop}
 use Rattle.std.proofs.lemmas.Grind.{flat_map-append}
 use Rattle.std.proofs.Math.Seq.{take-suc, take-append_seam, drop-append_seam}
+use Rattle.vr_model.specs.routes.Routes.{is_empty}
 use Rattle.vr_routes.specs.declared.pieces.Piece.{Piece}
 use Rattle.vr_routes.specs.Pieces.{joined, nodes_of}
 
@@ -34,3 +35,8 @@ all_so_far P lists pieces k h = all_left P (joined lists (take k pieces)) (joine
 pub all_at : (P : ℕ → Type 0) (lists : List (List ℕ)) (pieces : List Piece) (k : ℕ) (other : Piece) → k < length pieces → All P (joined lists pieces) → All P (nodes_of lists (slice_index_or pieces k other))
 all_at P lists pieces k other low h =
     all_right P (joined lists (take k pieces)) (nodes_of lists (slice_index_or pieces k other)) (subst (λ xs. All P xs) (joined_next lists pieces k other low) (all_so_far P lists pieces (k + 1) h))
+
+-- a list is empty where it has no length
+pub empty_by_length : (list : List ℕ) → (length list == 0) ≡ is_empty list
+empty_by_length [] = refl
+empty_by_length (x ∷ xs) = Prim.grind arith

@@ -1,4 +1,5 @@
 use Rattle.std.proofs.Common.{◌∙◌, ◌<◌, ℕ, List, false, sym, ap, arith, to_z, w64}
+use Rattle.std.specs.Prelude.{◌==◌}
 use Rattle.std.proofs.lemmas.Int.{ints}
 use Rattle.std.proofs.lemmas.List.{take_all}
 use Rattle.vr_model.specs.tables.Numbers.{total_by}
@@ -7,7 +8,7 @@ use Rattle.vr_routes.specs.declared.pieces.Piece.TheVariants.{Chain}
 use Rattle.vr_routes.specs.Pieces.{joined}
 use Rattle.vr_loads.specs.Loads.{value_of}
 use Rattle.vr_loads.proofs.KeptLemmas.{kept-at, carries, carries-nothing}
-use Rattle.vr_routes.proofs.JoinedPieces.{all_at}
+use Rattle.vr_routes.proofs.JoinedPieces.{all_at, empty_by_length}
 use Rattle.vr_loads.proofs.PieceLemmas.{piece-read, piece-up}
 use Rattle.vr_loads.proofs.loads.Loads.can_carry.Goals as goal
 
@@ -51,6 +52,6 @@ returns c =
     let two = kept-at m d lists c.args.self.now c.self.inside.vehicles.items c.args.v c.index-2.result.now c.requires.carried c.requires.vehicle c.self.view_is c.index-2.ensures in
     let f = value_of m d c.index.result.now.evaluator in
     let whole = ap (λ l. total_by f (joined lists l)) (take_all c.loop-k.k pieces c.loop-k-test.false) in
-    c.have_no_node.ensures
+    ap (λ n. n == 0) c.nodes_in.ensures ∙ empty_by_length (joined lists pieces)
     ∙ sym (carries-nothing m d c.args.v (joined lists pieces) c.index.result.now.evaluator (to_z w64 c.loop-k.sum-bits) c.index-2.result.now.room one.evaluator_is two.room_is (c.loop-k.invariant.sum ∙ whole)
     (let t = c.if-sum-index.false in omega (arith, ints, t)))
