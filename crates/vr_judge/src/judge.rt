@@ -15,7 +15,7 @@ use std::alloc::Global;
 use std::marker::Model;
 use std::sync::ledger::Ledger;
 use vr_model::{Model as RoutingModel, Move, NoMemory, Steps};
-use vr_routes::{Judge, Routes, Verdict};
+use vr_routes::{Change, Judge, Routes, Verdict};
 
 /// Judges a move by what it changes: filters refuse it (`LocalSearchFilterManager` in OR-Tools), and parts of the cost
 /// tell its difference. It counts no questions. Of steps it counts at most the weight that the definitions give the
@@ -74,8 +74,8 @@ impl<'m> Judge for FilterJudge<'m> {
         Ok(verdict)
     }
 
-    fn least_difference(&mut self, routes: &Routes, mv: Move) -> i64 {
-        self.judging.least_difference(routes, mv)
+    fn least_difference(&mut self, routes: &Routes, mv: Move, change: &Change) -> i64 {
+        self.judging.least_difference(routes, mv, change)
     }
 
     fn commit(&mut self, routes: &mut Routes, mv: Move) -> Result<(), NoMemory> {

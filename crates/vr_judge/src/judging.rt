@@ -94,9 +94,8 @@ impl<'m, F: PathFilter + Drop> Judge for Judging<'m, F> {
         Ok(Verdict::Difference(difference))
     }
 
-    fn least_difference(&mut self, routes: &Routes, mv: Move) -> i64 {
-        Change::write(self.model, routes, mv, &mut self.change);
-        self.costs.least(routes, &self.change)
+    fn least_difference(&mut self, routes: &Routes, _mv: Move, change: &Change) -> i64 {
+        self.costs.least(routes, change)
     }
 
     /// Filters and parts of the cost are made ready first; then all are changed, which takes no memory.
