@@ -6,6 +6,7 @@ pub mod LocalChanges
 pub mod SumLemmas
 pub mod StretchLemmas
 pub mod LineLemmas
+pub mod ChainLemmas
 pub mod ArcLemmas
 pub mod CountLemmas
 pub mod GuideLemmas

@@ -51,5 +51,6 @@ stretch_weight model penalties v start nodes next =
 -- what the arc from the start of vehicle v to its end would add where it has no visits
 abbrev pub unused_weight : Model → Penalties → ℕ → ℕ → ℤ
 unused_weight model penalties v len =
-    let bare : UsedArc = record { vehicle = v; origin = (vehicle_at model v).start; target = (vehicle_at model v).end } in
+    let ends = vehicle_at model v in
+    let bare : UsedArc = record { vehicle = v; origin = ends.start; target = ends.end } in
     cond (len == 0) (weight model penalties bare) (pos 0)

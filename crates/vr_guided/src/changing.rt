@@ -173,7 +173,7 @@ impl Penalties {
         let ends = strip(routes, v, pieces);
         let start = node_before(list, ends.front, start_of(model, v));
         let next = node_from(list, ends.behind, end_of(model, v));
-        let new = self.new_stretch(model, routes, v, start, ends.middle, next);
+        let new = self.new_stretch(model, routes, lines, v, start, ends.middle, next);
         let old = self.old_stretch(model, routes, lines, v, ends.front, ends.behind);
         let len = ends.front + new.nodes + (list.len() as u32 - ends.behind);
         let before = old - self.unused(model, v, list.len() as u32);
@@ -218,6 +218,7 @@ impl Penalties {
         &self,
         model: &Model,
         routes: &Routes,
+        lines: &Lines,
         v: u32,
         start: u32,
         pieces: &[Piece],
@@ -232,6 +233,7 @@ impl Penalties {
         requires short { length (joined routes.now.lists pieces.now) ≤ 1000 }
         requires covers { self.now.nodes ≡ model.now.nodes }
         requires few { AtMost 1000000000 (counted self.now) }
+        requires lines { AreLines model.now (counted self.now) routes.now.lists lines.now }
         ensures low { pos 0 ≤ℤ result.total }
         ensures high { result.total ≤ℤ pos (1001 * 2 ^ 70) }
         ensures nodes { result.nodes ≡ length (joined routes.now.lists pieces.now) }
@@ -239,7 +241,7 @@ impl Penalties {
             ≡ stretch_weight model.now (counted self.now) v start (joined routes.now.lists pieces.now) next }
     {
         let mut walk = Walk::begin(start);
-        self.along_pieces(model, routes, v, &mut walk, pieces);
+        self.along_pieces(model, routes, lines, v, &mut walk, pieces);
         let nodes = walk.arcs;
         self.step(model, v, &mut walk, next);
         Stretch {

@@ -1,12 +1,19 @@
 //! Walks along routes, which add up penalised costs of arcs.
 
-ghost use Rattle.std.specs.Prelude.{◌≡◌, ◌<◌, ◌≤◌, ◌≤ℤ◌, ◌*ℤ◌, ◌+◌, ◌^◌, All, length, pos, reverse};
+ghost use Rattle.std.specs.Prelude.{◌≡◌, ◌<◌, ◌≤◌, ◌≤ℤ◌, ◌*ℤ◌, ◌+◌, ◌-◌, ◌*◌, ◌^◌, ◌∷◌, ℕ, List, All, length};
+ghost use Rattle.std.specs.Prelude.{pos, reverse, slice_range, true};
 ghost use Rattle.vr_guided.specs.Counts.{AtMost, counted};
+ghost use Rattle.vr_guided.specs.Lines.{AreLines};
 ghost use Rattle.vr_guided.specs.Sums.{weight_by};
-ghost use Rattle.vr_guided.specs.Walks.{IsSoundWalk, begun, stepped, walked, weight};
+ghost use Rattle.vr_guided.specs.Walks.{IsSoundWalk, begun, last_of, stepped, walked, weight};
+ghost use Rattle.vr_model.specs.routes.Routes.{arcs_from, route};
+ghost use Rattle.vr_model.specs.tables.Numbers.{total_by};
+ghost use Rattle.vr_model.specs.tables.Tables.{vehicle_at};
 ghost use Rattle.vr_model.specs.tables.WellFormed.{IsIn, IsWellFormed};
 ghost use Rattle.vr_routes.specs.Pieces.{IsWithin, joined, nodes_of};
+ghost use Rattle.vr_routes.specs.declared.pieces.Piece.TheVariants.{Chain};
 
+use crate::lines::Lines;
 use crate::penalties::Penalties;
 use vr_model::Model;
 use vr_routes::{Piece, Routes};
@@ -137,17 +144,94 @@ impl Penalties {
         }
     }
 
+    // A walk goes on at one go: to a first node, and on by so many arcs, which add up to `total`, to a last one.
+    #[inline]
+    fn jump(
+        &self,
+        model: &Model,
+        vehicle: u32,
+        walk: &mut Walk,
+        first: u32,
+        last: u32,
+        arcs: u32,
+        total: i128,
+    )
+        requires well_formed { IsWellFormed model.now }
+        requires vehicle { vehicle < length model.now.vehicles }
+        requires first { first < model.now.nodes }
+        requires last { last < model.now.nodes }
+        requires covers { self.now.nodes ≡ model.now.nodes }
+        requires few { AtMost 1000000000 (counted self.now) }
+        requires sound { IsSoundWalk model.now.nodes walk.old }
+        requires room { walk.old.arcs + arcs < 100000 }
+        requires total { IsIn (pos 0) (pos (arcs * 2 ^ 70)) total }
+        ensures value { (nodes : List ℕ) → arcs ≡ length nodes → last ≡ last_of first nodes
+            → total ≡ total_by (weight model.now (counted self.now)) (arcs_from vehicle first nodes)
+            → walk.new ≡ walked model.now (counted self.now) vehicle walk.old (first ∷ nodes) }
+        ensures sound { IsSoundWalk model.now.nodes walk.new }
+    {
+        self.step(model, vehicle, walk, first);
+        walk.at = last;
+        walk.arcs += arcs;
+        walk.total += total;
+    }
+
+    // A walk goes on through a chain of a list, by the line of its vehicle, which has the same arc costs.
+    fn along_kept(
+        &self,
+        model: &Model,
+        routes: &Routes,
+        lines: &Lines,
+        vehicle: u32,
+        walk: &mut Walk,
+        v: u32,
+        from: u32,
+        to: u32,
+        reversed: bool,
+    )
+        requires well_formed { IsWellFormed model.now }
+        requires vehicle { vehicle < length model.now.vehicles }
+        requires owner { v < length model.now.vehicles }
+        requires same { (vehicle_at model.now v).costs ≡ (vehicle_at model.now vehicle).costs }
+        requires order { from < to }
+        requires place { to ≤ length (route routes.now.lists v) }
+        requires nodes { All (λ node. node < model.now.nodes) (slice_range (route routes.now.lists v) from to) }
+        requires lines { AreLines model.now (counted self.now) routes.now.lists lines.now }
+        requires covers { self.now.nodes ≡ model.now.nodes }
+        requires few { AtMost 1000000000 (counted self.now) }
+        requires sound { IsSoundWalk model.now.nodes walk.old }
+        requires room { walk.old.arcs + (to - from) ≤ 100000 }
+        ensures value { walk.new ≡ walked model.now (counted self.now) vehicle walk.old
+            (nodes_of routes.now.lists (Chain v from to reversed)) }
+        ensures sound { IsSoundWalk model.now.nodes walk.new }
+    {
+        let list = routes.list(v);
+        let line = lines.of(v);
+        let low = list[from as usize];
+        let high = list[to as usize - 1];
+        let arcs = to - from - 1;
+        if reversed {
+            let total = line.back.between(from as usize + 1, to as usize);
+            self.jump(model, vehicle, walk, high, low, arcs, total);
+        } else {
+            let total = line.on.between(from as usize + 1, to as usize);
+            self.jump(model, vehicle, walk, low, high, arcs, total);
+        }
+    }
+
     // A walk goes on through the nodes of a piece.
     fn along_piece(
         &self,
         model: &Model,
         routes: &Routes,
+        lines: &Lines,
         vehicle: u32,
         walk: &mut Walk,
         piece: &Piece,
     )
         requires well_formed { IsWellFormed model.now }
         requires vehicle { vehicle < length model.now.vehicles }
+        requires lines { AreLines model.now (counted self.now) routes.now.lists lines.now }
         requires within { IsWithin routes.now.lists piece.now }
         requires nodes { All (λ node. node < model.now.nodes) (nodes_of routes.now.lists piece.now) }
         requires covers { self.now.nodes ≡ model.now.nodes }
@@ -165,6 +249,11 @@ impl Penalties {
                 to,
                 reversed,
             } => {
+                let same = has_same_costs(model, v, vehicle);
+                if same && from < to {
+                    self.along_kept(model, routes, lines, vehicle, walk, v, from, to, reversed);
+                    return;
+                }
                 let nodes = &routes.list(v)[from as usize..to as usize];
                 if reversed {
                     self.along_back(model, vehicle, walk, nodes);
@@ -181,12 +270,14 @@ impl Penalties {
         &self,
         model: &Model,
         routes: &Routes,
+        lines: &Lines,
         vehicle: u32,
         walk: &mut Walk,
         pieces: &[Piece],
     )
         requires well_formed { IsWellFormed model.now }
         requires vehicle { vehicle < length model.now.vehicles }
+        requires lines { AreLines model.now (counted self.now) routes.now.lists lines.now }
         requires within { All (IsWithin routes.now.lists) pieces.now }
         requires nodes { All (λ node. node < model.now.nodes) (joined routes.now.lists pieces.now) }
         requires covers { self.now.nodes ≡ model.now.nodes }
@@ -198,9 +289,19 @@ impl Penalties {
         ensures sound { IsSoundWalk model.now.nodes walk.new }
     {
         for piece in pieces {
-            self.along_piece(model, routes, vehicle, walk, piece);
+            self.along_piece(model, routes, lines, vehicle, walk, piece);
         }
     }
+}
+
+// Whether two vehicles have the same arc costs.
+#[inline]
+fn has_same_costs(model: &Model, v: u32, w: u32) -> bool
+    requires v { v < length model.now.vehicles }
+    requires w { w < length model.now.vehicles }
+    ensures { result ≡ true → (vehicle_at model.now v).costs ≡ (vehicle_at model.now w).costs }
+{
+    model.vehicles.get(v as usize).costs == model.vehicles.get(w as usize).costs
 }
 
 // A penalty times a cost.

@@ -1,9 +1,57 @@
-use Rattle.std.proofs.Common.{◌≡◌, ◌∙◌, ◌<◌, reverse, ap, sym, subst}
+use Rattle.std.proofs.Common.{◌≡◌, ◌∙◌, ◌-◌, ◌<◌, ◌≤◌, ℕ, Bool, true, false, List, length, drop, reverse, ap, sym, subst, arith}
+use Rattle.std.proofs.lemmas.List.{length-drop, length-reverse, length-take-le}
+use Rattle.vr_model.specs.routes.Routes.{route}
 use Rattle.std.specs.Prelude.{All, slice_range}
-use Rattle.vr_routes.specs.Pieces.{nodes_of}
+use Rattle.vr_routes.specs.Pieces.{IsWithin, nodes_of}
 use Rattle.vr_routes.specs.declared.pieces.Piece.TheVariants.{Chain}
 use Rattle.vr_guided.proofs.WalkLemmas.{all_unreversed}
 use Rattle.vr_guided.proofs.penalties.Penalties.along_piece.Goals as goal
+
+-- how many nodes a chain has
+chain-on : (lists : List (List ℕ)) (v from to : ℕ) → from ≤ to → to ≤ length (route lists v) → length (slice_range (route lists v) from to) ≡ to - from
+chain-on lists v from to order high = length-take-le (to - from) (drop from (route lists v)) (let n = length-drop from (route lists v) in omega (arith, n, order, high))
+
+chain-nodes : (lists : List (List ℕ)) (v from to : ℕ) (reversed : Bool) → from ≤ to → to ≤ length (route lists v) → length (nodes_of lists (Chain v from to reversed)) ≡ to - from
+chain-nodes lists v from to true order high = length-reverse (slice_range (route lists v) from to) ∙ chain-on lists v from to order high
+chain-nodes lists v from to false order high = chain-on lists v from to order high
+
+-- each node of a chain, whichever way it goes
+chain-all : (P : ℕ → Type 0) (lists : List (List ℕ)) (v from to : ℕ) (reversed : Bool) → All P (nodes_of lists (Chain v from to reversed)) → All P (slice_range (route lists v) from to)
+chain-all P lists v from to true h = all_unreversed P (slice_range (route lists v) from to) h
+chain-all P lists v from to false h = h
+
+pub has_same_costs-same-requires-clause-v : goal.has_same_costs-same-requires-clause-v
+has_same_costs-same-requires-clause-v c =
+    let w = subst (IsWithin c.args.routes.now.lists) c.in-Chain.is c.requires.within in
+    let known = c.requires.lines.known in
+    let low = w.0 in
+    omega (arith, low, known)
+
+pub along_kept-requires-clause-owner : goal.along_kept-requires-clause-owner
+along_kept-requires-clause-owner c =
+    let w = subst (IsWithin c.args.routes.now.lists) c.in-Chain.is c.requires.within in
+    let known = c.requires.lines.known in
+    let low = w.0 in
+    omega (arith, low, known)
+
+pub along_kept-requires-clause-place : goal.along_kept-requires-clause-place
+along_kept-requires-clause-place c =
+    let w = subst (IsWithin c.args.routes.now.lists) c.in-Chain.is c.requires.within in
+    w.2
+
+pub along_kept-requires-clause-nodes : goal.along_kept-requires-clause-nodes
+along_kept-requires-clause-nodes c =
+    let x = c.in-Chain in
+    let Below : ℕ → Type 0 = λ node. node < c.args.model.now.nodes in
+    chain-all Below c.args.routes.now.lists x.v x.from x.to x.reversed (subst (λ q. All Below (nodes_of c.args.routes.now.lists q)) x.is c.requires.nodes)
+
+pub along_kept-requires-clause-room : goal.along_kept-requires-clause-room
+along_kept-requires-clause-room c =
+    let x = c.in-Chain in
+    let w = subst (IsWithin c.args.routes.now.lists) x.is c.requires.within in
+    let len = ap (λ q. length (nodes_of c.args.routes.now.lists q)) x.is ∙ chain-nodes c.args.routes.now.lists x.v x.from x.to x.reversed w.1 w.2 in
+    let room = c.requires.room in
+    omega (arith, len, room)
 
 pub along_back-requires-clause-nodes : goal.along_back-requires-clause-nodes
 along_back-requires-clause-nodes c =
