@@ -85,8 +85,9 @@ pub adds_whole : (a f g p s a0 f0 g0 p0 s0 a1 f1 g1 p1 s1 old new : ℤ) → a �
 adds_whole a f g p s a0 f0 g0 p0 s0 a1 f1 g1 p1 s1 old new arcs fixed groups plans spans before behind =
     omega (arith, ints, arcs, fixed, groups, plans, spans, before, behind)
 
--- where two parts save no more than is held of them, the cost adds no less than the others add, less what is held
-pub adds_least : (a f g p s a0 f0 g0 p0 s0 a1 f1 g1 p1 s1 old new : ℤ) → a ≡ a1 -ℤ a0 → f ≡ f1 -ℤ f0 → g ≡ g1 -ℤ g0 → neg_ℤ p ≤ℤ (p1 -ℤ p0) → neg_ℤ s ≤ℤ (s1 -ℤ s0)
+-- where the third part adds no less than is told, and two parts save no more than is held of them, the cost adds no less
+-- than what the first two add and what is told of the third, less what is held
+pub adds_least : (a f g p s a0 f0 g0 p0 s0 a1 f1 g1 p1 s1 old new : ℤ) → a ≡ a1 -ℤ a0 → f ≡ f1 -ℤ f0 → g ≤ℤ (g1 -ℤ g0) → neg_ℤ p ≤ℤ (p1 -ℤ p0) → neg_ℤ s ≤ℤ (s1 -ℤ s0)
     → old ≡ a0 +ℤ f0 +ℤ g0 +ℤ p0 +ℤ s0 → new ≡ a1 +ℤ f1 +ℤ g1 +ℤ p1 +ℤ s1 → (a +ℤ f +ℤ g -ℤ p -ℤ s) ≤ℤ (new -ℤ old)
 adds_least a f g p s a0 f0 g0 p0 s0 a1 f1 g1 p1 s1 old new arcs fixed groups plans spans before behind =
     omega (arith, ints, arcs, fixed, groups, plans, spans, before, behind)

@@ -83,8 +83,8 @@ impl<'m> Costs<'m> {
         Ok(arcs + fixed + groups + plans + spans)
     }
 
-    /// What a change of the committed lists adds to their cost at least, where the lists after it are valid: what arcs,
-    /// fixed costs and groups add, less all that schedules cost now.
+    /// What a change of the committed lists adds to their cost at least, where the lists after it are valid: what arcs
+    /// and fixed costs add, and groups at least, less all that schedules cost now.
     pub(crate) fn least(&mut self, routes: &Routes, change: &Change) -> i64
         requires stands { StandsCosts self.old routes.now }
         requires made { IsMadeOn routes.now change.now }
@@ -95,7 +95,7 @@ impl<'m> Costs<'m> {
     {
         let arcs = self.arcs.added(routes, change);
         let fixed = self.fixed.added(routes, change);
-        let groups = self.groups.added(routes, change);
+        let groups = self.groups.least(routes, change);
         let plans = self.plans.held(routes, change);
         let spans = self.spans.held(routes);
         arcs + fixed + groups - plans - spans

@@ -23,14 +23,14 @@ bounded_parts arcs fixed groups plans spans a f g p s = record {
 
 pub overflow_sub-result : goal.overflow_sub-result
 overflow_sub-result c =
-    let h = bounded_parts c.added-arcs.result c.added-fixed.result c.added-groups.result c.held-plans.result c.held-spans.result c.added-arcs.ensures.range c.added-fixed.ensures.range c.added-groups.ensures.range c.held-plans.ensures.range c.held-spans.ensures.range in
+    let h = bounded_parts c.added-arcs.result c.added-fixed.result c.least-groups.result c.held-plans.result c.held-spans.result c.added-arcs.ensures.range c.added-fixed.ensures.range c.least-groups.ensures.range c.held-plans.ensures.range c.held-spans.ensures.range in
     let r = are_read _ _ _ _ _ h in
     rw (r.arcs_are, r.fixed_are, r.groups_are, r.plans_are, r.two, r.three)
     (omega (arith, ints, h.arcs_are.low, h.arcs_are.high, h.fixed_are.low, h.fixed_are.high, h.groups_are.low, h.groups_are.high, h.plans_are.low, h.plans_are.high))
 
 pub overflow_sub-result-2 : goal.overflow_sub-result-2
 overflow_sub-result-2 c =
-    let h = bounded_parts c.added-arcs.result c.added-fixed.result c.added-groups.result c.held-plans.result c.held-spans.result c.added-arcs.ensures.range c.added-fixed.ensures.range c.added-groups.ensures.range c.held-plans.ensures.range c.held-spans.ensures.range in
+    let h = bounded_parts c.added-arcs.result c.added-fixed.result c.least-groups.result c.held-plans.result c.held-spans.result c.added-arcs.ensures.range c.added-fixed.ensures.range c.least-groups.ensures.range c.held-plans.ensures.range c.held-spans.ensures.range in
     let r = are_read _ _ _ _ _ h in
     let less = plans_less _ _ _ _ _ h in
     rw (r.arcs_are, r.fixed_are, r.groups_are, r.plans_are, r.spans_are, r.two, r.three, less)
@@ -38,7 +38,7 @@ overflow_sub-result-2 c =
 
 pub returns-clause-least : goal.returns-clause-least
 returns-clause-least c = λ valid.
-    let h = bounded_parts c.added-arcs.result c.added-fixed.result c.added-groups.result c.held-plans.result c.held-spans.result c.added-arcs.ensures.range c.added-fixed.ensures.range c.added-groups.ensures.range c.held-plans.ensures.range c.held-spans.ensures.range in
+    let h = bounded_parts c.added-arcs.result c.added-fixed.result c.least-groups.result c.held-plans.result c.held-spans.result c.added-arcs.ensures.range c.added-fixed.ensures.range c.least-groups.ensures.range c.held-plans.ensures.range c.held-spans.ensures.range in
     let r = are_read _ _ _ _ _ h in
     let less = plans_less _ _ _ _ _ h in
     let whole = spans_less _ _ _ _ _ h in
@@ -49,8 +49,10 @@ returns-clause-least c = λ valid.
     ∙ ap (λ m. arcs_part m later -ℤ arcs_part m lists) (ap (λ k. k.arcs.model) c.self.view_is ∙ c.requires.stands.arcs_model) in
     let fixed : c.added-fixed.result ≡ fixed_part model later -ℤ fixed_part model lists = c.added-fixed.ensures.exact
     ∙ ap (λ m. fixed_part m later -ℤ fixed_part m lists) (ap (λ k. k.fixed.model) c.self.view_is ∙ c.requires.stands.fixed_model) in
-    let groups : c.added-groups.result ≡ penalty_part model later -ℤ penalty_part model lists = c.added-groups.ensures.exact
-    ∙ ap (λ m. penalty_part m later -ℤ penalty_part m lists) (ap (λ k. k.groups.model) c.self.view_is ∙ c.requires.stands.groups_model) in
+    let groups_model : c.self.inside.groups.model ≡ model = ap (λ k. k.groups.model) c.self.view_is ∙ c.requires.stands.groups_model in
+    let groups : c.least-groups.result ≤ℤ (penalty_part model later -ℤ penalty_part model lists) =
+    subst (λ (m : Model). c.least-groups.result ≤ℤ (penalty_part m later -ℤ penalty_part m lists)) groups_model
+    (c.least-groups.ensures.least (subst (λ (m : Model). IsTrue (is_valid m later)) (sym groups_model) valid)) in
     let plans_model : c.self.inside.plans.model ≡ model = ap (λ k. k.plans.model) c.self.view_is ∙ c.requires.stands.plans_model in
     let plans : neg_ℤ c.held-plans.result ≤ℤ (soft_and_span model later -ℤ soft_and_span model lists) =
     subst (λ (m : Model). neg_ℤ c.held-plans.result ≤ℤ (soft_and_span m later -ℤ soft_and_span m lists)) plans_model
@@ -62,7 +64,7 @@ returns-clause-least c = λ valid.
     let before = cost_of_parts model lists in
     let behind = cost_of_parts model later in
     rw (r.arcs_are, r.fixed_are, r.groups_are, r.plans_are, r.spans_are, r.two, r.three, less, whole)
-    (adds_least c.added-arcs.result c.added-fixed.result c.added-groups.result c.held-plans.result c.held-spans.result
+    (adds_least c.added-arcs.result c.added-fixed.result c.least-groups.result c.held-plans.result c.held-spans.result
     (arcs_part model lists) (fixed_part model lists) (penalty_part model lists) (soft_and_span model lists) (global_cost_of model lists)
     (arcs_part model later) (fixed_part model later) (penalty_part model later) (soft_and_span model later) (global_cost_of model later)
     (cost model lists) (cost model later)
