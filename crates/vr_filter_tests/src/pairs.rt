@@ -96,7 +96,7 @@ fn pairs_follow(alloc: Global, model: &Model, moves: &[(Move, bool)]) -> Result<
     requires well_formed { IsWellFormed model.now }
 {
     let mut routes = Routes::empty(alloc, model)?;
-    let mut filter = PairFilter::open(model, &routes)?;
+    let mut filter = PairFilter::open(alloc, model, &routes)?;
     let follows = follows(model, &mut filter, &mut routes, moves)?;
     Ok(follows)
 }
@@ -193,6 +193,57 @@ const FIRST_FIRST: &[(Move, bool)] = &[
     ),
 ];
 
+// Two pairs across one another: 1, 3, 2, 4; and what may change there.
+const AMONG_TWO: &[(Move, bool)] = &[
+    (
+        Move::PairActive {
+            p: 0,
+            w: 0,
+            s: 0,
+            t: 0,
+        },
+        true,
+    ),
+    (
+        Move::PairActive {
+            p: 1,
+            w: 0,
+            s: 1,
+            t: 2,
+        },
+        true,
+    ),
+    // a pickup goes alone, and a delivery
+    (Move::MakeInactive { v: 0, a: 1 }, false),
+    (Move::MakeInactive { v: 0, a: 2 }, false),
+    // a delivery is put before its pickup, which stays where it is
+    (
+        Move::OrOpt {
+            v: 0,
+            a: 2,
+            k: 1,
+            t: 0,
+        },
+        false,
+    ),
+    // one node of each pair stays, and the other changes its place: 1, 2, 3, 4
+    (Move::TwoOpt { v: 0, a: 1, b: 2 }, true),
+    // both nodes of a pair change places with one another
+    (Move::TwoOpt { v: 0, a: 2, b: 3 }, false),
+    // a pair moves whole: 3, 4, 1, 2
+    (
+        Move::OrOpt {
+            v: 0,
+            a: 2,
+            k: 2,
+            t: 0,
+        },
+        true,
+    ),
+    (Move::PairInactive { p: 0 }, true),
+    (Move::TwoOpt { v: 0, a: 0, b: 1 }, false),
+];
+
 #[test]
 fn pairs_follow_moves(rt: HostRuntime) -> Result<(), Fail> {
     let alloc = rt.alloc();
@@ -200,5 +251,6 @@ fn pairs_follow_moves(rt: HostRuntime) -> Result<(), Fail> {
     assert!(rt; follow_in(alloc, NO_PAIRS, NONE)?);
     assert!(rt; follow_in(alloc, LIFO, LAST_FIRST)?);
     assert!(rt; follow_in(alloc, FIFO, FIRST_FIRST)?);
+    assert!(rt; follow_in(alloc, ANY, AMONG_TWO)?);
     Ok(())
 }
