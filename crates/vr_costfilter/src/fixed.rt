@@ -105,8 +105,8 @@ impl<'m> FixedCost<'m> {
     }
 }
 
-// How many nodes pieces have.
-fn nodes_in(_routes: &Routes, pieces: &[Piece]) -> usize
+/// How many nodes pieces have.
+pub fn nodes_in(_routes: &Routes, pieces: &[Piece]) -> usize
     requires within { All (IsWithin _routes.now.lists) pieces.now }
     requires few { length pieces.now ≤ 8 }
     ensures { result ≡ length (joined _routes.now.lists pieces.now) }

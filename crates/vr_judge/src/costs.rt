@@ -84,7 +84,8 @@ impl<'m> Costs<'m> {
     }
 
     /// What a change of the committed lists adds to their cost at least, where the lists after it are valid: what arcs,
-    /// fixed costs and groups add, less all that schedules cost now.
+    /// fixed costs and groups add, and what soft upper bounds and spans add at least, less all that global spans cost
+    /// now.
     pub(crate) fn least(&mut self, routes: &Routes, change: &Change) -> i64
         requires stands { StandsCosts self.old routes.now }
         requires made { IsMadeOn routes.now change.now }
@@ -96,9 +97,9 @@ impl<'m> Costs<'m> {
         let arcs = self.arcs.added(routes, change);
         let fixed = self.fixed.added(routes, change);
         let groups = self.groups.added(routes, change);
-        let plans = self.plans.held(routes, change);
+        let plans = self.plans.least(routes, change);
         let spans = self.spans.held(routes);
-        arcs + fixed + groups - plans - spans
+        arcs + fixed + groups + plans - spans
     }
 
     /// Commits the lists after a change. Each part is made ready first, so all stay as before where memory is wanting.
