@@ -8,5 +8,5 @@ pub mod RowLemmas
 pub mod FixedLemmas
 pub mod GroupLemmas
 pub mod PlanLemmas
-pub mod HeldLemmas
+pub mod LeastLemmas
 pub mod GlobalLemmas

@@ -1,7 +1,7 @@
 -- What the chosen schedules of a list cost by soft upper bounds and spans.
-use Rattle.std.specs.Prelude.{◌≡◌, ◌<◌, IsTrue, ℕ, Bool, true, cond, List, length, ℤ, pos, ◌+ℤ◌}
+use Rattle.std.specs.Prelude.{◌≡◌, ◌<◌, IsTrue, ℕ, Bool, true, cond, List, length, ℤ, pos, ◌+ℤ◌, ◌*ℤ◌}
 use Rattle.vr_model.specs.tables.Numbers.{number_at, total_by, below}
-use Rattle.vr_model.specs.tables.Tables.{visits}
+use Rattle.vr_model.specs.tables.Tables.{dimension_at, visits}
 use Rattle.vr_model.specs.tables.WellFormed.{IsWellFormed}
 use Rattle.vr_model.specs.routes.Routes.{is_empty, route}
 use Rattle.vr_model.specs.routes.Costs.{assigned, soft_part, span_part}
@@ -10,6 +10,7 @@ use Rattle.vr_model.specs.declared.records.Model.{Model}
 use Rattle.vr_timings.specs.Tables.{AreTables}
 use Rattle.vr_timings.specs.Timings.{soft_with, span_with}
 use Rattle.vr_timings.specs.declared.tables.Table.{Table}
+use Rattle.vr_earliest.specs.Ways.{least_span}
 use Rattle.vr_routes.specs.Tours.{Tours}
 use Rattle.vr_routes.specs.Pieces.{ListAfter, part_at, joined}
 use Rattle.vr_costfilter.specs.Bounds.{IsFrom}
@@ -18,6 +19,11 @@ use Rattle.vr_costfilter.specs.Bounds.{IsFrom}
 abbrev pub plans_cost : Model → ℕ → List ℕ → ℤ
 plans_cost model v list = cond (is_empty list) (pos 0)
     (total_by (λ d. soft_with model d v list +ℤ span_with model d v list) (below (length model.dimensions)))
+
+-- what the spans of the list of vehicle v cost at least
+abbrev pub spans_least : Model → ℕ → List ℕ → ℤ
+spans_least model v list = cond (is_empty list) (pos 0)
+    (total_by (λ d. number_at (dimension_at model d).span_costs v *ℤ least_span model d v list) (below (length model.dimensions)))
 
 -- what soft upper bounds and spans cost at the chosen schedules of lists
 abbrev pub soft_and_span : Model → List (List ℕ) → ℤ
@@ -31,10 +37,12 @@ IsPlanCost = IsFrom 2760000000000000 2760000000000000000
 abbrev pub IsIdle : Model → Type 0
 IsIdle model = (v : ℕ) (list : List ℕ) → plans_cost model v list ≡ pos 0
 
--- the model is well formed, the tables are those of its dimensions, and where it is called idle no list costs anything
-pub record ArePlanRules (model : Model) (tables : List Table) (idle : Bool) : Type 0 where
+-- the model is well formed, the tables are those of its dimensions, what tells how early vehicles can be is of it, and
+-- where it is called idle no list costs anything
+pub record ArePlanRules (model : Model) (tables : List Table) (earliest : Model) (idle : Bool) : Type 0 where
   pub well_formed : IsWellFormed model
   pub of_dimensions : AreTables model tables
+  pub earliest_is : earliest ≡ model
   pub none_costs : IsTrue idle → IsIdle model
 
 -- what contracts see of the costs that are kept: of each list, and of the lists of a change that is ready

@@ -12,6 +12,6 @@ over_routes f lists = total_by (λ v. f v (route lists v)) (below (length lists)
 abbrev pub part_change : (ℕ → List ℕ → ℤ) → List (List ℕ) → ListAfter → ℤ
 part_change f lists part = f part.vehicle (joined lists part.pieces) -ℤ f part.vehicle (route lists part.vehicle)
 
--- what f gives of the lists that the vehicles of parts have before a change, added up
-abbrev pub held_by : (ℕ → List ℕ → ℤ) → List (List ℕ) → List ListAfter → ℤ
-held_by f lists parts = total_by (λ part. f part.vehicle (route lists part.vehicle)) parts
+-- what f gives of the list after a part, less what g gives of the list before it
+abbrev pub part_less : (ℕ → List ℕ → ℤ) → (ℕ → List ℕ → ℤ) → List (List ℕ) → ListAfter → ℤ
+part_less f g lists part = f part.vehicle (joined lists part.pieces) -ℤ g part.vehicle (route lists part.vehicle)

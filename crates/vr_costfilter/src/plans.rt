@@ -1,6 +1,6 @@
 //! Soft upper bounds and spans.
 
-ghost use Rattle.std.specs.Prelude.{◌≡◌, ◌-ℤ◌, ◌≤ℤ◌, ◌<◌, false, IsTrue, IfOk, OnOk, OnErr, ℕ, length, neg_ℤ};
+ghost use Rattle.std.specs.Prelude.{◌≡◌, ◌-ℤ◌, ◌≤ℤ◌, ◌<◌, false, IsTrue, IfOk, OnOk, OnErr, length};
 ghost use Rattle.vr_model.specs.tables.Tables.{visits};
 ghost use Rattle.vr_model.specs.tables.WellFormed.{IsWellFormed};
 ghost use Rattle.vr_model.specs.routes.Rules.{is_valid};
@@ -9,8 +9,7 @@ ghost use Rattle.vr_routes.specs.Changes.{IsMadeOn};
 ghost use Rattle.vr_timings.specs.Bounds.{IsAround};
 ghost use Rattle.vr_costfilter.specs.Parts.{NothingReady};
 ghost use Rattle.vr_costfilter.specs.PlanCosts.{cost_after, soft_and_span, AreNextCosts, ArePlansReady, IsPlanCost};
-ghost use Rattle.vr_costfilter.specs.PlanCosts.{plans_cost, StandsPlans};
-ghost use Rattle.vr_costfilter.specs.Sums.{held_by};
+ghost use Rattle.vr_costfilter.specs.PlanCosts.{StandsPlans};
 
 use crate::CostPart;
 use crate::schedules::PlanRules;
@@ -81,25 +80,25 @@ impl<'m> PlanCost<'m> {
         })
     }
 
-    /// What the lists of the vehicles of a change cost now. The change saves no more, where the lists after it are
-    /// valid.
-    pub fn held(&self, _routes: &Routes, change: &Change) -> i64
-        requires stands { StandsPlans self.now _routes.now }
-        requires made { IsMadeOn _routes.now change.now }
-        ensures value { result ≡ held_by (plans_cost self.now.model) _routes.now.lists change.now }
-        ensures least { IsTrue (is_valid self.now.model (changed _routes.now.lists change.now))
-            → neg_ℤ result ≤ℤ (soft_and_span self.now.model (changed _routes.now.lists change.now)
-            -ℤ soft_and_span self.now.model _routes.now.lists) }
+    /// What a change adds at least, where the lists after it are valid: what the spans of the changed lists cost at
+    /// least, less what the lists of these vehicles cost now. No schedule is built.
+    pub fn least(&self, routes: &Routes, change: &Change) -> i64
+        requires stands { StandsPlans self.now routes.now }
+        requires made { IsMadeOn routes.now change.now }
+        ensures least { IsTrue (is_valid self.now.model (changed routes.now.lists change.now))
+            → result ≤ℤ (soft_and_span self.now.model (changed routes.now.lists change.now)
+            -ℤ soft_and_span self.now.model routes.now.lists) }
         ensures range { IsAround 5525520000000000000 result }
     {
         if self.rules.is_idle() {
             return 0;
         }
-        let mut held = 0;
+        let mut least = 0;
         for k in 0..change.parts() {
-            held += self.costs[change.vehicle(k) as usize];
+            let v = change.vehicle(k);
+            least += self.rules.least(routes, v, change.pieces(k)) - self.costs[v as usize];
         }
-        held
+        least
     }
 
     // What the list costs that part `k` of a change gives its vehicle.

@@ -1,19 +1,26 @@
 //! What a list costs by soft upper bounds and spans, at its chosen schedules.
 
-ghost use Rattle.std.specs.Prelude.{◌≡◌, ◌<◌, ◌≤◌, ◌+ℤ◌, IsTrue, IfOk, length};
+ghost use Rattle.std.specs.Prelude.{◌≡◌, ◌<◌, ◌≤◌, ◌*◌, ◌+ℤ◌, ◌*ℤ◌, All, IsTrue, IfOk, length};
 ghost use Rattle.std.specs.List.{list_all};
-ghost use Rattle.vr_model.specs.tables.Tables.{is_visit};
+ghost use Rattle.vr_model.specs.tables.Numbers.{below, number_at, total_by};
+ghost use Rattle.vr_model.specs.tables.Tables.{dimension_at, is_visit};
 ghost use Rattle.vr_model.specs.tables.WellFormed.{IsWellFormed};
 ghost use Rattle.vr_model.specs.routes.Routes.{is_distinct};
 ghost use Rattle.vr_timings.specs.Tables.{AreTables, IsTable};
 ghost use Rattle.vr_timings.specs.Timings.{soft_with, span_with};
-ghost use Rattle.vr_costfilter.specs.PlanCosts.{plans_cost, IsIdle, IsPlanCost};
+ghost use Rattle.vr_timings.specs.Bounds.{cumul_cost, IsAround};
+ghost use Rattle.vr_routes.specs.Pieces.{joined, IsWithin};
+ghost use Rattle.vr_earliest.specs.Ways.{least_span};
+ghost use Rattle.vr_costfilter.specs.PlanCosts.{plans_cost, spans_least, IsIdle, IsPlanCost};
 ghost use Rattle.vr_costfilter.specs.Bounds.{IsFrom};
 
+use crate::fixed::nodes_in;
 use std::alloc::Global;
 use std::marker::Model;
+use vr_earliest::Earliest;
 use vr_model::{Model as RoutingModel, NoMemory};
-use vr_timings::{Table, Timer, may_pay_alone, span_cost, tables_of, timing_of};
+use vr_routes::{Piece, Routes};
+use vr_timings::{Table, Timer, may_pay_alone, span_cost, tables_of, times, timing_of};
 
 /// What is looked up of a model once. Contracts see the model.
 #[derive(Drop)]
@@ -21,6 +28,8 @@ pub struct PlanRules<'m> {
     model: &'m RoutingModel,
     // what is looked up of each dimension
     tables: Vec<Table>,
+    // how early vehicles can be
+    earliest: Earliest<'m>,
     // whether no list may cost anything
     idle: bool,
 }
@@ -33,7 +42,7 @@ impl<'m> Model for PlanRules<'m> {
 
     ghost view = { λ rules. rules.model.now };
 
-    ghost invariant = { λ rules. ArePlanRules rules.model.now rules.tables.items rules.idle };
+    ghost invariant = { λ rules. ArePlanRules rules.model.now rules.tables.items rules.earliest rules.idle };
 }
 
 impl<'m> PlanRules<'m> {
@@ -47,6 +56,7 @@ impl<'m> PlanRules<'m> {
         Ok(PlanRules {
             model,
             tables,
+            earliest: Earliest::open(alloc, model)?,
             idle,
         })
     }
@@ -69,6 +79,21 @@ impl<'m> PlanRules<'m> {
     {
         let cost = cost_of_plans(self.model, &self.tables, v, list, timer)?;
         Ok(cost)
+    }
+
+    /// What the spans of the list that pieces are joined to cost at least. No schedule is built.
+    pub fn least(&self, routes: &Routes, v: u32, pieces: &[Piece]) -> i64
+        requires vehicle { v < length self.now.vehicles }
+        requires within { All (IsWithin routes.now.lists) pieces.now }
+        requires few { length pieces.now ≤ 8 }
+        requires nodes { All (λ node. node < self.now.nodes) (joined routes.now.lists pieces.now) }
+        ensures value { result ≡ spans_least self.now v (joined routes.now.lists pieces.now) }
+        ensures range { IsAround (cumul_cost * 4) result }
+    {
+        if nodes_in(routes, pieces) == 0 {
+            return 0;
+        }
+        least_of_spans(self.model, &self.earliest, routes, v, pieces)
     }
 }
 
@@ -99,7 +124,59 @@ fn cost_of_plans(
     Ok(cost)
 }
 
+// What the spans of a list that has nodes cost at least.
+fn least_of_spans(
+    model: &RoutingModel,
+    earliest: &Earliest,
+    routes: &Routes,
+    v: u32,
+    pieces: &[Piece],
+) -> i64
+    requires well_formed { IsWellFormed model.now }
+    requires earliest { earliest.now ≡ model.now }
+    requires vehicle { v < length model.now.vehicles }
+    requires within { All (IsWithin routes.now.lists) pieces.now }
+    requires few { length pieces.now ≤ 8 }
+    requires nodes { All (λ node. node < model.now.nodes) (joined routes.now.lists pieces.now) }
+    ensures value { result ≡ total_by (λ d. number_at (dimension_at model.now d).span_costs v
+        *ℤ least_span model.now d v (joined routes.now.lists pieces.now)) (below (length model.now.dimensions)) }
+    ensures range { IsAround (cumul_cost * 4) result }
+{
+    let mut cost = 0;
+    for d in 0..model.dimensions.len() {
+        cost += least_of_span(model, earliest, routes, d as u32, v, pieces);
+    }
+    cost
+}
+
 // The same in one dimension.
+fn least_of_span(
+    model: &RoutingModel,
+    earliest: &Earliest,
+    routes: &Routes,
+    d: u32,
+    v: u32,
+    pieces: &[Piece],
+) -> i64
+    requires well_formed { IsWellFormed model.now }
+    requires earliest { earliest.now ≡ model.now }
+    requires dimension { d < length model.now.dimensions }
+    requires vehicle { v < length model.now.vehicles }
+    requires within { All (IsWithin routes.now.lists) pieces.now }
+    requires few { length pieces.now ≤ 8 }
+    requires nodes { All (λ node. node < model.now.nodes) (joined routes.now.lists pieces.now) }
+    ensures value { result ≡ (number_at (dimension_at model.now d).span_costs v
+        *ℤ least_span model.now d v (joined routes.now.lists pieces.now)) }
+    ensures range { IsAround cumul_cost result }
+{
+    let coefficient = *model.dimensions.get(d as usize).span_costs.get(v as usize);
+    if coefficient == 0 {
+        return 0;
+    }
+    times(coefficient, earliest.after(d, v, routes, pieces).span)
+}
+
+// What the list of a vehicle costs by soft upper bounds and by its span in one dimension.
 fn cost_of_plan(
     model: &RoutingModel,
     table: &Table,

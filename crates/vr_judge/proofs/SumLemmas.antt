@@ -52,16 +52,8 @@ module _ (arcs fixed groups plans spans : ℤ) (h : AreBounded arcs fixed groups
         five = omega (arith, ints, a.low, a.high, f.low, f.high, g.low, g.high, p.low, p.high, s.low, s.high);
       }
 
-  -- the same of the sum of the first three less the fourth, and less both others
-  pub plans_less : read (arcs +ℤ fixed +ℤ groups -ℤ plans) ≡ arcs +ℤ fixed +ℤ groups -ℤ plans
-  plans_less =
-      let a = h.arcs_are in
-      let f = h.fixed_are in
-      let g = h.groups_are in
-      let p = h.plans_are in
-      omega (arith, ints, a.low, a.high, f.low, f.high, g.low, g.high, p.low, p.high)
-
-  pub spans_less : read (arcs +ℤ fixed +ℤ groups -ℤ plans -ℤ spans) ≡ arcs +ℤ fixed +ℤ groups -ℤ plans -ℤ spans
+  -- the same of the sum of the first four less the fifth
+  pub spans_less : read (arcs +ℤ fixed +ℤ groups +ℤ plans -ℤ spans) ≡ arcs +ℤ fixed +ℤ groups +ℤ plans -ℤ spans
   spans_less =
       let a = h.arcs_are in
       let f = h.fixed_are in
@@ -85,9 +77,9 @@ pub adds_whole : (a f g p s a0 f0 g0 p0 s0 a1 f1 g1 p1 s1 old new : ℤ) → a �
 adds_whole a f g p s a0 f0 g0 p0 s0 a1 f1 g1 p1 s1 old new arcs fixed groups plans spans before behind =
     omega (arith, ints, arcs, fixed, groups, plans, spans, before, behind)
 
--- where the third part adds no less than is told, and two parts save no more than is held of them, the cost adds no less
--- than what the first two add and what is told of the third, less what is held
-pub adds_least : (a f g p s a0 f0 g0 p0 s0 a1 f1 g1 p1 s1 old new : ℤ) → a ≡ a1 -ℤ a0 → f ≡ f1 -ℤ f0 → g ≤ℤ (g1 -ℤ g0) → neg_ℤ p ≤ℤ (p1 -ℤ p0) → neg_ℤ s ≤ℤ (s1 -ℤ s0)
-    → old ≡ a0 +ℤ f0 +ℤ g0 +ℤ p0 +ℤ s0 → new ≡ a1 +ℤ f1 +ℤ g1 +ℤ p1 +ℤ s1 → (a +ℤ f +ℤ g -ℤ p -ℤ s) ≤ℤ (new -ℤ old)
+-- where two parts add no less than is told, and another saves no more than is held of it, the cost adds no less than
+-- these and the others
+pub adds_least : (a f g p s a0 f0 g0 p0 s0 a1 f1 g1 p1 s1 old new : ℤ) → a ≡ a1 -ℤ a0 → f ≡ f1 -ℤ f0 → g ≤ℤ (g1 -ℤ g0) → p ≤ℤ (p1 -ℤ p0) → neg_ℤ s ≤ℤ (s1 -ℤ s0)
+    → old ≡ a0 +ℤ f0 +ℤ g0 +ℤ p0 +ℤ s0 → new ≡ a1 +ℤ f1 +ℤ g1 +ℤ p1 +ℤ s1 → (a +ℤ f +ℤ g +ℤ p -ℤ s) ≤ℤ (new -ℤ old)
 adds_least a f g p s a0 f0 g0 p0 s0 a1 f1 g1 p1 s1 old new arcs fixed groups plans spans before behind =
     omega (arith, ints, arcs, fixed, groups, plans, spans, before, behind)

@@ -144,8 +144,11 @@ fn says_least<J: Judge>(
     requires judge_model { J.model judge.old ≡ model.now }
     requires holds { HoldSame model.now (J.committed judge.old) routes.now }
 {
+    let mut change = Change::blank();
     for &(mv, want) in moves {
-        if Change::of(model, routes, mv).is_none() || judge.least_difference(routes, mv) != want {
+        if !Change::of_into(model, routes, mv, &mut change)
+            || judge.least_difference(routes, mv, &change) != want
+        {
             return false;
         }
     }

@@ -1,0 +1,105 @@
+use Rattle.std.proofs.Common.{◌≡◌, ◌∙◌, ◌<◌, ℕ, List, length, ap, sym, subst, arith}
+use Rattle.std.proofs.lemmas.Int.{ints}
+use Rattle.std.proofs.lemmas.List.{get_or_default, take_all}
+use Rattle.std.specs.Prelude.{pos, All, ◌-ℤ◌, ◌≤ℤ◌}
+use Rattle.vr_model.specs.tables.Numbers.{number_at, total_by}
+use Rattle.vr_model.specs.routes.Routes.{route}
+use Rattle.vr_model.specs.declared.records.Model.{Model}
+use Rattle.vr_routes.specs.Pieces.{changed, joined, no_part, part_at}
+use Rattle.vr_costfilter.specs.PlanCosts.{plans_cost, soft_and_span, spans_least, IsIdle, IsPlanCost}
+use Rattle.vr_costfilter.specs.Sums.{part_less}
+use Rattle.vr_costfilter.proofs.LeastLemmas.{change-idle, change-least, less-more}
+use Rattle.vr_costfilter.proofs.PartLemmas.{below-after}
+use Rattle.vr_costfilter.proofs.plans.PlanCost.least.Goals as goal
+
+pub least-requires-clause-nodes : goal.least-requires-clause-nodes
+least-requires-clause-nodes c =
+    let lists : List (List ℕ) = c.args.routes.now.lists in
+    let h = c.requires.stands in
+    let low = subst (λ n. c.loop-k.k < n) c.parts-k-end.ensures.value c.loop-k-test.true in
+    let nodes = below-after c.args.self.now.model c.args.routes.now h.of_model h.valid c.args.change.now c.requires.made c.loop-k.k low in
+    subst (λ (m : Model). All (λ node. node < m.nodes) (joined lists c.pieces.result.now)) (sym (ap (λ s. s.model) c.self.view_is))
+    (subst (λ l. All (λ node. node < c.args.self.now.model.nodes) (joined lists l)) (sym c.pieces.ensures.value) nodes)
+
+pub overflow_sub-least : goal.overflow_sub-least
+overflow_sub-least c =
+    let h = c.requires.stands in
+    let k = c.loop-k.k in
+    let low = subst (λ n. k < n) c.parts-k-end.ensures.value c.loop-k-test.true in
+    let v = c.vehicle-v.result in
+    let known = subst (λ w. w < length c.args.routes.now.lists) (sym c.vehicle-v.ensures) (c.requires.made.makes.parts_are.each_vehicle k no_part low) in
+    let kept = ap (λ s. s.costs) c.self.view_is in
+    let within : v < length c.self.inside.costs.items = subst (λ n. v < n) (sym (ap length kept ∙ h.many ∙ sym h.as_many)) known in
+    let is = c.index.ensures ∙ get_or_default c.self.inside.costs.items v c.index.result.now (pos 0) within ∙ ap (λ l. number_at l v) kept in
+    let b = subst IsPlanCost (sym is) (h.range v known) in
+    let r = c.least.ensures.range in
+    omega (arith, ints, b.low, b.high, r.low, r.high)
+
+pub overflow_add-least : goal.overflow_add-least
+overflow_add-least c =
+    let h = c.requires.stands in
+    let k = c.loop-k.k in
+    let low = subst (λ n. k < n) c.parts-k-end.ensures.value c.loop-k-test.true in
+    let v = c.vehicle-v.result in
+    let known = subst (λ w. w < length c.args.routes.now.lists) (sym c.vehicle-v.ensures) (c.requires.made.makes.parts_are.each_vehicle k no_part low) in
+    let kept = ap (λ s. s.costs) c.self.view_is in
+    let within : v < length c.self.inside.costs.items = subst (λ n. v < n) (sym (ap length kept ∙ h.many ∙ sym h.as_many)) known in
+    let is = c.index.ensures ∙ get_or_default c.self.inside.costs.items v c.index.result.now (pos 0) within ∙ ap (λ l. number_at l v) kept in
+    let b = subst IsPlanCost (sym is) (h.range v known) in
+    let r = c.least.ensures.range in
+    let i = c.loop-k.invariant in
+    let same = c.loop-k.least-is in
+    let few = c.parts-k-end.ensures.few in
+    let less = c.loop-k-test.true in
+    omega (arith, ints, b.low, b.high, r.low, r.high, i.range.low, i.range.high, same, few, less)
+
+pub loop-k-preserved : goal.loop-k-preserved
+loop-k-preserved c =
+    let model = c.args.self.now.model in
+    let lists : List (List ℕ) = c.args.routes.now.lists in
+    let h = c.requires.stands in
+    let k = c.loop-k.k in
+    let low = subst (λ n. k < n) c.parts-k-end.ensures.value c.loop-k-test.true in
+    let v = c.vehicle-v.result in
+    let part = part_at c.args.change.now k in
+    let known = subst (λ w. w < length lists) (sym c.vehicle-v.ensures) (c.requires.made.makes.parts_are.each_vehicle k no_part low) in
+    let kept = ap (λ s. s.costs) c.self.view_is in
+    let within : v < length c.self.inside.costs.items = subst (λ n. v < n) (sym (ap length kept ∙ h.many ∙ sym h.as_many)) known in
+    let is = c.index.ensures ∙ get_or_default c.self.inside.costs.items v c.index.result.now (pos 0) within ∙ ap (λ l. number_at l v) kept in
+    let old = is ∙ h.costs v known ∙ ap (λ w. plans_cost model w (route lists w)) c.vehicle-v.ensures in
+    let new = c.least.ensures.value ∙ ap (λ m. spans_least m v (joined lists c.pieces.result.now)) (ap (λ s. s.model) c.self.view_is)
+    ∙ ap (λ l. spans_least model v (joined lists l)) c.pieces.ensures.value ∙ ap (λ w. spans_least model w (joined lists part.pieces)) c.vehicle-v.ensures in
+    let b = subst IsPlanCost (sym is) (h.range v known) in
+    let r = c.least.ensures.range in
+    let i = c.loop-k.invariant in
+    let same = c.loop-k.least-is in
+    let few = c.parts-k-end.ensures.few in
+    let less = c.loop-k-test.true in
+    let next = less-more (spans_least model) (plans_cost model) lists c.args.change.now k low in
+    record {
+      sum = omega (arith, ints, next, new, old, i.sum, b.low, b.high, r.low, r.high, i.range.low, i.range.high, same, few, less);
+      range = record { low = omega (arith, ints, b.low, b.high, r.low, r.high, i.range.low, i.range.high, same, few, less); high = omega (arith, ints, b.low, b.high, r.low, r.high, i.range.low, i.range.high, same, few, less) };
+    }
+
+pub returns-clause-range : goal.returns-clause-range
+returns-clause-range c =
+    let r = c.loop-k.invariant.range in
+    let few = c.parts-k-end.ensures.few in
+    let end = c.loop-k.auto.k-end in
+    record { low = omega (arith, ints, few, end, r.low); high = omega (arith, ints, few, end, r.high) }
+
+pub returns-clause-least : goal.returns-clause-least
+returns-clause-least c valid =
+    let model = c.args.self.now.model in
+    let lists : List (List ℕ) = c.args.routes.now.lists in
+    let h = c.requires.stands in
+    let many = c.parts-k-end.ensures.value in
+    let end = c.loop-k-test.false in
+    let value = c.loop-k.invariant.sum ∙ ap (total_by (part_less (spans_least model) (plans_cost model) lists)) (take_all c.loop-k.k c.args.change.now (omega (arith, many, end))) in
+    let least = change-least model h.well_formed lists c.args.change.now c.requires.made.makes.parts_are h.as_many valid in
+    subst (λ x. x ≤ℤ (soft_and_span model (changed lists c.args.change.now) -ℤ soft_and_span model lists)) (sym value) least
+
+pub returns-then-is_idle-clause-least : goal.returns-then-is_idle-clause-least
+returns-then-is_idle-clause-least c valid =
+    let idle = subst IsIdle (ap (λ s. s.model) c.self.view_is) (c.is_idle.ensures c.if-is_idle.true) in
+    change-idle c.args.self.now.model idle c.args.routes.now.lists (changed c.args.routes.now.lists c.args.change.now)
