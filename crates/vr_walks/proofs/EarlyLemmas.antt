@@ -21,7 +21,8 @@ use Rattle.vr_steps.specs.Stops.{allowed_by}
 use Rattle.vr_steps.specs.declared.stops.StopName.TheVariants.{Start}
 use Rattle.vr_walks.specs.Lists.{node_at_stop}
 use Rattle.vr_walks.specs.VisitRuns.{IsAllowedRun, IsRunFor}
-use Rattle.vr_walks.proofs.LineParts.{arcs_of_line, hop_between_stops, stops_of_line}
+use Rattle.vr_model.proofs.schedules.LineArcs.{arcs_of_line}
+use Rattle.vr_walks.proofs.LineParts.{hop_between_stops, stops_of_line}
 
 -- ---- a list that is nowhere above another
 
