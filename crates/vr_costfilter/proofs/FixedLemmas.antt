@@ -21,10 +21,6 @@ pub some-where : (list : List ℕ) → (length list ≡ 0 → ⊥) → is_empty 
 some-where [] some = absurd (some refl)
 some-where (x ∷ xs) some = refl
 
-pub empty-by-length : (list : List ℕ) → (length list == 0) ≡ is_empty list
-empty-by-length [] = refl
-empty-by-length (x ∷ xs) = Prim.grind arith
-
 pub some-by-test : (list : List ℕ) → (length list == 0) ≡ false → is_empty list ≡ false
 some-by-test [] h = h
 some-by-test (x ∷ xs) h = refl

@@ -19,27 +19,6 @@ use Rattle.vr_costfilter.specs.Along.{between_cost}
 use Rattle.vr_costfilter.proofs.FixedLemmas.{empty-where, some-where}
 use Rattle.vr_costfilter.proofs.ChainLemmas.{path-bounds, costs-of, last-at}
 
-pub joined-next : (lists : List (List ℕ)) (pieces : List Piece) (k : ℕ) (d : Piece) → k < length pieces
-    → joined lists (take (k + 1) pieces) ≡ joined lists (take k pieces) ++ nodes_of lists (slice_index_or pieces k d)
-joined-next lists pieces k d low =
-    ap (λ n. joined lists (take n pieces)) (add-one k) ∙ ap (joined lists) (take-suc pieces k d low)
-    ∙ flat_map-append (nodes_of lists) (take k pieces) (slice_index_or pieces k d ∷ [])
-    ∙ ap (λ l. joined lists (take k pieces) ++ l) (append-nil (nodes_of lists (slice_index_or pieces k d)))
-
-pub all-left : (P : ℕ → Type 0) (xs ys : List ℕ) → All P (xs ++ ys) → All P xs
-all-left P xs ys h k d low = subst P (get_or_append_left xs ys d k low) (h k d (let l = length-append xs ys in omega (arith, l, low)))
-
-pub all-right : (P : ℕ → Type 0) (xs ys : List ℕ) → All P (xs ++ ys) → All P ys
-all-right P xs ys h k d low =
-    let e : length xs + k - length xs ≡ k = omega arith in
-    subst P (get_or-append_right xs ys (length xs) (length xs + k) d refl (omega arith) ∙ ap (λ n. slice_index_or ys n d) e) (h (length xs + k) d (let l = length-append xs ys in omega (arith, l, low)))
-
-pub all-so-far : (P : ℕ → Type 0) (lists : List (List ℕ)) (pieces : List Piece) (k : ℕ) → All P (joined lists pieces) → All P (joined lists (take k pieces))
-all-so-far P lists pieces k h = all-left P _ (joined lists (drop k pieces)) (subst (All P) (ap (joined lists) (sym (take-append-drop k pieces)) ∙ flat_map-append (nodes_of lists) (take k pieces) (drop k pieces)) h)
-
-pub all-at : (P : ℕ → Type 0) (lists : List (List ℕ)) (pieces : List Piece) (k : ℕ) (d : Piece) → k < length pieces → All P (joined lists pieces) → All P (nodes_of lists (slice_index_or pieces k d))
-all-at P lists pieces k d low h = all-right P (joined lists (take k pieces)) _ (subst (All P) (joined-next lists pieces k d low) (all-so-far P lists pieces (k + 1) h))
-
 pub as-path : (model : Model) (v at : ℕ) (xs : List ℕ) → total_by (cost_of_arc model) (arcs_from v at xs) ≡ path_sum (arc_cost model v) at xs
 as-path model v at [] = refl
 as-path model v at (x ∷ xs) = ap (λ s. arc_cost model v at x +ℤ s) (as-path model v x xs)

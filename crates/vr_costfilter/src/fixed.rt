@@ -70,7 +70,7 @@ impl<'m> ListCost for FixedCost<'m> {
     ghost keeps = { StandsFixed };
 
     fn list_adds(&self, routes: &Routes, v: u32, pieces: &[Piece]) -> i64 {
-        let after = self.fixed(v, nodes_in(routes, pieces) > 0);
+        let after = self.fixed(v, Piece::nodes_in(routes, pieces) > 0);
         after - self.fixed(v, routes.len(v) > 0)
     }
 }
@@ -102,31 +102,6 @@ impl<'m> FixedCost<'m> {
             return 0;
         }
         self.model.vehicles.get(v as usize).fixed
-    }
-}
-
-/// How many nodes pieces have.
-pub fn nodes_in(_routes: &Routes, pieces: &[Piece]) -> usize
-    requires within { All (IsWithin _routes.now.lists) pieces.now }
-    requires few { length pieces.now ≤ 8 }
-    ensures { result ≡ length (joined _routes.now.lists pieces.now) }
-{
-    let mut nodes = 0;
-    for k in 0..pieces.len() {
-        nodes += length_of(_routes, pieces[k]);
-    }
-    nodes
-}
-
-// How many nodes a piece has.
-fn length_of(_routes: &Routes, piece: Piece) -> usize
-    requires within { IsWithin _routes.now.lists piece }
-    ensures value { result ≡ length (nodes_of _routes.now.lists piece) }
-    ensures few { result < 4294967296 }
-{
-    match piece {
-        Piece::Node { .. } => 1,
-        Piece::Chain { from, to, .. } => (to - from) as usize,
     }
 }
 

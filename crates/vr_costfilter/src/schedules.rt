@@ -14,7 +14,6 @@ ghost use Rattle.vr_earliest.specs.Ways.{least_span};
 ghost use Rattle.vr_costfilter.specs.PlanCosts.{plans_cost, spans_least, IsIdle, IsPlanCost};
 ghost use Rattle.vr_costfilter.specs.Bounds.{IsFrom};
 
-use crate::fixed::nodes_in;
 use std::alloc::Global;
 use std::marker::Model;
 use vr_earliest::Earliest;
@@ -90,7 +89,7 @@ impl<'m> PlanRules<'m> {
         ensures value { result ≡ spans_least self.now v (joined routes.now.lists pieces.now) }
         ensures range { IsAround (cumul_cost * 4) result }
     {
-        if nodes_in(routes, pieces) == 0 {
+        if Piece::nodes_in(routes, pieces) == 0 {
             return 0;
         }
         least_of_spans(self.model, &self.earliest, routes, v, pieces)

@@ -12,7 +12,6 @@ ghost use Rattle.vr_costfilter.specs.Chains.{chain_sum, first_of, turned};
 ghost use Rattle.vr_costfilter.specs.Along.{between_cost, AreAlong};
 
 use crate::costs::ArcCosts;
-use crate::fixed::nodes_in;
 use crate::lines::Along;
 use vr_model::Model;
 use vr_routes::{Piece, Routes};
@@ -81,7 +80,7 @@ fn is_left_empty(routes: &Routes, v: u32, gap: Gap, pieces: &[Piece]) -> bool
     if gap.behind < routes.len(v) {
         return false;
     }
-    nodes_in(routes, pieces) == 0
+    Piece::nodes_in(routes, pieces) == 0
 }
 
 /// The node of the stop before a place of the list of a vehicle.

@@ -2,7 +2,8 @@ use Rattle.std.proofs.Common.{◌≡◌, ◌∙◌, ◌++◌, ℕ, List, drop, l
 use Rattle.std.specs.Prelude.{◌==◌}
 use Rattle.vr_model.specs.routes.Routes.{route}
 use Rattle.vr_routes.specs.Pieces.{joined}
-use Rattle.vr_costfilter.proofs.FixedLemmas.{empty-by-length, some-where}
+use Rattle.vr_routes.proofs.JoinedPieces.{empty_by_length}
+use Rattle.vr_costfilter.proofs.FixedLemmas.{some-where}
 use Rattle.vr_costfilter.proofs.PathLemmas.{many-apart}
 use Rattle.vr_costfilter.proofs.walks.is_left_empty.Goals as goal
 
@@ -34,4 +35,4 @@ returns c =
     let n = c.len.ensures.value in
     let e = c.nodes_in.ensures in
     let same : c.nodes_in.result ≡ length whole = omega (arith, many, front, behind, n, e) in
-    ap (λ k. k == 0) same ∙ empty-by-length whole
+    ap (λ k. k == 0) same ∙ empty_by_length whole

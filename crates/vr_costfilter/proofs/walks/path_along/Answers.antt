@@ -8,21 +8,21 @@ use Rattle.vr_routes.specs.declared.pieces.Piece.TheVariants.{Chain}
 use Rattle.vr_routes.specs.Pieces.{joined, nodes_of}
 use Rattle.vr_sums.specs.Sums.{path_sum, last_of, IsUpTo}
 use Rattle.vr_sums.proofs.Paths.{path-append, last-append}
+use Rattle.vr_routes.proofs.JoinedPieces.{joined_next, all_so_far, all_at}
 use Rattle.vr_costfilter.proofs.ChainLemmas.{last-below}
-use Rattle.vr_costfilter.proofs.PathLemmas.{joined-next, all-so-far, all-at}
 use Rattle.vr_costfilter.proofs.walks.path_along.Goals as goal
 
 abbrev first_piece : Piece
 first_piece = Chain 0 0 0 false
 
 pub along-path-requires-clause-nodes : goal.along-path-requires-clause-nodes
-along-path-requires-clause-nodes c = all-at (λ node. node < c.args.costs.now.model.now.nodes) c.args.routes.now.lists c.args.pieces.now c.loop-k.k first_piece c.loop-k-test.true c.requires.nodes
+along-path-requires-clause-nodes c = all_at (λ node. node < c.args.costs.now.model.now.nodes) c.args.routes.now.lists c.args.pieces.now c.loop-k.k first_piece c.loop-k-test.true c.requires.nodes
 
 pub along-path-requires-clause-at : goal.along-path-requires-clause-at
 along-path-requires-clause-at c =
     let Below : ℕ → Type 0 = λ node. node < c.args.costs.now.model.now.nodes in
     let nodes : List ℕ = joined c.args.routes.now.lists (take c.loop-k.k c.args.pieces.now) in
-    let all : All Below nodes = all-so-far Below c.args.routes.now.lists c.args.pieces.now c.loop-k.k c.requires.nodes in
+    let all : All Below nodes = all_so_far Below c.args.routes.now.lists c.args.pieces.now c.loop-k.k c.requires.nodes in
     subst Below (sym c.loop-k.invariant.at) (last-below Below c.args.at nodes c.requires.at all)
 
 pub along-path-requires-clause-cost : goal.along-path-requires-clause-cost
@@ -41,7 +41,7 @@ loop-k-preserved c =
     let start = c.args.at in
     let before : List ℕ = joined lists (take k pieces) in
     let piece : List ℕ = nodes_of lists (slice_index_or pieces k first_piece) in
-    let next : joined lists (take (k + 1) pieces) ≡ before ++ piece = joined-next lists pieces k first_piece c.loop-k-test.true in
+    let next : joined lists (take (k + 1) pieces) ≡ before ++ piece = joined_next lists pieces k first_piece c.loop-k-test.true in
     let i = c.loop-k.invariant in
     let w = c.along-path.ensures in
     let cost_next = path-append cost start before piece in

@@ -3,9 +3,10 @@ use Rattle.std.proofs.lemmas.Int.{ints}
 use Rattle.std.specs.Prelude.{slice_range, All}
 use Rattle.vr_model.specs.routes.Routes.{route, route_cost}
 use Rattle.vr_routes.specs.Pieces.{joined}
+use Rattle.vr_routes.proofs.JoinedPieces.{all_left, all_right}
 use Rattle.vr_costfilter.specs.Along.{between_cost, StandsAlong}
 use Rattle.vr_costfilter.proofs.LineLemmas.{along-at}
-use Rattle.vr_costfilter.proofs.PathLemmas.{all-left, all-right, cost-between}
+use Rattle.vr_costfilter.proofs.PathLemmas.{cost-between}
 use Rattle.vr_costfilter.proofs.arcs.ArcCostListCost.list_adds.Goals as goal
 
 pub cost_between-after-requires-clause-nodes : goal.cost_between-after-requires-clause-nodes
@@ -17,7 +18,7 @@ cost_between-after-requires-clause-nodes c =
     let middle : List ℕ = joined lists ends.middle.now in
     let all : All Below (take ends.front list ++ (middle ++ drop ends.behind list)) = subst (All Below) c.strip-ends.ensures.joins c.requires.nodes in
     subst (λ m. All (λ node. node < m.nodes) middle) (ap (λ s. s.model) (sym c.self.view_is))
-    (all-left Below middle (drop ends.behind list) (all-right Below (take ends.front list) (middle ++ drop ends.behind list) all))
+    (all_left Below middle (drop ends.behind list) (all_right Below (take ends.front list) (middle ++ drop ends.behind list) all))
 
 pub returns-clause-value : goal.returns-clause-value
 returns-clause-value c =
