@@ -230,22 +230,22 @@ fn differences_have_all_parts(rt: HostRuntime) -> Result<(), Fail> {
     )
 }
 
-// Without soft bounds and spans it is the difference, as of a move that is refused; with them it is less by all that
-// they cost now.
+// It is the difference, as of a move that is refused, but of groups, of which it is 0 where no penalty is to pay.
 #[test]
 fn the_least_is_told_of_any_move(rt: HostRuntime) -> Result<(), Fail> {
     let alloc = rt.alloc();
-    let vans = [(two_opt(0, 0, 1), -150), (relocate(0, 0, 1, 0), -145)];
+    let vans = [(two_opt(0, 0, 1), 0), (relocate(0, 0, 1, 0), -45)];
     assert_least(&rt, alloc, TWO_VANS, "", &vans)?;
     let optional = [
         (two_opt(0, 0, 1), 0),
         (make_inactive(0, 0), 0),
-        (make_inactive(0, 1), -5),
+        (make_inactive(0, 1), -8),
     ];
     let groups = ",\"groups\":[{\"nodes\":[2],\"penalty\":3}]";
     assert_least(&rt, alloc, THREE, groups, &optional)?;
     let spans =
         ",\"dimensions\":[{\"name\":\"time\",\"evaluators\":[{\"matrix\":0}],\"capacity\":100,\
         \"slack_max\":0,\"span_cost\":2}]";
-    assert_least(&rt, alloc, THREE, spans, &[(two_opt(0, 0, 1), -36)])
+    let moves = [(two_opt(0, 0, 1), 0), (make_inactive(0, 1), -24)];
+    assert_least(&rt, alloc, THREE, spans, &moves)
 }
