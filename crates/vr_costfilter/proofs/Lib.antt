@@ -10,3 +10,4 @@ pub mod GroupLemmas
 pub mod PlanLemmas
 pub mod LeastLemmas
 pub mod GlobalLemmas
+pub mod SpreadLemmas

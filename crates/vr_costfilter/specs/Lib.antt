@@ -7,3 +7,4 @@ pub mod Fixed
 pub mod Groups
 pub mod PlanCosts
 pub mod GlobalCosts
+pub mod Spreads

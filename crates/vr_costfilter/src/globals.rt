@@ -1,7 +1,7 @@
 //! Global spans.
 
 ghost use Rattle.std.specs.Prelude.{◌≡◌, ◌-ℤ◌, ◌≤ℤ◌, ◌<◌, ◌*◌, false, IsTrue};
-ghost use Rattle.std.specs.Prelude.{IfOk, OnOk, OnErr, ℕ, List, length, neg_ℤ};
+ghost use Rattle.std.specs.Prelude.{IfOk, OnOk, OnErr, length};
 ghost use Rattle.vr_model.specs.tables.Tables.{visits};
 ghost use Rattle.vr_model.specs.tables.WellFormed.{IsWellFormed};
 ghost use Rattle.vr_model.specs.routes.Rules.{is_valid};
@@ -91,16 +91,20 @@ impl<'m> GlobalSpan<'m> {
         })
     }
 
-    /// What the global spans cost now. No change saves more, where the lists after it are valid.
-    pub fn held(&self, _routes: &Routes) -> i64
-        requires stands { StandsSpans self.now _routes.now }
-        ensures value { result ≡ global_cost_of self.now.model _routes.now.lists }
-        ensures least { (later : List (List ℕ)) → IsTrue (is_valid self.now.model later)
-            → neg_ℤ result ≤ℤ (global_cost_of self.now.model later
-            -ℤ global_cost_of self.now.model _routes.now.lists) }
-        ensures range { IsGlobalCost result }
+    /// What a change adds at least, where the lists after it are valid: how far its lists and those that stay reach at
+    /// least, less what the global spans cost now. No schedule is built.
+    pub fn least(&self, routes: &Routes, change: &Change) -> i64
+        requires stands { StandsSpans self.now routes.now }
+        requires made { IsMadeOn routes.now change.now }
+        ensures least { IsTrue (is_valid self.now.model (changed routes.now.lists change.now))
+            → result ≤ℤ (global_cost_of self.now.model (changed routes.now.lists change.now)
+            -ℤ global_cost_of self.now.model routes.now.lists) }
+        ensures range { IsAround (cumul_cost * 8) result }
     {
-        self.cost
+        if self.rules.is_idle() {
+            return 0;
+        }
+        self.rules.least(&self.rows, routes, change) - self.cost
     }
 
     // What the schedules come to of the list that part `k` of a change gives its vehicle.

@@ -13,6 +13,7 @@ mod part;
 mod plans;
 mod reaches;
 mod schedules;
+mod spreads;
 mod walks;
 
 pub use arcs::ArcCost;

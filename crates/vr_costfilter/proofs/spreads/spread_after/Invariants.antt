@@ -1,0 +1,12 @@
+use Rattle.std.specs.Prelude.{IsTrue}
+use Rattle.vr_model.specs.routes.Rules.{is_valid}
+use Rattle.vr_routes.specs.Pieces.{changed}
+use Rattle.vr_costfilter.specs.Spreads.{IsSpread, IsSpreadInRange}
+use Rattle.vr_costfilter.proofs.spreads.spread_after.Given as goal
+
+-- the lists so far are told
+abbrev pub invariant-loop-k : goal.invariant-loop-k
+invariant-loop-k l = record {
+  least : IsTrue (is_valid l.model (changed l.routes.lists l.change)) → IsSpread l.model (changed l.routes.lists l.change) l.d l.spread;
+  range : IsSpreadInRange l.spread;
+}
