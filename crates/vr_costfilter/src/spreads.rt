@@ -9,12 +9,11 @@ ghost use Rattle.vr_routes.specs.Pieces.{changed};
 ghost use Rattle.vr_costfilter.specs.GlobalCosts.{global_cost_of, IsGlobalCost, Pays};
 ghost use Rattle.vr_costfilter.specs.Spreads.{AreRowsBefore, IsSpread, IsSpreadInRange};
 
-use crate::fixed::nodes_in;
 use crate::reaches::ListTimings;
 use vr_earliest::Earliest;
 use vr_model::Model as RoutingModel;
 use vr_model::limits::HORIZON;
-use vr_routes::{Change, Routes};
+use vr_routes::{Change, Piece, Routes};
 use vr_timings::times;
 
 /// How far lists reach at least in one dimension.
@@ -180,7 +179,7 @@ fn with_changed(
     ensures range { IsSpreadInRange result }
 {
     let pieces = change.pieces(k);
-    if nodes_in(routes, pieces) == 0 {
+    if Piece::nodes_in(routes, pieces) == 0 {
         return spread;
     }
     let early = earliest.after(d, change.vehicle(k), routes, pieces);
