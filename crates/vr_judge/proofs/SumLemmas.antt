@@ -1,6 +1,6 @@
 -- What parts of the cost add, added up: each sum fits 64 bits, and the whole is what the cost adds.
 use Rattle.std.proofs.Common.{◌≡◌, ◌+ℤ◌, ◌*◌, ℕ, List, ℤ, pos, refl, to_z, of_z, w64, arith}
-use Rattle.std.specs.Prelude.{◌-ℤ◌, ◌≤ℤ◌, neg_ℤ}
+use Rattle.std.specs.Prelude.{◌-ℤ◌, ◌≤ℤ◌}
 use Rattle.std.proofs.lemmas.Int.{ints}
 use Rattle.vr_model.specs.routes.Costs.{arcs_part, assigned, cost, fixed_part, global_part, penalty_part, soft_part, span_part}
 use Rattle.vr_model.specs.declared.records.Model.{Model}
@@ -52,16 +52,6 @@ module _ (arcs fixed groups plans spans : ℤ) (h : AreBounded arcs fixed groups
         five = omega (arith, ints, a.low, a.high, f.low, f.high, g.low, g.high, p.low, p.high, s.low, s.high);
       }
 
-  -- the same of the sum of the first four less the fifth
-  pub spans_less : read (arcs +ℤ fixed +ℤ groups +ℤ plans -ℤ spans) ≡ arcs +ℤ fixed +ℤ groups +ℤ plans -ℤ spans
-  spans_less =
-      let a = h.arcs_are in
-      let f = h.fixed_are in
-      let g = h.groups_are in
-      let p = h.plans_are in
-      let s = h.spans_are in
-      omega (arith, ints, a.low, a.high, f.low, f.high, g.low, g.high, p.low, p.high, s.low, s.high)
-
 -- the cost is the sum of what the parts keep
 pub cost_of_parts : (model : Model) (lists : List (List ℕ)) → cost model lists
     ≡ arcs_part model lists +ℤ fixed_part model lists +ℤ penalty_part model lists +ℤ soft_and_span model lists +ℤ global_cost_of model lists
@@ -77,9 +67,8 @@ pub adds_whole : (a f g p s a0 f0 g0 p0 s0 a1 f1 g1 p1 s1 old new : ℤ) → a �
 adds_whole a f g p s a0 f0 g0 p0 s0 a1 f1 g1 p1 s1 old new arcs fixed groups plans spans before behind =
     omega (arith, ints, arcs, fixed, groups, plans, spans, before, behind)
 
--- where two parts add no less than is told, and another saves no more than is held of it, the cost adds no less than
--- these and the others
-pub adds_least : (a f g p s a0 f0 g0 p0 s0 a1 f1 g1 p1 s1 old new : ℤ) → a ≡ a1 -ℤ a0 → f ≡ f1 -ℤ f0 → g ≤ℤ (g1 -ℤ g0) → p ≤ℤ (p1 -ℤ p0) → neg_ℤ s ≤ℤ (s1 -ℤ s0)
-    → old ≡ a0 +ℤ f0 +ℤ g0 +ℤ p0 +ℤ s0 → new ≡ a1 +ℤ f1 +ℤ g1 +ℤ p1 +ℤ s1 → (a +ℤ f +ℤ g +ℤ p -ℤ s) ≤ℤ (new -ℤ old)
+-- where three parts add no less than is told, the cost adds no less than these and the others
+pub adds_least : (a f g p s a0 f0 g0 p0 s0 a1 f1 g1 p1 s1 old new : ℤ) → a ≡ a1 -ℤ a0 → f ≡ f1 -ℤ f0 → g ≤ℤ (g1 -ℤ g0) → p ≤ℤ (p1 -ℤ p0) → s ≤ℤ (s1 -ℤ s0)
+    → old ≡ a0 +ℤ f0 +ℤ g0 +ℤ p0 +ℤ s0 → new ≡ a1 +ℤ f1 +ℤ g1 +ℤ p1 +ℤ s1 → (a +ℤ f +ℤ g +ℤ p +ℤ s) ≤ℤ (new -ℤ old)
 adds_least a f g p s a0 f0 g0 p0 s0 a1 f1 g1 p1 s1 old new arcs fixed groups plans spans before behind =
     omega (arith, ints, arcs, fixed, groups, plans, spans, before, behind)

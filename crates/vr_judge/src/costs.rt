@@ -84,7 +84,7 @@ impl<'m> Costs<'m> {
     }
 
     /// What a change of the committed lists adds to their cost at least, where the lists after it are valid: what arcs
-    /// and fixed costs add, what groups, soft upper bounds and spans add at least, less all that global spans cost now.
+    /// and fixed costs add, and what groups, soft upper bounds, spans and global spans add at least.
     pub(crate) fn least(&mut self, routes: &Routes, change: &Change) -> i64
         requires stands { StandsCosts self.old routes.now }
         requires made { IsMadeOn routes.now change.now }
@@ -97,8 +97,8 @@ impl<'m> Costs<'m> {
         let fixed = self.fixed.added(routes, change);
         let groups = self.groups.least(routes, change);
         let plans = self.plans.least(routes, change);
-        let spans = self.spans.held(routes);
-        arcs + fixed + groups + plans - spans
+        let spans = self.spans.least(routes, change);
+        arcs + fixed + groups + plans + spans
     }
 
     /// Commits the lists after a change. Each part is made ready first, so all stay as before where memory is wanting.

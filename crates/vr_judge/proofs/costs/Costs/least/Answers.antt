@@ -1,45 +1,33 @@
 use Rattle.std.proofs.Common.{◌≡◌, ◌∙◌, arith, ℕ, List, ap, subst, sym}
-use Rattle.std.specs.Prelude.{ℤ, ◌-ℤ◌, ◌≤ℤ◌, neg_ℤ, IsTrue}
+use Rattle.std.specs.Prelude.{ℤ, ◌-ℤ◌, ◌≤ℤ◌, IsTrue}
 use Rattle.std.proofs.lemmas.Int.{ints}
 use Rattle.vr_model.specs.routes.Costs.{arcs_part, cost, fixed_part, penalty_part}
 use Rattle.vr_model.specs.routes.Rules.{is_valid}
 use Rattle.vr_model.specs.declared.records.Model.{Model}
 use Rattle.vr_routes.specs.Pieces.{changed}
-use Rattle.vr_timings.specs.Bounds.{IsAround}
-use Rattle.vr_costfilter.specs.GlobalCosts.{global_cost_of, IsGlobalCost}
+use Rattle.vr_costfilter.specs.GlobalCosts.{global_cost_of}
 use Rattle.vr_costfilter.specs.PlanCosts.{soft_and_span}
-use Rattle.vr_judge.proofs.SumLemmas.{AreBounded, adds_least, are_read, cost_of_parts, spans_less}
+use Rattle.vr_judge.proofs.SumLemmas.{AreBounded, adds_least, are_read, cost_of_parts}
 use Rattle.vr_judge.proofs.costs.Costs.least.Goals as goal
-
-bounded_parts : (arcs fixed groups plans spans : ℤ) → IsAround 21990232555520000 arcs → IsAround 21990232555520000 fixed → IsAround 21990232555520000 groups
-    → IsAround 5525520000000000000 plans → IsGlobalCost spans → AreBounded arcs fixed groups plans spans
-bounded_parts arcs fixed groups plans spans a f g p s = record {
-  arcs_are = a;
-  fixed_are = f;
-  groups_are = g;
-  plans_are = p;
-  spans_are = record { low = omega (arith, ints, s.low); high = omega (arith, ints, s.high) };
-}
 
 pub overflow_add-result-3 : goal.overflow_add-result-3
 overflow_add-result-3 c =
-    let h = bounded_parts c.added-arcs.result c.added-fixed.result c.least-groups.result c.least-plans.result c.held-spans.result c.added-arcs.ensures.range c.added-fixed.ensures.range c.least-groups.ensures.range c.least-plans.ensures.range c.held-spans.ensures.range in
+    let h : AreBounded c.added-arcs.result c.added-fixed.result c.least-groups.result c.least-plans.result c.least-spans.result = record { arcs_are = c.added-arcs.ensures.range; fixed_are = c.added-fixed.ensures.range; groups_are = c.least-groups.ensures.range; plans_are = c.least-plans.ensures.range; spans_are = c.least-spans.ensures.range } in
     let r = are_read _ _ _ _ _ h in
     rw (r.arcs_are, r.fixed_are, r.groups_are, r.plans_are, r.two, r.three)
     (omega (arith, ints, h.arcs_are.low, h.arcs_are.high, h.fixed_are.low, h.fixed_are.high, h.groups_are.low, h.groups_are.high, h.plans_are.low, h.plans_are.high))
 
-pub overflow_sub-result : goal.overflow_sub-result
-overflow_sub-result c =
-    let h = bounded_parts c.added-arcs.result c.added-fixed.result c.least-groups.result c.least-plans.result c.held-spans.result c.added-arcs.ensures.range c.added-fixed.ensures.range c.least-groups.ensures.range c.least-plans.ensures.range c.held-spans.ensures.range in
+pub overflow_add-result-4 : goal.overflow_add-result-4
+overflow_add-result-4 c =
+    let h : AreBounded c.added-arcs.result c.added-fixed.result c.least-groups.result c.least-plans.result c.least-spans.result = record { arcs_are = c.added-arcs.ensures.range; fixed_are = c.added-fixed.ensures.range; groups_are = c.least-groups.ensures.range; plans_are = c.least-plans.ensures.range; spans_are = c.least-spans.ensures.range } in
     let r = are_read _ _ _ _ _ h in
     rw (r.arcs_are, r.fixed_are, r.groups_are, r.plans_are, r.spans_are, r.two, r.three, r.four)
     (omega (arith, ints, h.arcs_are.low, h.arcs_are.high, h.fixed_are.low, h.fixed_are.high, h.groups_are.low, h.groups_are.high, h.plans_are.low, h.plans_are.high, h.spans_are.low, h.spans_are.high))
 
 pub returns-clause-least : goal.returns-clause-least
 returns-clause-least c = λ valid.
-    let h = bounded_parts c.added-arcs.result c.added-fixed.result c.least-groups.result c.least-plans.result c.held-spans.result c.added-arcs.ensures.range c.added-fixed.ensures.range c.least-groups.ensures.range c.least-plans.ensures.range c.held-spans.ensures.range in
+    let h : AreBounded c.added-arcs.result c.added-fixed.result c.least-groups.result c.least-plans.result c.least-spans.result = record { arcs_are = c.added-arcs.ensures.range; fixed_are = c.added-fixed.ensures.range; groups_are = c.least-groups.ensures.range; plans_are = c.least-plans.ensures.range; spans_are = c.least-spans.ensures.range } in
     let r = are_read _ _ _ _ _ h in
-    let whole = spans_less _ _ _ _ _ h in
     let model : Model = c.args.self.now.model in
     let lists : List (List ℕ) = c.args.routes.now.lists in
     let later : List (List ℕ) = changed lists c.args.change.now in
@@ -56,13 +44,13 @@ returns-clause-least c = λ valid.
     subst (λ (m : Model). c.least-plans.result ≤ℤ (soft_and_span m later -ℤ soft_and_span m lists)) plans_model
     (c.least-plans.ensures.least (subst (λ (m : Model). IsTrue (is_valid m later)) (sym plans_model) valid)) in
     let spans_model : c.self.inside.spans.model ≡ model = ap (λ k. k.spans.model) c.self.view_is ∙ c.requires.stands.spans_model in
-    let spans : neg_ℤ c.held-spans.result ≤ℤ (global_cost_of model later -ℤ global_cost_of model lists) =
-    subst (λ (m : Model). neg_ℤ c.held-spans.result ≤ℤ (global_cost_of m later -ℤ global_cost_of m lists)) spans_model
-    (c.held-spans.ensures.least later (subst (λ (m : Model). IsTrue (is_valid m later)) (sym spans_model) valid)) in
+    let spans : c.least-spans.result ≤ℤ (global_cost_of model later -ℤ global_cost_of model lists) =
+    subst (λ (m : Model). c.least-spans.result ≤ℤ (global_cost_of m later -ℤ global_cost_of m lists)) spans_model
+    (c.least-spans.ensures.least (subst (λ (m : Model). IsTrue (is_valid m later)) (sym spans_model) valid)) in
     let before = cost_of_parts model lists in
     let behind = cost_of_parts model later in
-    rw (r.arcs_are, r.fixed_are, r.groups_are, r.plans_are, r.spans_are, r.two, r.three, r.four, whole)
-    (adds_least c.added-arcs.result c.added-fixed.result c.least-groups.result c.least-plans.result c.held-spans.result
+    rw (r.arcs_are, r.fixed_are, r.groups_are, r.plans_are, r.spans_are, r.two, r.three, r.four, r.five)
+    (adds_least c.added-arcs.result c.added-fixed.result c.least-groups.result c.least-plans.result c.least-spans.result
     (arcs_part model lists) (fixed_part model lists) (penalty_part model lists) (soft_and_span model lists) (global_cost_of model lists)
     (arcs_part model later) (fixed_part model later) (penalty_part model later) (soft_and_span model later) (global_cost_of model later)
     (cost model lists) (cost model later)
