@@ -181,33 +181,10 @@ pub fn to_node(
     requires floor { IsIn (pos 0) horizon floor }
     ensures { result ≡ to_node_on model.now d v way node floor }
 {
-    let transit = transit_between(model, d, v, evaluator, way.at, node);
+    let transit = model.transit_by(d, v, evaluator, way.at, node);
     Way {
         at: node,
         time: (way.time + transit).max(floor),
         transits: way.transits + transit,
     }
-}
-
-// The transit of vehicle `v` from one node to another, by its evaluator.
-#[inline]
-fn transit_between(
-    model: &Model,
-    d: u32,
-    v: u32,
-    evaluator: &Evaluator,
-    origin: u32,
-    target: u32,
-) -> i64
-    requires well_formed { IsWellFormed model.now }
-    requires dimension { d < length model.now.dimensions }
-    requires vehicle { v < length model.now.vehicles }
-    requires evaluator { evaluator.now ≡ evaluator_of (dimension_at model.now d) v }
-    requires origin { origin < model.now.nodes }
-    requires target { target < model.now.nodes }
-    ensures value { result ≡ transit model.now d v origin target }
-    ensures least { neg_ℤ (pos (2 ^ 31)) ≤ℤ result }
-    ensures greatest { result ≤ℤ pos (2 ^ 31) }
-{
-    evaluator.transit(model, origin, target)
 }

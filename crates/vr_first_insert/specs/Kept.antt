@@ -1,5 +1,6 @@
 -- What is known of items in lists.
-use Rattle.std.specs.Prelude.{◌≡◌, ℕ, ◌<◌, ◌≤◌, ⊤, Bool, true, false, List, [], length, ℤ, ◌≤ℤ◌, slice_index_or, Option, Some, None}
+use Rattle.std.specs.Prelude.{◌≡◌, ℕ, ◌<◌, ◌≤◌, ⊤, Bool, true, false, List, [], length, ℤ, ◌≤ℤ◌}
+use Rattle.std.specs.Prelude.{slice_index_or, Option, Some, None}
 use Rattle.vr_model.specs.routes.Routes.{route}
 use Rattle.vr_model.specs.first.Choosing.{better}
 use Rattle.vr_model.specs.declared.records.Model.{Model}
@@ -55,6 +56,7 @@ abbrev pub unread : Candidate
 unread = record { item = Visit 0; class = 0 }
 
 -- what is known of each candidate in each list is so
-pub record AreRows (model : Model) (lists : List (List ℕ)) (candidates : List Candidate) (rows : List (List Known)) : Type 0 where
+pub record AreRows (model : Model) (lists : List (List ℕ)) (candidates : List Candidate)
+    (rows : List (List Known)) : Type 0 where
   pub many : length rows ≡ length candidates
   pub each : (i : ℕ) → i < length candidates → AreKnown model lists (slice_index_or candidates i unread) (row_at rows i)

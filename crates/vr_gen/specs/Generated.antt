@@ -1,6 +1,7 @@
 -- The tree of a generated model.
 use Rattle.std.specs.Prelude.{ℕ, ◌+◌, ◌-◌, true, List, [], ◌∷◌, map, length, codes, replicate, slice_index_or}
-use Rattle.serde_json.specs.Data.{Data, number, string, array, object, boolean, unsigned, no_members, member, item, no_items}
+use Rattle.serde_json.specs.Data.{Data, number, string, array, object, boolean, unsigned, no_members, member, item}
+use Rattle.serde_json.specs.Data.{no_items}
 use Rattle.serde_json.specs.View.{items_of}
 use Rattle.vr_model.specs.tables.Numbers.{below}
 use Rattle.vr_gen.specs.Draws.{sites, customers}

@@ -5,7 +5,7 @@ ghost use Rattle.std.specs.Prelude.{◌≡◌, ◌<◌, ◌^◌, ◌*◌, ◌+�
 ghost use Rattle.std.specs.List.{All};
 ghost use Rattle.std.specs.Option.{option_copied, option_map};
 ghost use Rattle.vr_model.specs.tables.Numbers.{number_at};
-ghost use Rattle.vr_model.specs.tables.Tables.{arc_cost, breaks_of as breaks_of_vehicle, evaluated};
+ghost use Rattle.vr_model.specs.tables.Tables.{arc_cost, breaks_of as breaks_of_vehicle, dimension_at, evaluated};
 ghost use Rattle.vr_model.specs.tables.Tables.{evaluator_of as evaluator_of_vehicle, is_terminal, is_visit};
 ghost use Rattle.vr_model.specs.tables.Tables.{matrix_part, row_of, transit};
 ghost use Rattle.vr_model.specs.tables.WellFormed.{IsEvaluator, IsIn, IsMatrix, IsStopRow, IsWellFormed, WherePresent};
@@ -16,6 +16,7 @@ use crate::{Allowed, BreakRow, Dimension, Evaluator, Matrix, Model, Seq, StopRow
 
 impl Matrix {
     /// The entry in row `i` and column `j` of a matrix of `n` rows and columns.
+    #[inline]
     pub fn entry(&self, n: u32, i: u32, j: u32) -> i64
         requires square { length self.now.entries ≡ n * n }
         requires row { i < n }
@@ -28,6 +29,7 @@ impl Matrix {
 
 impl Evaluator {
     /// The value of a node, 0 where there are no values.
+    #[inline]
     pub fn value(&self, node: u32) -> i64
         requires { (length self.now.values ≡ 0) ⊎ (node < length self.now.values) }
         ensures { result ≡ number_at self.now.values node }
@@ -41,6 +43,7 @@ impl Evaluator {
 
     /// What it gives from node `i` to node `j` of a model, in `-2^31..=2^40 + 2^30`: the entry of its
     /// matrix and the value of node `i`, each 0 where it is absent.
+    #[inline]
     pub fn transit(&self, model: &Model, i: u32, j: u32) -> i64
         requires evaluator { IsEvaluator model.now self.now }
         requires matrices { All (IsMatrix model.now.nodes) model.now.matrices }
@@ -52,6 +55,7 @@ impl Evaluator {
     }
 
     /// The value of a node, in its range.
+    #[inline]
     fn value_in_range(&self, model: &Model, node: u32) -> i64
         requires evaluator { IsEvaluator model.now self.now }
         requires node { node < model.now.nodes }
@@ -75,6 +79,7 @@ impl StopRow {
 
 impl Dimension {
     /// The evaluator of vehicle `v` (`RoutingDimension::transit_evaluator` in OR-Tools).
+    #[inline]
     pub fn evaluator_of(&self, v: u32) -> &Evaluator
         requires vehicle { v < length self.now.vehicle_evaluators }
         requires numbers { All (λ k. k < length self.now.evaluators) self.now.vehicle_evaluators }
@@ -108,6 +113,7 @@ impl Vehicle {
 impl Model {
     /// The cost of the arc from node `i` to node `j` for vehicle `v`, in `0..=2^40`
     /// (`RoutingModel::GetArcCostForVehicle` in OR-Tools).
+    #[inline]
     pub fn arc_cost(&self, v: u32, i: u32, j: u32) -> i64
         requires well_formed { IsWellFormed self.now }
         requires vehicle { v < length self.now.vehicles }
@@ -124,6 +130,7 @@ impl Model {
     /// The transit of vehicle `v` from node `i` to node `j` in dimension `d`, in `-2^31..=2^31`: the
     /// entry of the evaluator's matrix and the value of node `i`, each 0 where it is absent
     /// (`RoutingDimension::GetTransitValue` in OR-Tools).
+    #[inline]
     pub fn transit(&self, d: u32, v: u32, i: u32, j: u32) -> i64
         requires well_formed { IsWellFormed self.now }
         requires dimension { d < length self.now.dimensions }
@@ -134,11 +141,28 @@ impl Model {
         ensures least { neg_ℤ (pos (2 ^ 31)) ≤ℤ result }
         ensures greatest { result ≤ℤ pos (2 ^ 31) }
     {
-        let dimension = self.dimensions.get(d as usize);
-        dimension.evaluator_of(v).transit(self, i, j)
+        let evaluator = self.dimensions.get(d as usize).evaluator_of(v);
+        self.transit_by(d, v, evaluator, i, j)
+    }
+
+    /// The same by the evaluator of vehicle `v` in dimension `d`, which the caller has looked up.
+    #[inline]
+    pub fn transit_by(&self, d: u32, v: u32, evaluator: &Evaluator, i: u32, j: u32) -> i64
+        requires well_formed { IsWellFormed self.now }
+        requires dimension { d < length self.now.dimensions }
+        requires vehicle { v < length self.now.vehicles }
+        requires evaluator { evaluator.now ≡ evaluator_of_vehicle (dimension_at self.now d) v }
+        requires origin { i < self.now.nodes }
+        requires target { j < self.now.nodes }
+        ensures value { result ≡ transit self.now d v i j }
+        ensures least { neg_ℤ (pos (2 ^ 31)) ≤ℤ result }
+        ensures greatest { result ≤ℤ pos (2 ^ 31) }
+    {
+        evaluator.transit(self, i, j)
     }
 
     /// An entry of the matrix of a number, 0 where there is no number.
+    #[inline]
     fn matrix_part(&self, matrix: Option<u32>, i: u32, j: u32) -> i64
         requires matrices { All (IsMatrix self.now.nodes) self.now.matrices }
         requires matrix { WherePresent (λ m. m < length self.now.matrices) matrix }

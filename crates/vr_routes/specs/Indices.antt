@@ -63,7 +63,8 @@ IsInactiveIndex tours i = (i < length tours.visits) × (is_active tours.lists (s
 -- nothing follows: an inactive visit, the start of an unused vehicle, or an end
 abbrev pub HasNoNext : Tours → ℕ → Type 0
 HasNoNext tours i =
-    IsInactiveIndex tours i ⊎ (((v : ℕ) × (i ≡ start_index tours v) × (route tours.lists v ≡ [])) ⊎ (end_index tours 0 ≤ i))
+    IsInactiveIndex tours i
+    ⊎ (((v : ℕ) × (i ≡ start_index tours v) × (route tours.lists v ≡ [])) ⊎ (end_index tours 0 ≤ i))
 
 -- nothing comes before: an inactive visit, the end of an unused vehicle, or a start
 abbrev pub HasNoPrevious : Tours → ℕ → Type 0

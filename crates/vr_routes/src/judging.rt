@@ -55,8 +55,8 @@ pub trait Judge {
 
     /// A number that the difference of a move is never below, where the lists after it are valid; of other moves it
     /// says nothing. A search asks it first, since it takes few moves and most can be passed over by what they cost at
-    /// least. The caller hands in the change that the move makes. It does not judge the move, takes no memory and counts
-    /// no steps. A judge that knows no better number says the least of all.
+    /// least. The caller hands in the change that the move makes. It does not judge the move, takes no memory and
+    /// counts no steps. A judge that knows no better number says the least of all.
     fn least_difference(&mut self, routes: &Routes, mv: Move, change: &Change) -> i64
         requires well_formed { IsWellFormed (model self.old) }
         requires holds { HoldSame (model self.old) (committed self.old) routes.now }

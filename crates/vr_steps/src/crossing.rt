@@ -2,7 +2,8 @@
 
 ghost use Rattle.std.specs.Prelude.{◌≡◌, ◌+◌, ◌*◌, ◌<◌, ◌≤◌, ℕ, suc, [], All, length, IfOk, OnOk};
 ghost use Rattle.vr_spans.specs.Runs.{IsNormal};
-ghost use Rattle.vr_steps.specs.Levels.{IsCrossing, AreLevels, AreCrossed, AreCrossedBack, forward_steps, backward_steps};
+ghost use Rattle.vr_steps.specs.Levels.{IsCrossing, AreLevels, AreCrossed, AreCrossedBack};
+ghost use Rattle.vr_steps.specs.Levels.{forward_steps, backward_steps};
 ghost use Rattle.vr_steps.specs.Levels.{level_at};
 ghost use Rattle.vr_steps.specs.Passages.{AreArrivals, AreDepartures};
 

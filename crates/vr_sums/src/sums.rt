@@ -1,7 +1,7 @@
 //! Sums along paths.
 
-ghost use Rattle.std.specs.Prelude.{◌≡◌, ◌<◌, ◌≤◌, ◌+◌, ◌^◌, ℕ, ℤ, List, [], ◌∷◌, pos, neg_ℤ, length, take, slice_index_or};
-ghost use Rattle.std.specs.Prelude.{slice_range};
+ghost use Rattle.std.specs.Prelude.{◌≡◌, ◌<◌, ◌≤◌, ◌+◌, ◌^◌, ℕ, ℤ, List, [], ◌∷◌, pos, neg_ℤ, length, take};
+ghost use Rattle.std.specs.Prelude.{slice_index_or, slice_range};
 ghost use Rattle.vr_model.specs.tables.Numbers.{number_at};
 ghost use Rattle.vr_model.specs.tables.WellFormed.{IsIn};
 ghost use Rattle.vr_sums.specs.Sums.{last_of, path_sum, AreSums, AreSumsTo, HaveRange, IsUpTo};

@@ -13,7 +13,7 @@ ghost use Rattle.vr_walks.specs.Stops.{AreStops};
 ghost use Rattle.vr_walks.specs.VisitRuns.{AreVisitRuns, HasCumulEnds, IsFinish, IsRunFor};
 
 use crate::runs::run_of;
-use crate::single::{Ahead, finish_of, slack_of, stop_ahead, transit_between};
+use crate::single::{Ahead, finish_of, slack_of, stop_ahead};
 use crate::spliced::Spliced;
 use crate::stops::{Stops, node_at};
 use arrayvec::ArrayVec;
@@ -31,7 +31,8 @@ struct StopRuns<'a> {
     finish: Ahead,
 }
 
-// The run of cumuls that each stop of vehicle `v` allows, nothing where it has breaks or some stop allows more than one.
+// The run of cumuls that each stop of vehicle `v` allows, nothing where it has breaks or some stop allows more than
+// one.
 fn single_runs<'a>(model: &Model, d: u32, v: u32, stops: &'a Stops) -> Option<StopRuns<'a>>
     requires vehicle { v < length model.now.vehicles }
     requires stops { AreStops model.now d stops.now }
@@ -111,7 +112,7 @@ fn drive(model: &Model, d: u32, v: u32, runs: &StopRuns, list: &[u32], cumuls: &
     cumuls.push(cumul);
     for k in 0..list.len() + 1 {
         let ahead = stop_ahead(model, d, v, runs.visits, runs.finish, &whole, k);
-        let transit = transit_between(model, d, v, evaluator, origin, ahead.node);
+        let transit = model.transit_by(d, v, evaluator, origin, ahead.node);
         match earliest_behind(cumul, transit, slack, ahead.allowed) {
             Some(next) => cumul = next,
             None => return false,
@@ -122,8 +123,8 @@ fn drive(model: &Model, d: u32, v: u32, runs: &StopRuns, list: &[u32], cumuls: &
     true
 }
 
-// The least cumul of a stop behind an arc from a cumul, nothing where the stop allows none that is reached, or where the
-// slack would be too great.
+// The least cumul of a stop behind an arc from a cumul, nothing where the stop allows none that is reached, or where
+// the slack would be too great.
 #[inline]
 fn earliest_behind(cumul: i64, transit: i64, slack: i64, allowed: Run) -> Option<i64>
     requires cumul { IsIn (pos 0) horizon cumul }

@@ -270,7 +270,7 @@ fn cross_by_run(
     laws::lines_are_sound();
     laws::reached_by_crossing();
     vr_steps::laws::arc_alone();
-    let transit = transit_between(model, d, v, evaluator, origin, ahead.node);
+    let transit = model.transit_by(d, v, evaluator, origin, ahead.node);
     run_behind(run, transit, slack, ahead.allowed)
 }
 
@@ -283,29 +283,6 @@ pub(crate) fn slack_of(model: &Model, d: u32) -> i64
     ensures range { IsIn (pos 0) horizon result }
 {
     model.dimensions.get(d as usize).slack_max
-}
-
-// The transit of vehicle `v` from one node to another, by its evaluator.
-#[inline]
-pub(crate) fn transit_between(
-    model: &Model,
-    d: u32,
-    v: u32,
-    evaluator: &Evaluator,
-    origin: u32,
-    target: u32,
-) -> i64
-    requires well_formed { IsWellFormed model.now }
-    requires dimension { d < length model.now.dimensions }
-    requires vehicle { v < length model.now.vehicles }
-    requires evaluator { evaluator.now ≡ evaluator_of (dimension_at model.now d) v }
-    requires origin { origin < model.now.nodes }
-    requires target { target < model.now.nodes }
-    ensures value { result ≡ transit model.now d v origin target }
-    ensures least { neg_ℤ (pos (2 ^ 31)) ≤ℤ result }
-    ensures greatest { result ≤ℤ pos (2 ^ 31) }
-{
-    evaluator.transit(model, origin, target)
 }
 
 // The run at the end of an arc, of what is allowed there: it has no number where the arc leads to none.

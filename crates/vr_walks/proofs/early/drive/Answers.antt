@@ -28,8 +28,8 @@ loop-k-init c =
       below = c.node_at-origin.ensures.below;
     }
 
-pub transit_between-transit-requires-clause-evaluator : goal.transit_between-transit-requires-clause-evaluator
-transit_between-transit-requires-clause-evaluator c = c.evaluator_of-evaluator.ensures ∙ ap (λ dimension. evaluator_of dimension c.args.v) (sym (c.get.ensures.value no_dimension))
+pub transit_by-transit-requires-clause-evaluator : goal.transit_by-transit-requires-clause-evaluator
+transit_by-transit-requires-clause-evaluator c = c.evaluator_of-evaluator.ensures ∙ ap (λ dimension. evaluator_of dimension c.args.v) (sym (c.get.ensures.value no_dimension))
 
 pub loop-k-preserved : goal.loop-k-preserved
 loop-k-preserved c =
@@ -43,15 +43,15 @@ loop-k-preserved c =
     let old : List ℤ = c.loop-k.cumuls.items in
     let target = subst (λ l. c.stop_ahead-ahead.result.node ≡ node_at_stop c.args.model.now c.args.v l (k + 1)) c.whole-whole.ensures c.stop_ahead-ahead.ensures.node in
     let allowed = subst (λ l. IsAllowedRun (line c.args.model.now c.args.d c.args.v l) (k + 1) c.stop_ahead-ahead.result.allowed) c.whole-whole.ensures c.stop_ahead-ahead.ensures.allowed in
-    let t = c.transit_between-transit.ensures in
+    let t = c.transit_by-transit.ensures in
     let least = t.least in
     let greatest = t.greatest in
-    let way : to_z w64 (of_z w64 c.transit_between-transit.result) ≡ c.transit_between-transit.result = omega (arith, ints, least, greatest) in
+    let way : to_z w64 (of_z w64 c.transit_by-transit.result) ≡ c.transit_by-transit.result = omega (arith, ints, least, greatest) in
     let slack = read c.slack_of-slack.result c.slack_of-slack.ensures.range in
     let more = c.push-in-loop-k.ensures.items ∙ ap (λ x. old ++ x ∷ []) is in
     record {
       early = subst (AreEarly L (k + 1)) (sym more) (step_list c.args.model.now c.args.d c.args.v c.args.list.now k old low i.early c.stop_ahead-ahead.result.allowed allowed
-          c.loop-k.origin c.stop_ahead-ahead.result.node i.origin target (to_z w64 c.loop-k.cumul-bits) (to_z w64 (of_z w64 c.transit_between-transit.result)) (to_z w64 (of_z w64 c.slack_of-slack.result)) next i.cumul (way ∙ c.transit_between-transit.ensures.value) (slack ∙ c.slack_of-slack.ensures.value) c.in-Some.ensures.exact);
+          c.loop-k.origin c.stop_ahead-ahead.result.node i.origin target (to_z w64 c.loop-k.cumul-bits) (to_z w64 (of_z w64 c.transit_by-transit.result)) (to_z w64 (of_z w64 c.slack_of-slack.result)) next i.cumul (way ∙ c.transit_by-transit.ensures.value) (slack ∙ c.slack_of-slack.ensures.value) c.in-Some.ensures.exact);
       cumul = is ∙ sym (ap (λ xs. number_at xs (k + 1)) more ∙ at_new old next (k + 1) (let n = i.early.many in omega (arith, n)));
       range = subst (IsIn (pos 0) horizon) (sym is) range;
       origin = target;

@@ -8,20 +8,20 @@ use Rattle.vr_walks.proofs.single.cross_by_run.Goals as goal
 as_is : (x : ℤ) → neg_ℤ (pos (2 ^ 40)) ≤ℤ x → x ≤ℤ pos (2 ^ 40) → to_z w64 (of_z w64 x) ≡ x
 as_is x low high = omega (arith, ints, low, high)
 
-lo_is : (c : goal.After-run_behind) → c.run_behind.result.lo ≡ int_max (c.args.run.lo +ℤ c.transit_between-transit.result) c.args.ahead.allowed.lo
+lo_is : (c : goal.After-run_behind) → c.run_behind.result.lo ≡ int_max (c.args.run.lo +ℤ c.transit_by-transit.result) c.args.ahead.allowed.lo
 lo_is c =
-    let t = c.transit_between-transit.ensures in
+    let t = c.transit_by-transit.ensures in
     let low = t.least in
     let high = t.greatest in
-    let transit_is = as_is c.transit_between-transit.result (omega (arith, ints, low)) (omega (arith, ints, high)) in
+    let transit_is = as_is c.transit_by-transit.result (omega (arith, ints, low)) (omega (arith, ints, high)) in
     c.run_behind.ensures.lo ∙ ap (λ n. int_max (c.args.run.lo +ℤ n) c.args.ahead.allowed.lo) transit_is
 
-hi_is : (c : goal.After-run_behind) → c.run_behind.result.hi ≡ int_min (c.args.run.hi +ℤ (c.transit_between-transit.result +ℤ c.args.slack)) c.args.ahead.allowed.hi
+hi_is : (c : goal.After-run_behind) → c.run_behind.result.hi ≡ int_min (c.args.run.hi +ℤ (c.transit_by-transit.result +ℤ c.args.slack)) c.args.ahead.allowed.hi
 hi_is c =
-    let t = c.transit_between-transit.ensures in
+    let t = c.transit_by-transit.ensures in
     let low = t.least in
     let high = t.greatest in
-    let transit_is = as_is c.transit_between-transit.result (omega (arith, ints, low)) (omega (arith, ints, high)) in
+    let transit_is = as_is c.transit_by-transit.result (omega (arith, ints, low)) (omega (arith, ints, high)) in
     let least = c.requires.slack_range.at_least in
     let greatest = c.requires.slack_range.at_most in
     let slack_is = as_is c.args.slack (omega (arith, ints, least)) (omega (arith, ints, greatest)) in
@@ -31,7 +31,7 @@ pub returns-clause-reached : goal.returns-clause-reached
 returns-clause-reached c =
     run_next c.lines_are_sound.ensures c.reached_by_crossing.ensures c.arc_alone.ensures c.args.model.now c.requires.well_formed c.args.d c.args.v c.requires.dimension c.requires.vehicle c.args.list.now c.requires.used
     c.args.k c.args.taken c.requires.arc c.requires.breaks c.args.run c.args.ahead.allowed c.run_behind.result c.requires.cumuls c.requires.reached c.requires.allowed
-    c.args.origin c.args.ahead.node c.requires.origin c.requires.target c.transit_between-transit.result c.args.slack c.transit_between-transit.ensures.value c.requires.slack c.requires.slack_range.at_least (lo_is c) (hi_is c)
+    c.args.origin c.args.ahead.node c.requires.origin c.requires.target c.transit_by-transit.result c.args.slack c.transit_by-transit.ensures.value c.requires.slack c.requires.slack_range.at_least (lo_is c) (hi_is c)
 
 pub returns-clause-cumuls : goal.returns-clause-cumuls
-returns-clause-cumuls c = λ some. cumuls_behind c.args.run c.args.ahead.allowed c.run_behind.result c.transit_between-transit.result c.args.slack c.requires.allowed.ends (lo_is c) (hi_is c) some
+returns-clause-cumuls c = λ some. cumuls_behind c.args.run c.args.ahead.allowed c.run_behind.result c.transit_by-transit.result c.args.slack c.requires.allowed.ends (lo_is c) (hi_is c) some

@@ -1,13 +1,13 @@
-use Rattle.std.proofs.Common.{◌≡◌, ap, sym, ◌∙◌, arith}
+use Rattle.std.proofs.Common.{◌≡◌, ap, ◌∙◌, arith}
 use Rattle.std.proofs.lemmas.Int.{ints}
-use Rattle.vr_model.specs.tables.Tables.{no_dimension, evaluated, evaluator_of, transit}
+use Rattle.vr_model.specs.tables.Tables.{evaluated, transit}
 use Rattle.vr_model.specs.tables.WellFormed.{IsIn}
 use Rattle.vr_model.proofs.tables.Bounds.{least_transit, greatest_transit, transit_in_range}
-use Rattle.vr_model.proofs.records.Model.transit.Goals as goal
+use Rattle.vr_model.proofs.records.Model.transit_by.Goals as goal
 
 value_is : (c : goal.After-transit) → c.transit.result ≡ transit c.args.self.now c.args.d c.args.v c.args.i c.args.j
 value_is c = c.transit.ensures
-    ∙ ap (λ evaluator. evaluated c.args.self.now evaluator c.args.i c.args.j) (c.evaluator_of.ensures ∙ ap (λ dimension. evaluator_of dimension c.args.v) (sym (c.get-dimension.ensures.value no_dimension)))
+    ∙ ap (λ evaluator. evaluated c.args.self.now evaluator c.args.i c.args.j) c.requires.evaluator
 
 in_range : (c : goal.After-transit) → IsIn least_transit greatest_transit (transit c.args.self.now c.args.d c.args.v c.args.i c.args.j)
 in_range c = transit_in_range c.args.self.now c.requires.well_formed c.args.d c.args.v c.requires.dimension c.requires.vehicle c.args.i c.args.j c.requires.origin c.requires.target
