@@ -2,7 +2,7 @@ use Rattle.std.proofs.Common.{◌∙◌, ℕ, ◌+◌, length-append, ap, subst,
 use Rattle.vr_earliest.specs.declared.floors.Floors.{Floors}
 use Rattle.vr_earliest.specs.Floors.{AreFloors}
 use Rattle.vr_earliest.proofs.FloorLemmas.{each-push}
-use Rattle.vr_earliest.proofs.earliest.Earliest.open.Goals as goal
+use Rattle.vr_earliest.proofs.earliest.floors_of.Goals as goal
 
 pub loop-d-preserved : goal.loop-d-preserved
 loop-d-preserved c =
