@@ -181,7 +181,8 @@ fn way_after(guide: &Guide, kept: &KeptLists, routes: &Routes, pieces: &[Piece])
     requires within { All (IsWithin routes.now.lists) pieces.now }
     requires few { length pieces.now ≤ 8 }
     requires nodes { All (λ node. node < guide.now.model.now.nodes) (joined routes.now.lists pieces.now) }
-    ensures value { result ≡ whole_way guide.now.model.now guide.now.d guide.now.v (joined routes.now.lists pieces.now) }
+    ensures value { result
+        ≡ whole_way guide.now.model.now guide.now.d guide.now.v (joined routes.now.lists pieces.now) }
     ensures range { IsWayOf guide.now.model.now 10001 result }
 {
     let v = guide.v;

@@ -5,7 +5,7 @@ use Rattle.vr_model.specs.tables.Numbers.{below, total_by}
 use Rattle.vr_model.proofs.tables.Totals.{total_by-more}
 use Rattle.vr_timings.specs.Extents.{global_in}
 use Rattle.vr_routes.specs.Pieces.{changed}
-use Rattle.vr_costfilter.proofs.spreads.least_of_spans.Goals as goal
+use Rattle.vr_costfilter.proofs.spreads.least_of_global_spans.Goals as goal
 
 pub loop-d-preserved : goal.loop-d-preserved
 loop-d-preserved c =
@@ -14,7 +14,7 @@ loop-d-preserved c =
     let i = c.loop-d.invariant in
     let d = c.loop-d.d in
     let is = c.loop-d.cost-is in
-    let e = c.least_of_span-cost.ensures in
+    let e = c.least_of_global_span-cost.ensures in
     let few = c.requires.before.well_formed.number_of_dimensions in
     let many = c.len-d-end.ensures in
     let low = c.loop-d-test.true in

@@ -8,7 +8,7 @@ use Rattle.vr_timings.specs.Extents.{global_in}
 use Rattle.vr_timings.proofs.BoundLemmas.{read-around}
 use Rattle.vr_routes.specs.Pieces.{changed}
 use Rattle.vr_costfilter.proofs.SpreadLemmas.{read-span, spread-costs}
-use Rattle.vr_costfilter.proofs.spreads.least_of_span.Goals as goal
+use Rattle.vr_costfilter.proofs.spreads.least_of_global_span.Goals as goal
 
 pub times-requires-clause-coefficient : goal.times-requires-clause-coefficient
 times-requires-clause-coefficient c =

@@ -5,7 +5,7 @@ use Rattle.vr_model.specs.routes.Rules.{is_valid}
 use Rattle.vr_timings.specs.Bounds.{cumul_cost, IsAround}
 use Rattle.vr_timings.specs.Extents.{global_in}
 use Rattle.vr_routes.specs.Pieces.{changed}
-use Rattle.vr_costfilter.proofs.spreads.least_of_spans.Given as goal
+use Rattle.vr_costfilter.proofs.spreads.least_of_global_spans.Given as goal
 
 -- what the global spans cost at least in the dimensions so far
 abbrev pub invariant-loop-d : goal.invariant-loop-d
