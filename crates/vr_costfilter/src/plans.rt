@@ -100,7 +100,8 @@ impl<'m> PlanCost<'m> {
         let mut least = 0;
         for k in 0..change.parts() {
             let v = change.vehicle(k);
-            least += self.rules.least(earliest, routes, v, change.pieces(k)) - self.costs[v as usize];
+            least += self.rules.least(earliest, routes, v, change.pieces(k))
+                - self.costs[v as usize];
         }
         least
     }
