@@ -1,5 +1,5 @@
 -- What a change adds at least: what spans cost at least after it, less what is paid before it.
-use Rattle.std.proofs.Common.{◌≡◌, ◌∙◌, ℕ, zero, suc, ◌+◌, ◌*◌, ◌<◌, ◌≤◌, Bool, true, false, cond, List, [], ◌∷◌, length, take, Option, Some, None, refl, ap, sym, subst, arith}
+use Rattle.std.proofs.Common.{◌≡◌, ℕ, suc, ◌+◌, ◌*◌, ◌<◌, ◌≤◌, Bool, true, false, cond, List, [], ◌∷◌, length, take, Option, Some, None, refl, subst, arith}
 use Rattle.std.specs.Prelude.{ℤ, pos, negsuc, ◌+ℤ◌, ◌-ℤ◌, ◌*ℤ◌, ◌≤ℤ◌, All, IsTrue, is_some, unwrap_or}
 use Rattle.std.proofs.lemmas.Int.{ints}
 use Rattle.std.proofs.lemmas.List.{get_or_default}
@@ -14,11 +14,11 @@ use Rattle.vr_model.proofs.routes.Assigned.{open_meets_its_lines}
 use Rattle.vr_model.proofs.routes.CostBounds.{softs-up_to}
 use Rattle.vr_model.proofs.schedules.ChoiceLaws.{chosen_is_least, chosen_where_feasible}
 use Rattle.vr_model.proofs.tables.Totals.{sum_not_negative, total_by-less}
-use Rattle.vr_model.specs.schedules.Choices.{chosen, is_feasible}
+use Rattle.vr_model.specs.schedules.Choices.{chosen}
 use Rattle.vr_model.specs.schedules.Lines.{line}
 use Rattle.vr_model.specs.deciding.Testing.{and_left, and_right}
 use Rattle.vr_timings.specs.Timings.{last_with, plan_of, soft_of, soft_with, span_with, start_with}
-use Rattle.vr_model.specs.schedules.Schedules.{IsChosen, Plan, cumul}
+use Rattle.vr_model.specs.schedules.Schedules.{IsChosen, Plan}
 use Rattle.vr_model.specs.tables.Tables.{dimension_at, no_dimension}
 use Rattle.vr_timings.proofs.PlanLemmas.{plan-at}
 use Rattle.vr_routes.specs.Pieces.{ListAfter, changed, joined, no_part, part_at}
@@ -27,7 +27,7 @@ use Rattle.vr_routes.proofs.CommitLemmas.{as_many_lists}
 use Rattle.vr_earliest.specs.Ways.{least_span}
 use Rattle.vr_earliest.specs.Laws.{IsNoEarlier}
 use Rattle.vr_earliest.proofs.NoEarlier.{law}
-use Rattle.vr_costfilter.specs.PlanCosts.{plans_cost, soft_and_span, spans_least, IsIdle}
+use Rattle.vr_costfilter.specs.PlanCosts.{plans_cost, plans_least, soft_and_span, spans_least, IsIdle}
 use Rattle.vr_costfilter.specs.Sums.{part_less}
 use Rattle.vr_costfilter.proofs.GroupLemmas.{total-more}
 use Rattle.vr_costfilter.proofs.PlanLemmas.{idle-sum, plans-over}
@@ -125,3 +125,11 @@ change-idle model idle lists later =
     let a = idle-sum model idle lists in
     let b = idle-sum model idle later in
     omega (arith, ints, x, y, a, b)
+
+pub least-idle : (model : Model) → IsIdle model → (lists : List (List ℕ)) (parts : List ListAfter) → plans_least model lists parts ≡ pos 0
+least-idle model idle lists [] = refl
+least-idle model idle lists (p ∷ ps) =
+    let rest = least-idle model idle lists ps in
+    let new = idle.spans p.vehicle (joined lists p.pieces) in
+    let old = idle.plans p.vehicle (route lists p.vehicle) in
+    omega (arith, ints, rest, new, old)

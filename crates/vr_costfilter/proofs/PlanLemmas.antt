@@ -15,7 +15,8 @@ use Rattle.vr_timings.specs.Timings.{plan_of, soft_of, soft_with, span_with, sta
 use Rattle.vr_timings.proofs.ExtentLemmas.{times-none}
 use Rattle.vr_timings.proofs.PlanLemmas.{plan-at}
 use Rattle.vr_costfilter.specs.Sums.{over_routes}
-use Rattle.vr_costfilter.specs.PlanCosts.{plans_cost, IsIdle, IsPlanCost}
+use Rattle.vr_earliest.specs.Ways.{least_span}
+use Rattle.vr_costfilter.specs.PlanCosts.{plans_cost, spans_least, IsIdle, IsPlanCost}
 
 -- ---- a sum over the lists
 
@@ -73,8 +74,20 @@ idle-all model v list nothing = by (is_empty list)
     by true = refl
     by false = none
 
+-- where it pays nothing in any dimension, its spans cost nothing
+pub idle-spans : (model : Model) (v : ℕ) (list : List ℕ) → ((d : ℕ) → d < length model.dimensions → PaysNothing (dimension_at model d) v list) → spans_least model v list ≡ pos 0
+idle-spans model v list nothing = by (is_empty list)
+  where
+    none : total_by (λ d. number_at (dimension_at model d).span_costs v *ℤ least_span model d v list) (below (length model.dimensions)) ≡ pos 0
+    none = sum_nothing (λ d. number_at (dimension_at model d).span_costs v *ℤ least_span model d v list) 0 (length model.dimensions) (λ d _ low.
+        times-none (number_at (dimension_at model d).span_costs v) (least_span model d v list) (nothing d (omega (arith, low))).span)
+
+    by : (b : Bool) → cond b (pos 0) (total_by (λ d. number_at (dimension_at model d).span_costs v *ℤ least_span model d v list) (below (length model.dimensions))) ≡ pos 0
+    by true = refl
+    by false = none
+
 pub idle-sum : (model : Model) → IsIdle model → (lists : List (List ℕ)) → over_routes (plans_cost model) lists ≡ pos 0
-idle-sum model idle lists = sum_nothing (λ v. plans_cost model v (route lists v)) 0 (length lists) (λ v _ _. idle v (route lists v))
+idle-sum model idle lists = sum_nothing (λ v. plans_cost model v (route lists v)) 0 (length lists) (λ v _ _. idle.plans v (route lists v))
 
 -- a cost is read as it is
 pub read-cost : (x : ℤ) → IsPlanCost x → to_z w64 (of_z w64 x) ≡ x

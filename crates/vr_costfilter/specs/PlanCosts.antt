@@ -14,6 +14,7 @@ use Rattle.vr_earliest.specs.Ways.{least_span}
 use Rattle.vr_routes.specs.Tours.{Tours}
 use Rattle.vr_routes.specs.Pieces.{ListAfter, part_at, joined}
 use Rattle.vr_costfilter.specs.Bounds.{IsFrom}
+use Rattle.vr_costfilter.specs.Sums.{part_less}
 
 -- what the list of vehicle v costs by soft upper bounds and spans, in all dimensions
 abbrev pub plans_cost : Model → ℕ → List ℕ → ℤ
@@ -34,9 +35,15 @@ soft_and_span model lists = soft_part model (assigned model lists) +ℤ span_par
 abbrev pub IsPlanCost : ℤ → Type 0
 IsPlanCost = IsFrom 2760000000000000 2760000000000000000
 
--- no list costs anything
-abbrev pub IsIdle : Model → Type 0
-IsIdle model = (v : ℕ) (list : List ℕ) → plans_cost model v list ≡ pos 0
+-- what a change adds at least: what the spans of the lists that parts give cost at least, less what the lists of their
+-- vehicles cost now
+abbrev pub plans_least : Model → List (List ℕ) → List ListAfter → ℤ
+plans_least model lists parts = total_by (part_less (spans_least model) (plans_cost model) lists) parts
+
+-- no list costs anything, and no span does
+pub record IsIdle (model : Model) : Type 0 where
+  pub plans : (v : ℕ) (list : List ℕ) → plans_cost model v list ≡ pos 0
+  pub spans : (v : ℕ) (list : List ℕ) → spans_least model v list ≡ pos 0
 
 -- the model is well formed, the tables are those of its dimensions, and where it is called idle no list costs anything
 pub record ArePlanRules (model : Model) (tables : List Table) (idle : Bool) : Type 0 where

@@ -12,6 +12,7 @@ ghost use Rattle.vr_earliest.specs.Kept.{StandsEarliest};
 ghost use Rattle.vr_costfilter.specs.GlobalCosts.{global_cost_of, AreKept, AreLike, AreNext};
 ghost use Rattle.vr_costfilter.specs.GlobalCosts.{AreSpansReady, IsGlobalCost, StandsSpans};
 ghost use Rattle.vr_costfilter.specs.Parts.{NothingReady};
+ghost use Rattle.vr_costfilter.specs.Spreads.{global_least};
 
 use crate::CostPart;
 use crate::reaches::{ListTimings, SpanRules};
@@ -100,6 +101,8 @@ impl<'m> GlobalSpan<'m> {
         requires same_model { earliest.now.model ≡ self.now.model }
         requires earliest { StandsEarliest earliest.now routes.now.lists }
         requires made { IsMadeOn routes.now change.now }
+        ensures value { result ≡ global_least self.now.model routes.now.lists change.now
+            -ℤ global_cost_of self.now.model routes.now.lists }
         ensures least { IsTrue (is_valid self.now.model (changed routes.now.lists change.now))
             → result ≤ℤ (global_cost_of self.now.model (changed routes.now.lists change.now)
             -ℤ global_cost_of self.now.model routes.now.lists) }

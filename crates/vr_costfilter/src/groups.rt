@@ -1,6 +1,7 @@
 //! The penalties of groups.
 
-ghost use Rattle.std.specs.Prelude.{◌≡◌, ◌<◌, ◌≤◌, ◌-ℤ◌, ◌*ℤ◌, ◌≤ℤ◌, ℕ, ℤ, false, pos, All, IsTrue, IfOk, IsOk, OnOk, OnErr, length};
+ghost use Rattle.std.specs.Prelude.{◌≡◌, ◌≢◌, ◌<◌, ◌≤◌, ◌-ℤ◌, ◌*ℤ◌, ◌≤ℤ◌, ℕ, ℤ, false, pos};
+ghost use Rattle.std.specs.Prelude.{All, IsTrue, IfOk, IsOk, OnOk, OnErr, length};
 ghost use Rattle.vr_model.specs.tables.Numbers.{number_at, total_by};
 ghost use Rattle.vr_model.specs.tables.Tables.{visits};
 ghost use Rattle.vr_model.specs.tables.WellFormed.{greatest_cost, IsIn, IsWellFormed, WherePresent};
@@ -248,8 +249,8 @@ impl<'m> GroupCost<'m> {
         gone - come
     }
 
-    /// What a change of the committed lists adds at least, where the lists after it are valid: where they have no
-    /// penalty to pay it does not look at the change.
+    /// What a change of the committed lists adds at least, where the lists after it are valid: 0 where the committed
+    /// ones have no penalty to pay, of which the change is not looked at, and else what it adds.
     #[inline]
     pub fn least(&mut self, routes: &Routes, change: &Change) -> i64
         requires stands { StandsGroups self.old routes.now }
@@ -257,6 +258,10 @@ impl<'m> GroupCost<'m> {
         ensures least { IsTrue (is_valid self.old.model (changed routes.now.lists change.now))
             → result ≤ℤ (penalty_part self.old.model (changed routes.now.lists change.now)
             -ℤ penalty_part self.old.model routes.now.lists) }
+        ensures none { self.old.total ≡ pos 0 → result ≡ pos 0 }
+        ensures some { self.old.total ≢ pos 0
+            → result ≡ penalty_part self.old.model (changed routes.now.lists change.now)
+            -ℤ penalty_part self.old.model routes.now.lists }
         ensures range { IsAround 21990232555520000 result }
         ensures stays { self.new ≡ self.old }
     {

@@ -10,7 +10,7 @@ ghost use Rattle.vr_timings.specs.Bounds.{IsAround};
 ghost use Rattle.vr_earliest.specs.Kept.{StandsEarliest};
 ghost use Rattle.vr_costfilter.specs.Parts.{NothingReady};
 ghost use Rattle.vr_costfilter.specs.PlanCosts.{cost_after, soft_and_span, AreNextCosts, ArePlansReady, IsPlanCost};
-ghost use Rattle.vr_costfilter.specs.PlanCosts.{StandsPlans};
+ghost use Rattle.vr_costfilter.specs.PlanCosts.{plans_least, StandsPlans};
 
 use crate::CostPart;
 use crate::schedules::PlanRules;
@@ -89,6 +89,7 @@ impl<'m> PlanCost<'m> {
         requires same_model { earliest.now.model ≡ self.now.model }
         requires earliest { StandsEarliest earliest.now routes.now.lists }
         requires made { IsMadeOn routes.now change.now }
+        ensures value { result ≡ plans_least self.now.model routes.now.lists change.now }
         ensures least { IsTrue (is_valid self.now.model (changed routes.now.lists change.now))
             → result ≤ℤ (soft_and_span self.now.model (changed routes.now.lists change.now)
             -ℤ soft_and_span self.now.model routes.now.lists) }

@@ -1,21 +1,19 @@
 //! From where to where the chosen schedules of lists reach, and what that costs.
 
-ghost use Rattle.std.specs.Prelude.{◌≡◌, ◌<◌, ◌≤◌, ◌≤ℤ◌, ◌+◌, ℕ, List, Option, None, IsTrue, IfOk, length};
+ghost use Rattle.std.specs.Prelude.{◌≡◌, ◌<◌, ◌≤◌, ◌+◌, ℕ, List, Option, None, IsTrue, IfOk, length};
 ghost use Rattle.std.specs.Prelude.{slice_index_or};
 ghost use Rattle.std.specs.List.{list_all};
 ghost use Rattle.vr_model.specs.tables.Tables.{is_visit};
 ghost use Rattle.vr_model.specs.tables.WellFormed.{IsWellFormed};
 ghost use Rattle.vr_model.specs.routes.Routes.{is_distinct, route};
-ghost use Rattle.vr_model.specs.routes.Rules.{is_valid};
 ghost use Rattle.vr_model.specs.declared.records.Model.{Model as Defined};
 ghost use Rattle.vr_timings.specs.Bounds.{cumul_cost, IsAround};
 ghost use Rattle.vr_timings.specs.Extents.{global_in};
 ghost use Rattle.vr_timings.specs.Tables.{AreTables, IsTable};
-ghost use Rattle.vr_routes.specs.Pieces.{changed};
 ghost use Rattle.vr_earliest.specs.Kept.{StandsEarliest};
 ghost use Rattle.vr_costfilter.specs.GlobalCosts.{global_cost_of, row_with, AreKept, AreOf, AreOfSome, IsGlobalCost};
 ghost use Rattle.vr_costfilter.specs.GlobalCosts.{IsKept, IsReach, NonePays, Pays};
-ghost use Rattle.vr_costfilter.specs.Spreads.{AreRowsBefore};
+ghost use Rattle.vr_costfilter.specs.Spreads.{global_least, AreRowsBefore};
 
 use crate::spreads::least_of_global_spans;
 use std::alloc::Global;
@@ -94,7 +92,7 @@ impl<'m> SpanRules<'m> {
         cost_of_spans(self.model, rows, vehicles, next)
     }
 
-    /// What the global spans cost at least after a change, where the lists after it are valid. No schedule is built.
+    /// What the global spans cost at least after a change. No schedule is built.
     pub fn least(
         &self,
         earliest: &Earliest,
@@ -105,8 +103,7 @@ impl<'m> SpanRules<'m> {
         requires of_model { earliest.now.model ≡ self.now }
         requires earliest { StandsEarliest earliest.now routes.now.lists }
         requires before { AreRowsBefore self.now routes.now.lists rows.now change.now }
-        ensures least { IsTrue (is_valid self.now (changed routes.now.lists change.now))
-            → result ≤ℤ global_cost_of self.now (changed routes.now.lists change.now) }
+        ensures value { result ≡ global_least self.now routes.now.lists change.now }
         ensures range { IsGlobalCost result }
     {
         least_of_global_spans(self.model, earliest, rows, routes, change)

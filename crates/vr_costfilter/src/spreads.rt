@@ -1,14 +1,12 @@
 //! What global spans cost at least after a change, told without a schedule of the changed lists.
 
-ghost use Rattle.std.specs.Prelude.{◌≡◌, ◌≢◌, ◌<◌, ◌≤ℤ◌, false, All, IsTrue, length};
-ghost use Rattle.vr_model.specs.tables.WellFormed.{IsWellFormed};
-ghost use Rattle.vr_model.specs.routes.Rules.{is_valid};
+ghost use Rattle.std.specs.Prelude.{◌≡◌, ◌<◌, length};
 ghost use Rattle.vr_timings.specs.Bounds.{cumul_cost, IsAround};
-ghost use Rattle.vr_timings.specs.Extents.{global_in};
-ghost use Rattle.vr_routes.specs.Pieces.{changed};
+ghost use Rattle.vr_routes.specs.Pieces.{part_at};
 ghost use Rattle.vr_earliest.specs.Kept.{StandsEarliest};
-ghost use Rattle.vr_costfilter.specs.GlobalCosts.{global_cost_of, IsGlobalCost, Pays};
-ghost use Rattle.vr_costfilter.specs.Spreads.{AreRowsBefore, IsSpread, IsSpreadInRange};
+ghost use Rattle.vr_costfilter.specs.GlobalCosts.{IsGlobalCost, Pays};
+ghost use Rattle.vr_costfilter.specs.Spreads as spreads;
+ghost use Rattle.vr_costfilter.specs.Spreads.{global_least, global_least_in, AreRowsBefore, IsSpreadInRange};
 
 use crate::reaches::ListTimings;
 use vr_earliest::Earliest;
@@ -20,15 +18,15 @@ use vr_timings::times;
 /// How far lists reach at least in one dimension.
 #[derive(Clone, Copy)]
 pub struct Spread {
-    /// Some list ends no earlier, in `0..=2^36`.
+    /// The greatest end that is told of them, in `0..=2^36`.
     pub last: i64,
-    /// Some list starts no later, in `0..=2^36`.
+    /// The least start that is told of them, in `0..=2^36`.
     pub start: i64,
-    /// The global span is no less, in `-2^36..=2^36`.
+    /// The greatest span that is told of one of them, in `-2^36..=2^36`.
     pub span: i64,
 }
 
-/// What the global spans cost at least after a change, where the lists after it are valid.
+/// What the global spans cost at least after a change.
 pub fn least_of_global_spans(
     model: &RoutingModel,
     earliest: &Earliest,
@@ -39,8 +37,7 @@ pub fn least_of_global_spans(
     requires of_model { earliest.now.model ≡ model.now }
     requires earliest { StandsEarliest earliest.now routes.now.lists }
     requires before { AreRowsBefore model.now routes.now.lists rows.now change.now }
-    ensures least { IsTrue (is_valid model.now (changed routes.now.lists change.now))
-        → result ≤ℤ global_cost_of model.now (changed routes.now.lists change.now) }
+    ensures value { result ≡ global_least model.now routes.now.lists change.now }
     ensures range { IsGlobalCost result }
 {
     let mut cost = 0;
@@ -63,8 +60,7 @@ fn least_of_global_span(
     requires earliest { StandsEarliest earliest.now routes.now.lists }
     requires before { AreRowsBefore model.now routes.now.lists rows.now change.now }
     requires dimension { d < length model.now.dimensions }
-    ensures least { IsTrue (is_valid model.now (changed routes.now.lists change.now))
-        → result ≤ℤ global_in model.now (changed routes.now.lists change.now) d }
+    ensures value { result ≡ global_least_in model.now routes.now.lists change.now d }
     ensures range { IsAround cumul_cost result }
 {
     let coefficient = model.dimensions.get(d as usize).global_span_cost;
@@ -89,8 +85,7 @@ fn spread_after(
     requires before { AreRowsBefore model.now routes.now.lists rows.now change.now }
     requires dimension { d < length model.now.dimensions }
     requires pays { Pays model.now d }
-    ensures least { IsTrue (is_valid model.now (changed routes.now.lists change.now))
-        → IsSpread model.now (changed routes.now.lists change.now) d result }
+    ensures value { result ≡ spreads.spread_after model.now routes.now.lists change.now d }
     ensures range { IsSpreadInRange result }
 {
     let mut spread = spread_of_kept(model, rows, routes, change, d);
@@ -111,8 +106,8 @@ fn spread_of_kept(
     requires before { AreRowsBefore model.now routes.now.lists rows.now change.now }
     requires dimension { d < length model.now.dimensions }
     requires pays { Pays model.now d }
-    ensures least { IsTrue (is_valid model.now (changed routes.now.lists change.now))
-        → IsSpread model.now (changed routes.now.lists change.now) d result }
+    ensures value { result
+        ≡ spreads.spread_of_kept model.now routes.now.lists change.now d (length routes.now.lists) }
     ensures range { IsSpreadInRange result }
 {
     let mut spread = Spread {
@@ -142,9 +137,7 @@ fn with_kept(
     requires pays { Pays _model.now d }
     requires vehicle { v < length rows.now }
     requires range { IsSpreadInRange spread }
-    ensures least { IsTrue (is_valid _model.now (changed _routes.now.lists change.now))
-        → IsSpread _model.now (changed _routes.now.lists change.now) d spread
-        → IsSpread _model.now (changed _routes.now.lists change.now) d result }
+    ensures value { result ≡ spreads.with_kept _model.now _routes.now.lists change.now d spread v }
     ensures range { IsSpreadInRange result }
 {
     if gives(change, v) {
@@ -178,9 +171,7 @@ fn with_changed(
     requires dimension { d < length model.now.dimensions }
     requires part { k < length change.now }
     requires range { IsSpreadInRange spread }
-    ensures least { IsTrue (is_valid model.now (changed routes.now.lists change.now))
-        → IsSpread model.now (changed routes.now.lists change.now) d spread
-        → IsSpread model.now (changed routes.now.lists change.now) d result }
+    ensures value { result ≡ spreads.with_changed model.now routes.now.lists d spread (part_at change.now k) }
     ensures range { IsSpreadInRange result }
 {
     let pieces = change.pieces(k);
@@ -198,7 +189,7 @@ fn with_changed(
 // Whether a change gives vehicle `v` a list.
 #[inline]
 fn gives(change: &Change, v: usize) -> bool
-    ensures { result ≡ false → All (λ part. v ≢ part.vehicle) change.now }
+    ensures { result ≡ spreads.gives change.now v }
 {
     for k in 0..change.parts() {
         if change.vehicle(k) as usize == v {

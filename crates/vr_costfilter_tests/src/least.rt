@@ -38,7 +38,7 @@ struct Least {
 }
 
 // What a change of routes adds at least, by what is kept of them.
-fn least(
+fn adds(
     alloc: Global,
     model: &Model,
     earliest: &Earliest,
@@ -76,9 +76,9 @@ fn least_after(
 {
     let mut kept = Earliest::open(alloc, model, before)?;
     kept.commit(before, first);
-    let told = least(alloc, model, &kept, routes, second)?;
+    let told = adds(alloc, model, &kept, routes, second)?;
     let fresh = Earliest::open(alloc, model, routes)?;
-    let anew = least(alloc, model, &fresh, routes, second)?;
+    let anew = adds(alloc, model, &fresh, routes, second)?;
     if told == anew {
         Ok(Some(told))
     } else {

@@ -3,7 +3,7 @@ use Rattle.std.proofs.lemmas.Bool.{cases_lt}
 use Rattle.vr_model.specs.tables.Tables.{dimension_at}
 use Rattle.vr_timings.specs.Paying.{PaysNothing}
 use Rattle.vr_timings.proofs.TableLemmas.{table_at}
-use Rattle.vr_costfilter.proofs.PlanLemmas.{idle-all}
+use Rattle.vr_costfilter.proofs.PlanLemmas.{idle-all, idle-spans}
 use Rattle.vr_costfilter.proofs.schedules.are_idle.Goals as goal
 
 pub loop-d-preserved : goal.loop-d-preserved
@@ -18,7 +18,10 @@ loop-d-preserved c d under v list = elim (cases_lt d c.loop-d.d) [
 ]
 
 pub returns : goal.returns
-returns c _ v list =
+returns c _ =
     let n = c.requires.one_of_each in
     let high = c.loop-d-test.false in
-    idle-all c.args.model.now v list (λ d low. c.loop-d.invariant d (omega (arith, n, high, low)) v list)
+    record {
+      plans = λ v list. idle-all c.args.model.now v list (λ d low. c.loop-d.invariant d (omega (arith, n, high, low)) v list);
+      spans = λ v list. idle-spans c.args.model.now v list (λ d low. c.loop-d.invariant d (omega (arith, n, high, low)) v list);
+    }

@@ -1,9 +1,8 @@
-use Rattle.std.proofs.Common.{◌≡◌, ◌∙◌, ◌<◌, ℕ, List, ap, ap₂, sym, subst, arith, to_z, of_z, w64, length}
+use Rattle.std.proofs.Common.{◌≡◌, ◌∙◌, ◌<◌, ℕ, List, ap, ap₂, sym, subst, arith, to_z, of_z, w64}
 use Rattle.std.proofs.lemmas.Int.{ints}
 use Rattle.std.specs.Prelude.{◌*ℤ◌, pos}
 use Rattle.vr_model.specs.tables.Numbers.{number_at}
 use Rattle.vr_model.specs.tables.Tables.{dimension_at, no_dimension}
-use Rattle.vr_model.specs.tables.WellFormed.{IsIn}
 use Rattle.vr_timings.specs.Bounds.{cumul_cost}
 use Rattle.vr_timings.proofs.BoundLemmas.{read-around}
 use Rattle.vr_timings.proofs.ExtentLemmas.{times-none}

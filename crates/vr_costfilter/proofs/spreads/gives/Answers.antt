@@ -1,20 +1,30 @@
-use Rattle.std.proofs.Common.{◌≡◌, ◌∙◌, ap, sym, arith, inl, inr}
-use Rattle.std.proofs.lemmas.Bool.{cases_lt}
-use Rattle.std.proofs.lemmas.List.{get_or_default}
-use Rattle.vr_routes.specs.Pieces.{no_part, part_at}
+use Rattle.std.proofs.Common.{◌∙◌, ◌+◌, ◌<◌, ap, drop, subst, sym, arith}
+use Rattle.std.specs.Prelude.{◌||◌}
+use Rattle.vr_routes.specs.Pieces.{part_at}
+use Rattle.vr_costfilter.specs.Spreads.{gives}
+use Rattle.vr_costfilter.proofs.SpreadLemmas.{gives-next, gives-none, test-other, test-same}
 use Rattle.vr_costfilter.proofs.spreads.gives.Goals as goal
 
+pub returns-then-vehicle-v : goal.returns-then-vehicle-v
+returns-then-vehicle-v c =
+    let parts = c.args.change.now in
+    let v = c.args.v in
+    let k = c.loop-k.k in
+    let low = subst (λ n. k < n) c.parts-k-end.ensures.value c.loop-k-test.true in
+    let same = test-same (part_at parts k).vehicle v (sym c.vehicle.ensures ∙ c.if-vehicle-v.true) in
+    sym (c.loop-k.invariant ∙ gives-next parts v k low ∙ ap (λ b. b || gives (drop (k + 1) parts) v) same)
+
 pub loop-k-preserved : goal.loop-k-preserved
-loop-k-preserved c j under same = elim (cases_lt j c.loop-k.k) [
-  | inl before ↦ c.loop-k.invariant j before same
-  | inr past ↦ (
-      let here : c.loop-k.k ≡ j = omega (arith, under, past) in
-      let e : c.vehicle.result ≡ c.args.v = c.vehicle.ensures ∙ ap (λ i. (part_at c.args.change.now i).vehicle) here ∙ sym same in
-      absurd (omega (arith, e, c.if-vehicle-v.false)))
-]
+loop-k-preserved c =
+    let parts = c.args.change.now in
+    let v = c.args.v in
+    let k = c.loop-k.k in
+    let low = subst (λ n. k < n) c.parts-k-end.ensures.value c.loop-k-test.true in
+    let other = test-other (part_at parts k).vehicle v (λ e. c.if-vehicle-v.false (c.vehicle.ensures ∙ e)) in
+    c.loop-k.invariant ∙ gives-next parts v k low ∙ ap (λ b. b || gives (drop (k + 1) parts) v) other
 
 pub returns : goal.returns
-returns c _ k d low same =
+returns c =
     let many = c.parts-k-end.ensures.value in
     let end = c.loop-k-test.false in
-    c.loop-k.invariant k (omega (arith, many, end, low)) (same ∙ ap (λ part. part.vehicle) (sym (get_or_default c.args.change.now k no_part d low)))
+    sym (c.loop-k.invariant ∙ gives-none c.args.change.now c.args.v c.loop-k.k (omega (arith, many, end)))

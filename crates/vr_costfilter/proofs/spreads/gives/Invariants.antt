@@ -1,7 +1,7 @@
-use Rattle.std.proofs.Common.{◌≢◌, ◌<◌, ℕ}
-use Rattle.vr_routes.specs.Pieces.{part_at}
+use Rattle.std.proofs.Common.{◌≡◌, drop}
+use Rattle.vr_costfilter.specs.Spreads.{gives}
 use Rattle.vr_costfilter.proofs.spreads.gives.Given as goal
 
--- the parts so far are of other vehicles
+-- no part so far is of the vehicle
 abbrev pub invariant-loop-k : goal.invariant-loop-k
-invariant-loop-k l = (j : ℕ) → j < l.k → l.v ≢ (part_at l.change j).vehicle
+invariant-loop-k l = gives l.change l.v ≡ gives (drop l.k l.change) l.v

@@ -1,13 +1,14 @@
-use Rattle.std.proofs.Common.{◌≡◌, ◌∙◌, ℕ, List, ap, ap₂, sym, subst, arith, to_z, of_z, w64}
+use Rattle.std.proofs.Common.{◌≡◌, ◌∙◌, ap, ap₂, sym, arith, to_z, of_z, w64}
 use Rattle.std.proofs.lemmas.Int.{ints, int_max_is}
-use Rattle.std.specs.Prelude.{ℤ, ◌-ℤ◌, ◌*ℤ◌, ◌≤ℤ◌}
+use Rattle.std.specs.Prelude.{◌-ℤ◌, ◌*ℤ◌}
 use Rattle.std.specs.Int.{int_max}
 use Rattle.vr_model.specs.tables.Tables.{dimension_at, no_dimension}
 use Rattle.vr_timings.specs.Bounds.{cumul_cost}
-use Rattle.vr_timings.specs.Extents.{global_in}
 use Rattle.vr_timings.proofs.BoundLemmas.{read-around}
-use Rattle.vr_routes.specs.Pieces.{changed}
-use Rattle.vr_costfilter.proofs.SpreadLemmas.{read-span, spread-costs}
+use Rattle.vr_timings.proofs.ExtentLemmas.{times-none}
+use Rattle.vr_costfilter.specs.declared.spreads.Spread.{Spread}
+use Rattle.vr_costfilter.specs.Spreads.{spread_after}
+use Rattle.vr_costfilter.proofs.SpreadLemmas.{read-span}
 use Rattle.vr_costfilter.proofs.spreads.least_of_global_span.Goals as goal
 
 pub times-requires-clause-coefficient : goal.times-requires-clause-coefficient
@@ -35,11 +36,17 @@ times-requires-clause-range c =
       high = omega (arith, ints, is, m, fits, last.at_least, last.at_most, start.at_least, start.at_most, span.at_least, span.at_most);
     }
 
-pub returns-clause-least : goal.returns-clause-least
-returns-clause-least c valid =
+pub returns-then-coefficient-eq0-clause-value : goal.returns-then-coefficient-eq0-clause-value
+returns-then-coefficient-eq0-clause-value c =
+    let s = spread_after c.args.model.now c.args.routes.now.lists c.args.change.now c.args.d in
+    let is = ap (λ x. x.global_span_cost) (c.get.ensures.value no_dimension) in
+    let zero = c.if-coefficient-eq0.true in
+    sym (times-none (dimension_at c.args.model.now c.args.d).global_span_cost (int_max (s.last -ℤ s.start) s.span) (omega (arith, ints, is, zero)))
+
+pub returns-clause-value : goal.returns-clause-value
+returns-clause-value c =
     let model = c.args.model.now in
     let d = c.args.d in
-    let later : List (List ℕ) = changed c.args.routes.now.lists c.args.change.now in
     let s = c.spread_after-spread.result in
     let e = c.spread_after-spread.ensures in
     let last = e.range.last in
@@ -53,6 +60,5 @@ returns-clause-least c valid =
     let low = r.at_least in
     let high = r.at_most in
     let coefficient : to_z w64 (of_z w64 c.get.result.now.global_span_cost) ≡ (dimension_at model d).global_span_cost = omega (arith, ints, same, low, high) in
-    let cost = read-around c.times.result cumul_cost c.times.ensures.range (omega arith) ∙ c.times.ensures.value ∙ ap₂ (λ x y. x *ℤ y) coefficient max in
-    subst (λ x. x ≤ℤ global_in model later d) (sym cost)
-    (spread-costs model c.requires.before.well_formed later valid d c.requires.dimension s (e.least valid) c.max.result is low)
+    read-around c.times.result cumul_cost c.times.ensures.range (omega arith) ∙ c.times.ensures.value
+    ∙ ap₂ (λ x y. x *ℤ y) coefficient (max ∙ is ∙ ap (λ (t : Spread). int_max (t.last -ℤ t.start) t.span) e.value)

@@ -13,7 +13,7 @@ pub returns-then-is_idle-clause-value : goal.returns-then-is_idle-clause-value
 returns-then-is_idle-clause-value c =
     let part = part_at c.args.change.now c.args.k in
     let idle = c.is_idle.ensures c.if-is_idle.true in
-    sym (idle part.vehicle (joined c.args.routes.now.lists part.pieces)) ∙ ap (λ (m : Model). plans_cost m part.vehicle (joined c.args.routes.now.lists part.pieces)) (ap (λ s. s.model) c.self.view_is)
+    sym (idle.plans part.vehicle (joined c.args.routes.now.lists part.pieces)) ∙ ap (λ (m : Model). plans_cost m part.vehicle (joined c.args.routes.now.lists part.pieces)) (ap (λ s. s.model) c.self.view_is)
 
 pub cost-requires-clause-vehicle : goal.cost-requires-clause-vehicle
 cost-requires-clause-vehicle c =

@@ -1,4 +1,4 @@
-use Rattle.std.proofs.Common.{◌≡◌, ◌∙◌, ◌<◌, ℕ, List, length, ap, sym, subst, arith}
+use Rattle.std.proofs.Common.{◌∙◌, ◌<◌, ℕ, List, length, ap, sym, subst, arith}
 use Rattle.std.proofs.lemmas.Int.{ints}
 use Rattle.std.proofs.lemmas.List.{get_or_default, take_all}
 use Rattle.std.specs.Prelude.{pos, All, ◌-ℤ◌, ◌≤ℤ◌}
@@ -8,7 +8,7 @@ use Rattle.vr_model.specs.declared.records.Model.{Model}
 use Rattle.vr_routes.specs.Pieces.{changed, joined, no_part, part_at}
 use Rattle.vr_costfilter.specs.PlanCosts.{plans_cost, soft_and_span, spans_least, IsIdle, IsPlanCost}
 use Rattle.vr_costfilter.specs.Sums.{part_less}
-use Rattle.vr_costfilter.proofs.LeastLemmas.{change-idle, change-least, less-more}
+use Rattle.vr_costfilter.proofs.LeastLemmas.{change-idle, change-least, least-idle, less-more}
 use Rattle.vr_costfilter.proofs.PartLemmas.{below-after}
 use Rattle.vr_costfilter.proofs.plans.PlanCost.least.Goals as goal
 
@@ -88,16 +88,25 @@ returns-clause-range c =
     let end = c.loop-k.auto.k-end in
     record { low = omega (arith, ints, few, end, r.low); high = omega (arith, ints, few, end, r.high) }
 
+pub returns-clause-value : goal.returns-clause-value
+returns-clause-value c =
+    let model = c.args.self.now.model in
+    let many = c.parts-k-end.ensures.value in
+    let end = c.loop-k-test.false in
+    c.loop-k.invariant.sum ∙ ap (total_by (part_less (spans_least model) (plans_cost model) c.args.routes.now.lists)) (take_all c.loop-k.k c.args.change.now (omega (arith, many, end)))
+
 pub returns-clause-least : goal.returns-clause-least
 returns-clause-least c valid =
     let model = c.args.self.now.model in
     let lists : List (List ℕ) = c.args.routes.now.lists in
     let h = c.requires.stands in
-    let many = c.parts-k-end.ensures.value in
-    let end = c.loop-k-test.false in
-    let value = c.loop-k.invariant.sum ∙ ap (total_by (part_less (spans_least model) (plans_cost model) lists)) (take_all c.loop-k.k c.args.change.now (omega (arith, many, end))) in
     let least = change-least model h.well_formed lists c.args.change.now c.requires.made.makes.parts_are h.as_many valid in
-    subst (λ x. x ≤ℤ (soft_and_span model (changed lists c.args.change.now) -ℤ soft_and_span model lists)) (sym value) least
+    subst (λ x. x ≤ℤ (soft_and_span model (changed lists c.args.change.now) -ℤ soft_and_span model lists)) (sym (returns-clause-value c)) least
+
+pub returns-then-is_idle-clause-value : goal.returns-then-is_idle-clause-value
+returns-then-is_idle-clause-value c =
+    let idle = subst IsIdle (ap (λ s. s.model) c.self.view_is) (c.is_idle.ensures c.if-is_idle.true) in
+    sym (least-idle c.args.self.now.model idle c.args.routes.now.lists c.args.change.now)
 
 pub returns-then-is_idle-clause-least : goal.returns-then-is_idle-clause-least
 returns-then-is_idle-clause-least c valid =
