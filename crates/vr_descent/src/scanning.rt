@@ -77,8 +77,8 @@ pub fn scan<J: Judge, A: Accept, L: Ledger>(
     Ok(ScanEnd::Complete { length: place })
 }
 
-// The difference that a move makes, where it is acceptable. What it changes is written over `change`. The judge is asked
-// only where the move may be taken.
+// The difference that a move makes, where it is acceptable. What it changes is written over `change`. The judge is
+// asked only where the move may be taken.
 #[inline]
 fn try_move<J: Judge, A: Accept, L: Ledger>(
     model: &Model,

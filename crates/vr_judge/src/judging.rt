@@ -94,6 +94,7 @@ impl<'m, F: PathFilter + Drop> Judge for Judging<'m, F> {
         Ok(Verdict::Difference(difference))
     }
 
+    #[inline]
     fn least_difference(&mut self, routes: &Routes, _mv: Move, change: &Change) -> i64 {
         self.costs.least(routes, change)
     }
