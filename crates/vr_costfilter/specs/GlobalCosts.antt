@@ -67,12 +67,10 @@ pub record IsReach (model : Model) (lists : List (List ℕ)) (d n : ℕ) (extent
   pub reach : MatchOption extent (used_below lists n ≡ []) (IsExtent model lists d (used_below lists n))
   pub range : IfSome extent IsExtentInRange
 
--- the model is well formed, the tables are those of its dimensions, what tells how early vehicles can be is of it, and
--- where it is called idle no global span pays
-pub record AreSpanRules (model : Model) (tables : List Table) (earliest : Model) (idle : Bool) : Type 0 where
+-- the model is well formed, the tables are those of its dimensions, and where it is called idle no global span pays
+pub record AreSpanRules (model : Model) (tables : List Table) (idle : Bool) : Type 0 where
   pub well_formed : IsWellFormed model
   pub of_dimensions : AreTables model tables
-  pub earliest_is : earliest ≡ model
   pub none_pays : IsTrue idle → NonePays model
 
 -- what the global spans of a model may cost

@@ -23,7 +23,8 @@ plans_cost model v list = cond (is_empty list) (pos 0)
 -- what the spans of the list of vehicle v cost at least
 abbrev pub spans_least : Model → ℕ → List ℕ → ℤ
 spans_least model v list = cond (is_empty list) (pos 0)
-    (total_by (λ d. number_at (dimension_at model d).span_costs v *ℤ least_span model d v list) (below (length model.dimensions)))
+    (total_by (λ d. number_at (dimension_at model d).span_costs v *ℤ least_span model d v list)
+    (below (length model.dimensions)))
 
 -- what soft upper bounds and spans cost at the chosen schedules of lists
 abbrev pub soft_and_span : Model → List (List ℕ) → ℤ
@@ -37,12 +38,10 @@ IsPlanCost = IsFrom 2760000000000000 2760000000000000000
 abbrev pub IsIdle : Model → Type 0
 IsIdle model = (v : ℕ) (list : List ℕ) → plans_cost model v list ≡ pos 0
 
--- the model is well formed, the tables are those of its dimensions, what tells how early vehicles can be is of it, and
--- where it is called idle no list costs anything
-pub record ArePlanRules (model : Model) (tables : List Table) (earliest : Model) (idle : Bool) : Type 0 where
+-- the model is well formed, the tables are those of its dimensions, and where it is called idle no list costs anything
+pub record ArePlanRules (model : Model) (tables : List Table) (idle : Bool) : Type 0 where
   pub well_formed : IsWellFormed model
   pub of_dimensions : AreTables model tables
-  pub earliest_is : earliest ≡ model
   pub none_costs : IsTrue idle → IsIdle model
 
 -- what contracts see of the costs that are kept: of each list, and of the lists of a change that is ready

@@ -7,6 +7,7 @@ ghost use Rattle.vr_model.specs.routes.Rules.{is_valid};
 ghost use Rattle.vr_routes.specs.Pieces.{changed, part_at};
 ghost use Rattle.vr_routes.specs.Changes.{IsMadeOn};
 ghost use Rattle.vr_timings.specs.Bounds.{IsAround};
+ghost use Rattle.vr_earliest.specs.Kept.{StandsEarliest};
 ghost use Rattle.vr_costfilter.specs.Parts.{NothingReady};
 ghost use Rattle.vr_costfilter.specs.PlanCosts.{cost_after, soft_and_span, AreNextCosts, ArePlansReady, IsPlanCost};
 ghost use Rattle.vr_costfilter.specs.PlanCosts.{StandsPlans};
@@ -16,6 +17,7 @@ use crate::schedules::PlanRules;
 use arrayvec::ArrayVec;
 use std::alloc::Global;
 use std::marker::Model;
+use vr_earliest::Earliest;
 use vr_model::{Model as RoutingModel, NoMemory};
 use vr_routes::{Change, Routes, Row};
 use vr_timings::Timer;
@@ -82,8 +84,10 @@ impl<'m> PlanCost<'m> {
 
     /// What a change adds at least, where the lists after it are valid: what the spans of the changed lists cost at
     /// least, less what the lists of these vehicles cost now. No schedule is built.
-    pub fn least(&self, routes: &Routes, change: &Change) -> i64
+    pub fn least(&self, earliest: &Earliest, routes: &Routes, change: &Change) -> i64
         requires stands { StandsPlans self.now routes.now }
+        requires same_model { earliest.now.model ≡ self.now.model }
+        requires earliest { StandsEarliest earliest.now routes.now.lists }
         requires made { IsMadeOn routes.now change.now }
         ensures least { IsTrue (is_valid self.now.model (changed routes.now.lists change.now))
             → result ≤ℤ (soft_and_span self.now.model (changed routes.now.lists change.now)
@@ -96,7 +100,8 @@ impl<'m> PlanCost<'m> {
         let mut least = 0;
         for k in 0..change.parts() {
             let v = change.vehicle(k);
-            least += self.rules.least(routes, v, change.pieces(k)) - self.costs[v as usize];
+            least += self.rules.least(earliest, routes, v, change.pieces(k))
+                - self.costs[v as usize];
         }
         least
     }

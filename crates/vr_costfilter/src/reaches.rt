@@ -1,6 +1,7 @@
 //! From where to where the chosen schedules of lists reach, and what that costs.
 
-ghost use Rattle.std.specs.Prelude.{◌≡◌, ◌<◌, ◌≤◌, ◌≤ℤ◌, ◌+◌, ℕ, List, Option, None, IsTrue, IfOk, length, slice_index_or};
+ghost use Rattle.std.specs.Prelude.{◌≡◌, ◌<◌, ◌≤◌, ◌≤ℤ◌, ◌+◌, ℕ, List, Option, None, IsTrue, IfOk, length};
+ghost use Rattle.std.specs.Prelude.{slice_index_or};
 ghost use Rattle.std.specs.List.{list_all};
 ghost use Rattle.vr_model.specs.tables.Tables.{is_visit};
 ghost use Rattle.vr_model.specs.tables.WellFormed.{IsWellFormed};
@@ -11,11 +12,12 @@ ghost use Rattle.vr_timings.specs.Bounds.{cumul_cost, IsAround};
 ghost use Rattle.vr_timings.specs.Extents.{global_in};
 ghost use Rattle.vr_timings.specs.Tables.{AreTables, IsTable};
 ghost use Rattle.vr_routes.specs.Pieces.{changed};
+ghost use Rattle.vr_earliest.specs.Kept.{StandsEarliest};
 ghost use Rattle.vr_costfilter.specs.GlobalCosts.{global_cost_of, row_with, AreKept, AreOf, AreOfSome, IsGlobalCost};
 ghost use Rattle.vr_costfilter.specs.GlobalCosts.{IsKept, IsReach, NonePays, Pays};
 ghost use Rattle.vr_costfilter.specs.Spreads.{AreRowsBefore};
 
-use crate::spreads::least_of_spans;
+use crate::spreads::least_of_global_spans;
 use std::alloc::Global;
 use std::marker::Model;
 use vr_earliest::Earliest;
@@ -33,8 +35,6 @@ pub struct SpanRules<'m> {
     model: &'m RoutingModel,
     // what is looked up of each dimension
     tables: Vec<Table>,
-    // how early vehicles can be
-    earliest: Earliest<'m>,
     // whether no global span has a coefficient
     idle: bool,
 }
@@ -47,7 +47,7 @@ impl<'m> Model for SpanRules<'m> {
 
     ghost view = { λ rules. rules.model.now };
 
-    ghost invariant = { λ rules. AreSpanRules rules.model.now rules.tables.items rules.earliest rules.idle };
+    ghost invariant = { λ rules. AreSpanRules rules.model.now rules.tables.items rules.idle };
 }
 
 impl<'m> SpanRules<'m> {
@@ -60,7 +60,6 @@ impl<'m> SpanRules<'m> {
         Ok(SpanRules {
             model,
             tables,
-            earliest: Earliest::open(alloc, model)?,
             idle: none_pays(model),
         })
     }
@@ -96,13 +95,21 @@ impl<'m> SpanRules<'m> {
     }
 
     /// What the global spans cost at least after a change, where the lists after it are valid. No schedule is built.
-    pub fn least(&self, rows: &[ListTimings], routes: &Routes, change: &Change) -> i64
-        requires { AreRowsBefore self.now routes.now.lists rows.now change.now }
+    pub fn least(
+        &self,
+        earliest: &Earliest,
+        rows: &[ListTimings],
+        routes: &Routes,
+        change: &Change,
+    ) -> i64
+        requires of_model { earliest.now.model ≡ self.now }
+        requires earliest { StandsEarliest earliest.now routes.now.lists }
+        requires before { AreRowsBefore self.now routes.now.lists rows.now change.now }
         ensures least { IsTrue (is_valid self.now (changed routes.now.lists change.now))
             → result ≤ℤ global_cost_of self.now (changed routes.now.lists change.now) }
         ensures range { IsGlobalCost result }
     {
-        least_of_spans(self.model, &self.earliest, rows, routes, change)
+        least_of_global_spans(self.model, earliest, rows, routes, change)
     }
 }
 

@@ -10,6 +10,7 @@ ghost use Rattle.vr_timings.specs.Tables.{AreTables, IsTable};
 ghost use Rattle.vr_timings.specs.Timings.{soft_with, span_with};
 ghost use Rattle.vr_timings.specs.Bounds.{cumul_cost, IsAround};
 ghost use Rattle.vr_routes.specs.Pieces.{joined, IsWithin};
+ghost use Rattle.vr_earliest.specs.Kept.{StandsEarliest};
 ghost use Rattle.vr_earliest.specs.Ways.{least_span};
 ghost use Rattle.vr_costfilter.specs.PlanCosts.{plans_cost, spans_least, IsIdle, IsPlanCost};
 ghost use Rattle.vr_costfilter.specs.Bounds.{IsFrom};
@@ -27,8 +28,6 @@ pub struct PlanRules<'m> {
     model: &'m RoutingModel,
     // what is looked up of each dimension
     tables: Vec<Table>,
-    // how early vehicles can be
-    earliest: Earliest<'m>,
     // whether no list may cost anything
     idle: bool,
 }
@@ -41,7 +40,7 @@ impl<'m> Model for PlanRules<'m> {
 
     ghost view = { λ rules. rules.model.now };
 
-    ghost invariant = { λ rules. ArePlanRules rules.model.now rules.tables.items rules.earliest rules.idle };
+    ghost invariant = { λ rules. ArePlanRules rules.model.now rules.tables.items rules.idle };
 }
 
 impl<'m> PlanRules<'m> {
@@ -55,7 +54,6 @@ impl<'m> PlanRules<'m> {
         Ok(PlanRules {
             model,
             tables,
-            earliest: Earliest::open(alloc, model)?,
             idle,
         })
     }
@@ -81,7 +79,9 @@ impl<'m> PlanRules<'m> {
     }
 
     /// What the spans of the list that pieces are joined to cost at least. No schedule is built.
-    pub fn least(&self, routes: &Routes, v: u32, pieces: &[Piece]) -> i64
+    pub fn least(&self, earliest: &Earliest, routes: &Routes, v: u32, pieces: &[Piece]) -> i64
+        requires of_model { earliest.now.model ≡ self.now }
+        requires earliest { StandsEarliest earliest.now routes.now.lists }
         requires vehicle { v < length self.now.vehicles }
         requires within { All (IsWithin routes.now.lists) pieces.now }
         requires few { length pieces.now ≤ 8 }
@@ -92,7 +92,7 @@ impl<'m> PlanRules<'m> {
         if Piece::nodes_in(routes, pieces) == 0 {
             return 0;
         }
-        least_of_spans(self.model, &self.earliest, routes, v, pieces)
+        least_of_spans(self.model, earliest, routes, v, pieces)
     }
 }
 
@@ -132,7 +132,8 @@ fn least_of_spans(
     pieces: &[Piece],
 ) -> i64
     requires well_formed { IsWellFormed model.now }
-    requires earliest { earliest.now ≡ model.now }
+    requires of_model { earliest.now.model ≡ model.now }
+    requires earliest { StandsEarliest earliest.now routes.now.lists }
     requires vehicle { v < length model.now.vehicles }
     requires within { All (IsWithin routes.now.lists) pieces.now }
     requires few { length pieces.now ≤ 8 }
@@ -158,7 +159,8 @@ fn least_of_span(
     pieces: &[Piece],
 ) -> i64
     requires well_formed { IsWellFormed model.now }
-    requires earliest { earliest.now ≡ model.now }
+    requires of_model { earliest.now.model ≡ model.now }
+    requires earliest { StandsEarliest earliest.now routes.now.lists }
     requires dimension { d < length model.now.dimensions }
     requires vehicle { v < length model.now.vehicles }
     requires within { All (IsWithin routes.now.lists) pieces.now }

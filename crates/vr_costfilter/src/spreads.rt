@@ -6,6 +6,7 @@ ghost use Rattle.vr_model.specs.routes.Rules.{is_valid};
 ghost use Rattle.vr_timings.specs.Bounds.{cumul_cost, IsAround};
 ghost use Rattle.vr_timings.specs.Extents.{global_in};
 ghost use Rattle.vr_routes.specs.Pieces.{changed};
+ghost use Rattle.vr_earliest.specs.Kept.{StandsEarliest};
 ghost use Rattle.vr_costfilter.specs.GlobalCosts.{global_cost_of, IsGlobalCost, Pays};
 ghost use Rattle.vr_costfilter.specs.Spreads.{AreRowsBefore, IsSpread, IsSpreadInRange};
 
@@ -28,14 +29,15 @@ pub struct Spread {
 }
 
 /// What the global spans cost at least after a change, where the lists after it are valid.
-pub fn least_of_spans(
+pub fn least_of_global_spans(
     model: &RoutingModel,
     earliest: &Earliest,
     rows: &[ListTimings],
     routes: &Routes,
     change: &Change,
 ) -> i64
-    requires earliest { earliest.now ≡ model.now }
+    requires of_model { earliest.now.model ≡ model.now }
+    requires earliest { StandsEarliest earliest.now routes.now.lists }
     requires before { AreRowsBefore model.now routes.now.lists rows.now change.now }
     ensures least { IsTrue (is_valid model.now (changed routes.now.lists change.now))
         → result ≤ℤ global_cost_of model.now (changed routes.now.lists change.now) }
@@ -43,13 +45,13 @@ pub fn least_of_spans(
 {
     let mut cost = 0;
     for d in 0..model.dimensions.len() {
-        cost += least_of_span(model, earliest, rows, routes, change, d as u32);
+        cost += least_of_global_span(model, earliest, rows, routes, change, d as u32);
     }
     cost
 }
 
 // The same in dimension `d`.
-fn least_of_span(
+fn least_of_global_span(
     model: &RoutingModel,
     earliest: &Earliest,
     rows: &[ListTimings],
@@ -57,7 +59,8 @@ fn least_of_span(
     change: &Change,
     d: u32,
 ) -> i64
-    requires earliest { earliest.now ≡ model.now }
+    requires of_model { earliest.now.model ≡ model.now }
+    requires earliest { StandsEarliest earliest.now routes.now.lists }
     requires before { AreRowsBefore model.now routes.now.lists rows.now change.now }
     requires dimension { d < length model.now.dimensions }
     ensures least { IsTrue (is_valid model.now (changed routes.now.lists change.now))
@@ -81,7 +84,8 @@ fn spread_after(
     change: &Change,
     d: u32,
 ) -> Spread
-    requires earliest { earliest.now ≡ model.now }
+    requires of_model { earliest.now.model ≡ model.now }
+    requires earliest { StandsEarliest earliest.now routes.now.lists }
     requires before { AreRowsBefore model.now routes.now.lists rows.now change.now }
     requires dimension { d < length model.now.dimensions }
     requires pays { Pays model.now d }
@@ -168,7 +172,8 @@ fn with_changed(
     k: usize,
     spread: Spread,
 ) -> Spread
-    requires earliest { earliest.now ≡ model.now }
+    requires of_model { earliest.now.model ≡ model.now }
+    requires earliest { StandsEarliest earliest.now routes.now.lists }
     requires before { AreRowsBefore model.now routes.now.lists _rows.now change.now }
     requires dimension { d < length model.now.dimensions }
     requires part { k < length change.now }

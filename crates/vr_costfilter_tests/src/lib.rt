@@ -3,6 +3,8 @@
 #![tactic(auto)]
 
 #[cfg(test)]
+mod least;
+#[cfg(test)]
 mod tests;
 #[cfg(test)]
 mod timed;

@@ -124,3 +124,7 @@ pub floor-at : (rows : List StopRow) (n : ℕ) (floors : List ℤ) → HaveFloor
 floor-at rows n floors h key low x e =
     let same : x ≡ number_at floors key = e ∙ get_or_default floors key x (pos 0) (let m = h.many in omega (arith, low, m)) in
     record { is = same ∙ h.each key low; range = subst (IsIn (pos 0) horizon) (sym same) (h.range key low) }
+
+-- floors are in their range
+pub floor-range : (rows : List StopRow) (n : ℕ) (floors : List ℤ) → HaveFloors rows n floors → (key : ℕ) → key < n → IsIn (pos 0) horizon (floor_of (row_of rows key))
+floor-range rows n floors h key low = subst (IsIn (pos 0) horizon) (h.each key low) (h.range key low)

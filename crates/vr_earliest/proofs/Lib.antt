@@ -1,4 +1,6 @@
 pub mod FloorLemmas
+pub mod PartLemmas
 pub mod WayLemmas
+pub mod KeptLemmas
 pub mod Earlier
 pub mod NoEarlier

@@ -14,8 +14,8 @@ use Rattle.vr_model.specs.declared.records.Model.{Model}
 use Rattle.vr_model.proofs.schedules.LineArcs.{arcs_of_line}
 use Rattle.vr_model.proofs.schedules.LinesSound.{found_is}
 use Rattle.vr_earliest.specs.declared.ways.Way.{Way}
-use Rattle.vr_earliest.specs.Floors.{floor_of, starts_freely}
-use Rattle.vr_earliest.specs.Ways.{along, setting_out, span_by, start_floor, to_node, to_visit, whole_way}
+use Rattle.vr_earliest.specs.Floors.{floor_of, starts_freely, start_floor}
+use Rattle.vr_earliest.specs.Ways.{along, setting_out, span_by, to_node, to_visit, whole_way}
 use Rattle.vr_earliest.specs.Laws.{ChosenIsNoEarlier, IsNoEarlier}
 use Rattle.vr_earliest.proofs.FloorLemmas.{floor-below, least-below}
 use Rattle.vr_earliest.proofs.Earlier.{not-least, start-before}

@@ -1,17 +1,24 @@
--- The numbers of ways.
-use Rattle.std.proofs.Common.{◌≡◌, ℕ, suc, ◌+◌, ◌<◌, ◌≤◌, Bool, true, false, cond, List, [], ◌∷◌, length, reverse, take, refl, subst, arith}
+-- Ways and what is left behind them, and their numbers.
+use Rattle.std.proofs.Common.{◌≡◌, ◌∙◌, ℕ, suc, ◌+◌, ◌<◌, ◌≤◌, Bool, true, false, cond, List, [], ◌∷◌, ◌++◌, length, reverse, take, drop, refl, ap, ap₂, sym, subst, arith}
 use Rattle.std.specs.Prelude.{ℤ, pos, ◌+ℤ◌, All}
+use Rattle.std.specs.Int.{int_max}
+use Rattle.std.proofs.lemmas.List.Sums.{fold-append}
 use Rattle.std.proofs.lemmas.Int.{ints, int_max_is}
-use Rattle.std.proofs.lemmas.List.{length-reverse, length-take-le}
-use Rattle.std.proofs.lemmas.List.Elements.{All-take}
+use Rattle.std.proofs.lemmas.List.{length-drop, length-reverse, length-take-le}
+use Rattle.std.proofs.lemmas.List.Elements.{All-drop, All-take}
 use Rattle.vr_model.specs.tables.Numbers.{horizon}
-use Rattle.vr_model.specs.tables.Tables.{dimension_at, row_of, transit}
+use Rattle.vr_model.specs.tables.Tables.{dimension_at, no_vehicle, row_of, transit, vehicle_at}
 use Rattle.vr_model.specs.tables.WellFormed.{IsIn, IsWellFormed}
 use Rattle.vr_model.specs.declared.records.Model.{Model}
 use Rattle.vr_model.proofs.tables.Bounds.{transit_in_range}
 use Rattle.vr_earliest.specs.declared.ways.Way.{Way}
-use Rattle.vr_earliest.specs.Floors.{floor_of, HaveFloors}
-use Rattle.vr_earliest.specs.Ways.{along, to_node, to_visit, IsWayOf}
+use Rattle.vr_earliest.specs.declared.floors.Floors.{Floors}
+use Rattle.vr_earliest.specs.declared.ways.Guide.{Guide}
+use Rattle.vr_earliest.specs.declared.ways.Rest.{Rest}
+use Rattle.vr_earliest.specs.Floors.{end_floor, floor_of, start_floor, visit_floor, AreFloors, HaveFloors}
+use Rattle.vr_earliest.proofs.FloorLemmas.{floor-range}
+use Rattle.vr_earliest.specs.Rests.{at_end, before, rest_of, to_end, IsRestOf}
+use Rattle.vr_earliest.specs.Ways.{along, setting_out, to_node, to_visit, way_along, whole_way, IsWayOf}
 
 pub way-more : (model : Model) (n m : ℕ) (way : Way) → n ≤ m → IsWayOf model n way → IsWayOf model m way
 way-more model n m way le h = record {
@@ -20,6 +27,15 @@ way-more model n m way le h = record {
   late = (let x = h.late in omega (arith, ints, x, le));
   low = (let x = h.low in omega (arith, ints, x, le));
   high = (let x = h.high in omega (arith, ints, x, le));
+}
+
+pub rest-more : (model : Model) (n m : ℕ) (rest : Rest) → n ≤ m → IsRestOf model n rest → IsRestOf model m rest
+rest-more model n m rest le h = record {
+  at = h.at;
+  low = (let x = h.low in omega (arith, ints, x, le));
+  high = (let x = h.high in omega (arith, ints, x, le));
+  early = h.early;
+  late = (let x = h.late in omega (arith, ints, x, le));
 }
 
 module _ (model : Model) (well : IsWellFormed model) (d v : ℕ) (dimension : d < length model.dimensions) (vehicle : v < length model.vehicles) where
@@ -46,7 +62,7 @@ module _ (model : Model) (well : IsWellFormed model) (d v : ℕ) (dimension : d 
   along-way floors have [] all n way h = way-more model n (n + 0) way (omega arith) h
   along-way floors have (x ∷ xs) all n way h =
       let low : x < model.nodes = all 0 0 (omega arith) in
-      let range = subst (IsIn (pos 0) horizon) (have.each x low) (have.range x low) in
+      let range = floor-range _ _ floors have x low in
       let next = node-way n way x (floor_of (row_of (dimension_at model d).nodes x)) h low range in
       let rest = along-way floors have xs (λ k d low. all (suc k) d (omega (arith, low))) (n + 1) (to_visit model d v way x) next in
       way-more model (n + 1 + length xs) (n + suc (length xs)) _ (omega arith) rest
@@ -56,6 +72,122 @@ module _ (model : Model) (well : IsWellFormed model) (d v : ℕ) (dimension : d 
   along-part floors have nodes all n way h k le =
       way-more model (n + length (take k nodes)) (n + k) _ (let l = length-take-le k nodes le in omega (arith, l)) (along-way floors have (take k nodes) (All-take (λ node. node < model.nodes) k nodes all) n way h)
 
+  pub start-way : IsIn (pos 0) horizon (start_floor model d v) → IsWayOf model 0 (setting_out model d v)
+  start-way range = record {
+    at = (well.each_vehicle v no_vehicle vehicle).start_in_range;
+    early = range.at_least;
+    late = (let g = range.at_most in omega (arith, ints, g));
+    low = omega (arith, ints);
+    high = omega (arith, ints);
+  }
+
+  -- what is left from the end on
+  pub end-rest : IsIn (pos 0) horizon (end_floor model d v) → IsRestOf model 0 (at_end model d v)
+  end-rest range = record {
+    at = (well.each_vehicle v no_vehicle vehicle).end_in_range;
+    low = omega (arith, ints);
+    high = omega (arith, ints);
+    early = range.at_least;
+    late = (let g = range.at_most in omega (arith, ints, g));
+  }
+
+  -- what is left of one arc more
+  pub rest-before : (n : ℕ) (rest : Rest) (node : ℕ) → IsRestOf model n rest → node < model.nodes → IsIn (pos 0) horizon (visit_floor model d node) → IsRestOf model (n + 1) (before model d v node rest)
+  rest-before n rest node h low range =
+      let t = transit_in_range model well d v dimension vehicle node rest.at low h.at in
+      let m = int_max_is (visit_floor model d node +ℤ (transit model d v node rest.at +ℤ rest.transits)) rest.floor in
+      let a = t.at_least in
+      let b = t.at_most in
+      let e = h.early in
+      let l = h.late in
+      let x = h.low in
+      let y = h.high in
+      let f = range.at_least in
+      let g = range.at_most in
+      record {
+        at = low;
+        low = omega (arith, ints, x, a);
+        high = omega (arith, ints, y, b);
+        early = omega (arith, ints, m, e);
+        late = omega (arith, ints, m, b, l, g, y);
+      }
+
+  -- a way through what is left
+  pub end-way : (n m : ℕ) (way : Way) (rest : Rest) → IsWayOf model n way → IsRestOf model m rest → IsWayOf model (n + 1 + m) (to_end model d v way rest)
+  end-way n m way rest h r =
+      let t = transit_in_range model well d v dimension vehicle way.at rest.at h.at r.at in
+      let x = int_max_is (way.time +ℤ (transit model d v way.at rest.at +ℤ rest.transits)) rest.floor in
+      let a = t.at_least in
+      let b = t.at_most in
+      record {
+        at = (well.each_vehicle v no_vehicle vehicle).end_in_range;
+        early = (let e = r.early in omega (arith, ints, x, e));
+        late = (let l = h.late in let y = r.high in let z = r.late in omega (arith, ints, x, b, l, y, z));
+        low = (let l = h.low in let y = r.low in omega (arith, ints, a, l, y));
+        high = (let l = h.high in let y = r.high in omega (arith, ints, b, l, y));
+      }
+
+  -- what is left from visits on
+  pub rest-range : (floors ends : List ℤ) → HaveFloors (dimension_at model d).nodes model.nodes floors → HaveFloors (dimension_at model d).ends (length model.vehicles) ends
+      → (nodes : List ℕ) → All (λ node. node < model.nodes) nodes → IsRestOf model (length nodes) (rest_of model d v nodes)
+  rest-range floors ends have last [] all = end-rest (floor-range _ _ ends last v vehicle)
+  rest-range floors ends have last (x ∷ xs) all =
+      let low : x < model.nodes = all 0 0 (omega arith) in
+      let range = floor-range _ _ floors have x low in
+      let rest = rest-range floors ends have last xs (λ k d low. all (suc k) d (omega (arith, low))) in
+      subst (λ n. IsRestOf model n (rest_of model d v (x ∷ xs))) (let e : length xs + 1 ≡ suc (length xs) = omega arith in e) (rest-before (length xs) (rest_of model d v xs) x rest low range)
+
+  module _ (floors : Floors) (have : AreFloors model d floors) (list : List ℕ) (few : length list ≤ 1000) (nodes : All (λ node. node < model.nodes) list) where
+    -- the way along the first visits of a list
+    pub way-front : (k : ℕ) → k ≤ length list → IsWayOf model 1000 (way_along model d v (take k list))
+    way-front k low =
+        way-more model (0 + k) 1000 (way_along model d v (take k list)) (omega (arith, few, low))
+        (along-part floors.visits.items have.visits list nodes 0 (setting_out model d v) (start-way (floor-range _ _ floors.starts.items have.starts v vehicle)) k low)
+
+    -- what is left behind a place of it
+    pub rest-behind : (k : ℕ) → IsRestOf model 1000 (rest_of model d v (drop k list))
+    rest-behind k =
+        rest-more model (length (drop k list)) 1000 (rest_of model d v (drop k list)) (let l = length-drop k list in omega (arith, few, l))
+        (rest-range floors.visits.items floors.ends.items have.visits have.ends (drop k list) (All-drop (λ node. node < model.nodes) k list nodes))
+
+module _ (model : Model) (d v : ℕ) where
+  -- through a visit and what is left behind it
+  through-visit : (way : Way) (x : ℕ) (rest : Rest) → to_end model d v way (before model d v x rest) ≡ to_end model d v (to_visit model d v way x) rest
+  through-visit way x rest =
+      let t = transit model d v way.at x in
+      let u = transit model d v x rest.at in
+      let a = int_max_is (way.time +ℤ (t +ℤ (u +ℤ rest.transits))) (int_max (visit_floor model d x +ℤ (u +ℤ rest.transits)) rest.floor) in
+      let b = int_max_is (visit_floor model d x +ℤ (u +ℤ rest.transits)) rest.floor in
+      let p = int_max_is (int_max (way.time +ℤ t) (visit_floor model d x) +ℤ (u +ℤ rest.transits)) rest.floor in
+      let q = int_max_is (way.time +ℤ t) (visit_floor model d x) in
+      let time : int_max (way.time +ℤ (t +ℤ (u +ℤ rest.transits))) (int_max (visit_floor model d x +ℤ (u +ℤ rest.transits)) rest.floor) ≡ int_max (int_max (way.time +ℤ t) (visit_floor model d x) +ℤ (u +ℤ rest.transits)) rest.floor = omega (arith, ints, a, b, p, q) in
+      let transits : way.transits +ℤ (t +ℤ (u +ℤ rest.transits)) ≡ (way.transits +ℤ t) +ℤ (u +ℤ rest.transits) = omega (arith, ints) in
+      ap₂ (λ (x y : ℤ). (let w : Way = record { at = (vehicle_at model v).end; time = x; transits = y } in w)) time transits
+
+  through-end : (way : Way) → to_end model d v way (at_end model d v) ≡ to_node model d v way (vehicle_at model v).end (end_floor model d v)
+  through-end way =
+      let t = transit model d v way.at (vehicle_at model v).end in
+      let left : t +ℤ pos 0 ≡ t = omega (arith, ints) in
+      ap (λ (x : ℤ). (let w : Way = record { at = (vehicle_at model v).end; time = int_max (way.time +ℤ x) (end_floor model d v); transits = way.transits +ℤ x } in w)) left
+
+  -- what is left from visits on is the way along them to the end
+  pub through-rest : (nodes : List ℕ) (way : Way) → to_end model d v way (rest_of model d v nodes) ≡ to_node model d v (along model d v way nodes) (vehicle_at model v).end (end_floor model d v)
+  through-rest [] way = through-end way
+  through-rest (x ∷ xs) way = through-visit way x (rest_of model d v xs) ∙ through-rest xs (to_visit model d v way x)
+
+  -- the whole way is a way along the front of a list, on along others, and through what is left
+  pub whole-way : (front middle behind list : List ℕ) → list ≡ front ++ (middle ++ behind)
+      → to_end model d v (along model d v (way_along model d v front) middle) (rest_of model d v behind) ≡ whole_way model d v list
+  whole-way front middle behind list is =
+      through-rest behind (along model d v (way_along model d v front) middle)
+      ∙ sym (ap (whole_way model d v) is
+      ∙ ap (λ w. to_node model d v w (vehicle_at model v).end (end_floor model d v))
+      (fold-append (to_visit model d v) (setting_out model d v) front (middle ++ behind) ∙ fold-append (to_visit model d v) (way_along model d v front) middle behind))
+
 pub ordered-long : (back : Bool) (xs : List ℕ) → length (cond back (reverse xs) xs) ≡ length xs
 ordered-long false xs = refl
 ordered-long true xs = length-reverse xs
+
+-- what a guide tells is of its model, its dimension and its vehicle
+pub guided : {A : Type 0} (f : Model → ℕ → ℕ → A) (guide : Guide) (model : Model) (d v : ℕ) → guide.model.now ≡ model → guide.d ≡ d → guide.v ≡ v → f guide.model.now guide.d guide.v ≡ f model d v
+guided f guide model d v m n w = ap (λ x. f x guide.d guide.v) m ∙ (ap (λ x. f model x guide.v) n ∙ ap (f model d) w)

@@ -26,14 +26,26 @@ abbrev pub floor_of : Option StopRow → ℤ
 floor_of None = pos 0
 floor_of (Some row) = int_min horizon (fold behind (opening row.window) row.forbidden)
 
--- no number is forbidden between others
+-- the row of a stop has no forbidden interval
 abbrev pub forbids_none : Option StopRow → Bool
 forbids_none None = true
 forbids_none (Some row) = is_empty row.forbidden
 
--- vehicle v has no breaks, and its start forbids no number between others
+-- vehicle v has no breaks, and its start has no forbidden interval
 abbrev pub starts_freely : Dimension → ℕ → Bool
 starts_freely dimension v = is_empty (breaks_of dimension v) && forbids_none (row_of dimension.starts v)
+
+-- the floor of a visit
+abbrev pub visit_floor : Model → ℕ → ℕ → ℤ
+visit_floor model d node = floor_of (row_of (dimension_at model d).nodes node)
+
+-- the floor of the start of vehicle v
+abbrev pub start_floor : Model → ℕ → ℕ → ℤ
+start_floor model d v = floor_of (row_of (dimension_at model d).starts v)
+
+-- the floor of its end
+abbrev pub end_floor : Model → ℕ → ℕ → ℤ
+end_floor model d v = floor_of (row_of (dimension_at model d).ends v)
 
 -- for each key below n the floor of the row with it
 pub record HaveFloors (rows : List StopRow) (n : ℕ) (floors : List ℤ) : Type 0 where
@@ -53,8 +65,12 @@ pub record AreFloors (model : Model) (d : ℕ) (floors : Floors) : Type 0 where
   pub ends : HaveFloors (dimension_at model d).ends (length model.vehicles) floors.ends.items
   pub free : AreFree (dimension_at model d) (length model.vehicles) floors.free.items
 
+-- the same of each dimension
+pub record AreAllFloors (model : Model) (floors : List Floors) : Type 0 where
+  pub many : length floors ≡ length model.dimensions
+  pub each : (d : ℕ) (other : Floors) → d < length floors → AreFloors model d (slice_index_or floors d other)
+
 -- the model is well formed, and the floors are those of its dimensions
 pub record AreOfModel (model : Model) (floors : List Floors) : Type 0 where
   pub well_formed : IsWellFormed model
-  pub many : length floors ≡ length model.dimensions
-  pub each : (d : ℕ) (other : Floors) → d < length floors → AreFloors model d (slice_index_or floors d other)
+  pub floors_are : AreAllFloors model floors

@@ -1,3 +1,6 @@
 pub mod Floors
+pub mod Guides
 pub mod Ways
+pub mod Rests
+pub mod Kept
 pub mod Laws

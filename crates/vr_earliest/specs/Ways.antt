@@ -2,9 +2,9 @@
 use Rattle.std.specs.Prelude.{ℕ, List, ◌<◌, ◌*◌, ◌+◌, fold, cond, ℤ, pos, neg_ℤ, ◌+ℤ◌, ◌-ℤ◌, ◌≤ℤ◌}
 use Rattle.std.specs.Int.{int_max, int_min}
 use Rattle.vr_model.specs.tables.Numbers.{horizon}
-use Rattle.vr_model.specs.tables.Tables.{dimension_at, row_of, transit, vehicle_at}
+use Rattle.vr_model.specs.tables.Tables.{dimension_at, transit, vehicle_at}
 use Rattle.vr_model.specs.declared.records.Model.{Model}
-use Rattle.vr_earliest.specs.Floors.{floor_of, starts_freely}
+use Rattle.vr_earliest.specs.Floors.{end_floor, starts_freely, start_floor, visit_floor}
 use Rattle.vr_earliest.specs.declared.ways.Way.{Way}
 
 -- a way goes on to a node, where no cumul lies below a floor
@@ -17,43 +17,43 @@ to_node model d v way node floor = record {
 
 -- it goes on to a visit
 abbrev pub to_visit : Model → ℕ → ℕ → Way → ℕ → Way
-to_visit model d v way node = to_node model d v way node (floor_of (row_of (dimension_at model d).nodes node))
+to_visit model d v way node = to_node model d v way node (visit_floor model d node)
 
 -- it goes on to visits in order
 abbrev pub along : Model → ℕ → ℕ → Way → List ℕ → Way
 along model d v way nodes = fold (to_visit model d v) way nodes
-
--- the floor of the start of vehicle v
-abbrev pub start_floor : Model → ℕ → ℕ → ℤ
-start_floor model d v = floor_of (row_of (dimension_at model d).starts v)
 
 -- vehicle v stands at its start
 abbrev pub setting_out : Model → ℕ → ℕ → Way
 setting_out model d v =
     record { at = (vehicle_at model v).start; time = start_floor model d v; transits = pos 0 }
 
+-- it has gone along visits from there
+abbrev pub way_along : Model → ℕ → ℕ → List ℕ → Way
+way_along model d v list = along model d v (setting_out model d v) list
+
 -- it has gone along a list to its end
 abbrev pub whole_way : Model → ℕ → ℕ → List ℕ → Way
-whole_way model d v list = to_node model d v (along model d v (setting_out model d v) list) (vehicle_at model v).end
-    (floor_of (row_of (dimension_at model d).ends v))
+whole_way model d v list = to_node model d v (way_along model d v list) (vehicle_at model v).end (end_floor model d v)
 
--- no schedule ends earlier
+-- the time of the whole way, at most the horizon
 abbrev pub earliest_end : Model → ℕ → ℕ → List ℕ → ℤ
 earliest_end model d v list = int_min horizon (whole_way model d v list).time
 
--- what the span is at least by a whole way: its transits, and where the vehicle starts freely the time from the floor
--- of the start, or the transits behind the greatest slack where that is less
+-- what a whole way tells of the span: where the vehicle starts freely the time since the floor of its start, or the
+-- greatest slack and the transits where that is less, and else the transits
 abbrev pub span_by : Model → ℕ → ℕ → Way → ℤ
 span_by model d v way = cond (starts_freely (dimension_at model d) v)
     (int_min (way.time -ℤ start_floor model d v) ((dimension_at model d).slack_max +ℤ way.transits))
     way.transits
 
--- the chosen schedule has no lesser span
+-- the same within the horizon
 abbrev pub least_span : Model → ℕ → ℕ → List ℕ → ℤ
 least_span model d v list =
     int_max (neg_ℤ horizon) (int_min horizon (span_by model d v (whole_way model d v list)))
 
--- the numbers of a way of n arcs
+-- the numbers of a way of n arcs: a node of the model, a time of at most the horizon and the greatest transits, and
+-- transits within theirs
 pub record IsWayOf (model : Model) (n : ℕ) (way : Way) : Type 0 where
   pub at : way.at < model.nodes
   pub early : pos 0 ≤ℤ way.time

@@ -1,21 +1,27 @@
 //! How early vehicles can end lists, in all dimensions of a model.
 
-ghost use Rattle.std.specs.Prelude.{◌≡◌, ◌<◌, ◌≤◌, pos, neg_ℤ, All, IfOk, length};
+ghost use Rattle.std.specs.Prelude.{◌≡◌, ◌<◌, ◌≤◌, ℕ, List, pos, neg_ℤ, All, IfOk, IsTrue, length};
+ghost use Rattle.vr_model.specs.moves.Moves.{with_route};
+ghost use Rattle.vr_model.specs.routes.Routes.{route};
+ghost use Rattle.vr_model.specs.routes.Rules.{is_valid};
 ghost use Rattle.vr_model.specs.tables.Numbers.{horizon};
-ghost use Rattle.vr_model.specs.tables.Tables.{dimension_at, vehicle_at};
 ghost use Rattle.vr_model.specs.tables.WellFormed.{IsIn, IsWellFormed};
-ghost use Rattle.vr_routes.specs.Pieces.{joined, IsWithin};
-ghost use Rattle.vr_earliest.specs.Floors.{AreFloors};
-ghost use Rattle.vr_earliest.specs.Ways.{earliest_end, least_span, setting_out, span_by as span_by_way, whole_way};
-ghost use Rattle.vr_earliest.specs.Ways.{IsWayOf};
+ghost use Rattle.vr_routes.specs.Changes.{IsMadeOn};
+ghost use Rattle.vr_routes.specs.Pieces.{changed, joined, IsWithin};
+ghost use Rattle.vr_earliest.specs.Floors.{AreAllFloors};
+ghost use Rattle.vr_earliest.specs.Guides.{IsGuide};
+ghost use Rattle.vr_earliest.specs.Kept.{AreAllKept, AreKept, StandsEarliest};
+ghost use Rattle.vr_earliest.specs.Ways.{earliest_end, least_span, whole_way, IsWayOf};
 
 use crate::floors::Floors;
-use crate::ways::{Way, along_pieces, to_node};
+use crate::kept::KeptLists;
+use crate::ways::{Guide, Way};
 use std::alloc::Global;
 use std::marker::Model;
+use vr_balance::strip;
 use vr_model::limits::HORIZON;
 use vr_model::{Model as RoutingModel, NoMemory};
-use vr_routes::{Piece, Routes};
+use vr_routes::{Change, Piece, Routes, Row};
 
 /// What the chosen schedule of a list comes to at least.
 #[derive(Clone, Copy)]
@@ -26,106 +32,166 @@ pub struct Early {
     pub span: i64,
 }
 
-/// What is looked up of a model once to tell how early vehicles can end lists. Contracts see the model.
+/// How early vehicles can end lists. It has committed lists, and in the dimensions where anything is paid for spans a
+/// change of long lists takes no longer than one of short lists. Contracts see the model, and what is kept of the
+/// committed lists.
 #[derive(Drop)]
 pub struct Earliest<'m> {
     model: &'m RoutingModel,
     // of each dimension
     floors: Vec<Floors>,
+    // of each dimension
+    kept: Vec<KeptLists>,
+    // room for a list that a change makes
+    row: Row,
 }
 
 impl<'m> Model for Earliest<'m> {
-    ghost use Rattle.vr_model.specs.declared.records.Model.{Model as Defined};
     ghost use Rattle.vr_earliest.specs.Floors.{AreOfModel};
+    ghost use Rattle.vr_earliest.specs.Kept.{KeptEarly};
 
-    ghost Value = { Defined };
+    ghost Value = { KeptEarly };
 
-    ghost view = { λ earliest. earliest.model.now };
+    ghost view = { λ earliest. record { model = earliest.model.now; kept = earliest.kept.items } };
 
     ghost invariant = { λ earliest. AreOfModel earliest.model.now earliest.floors.items };
 }
 
 impl<'m> Earliest<'m> {
-    /// What is looked up of a model. The only refusal is want of memory.
-    pub fn open(alloc: Global, model: &'m RoutingModel) -> Result<Earliest<'m>, NoMemory>
-        requires { IsWellFormed model.now }
-        ensures { IfOk result (λ earliest. earliest ≡ model.now) }
+    /// That of the lists of routes. The only refusal is want of memory.
+    pub fn open(
+        alloc: Global,
+        model: &'m RoutingModel,
+        routes: &Routes,
+    ) -> Result<Earliest<'m>, NoMemory>
+        requires well_formed { IsWellFormed model.now }
+        requires valid { IsTrue (is_valid model.now routes.now.lists) }
+        ensures model { IfOk result (λ earliest. earliest.model ≡ model.now) }
+        ensures stands { IfOk result (λ earliest. StandsEarliest earliest routes.now.lists) }
     {
-        let mut floors = Vec::with_capacity(alloc, model.dimensions.len())?;
-        for d in 0..model.dimensions.len() {
-            floors.push(Floors::of(alloc, model, d as u32)?)?;
-        }
-        Ok(Earliest { model, floors })
+        let floors = floors_of(alloc, model)?;
+        let kept = kept_of(alloc, model, &floors, routes)?;
+        Ok(Earliest {
+            model,
+            floors,
+            kept,
+            row: Row::new(),
+        })
     }
 
     /// What the chosen schedule of the list that pieces are joined to comes to at least, for vehicle `v` in dimension
-    /// `d`: a walk along the list, which builds nothing.
+    /// `d`. No schedule is built.
     pub fn after(&self, d: u32, v: u32, routes: &Routes, pieces: &[Piece]) -> Early
-        requires dimension { d < length self.now.dimensions }
-        requires vehicle { v < length self.now.vehicles }
+        requires stands { StandsEarliest self.now routes.now.lists }
+        requires dimension { d < length self.now.model.dimensions }
+        requires vehicle { v < length self.now.model.vehicles }
         requires within { All (IsWithin routes.now.lists) pieces.now }
         requires few { length pieces.now ≤ 8 }
-        requires nodes { All (λ node. node < self.now.nodes) (joined routes.now.lists pieces.now) }
-        ensures last { result.last ≡ earliest_end self.now d v (joined routes.now.lists pieces.now) }
-        ensures span { result.span ≡ least_span self.now d v (joined routes.now.lists pieces.now) }
+        requires nodes { All (λ node. node < self.now.model.nodes) (joined routes.now.lists pieces.now) }
+        ensures last { result.last ≡ earliest_end self.now.model d v (joined routes.now.lists pieces.now) }
+        ensures span { result.span ≡ least_span self.now.model d v (joined routes.now.lists pieces.now) }
         ensures last_range { IsIn (pos 0) horizon result.last }
         ensures span_range { IsIn (neg_ℤ horizon) horizon result.span }
     {
-        let floors = &self.floors[d as usize];
-        let way = way_after(self.model, floors, d, v, routes, pieces);
-        let span = span_by(self.model, floors, d, v, way);
+        let guide = Guide::of(self.model, &self.floors[d as usize], d, v);
+        let way = way_after(&guide, &self.kept[d as usize], routes, pieces);
+        let span = guide.span_by(way);
         Early {
             last: way.time.min(HORIZON),
             span: span.min(HORIZON).max(-HORIZON),
         }
     }
+
+    /// Commits the lists after a change, where they are valid. It is called before the routes are changed, and takes no
+    /// memory.
+    pub fn commit(&mut self, routes: &Routes, change: &Change)
+        requires stands { StandsEarliest self.old routes.now.lists }
+        requires made { IsMadeOn routes.now change.now }
+        requires valid { IsTrue (is_valid self.old.model (changed routes.now.lists change.now)) }
+        ensures stands { StandsEarliest self.new (changed routes.now.lists change.now) }
+        ensures model { self.new.model ≡ self.old.model }
+    {
+        for k in 0..change.parts() {
+            routes.join_into(change.pieces(k), &mut self.row);
+            write_list(
+                self.model,
+                &self.floors,
+                &mut self.kept,
+                change.vehicle(k),
+                self.row.as_slice(),
+            );
+        }
+    }
 }
 
-// The whole way of vehicle `v` along the list that pieces are joined to.
-fn way_after(
+// The floors of each dimension.
+fn floors_of(alloc: Global, model: &RoutingModel) -> Result<Vec<Floors>, NoMemory>
+    requires { IsWellFormed model.now }
+    ensures { IfOk result (λ floors. AreAllFloors model.now floors.items) }
+{
+    let mut floors = Vec::with_capacity(alloc, model.dimensions.len())?;
+    for d in 0..model.dimensions.len() {
+        floors.push(Floors::of(alloc, model, d as u32)?)?;
+    }
+    Ok(floors)
+}
+
+// What is kept of the lists of routes in each dimension.
+fn kept_of(
+    alloc: Global,
     model: &RoutingModel,
-    floors: &Floors,
-    d: u32,
-    v: u32,
+    floors: &[Floors],
     routes: &Routes,
-    pieces: &[Piece],
-) -> Way
+) -> Result<Vec<KeptLists>, NoMemory>
     requires well_formed { IsWellFormed model.now }
-    requires floors { AreFloors model.now d floors.now }
-    requires dimension { d < length model.now.dimensions }
+    requires valid { IsTrue (is_valid model.now routes.now.lists) }
+    requires floors { AreAllFloors model.now floors.now }
+    ensures { IfOk result (λ kept. AreAllKept model.now routes.now.lists kept.items) }
+{
+    let mut kept = Vec::with_capacity(alloc, floors.len())?;
+    for d in 0..floors.len() {
+        kept.push(KeptLists::of(alloc, model, &floors[d], d as u32, routes)?)?;
+    }
+    Ok(kept)
+}
+
+// Vehicle `v` gets another list, in all dimensions.
+fn write_list(model: &RoutingModel, floors: &[Floors], kept: &mut [KeptLists], v: u32, list: &[u32])
+    requires well_formed { IsWellFormed model.now }
+    requires floors { AreAllFloors model.now floors.now }
+    requires many { length kept.old ≡ length model.now.dimensions }
     requires vehicle { v < length model.now.vehicles }
+    requires few { length list.now ≤ 1000 }
+    requires nodes { All (λ node. node < model.now.nodes) list.now }
+    ensures { (lists : List (List ℕ)) → AreAllKept model.now lists kept.old → v < length lists
+        → AreAllKept model.now (with_route lists v list.now) kept.new }
+{
+    for d in 0..kept.len() {
+        kept[d].write(model, &floors[d], d as u32, v, list);
+    }
+}
+
+// The whole way of the vehicle along the list that pieces are joined to. What is kept of its list is not walked.
+#[inline]
+fn way_after(guide: &Guide, kept: &KeptLists, routes: &Routes, pieces: &[Piece]) -> Way
+    requires guide { IsGuide guide.now }
+    requires vehicle { guide.now.v < length routes.now.lists }
+    requires kept { AreKept guide.now.model.now guide.now.d routes.now.lists kept.now }
+    requires nodes_before { All (λ node. node < guide.now.model.now.nodes) (route routes.now.lists guide.now.v) }
     requires within { All (IsWithin routes.now.lists) pieces.now }
     requires few { length pieces.now ≤ 8 }
-    requires nodes { All (λ node. node < model.now.nodes) (joined routes.now.lists pieces.now) }
-    ensures value { result ≡ whole_way model.now d v (joined routes.now.lists pieces.now) }
-    ensures range { IsWayOf model.now 8001 result }
+    requires nodes { All (λ node. node < guide.now.model.now.nodes) (joined routes.now.lists pieces.now) }
+    ensures value { result
+        ≡ whole_way guide.now.model.now guide.now.d guide.now.v (joined routes.now.lists pieces.now) }
+    ensures range { IsWayOf guide.now.model.now 10001 result }
 {
-    let vehicle = model.vehicles.get(v as usize);
-    let evaluator = model.dimensions.get(d as usize).evaluator_of(v);
-    let start = Way {
-        at: vehicle.start,
-        time: floors.starts[v as usize],
-        transits: 0,
-    };
-    let visits = &floors.visits;
-    let way = along_pieces(model, d, v, evaluator, visits, routes, pieces, start);
-    let floor = floors.ends[v as usize];
-    to_node(model, d, v, evaluator, way, vehicle.end, floor)
-}
-
-// What the span is at least by a whole way.
-#[inline]
-fn span_by(model: &RoutingModel, floors: &Floors, d: u32, v: u32, way: Way) -> i64
-    requires well_formed { IsWellFormed model.now }
-    requires floors { AreFloors model.now d floors.now }
-    requires dimension { d < length model.now.dimensions }
-    requires vehicle { v < length model.now.vehicles }
-    requires way { IsWayOf model.now 8001 way }
-    ensures { result ≡ span_by_way model.now d v way }
-{
-    if !floors.free[v as usize] {
-        return way.transits;
+    let v = guide.v;
+    if (v as usize) < kept.lists.len() {
+        let list = &kept.lists[v as usize];
+        let ends = strip(routes, v, pieces);
+        let way = guide.along_pieces(routes, ends.middle, list.way(ends.front));
+        return guide.to_end(way, list.rest(ends.behind));
     }
-    let slack = model.dimensions.get(d as usize).slack_max;
-    (way.time - floors.starts[v as usize]).min(slack + way.transits)
+    let way = guide.along_pieces(routes, pieces, guide.setting_out());
+    guide.to_end(way, guide.at_end())
 }

@@ -13,8 +13,8 @@ use std::alloc::Global;
 use vr_model::limits::HORIZON;
 use vr_model::{Dimension, Interval, Model, NoMemory, Seq, StopRow};
 
-/// The floors of the visits, the starts and the ends of a dimension, each below the numbers that a stop allows, and
-/// which vehicles start freely.
+/// The floors of the visits, the starts and the ends of a dimension, below which a stop allows no cumul, and which
+/// vehicles start freely.
 #[derive(Drop)]
 pub struct Floors {
     /// By node.
@@ -23,7 +23,7 @@ pub struct Floors {
     pub starts: Vec<i64>,
     /// By vehicle.
     pub ends: Vec<i64>,
-    /// Of each vehicle, whether it has no breaks and its start forbids no number between others.
+    /// Of each vehicle, whether it has no breaks and its start has no forbidden interval.
     pub free: Vec<bool>,
 }
 
@@ -68,7 +68,7 @@ fn free_of(alloc: Global, dimension: &Dimension, n: u32) -> Result<Vec<bool>, No
     Ok(free)
 }
 
-// Whether a vehicle has no breaks, and its start forbids no number between others.
+// Whether a vehicle has no breaks, and its start has no forbidden interval.
 fn starts_freely(dimension: &Dimension, v: u32) -> bool
     ensures { result ≡ starts_freely_in dimension.now v }
 {
@@ -76,7 +76,7 @@ fn starts_freely(dimension: &Dimension, v: u32) -> bool
     dimension.breaks_of(v).is_empty() && forbids_none
 }
 
-// Whether a row forbids no number between others.
+// Whether the row of a stop has no forbidden interval.
 fn forbids_none(row: Option<&StopRow>) -> bool
     ensures { result ≡ row_forbids_none (option_copied row.entry) }
 {

@@ -2,127 +2,245 @@
 
 ghost use Rattle.std.specs.Prelude.{◌≡◌, ◌<◌, ◌≤◌, All, cond, length, reverse, slice_index_or};
 ghost use Rattle.std.specs.Prelude.{pos, neg_ℤ, ◌≤ℤ◌, ◌^◌};
-ghost use Rattle.vr_model.specs.tables.Tables.{dimension_at, evaluator_of, transit};
+ghost use Rattle.vr_model.specs.tables.Tables.{transit as transit_of};
 ghost use Rattle.vr_model.specs.tables.Numbers.{horizon};
 ghost use Rattle.vr_model.specs.tables.WellFormed.{IsIn, IsWellFormed};
 ghost use Rattle.vr_routes.specs.Pieces.{joined, nodes_of, IsWithin};
-ghost use Rattle.vr_earliest.specs.Floors.{HaveFloors};
-ghost use Rattle.vr_earliest.specs.Ways.{along as along_visits, to_node as to_node_on, to_visit, IsWayOf};
+ghost use Rattle.vr_earliest.specs.Floors.{AreFloors};
+ghost use Rattle.vr_earliest.specs.Guides.{IsGuide};
+ghost use Rattle.vr_earliest.specs.Rests.{at_end as at_end_of, before as before_rest, to_end as to_end_on, IsRestOf};
+ghost use Rattle.vr_earliest.specs.Ways.{along, setting_out as setting_out_of, span_by as span_by_way};
+ghost use Rattle.vr_earliest.specs.Ways.{to_node as to_node_on, to_visit as to_visit_on, IsWayOf};
 
+use crate::floors::Floors;
 use vr_model::{Evaluator, Model};
 use vr_routes::{Piece, Routes};
 
-/// How far a vehicle is on its way: at which node, the earliest cumul there, and the transits of its arcs so far, added
-/// up.
-#[derive(Clone, Copy)]
+/// How far a vehicle is on its way: the node of the stop where it is, the earliest time there as far as floors and
+/// transits tell it, and the transits of the arcs so far, added up.
+#[derive(Clone, Copy, Default)]
 pub struct Way {
     pub at: u32,
     pub time: i64,
     pub transits: i64,
 }
 
-/// A way goes on along the nodes of pieces.
-pub fn along_pieces(
-    model: &Model,
-    d: u32,
-    v: u32,
-    evaluator: &Evaluator,
-    floors: &[i64],
-    routes: &Routes,
-    pieces: &[Piece],
-    way: Way,
-) -> Way
-    requires well_formed { IsWellFormed model.now }
-    requires dimension { d < length model.now.dimensions }
-    requires vehicle { v < length model.now.vehicles }
-    requires evaluator { evaluator.now ≡ evaluator_of (dimension_at model.now d) v }
-    requires floors { HaveFloors (dimension_at model.now d).nodes model.now.nodes floors.now }
-    requires within { All (IsWithin routes.now.lists) pieces.now }
-    requires few { length pieces.now ≤ 8 }
-    requires nodes { All (λ node. node < model.now.nodes) (joined routes.now.lists pieces.now) }
-    requires way { IsWayOf model.now 0 way }
-    ensures value { result ≡ along_visits model.now d v way (joined routes.now.lists pieces.now) }
-    ensures range { IsWayOf model.now 8000 result }
-{
-    let mut gone = way;
-    for k in 0..pieces.len() {
-        gone = along_piece(model, d, v, evaluator, floors, routes, pieces[k], gone);
-    }
-    gone
+/// What is left of a line from a stop on: its node, the transits of the arcs behind it, added up, and the time before
+/// which the line does not end, however early the vehicle comes to the stop.
+#[derive(Clone, Copy, Default)]
+pub struct Rest {
+    pub at: u32,
+    pub transits: i64,
+    pub floor: i64,
 }
 
-// It goes on along the nodes of a piece.
-#[inline]
-fn along_piece(
-    model: &Model,
-    d: u32,
-    v: u32,
-    evaluator: &Evaluator,
-    floors: &[i64],
-    routes: &Routes,
-    piece: Piece,
-    way: Way,
-) -> Way
-    requires well_formed { IsWellFormed model.now }
-    requires dimension { d < length model.now.dimensions }
-    requires vehicle { v < length model.now.vehicles }
-    requires evaluator { evaluator.now ≡ evaluator_of (dimension_at model.now d) v }
-    requires floors { HaveFloors (dimension_at model.now d).nodes model.now.nodes floors.now }
-    requires within { IsWithin routes.now.lists piece }
-    requires nodes { All (λ node. node < model.now.nodes) (nodes_of routes.now.lists piece) }
-    requires way { IsWayOf model.now 8000 way }
-    ensures value { result ≡ along_visits model.now d v way (nodes_of routes.now.lists piece) }
-    ensures few { length (nodes_of routes.now.lists piece) ≤ 1000 }
-{
-    match piece {
-        Piece::Node { node } => to_visit(model, d, v, evaluator, floors, way, node),
-        Piece::Chain {
-            vehicle,
-            from,
-            to,
-            reversed,
-        } => {
-            let list = routes.list(vehicle);
-            let chain = &list[from as usize..to as usize];
-            along_chain(model, d, v, evaluator, floors, chain, reversed, way)
-        }
-    }
+/// What is looked up of vehicle `v` in dimension `d` once for many arcs.
+#[derive(Drop)]
+pub struct Guide<'m> {
+    pub model: &'m Model,
+    pub floors: &'m Floors,
+    pub d: u32,
+    pub v: u32,
+    pub evaluator: &'m Evaluator,
 }
 
-// It goes on along a chain, or along the chain backwards.
-fn along_chain(
-    model: &Model,
-    d: u32,
-    v: u32,
-    evaluator: &Evaluator,
-    floors: &[i64],
-    chain: &[u32],
-    reversed: bool,
-    way: Way,
-) -> Way
-    requires well_formed { IsWellFormed model.now }
-    requires dimension { d < length model.now.dimensions }
-    requires vehicle { v < length model.now.vehicles }
-    requires evaluator { evaluator.now ≡ evaluator_of (dimension_at model.now d) v }
-    requires floors { HaveFloors (dimension_at model.now d).nodes model.now.nodes floors.now }
-    requires few { length chain.now ≤ 1000 }
-    requires nodes { All (λ node. node < model.now.nodes) (cond reversed (reverse chain.now) chain.now) }
-    requires way { IsWayOf model.now 8000 way }
-    ensures { result ≡ along_visits model.now d v way (cond reversed (reverse chain.now) chain.now) }
-{
-    let mut gone = way;
-    for k in 0..chain.len() {
-        gone = to_visit(
+impl<'m> Guide<'m> {
+    /// What is looked up once.
+    #[inline]
+    pub fn of(model: &'m Model, floors: &'m Floors, d: u32, v: u32) -> Guide<'m>
+        requires well_formed { IsWellFormed model.now }
+        requires dimension { d < length model.now.dimensions }
+        requires vehicle { v < length model.now.vehicles }
+        requires floors { AreFloors model.now d floors.now }
+        ensures guide { IsGuide result }
+        ensures model { result.model.now ≡ model.now }
+        ensures dimension { result.d ≡ d }
+        ensures vehicle { result.v ≡ v }
+    {
+        Guide {
             model,
+            floors,
             d,
             v,
-            evaluator,
-            floors,
-            gone,
-            node_in(chain, reversed, k),
-        );
+            evaluator: model.dimensions.get(d as usize).evaluator_of(v),
+        }
     }
-    gone
+
+    /// The vehicle stands at its start.
+    #[inline]
+    pub fn setting_out(&self) -> Way
+        requires guide { IsGuide self.now }
+        ensures value { result ≡ setting_out_of self.now.model.now self.now.d self.now.v }
+        ensures range { IsWayOf self.now.model.now 0 result }
+    {
+        Way {
+            at: self.model.vehicles.get(self.v as usize).start,
+            time: self.floors.starts[self.v as usize],
+            transits: 0,
+        }
+    }
+
+    /// What is left from the end on.
+    #[inline]
+    pub fn at_end(&self) -> Rest
+        requires guide { IsGuide self.now }
+        ensures value { result ≡ at_end_of self.now.model.now self.now.d self.now.v }
+        ensures range { IsRestOf self.now.model.now 0 result }
+    {
+        Rest {
+            at: self.model.vehicles.get(self.v as usize).end,
+            transits: 0,
+            floor: self.floors.ends[self.v as usize],
+        }
+    }
+
+    /// A way goes on along the nodes of pieces.
+    pub fn along_pieces(&self, routes: &Routes, pieces: &[Piece], way: Way) -> Way
+        requires guide { IsGuide self.now }
+        requires within { All (IsWithin routes.now.lists) pieces.now }
+        requires few { length pieces.now ≤ 8 }
+        requires nodes { All (λ node. node < self.now.model.now.nodes) (joined routes.now.lists pieces.now) }
+        requires way { IsWayOf self.now.model.now 1000 way }
+        ensures value { result
+            ≡ along self.now.model.now self.now.d self.now.v way (joined routes.now.lists pieces.now) }
+        ensures range { IsWayOf self.now.model.now 9000 result }
+    {
+        let mut gone = way;
+        for k in 0..pieces.len() {
+            gone = self.along_piece(routes, pieces[k], gone);
+        }
+        gone
+    }
+
+    // It goes on along the nodes of a piece.
+    #[inline]
+    fn along_piece(&self, routes: &Routes, piece: Piece, way: Way) -> Way
+        requires guide { IsGuide self.now }
+        requires within { IsWithin routes.now.lists piece }
+        requires nodes { All (λ node. node < self.now.model.now.nodes) (nodes_of routes.now.lists piece) }
+        requires way { IsWayOf self.now.model.now 9000 way }
+        ensures value { result
+            ≡ along self.now.model.now self.now.d self.now.v way (nodes_of routes.now.lists piece) }
+        ensures few { length (nodes_of routes.now.lists piece) ≤ 1000 }
+    {
+        match piece {
+            Piece::Node { node } => self.to_visit(way, node),
+            Piece::Chain {
+                vehicle,
+                from,
+                to,
+                reversed,
+            } => {
+                let list = routes.list(vehicle);
+                self.along_chain(&list[from as usize..to as usize], reversed, way)
+            }
+        }
+    }
+
+    // It goes on along a chain, or along the chain backwards.
+    fn along_chain(&self, chain: &[u32], reversed: bool, way: Way) -> Way
+        requires guide { IsGuide self.now }
+        requires few { length chain.now ≤ 1000 }
+        requires nodes { All (λ node. node < self.now.model.now.nodes) (cond reversed (reverse chain.now) chain.now) }
+        requires way { IsWayOf self.now.model.now 9000 way }
+        ensures { result
+            ≡ along self.now.model.now self.now.d self.now.v way (cond reversed (reverse chain.now) chain.now) }
+    {
+        let mut gone = way;
+        for k in 0..chain.len() {
+            gone = self.to_visit(gone, node_in(chain, reversed, k));
+        }
+        gone
+    }
+
+    /// It goes on to a visit.
+    #[inline]
+    pub fn to_visit(&self, way: Way, node: u32) -> Way
+        requires guide { IsGuide self.now }
+        requires way { IsWayOf self.now.model.now 10000 way }
+        requires node { node < self.now.model.now.nodes }
+        ensures { result ≡ to_visit_on self.now.model.now self.now.d self.now.v way node }
+    {
+        self.to_node(way, node, self.floors.visits[node as usize])
+    }
+
+    // It goes on to a node, where no time lies below a floor.
+    #[inline]
+    fn to_node(&self, way: Way, node: u32, floor: i64) -> Way
+        requires guide { IsGuide self.now }
+        requires way { IsWayOf self.now.model.now 10000 way }
+        requires node { node < self.now.model.now.nodes }
+        requires floor { IsIn (pos 0) horizon floor }
+        ensures { result ≡ to_node_on self.now.model.now self.now.d self.now.v way node floor }
+    {
+        let transit = self.transit(way.at, node);
+        Way {
+            at: node,
+            time: (way.time + transit).max(floor),
+            transits: way.transits + transit,
+        }
+    }
+
+    /// It goes on to a stop and through what is left from there to the end.
+    #[inline]
+    pub fn to_end(&self, way: Way, rest: Rest) -> Way
+        requires guide { IsGuide self.now }
+        requires way { IsWayOf self.now.model.now 9000 way }
+        requires rest { IsRestOf self.now.model.now 1000 rest }
+        ensures value { result ≡ to_end_on self.now.model.now self.now.d self.now.v way rest }
+        ensures range { IsWayOf self.now.model.now 10001 result }
+    {
+        let left = self.transit(way.at, rest.at) + rest.transits;
+        Way {
+            at: self.model.vehicles.get(self.v as usize).end,
+            time: (way.time + left).max(rest.floor),
+            transits: way.transits + left,
+        }
+    }
+
+    /// What is left from a visit on, which comes before what is left from the next stop on.
+    #[inline]
+    pub fn before(&self, node: u32, rest: Rest) -> Rest
+        requires guide { IsGuide self.now }
+        requires node { node < self.now.model.now.nodes }
+        requires rest { IsRestOf self.now.model.now 1000 rest }
+        ensures { result ≡ before_rest self.now.model.now self.now.d self.now.v node rest }
+    {
+        let transits = self.transit(node, rest.at) + rest.transits;
+        Rest {
+            at: node,
+            transits,
+            floor: (self.floors.visits[node as usize] + transits).max(rest.floor),
+        }
+    }
+
+    /// What a whole way tells of the span.
+    #[inline]
+    pub fn span_by(&self, way: Way) -> i64
+        requires guide { IsGuide self.now }
+        requires way { IsWayOf self.now.model.now 10001 way }
+        ensures { result ≡ span_by_way self.now.model.now self.now.d self.now.v way }
+    {
+        if !self.floors.free[self.v as usize] {
+            return way.transits;
+        }
+        let slack = self.model.dimensions.get(self.d as usize).slack_max;
+        (way.time - self.floors.starts[self.v as usize]).min(slack + way.transits)
+    }
+
+    // The transit from one node to another.
+    #[inline]
+    fn transit(&self, from: u32, to: u32) -> i64
+        requires guide { IsGuide self.now }
+        requires from { from < self.now.model.now.nodes }
+        requires to { to < self.now.model.now.nodes }
+        ensures value { result ≡ transit_of self.now.model.now self.now.d self.now.v from to }
+        ensures least { neg_ℤ (pos (2 ^ 31)) ≤ℤ result }
+        ensures greatest { result ≤ℤ pos (2 ^ 31) }
+    {
+        self.model
+            .transit_by(self.d, self.v, self.evaluator, from, to)
+    }
 }
 
 // Node `k` of a chain, or of the chain backwards.
@@ -135,56 +253,5 @@ fn node_in(chain: &[u32], reversed: bool, k: usize) -> u32
         chain[chain.len() - 1 - k]
     } else {
         chain[k]
-    }
-}
-
-// It goes on to a visit.
-#[inline]
-fn to_visit(
-    model: &Model,
-    d: u32,
-    v: u32,
-    evaluator: &Evaluator,
-    floors: &[i64],
-    way: Way,
-    node: u32,
-) -> Way
-    requires well_formed { IsWellFormed model.now }
-    requires dimension { d < length model.now.dimensions }
-    requires vehicle { v < length model.now.vehicles }
-    requires evaluator { evaluator.now ≡ evaluator_of (dimension_at model.now d) v }
-    requires floors { HaveFloors (dimension_at model.now d).nodes model.now.nodes floors.now }
-    requires way { IsWayOf model.now 9000 way }
-    requires node { node < model.now.nodes }
-    ensures { result ≡ to_visit model.now d v way node }
-{
-    to_node(model, d, v, evaluator, way, node, floors[node as usize])
-}
-
-/// A way goes on to a node, where no cumul lies below a floor.
-#[inline]
-pub fn to_node(
-    model: &Model,
-    d: u32,
-    v: u32,
-    evaluator: &Evaluator,
-    way: Way,
-    node: u32,
-    floor: i64,
-) -> Way
-    requires well_formed { IsWellFormed model.now }
-    requires dimension { d < length model.now.dimensions }
-    requires vehicle { v < length model.now.vehicles }
-    requires evaluator { evaluator.now ≡ evaluator_of (dimension_at model.now d) v }
-    requires way { IsWayOf model.now 9000 way }
-    requires node { node < model.now.nodes }
-    requires floor { IsIn (pos 0) horizon floor }
-    ensures { result ≡ to_node_on model.now d v way node floor }
-{
-    let transit = model.transit_by(d, v, evaluator, way.at, node);
-    Way {
-        at: node,
-        time: (way.time + transit).max(floor),
-        transits: way.transits + transit,
     }
 }

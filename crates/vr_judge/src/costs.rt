@@ -13,6 +13,7 @@ ghost use Rattle.vr_judge.specs.Standing.{StandsCosts};
 use std::alloc::Global;
 use std::marker::Model;
 use vr_costfilter::{ArcCost, CostPart, FixedCost, GlobalSpan, GroupCost, PlanCost};
+use vr_earliest::Earliest;
 use vr_model::{Model as RoutingModel, NoMemory};
 use vr_routes::{Change, Routes};
 
@@ -25,6 +26,8 @@ pub(crate) struct Costs<'m> {
     groups: GroupCost<'m>,
     plans: PlanCost<'m>,
     spans: GlobalSpan<'m>,
+    // how early vehicles can end lists, for what plans and spans add at least
+    earliest: Earliest<'m>,
 }
 
 impl<'m> Model for Costs<'m> {
@@ -39,6 +42,7 @@ impl<'m> Model for Costs<'m> {
       groups = costs.groups;
       plans = costs.plans;
       spans = costs.spans;
+      earliest = costs.earliest;
     } };
 }
 
@@ -62,6 +66,7 @@ impl<'m> Costs<'m> {
             groups: GroupCost::open(alloc, model, routes)?,
             plans: PlanCost::open(alloc, model, routes)?,
             spans: GlobalSpan::open(alloc, model, routes)?,
+            earliest: Earliest::open(alloc, model, routes)?,
         })
     }
 
@@ -96,8 +101,8 @@ impl<'m> Costs<'m> {
         let arcs = self.arcs.added(routes, change);
         let fixed = self.fixed.added(routes, change);
         let groups = self.groups.least(routes, change);
-        let plans = self.plans.least(routes, change);
-        let spans = self.spans.least(routes, change);
+        let plans = self.plans.least(&self.earliest, routes, change);
+        let spans = self.spans.least(&self.earliest, routes, change);
         arcs + fixed + groups + plans + spans
     }
 
@@ -120,6 +125,7 @@ impl<'m> Costs<'m> {
         self.groups.commit(routes, change);
         self.plans.commit(routes, change);
         self.spans.commit(routes, change);
+        self.earliest.commit(routes, change);
         Ok(())
     }
 }

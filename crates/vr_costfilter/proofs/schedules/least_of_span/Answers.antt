@@ -45,5 +45,5 @@ returns-clause-value c =
     let s_low = s.at_least in let s_high = s.at_most in
     let coefficient : to_z w64 (of_z w64 c.get-coefficient.result.now) ≡ number_at (dimension_at m d).span_costs v = omega (arith, ints, is, low, high) in
     let read : to_z w64 (of_z w64 c.after.result.span) ≡ c.after.result.span = omega (arith, ints, s_low, s_high) in
-    let span = read ∙ c.after.ensures.span ∙ ap (λ n. least_span n d v list) c.requires.earliest in
+    let span = read ∙ c.after.ensures.span ∙ ap (λ n. least_span n d v list) c.requires.of_model in
     read-around c.times.result cumul_cost c.times.ensures.range (omega arith) ∙ c.times.ensures.value ∙ ap₂ (λ x y. x *ℤ y) coefficient span

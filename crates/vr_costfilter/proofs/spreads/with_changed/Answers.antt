@@ -13,7 +13,7 @@ use Rattle.vr_costfilter.proofs.spreads.with_changed.Goals as goal
 pub after-early-requires-clause-nodes : goal.after-early-requires-clause-nodes
 after-early-requires-clause-nodes c =
     let lists : List (List ℕ) = c.args.routes.now.lists in
-    subst (λ (m : Model). All (λ node. node < m.nodes) (joined lists c.pieces-pieces.result.now)) (sym c.requires.earliest)
+    subst (λ (m : Model). All (λ node. node < m.nodes) (joined lists c.pieces-pieces.result.now)) (sym c.requires.of_model)
     (subst (λ l. All (λ node. node < c.args.model.now.nodes) (joined lists l)) (sym c.pieces-pieces.ensures.value) (c.requires.before.nodes c.args.k c.requires.part))
 
 pub returns-clause-least : goal.returns-clause-least
@@ -29,8 +29,8 @@ returns-clause-least c valid told =
     let fits_span = c.max-2.type_inv in
     let last : to_z w64 (of_z w64 c.max.result) ≡ c.max.result = omega (arith, ints, fits) in
     let span : to_z w64 (of_z w64 c.max-2.result) ≡ c.max-2.result = omega (arith, ints, fits_span) in
-    let at : (f : Model → ℕ → ℕ → List ℕ → ℤ) → f c.args.earliest.now c.args.d c.vehicle.result (joined lists c.pieces-pieces.result.now) ≡ f model c.args.d part.vehicle (joined lists part.pieces) =
-    λ f. ap (λ m. f m c.args.d c.vehicle.result (joined lists c.pieces-pieces.result.now)) c.requires.earliest ∙ ap₂ (λ v l. f model c.args.d v l) c.vehicle.ensures is in
+    let at : (f : Model → ℕ → ℕ → List ℕ → ℤ) → f c.args.earliest.now.model c.args.d c.vehicle.result (joined lists c.pieces-pieces.result.now) ≡ f model c.args.d part.vehicle (joined lists part.pieces) =
+    λ f. ap (λ m. f m c.args.d c.vehicle.result (joined lists c.pieces-pieces.result.now)) c.requires.of_model ∙ ap₂ (λ v l. f model c.args.d v l) c.vehicle.ensures is in
     spread-given model lists c.args._rows.now c.args.change.now c.requires.before valid c.args.d c.requires.dimension c.args.k c.requires.part
     (not_empty (joined lists part.pieces) (omega (arith, some, c.if-nodes_in-eq0.false)))
     c.after-early.result (e.last ∙ at earliest_end) (e.span ∙ at least_span)

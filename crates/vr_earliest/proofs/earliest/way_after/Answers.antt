@@ -1,52 +1,73 @@
-use Rattle.std.proofs.Common.{◌≡◌, ◌∙◌, ◌<◌, ℕ, List, ap, ap₂, sym, subst, arith, to_z, of_z, w64}
-use Rattle.std.specs.Prelude.{ℤ, pos}
-use Rattle.std.proofs.lemmas.Int.{ints}
-use Rattle.vr_model.specs.tables.Numbers.{horizon}
-use Rattle.vr_model.specs.tables.Tables.{dimension_at, no_vehicle, row_of, vehicle_at}
-use Rattle.vr_model.specs.tables.WellFormed.{IsIn}
-use Rattle.vr_model.specs.declared.records.Vehicle.{Vehicle}
+use Rattle.std.proofs.Common.{◌∙◌, ◌<◌, ◌≤◌, ◌++◌, ℕ, List, [], length, take, drop, ap, ap₂, sym, subst, arith}
+use Rattle.std.specs.Prelude.{All, slice_index_or}
+use Rattle.vr_model.specs.routes.Routes.{route}
 use Rattle.vr_routes.specs.Pieces.{joined}
-use Rattle.vr_earliest.specs.declared.ways.Way.{Way}
-use Rattle.vr_earliest.specs.Floors.{floor_of}
-use Rattle.vr_earliest.specs.Ways.{along, setting_out, start_floor, to_node, IsWayOf}
-use Rattle.vr_earliest.proofs.FloorLemmas.{floor-at}
-use Rattle.vr_earliest.proofs.WayLemmas.{node-way}
+use Rattle.vr_routes.proofs.JoinedPieces.{all_left, all_right}
+use Rattle.vr_earliest.specs.Rests.{to_end, IsRestOf}
+use Rattle.vr_earliest.specs.Ways.{along, way_along, IsWayOf}
+use Rattle.vr_earliest.proofs.KeptLemmas.{kept-one, rest-at, way-at}
+use Rattle.vr_earliest.proofs.WayLemmas.{rest-behind, through-rest, way-front, whole-way}
 use Rattle.vr_earliest.proofs.earliest.way_after.Goals as goal
 
-pub to_node-requires-clause-floor : goal.to_node-requires-clause-floor
-to_node-requires-clause-floor c =
-    let f = (floor-at _ _ c.args.floors.now.ends.items c.requires.floors.ends c.args.v c.requires.vehicle c.index-floor.result.now c.index-floor.ensures).range in
-    let low = f.at_least in
-    let high = f.at_most in
-    record { at_least = omega (arith, ints, low, high); at_most = omega (arith, ints, low, high) }
+pub along_pieces-way-requires-clause-nodes : goal.along_pieces-way-requires-clause-nodes
+along_pieces-way-requires-clause-nodes c =
+    let lists : List (List ℕ) = c.args.routes.now.lists in
+    let ends = c.strip-ends.result in
+    let list : List ℕ = route lists c.args.guide.now.v in
+    let middle : List ℕ = joined lists ends.middle.now in
+    let Below : ℕ → Type 0 = λ node. node < c.args.guide.now.model.now.nodes in
+    let all : All Below (take ends.front list ++ (middle ++ drop ends.behind list)) = subst (All Below) c.strip-ends.ensures.joins c.requires.nodes in
+    all_left Below middle (drop ends.behind list) (all_right Below (take ends.front list) (middle ++ drop ends.behind list) all)
+
+pub along_pieces-way-requires-clause-way : goal.along_pieces-way-requires-clause-way
+along_pieces-way-requires-clause-way c =
+    let g = c.args.guide.now in
+    let h = c.requires.guide in
+    let front = c.strip-ends.result.front in
+    let e = c.strip-ends.ensures in
+    let low : front ≤ length (route c.args.routes.now.lists g.v) = (let a = e.order in let b = e.high in omega (arith, a, b)) in
+    let list : List ℕ = route c.args.routes.now.lists g.v in
+    let one = c.index-list.result.now in
+    let is = kept-one g.model.now g.d c.args.routes.now.lists c.args.kept.now g.v one c.requires.kept (let len = c.len.ensures in let n = ap (λ l. length l) c.kept.view_is in let less = c.if-v-len.true in omega (arith, len, n, less))
+    (c.index-list.ensures ∙ ap (λ l. slice_index_or l g.v one) c.kept.view_is) in
+    subst (IsWayOf g.model.now 1000) (sym (way-at g.model.now g.d g.v list one front c.way.result is low c.way.ensures))
+    (way-front g.model.now h.well_formed g.d g.v h.dimension h.vehicle g.floors.now h.floors_are list is.few c.requires.nodes_before front low)
+
+pub to_end-requires-clause-rest : goal.to_end-requires-clause-rest
+to_end-requires-clause-rest c =
+    let g = c.args.guide.now in
+    let h = c.requires.guide in
+    let behind = c.strip-ends.result.behind in
+    let list : List ℕ = route c.args.routes.now.lists g.v in
+    let one = c.index-list.result.now in
+    let is = kept-one g.model.now g.d c.args.routes.now.lists c.args.kept.now g.v one c.requires.kept (let len = c.len.ensures in let n = ap (λ l. length l) c.kept.view_is in let less = c.if-v-len.true in omega (arith, len, n, less))
+    (c.index-list.ensures ∙ ap (λ l. slice_index_or l g.v one) c.kept.view_is) in
+    subst (IsRestOf g.model.now 1000) (sym (rest-at g.model.now g.d g.v list one behind c.rest.result is c.strip-ends.ensures.high c.rest.ensures))
+    (rest-behind g.model.now h.well_formed g.d g.v h.dimension h.vehicle g.floors.now h.floors_are list is.few c.requires.nodes_before behind)
+
+pub returns-then-v-len-clause-value : goal.returns-then-v-len-clause-value
+returns-then-v-len-clause-value c =
+    let g = c.args.guide.now in
+    let m = g.model.now in
+    let lists : List (List ℕ) = c.args.routes.now.lists in
+    let list : List ℕ = route lists g.v in
+    let ends = c.strip-ends.result in
+    let e = c.strip-ends.ensures in
+    let low : ends.front ≤ length (route c.args.routes.now.lists g.v) = (let a = e.order in let b = e.high in omega (arith, a, b)) in
+    let middle : List ℕ = joined lists ends.middle.now in
+    let one = c.index-list.result.now in
+    let is = kept-one m g.d lists c.args.kept.now g.v one c.requires.kept (let len = c.len.ensures in let n = ap (λ l. length l) c.kept.view_is in let less = c.if-v-len.true in omega (arith, len, n, less))
+    (c.index-list.ensures ∙ ap (λ l. slice_index_or l g.v one) c.kept.view_is) in
+    let way = way-at m g.d g.v list one ends.front c.way.result is low c.way.ensures in
+    let rest = rest-at m g.d g.v list one ends.behind c.rest.result is e.high c.rest.ensures in
+    c.to_end.ensures.value
+    ∙ ap₂ (λ w r. to_end m g.d g.v w r) (c.along_pieces-way.ensures.value ∙ ap (λ w. along m g.d g.v w middle) way) rest
+    ∙ whole-way m g.d g.v (take ends.front list) middle (drop ends.behind list) (joined lists c.args.pieces.now) e.joins
 
 pub returns-clause-value : goal.returns-clause-value
 returns-clause-value c =
-    let m = c.args.model.now in
-    let d = c.args.d in
-    let v = c.args.v in
+    let g = c.args.guide.now in
     let list : List ℕ = joined c.args.routes.now.lists c.args.pieces.now in
-    let vehicle = c.get-vehicle.result.now in
-    let s = floor-at _ _ c.args.floors.now.starts.items c.requires.floors.starts v c.requires.vehicle c.index.result.now c.index.ensures in
-    let f = floor-at _ _ c.args.floors.now.ends.items c.requires.floors.ends v c.requires.vehicle c.index-floor.result.now c.index-floor.ensures in
-    let s_is = s.is in let s_low = s.range.at_least in let s_high = s.range.at_most in
-    let f_is = f.is in let f_low = f.range.at_least in let f_high = f.range.at_most in
-    let time : to_z w64 (of_z w64 c.index.result.now) ≡ start_floor m d v = omega (arith, ints, s_is, s_low, s_high) in
-    let floor : to_z w64 (of_z w64 c.index-floor.result.now) ≡ floor_of (row_of (dimension_at m d).ends v) = omega (arith, ints, f_is, f_low, f_high) in
-    let start : vehicle.start ≡ (vehicle_at m v).start = ap (λ (x : Vehicle). x.start) (sym (c.get-vehicle.ensures.value no_vehicle)) in
-    let end_is : vehicle.end ≡ (vehicle_at m v).end = ap (λ (x : Vehicle). x.end) (sym (c.get-vehicle.ensures.value no_vehicle)) in
-    let out = ap₂ (λ (at : ℕ) (x : ℤ). (let w : Way = record { at = at; time = x; transits = pos 0 } in w)) start time in
-    c.to_node.ensures
-    ∙ ap (λ w. to_node m d v w vehicle.end (to_z w64 (of_z w64 c.index-floor.result.now))) (c.along_pieces-way.ensures.value ∙ ap (λ w. along m d v w list) out)
-    ∙ ap₂ (λ node x. to_node m d v (along m d v (setting_out m d v) list) node x) end_is floor
-
-pub returns-clause-range : goal.returns-clause-range
-returns-clause-range c =
-    let m = c.args.model.now in
-    let vehicle = c.get-vehicle.result.now in
-    let f = (floor-at _ _ c.args.floors.now.ends.items c.requires.floors.ends c.args.v c.requires.vehicle c.index-floor.result.now c.index-floor.ensures).range in
-    let f_low = f.at_least in let f_high = f.at_most in
-    let range : IsIn (pos 0) horizon (to_z w64 (of_z w64 c.index-floor.result.now)) = record { at_least = omega (arith, ints, f_low, f_high); at_most = omega (arith, ints, f_low, f_high) } in
-    let low = subst (λ (x : Vehicle). x.end < m.nodes) (c.get-vehicle.ensures.value no_vehicle) (c.requires.well_formed.each_vehicle c.args.v no_vehicle c.requires.vehicle).end_in_range in
-    subst (IsWayOf m 8001) (sym c.to_node.ensures)
-    (node-way m c.requires.well_formed c.args.d c.args.v c.requires.dimension c.requires.vehicle 8000 c.along_pieces-way.result vehicle.end (to_z w64 (of_z w64 c.index-floor.result.now)) c.along_pieces-way.ensures.range low range)
+    c.to_end-2.ensures.value
+    ∙ ap₂ (λ way rest. to_end g.model.now g.d g.v way rest) (c.along_pieces-way-2.ensures.value ∙ ap (λ way. along g.model.now g.d g.v way list) c.setting_out.ensures.value) c.at_end.ensures.value
+    ∙ through-rest g.model.now g.d g.v [] (way_along g.model.now g.d g.v list)

@@ -20,8 +20,8 @@ returns-then-is_idle-clause-least c valid =
     let b = none-costs model none (changed lists c.args.change.now) in
     omega (arith, ints, a, b)
 
-pub least-requires : goal.least-requires
-least-requires c =
+pub least-requires-clause-before : goal.least-requires-clause-before
+least-requires-clause-before c =
     let lists : List (List ℕ) = c.args.routes.now.lists in
     let before = rows-before c.args.self.now c.args.routes.now c.requires.stands c.args.change.now c.requires.made in
     subst (λ (m : Model). AreRowsBefore m lists c.deref.result.now c.args.change.now) (sym (ap (λ s. s.model) c.self.view_is))

@@ -1,17 +1,41 @@
-use Rattle.std.proofs.Common.{◌≡◌, ◌∙◌, ℕ, List, ap, ap₂, arith, to_z, of_z, w64}
-use Rattle.std.specs.Prelude.{pos, negsuc}
+use Rattle.std.proofs.Common.{◌≡◌, ◌∙◌, ◌<◌, ℕ, List, ap, sym, subst, arith, to_z, of_z, w64}
+use Rattle.std.specs.Prelude.{pos, negsuc, All}
+use Rattle.vr_model.specs.routes.Routes.{route}
+use Rattle.vr_model.specs.tables.WellFormed.{IsWellFormed}
 use Rattle.std.specs.Int.{int_max, int_min}
 use Rattle.std.proofs.lemmas.Int.{ints, int_max_is, int_min_is}
 use Rattle.vr_routes.specs.Pieces.{joined}
 use Rattle.vr_earliest.specs.declared.ways.Way.{Way}
 use Rattle.vr_earliest.specs.Ways.{span_by, whole_way}
+use Rattle.vr_earliest.proofs.PartLemmas.{many-valid, small-valid}
+use Rattle.vr_earliest.proofs.WayLemmas.{guided}
 use Rattle.vr_earliest.proofs.earliest.Earliest.after.Goals as goal
+
+pub way_after-way-requires-clause-vehicle : goal.way_after-way-requires-clause-vehicle
+way_after-way-requires-clause-vehicle c =
+    let h = c.requires.stands in
+    let m = c.args.self.now.model in
+    let well = subst IsWellFormed (ap (λ s. s.model) c.self.view_is) c.self.invariant.well_formed in
+    let many = many-valid m well c.args.routes.now.lists h.valid in
+    let known = c.requires.vehicle in
+    let same = c.of-guide.ensures.vehicle in
+    omega (arith, many, known, same)
+
+pub way_after-way-requires-clause-nodes_before : goal.way_after-way-requires-clause-nodes_before
+way_after-way-requires-clause-nodes_before c =
+    let h = c.requires.stands in
+    let m = c.args.self.now.model in
+    let well = subst IsWellFormed (ap (λ s. s.model) c.self.view_is) c.self.invariant.well_formed in
+    let small = small-valid m well c.args.routes.now.lists h.valid c.of-guide.result.v in
+    subst (λ model. All (λ node. node < model.nodes) (route c.args.routes.now.lists c.of-guide.result.v)) (sym (c.of-guide.ensures.model ∙ ap (λ s. s.model) c.self.view_is)) small.nodes
 
 pub returns-clause-last : goal.returns-clause-last
 returns-clause-last c =
     let list : List ℕ = joined c.args.routes.now.lists c.args.pieces.now in
-    let way = whole_way c.args.self.now c.args.d c.args.v list in
-    let e = ap (λ (w : Way). w.time) (c.way_after-way.ensures.value ∙ ap (λ m. whole_way m c.args.d c.args.v list) c.self.view_is) in
+    let way = whole_way c.args.self.now.model c.args.d c.args.v list in
+    let g = c.of-guide.ensures in
+    let model = g.model ∙ ap (λ s. s.model) c.self.view_is in
+    let e = ap (λ (w : Way). w.time) (c.way_after-way.ensures.value ∙ guided (λ m d v. whole_way m d v list) c.of-guide.result c.args.self.now.model c.args.d c.args.v model g.dimension g.vehicle) in
     let early = c.way_after-way.ensures.range.early in
     let late = c.way_after-way.ensures.range.late in
     let read : to_z w64 (of_z w64 c.way_after-way.result.time) ≡ c.way_after-way.result.time = omega (arith, ints, early, late) in
@@ -33,9 +57,12 @@ returns-clause-last_range c =
 pub returns-clause-span : goal.returns-clause-span
 returns-clause-span c =
     let list : List ℕ = joined c.args.routes.now.lists c.args.pieces.now in
-    let span = span_by c.args.self.now c.args.d c.args.v (whole_way c.args.self.now c.args.d c.args.v list) in
-    let e = c.way_after-way.ensures.value ∙ ap (λ m. whole_way m c.args.d c.args.v list) c.self.view_is in
-    let s = c.span_by-span.ensures ∙ ap₂ (λ m w. span_by m c.args.d c.args.v w) c.self.view_is e in
+    let m = c.args.self.now.model in
+    let span = span_by m c.args.d c.args.v (whole_way m c.args.d c.args.v list) in
+    let g = c.of-guide.ensures in
+    let model = g.model ∙ ap (λ s. s.model) c.self.view_is in
+    let e = c.way_after-way.ensures.value ∙ guided (λ m d v. whole_way m d v list) c.of-guide.result m c.args.d c.args.v model g.dimension g.vehicle in
+    let s = c.span_by-span.ensures ∙ (guided (λ m d v. span_by m d v c.way_after-way.result) c.of-guide.result m c.args.d c.args.v model g.dimension g.vehicle ∙ ap (span_by m c.args.d c.args.v) e) in
     let fits = c.span_by-span.type_inv in
     let read : to_z w64 (of_z w64 c.span_by-span.result) ≡ c.span_by-span.result = omega (arith, ints, fits) in
     let a = c.min-2.ensures.value ∙ ap (λ x. int_min x (pos 68719476736)) (read ∙ s) in

@@ -1,4 +1,4 @@
-use Rattle.std.proofs.Common.{◌≡◌, ◌∙◌, arith, sym, ap}
+use Rattle.std.proofs.Common.{◌≡◌, ◌∙◌, arith, sym, ap, subst}
 use Rattle.std.specs.Prelude.{◌-ℤ◌}
 use Rattle.std.proofs.lemmas.Int.{ints}
 use Rattle.vr_model.specs.routes.Costs.{arcs_part, cost, fixed_part, penalty_part}
@@ -6,6 +6,7 @@ use Rattle.vr_model.specs.declared.records.Model.{Model}
 use Rattle.vr_routes.specs.Pieces.{changed}
 use Rattle.vr_costfilter.specs.GlobalCosts.{global_cost_of}
 use Rattle.vr_costfilter.specs.PlanCosts.{soft_and_span}
+use Rattle.vr_earliest.specs.Kept.{StandsEarliest}
 use Rattle.vr_judge.proofs.SumLemmas.{AreBounded, adds_whole, are_read, cost_of_parts}
 use Rattle.vr_judge.proofs.costs.Costs.difference.Goals as goal
 
@@ -74,4 +75,6 @@ returns-clause-stands c = record {
   groups = c.in_ok-groups.ensures.stands;
   plans = c.in_ok-plans.ensures.stands;
   spans = c.in_ok-spans.ensures.stands;
+  earliest_model = ap (λ k. k.earliest.model) c.self.view_is ∙ (c.requires.stands.earliest_model ∙ ap (λ k. k.model) (sym c.self.view_is));
+  earliest = subst (λ e. StandsEarliest e c.args.routes.now.lists) (sym (ap (λ k. k.earliest) c.self.view_is)) c.requires.stands.earliest;
 }

@@ -1,0 +1,114 @@
+-- What is kept of lists, written place by place, and after a list is replaced.
+use Rattle.std.proofs.Common.{◌≡◌, ◌≢◌, ◌∙◌, ◌⊎◌, inl, inr, ℕ, zero, suc, ◌+◌, ◌-◌, ◌<◌, ◌≤◌, List, [], ◌∷◌, ◌++◌, length, length-append, length-set, take, drop, refl, ap, ap₂, sym, subst, arith}
+use Rattle.std.specs.Prelude.{slice_index_or, slice_set}
+use Rattle.std.proofs.Math.Seq.{drop-cons}
+use Rattle.std.proofs.lemmas.Bool.{cases_lt}
+use Rattle.std.proofs.lemmas.List.{get_or_append_left, get_or_push, get_or-set_same, get_or-set_other, append-nil, take_all}
+use Rattle.vr_model.specs.routes.Routes.{route}
+use Rattle.vr_model.specs.moves.Moves.{with_route}
+use Rattle.vr_model.specs.declared.records.Model.{Model}
+use Rattle.vr_model.proofs.routes.Lists.{route_set_same, route_set_other}
+use Rattle.vr_earliest.specs.declared.kept.Kept.{Kept}
+use Rattle.vr_earliest.specs.declared.ways.Rest.{Rest}
+use Rattle.vr_earliest.specs.declared.ways.Way.{Way}
+use Rattle.vr_earliest.specs.Rests.{before, rest_of}
+use Rattle.vr_earliest.specs.Ways.{way_along}
+use Rattle.vr_earliest.specs.Kept.{AreKept, AreRestsTo, AreWaysTo, IsKept}
+
+-- ---- place by place
+
+-- one entry more
+entries-more : {A : Type 0} (f : ℕ → A) (xs more : List A) (x : A) (n : ℕ) → length xs ≡ suc n → ((k : ℕ) (other : A) → k ≤ n → slice_index_or xs k other ≡ f k)
+    → more ≡ xs ++ x ∷ [] → x ≡ f (n + 1) → (k : ℕ) (other : A) → k ≤ n + 1 → slice_index_or more k other ≡ f k
+entries-more f xs more x n many each is next k other high = ap (λ l. slice_index_or l k other) is ∙ go (cases_lt k (suc n))
+  where
+    go : (k < suc n) ⊎ (suc n ≤ k) → slice_index_or (xs ++ x ∷ []) k other ≡ f k
+    go (inl less) = get_or_append_left xs (x ∷ []) other k (omega (arith, less, many)) ∙ each k other (omega (arith, less))
+    go (inr above) = let here : n + 1 ≡ k = omega (arith, above, high) in get_or_push xs x other k (omega (arith, here, many)) ∙ next ∙ ap f here
+
+pub ways-more : (model : Model) (d v : ℕ) (list : List ℕ) (n : ℕ) (ways more : List Way) (way : Way) → AreWaysTo model d v list n ways → more ≡ ways ++ way ∷ [] → way ≡ way_along model d v (take (n + 1) list)
+    → AreWaysTo model d v list (n + 1) more
+ways-more model d v list n ways more way h is next = record {
+  many = (let m = h.many in ap length is ∙ length-append ways (way ∷ []) ∙ (let e : length ways + 1 ≡ suc (n + 1) = omega (arith, m) in e));
+  each = entries-more (λ k. way_along model d v (take k list)) ways more way n h.many h.each is next;
+}
+
+pub rests-more : (model : Model) (d v : ℕ) (list : List ℕ) (n : ℕ) (rests more : List Rest) (rest : Rest) → AreRestsTo model d v list n rests → more ≡ rests ++ rest ∷ []
+    → rest ≡ rest_of model d v (drop (length list - (n + 1)) list) → AreRestsTo model d v list (n + 1) more
+rests-more model d v list n rests more rest h is next = record {
+  many = (let m = h.many in ap length is ∙ length-append rests (rest ∷ []) ∙ (let e : length rests + 1 ≡ suc (n + 1) = omega (arith, m) in e));
+  each = entries-more (λ k. rest_of model d v (drop (length list - k) list)) rests more rest n h.many h.each is next;
+}
+
+-- what is left from one place on, by what is left from the next one on
+pub rest-next : (model : Model) (d v : ℕ) (list : List ℕ) (k : ℕ) → k < length list
+    → rest_of model d v (drop (length list - (k + 1)) list) ≡ before model d v (slice_index_or list (length list - 1 - k) 0) (rest_of model d v (drop (length list - k) list))
+rest-next model d v list k low =
+    let here : length list - (k + 1) ≡ length list - 1 - k = omega (arith, low) in
+    let next : suc (length list - (k + 1)) ≡ length list - k = omega (arith, low) in
+    ap (rest_of model d v) (drop-cons list (length list - (k + 1)) 0 (omega (arith, low)))
+    ∙ ap₂ (λ i n. before model d v (slice_index_or list i 0) (rest_of model d v (drop n list))) here next
+
+-- what is kept of the list of a vehicle
+pub kept-one : (model : Model) (d : ℕ) (lists : List (List ℕ)) (kept : List Kept) (v : ℕ) (one : Kept) → AreKept model d lists kept → v < length kept → one ≡ slice_index_or kept v one → IsKept model d v (route lists v) one
+kept-one model d lists kept v one h low is = subst (IsKept model d v (route lists v)) (sym is) (h.each v one low)
+
+-- the way along the first visits of a list, and what is left behind a place of it
+pub way-at : (model : Model) (d v : ℕ) (list : List ℕ) (kept : Kept) (k : ℕ) (way : Way) → IsKept model d v list kept → k ≤ length list → ((other : Way) → way ≡ slice_index_or kept.ways.items k other) → way ≡ way_along model d v (take k list)
+way-at model d v list kept k way h low is = is way ∙ h.ways.each k way low
+
+pub rest-at : (model : Model) (d v : ℕ) (list : List ℕ) (kept : Kept) (k : ℕ) (rest : Rest) → IsKept model d v list kept → k ≤ length list → ((other : Rest) → rest ≡ slice_index_or kept.rests.items (length kept.rests.items - 1 - k) other)
+    → rest ≡ rest_of model d v (drop k list)
+rest-at model d v list kept k rest h low is =
+    let many = h.rests.many in
+    let here : length kept.rests.items - 1 - k ≡ length list - k = omega (arith, many) in
+    let back : length list - (length list - k) ≡ k = omega (arith, low) in
+    is rest ∙ ap (λ n. slice_index_or kept.rests.items n rest) here ∙ h.rests.each (length list - k) rest (omega arith) ∙ ap (λ n. rest_of model d v (drop n list)) back
+
+-- ---- a list is replaced
+
+same-or-not : (u v : ℕ) → (u ≡ v) ⊎ (u ≢ v)
+same-or-not u v = go (cases_lt u v) (cases_lt v u)
+  where
+    go : (u < v) ⊎ (v ≤ u) → (v < u) ⊎ (u ≤ v) → (u ≡ v) ⊎ (u ≢ v)
+    go (inl less) _ = inr (λ e. absurd (omega (arith, less, e)))
+    go (inr _) (inl more) = inr (λ e. absurd (omega (arith, more, e)))
+    go (inr high) (inr low) = inl (omega (arith, high, low))
+
+pub kept-set : (model : Model) (d : ℕ) (lists : List (List ℕ)) (kept : List Kept) (v : ℕ) (list : List ℕ) (new : Kept) → AreKept model d lists kept → v < length lists → v < length kept → IsKept model d v list new
+    → AreKept model d (with_route lists v list) (slice_set kept v new)
+kept-set model d lists kept v list new h known low is = record {
+  many = elim h.many [
+    | inl same ↦ inl (length-set kept v new ∙ same ∙ sym (length-set lists v list))
+    | inr none ↦ inr none
+  ];
+  each = λ u other under. go u other under (same-or-not u v);
+}
+  where
+    go : (u : ℕ) (other : Kept) → u < length (slice_set kept v new) → (u ≡ v) ⊎ (u ≢ v) → IsKept model d u (route (with_route lists v list) u) (slice_index_or (slice_set kept v new) u other)
+    go u other under (inr apart) =
+        subst (λ l. IsKept model d u l (slice_index_or (slice_set kept v new) u other)) (sym (route_set_other lists v u list apart))
+        (subst (IsKept model d u (route lists u)) (sym (get_or-set_other kept v u new other apart)) (h.each u other (let l = length-set kept v new in omega (arith, under, l))))
+    go u other under (inl same) = subst (λ w. IsKept model d w (route (with_route lists v list) w) (slice_index_or (slice_set kept v new) w other)) (sym same)
+        (subst (λ l. IsKept model d v l (slice_index_or (slice_set kept v new) v other)) (sym (route_set_same lists v list known)) (subst (IsKept model d v list) (sym (get_or-set_same kept v new other low)) is))
+
+-- where it is not kept, what is kept stays
+pub kept-stays : (model : Model) (d : ℕ) (lists : List (List ℕ)) (kept : List Kept) (v : ℕ) (list : List ℕ) → AreKept model d lists kept → length kept ≤ v → AreKept model d (with_route lists v list) kept
+kept-stays model d lists kept v list h high = record {
+  many = elim h.many [
+    | inl same ↦ inl (same ∙ sym (length-set lists v list))
+    | inr none ↦ inr none
+  ];
+  each = λ u other under. subst (λ l. IsKept model d u l (slice_index_or kept u other)) (sym (route_set_other lists v u list (λ e. absurd (omega (arith, e, under, high))))) (h.each u other under);
+}
+
+-- a list that is written over as a whole
+pub written : {A : Type 0} (old new : List A) (len : ℕ) → length new ≡ length old → len ≡ length old → take len (new ++ drop (length new) old) ≡ new
+written old new len same is =
+    ap (take len) (ap (λ l. new ++ l) (drop-all old (length new) (omega (arith, same))) ∙ append-nil new) ∙ take_all len new (omega (arith, same, is))
+  where
+    drop-all : {A : Type 0} (l : List A) (n : ℕ) → length l ≤ n → drop n l ≡ []
+    drop-all [] zero _ = refl
+    drop-all [] (suc n) _ = refl
+    drop-all (x ∷ xs) zero low = absurd (omega (arith, low))
+    drop-all (x ∷ xs) (suc n) low = drop-all xs n (omega (arith, low))

@@ -1,0 +1,27 @@
+use Rattle.std.proofs.Common.{◌∙◌, ◌+◌, ℕ, List, cond, reverse, take, ap₂, sym, subst, arith}
+use Rattle.std.proofs.lemmas.List.Sums.{fold_more}
+use Rattle.vr_earliest.specs.Ways.{along, to_visit, IsWayOf}
+use Rattle.vr_earliest.proofs.WayLemmas.{along-part, ordered-long, way-more}
+use Rattle.vr_earliest.proofs.ways.Guide.along_chain.Goals as goal
+
+pub to_visit-gone-requires-clause-way : goal.to_visit-gone-requires-clause-way
+to_visit-gone-requires-clause-way c =
+    let m = c.args.self.now.model.now in
+    let nodes : List ℕ = cond c.args.reversed (reverse c.args.chain.now) c.args.chain.now in
+    let k = c.loop-k.k in
+    let long = ordered-long c.args.reversed c.args.chain.now in
+    let few = c.requires.few in
+    let low = c.loop-k-test.true in
+    subst (IsWayOf m 10000) (sym c.loop-k.invariant)
+    (way-more m (9000 + k) 10000 (along m c.args.self.now.d c.args.self.now.v c.args.way (take k nodes)) (omega (arith, few, low))
+    (along-part m c.requires.guide.well_formed c.args.self.now.d c.args.self.now.v c.requires.guide.dimension c.requires.guide.vehicle c.args.self.now.floors.now.visits.items c.requires.guide.floors_are.visits nodes c.requires.nodes 9000 c.args.way c.requires.way k (omega (arith, long, low))))
+
+pub loop-k-preserved : goal.loop-k-preserved
+loop-k-preserved c =
+    let m = c.args.self.now.model.now in
+    let nodes : List ℕ = cond c.args.reversed (reverse c.args.chain.now) c.args.chain.now in
+    let k = c.loop-k.k in
+    let long = ordered-long c.args.reversed c.args.chain.now in
+    let low = c.loop-k-test.true in
+    c.to_visit-gone.ensures ∙ ap₂ (λ way node. to_visit m c.args.self.now.d c.args.self.now.v way node) c.loop-k.invariant c.node_in.ensures
+    ∙ sym (fold_more (to_visit m c.args.self.now.d c.args.self.now.v) c.args.way nodes k 0 (omega (arith, long, low)))

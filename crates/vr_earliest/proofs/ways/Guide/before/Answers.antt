@@ -1,0 +1,38 @@
+use Rattle.std.proofs.Common.{◌≡◌, ◌∙◌, ap₂, arith, to_z, of_z, w64}
+use Rattle.std.specs.Prelude.{ℤ, ◌+ℤ◌}
+use Rattle.std.specs.Int.{int_max}
+use Rattle.std.proofs.lemmas.Int.{ints, int_max_is}
+use Rattle.vr_model.specs.tables.Tables.{transit}
+use Rattle.vr_earliest.specs.declared.ways.Rest.{Rest}
+use Rattle.vr_earliest.specs.Floors.{visit_floor}
+use Rattle.vr_earliest.proofs.FloorLemmas.{floor-at}
+use Rattle.vr_earliest.proofs.ways.Guide.before.Goals as goal
+
+pub overflow_add-index : goal.overflow_add-index
+overflow_add-index c =
+    let f = (floor-at _ _ c.args.self.now.floors.now.visits.items c.requires.guide.floors_are.visits c.args.node c.requires.node c.index.result.now c.index.ensures).range in
+    let f_low = f.at_least in let f_high = f.at_most in
+    let a = c.transit.ensures.least in let b = c.transit.ensures.greatest in
+    let low = c.requires.rest.low in let high = c.requires.rest.high in
+    omega (arith, ints, f_low, f_high, a, b, low, high)
+
+pub returns : goal.returns
+returns c =
+    let m = c.args.self.now.model.now in
+    let rest = c.args.rest in
+    let t = transit m c.args.self.now.d c.args.self.now.v c.args.node rest.at in
+    let floor = visit_floor m c.args.self.now.d c.args.node in
+    let f = floor-at _ _ c.args.self.now.floors.now.visits.items c.requires.guide.floors_are.visits c.args.node c.requires.node c.index.result.now c.index.ensures in
+    let f_is = f.is in let f_low = f.range.at_least in let f_high = f.range.at_most in
+    let e = c.transit.ensures.value in let a = c.transit.ensures.least in let b = c.transit.ensures.greatest in
+    let low = c.requires.rest.low in let high = c.requires.rest.high in
+    let early = c.requires.rest.early in let late = c.requires.rest.late in
+    let transits : to_z w64 (of_z w64 (to_z w64 (of_z w64 c.transit.result) +ℤ to_z w64 (of_z w64 rest.transits))) ≡ t +ℤ rest.transits = omega (arith, ints, e, a, b, low, high) in
+    let here : to_z w64 (of_z w64 c.index.result.now) ≡ floor = omega (arith, ints, f_is, f_low, f_high) in
+    let sum : to_z w64 (of_z w64 (to_z w64 (of_z w64 c.index.result.now) +ℤ to_z w64 (of_z w64 (to_z w64 (of_z w64 c.transit.result) +ℤ to_z w64 (of_z w64 rest.transits))))) ≡ floor +ℤ (t +ℤ rest.transits) =
+    omega (arith, ints, here, transits, e, a, b, low, high, f_is, f_low, f_high) in
+    let other : to_z w64 (of_z w64 rest.floor) ≡ rest.floor = omega (arith, ints, early, late) in
+    let is = c.max.ensures.value ∙ ap₂ (λ x y. int_max x y) sum other in
+    let n = int_max_is (floor +ℤ (t +ℤ rest.transits)) rest.floor in
+    let read : to_z w64 (of_z w64 c.max.result) ≡ int_max (floor +ℤ (t +ℤ rest.transits)) rest.floor = omega (arith, ints, is, n, e, a, b, low, high, early, late, f_is, f_low, f_high) in
+    ap₂ (λ (x y : ℤ). (let r : Rest = record { at = c.args.node; transits = x; floor = y } in r)) transits read

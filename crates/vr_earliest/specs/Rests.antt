@@ -1,0 +1,45 @@
+-- What is left of the line of a vehicle behind a way.
+use Rattle.std.specs.Prelude.{ℕ, List, [], ◌∷◌, ◌<◌, ◌+◌, ◌*◌, pos, neg_ℤ, ◌+ℤ◌, ◌≤ℤ◌}
+use Rattle.std.specs.Int.{int_max}
+use Rattle.vr_model.specs.tables.Tables.{transit, vehicle_at}
+use Rattle.vr_model.specs.declared.records.Model.{Model}
+use Rattle.vr_earliest.specs.Floors.{end_floor, visit_floor}
+use Rattle.vr_earliest.specs.declared.ways.Rest.{Rest}
+use Rattle.vr_earliest.specs.declared.ways.Way.{Way}
+
+-- what is left from the end of vehicle v on
+abbrev pub at_end : Model → ℕ → ℕ → Rest
+at_end model d v = record { at = (vehicle_at model v).end; transits = pos 0; floor = end_floor model d v }
+
+-- what is left from a visit on, which comes before what is left from the next stop on
+abbrev pub before : Model → ℕ → ℕ → ℕ → Rest → Rest
+before model d v node rest =
+    let transits = transit model d v node rest.at +ℤ rest.transits in
+    record {
+      at = node;
+      transits = transits;
+      floor = int_max (visit_floor model d node +ℤ transits) rest.floor;
+    }
+
+-- what is left from the first of some visits on, through all of them to the end of vehicle v
+abbrev pub rest_of : Model → ℕ → ℕ → List ℕ → Rest
+rest_of model d v [] = at_end model d v
+rest_of model d v (x ∷ xs) = before model d v x (rest_of model d v xs)
+
+-- a way goes on to a stop and through what is left from there to the end
+abbrev pub to_end : Model → ℕ → ℕ → Way → Rest → Way
+to_end model d v way rest =
+    let left = transit model d v way.at rest.at +ℤ rest.transits in
+    record {
+      at = (vehicle_at model v).end;
+      time = int_max (way.time +ℤ left) rest.floor;
+      transits = way.transits +ℤ left;
+    }
+
+-- the numbers of what is left of n arcs
+pub record IsRestOf (model : Model) (n : ℕ) (rest : Rest) : Type 0 where
+  pub at : rest.at < model.nodes
+  pub low : neg_ℤ (pos (2147483648 * n)) ≤ℤ rest.transits
+  pub high : rest.transits ≤ℤ pos (2147483648 * n)
+  pub early : pos 0 ≤ℤ rest.floor
+  pub late : rest.floor ≤ℤ pos (68719476736 + 2147483648 * n)

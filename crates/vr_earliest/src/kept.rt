@@ -1,0 +1,177 @@
+//! What is kept of committed lists, so that a change is told by what it changes alone.
+
+ghost use Rattle.std.specs.Prelude.{◌≡◌, ◌<◌, ◌≤◌, ◌-◌, All, ℕ, List, IfOk, IsTrue, false, length};
+ghost use Rattle.std.specs.Prelude.{slice_index_or};
+ghost use Rattle.vr_model.specs.moves.Moves.{with_route};
+ghost use Rattle.vr_model.specs.routes.Rules.{is_valid};
+ghost use Rattle.vr_model.specs.tables.WellFormed.{IsWellFormed};
+ghost use Rattle.vr_earliest.specs.Floors.{AreFloors};
+ghost use Rattle.vr_earliest.specs.Guides.{IsGuide};
+ghost use Rattle.vr_earliest.specs.declared.ways.Rest.{Rest as RestOf};
+ghost use Rattle.vr_earliest.specs.declared.ways.Way.{Way as WayOf};
+ghost use Rattle.vr_earliest.specs.Kept.{AreKept, AreRestsTo, AreWaysTo, IsKept, IsUnpaid};
+
+use crate::floors::Floors;
+use crate::ways::{Guide, Rest, Way};
+use arrayvec::ArrayVec;
+use std::alloc::Global;
+use std::marker::Model;
+use vr_model::{Dimension, Model as RoutingModel, NoMemory};
+use vr_routes::Routes;
+
+/// What is kept of the list of a vehicle in one dimension.
+#[derive(Drop)]
+pub struct Kept {
+    // the way along the first visits, of each number of visits
+    ways: ArrayVec<Way, 1002>,
+    // what is left from each visit on and from the end, from the end backwards
+    rests: ArrayVec<Rest, 1002>,
+}
+
+impl Kept {
+    /// Of no list.
+    fn new() -> Kept {
+        Kept {
+            ways: ArrayVec::new(),
+            rests: ArrayVec::new(),
+        }
+    }
+
+    /// The way along the first visits of the list.
+    #[inline]
+    pub fn way(&self, place: u32) -> Way
+        requires place { place < length self.now.ways.items }
+        ensures { (other : WayOf) → result ≡ slice_index_or self.now.ways.items place other }
+    {
+        self.ways[place as usize]
+    }
+
+    /// What is left from a place of the list on.
+    #[inline]
+    pub fn rest(&self, place: u32) -> Rest
+        requires place { place < length self.now.rests.items }
+        ensures { (other : RestOf)
+            → result ≡ slice_index_or self.now.rests.items (length self.now.rests.items - 1 - place) other }
+    {
+        self.rests[self.rests.len() - 1 - place as usize]
+    }
+
+    // Writes what is kept of a list.
+    fn write(&mut self, guide: &Guide, list: &[u32])
+        requires guide { IsGuide guide.now }
+        requires few { length list.now ≤ 1000 }
+        requires nodes { All (λ node. node < guide.now.model.now.nodes) list.now }
+        ensures { IsKept guide.now.model.now guide.now.d guide.now.v list.now self.new }
+    {
+        self.write_ways(guide, list);
+        self.write_rests(guide, list);
+    }
+
+    // Writes the ways along a list.
+    fn write_ways(&mut self, guide: &Guide, list: &[u32])
+        requires guide { IsGuide guide.now }
+        requires few { length list.now ≤ 1000 }
+        requires nodes { All (λ node. node < guide.now.model.now.nodes) list.now }
+        ensures ways { AreWaysTo guide.now.model.now guide.now.d guide.now.v list.now (length list.now)
+            self.new.ways.items }
+        ensures rests { self.new.rests ≡ self.old.rests }
+    {
+        let mut way = guide.setting_out();
+        self.ways.clear();
+        self.ways.push(way);
+        for k in 0..list.len() {
+            way = guide.to_visit(way, list[k]);
+            self.ways.push(way);
+        }
+    }
+
+    // Writes what is left from each stop of a list on.
+    fn write_rests(&mut self, guide: &Guide, list: &[u32])
+        requires guide { IsGuide guide.now }
+        requires few { length list.now ≤ 1000 }
+        requires nodes { All (λ node. node < guide.now.model.now.nodes) list.now }
+        ensures rests { AreRestsTo guide.now.model.now guide.now.d guide.now.v list.now (length list.now)
+            self.new.rests.items }
+        ensures ways { self.new.ways ≡ self.old.ways }
+    {
+        let mut rest = guide.at_end();
+        self.rests.clear();
+        self.rests.push(rest);
+        for k in 0..list.len() {
+            rest = guide.before(list[list.len() - 1 - k], rest);
+            self.rests.push(rest);
+        }
+    }
+}
+
+/// What is kept of the lists of all vehicles in one dimension; of none where nothing is paid for spans. Contracts see
+/// what is kept of each.
+#[derive(Drop)]
+pub struct KeptLists {
+    pub lists: Vec<Kept>,
+}
+
+impl Model for KeptLists {
+    ghost use Rattle.std.specs.Prelude.{List};
+    ghost use Rattle.vr_earliest.specs.declared.kept.Kept.{Kept as KeptOf};
+
+    ghost Value = { List KeptOf };
+
+    ghost view = { λ kept. kept.lists.items };
+}
+
+impl KeptLists {
+    /// Of the lists of routes in dimension `d`. The only refusal is want of memory.
+    pub fn of(
+        alloc: Global,
+        model: &RoutingModel,
+        floors: &Floors,
+        d: u32,
+        routes: &Routes,
+    ) -> Result<KeptLists, NoMemory>
+        requires well_formed { IsWellFormed model.now }
+        requires valid { IsTrue (is_valid model.now routes.now.lists) }
+        requires dimension { d < length model.now.dimensions }
+        requires floors { AreFloors model.now d floors.now }
+        ensures { IfOk result (AreKept model.now d routes.now.lists) }
+    {
+        let mut lists = Vec::new(alloc);
+        if pays(model.dimensions.get(d as usize)) {
+            for v in 0..routes.vehicles() {
+                let mut kept = Kept::new();
+                kept.write(&Guide::of(model, floors, d, v), routes.list(v));
+                lists.push(kept)?;
+            }
+        }
+        Ok(KeptLists { lists })
+    }
+
+    /// Vehicle `v` gets another list.
+    pub fn write(&mut self, model: &RoutingModel, floors: &Floors, d: u32, v: u32, list: &[u32])
+        requires well_formed { IsWellFormed model.now }
+        requires dimension { d < length model.now.dimensions }
+        requires vehicle { v < length model.now.vehicles }
+        requires floors { AreFloors model.now d floors.now }
+        requires few { length list.now ≤ 1000 }
+        requires nodes { All (λ node. node < model.now.nodes) list.now }
+        ensures { (lists : List (List ℕ)) → AreKept model.now d lists self.old → v < length lists
+            → AreKept model.now d (with_route lists v list.now) self.new }
+    {
+        if (v as usize) < self.lists.len() {
+            let guide = Guide::of(model, floors, d, v);
+            self.lists[v as usize].write(&guide, list);
+        }
+    }
+}
+
+// Whether anything is paid for spans in a dimension.
+fn pays(dimension: &Dimension) -> bool
+    ensures { result ≡ false → IsUnpaid dimension.now }
+{
+    for v in 0..dimension.span_costs.len() {
+        if *dimension.span_costs.get(v) != 0 {
+            return true;
+        }
+    }
+    dimension.global_span_cost != 0
+}
