@@ -95,8 +95,8 @@ impl<'m, F: PathFilter + Drop> Judge for Judging<'m, F> {
     }
 
     #[inline]
-    fn least_difference(&mut self, routes: &Routes, _mv: Move, change: &Change) -> i64 {
-        self.costs.least(routes, change)
+    fn least_difference(&mut self, routes: &Routes, mv: Move, change: &Change) -> i64 {
+        self.costs.least(routes, mv, change)
     }
 
     /// Filters and parts of the cost are made ready first; then all are changed, which takes no memory.
