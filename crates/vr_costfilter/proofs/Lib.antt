@@ -3,6 +3,7 @@ pub mod PieceLemmas
 pub mod PathLemmas
 pub mod LineLemmas
 pub mod SumLemmas
+pub mod MoveLemmas
 pub mod PartLemmas
 pub mod RowLemmas
 pub mod FixedLemmas

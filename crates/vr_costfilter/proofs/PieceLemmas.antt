@@ -43,7 +43,7 @@ pub chain-costs : (cost : ℕ → ℕ → ℤ) (list : List ℕ) (f t : ℕ) (ba
 chain-costs cost list f t false = refl
 chain-costs cost list f t true = chain-turned cost (slice_range list f t)
 
-all-reversed : (P : ℕ → Type 0) (xs : List ℕ) → All P (reverse xs) → All P xs
+pub all-reversed : (P : ℕ → Type 0) (xs : List ℕ) → All P (reverse xs) → All P xs
 all-reversed P xs h k d low =
     let j : ℕ = length xs - 1 - k in
     let here : length xs - 1 - j ≡ k = omega (arith, low) in

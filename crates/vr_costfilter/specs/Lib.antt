@@ -1,6 +1,7 @@
 pub mod Parts
 pub mod Chains
 pub mod Along
+pub mod ArcMoves
 pub mod Sums
 pub mod Bounds
 pub mod Fixed

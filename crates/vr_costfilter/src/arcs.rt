@@ -1,6 +1,6 @@
 //! The arc costs of used vehicles.
 
-ghost use Rattle.std.specs.Prelude.{◌≡◌, ◌<◌, ◌≤◌, ◌-ℤ◌, IsTrue, IfOk, IsOk, OnOk, OnErr, length};
+ghost use Rattle.std.specs.Prelude.{◌≡◌, ◌<◌, ◌≤◌, ◌-ℤ◌, All, IsTrue, IfOk, IsOk, OnOk, OnErr, length};
 ghost use Rattle.vr_model.specs.routes.Costs.{arcs_part};
 ghost use Rattle.vr_model.specs.routes.Routes.{route, route_cost};
 ghost use Rattle.vr_model.specs.tables.Tables.{visits};
@@ -10,6 +10,7 @@ ghost use Rattle.vr_routes.specs.Pieces.{changed, joined, IsWithin};
 ghost use Rattle.vr_routes.specs.Changes.{IsMadeOn};
 ghost use Rattle.vr_costfilter.specs.Parts.{NothingReady};
 ghost use Rattle.vr_costfilter.specs.Along.{StandsAlong};
+ghost use Rattle.vr_costfilter.specs.ArcMoves.{costs_more, with_between};
 ghost use Rattle.vr_timings.specs.Bounds.{IsAround};
 
 use crate::CostPart;
@@ -68,6 +69,7 @@ impl<'m> ArcCost<'m> {
     }
 
     /// What a change of the committed lists adds, also where the lists after it are not valid.
+    #[inline]
     pub fn added(&self, routes: &Routes, change: &Change) -> i64
         requires stands { StandsAlong self.now routes.now }
         requires made { IsMadeOn routes.now change.now }
@@ -76,6 +78,45 @@ impl<'m> ArcCost<'m> {
         ensures range { IsAround 21990232555520000 result }
     {
         added_by(self, routes, change)
+    }
+
+    /// What pieces add to the arc costs of a vehicle between the first `front` visits of its list and those from place
+    /// `behind` on, in the place of what stands there.
+    #[inline]
+    pub(crate) fn between_adds(
+        &self,
+        routes: &Routes,
+        v: u32,
+        front: u32,
+        behind: u32,
+        pieces: &[Piece],
+    ) -> i64
+        requires stands { StandsAlong self.now routes.now }
+        requires vehicle { v < length routes.now.lists }
+        requires order { front ≤ behind }
+        requires place { behind ≤ length (route routes.now.lists v) }
+        requires within { All (IsWithin routes.now.lists) pieces.now }
+        requires few { length pieces.now ≤ 8 }
+        requires nodes { All (λ node. node < self.now.model.nodes) (joined routes.now.lists pieces.now) }
+        ensures value { result ≡ costs_more self.now.model routes.now.lists v
+            (with_between (route routes.now.lists v) front behind (joined routes.now.lists pieces.now)) }
+        ensures range { IsAround 10995116277760000 result }
+    {
+        let gap = Gap {
+            front,
+            behind,
+            from: stop_before(self.model, routes, v, front),
+            to: stop_at(self.model, routes, v, behind),
+        };
+        let number = self.model.vehicles.get(v as usize).costs;
+        let costs = ArcCosts {
+            model: self.model,
+            vehicle: v,
+            entries: self.model.matrices.get(number as usize).entries.as_slice(),
+        };
+        let before = self.along[v as usize].stretch(routes.len(v), front, behind);
+        let after = cost_between(&costs, &self.along, routes, gap, pieces);
+        after - before
     }
 }
 
@@ -89,21 +130,7 @@ impl<'m> ListCost for ArcCost<'m> {
     #[inline]
     fn list_adds(&self, routes: &Routes, v: u32, pieces: &[Piece]) -> i64 {
         let ends = strip(routes, v, pieces);
-        let gap = Gap {
-            front: ends.front,
-            behind: ends.behind,
-            from: stop_before(self.model, routes, v, ends.front),
-            to: stop_at(self.model, routes, v, ends.behind),
-        };
-        let number = self.model.vehicles.get(v as usize).costs;
-        let costs = ArcCosts {
-            model: self.model,
-            vehicle: v,
-            entries: self.model.matrices.get(number as usize).entries.as_slice(),
-        };
-        let before = self.along[v as usize].stretch(routes.len(v), ends.front, ends.behind);
-        let after = cost_between(&costs, &self.along, routes, gap, ends.middle);
-        after - before
+        self.between_adds(routes, v, ends.front, ends.behind, ends.middle)
     }
 }
 

@@ -77,6 +77,7 @@ impl<'m> ListCost for FixedCost<'m> {
 
 impl<'m> FixedCost<'m> {
     /// What a change of the committed lists adds, also where the lists after it are not valid.
+    #[inline]
     pub fn added(&self, routes: &Routes, change: &Change) -> i64
         requires stands { StandsFixed self.now routes.now }
         requires made { IsMadeOn routes.now change.now }

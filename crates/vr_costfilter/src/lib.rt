@@ -9,6 +9,7 @@ mod globals;
 mod groups;
 mod lines;
 mod lists;
+mod moves;
 mod part;
 mod plans;
 mod reaches;

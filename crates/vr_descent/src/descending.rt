@@ -26,10 +26,12 @@ impl<'m> Accept for Cheaper<'m> {
 
     ghost takes = { λ s lists mv difference. int_lt difference (pos 0) };
 
+    #[inline]
     fn accepts(&self, _routes: &Routes, _mv: Move, difference: i64) -> bool {
         difference < 0
     }
 
+    #[inline]
     fn may_accept(&self, _routes: &Routes, _mv: Move, _change: &Change, least: i64) -> bool {
         least < 0
     }

@@ -58,7 +58,7 @@ impl<'a> Generator<'a> {
     }
 
     /// Takes the first of the moves that are left, if there is one. Takes no memory.
-    #[inline]
+    #[inline(always)]
     pub fn step(&mut self) -> Option<Move>
         ensures { YieldsFirst left_in self.old result self.new }
     {

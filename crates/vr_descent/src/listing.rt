@@ -61,6 +61,8 @@ impl<'a> Iterator for MoveList<'a> {
 
     ghost remaining = { item_count (λ list. list) };
 
+    // A move that is answered through memory is read again more slowly than it is made.
+    #[inline(always)]
     fn next(&mut self) -> Option<Move> {
         loop {
             if let Some(mv) = step_in(&mut self.current) {
@@ -78,7 +80,7 @@ impl<'a> Iterator for MoveList<'a> {
 }
 
 // Takes the first of the moves that are left of a neighbourhood, where there is one in hand.
-#[inline]
+#[inline(always)]
 fn step_in(current: &mut Option<Generator>) -> Option<Move>
     ensures { YieldsFirst left_of current.old result current.new }
 {

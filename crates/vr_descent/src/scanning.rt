@@ -36,6 +36,7 @@ pub enum ScanEnd {
 /// What a move changes is written once, for both.
 ///
 /// The only refusal is want of memory, which is taken by the judge alone; the judge still holds the same lists then.
+#[inline(never)]
 pub fn scan<J: Judge, A: Accept, L: Ledger>(
     model: &Model,
     judge: &mut J,
@@ -77,9 +78,9 @@ pub fn scan<J: Judge, A: Accept, L: Ledger>(
     Ok(ScanEnd::Complete { length: place })
 }
 
-// The difference that a move makes, where it is acceptable. What it changes is written over `change`. The judge is asked
-// only where the move may be taken.
-#[inline]
+// The difference that a move makes, where it is acceptable. What it changes is written over `change`. The judge is
+// asked only where the move may be taken.
+#[inline(always)]
 fn try_move<J: Judge, A: Accept, L: Ledger>(
     model: &Model,
     judge: &mut J,

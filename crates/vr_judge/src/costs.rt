@@ -1,11 +1,12 @@
 //! The parts of the cost together.
 
-ghost use Rattle.std.specs.Prelude.{◌≡◌, ◌-ℤ◌, ◌≤ℤ◌, IsTrue, IfOk, OnOk, OnErr};
+ghost use Rattle.std.specs.Prelude.{◌≡◌, ◌-ℤ◌, ◌≤ℤ◌, true, IsTrue, IfOk, OnOk, OnErr};
+ghost use Rattle.vr_model.specs.moves.MoveTests.{is_move};
 ghost use Rattle.vr_model.specs.routes.Costs.{cost};
 ghost use Rattle.vr_model.specs.routes.Rules.{is_valid};
 ghost use Rattle.vr_model.specs.tables.Tables.{visits};
 ghost use Rattle.vr_model.specs.tables.WellFormed.{IsWellFormed};
-ghost use Rattle.vr_routes.specs.Changes.{IsMadeOn};
+ghost use Rattle.vr_routes.specs.Changes.{IsChange, IsMadeOn};
 ghost use Rattle.vr_routes.specs.Pieces.{changed};
 ghost use Rattle.vr_costfilter.specs.Parts.{after};
 ghost use Rattle.vr_judge.specs.Standing.{StandsCosts};
@@ -14,7 +15,7 @@ use std::alloc::Global;
 use std::marker::Model;
 use vr_costfilter::{ArcCost, CostPart, FixedCost, GlobalSpan, GroupCost, PlanCost};
 use vr_earliest::Earliest;
-use vr_model::{Model as RoutingModel, NoMemory};
+use vr_model::{Model as RoutingModel, Move, NoMemory};
 use vr_routes::{Change, Routes};
 
 /// What routes cost, part by part.
@@ -88,17 +89,20 @@ impl<'m> Costs<'m> {
         Ok(arcs + fixed + groups + plans + spans)
     }
 
-    /// What a change of the committed lists adds to their cost at least, where the lists after it are valid: what arcs
-    /// and fixed costs add, and what groups, soft upper bounds, spans and global spans add at least.
-    pub(crate) fn least(&mut self, routes: &Routes, change: &Change) -> i64
+    /// What a move of the committed lists adds to their cost at least, where the lists after it are valid: what arcs and
+    /// fixed costs add, and what groups, soft upper bounds, spans and global spans add at least. The caller hands in the
+    /// change that the move makes.
+    pub(crate) fn least(&mut self, routes: &Routes, mv: Move, change: &Change) -> i64
         requires stands { StandsCosts self.old routes.now }
         requires made { IsMadeOn routes.now change.now }
+        requires is_one { is_move self.old.model routes.now.lists mv ≡ true }
+        requires change { IsChange self.old.model routes.now.lists mv change.now }
         ensures least { IsTrue (is_valid self.old.model (changed routes.now.lists change.now))
             → result ≤ℤ (cost self.old.model (changed routes.now.lists change.now)
             -ℤ cost self.old.model routes.now.lists) }
         ensures stays { self.new ≡ self.old }
     {
-        let arcs = self.arcs.added(routes, change);
+        let arcs = self.arcs.added_by_move(routes, mv, change);
         let fixed = self.fixed.added(routes, change);
         let groups = self.groups.least(routes, change);
         let plans = self.plans.least(&self.earliest, routes, change);

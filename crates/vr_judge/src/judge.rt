@@ -74,6 +74,7 @@ impl<'m> Judge for FilterJudge<'m> {
         Ok(verdict)
     }
 
+    #[inline]
     fn least_difference(&mut self, routes: &Routes, mv: Move, change: &Change) -> i64 {
         self.judging.least_difference(routes, mv, change)
     }

@@ -94,8 +94,9 @@ impl<'m, F: PathFilter + Drop> Judge for Judging<'m, F> {
         Ok(Verdict::Difference(difference))
     }
 
-    fn least_difference(&mut self, routes: &Routes, _mv: Move, change: &Change) -> i64 {
-        self.costs.least(routes, change)
+    #[inline]
+    fn least_difference(&mut self, routes: &Routes, mv: Move, change: &Change) -> i64 {
+        self.costs.least(routes, mv, change)
     }
 
     /// Filters and parts of the cost are made ready first; then all are changed, which takes no memory.
