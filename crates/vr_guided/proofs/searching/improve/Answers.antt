@@ -131,7 +131,7 @@ scans-preserved-in-Accepted g c =
             (record { costs = costs_new; valid = c.in_ok-ended.ensures.holds.valid; same_visits = refl }));
         few = few_more (counted c.scans.state.penalties) c.scans.state.at.used c.advance.new.self.used (omega (arith, used_new)) c.scans.invariant.stands.few;
         covers = c.scans.invariant.stands.covers;
-        lines = c.write.ensures.many;
+        route_sums = c.write.ensures.many;
       };
       asked = omega (arith, c.in_ok-ended.ensures.asked, c.scans.invariant.asked);
       no_dearer = subst (λ b. b.cost ≤ℤ c.args.state.now.best.cost) (sym offered) (kept_no_dearer c.scans.state.best c.advance.new.routes c.advance.new.self.cost c.args.state.now.best.cost c.scans.invariant.no_dearer);
@@ -233,7 +233,7 @@ scans-preserved g c =
         best = record { costs = best_old.costs; valid = best_old.valid; same_visits = best_old.same_visits ∙ sym (ap (λ r. r.visits) routes_new) };
         few = subst (λ k. AtMost k (counted c.raise.new.self)) (sym used_new) (subst (λ p. AtMost (c.scans.state.at.used + c.in-Complete.length) p) (sym raised_new) (few_raised c.args.model.now (counted c.scans.state.penalties) c.scans.routes.lists c.scans.state.at.used c.in-Complete.length one c.scans.invariant.stands.few));
         covers = c.raise.ensures.nodes ∙ c.scans.invariant.stands.covers;
-        lines = c.write.ensures.many;
+        route_sums = c.write.ensures.many;
       };
       asked = omega (arith, c.in_ok-ended.ensures.asked, c.scans.invariant.asked);
       no_dearer = c.scans.invariant.no_dearer;
@@ -295,7 +295,7 @@ returns-then-is_stuck-clause-stands g c =
       best = record { costs = best_old.costs; valid = best_old.valid; same_visits = best_old.same_visits ∙ sym (ap (λ r. r.visits) routes_new) };
       few = few_more (counted c.scans.state.penalties) c.scans.state.at.used c.advance.new.self.used (omega (arith, used_new, c.scans.invariant.stands.used)) c.scans.invariant.stands.few;
       covers = c.scans.invariant.stands.covers;
-      lines = c.write.ensures.many;
+      route_sums = c.write.ensures.many;
     }
 
 pub returns-then-is_stuck-clause-no_dearer : goal.returns-then-is_stuck-clause-no_dearer
@@ -355,7 +355,7 @@ returns-in-Cut-clause-stands g c =
       best = record { costs = best_old.costs; valid = best_old.valid; same_visits = best_old.same_visits ∙ sym (ap (λ r. r.visits) routes_new) };
       few = few_more (counted c.scans.state.penalties) c.scans.state.at.used c.advance.new.self.used (omega (arith, used_new, c.scans.invariant.stands.used)) c.scans.invariant.stands.few;
       covers = c.scans.invariant.stands.covers;
-      lines = c.write.ensures.many;
+      route_sums = c.write.ensures.many;
     }
 
 pub returns-in-Cut-clause-no_dearer : goal.returns-in-Cut-clause-no_dearer

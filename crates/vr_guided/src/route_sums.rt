@@ -2,7 +2,7 @@
 
 ghost use Rattle.std.specs.Prelude.{◌≡◌, ◌<◌, ◌≤◌, All, IfOk, IsTrue, length, slice_index_or};
 ghost use Rattle.vr_guided.specs.Counts.{AtMost, counted};
-ghost use Rattle.vr_guided.specs.Lines.{AreLines, IsLine, no_line};
+ghost use Rattle.vr_guided.specs.RouteSums.{AreAllRouteSums, AreRouteSums, no_route_sums};
 ghost use Rattle.vr_model.specs.routes.Routes.{route};
 ghost use Rattle.vr_model.specs.routes.Rules.{is_valid};
 ghost use Rattle.vr_model.specs.tables.WellFormed.{IsWellFormed};
@@ -16,15 +16,15 @@ use vr_routes::Routes;
 
 /// What the arcs of one vehicle add up to before each stop, taken on and back.
 #[derive(Drop)]
-pub struct Line {
+pub struct RouteSums {
     pub on: Sums,
     pub back: Sums,
 }
 
-impl Line {
+impl RouteSums {
     // Of no list.
-    fn new() -> Line {
-        Line {
+    fn new() -> RouteSums {
+        RouteSums {
             on: Sums::new(),
             back: Sums::new(),
         }
@@ -38,38 +38,38 @@ impl Line {
         requires short { length list.now ≤ 1000 }
         requires covers { penalties.now.nodes ≡ model.now.nodes }
         requires few { AtMost 1000000000 (counted penalties.now) }
-        ensures { IsLine model.now (counted penalties.now) v list.now self.new }
+        ensures { AreRouteSums model.now (counted penalties.now) v list.now self.new }
     {
         self.on.write(model, penalties, v, list, false);
         self.back.write(model, penalties, v, list, true);
     }
 }
 
-/// The line of each vehicle. With them the penalised arc costs of a stretch of a list are one subtraction.
+/// The sums of each vehicle. With them the penalised arc costs of a stretch of a list are one subtraction.
 #[derive(Drop)]
-pub struct Lines {
-    vehicles: Vec<Line>,
+pub struct AllRouteSums {
+    vehicles: Vec<RouteSums>,
 }
 
-impl Model for Lines {
+impl Model for AllRouteSums {
     ghost use Rattle.std.specs.Prelude.{List};
-    ghost use Rattle.vr_guided.specs.declared.lines.Line.{Line};
+    ghost use Rattle.vr_guided.specs.declared.route_sums.RouteSums.{RouteSums};
 
-    ghost Value = { List Line };
+    ghost Value = { List RouteSums };
 
     ghost view = { λ s. s.vehicles.items };
 }
 
-impl Lines {
-    /// Memory for the line of each vehicle. The only refusal is want of it.
-    pub fn new(alloc: Global, model: &RoutingModel) -> Result<Lines, NoMemory>
-        ensures { IfOk result (λ lines. length lines ≡ length model.now.vehicles) }
+impl AllRouteSums {
+    /// Memory for the sums of each vehicle. The only refusal is want of it.
+    pub fn new(alloc: Global, model: &RoutingModel) -> Result<AllRouteSums, NoMemory>
+        ensures { IfOk result (λ route_sums. length route_sums ≡ length model.now.vehicles) }
     {
         let mut vehicles = Vec::with_capacity(alloc, model.vehicles.len())?;
         for _ in 0..model.vehicles.len() {
-            vehicles.push(Line::new())?;
+            vehicles.push(RouteSums::new())?;
         }
-        Ok(Lines { vehicles })
+        Ok(AllRouteSums { vehicles })
     }
 
     /// Becomes those of the lists of routes. Takes no memory.
@@ -79,18 +79,18 @@ impl Lines {
         requires many { length self.old ≡ length model.now.vehicles }
         requires covers { penalties.now.nodes ≡ model.now.nodes }
         requires few { AtMost 1000000000 (counted penalties.now) }
-        ensures { AreLines model.now (counted penalties.now) routes.now.lists self.new }
+        ensures { AreAllRouteSums model.now (counted penalties.now) routes.now.lists self.new }
     {
         for v in 0..model.vehicles.len() as u32 {
             self.vehicles[v as usize].write(model, penalties, v, routes.list(v));
         }
     }
 
-    /// The line of a vehicle.
+    /// The sums of a vehicle.
     #[inline]
-    pub fn of(&self, v: u32) -> &Line
+    pub fn of(&self, v: u32) -> &RouteSums
         requires vehicle { v < length self.now }
-        ensures { result.now ≡ slice_index_or self.now v no_line }
+        ensures { result.now ≡ slice_index_or self.now v no_route_sums }
     {
         &self.vehicles[v as usize]
     }
