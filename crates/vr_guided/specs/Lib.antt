@@ -3,6 +3,7 @@ pub mod Kept
 pub mod Parts
 pub mod Sums
 pub mod RouteSums
+pub mod Named
 pub mod Guides
 pub mod Standing
 pub mod Worths

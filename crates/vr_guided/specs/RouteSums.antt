@@ -1,5 +1,5 @@
 -- The sums of all vehicles with their lists.
-use Rattle.std.specs.Prelude.{◌≡◌, ℕ, ◌<◌, true, false, List, [], length, slice_index_or}
+use Rattle.std.specs.Prelude.{◌≡◌, ◌≢◌, ℕ, ◌<◌, true, false, List, [], length, slice_index_or}
 use Rattle.vr_model.specs.tables.Tables.{vehicle_at}
 use Rattle.vr_model.specs.routes.Routes.{route}
 use Rattle.vr_model.specs.search.GuidedSearches.{Penalties}
@@ -22,3 +22,10 @@ pub record AreAllRouteSums (model : Model) (p : Penalties) (lists : List (List �
   pub known : length lists ≡ length model.vehicles
   pub each : (v : ℕ) → v < length model.vehicles
       → AreRouteSums model p v (route lists v) (slice_index_or all v no_route_sums)
+
+-- the sums of vehicle v became those of its list, where there is such a vehicle, and no others were changed
+pub record IsWritten (model : Model) (p : Penalties) (lists : List (List ℕ)) (v : ℕ) (before after : List RouteSums) :
+    Type 0 where
+  pub long : length after ≡ length before
+  pub here : v < length before → AreRouteSums model p v (route lists v) (slice_index_or after v no_route_sums)
+  pub others : (u : ℕ) → u ≢ v → slice_index_or after u no_route_sums ≡ slice_index_or before u no_route_sums

@@ -11,6 +11,7 @@ mod raising;
 mod route_sums;
 mod searching;
 mod sums;
+mod two_vehicles;
 mod walks;
 mod worths;
 

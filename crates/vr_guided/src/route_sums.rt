@@ -1,17 +1,19 @@
 //! The sums of all vehicles with their lists.
 
-ghost use Rattle.std.specs.Prelude.{◌≡◌, ◌<◌, ◌≤◌, All, IfOk, IsTrue, length, slice_index_or};
+ghost use Rattle.std.specs.Prelude.{◌≡◌, ◌<◌, ◌≤◌, ℕ, All, IfOk, IsTrue, List, length, slice_index_or};
 ghost use Rattle.vr_guided.specs.Counts.{AtMost, counted};
-ghost use Rattle.vr_guided.specs.RouteSums.{AreAllRouteSums, AreRouteSums, no_route_sums};
+ghost use Rattle.vr_guided.specs.RouteSums.{AreAllRouteSums, AreRouteSums, IsWritten, no_route_sums};
+ghost use Rattle.vr_model.specs.moves.Moves.{apply};
 ghost use Rattle.vr_model.specs.routes.Routes.{route};
 ghost use Rattle.vr_model.specs.routes.Rules.{is_valid};
 ghost use Rattle.vr_model.specs.tables.WellFormed.{IsWellFormed};
 
 use crate::penalties::Penalties;
 use crate::sums::Sums;
+use crate::two_vehicles::vehicles_of;
 use std::alloc::Global;
 use std::marker::Model;
-use vr_model::{Model as RoutingModel, NoMemory};
+use vr_model::{Model as RoutingModel, Move, NoMemory};
 use vr_routes::Routes;
 
 /// What the arcs of one vehicle add up to before each stop, taken on and back.
@@ -84,6 +86,42 @@ impl AllRouteSums {
         for v in 0..model.vehicles.len() as u32 {
             self.vehicles[v as usize].write(model, penalties, v, routes.list(v));
         }
+    }
+
+    // Writes the sums of one vehicle with its list, where there is such a vehicle.
+    fn write_of(&mut self, model: &RoutingModel, penalties: &Penalties, routes: &Routes, v: u32)
+        requires well_formed { IsWellFormed model.now }
+        requires valid { IsTrue (is_valid model.now routes.now.lists) }
+        requires many { length self.old ≡ length model.now.vehicles }
+        requires covers { penalties.now.nodes ≡ model.now.nodes }
+        requires few { AtMost 1000000000 (counted penalties.now) }
+        ensures { IsWritten model.now (counted penalties.now) routes.now.lists v self.old self.new }
+    {
+        if (v as usize) < model.vehicles.len() {
+            self.vehicles[v as usize].write(model, penalties, v, routes.list(v));
+        }
+    }
+
+    /// Those of some lists become those of routes that have these lists after a move. Takes no memory.
+    pub fn follow(&mut self, model: &RoutingModel, penalties: &Penalties, routes: &Routes, mv: Move)
+        requires well_formed { IsWellFormed model.now }
+        requires valid { IsTrue (is_valid model.now routes.now.lists) }
+        requires many { length self.old ≡ length model.now.vehicles }
+        requires covers { penalties.now.nodes ≡ model.now.nodes }
+        requires few { AtMost 1000000000 (counted penalties.now) }
+        ensures { (lists : List (List ℕ)) → AreAllRouteSums model.now (counted penalties.now) lists self.old
+            → routes.now.lists ≡ apply model.now lists mv
+            → AreAllRouteSums model.now (counted penalties.now) routes.now.lists self.new }
+    {
+        let Some(both) = vehicles_of(mv) else {
+            self.write(model, penalties, routes);
+            return;
+        };
+        self.write_of(model, penalties, routes, both.v);
+        if both.w == both.v {
+            return;
+        }
+        self.write_of(model, penalties, routes, both.w);
     }
 
     /// The sums of a vehicle.

@@ -144,8 +144,8 @@ fn improve<J: Judge, L: Ledger>(
         (from_state model.now limit lambda routes.old.lists state.old).events) }
     ensures asked_at_most { OnErr result (J.asked judge.new + state.old.at.used ≤ J.asked judge.old + limit.tries) }
 {
+    state.route_sums.write(model, &state.penalties, routes);
     'scans: while state.at.found != limit.solutions {
-        state.route_sums.write(model, &state.penalties, routes);
         let guiding = Guiding {
             model,
             lambda,
@@ -156,7 +156,8 @@ fn improve<J: Judge, L: Ledger>(
             .at
             .advance(model, judge, routes, &guiding, limit, watch, steps)?;
         match ended {
-            ScanEnd::Accepted { .. } => {
+            ScanEnd::Accepted { mv, .. } => {
+                state.route_sums.follow(model, &state.penalties, routes, mv);
                 state.best.offer(routes, &state.at);
             }
             ScanEnd::Complete { length } => {
@@ -164,6 +165,7 @@ fn improve<J: Judge, L: Ledger>(
                     return Ok(End::Optimum);
                 }
                 state.penalties.raise(model, routes);
+                state.route_sums.write(model, &state.penalties, routes);
                 note_all(watch, state.at.event(Kind::Round))?;
             }
             ScanEnd::Cut => return Ok(End::Tries),
