@@ -9,4 +9,6 @@ mod looked_up;
 #[cfg(test)]
 mod pairs;
 #[cfg(test)]
+mod samples;
+#[cfg(test)]
 mod tests;

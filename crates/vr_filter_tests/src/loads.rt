@@ -1,17 +1,18 @@
 //! Filters of dimensions that are loads, and of one that is nearly a load.
 
-use crate::tests::of_text;
+use crate::samples::Sample;
+use crate::tests::of_sample;
 use std::test::Fail;
 use vr_model::Move;
 
 // Six visits of which each vehicle takes something else.
-const TWO_LOADS: &str =
-    r#"{"format":1,"nodes":7,"matrices":[[[0,5,5,5,5,5,5],[5,0,5,5,5,5,5],[5,5,0,5,5,5,5],
-[5,5,5,0,5,5,5],[5,5,5,5,0,5,5],[5,5,5,5,5,0,5],[5,5,5,5,5,5,0]]],
-"vehicles":[{"start":0,"end":0},{"start":0,"end":0}],
+const TWO_LOADS: Sample = Sample {
+    visits: 6,
+    far: 5,
+    rest: r#""vehicles":[{"start":0,"end":0},{"start":0,"end":0}],
 "dimensions":[{"name":"load","evaluators":[{"values":[0,3,4,5,1,2,6]},{"values":[0,6,2,1,5,4,3]}],
-"vehicle_evaluators":[0,1],"capacity":[9,7],"slack_max":0}],
-"groups":[{"nodes":[1,2,3,4,5,6],"penalty":1,"max":6}]}"#;
+"vehicle_evaluators":[0,1],"capacity":[9,7],"slack_max":0}]"#,
+};
 
 const CARRIED: &[(Move, bool)] = &[
     (Move::MakeActive { u: 1, w: 0, t: 0 }, true),
@@ -77,11 +78,12 @@ const CARRIED: &[(Move, bool)] = &[
 ];
 
 // A start where 4 is taken, and a second vehicle with room for 3.
-const AT_START: &str =
-    r#"{"format":1,"nodes":4,"matrices":[[[0,5,5,5],[5,0,5,5],[5,5,0,5],[5,5,5,0]]],
-"vehicles":[{"start":0,"end":0},{"start":0,"end":0}],
-"dimensions":[{"name":"load","evaluators":[{"values":[4,2,3,0]}],"capacity":[6,3],"slack_max":0}],
-"groups":[{"nodes":[1,2,3],"penalty":1,"max":3}]}"#;
+const AT_START: Sample = Sample {
+    visits: 3,
+    far: 5,
+    rest: r#""vehicles":[{"start":0,"end":0},{"start":0,"end":0}],
+"dimensions":[{"name":"load","evaluators":[{"values":[4,2,3,0]}],"capacity":[6,3],"slack_max":0}]"#,
+};
 
 const FROM_START: &[(Move, bool)] = &[
     (Move::MakeActive { u: 1, w: 0, t: 0 }, true),
@@ -103,11 +105,12 @@ const FROM_START: &[(Move, bool)] = &[
 ];
 
 // What is taken away at visit 2 makes this no load: what matters is the most that is carried on the way.
-const TAKEN_AWAY: &str =
-    r#"{"format":1,"nodes":4,"matrices":[[[0,5,5,5],[5,0,5,5],[5,5,0,5],[5,5,5,0]]],
-"vehicles":[{"start":0,"end":0}],
-"dimensions":[{"name":"load","evaluators":[{"values":[0,5,-4,3]}],"capacity":6,"slack_max":0}],
-"groups":[{"nodes":[1,2,3],"penalty":1,"max":3}]}"#;
+const TAKEN_AWAY: Sample = Sample {
+    visits: 3,
+    far: 5,
+    rest: r#""vehicles":[{"start":0,"end":0}],
+"dimensions":[{"name":"load","evaluators":[{"values":[0,5,-4,3]}],"capacity":6,"slack_max":0}]"#,
+};
 
 const ON_THE_WAY: &[(Move, bool)] = &[
     (Move::MakeActive { u: 1, w: 0, t: 0 }, true),
@@ -121,8 +124,8 @@ const ON_THE_WAY: &[(Move, bool)] = &[
 #[test]
 fn a_load_refuses_what_is_too_much(rt: HostRuntime) -> Result<(), Fail> {
     let alloc = rt.alloc();
-    assert!(rt; of_text(alloc, TWO_LOADS, CARRIED)?);
-    assert!(rt; of_text(alloc, AT_START, FROM_START)?);
-    assert!(rt; of_text(alloc, TAKEN_AWAY, ON_THE_WAY)?);
+    assert!(rt; of_sample(alloc, TWO_LOADS, CARRIED)?);
+    assert!(rt; of_sample(alloc, AT_START, FROM_START)?);
+    assert!(rt; of_sample(alloc, TAKEN_AWAY, ON_THE_WAY)?);
     Ok(())
 }

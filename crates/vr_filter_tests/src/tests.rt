@@ -5,6 +5,7 @@ ghost use Rattle.vr_model.specs.routes.Rules.{is_valid};
 ghost use Rattle.vr_model.specs.tables.Tables.{visits};
 ghost use Rattle.vr_model.specs.tables.WellFormed.{IsWellFormed};
 
+use crate::samples::{Sample, model_of};
 use std::alloc::Global;
 use std::marker::Brand;
 use std::sync::ledger::{Blank, Ledger};
@@ -19,20 +20,25 @@ use vr_samples::read_model_text;
 
 // Four visits, each 10 from the others. Node 1 has a window, node 2 a later one, node 3 five forbidden intervals, so
 // that its set is kept beyond what is held in place, and node 4 a late window; node 4 is for the first vehicle alone.
-const WINDOWS: &str = r#"{"format":1,"nodes":5,
-"matrices":[[[0,10,10,10,10],[10,0,10,10,10],[10,10,0,10,10],[10,10,10,0,10],[10,10,10,10,0]]],
-"vehicles":[{"start":0,"end":0},{"start":0,"end":0}],
+const WINDOWS: Sample = Sample {
+    visits: 4,
+    far: 10,
+    rest: r#""vehicles":[{"start":0,"end":0},{"start":0,"end":0}],
 "dimensions":[{"name":"time","evaluators":[{"matrix":0}],"capacity":100,"slack_max":100,
 "nodes":[{"node":1,"window":[10,20]},{"node":2,"window":[20,30]},
 {"node":3,"forbidden":[[0,24],[26,34],[36,44],[46,54],[56,64]]},{"node":4,"window":[90,95]}]}],
-"allowed":[{"node":4,"vehicles":[0]}],"groups":[{"nodes":[1,2,3,4],"penalty":1,"max":4}]}"#;
+"allowed":[{"node":4,"vehicles":[0]}]"#,
+};
 
 // Two visits, 10 from one another. The first vehicle has two breaks, the second none.
-const BREAKS: &str = r#"{"format":1,"nodes":3,"matrices":[[[0,10,10],[10,0,10],[10,10,0]]],
-"vehicles":[{"start":0,"end":0},{"start":0,"end":0}],
+const BREAKS: Sample = Sample {
+    visits: 2,
+    far: 10,
+    rest: r#""vehicles":[{"start":0,"end":0},{"start":0,"end":0}],
 "dimensions":[{"name":"time","evaluators":[{"matrix":0}],"capacity":60,"slack_max":30,"fix_start":true,
 "breaks":[{"vehicle":0,"breaks":[{"from":5,"to":12,"duration":5},{"from":40,"to":41,"duration":5}]}],
-"nodes":[{"node":1,"window":[0,15]}]}],"groups":[{"nodes":[1,2],"penalty":1,"max":2}]}"#;
+"nodes":[{"node":1,"window":[0,15]}]}]"#,
+};
 
 // Makes a move where it is one and the filter lets it pass; answers whether that was so.
 fn try_move<F: PathFilter, L: Ledger>(
@@ -193,10 +199,13 @@ const WITH_BREAKS: &[(Move, bool)] = &[
 ];
 
 // Two visits, 5 from one another, no waiting, and a single forbidden cumul at node 2, between two runs.
-const GAP: &str =
-    r#"{"format":1,"nodes":3,"matrices":[[[0,5,5],[5,0,5],[5,5,0]]],"vehicles":[{"start":0,"end":0}],
+const GAP: Sample = Sample {
+    visits: 2,
+    far: 5,
+    rest: r#""vehicles":[{"start":0,"end":0}],
 "dimensions":[{"name":"time","evaluators":[{"matrix":0}],"capacity":100,"slack_max":0,"fix_start":true,
-"nodes":[{"node":2,"forbidden":[[10,10]]}]}],"groups":[{"nodes":[1,2],"penalty":1,"max":2}]}"#;
+"nodes":[{"node":2,"forbidden":[[10,10]]}]}]"#,
+};
 
 const INTO_THE_GAP: &[(Move, bool)] = &[
     (Move::MakeActive { u: 1, w: 0, t: 0 }, true),
@@ -206,13 +215,14 @@ const INTO_THE_GAP: &[(Move, bool)] = &[
 ];
 
 // Three visits, 10 from one another, each with one window. The second vehicle has a break.
-const RUNS: &str = r#"{"format":1,"nodes":4,
-"matrices":[[[0,10,10,10],[10,0,10,10],[10,10,0,10],[10,10,10,0]]],
-"vehicles":[{"start":0,"end":0},{"start":0,"end":0}],
+const RUNS: Sample = Sample {
+    visits: 3,
+    far: 10,
+    rest: r#""vehicles":[{"start":0,"end":0},{"start":0,"end":0}],
 "dimensions":[{"name":"time","evaluators":[{"matrix":0}],"capacity":100,"slack_max":20,"fix_start":true,
 "breaks":[{"vehicle":1,"breaks":[{"from":12,"to":18,"duration":5}]}],
-"nodes":[{"node":1,"window":[10,20]},{"node":2,"window":[20,30]},{"node":3,"window":[30,35]}]}],
-"groups":[{"nodes":[1,2,3],"penalty":1,"max":3}]}"#;
+"nodes":[{"node":1,"window":[10,20]},{"node":2,"window":[20,30]},{"node":3,"window":[30,35]}]}]"#,
+};
 
 // The first vehicle is late, in a list that turns round and at its end. Of the second, a walk without its break does
 // not tell of the first list, refuses the next one, and lets the last one pass.
@@ -252,10 +262,12 @@ const ONE_RUN_EACH: &[(Move, bool)] = &[
 ];
 
 // At most two of three visits fit into the vehicle.
-const LOADS: &str = r#"{"format":1,"nodes":4,"vehicles":[{"start":0,"end":0}],
-"matrices":[[[0,5,5,5],[5,0,5,5],[5,5,0,5],[5,5,5,0]]],
-"dimensions":[{"name":"load","evaluators":[{"values":[0,1,1,1]}],"capacity":2,"slack_max":0,"fix_start":true}],
-"groups":[{"nodes":[1,2,3],"penalty":1,"max":3}]}"#;
+const LOADS: Sample = Sample {
+    visits: 3,
+    far: 5,
+    rest: r#""vehicles":[{"start":0,"end":0}],
+"dimensions":[{"name":"load","evaluators":[{"values":[0,1,1,1]}],"capacity":2,"slack_max":0,"fix_start":true}]"#,
+};
 
 const FULL: &[(Move, bool)] = &[
     (Move::MakeActive { u: 1, w: 0, t: 0 }, true),
@@ -265,20 +277,12 @@ const FULL: &[(Move, bool)] = &[
 ];
 
 // Twenty visits, each 5 from the others, and a time without rows.
-const EVEN: &str = r#"{"format":1,"nodes":21,"vehicles":[{"start":0,"end":0}],"matrices":[[
-[0,5,5,5,5,5,5,5,5,5,5,5,5,5,5,5,5,5,5,5,5],[5,0,5,5,5,5,5,5,5,5,5,5,5,5,5,5,5,5,5,5,5],
-[5,5,0,5,5,5,5,5,5,5,5,5,5,5,5,5,5,5,5,5,5],[5,5,5,0,5,5,5,5,5,5,5,5,5,5,5,5,5,5,5,5,5],
-[5,5,5,5,0,5,5,5,5,5,5,5,5,5,5,5,5,5,5,5,5],[5,5,5,5,5,0,5,5,5,5,5,5,5,5,5,5,5,5,5,5,5],
-[5,5,5,5,5,5,0,5,5,5,5,5,5,5,5,5,5,5,5,5,5],[5,5,5,5,5,5,5,0,5,5,5,5,5,5,5,5,5,5,5,5,5],
-[5,5,5,5,5,5,5,5,0,5,5,5,5,5,5,5,5,5,5,5,5],[5,5,5,5,5,5,5,5,5,0,5,5,5,5,5,5,5,5,5,5,5],
-[5,5,5,5,5,5,5,5,5,5,0,5,5,5,5,5,5,5,5,5,5],[5,5,5,5,5,5,5,5,5,5,5,0,5,5,5,5,5,5,5,5,5],
-[5,5,5,5,5,5,5,5,5,5,5,5,0,5,5,5,5,5,5,5,5],[5,5,5,5,5,5,5,5,5,5,5,5,5,0,5,5,5,5,5,5,5],
-[5,5,5,5,5,5,5,5,5,5,5,5,5,5,0,5,5,5,5,5,5],[5,5,5,5,5,5,5,5,5,5,5,5,5,5,5,0,5,5,5,5,5],
-[5,5,5,5,5,5,5,5,5,5,5,5,5,5,5,5,0,5,5,5,5],[5,5,5,5,5,5,5,5,5,5,5,5,5,5,5,5,5,0,5,5,5],
-[5,5,5,5,5,5,5,5,5,5,5,5,5,5,5,5,5,5,0,5,5],[5,5,5,5,5,5,5,5,5,5,5,5,5,5,5,5,5,5,5,0,5],
-[5,5,5,5,5,5,5,5,5,5,5,5,5,5,5,5,5,5,5,5,0]]],
-"dimensions":[{"name":"time","evaluators":[{"matrix":0}],"capacity":68719476736,"slack_max":0,"fix_start":true}],
-"groups":[{"nodes":[1,2,3,4,5,6,7,8,9,10,11,12,13,14,15,16,17,18,19,20],"penalty":1,"max":20}]}"#;
+const EVEN: Sample = Sample {
+    visits: 20,
+    far: 5,
+    rest: r#""vehicles":[{"start":0,"end":0}],
+"dimensions":[{"name":"time","evaluators":[{"matrix":0}],"capacity":68719476736,"slack_max":0,"fix_start":true}]"#,
+};
 
 // All visits go into one list, and then the sixth and the seventh change places.
 const SWAPPED: &[(Move, bool)] = &[
@@ -305,9 +309,13 @@ const SWAPPED: &[(Move, bool)] = &[
     (Move::TwoOpt { v: 0, a: 5, b: 6 }, true),
 ];
 
-// Whether the filter of dimension 0 of the model in a text answers moves from empty lists as expected.
-pub(crate) fn of_text(alloc: Global, text: &str, moves: &[(Move, bool)]) -> Result<bool, NoMemory> {
-    match read_model_text(alloc, text) {
+// Whether the filter of dimension 0 of a sample answers moves from empty lists as expected.
+pub(crate) fn of_sample(
+    alloc: Global,
+    sample: Sample,
+    moves: &[(Move, bool)],
+) -> Result<bool, NoMemory> {
+    match model_of(alloc, sample) {
         Some(model) => dimension_follows(alloc, &model, moves),
         None => Ok(false),
     }
@@ -316,19 +324,19 @@ pub(crate) fn of_text(alloc: Global, text: &str, moves: &[(Move, bool)]) -> Resu
 #[test]
 fn a_dimension_refuses_what_has_no_schedule(rt: HostRuntime) -> Result<(), Fail> {
     let alloc = rt.alloc();
-    assert!(rt; of_text(alloc, WINDOWS, TO_FIRST)?);
-    assert!(rt; of_text(alloc, BREAKS, WITH_BREAKS)?);
-    assert!(rt; of_text(alloc, GAP, INTO_THE_GAP)?);
-    assert!(rt; of_text(alloc, RUNS, ONE_RUN_EACH)?);
-    assert!(rt; of_text(alloc, LOADS, FULL)?);
-    assert!(rt; of_text(alloc, EVEN, SWAPPED)?);
+    assert!(rt; of_sample(alloc, WINDOWS, TO_FIRST)?);
+    assert!(rt; of_sample(alloc, BREAKS, WITH_BREAKS)?);
+    assert!(rt; of_sample(alloc, GAP, INTO_THE_GAP)?);
+    assert!(rt; of_sample(alloc, RUNS, ONE_RUN_EACH)?);
+    assert!(rt; of_sample(alloc, LOADS, FULL)?);
+    assert!(rt; of_sample(alloc, EVEN, SWAPPED)?);
     Ok(())
 }
 
 #[test]
 fn filters_are_joined(rt: HostRuntime) -> Result<(), Fail> {
     let alloc = rt.alloc();
-    let model = read_model_text(alloc, WINDOWS).ok_or("there is a model")?;
+    let model = model_of(alloc, WINDOWS).ok_or("a model")?;
     let moves = &[
         (Move::MakeActive { u: 4, w: 1, t: 0 }, false),
         (Move::MakeActive { u: 4, w: 0, t: 0 }, true),
@@ -349,9 +357,14 @@ fn filters_are_joined(rt: HostRuntime) -> Result<(), Fail> {
 }
 
 // Valid routes with these lists, where there are such.
-fn valid_routes(alloc: Global, model: &Model, lists: &[&[u32]]) -> Result<Option<Routes>, NoMemory>
+pub(crate) fn valid_routes(
+    alloc: Global,
+    model: &Model,
+    lists: &[&[u32]],
+) -> Result<Option<Routes>, NoMemory>
     requires well_formed { IsWellFormed model.now }
     ensures of_model { IfOk result (λ routes. IfSome routes (λ found. found.visits ≡ visits model.now)) }
+    ensures many { IfOk result (λ routes. IfSome routes (λ found. length found.lists ≡ length model.now.vehicles)) }
     ensures valid { IfOk result (λ routes. IfSome routes (λ found. IsTrue (is_valid model.now found.lists))) }
 {
     let Some(routes) = routes_of(alloc, model, lists)? else {
@@ -368,19 +381,35 @@ fn valid_routes(alloc: Global, model: &Model, lists: &[&[u32]]) -> Result<Option
 fn groups_follow(
     alloc: Global,
     model: &Model,
+    routes: &mut Routes,
+    moves: &[(Move, bool)],
+) -> Result<bool, NoMemory>
+    requires well_formed { IsWellFormed model.now }
+    requires of_model { routes.old.visits ≡ visits model.now }
+    requires many { length routes.old.lists ≡ length model.now.vehicles }
+    requires valid { IsTrue (is_valid model.now routes.old.lists) }
+{
+    let mut filter = GroupFilter::open(alloc, model, routes)?;
+    let follows = follows(model, &mut filter, routes, moves)?;
+    Ok(follows)
+}
+
+// The same from lists, where they are valid.
+fn groups_from(
+    alloc: Global,
+    model: &Model,
     lists: &[&[u32]],
     moves: &[(Move, bool)],
 ) -> Result<bool, NoMemory>
     requires well_formed { IsWellFormed model.now }
 {
-    let Some(mut routes) = valid_routes(alloc, model, lists)? else {
-        return Ok(false);
-    };
-    let mut filter = GroupFilter::open(alloc, model, &routes)?;
-    let follows = follows(model, &mut filter, &mut routes, moves)?;
-    Ok(follows)
+    match valid_routes(alloc, model, lists)? {
+        Some(mut routes) => groups_follow(alloc, model, &mut routes, moves),
+        None => Ok(false),
+    }
 }
 
+// The same of a model's text.
 fn groups_of_text(
     alloc: Global,
     text: &str,
@@ -388,7 +417,7 @@ fn groups_of_text(
     moves: &[(Move, bool)],
 ) -> Result<bool, NoMemory> {
     match read_model_text(alloc, text) {
-        Some(model) => groups_follow(alloc, &model, lists, moves),
+        Some(model) => groups_from(alloc, &model, lists, moves),
         None => Ok(false),
     }
 }

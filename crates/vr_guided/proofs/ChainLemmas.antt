@@ -12,7 +12,8 @@ use Rattle.vr_model.specs.declared.records.Model.{Model}
 use Rattle.vr_model.proofs.routes.Bounded.{up_to-more}
 use Rattle.vr_guided.specs.Counts.{AtMost}
 use Rattle.vr_guided.specs.Sums.{weight_back}
-use Rattle.vr_guided.specs.Walks.{last_of, walked, weight}
+use Rattle.vr_guided.specs.Walks.{walked, weight}
+use Rattle.vr_sums.specs.Sums.{last_of}
 use Rattle.vr_guided.specs.declared.walks.Walk.{Walk}
 use Rattle.vr_guided.proofs.BoundLemmas.{last_below, most, path-up_to}
 use Rattle.vr_guided.proofs.LocalChanges.{along, along_split, last_behind}
@@ -118,8 +119,8 @@ module _ (list : List ℕ) (from to : ℕ) (order : from < to) (high : to ≤ le
   pub chain-start : (start end : ℕ) → last_of start (take (from + 1) (list ++ end ∷ [])) ≡ get_or list from 0
   chain-start start end = ap (last_of start) (take-append-le (from + 1) list (end ∷ []) (omega (arith, order, high))) ∙ last_taken start list from (omega (arith, order, high))
 
-  pub chain-stops : (end : ℕ) → slice_range (list ++ end ∷ []) (from + 1) to ≡ slice_range list (from + 1) to
-  chain-stops end =
+  pub chain-line_nodes : (end : ℕ) → slice_range (list ++ end ∷ []) (from + 1) to ≡ slice_range list (from + 1) to
+  chain-line_nodes end =
       let rest = length-drop (from + 1) list in
       ap (take (to - (from + 1))) (drop-append-le (from + 1) list (end ∷ []) (omega (arith, order, high))) ∙ take-append-le (to - (from + 1)) (drop (from + 1) list) (end ∷ []) (omega (arith, rest, order, high))
 
@@ -165,7 +166,7 @@ module _ (model : Model) (p : Penalties) (v w : ℕ) (same : (vehicle_at model v
     is = chain-first list from to order high;
     many = sym (chain-many list from to order high);
     ends = chain-last list from to order high 0;
-    sum = is ∙ (ap₂ (λ x ys. along (weight model p) v x ys) (chain-start list from to order high start end) (chain-stops list from to order high end) ∙ along-same model p v w same low xs);
+    sum = is ∙ (ap₂ (λ x ys. along (weight model p) v x ys) (chain-start list from to order high start end) (chain-line_nodes list from to order high end) ∙ along-same model p v w same low xs);
   }
 
   pub kept-back : (total : ℤ) → total ≡ along (weight_back model p) v (last_of start (take (from + 1) (list ++ end ∷ []))) (slice_range (list ++ end ∷ []) (from + 1) to)
@@ -179,7 +180,7 @@ module _ (model : Model) (p : Penalties) (v w : ℕ) (same : (vehicle_at model v
         is = ap reverse (chain-first list from to order high) ∙ h.is;
         many = sym (chain-many list from to order high) ∙ h.many;
         ends = h.last;
-        sum = is ∙ (ap₂ (λ x ys. along (weight_back model p) v x ys) (chain-start list from to order high start end) (chain-stops list from to order high end) ∙ (h.sum ∙ along-same model p v w same (last_of low xs) turn.0));
+        sum = is ∙ (ap₂ (λ x ys. along (weight_back model p) v x ys) (chain-start list from to order high start end) (chain-line_nodes list from to order high end) ∙ (h.sum ∙ along-same model p v w same (last_of low xs) turn.0));
       })
 
 module _ (model : Model) (well : IsWellFormed model) (p : Penalties) (few : AtMost 1000000000 p) (w : ℕ) (known : w < length model.vehicles) (nodes : List ℕ) (first last arcs : ℕ) (total : ℤ)

@@ -5,8 +5,11 @@ pub mod RaiseLemmas
 pub mod LocalChanges
 pub mod SumLemmas
 pub mod StretchLemmas
-pub mod LineLemmas
+pub mod RouteSumLemmas
+pub mod ListLemmas
+pub mod NamedLemmas
 pub mod ChainLemmas
+pub mod KeptLemmas
 pub mod ArcLemmas
 pub mod CountLemmas
 pub mod GuideLemmas

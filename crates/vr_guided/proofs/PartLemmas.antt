@@ -15,13 +15,15 @@ use Rattle.vr_model.proofs.tables.Totals.{total_by-more}
 use Rattle.vr_routes.specs.declared.pieces.Piece.{Piece}
 use Rattle.vr_routes.specs.Changes.{AreParts}
 use Rattle.vr_routes.specs.Pieces.{IsWithin, ListAfter, changed, joined, no_part, part_at}
-use Rattle.vr_model.proofs.routes.Lists.{are_lists-count, route-below, route-few, route_set_same, route_set_other}
+use Rattle.vr_model.specs.routes.Rules.{is_valid}
+use Rattle.vr_model.proofs.routes.Lists.{are-lists, are_lists-count, route-below, route-few, route_set_same, route_set_other}
 use Rattle.vr_model.specs.tables.WellFormed.{IsWellFormed}
 use Rattle.std.proofs.Math.IntN.{zero-*ℤ}
 use Rattle.vr_routes.proofs.PartLemmas.{part_is}
 use Rattle.vr_guided.specs.Parts.{IsPart}
 use Rattle.vr_balance.specs.Ends.{AreEnds}
-use Rattle.vr_guided.specs.Walks.{last_of, route_weight, stretch_weight, unused_weight, weight}
+use Rattle.vr_guided.specs.Walks.{route_weight, stretch_weight, unused_weight, weight}
+use Rattle.vr_sums.specs.Sums.{last_of}
 use Rattle.vr_guided.proofs.LocalChanges.{along, local_change, total_by_each}
 
 -- a list in three parts
@@ -151,13 +153,13 @@ none_there k low = absurd (never low)
 abbrev pub part_change : Model → Penalties → List (List ℕ) → ListAfter → ℤ
 part_change model p lists part = route_weight model p part.vehicle (joined lists part.pieces) -ℤ route_weight model p part.vehicle (route lists part.vehicle)
 
-pub one_part : (model : Model) (p : Penalties) (lists : List (List ℕ)) (parts : List ListAfter) → AreParts lists parts → length parts ≡ 1 → (d : ListAfter)
+one_part : (model : Model) (p : Penalties) (lists : List (List ℕ)) (parts : List ListAfter) → AreParts lists parts → length parts ≡ 1 → (d : ListAfter)
     → penalised model p (changed lists parts) -ℤ penalised model p lists ≡ part_change model p lists (slice_index_or parts 0 d)
 one_part model p lists [] are one d = none_there 0 (omega (arith, one))
 one_part model p lists (q ∷ []) are one d = one_changed model p lists q.vehicle (joined lists q.pieces) (are.each_vehicle 0 d (omega arith))
 one_part model p lists (q ∷ (r ∷ rest)) are one d = none_there (length rest) (omega (arith, one))
 
-pub two_parts : (model : Model) (p : Penalties) (lists : List (List ℕ)) (parts : List ListAfter) → AreParts lists parts → length parts ≡ 2 → (d : ListAfter)
+two_parts : (model : Model) (p : Penalties) (lists : List (List ℕ)) (parts : List ListAfter) → AreParts lists parts → length parts ≡ 2 → (d : ListAfter)
     → penalised model p (changed lists parts) -ℤ penalised model p lists ≡ part_change model p lists (slice_index_or parts 0 d) +ℤ part_change model p lists (slice_index_or parts 1 d)
 two_parts model p lists [] are two d = none_there 0 (omega (arith, two))
 two_parts model p lists (q ∷ []) are two d = none_there 0 (omega (arith, two))
@@ -186,7 +188,7 @@ as_read n o u w n_low n_high o_low o_high u_low u_high w_low w_high =
 -- ---- the premises of a part
 
 -- a second part is there
-pub second_there : (n k : ℕ) → k ≡ n → 1 ≤ k → (k ≡ 1 → ⊥) → 1 < n
+second_there : (n k : ℕ) → k ≡ n → 1 ≤ k → (k ≡ 1 → ⊥) → 1 < n
 second_there n k e some apart = Prim.grind (arith, e, some, apart)
 
 -- a part of a change of lists is one of a vehicle of the model
@@ -210,12 +212,39 @@ part-of model well lists valid parts are after k v pieces low is same =
       short = omega (arith, later, most, len);
     }
 
+-- both parts of a change of the lists of a model: the first is there, and the second where there is not one alone
+module _ {model : Model} (well : IsWellFormed model) {lists : List (List ℕ)} (valid : IsTrue (is_valid model lists)) {parts : List ListAfter} (are : AreParts lists parts)
+    (after : IsTrue (are_lists model (changed lists parts))) {k : ℕ} (count : k ≡ length parts) (some : 1 ≤ k) where
+  pub first_part : {v : ℕ} {pieces : List Piece} → v ≡ (part_at parts 0).vehicle → pieces ≡ (part_at parts 0).pieces → IsPart model lists v pieces
+  first_part is same = part-of model well lists (are-lists model lists valid) parts are after 0 _ _ (omega (arith, count, some)) is same
+
+  pub second_part : (k ≡ 1 → ⊥) → {v : ℕ} {pieces : List Piece} → v ≡ (part_at parts 1).vehicle → pieces ≡ (part_at parts 1).pieces → IsPart model lists v pieces
+  second_part more is same = part-of model well lists (are-lists model lists valid) parts are after 1 _ _ (second_there (length parts) k count some more) is same
+
+-- what the parts of a change make of the penalised arc costs: one alone, or two
+module _ (model : Model) (p : Penalties) {lists : List (List ℕ)} {parts : List ListAfter} (are : AreParts lists parts) {k : ℕ} (count : k ≡ length parts) where
+  pub alone : k ≡ 1 → penalised model p (changed lists parts) -ℤ penalised model p lists ≡ part_change model p lists (part_at parts 0)
+  alone one = one_part model p lists parts are (sym count ∙ one) no_part
+
+  pub together : 1 ≤ k → k ≤ 2 → (k ≡ 1 → ⊥)
+      → penalised model p (changed lists parts) -ℤ penalised model p lists ≡ part_change model p lists (part_at parts 0) +ℤ part_change model p lists (part_at parts 1)
+  together some few more =
+      let second = second_there (length parts) k count some more in
+      two_parts model p lists parts are (omega (arith, count, few, second)) no_part
+
 -- ---- no penalties
 
 total-none : {X : Type 0} (f : X → ℤ) (xs : List X) → ((x : X) → f x ≡ pos 0) → total_by f xs ≡ pos 0
 total-none f [] none = refl
 total-none f (x ∷ xs) none = let here = none x in let rest = total-none f xs none in omega (arith, ints, here, rest)
 
--- where no pair was penalised, nothing is added
-pub unpenalised : (model : Model) (p : Penalties) (lists : List (List ℕ)) → p ≡ no_penalties → penalised model p lists ≡ pos 0
+-- where no arc was penalised, nothing is added
+unpenalised : (model : Model) (p : Penalties) (lists : List (List ℕ)) → p ≡ no_penalties → penalised model p lists ≡ pos 0
 unpenalised model p lists none = ap (λ q. penalised model q lists) none ∙ total-none (weight model no_penalties) (used_arcs model lists) (λ arc. zero-*ℤ (cost_of_arc model arc))
+
+-- nor is anything changed
+pub unchanged : (model : Model) (p : Penalties) (lists after : List (List ℕ)) → p ≡ no_penalties → penalised model p after -ℤ penalised model p lists ≡ pos 0
+unchanged model p lists after none =
+    let before = unpenalised model p lists none in
+    let later = unpenalised model p after none in
+    omega (arith, ints, before, later)

@@ -11,16 +11,17 @@ use Rattle.vr_model.specs.search.GuidedSearches.{Penalties}
 use Rattle.vr_model.specs.declared.records.Model.{Model}
 use Rattle.vr_model.proofs.routes.Bounded.{up_to-more}
 use Rattle.vr_guided.specs.Counts.{AtMost}
-use Rattle.vr_guided.specs.Sums.{stops, weight_by}
-use Rattle.vr_guided.specs.Walks.{last_of, stretch_weight, weight}
+use Rattle.vr_guided.specs.Sums.{line_nodes, weight_by}
+use Rattle.vr_guided.specs.Walks.{stretch_weight, weight}
+use Rattle.vr_sums.specs.Sums.{last_of}
 use Rattle.vr_guided.proofs.BoundLemmas.{last_below, most, path-up_to}
 use Rattle.vr_guided.proofs.LocalChanges.{along}
-use Rattle.vr_guided.proofs.SumLemmas.{stretch-stops}
+use Rattle.vr_guided.proofs.SumLemmas.{stretch-line_nodes}
 use Rattle.vr_guided.proofs.WalkLemmas.{all_push}
 
 module _ (model : Model) (well : IsWellFormed model) (p : Penalties) (few : AtMost 1000000000 p) (v : ℕ) (known : v < length model.vehicles)
     (list : List ℕ) (below : All (λ node. node < model.nodes) list) (short : length list ≤ 1000) (front behind : ℕ) (order : front ≤ behind) (high : behind ≤ length list) (z : ℤ)
-    (is : z ≡ total_by (weight_by model p false) (arcs_from v (last_of (vehicle_at model v).start (take front (stops model v list))) (slice_range (stops model v list) front (behind + 1)))) where
+    (is : z ≡ total_by (weight_by model p false) (arcs_from v (last_of (vehicle_at model v).start (take front (line_nodes model v list))) (slice_range (line_nodes model v list) front (behind + 1)))) where
   abbrev start : ℕ
   start = (vehicle_at model v).start
 
@@ -32,7 +33,7 @@ module _ (model : Model) (well : IsWellFormed model) (p : Penalties) (few : AtMo
 
   -- the stretch from the node before it to the next one
   pub stretch-value : (next : ℕ) (others : List ℕ) → drop behind list ++ end ∷ [] ≡ next ∷ others → z ≡ stretch_weight model p v (last_of start (take front list)) (slice_range list front behind) next
-  stretch-value next others first = is ∙ ap₂ (λ xs ys. along (weight model p) v (last_of start xs) ys) same_front (stretch-stops front behind end next list others order high first)
+  stretch-value next others first = is ∙ ap₂ (λ xs ys. along (weight model p) v (last_of start xs) ys) same_front (stretch-line_nodes front behind end next list others order high first)
 
   pub stretch-range : IsIn (pos 0) (pos (1001 * 2 ^ 70)) z
   stretch-range =

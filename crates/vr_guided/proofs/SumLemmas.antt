@@ -1,4 +1,4 @@
--- Sums along lines of stops.
+-- Sums along the lists of vehicles.
 use Rattle.std.proofs.Common.{◌≡◌, ◌∙◌, ◌⊎◌, inl, inr, ℕ, zero, suc, ◌+◌, ◌-◌, ◌*◌, ◌^◌, ◌<◌, ◌≤◌, List, [], ◌∷◌, ◌++◌, length, take, drop, refl, sym, ap, subst, arith, length-append, append_assoc, to_z, of_z}
 use Rattle.std.specs.Int.{w128}
 use Rattle.std.specs.Prelude.{ℤ, pos, ◌+ℤ◌, ◌-ℤ◌, ◌≤ℤ◌, slice_range}
@@ -9,8 +9,8 @@ use Rattle.std.proofs.Math.Seq.{take-append-add}
 use Rattle.vr_model.specs.tables.Numbers.{number_at, total_by}
 use Rattle.vr_model.specs.tables.WellFormed.{IsIn}
 use Rattle.vr_model.specs.routes.Routes.{UsedArc, arcs_from}
-use Rattle.vr_guided.specs.Sums.{AreSums, HaveRange}
-use Rattle.vr_guided.specs.Walks.{last_of}
+use Rattle.vr_guided.specs.Sums.{AreArcSums, HaveWideRange}
+use Rattle.vr_sums.specs.Sums.{last_of}
 use Rattle.vr_guided.proofs.LocalChanges.{along, along_split}
 
 -- the first few of a list, and those from there up to another place
@@ -31,7 +31,7 @@ take-between (x ∷ xs) (suc a) (suc b) order =
 
 module _ (f : UsedArc → ℤ) (v node : ℕ) where
   -- at its start nothing was added
-  pub sums-begin : AreSums f v node [] (pos 0 ∷ [])
+  pub sums-begin : AreArcSums f v node [] (pos 0 ∷ [])
   sums-begin = record { many = refl; each = at }
     where
       at : (k : ℕ) → k ≤ 0 → number_at (pos 0 ∷ []) k ≡ total_by f (arcs_from v node (take k []))
@@ -42,10 +42,10 @@ module _ (f : UsedArc → ℤ) (v node : ℕ) where
           never n h = omega (arith, h)
 
   -- one more stop
-  pub sums-push : (nodes : List ℕ) (next : ℕ) (sums new : List ℤ) (w : ℤ) → AreSums f v node nodes sums → w ≡ f (record { vehicle = v; origin = last_of node nodes; target = next })
-      → new ≡ sums ++ (number_at sums (length sums - 1) +ℤ w) ∷ [] → AreSums f v node (nodes ++ next ∷ []) new
+  pub sums-push : (nodes : List ℕ) (next : ℕ) (sums new : List ℤ) (w : ℤ) → AreArcSums f v node nodes sums → w ≡ f (record { vehicle = v; origin = last_of node nodes; target = next })
+      → new ≡ sums ++ (number_at sums (length sums - 1) +ℤ w) ∷ [] → AreArcSums f v node (nodes ++ next ∷ []) new
   sums-push nodes next sums new w are here is =
-      subst (AreSums f v node (nodes ++ next ∷ [])) (sym is) (record {
+      subst (AreArcSums f v node (nodes ++ next ∷ [])) (sym is) (record {
         many = length-append sums (last ∷ []) ∙ (ap (λ n. n + 1) are.many ∙ (one_more (length nodes) ∙ ap suc (sym (length-append nodes (next ∷ [])))));
         each = λ k under. go k under (cases_lt k (length sums));
       })
@@ -79,7 +79,7 @@ module _ (f : UsedArc → ℤ) (v node : ℕ) where
           get_or_push sums last (pos 0) k at ∙ (value ∙ ap (along f v node) (sym (take_all k (nodes ++ next ∷ []) (omega (arith, high, many, all)))))
 
   -- what the arcs between two places add up to
-  pub sums-between : (nodes : List ℕ) (sums : List ℤ) (a b : ℕ) → AreSums f v node nodes sums → a ≤ b → b < length sums
+  pub sums-between : (nodes : List ℕ) (sums : List ℤ) (a b : ℕ) → AreArcSums f v node nodes sums → a ≤ b → b < length sums
       → number_at sums b -ℤ number_at sums a ≡ along f v (last_of node (take a nodes)) (slice_range nodes a b)
   sums-between nodes sums a b are order low =
       let many = are.many in
@@ -89,7 +89,7 @@ module _ (f : UsedArc → ℤ) (v node : ℕ) where
       omega (arith, ints, x, y, parts)
 
 -- one sum more is in range
-pub range-push : (sums : List ℤ) (w : ℤ) → HaveRange sums → 1 ≤ length sums → IsIn (pos 0) (pos (2 ^ 70)) w → HaveRange (sums ++ (number_at sums (length sums - 1) +ℤ w) ∷ [])
+pub range-push : (sums : List ℤ) (w : ℤ) → HaveWideRange sums → 1 ≤ length sums → IsIn (pos 0) (pos (2 ^ 70)) w → HaveWideRange (sums ++ (number_at sums (length sums - 1) +ℤ w) ∷ [])
 range-push sums w range some in_range k under = go (cases_lt k (length sums))
   where
     last : ℤ
@@ -140,9 +140,9 @@ read-more x w a hx hw few =
     omega (arith, ints, x_low, x_top, w_low, w_high)
 
 -- a stretch of a list, as one of the list and the end behind it
-pub stretch-stops : (front behind end next : ℕ) (list others : List ℕ) → front ≤ behind → behind ≤ length list → drop behind list ++ end ∷ [] ≡ next ∷ others
+pub stretch-line_nodes : (front behind end next : ℕ) (list others : List ℕ) → front ≤ behind → behind ≤ length list → drop behind list ++ end ∷ [] ≡ next ∷ others
     → slice_range (list ++ end ∷ []) front (behind + 1) ≡ slice_range list front behind ++ next ∷ []
-stretch-stops front behind end next list others order high first =
+stretch-line_nodes front behind end next list others order high first =
     ap (λ n. take n (drop front (list ++ end ∷ []))) count
     ∙ (ap (take (length middle + 1)) (drop-append-le front list (end ∷ []) (omega (arith, order, high)) ∙ (ap (λ xs. xs ++ end ∷ []) parts ∙ (append_assoc middle (drop behind list) (end ∷ []) ∙ ap (λ xs. middle ++ xs) first)))
     ∙ take-append-add middle (next ∷ others) 1)

@@ -3,15 +3,15 @@ use Rattle.std.proofs.Common.{◌≡◌, ◌∙◌, ℕ, ◌+◌, ◌*◌, ◌^�
 use Rattle.std.specs.Prelude.{ℤ, pos, ◌+ℤ◌, ◌≤ℤ◌, All}
 use Rattle.std.proofs.lemmas.Int.{ints}
 use Rattle.std.proofs.lemmas.List.{drop_more, take_more, reverse-append}
-use Rattle.std.proofs.lemmas.List.Elements.{All-cons, All-drop, All-head, All-nil, All-tail, All-take}
-use Rattle.std.proofs.Math.Seq.{take-append_seam, drop-append_seam}
+use Rattle.std.proofs.lemmas.List.Elements.{All-cons, All-head, All-nil, All-tail}
 use Rattle.vr_model.specs.search.GuidedSearches.{Penalties}
 use Rattle.vr_model.specs.declared.records.Model.{Model}
 use Rattle.vr_routes.specs.Pieces.{joined, nodes_of}
 use Rattle.vr_routes.proofs.JoinedPieces.{all_left, all_right}
 use Rattle.vr_routes.specs.declared.pieces.Piece.{Piece}
 use Rattle.vr_guided.specs.declared.walks.Walk.{Walk}
-use Rattle.vr_guided.specs.Walks.{weight, stepped, stretch_weight, walked, begun, last_of}
+use Rattle.vr_guided.specs.Walks.{weight, stepped, stretch_weight, walked, begun}
+use Rattle.vr_sums.specs.Sums.{last_of}
 use Rattle.vr_guided.proofs.LocalChanges.{along, last_behind}
 
 -- what holds of each entry of a list and of one more behind it

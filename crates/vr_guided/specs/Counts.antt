@@ -1,4 +1,4 @@
--- How often each ordered pair of nodes was penalised, row by row.
+-- How often each arc was penalised, row by row.
 use Rattle.std.specs.Prelude.{◌≡◌, ℕ, ◌+◌, ◌*◌, ◌≤◌, Bool, false, ◌&&◌, cond, nat_lt, List, length, slice_index_or, pos}
 use Rattle.std.specs.Prelude.{◌≤ℤ◌}
 use Rattle.vr_model.specs.declared.search.Lambda.{Lambda}
@@ -14,16 +14,16 @@ abbrev pub counted : Counts → Penalties
 counted c origin target =
     cond (nat_lt origin c.nodes && nat_lt target c.nodes) (slice_index_or c.counts (origin * c.nodes + target) 0) 0
 
--- counts of n nodes, none of them above 0 where no pair was penalised
+-- counts of n nodes, none of them above 0 where no arc was penalised
 pub record AreCounts (n : ℕ) (counts : List ℕ) (any : Bool) : Type 0 where
   pub square : length counts ≡ n * n
   pub none : any ≡ false → counted (record { nodes = n; counts = counts }) ≡ no_penalties
 
--- no pair was penalised more often
+-- no arc was penalised more often
 pub record AtMost (most : ℕ) (p : Penalties) : Type 0 where
   pub each : (origin target : ℕ) → p origin target ≤ most
 
--- a count for each pair of so many nodes, few enough penalties, and both parts of lambda in 1..=1000
+-- a count for each arc between so many nodes, few enough penalties, and both parts of lambda in 1..=1000
 pub record IsSoundGuide (nodes : ℕ) (lambda : Lambda) (c : Counts) : Type 0 where
   pub covers : c.nodes ≡ nodes
   pub few : AtMost 1000000000 (counted c)

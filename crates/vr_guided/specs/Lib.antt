@@ -2,7 +2,8 @@ pub mod Counts
 pub mod Kept
 pub mod Parts
 pub mod Sums
-pub mod Lines
+pub mod RouteSums
+pub mod Named
 pub mod Guides
 pub mod Standing
 pub mod Worths

@@ -31,8 +31,7 @@ pub record IsBest (model : Model) (visits : List ℕ) (best : Best) : Type 0 whe
   pub same_visits : best.routes.visits ≡ visits
 
 -- routes and judge hold the same valid lists; their cost, the tries and the solutions are counted; the best routes are
--- valid; no arc was penalised more often than a move was tried; each pair of nodes has a count; and each vehicle has a
--- line
+-- valid; no arc was penalised more often than a move was tried; each arc has a count; and each vehicle has sums
 pub record Stands (model : Model) (limit : Limit) (committed : List (List ℕ)) (routes : Tours) (state : State) :
     Type 0 where
   pub holds : HoldSame model committed routes
@@ -43,7 +42,7 @@ pub record Stands (model : Model) (limit : Limit) (committed : List (List ℕ)) 
   pub best : IsBest model routes.visits state.best
   pub few : AtMost state.at.used (counted state.penalties)
   pub covers : state.penalties.nodes ≡ model.nodes
-  pub lines : length state.lines ≡ length model.vehicles
+  pub route_sums : length state.route_sums ≡ length model.vehicles
 
 -- where the definition stands
 abbrev pub standing : List (List ℕ) → List (List ℕ) → ℕ → ℕ → SearchState

@@ -1,4 +1,4 @@
--- Sums of what arcs add along the lines of vehicles.
+-- Sums of what arcs add along the lists of vehicles.
 use Rattle.std.specs.Prelude.{◌≡◌, ℕ, suc, ◌<◌, ◌≤◌, ◌*◌, ◌^◌, Bool, cond, List, [], ◌∷◌, ◌++◌, length, take}
 use Rattle.std.specs.Prelude.{ℤ, pos}
 use Rattle.vr_model.specs.tables.Numbers.{number_at, total_by}
@@ -18,14 +18,14 @@ abbrev pub weight_by : Model → Penalties → Bool → UsedArc → ℤ
 weight_by model p back = cond back (weight_back model p) (weight model p)
 
 -- each sum is one of as many arcs as stand before it
-abbrev pub HaveRange : List ℤ → Type 0
-HaveRange sums = (k : ℕ) → k < length sums → IsIn (pos 0) (pos (k * 2 ^ 70)) (number_at sums k)
+abbrev pub HaveWideRange : List ℤ → Type 0
+HaveWideRange sums = (k : ℕ) → k < length sums → IsIn (pos 0) (pos (k * 2 ^ 70)) (number_at sums k)
 
 -- from a node through others: at each place, what the arcs of vehicle v before it add up to
-pub record AreSums (f : UsedArc → ℤ) (v node : ℕ) (nodes : List ℕ) (sums : List ℤ) : Type 0 where
+pub record AreArcSums (f : UsedArc → ℤ) (v node : ℕ) (nodes : List ℕ) (sums : List ℤ) : Type 0 where
   pub many : length sums ≡ suc (length nodes)
   pub each : (k : ℕ) → k ≤ length nodes → number_at sums k ≡ total_by f (arcs_from v node (take k nodes))
 
 -- where vehicle v goes from its start with a list
-abbrev pub stops : Model → ℕ → List ℕ → List ℕ
-stops model v list = list ++ (vehicle_at model v).end ∷ []
+abbrev pub line_nodes : Model → ℕ → List ℕ → List ℕ
+line_nodes model v list = list ++ (vehicle_at model v).end ∷ []

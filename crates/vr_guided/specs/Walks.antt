@@ -32,11 +32,6 @@ walked model penalties v walk (node ∷ nodes) = walked model penalties v (stepp
 abbrev pub begun : ℕ → Walk
 begun node = record { at = node; arcs = 0; total = pos 0 }
 
--- the last of some nodes behind x, x itself behind none
-abbrev pub last_of : ℕ → List ℕ → ℕ
-last_of x [] = x
-last_of x (y ∷ ys) = last_of y ys
-
 -- the walk stands at a node below n, and each arc added at most 2^70
 pub record IsSoundWalk (n : ℕ) (walk : Walk) : Type 0 where
   pub node : walk.at < n

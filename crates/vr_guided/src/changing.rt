@@ -5,8 +5,8 @@ ghost use Rattle.std.specs.Prelude.{All, List, ℕ, drop, false, length, pos, sl
 ghost use Rattle.vr_guided.specs.Counts.{AtMost, counted};
 ghost use Rattle.vr_guided.specs.Nexts.{IsNext};
 ghost use Rattle.vr_guided.specs.Parts.{IsPart};
-ghost use Rattle.vr_guided.specs.Lines.{AreLines};
-ghost use Rattle.vr_guided.specs.Walks.{last_of, route_weight, stretch_weight, unused_weight};
+ghost use Rattle.vr_guided.specs.RouteSums.{AreAllRouteSums};
+ghost use Rattle.vr_guided.specs.Walks.{route_weight, stretch_weight, unused_weight};
 ghost use Rattle.vr_model.specs.search.GuidedSearches.{penalised};
 ghost use Rattle.vr_model.specs.routes.Routes.{are_lists, route};
 ghost use Rattle.vr_model.specs.routes.Rules.{is_valid};
@@ -14,9 +14,10 @@ ghost use Rattle.vr_model.specs.tables.Tables.{vehicle_at};
 ghost use Rattle.vr_model.specs.tables.WellFormed.{IsWellFormed};
 ghost use Rattle.vr_routes.specs.Changes.{AreParts};
 ghost use Rattle.vr_routes.specs.Pieces.{IsWithin, changed, joined};
+ghost use Rattle.vr_sums.specs.Sums.{last_of};
 
-use crate::lines::Lines;
 use crate::penalties::Penalties;
+use crate::route_sums::AllRouteSums;
 use crate::walks::Walk;
 use vr_balance::strip;
 use vr_model::Model;
@@ -72,36 +73,11 @@ fn end_of(model: &Model, v: u32) -> u32
 
 impl Penalties {
     /// What a change makes of the penalised arc costs, by the stretches that it changes. Takes no memory.
-    pub fn change(&self, model: &Model, routes: &Routes, lines: &Lines, change: &Change) -> i128
-        requires well_formed { IsWellFormed model.now }
-        requires valid { IsTrue (is_valid model.now routes.now.lists) }
-        requires parts { AreParts routes.now.lists change.now }
-        requires after { IsTrue (are_lists model.now (changed routes.now.lists change.now)) }
-        requires covers { self.now.nodes ≡ model.now.nodes }
-        requires few { AtMost 1000000000 (counted self.now) }
-        requires lines { AreLines model.now (counted self.now) routes.now.lists lines.now }
-        ensures bound { unsigned_abs result ≤ 2 ^ 100 }
-        ensures value { result ≡ penalised model.now (counted self.now) (changed routes.now.lists change.now)
-            -ℤ penalised model.now (counted self.now) routes.now.lists }
-    {
-        if !self.is_any() {
-            return 0;
-        }
-        let parts = change.parts();
-        let first = self.change_of_part(model, routes, lines, change.vehicle(0), change.pieces(0));
-        if parts == 1 {
-            return first;
-        }
-        first + self.change_of_part(model, routes, lines, change.vehicle(1), change.pieces(1))
-    }
-
-    /// What a change takes of the penalised arc costs at most: what the arcs of the stretches that it changes add now.
-    /// Takes no memory.
-    pub fn saved_at_most(
+    pub fn change(
         &self,
         model: &Model,
         routes: &Routes,
-        lines: &Lines,
+        route_sums: &AllRouteSums,
         change: &Change,
     ) -> i128
         requires well_formed { IsWellFormed model.now }
@@ -110,7 +86,51 @@ impl Penalties {
         requires after { IsTrue (are_lists model.now (changed routes.now.lists change.now)) }
         requires covers { self.now.nodes ≡ model.now.nodes }
         requires few { AtMost 1000000000 (counted self.now) }
-        requires lines { AreLines model.now (counted self.now) routes.now.lists lines.now }
+        requires route_sums { AreAllRouteSums model.now (counted self.now) routes.now.lists route_sums.now }
+        ensures bound { unsigned_abs result ≤ 2 ^ 100 }
+        ensures value { result ≡ penalised model.now (counted self.now) (changed routes.now.lists change.now)
+            -ℤ penalised model.now (counted self.now) routes.now.lists }
+    {
+        if !self.is_any() {
+            return 0;
+        }
+        let parts = change.parts();
+        let first = self.change_of_part(
+            model,
+            routes,
+            route_sums,
+            change.vehicle(0),
+            change.pieces(0),
+        );
+        if parts == 1 {
+            return first;
+        }
+        first
+            + self.change_of_part(
+                model,
+                routes,
+                route_sums,
+                change.vehicle(1),
+                change.pieces(1),
+            )
+    }
+
+    /// What a change takes of the penalised arc costs at most: what the arcs of the stretches that it changes add now.
+    /// Takes no memory.
+    pub fn saved_at_most(
+        &self,
+        model: &Model,
+        routes: &Routes,
+        route_sums: &AllRouteSums,
+        change: &Change,
+    ) -> i128
+        requires well_formed { IsWellFormed model.now }
+        requires valid { IsTrue (is_valid model.now routes.now.lists) }
+        requires parts { AreParts routes.now.lists change.now }
+        requires after { IsTrue (are_lists model.now (changed routes.now.lists change.now)) }
+        requires covers { self.now.nodes ≡ model.now.nodes }
+        requires few { AtMost 1000000000 (counted self.now) }
+        requires route_sums { AreAllRouteSums model.now (counted self.now) routes.now.lists route_sums.now }
         ensures low { pos 0 ≤ℤ result }
         ensures high { result ≤ℤ pos (2 ^ 90) }
         ensures most { (penalised model.now (counted self.now) routes.now.lists
@@ -120,11 +140,24 @@ impl Penalties {
             return 0;
         }
         let parts = change.parts();
-        let first = self.saved_by_part(model, routes, lines, change.vehicle(0), change.pieces(0));
+        let first = self.saved_by_part(
+            model,
+            routes,
+            route_sums,
+            change.vehicle(0),
+            change.pieces(0),
+        );
         if parts == 1 {
             return first;
         }
-        first + self.saved_by_part(model, routes, lines, change.vehicle(1), change.pieces(1))
+        first
+            + self.saved_by_part(
+                model,
+                routes,
+                route_sums,
+                change.vehicle(1),
+                change.pieces(1),
+            )
     }
 
     // What other pieces take of the penalised arc costs of a vehicle at most.
@@ -133,21 +166,21 @@ impl Penalties {
         &self,
         model: &Model,
         routes: &Routes,
-        lines: &Lines,
+        route_sums: &AllRouteSums,
         v: u32,
         pieces: &[Piece],
     ) -> i128
         requires well_formed { IsWellFormed model.now }
         requires part { IsPart model.now routes.now.lists v pieces.now }
         requires few { AtMost 1000000000 (counted self.now) }
-        requires lines { AreLines model.now (counted self.now) routes.now.lists lines.now }
+        requires route_sums { AreAllRouteSums model.now (counted self.now) routes.now.lists route_sums.now }
         ensures low { pos 0 ≤ℤ result }
         ensures high { result ≤ℤ pos (1001 * 2 ^ 70) }
         ensures most { (route_weight model.now (counted self.now) v (route routes.now.lists v)
             -ℤ route_weight model.now (counted self.now) v (joined routes.now.lists pieces.now)) ≤ℤ result }
     {
         let ends = strip(routes, v, pieces);
-        self.old_stretch(model, routes, lines, v, ends.front, ends.behind)
+        self.old_stretch(model, routes, route_sums, v, ends.front, ends.behind)
     }
 
     // What other pieces make of the penalised arc costs of a vehicle.
@@ -155,7 +188,7 @@ impl Penalties {
         &self,
         model: &Model,
         routes: &Routes,
-        lines: &Lines,
+        route_sums: &AllRouteSums,
         v: u32,
         pieces: &[Piece],
     ) -> i128
@@ -163,7 +196,7 @@ impl Penalties {
         requires part { IsPart model.now routes.now.lists v pieces.now }
         requires covers { self.now.nodes ≡ model.now.nodes }
         requires few { AtMost 1000000000 (counted self.now) }
-        requires lines { AreLines model.now (counted self.now) routes.now.lists lines.now }
+        requires route_sums { AreAllRouteSums model.now (counted self.now) routes.now.lists route_sums.now }
         ensures low { negsuc (2 ^ 90) ≤ℤ result }
         ensures high { result ≤ℤ pos (2 ^ 90) }
         ensures value { result ≡ route_weight model.now (counted self.now) v (joined routes.now.lists pieces.now)
@@ -173,8 +206,8 @@ impl Penalties {
         let ends = strip(routes, v, pieces);
         let start = node_before(list, ends.front, start_of(model, v));
         let next = node_from(list, ends.behind, end_of(model, v));
-        let new = self.new_stretch(model, routes, lines, v, start, ends.middle, next);
-        let old = self.old_stretch(model, routes, lines, v, ends.front, ends.behind);
+        let new = self.new_stretch(model, routes, route_sums, v, start, ends.middle, next);
+        let old = self.old_stretch(model, routes, route_sums, v, ends.front, ends.behind);
         let len = ends.front + new.nodes + (list.len() as u32 - ends.behind);
         let before = old - self.unused(model, v, list.len() as u32);
         let after = new.total - self.unused(model, v, len);
@@ -188,7 +221,7 @@ impl Penalties {
         &self,
         _model: &Model,
         _routes: &Routes,
-        lines: &Lines,
+        route_sums: &AllRouteSums,
         v: u32,
         front: u32,
         behind: u32,
@@ -200,7 +233,7 @@ impl Penalties {
         requires order { front ≤ behind }
         requires place { behind ≤ length (route _routes.now.lists v) }
         requires few { AtMost 1000000000 (counted self.now) }
-        requires lines { AreLines _model.now (counted self.now) _routes.now.lists lines.now }
+        requires route_sums { AreAllRouteSums _model.now (counted self.now) _routes.now.lists route_sums.now }
         ensures low { pos 0 ≤ℤ result }
         ensures high { result ≤ℤ pos (1001 * 2 ^ 70) }
         ensures total { (next : ℕ) (others : List ℕ)
@@ -209,8 +242,8 @@ impl Penalties {
             (last_of (vehicle_at _model.now v).start (take front (route _routes.now.lists v)))
             (slice_range (route _routes.now.lists v) front behind) next }
     {
-        let line = lines.of(v);
-        line.on.between(front as usize, behind as usize + 1)
+        let both = route_sums.of(v);
+        both.on.between(front as usize, behind as usize + 1)
     }
 
     // What the arcs of a vehicle add from a node through the nodes of pieces to a last one.
@@ -218,7 +251,7 @@ impl Penalties {
         &self,
         model: &Model,
         routes: &Routes,
-        lines: &Lines,
+        route_sums: &AllRouteSums,
         v: u32,
         start: u32,
         pieces: &[Piece],
@@ -233,7 +266,7 @@ impl Penalties {
         requires short { length (joined routes.now.lists pieces.now) ≤ 1000 }
         requires covers { self.now.nodes ≡ model.now.nodes }
         requires few { AtMost 1000000000 (counted self.now) }
-        requires lines { AreLines model.now (counted self.now) routes.now.lists lines.now }
+        requires route_sums { AreAllRouteSums model.now (counted self.now) routes.now.lists route_sums.now }
         ensures low { pos 0 ≤ℤ result.total }
         ensures high { result.total ≤ℤ pos (1001 * 2 ^ 70) }
         ensures nodes { result.nodes ≡ length (joined routes.now.lists pieces.now) }
@@ -241,7 +274,7 @@ impl Penalties {
             ≡ stretch_weight model.now (counted self.now) v start (joined routes.now.lists pieces.now) next }
     {
         let mut walk = Walk::begin(start);
-        self.along_pieces(model, routes, lines, v, &mut walk, pieces);
+        self.along_pieces(model, routes, route_sums, v, &mut walk, pieces);
         let nodes = walk.arcs;
         self.step(model, v, &mut walk, next);
         Stretch {

@@ -2,15 +2,15 @@
 
 ghost use Rattle.std.specs.Prelude.{◌≡◌, ◌≤◌, ◌*◌, ◌^◌, ◌*ℤ◌, IsTrue, unsigned_abs};
 ghost use Rattle.vr_guided.specs.Counts.{AtMost, IsSoundGuide, counted};
-ghost use Rattle.vr_guided.specs.Lines.{AreLines};
+ghost use Rattle.vr_guided.specs.RouteSums.{AreAllRouteSums};
 ghost use Rattle.vr_guided.specs.Guides.{is_gain, makes_less, penalised_change};
 ghost use Rattle.vr_model.specs.moves.MoveTests.{is_move};
 ghost use Rattle.vr_model.specs.routes.Rules.{is_valid};
 ghost use Rattle.vr_model.specs.tables.Tables.{visits};
 ghost use Rattle.vr_model.specs.tables.WellFormed.{IsWellFormed};
 
-use crate::lines::Lines;
 use crate::penalties::Penalties;
+use crate::route_sums::AllRouteSums;
 use vr_descent::Accept;
 use vr_model::{Lambda, Model, Move};
 use vr_routes::{Change, Routes};
@@ -21,14 +21,14 @@ pub struct Guiding<'m> {
     pub model: &'m Model,
     pub lambda: Lambda,
     pub penalties: &'m Penalties,
-    pub lines: &'m Lines,
+    pub route_sums: &'m AllRouteSums,
     ghost sound: { IsSoundGuide model.now.nodes lambda penalties.now },
 }
 
 impl<'m> Accept for Guiding<'m> {
     ghost model = { λ s. s.model.now };
 
-    ghost stands_at = { λ s lists. AreLines s.model.now (counted s.penalties.now) lists s.lines.now };
+    ghost stands_at = { λ s lists. AreAllRouteSums s.model.now (counted s.penalties.now) lists s.route_sums.now };
 
     ghost takes = { λ s. makes_less s.model.now s.lambda (counted s.penalties.now) };
 
@@ -39,14 +39,14 @@ impl<'m> Accept for Guiding<'m> {
     fn may_accept(&self, routes: &Routes, _mv: Move, change: &Change, least: i64) -> bool {
         let saved = self
             .penalties
-            .saved_at_most(self.model, routes, self.lines, change);
+            .saved_at_most(self.model, routes, self.route_sums, change);
         if !self.gains(least, -saved) {
             return false;
         }
         self.gains(
             least,
             self.penalties
-                .change(self.model, routes, self.lines, change),
+                .change(self.model, routes, self.route_sums, change),
         )
     }
 }
@@ -58,8 +58,8 @@ impl<'m> Guiding<'m> {
         requires of_model { routes.now.visits ≡ visits self.now.model.now }
         requires valid { IsTrue (is_valid self.now.model.now routes.now.lists) }
         requires mv { IsTrue (is_move self.now.model.now routes.now.lists mv) }
-        requires lines { AreLines self.now.model.now (counted self.now.penalties.now) routes.now.lists
-            self.now.lines.now }
+        requires route_sums { AreAllRouteSums self.now.model.now (counted self.now.penalties.now) routes.now.lists
+            self.now.route_sums.now }
         ensures bound { unsigned_abs result ≤ 2 ^ 100 }
         ensures value { result
             ≡ penalised_change self.now.model.now (counted self.now.penalties.now) routes.now.lists mv }
@@ -67,7 +67,7 @@ impl<'m> Guiding<'m> {
         let mut change = Change::blank();
         Change::write(self.model, routes, mv, &mut change);
         self.penalties
-            .change(self.model, routes, self.lines, &change)
+            .change(self.model, routes, self.route_sums, &change)
     }
 
     // Whether this difference in cost, with this change of the penalised arc costs, makes the augmented cost less.

@@ -6,11 +6,12 @@ mod changing;
 mod costly;
 mod guiding;
 mod laws;
-mod lines;
 mod penalties;
 mod raising;
+mod route_sums;
 mod searching;
 mod sums;
+mod two_vehicles;
 mod walks;
 mod worths;
 

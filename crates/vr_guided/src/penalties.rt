@@ -9,12 +9,12 @@ use std::alloc::Global;
 use std::marker::Model;
 use vr_model::NoMemory;
 
-/// How often each ordered pair of nodes was penalised.
+/// How often each arc was penalised.
 #[derive(Drop)]
 pub struct Penalties {
     nodes: u32,
     counts: Vec<u32>,
-    // where this is false, no pair was penalised
+    // where this is false, no arc was penalised
     any: bool,
 }
 
@@ -29,7 +29,7 @@ impl Model for Penalties {
 }
 
 impl Penalties {
-    /// No pair of nodes is penalised.
+    /// No arc is penalised.
     pub fn new(alloc: Global, nodes: u32) -> Result<Penalties, NoMemory>
         requires { nodes ≤ 1000 }
         ensures none { IfOk result (λ fresh. counted fresh ≡ no_penalties) }
@@ -44,7 +44,7 @@ impl Penalties {
         })
     }
 
-    /// Whether a pair may have been penalised: where not, none was.
+    /// Whether an arc may have been penalised: where not, none was.
     #[inline]
     pub fn is_any(&self) -> bool
         ensures { result ≡ false → counted self.now ≡ no_penalties }

@@ -12,8 +12,8 @@ ghost use Rattle.vr_watch.specs.Told.{Told, ToldInPart};
 use crate::best::Best;
 use crate::costly::has_costly_arc;
 use crate::guiding::Guiding;
-use crate::lines::Lines;
 use crate::penalties::Penalties;
+use crate::route_sums::AllRouteSums;
 use std::alloc::Global;
 use std::sync::ledger::Ledger;
 use vr_descent::{Progress, ScanEnd};
@@ -93,7 +93,7 @@ pub fn guide<J: Judge, L: Ledger>(
             cost: first_cost,
         },
         penalties: Penalties::new(alloc, model.nodes)?,
-        lines: Lines::new(alloc, model)?,
+        route_sums: AllRouteSums::new(alloc, model)?,
     };
     note_all(watch, state.at.event(Kind::First))?;
     let end = improve(
@@ -111,7 +111,7 @@ struct State {
     at: Progress,
     best: Best,
     penalties: Penalties,
-    lines: Lines,
+    route_sums: AllRouteSums,
 }
 
 // Searches on from where it stands, and says why it ended.
@@ -144,19 +144,20 @@ fn improve<J: Judge, L: Ledger>(
         (from_state model.now limit lambda routes.old.lists state.old).events) }
     ensures asked_at_most { OnErr result (J.asked judge.new + state.old.at.used ≤ J.asked judge.old + limit.tries) }
 {
+    state.route_sums.write(model, &state.penalties, routes);
     'scans: while state.at.found != limit.solutions {
-        state.lines.write(model, &state.penalties, routes);
         let guiding = Guiding {
             model,
             lambda,
             penalties: &state.penalties,
-            lines: &state.lines,
+            route_sums: &state.route_sums,
         };
         let ended = state
             .at
             .advance(model, judge, routes, &guiding, limit, watch, steps)?;
         match ended {
-            ScanEnd::Accepted { .. } => {
+            ScanEnd::Accepted { mv, .. } => {
+                state.route_sums.follow(model, &state.penalties, routes, mv);
                 state.best.offer(routes, &state.at);
             }
             ScanEnd::Complete { length } => {
@@ -164,6 +165,7 @@ fn improve<J: Judge, L: Ledger>(
                     return Ok(End::Optimum);
                 }
                 state.penalties.raise(model, routes);
+                state.route_sums.write(model, &state.penalties, routes);
                 note_all(watch, state.at.event(Kind::Round))?;
             }
             ScanEnd::Cut => return Ok(End::Tries),

@@ -1,21 +1,22 @@
-//! Sums of what arcs add along a line of stops.
+//! Sums of what arcs add along the list of a vehicle.
 
 ghost use Rattle.std.specs.Prelude.{◌≡◌, ◌<◌, ◌≤◌, ◌++◌, ◌∷◌, [], ◌-◌, ◌^◌, ◌+ℤ◌, All, List, ℕ, ℤ, length, pos};
 ghost use Rattle.std.specs.Prelude.{slice_range, take};
 ghost use Rattle.vr_guided.specs.Counts.{AtMost, counted};
-ghost use Rattle.vr_guided.specs.Sums.{AreSums, stops, weight_by};
-ghost use Rattle.vr_guided.specs.Walks.{last_of};
+ghost use Rattle.vr_guided.specs.Sums.{AreArcSums, line_nodes, weight_by};
 ghost use Rattle.vr_model.specs.routes.Routes.{UsedArc, arcs_from};
 ghost use Rattle.vr_model.specs.tables.Numbers.{number_at, total_by};
 ghost use Rattle.vr_model.specs.tables.Tables.{vehicle_at};
 ghost use Rattle.vr_model.specs.tables.WellFormed.{IsIn, IsWellFormed};
+ghost use Rattle.vr_sums.specs.Sums.{last_of};
 
 use crate::penalties::Penalties;
 use arrayvec::ArrayVec;
 use std::marker::Model;
 use vr_model::Model as RoutingModel;
 
-/// At each stop of a line, what the arcs before it add up to.
+/// At each stop of a vehicle with its list, what the arcs before it add up to. Penalties times costs take more than the 64
+/// bits that `vr_sums` has for a sum.
 #[derive(Drop)]
 pub struct Sums {
     items: ArrayVec<i128, 1002>,
@@ -23,13 +24,13 @@ pub struct Sums {
 
 impl Model for Sums {
     ghost use Rattle.std.specs.Prelude.{ℤ, List};
-    ghost use Rattle.vr_guided.specs.Sums.{HaveRange};
+    ghost use Rattle.vr_guided.specs.Sums.{HaveWideRange};
 
     ghost Value = { List ℤ };
 
     ghost view = { λ s. s.items.items };
 
-    ghost invariant = { λ s. HaveRange s.items.items };
+    ghost invariant = { λ s. HaveWideRange s.items.items };
 }
 
 impl Sums {
@@ -42,7 +43,7 @@ impl Sums {
         }
     }
 
-    /// Writes the sums of a vehicle's line with a list, of arcs that are taken on, or back.
+    /// Writes the sums of a vehicle with a list, of arcs that are taken on, or back.
     pub fn write(
         &mut self,
         model: &RoutingModel,
@@ -57,8 +58,8 @@ impl Sums {
         requires short { length list.now ≤ 1000 }
         requires covers { penalties.now.nodes ≡ model.now.nodes }
         requires few { AtMost 1000000000 (counted penalties.now) }
-        ensures { AreSums (weight_by model.now (counted penalties.now) back) v (vehicle_at model.now v).start
-            (stops model.now v list.now) self.new }
+        ensures { AreArcSums (weight_by model.now (counted penalties.now) back) v (vehicle_at model.now v).start
+            (line_nodes model.now v list.now) self.new }
     {
         let ends = model.vehicles.get(v as usize);
         self.begin();
@@ -70,7 +71,7 @@ impl Sums {
         self.add(penalties.weight_by(model, v, at, ends.end, back));
     }
 
-    // Begins a line: before its first stop nothing was added.
+    // Begins: before the first stop nothing was added.
     fn begin(&mut self)
         ensures { self.new ≡ pos 0 ∷ [] }
     {
@@ -96,7 +97,7 @@ impl Sums {
         requires order { from ≤ to }
         requires place { to < length self.now }
         requires few { to ≤ 1001 }
-        ensures { (f : UsedArc → ℤ) (v node : ℕ) (nodes : List ℕ) → AreSums f v node nodes self.now
+        ensures { (f : UsedArc → ℤ) (v node : ℕ) (nodes : List ℕ) → AreArcSums f v node nodes self.now
             → result ≡ total_by f (arcs_from v (last_of node (take from nodes)) (slice_range nodes from to)) }
     {
         self.items[to] - self.items[from]

@@ -3,18 +3,19 @@
 ghost use Rattle.std.specs.Prelude.{◌≡◌, ◌<◌, ◌≤◌, ◌≤ℤ◌, ◌*ℤ◌, ◌+◌, ◌-◌, ◌*◌, ◌^◌, ◌∷◌, ℕ, List, All, length};
 ghost use Rattle.std.specs.Prelude.{pos, reverse, slice_range, true};
 ghost use Rattle.vr_guided.specs.Counts.{AtMost, counted};
-ghost use Rattle.vr_guided.specs.Lines.{AreLines};
+ghost use Rattle.vr_guided.specs.RouteSums.{AreAllRouteSums};
 ghost use Rattle.vr_guided.specs.Sums.{weight_by};
-ghost use Rattle.vr_guided.specs.Walks.{IsSoundWalk, begun, last_of, stepped, walked, weight};
+ghost use Rattle.vr_guided.specs.Walks.{IsSoundWalk, begun, stepped, walked, weight};
 ghost use Rattle.vr_model.specs.routes.Routes.{arcs_from, route};
 ghost use Rattle.vr_model.specs.tables.Numbers.{total_by};
 ghost use Rattle.vr_model.specs.tables.Tables.{vehicle_at};
 ghost use Rattle.vr_model.specs.tables.WellFormed.{IsIn, IsWellFormed};
 ghost use Rattle.vr_routes.specs.Pieces.{IsWithin, joined, nodes_of};
 ghost use Rattle.vr_routes.specs.declared.pieces.Piece.TheVariants.{Chain};
+ghost use Rattle.vr_sums.specs.Sums.{last_of};
 
-use crate::lines::Lines;
 use crate::penalties::Penalties;
+use crate::route_sums::AllRouteSums;
 use vr_model::Model;
 use vr_routes::{Piece, Routes};
 
@@ -176,12 +177,12 @@ impl Penalties {
         walk.total += total;
     }
 
-    // A walk goes on through a chain of a list, by the line of its vehicle, which has the same arc costs.
+    // A walk goes on through a chain of a list, by the sums of its vehicle, which has the same arc costs.
     fn along_kept(
         &self,
         model: &Model,
         routes: &Routes,
-        lines: &Lines,
+        route_sums: &AllRouteSums,
         vehicle: u32,
         walk: &mut Walk,
         v: u32,
@@ -196,7 +197,7 @@ impl Penalties {
         requires order { from < to }
         requires place { to ≤ length (route routes.now.lists v) }
         requires nodes { All (λ node. node < model.now.nodes) (slice_range (route routes.now.lists v) from to) }
-        requires lines { AreLines model.now (counted self.now) routes.now.lists lines.now }
+        requires route_sums { AreAllRouteSums model.now (counted self.now) routes.now.lists route_sums.now }
         requires covers { self.now.nodes ≡ model.now.nodes }
         requires few { AtMost 1000000000 (counted self.now) }
         requires sound { IsSoundWalk model.now.nodes walk.old }
@@ -206,15 +207,15 @@ impl Penalties {
         ensures sound { IsSoundWalk model.now.nodes walk.new }
     {
         let list = routes.list(v);
-        let line = lines.of(v);
+        let both = route_sums.of(v);
         let low = list[from as usize];
         let high = list[to as usize - 1];
         let arcs = to - from - 1;
         if reversed {
-            let total = line.back.between(from as usize + 1, to as usize);
+            let total = both.back.between(from as usize + 1, to as usize);
             self.jump(model, vehicle, walk, high, low, arcs, total);
         } else {
-            let total = line.on.between(from as usize + 1, to as usize);
+            let total = both.on.between(from as usize + 1, to as usize);
             self.jump(model, vehicle, walk, low, high, arcs, total);
         }
     }
@@ -224,14 +225,14 @@ impl Penalties {
         &self,
         model: &Model,
         routes: &Routes,
-        lines: &Lines,
+        route_sums: &AllRouteSums,
         vehicle: u32,
         walk: &mut Walk,
         piece: &Piece,
     )
         requires well_formed { IsWellFormed model.now }
         requires vehicle { vehicle < length model.now.vehicles }
-        requires lines { AreLines model.now (counted self.now) routes.now.lists lines.now }
+        requires route_sums { AreAllRouteSums model.now (counted self.now) routes.now.lists route_sums.now }
         requires within { IsWithin routes.now.lists piece.now }
         requires nodes { All (λ node. node < model.now.nodes) (nodes_of routes.now.lists piece.now) }
         requires covers { self.now.nodes ≡ model.now.nodes }
@@ -251,7 +252,9 @@ impl Penalties {
             } => {
                 let same = has_same_costs(model, v, vehicle);
                 if same && from < to {
-                    self.along_kept(model, routes, lines, vehicle, walk, v, from, to, reversed);
+                    self.along_kept(
+                        model, routes, route_sums, vehicle, walk, v, from, to, reversed,
+                    );
                     return;
                 }
                 let nodes = &routes.list(v)[from as usize..to as usize];
@@ -270,14 +273,14 @@ impl Penalties {
         &self,
         model: &Model,
         routes: &Routes,
-        lines: &Lines,
+        route_sums: &AllRouteSums,
         vehicle: u32,
         walk: &mut Walk,
         pieces: &[Piece],
     )
         requires well_formed { IsWellFormed model.now }
         requires vehicle { vehicle < length model.now.vehicles }
-        requires lines { AreLines model.now (counted self.now) routes.now.lists lines.now }
+        requires route_sums { AreAllRouteSums model.now (counted self.now) routes.now.lists route_sums.now }
         requires within { All (IsWithin routes.now.lists) pieces.now }
         requires nodes { All (λ node. node < model.now.nodes) (joined routes.now.lists pieces.now) }
         requires covers { self.now.nodes ≡ model.now.nodes }
@@ -289,7 +292,7 @@ impl Penalties {
         ensures sound { IsSoundWalk model.now.nodes walk.new }
     {
         for piece in pieces {
-            self.along_piece(model, routes, lines, vehicle, walk, piece);
+            self.along_piece(model, routes, route_sums, vehicle, walk, piece);
         }
     }
 }

@@ -1,4 +1,5 @@
 pub mod PartTours
+pub mod PartEnds
 pub mod PartWeights
 pub mod Knowing
 pub mod GroupNumbers

@@ -17,7 +17,7 @@ use Rattle.vr_model.specs.routes.Rules.{place_of, serves_pair}
 use Rattle.vr_model.specs.tables.Numbers.{each}
 use Rattle.vr_model.specs.tables.WellFormed.{IsWellFormed, nodes_of}
 use Rattle.vr_model.proofs.moves.Times.{all_held, all_of_held, at_least_two, times_of_distinct}
-use Rattle.vr_model.proofs.routes.Lists.{place_of_held}
+use Rattle.vr_model.proofs.routes.Lists.{held_at, place_of_held}
 use Rattle.vr_model.proofs.tables.Members.{In}
 use Rattle.vr_model.proofs.tables.Tests.{apart, clash, eq_turned, fails, fails_not, lt_of_test, or-false_left, or-false_right, same_tests, test_of_lt}
 use Rattle.vr_lists.proofs.PlaceLemmas.{holds-place, place_of-within}
@@ -25,7 +25,7 @@ use Rattle.vr_routes.specs.Seats.{IsSeat}
 use Rattle.vr_routes.proofs.SeatLemmas.{active_at}
 use Rattle.vr_walks.specs.Spliced.{spliced}
 use Rattle.vr_walks.proofs.Splicing.{at_front, at_middle, at_back, long}
-use Rattle.vr_pathfilters.specs.Pairs.{AreMarked, IsNewList, serves_if_any, serves_node}
+use Rattle.vr_pathfilters.specs.Pairs.{AreMarked, IsNewList, is_marked, serves_if_any, serves_node, serves_unmarked}
 
 -- ---- pairs of nodes that are not among those between
 
@@ -258,10 +258,8 @@ module _ (lists : List (List ℕ)) (v front behind : ℕ) (middle marks : List �
   -- a node that is not found by its mark
   pub not_between : (x k : ℕ) → k ≡ slice_index marks x → (nat_lt k (length middle) && (slice_index middle k == x)) ≡ false → holds middle x ≡ false
   not_between x k marked failed = fails (holds middle x) (λ h.
-      let at = is.marked x h in
       clash (nat_lt k (length middle) && (slice_index middle k == x))
-      (subst (λ i. IsTrue (nat_lt i (length middle) && (slice_index middle i == x))) (sym marked)
-      (and_both (nat_lt (slice_index marks x) (length middle)) (slice_index middle (slice_index marks x) == x) (test_of_lt (slice_index marks x) (length middle) at.0) (test_of_eq (slice_index middle (slice_index marks x)) x at.1)))
+      (subst (λ i. IsTrue (nat_lt i (length middle) && (slice_index middle i == x))) (sym marked) (is.marked x h))
       failed)
 
   -- and one that is
@@ -305,5 +303,26 @@ pub all_marked : (list marks : List ℕ) (n : ℕ) → length list ≤ n → ((j
 all_marked list marks n high marked x held =
     let p = place_of_held list x held in
     let low = p.1 in
-    let is = marked p.0 (omega (arith, low, high)) in
-    subst (λ y. (slice_index marks y < length list) × (slice_index list (slice_index marks y) ≡ y)) p.2 is
+    let at = marked p.0 (omega (arith, low, high)) in
+    let y = slice_index list p.0 in
+    subst (λ z. IsTrue (is_marked list marks z)) p.2
+    (and_both (nat_lt (slice_index marks y) (length list)) (slice_index list (slice_index marks y) == y)
+    (test_of_lt (slice_index marks y) (length list) at.0) (test_of_eq (slice_index list (slice_index marks y)) y at.1))
+
+-- a node that is marked is one of the list
+marked_held : (list marks : List ℕ) (x : ℕ) → IsTrue (is_marked list marks x) → IsTrue (holds list x)
+marked_held list marks x marked =
+    held_at list x (slice_index marks x)
+    (lt_of_test (slice_index marks x) (length list) (and_left (nat_lt (slice_index marks x) (length list)) (slice_index list (slice_index marks x) == x) marked))
+    (eq_of_test (slice_index list (slice_index marks x)) x (and_right (nat_lt (slice_index marks x) (length list)) (slice_index list (slice_index marks x) == x) marked))
+
+-- where a list serves the pairs of some nodes, those that are marked need no test
+pub serves-unmarked : (model : Model) (list middle marks gone : List ℕ) → IsTrue (list_all (serves_node model list) middle)
+    → list_all (serves_unmarked model list middle marks) gone ≡ list_all (serves_node model list) gone
+serves-unmarked model list middle marks [] served = refl
+serves-unmarked model list middle marks (x ∷ xs) served =
+    ap₂ (λ a b. a && b) (by (is_marked middle marks x) refl) (serves-unmarked model list middle marks xs served)
+  where
+    by : (b : Bool) → is_marked middle marks x ≡ b → (b || serves_node model list x) ≡ serves_node model list x
+    by true marked = sym (all_held (serves_node model list) middle served x (marked_held middle marks x marked))
+    by false marked = refl

@@ -1,5 +1,6 @@
 -- What the filter of pairs knows and asks.
-use Rattle.std.specs.Prelude.{◌≡◌, ℕ, ◌<◌, ◌≤◌, Bool, true, List, length, slice_index, IsTrue, Option, Some, None}
+use Rattle.std.specs.Prelude.{ℕ, ◌==◌, ◌&&◌, ◌||◌, ◌<◌, ◌≤◌, Bool, true, List, length, nat_lt, slice_index}
+use Rattle.std.specs.Prelude.{IsTrue, Option, Some, None}
 use Rattle.vr_model.specs.first.Items.{pair_of}
 use Rattle.vr_model.specs.routes.Routes.{route, holds, is_distinct}
 use Rattle.vr_model.specs.routes.Rules.{serves_pair}
@@ -25,10 +26,18 @@ serves_if_any list (Some pair) = serves_pair list pair
 abbrev pub serves_node : Model → List ℕ → ℕ → Bool
 serves_node model list node = serves_if_any list (pair_of model node)
 
+-- the mark of a node is a place of it in a list
+abbrev pub is_marked : List ℕ → List ℕ → ℕ → Bool
+is_marked list marks node =
+    nat_lt (slice_index marks node) (length list) && (slice_index list (slice_index marks node) == node)
+
 -- the mark of each node of a list is a place of it
 abbrev pub AreMarked : List ℕ → List ℕ → Type 0
-AreMarked list marks = (node : ℕ) → IsTrue (holds list node)
-    → (slice_index marks node < length list) × (slice_index list (slice_index marks node) ≡ node)
+AreMarked list marks = (node : ℕ) → IsTrue (holds list node) → IsTrue (is_marked list marks node)
+
+-- a node is marked with a place of it in some nodes, or a list serves the pair that it is in
+abbrev pub serves_unmarked : Model → List ℕ → List ℕ → List ℕ → ℕ → Bool
+serves_unmarked model list nodes marks node = is_marked nodes marks node || serves_node model list node
 
 -- the list of vehicle v keeps its front and its end, with marked nodes in the place of those between, and no node
 -- stands twice in what it becomes

@@ -4,7 +4,7 @@ ghost use Rattle.std.specs.Prelude.{◌≡◌, ◌==◌, ◌&&◌, ◌<◌, ◌�
 ghost use Rattle.std.specs.List.{list_all};
 ghost use Rattle.vr_model.specs.routes.Routes.{route};
 ghost use Rattle.vr_model.specs.routes.Rules.{place_of, serves_pair};
-ghost use Rattle.vr_pathfilters.specs.Pairs.{AreMarked, serves_node};
+ghost use Rattle.vr_pathfilters.specs.Pairs.{AreMarked, serves_node, serves_unmarked};
 
 use std::marker::Model;
 use vr_lists::NodeTables;
@@ -41,8 +41,8 @@ impl<'a> Model for NewList<'a> {
 }
 
 /// Marks each node of a list with a place of it.
-pub(crate) fn mark(list: &[u32], marks: &mut [u32])
-    requires nodes { All (λ node. node < length marks.old) list.now }
+pub(crate) fn mark(list: &[u32], marks: &mut [u32; 1000])
+    requires nodes { All (λ node. node < 1000) list.now }
     requires few { length list.now ≤ 1000 }
     ensures { AreMarked list.now marks.new }
 {
@@ -137,5 +137,19 @@ impl<'a> NewList<'a> {
         ensures { result ≡ list_all (serves_node lookups.now self.now) nodes.now }
     {
         nodes.iter().all(|&node| self.serves_node(lookups, node))
+    }
+
+    /// Whether the list serves the pairs that some nodes are in, but for nodes that `marks` tells to be in `marked`.
+    pub(crate) fn serves_unmarked(
+        &self,
+        lookups: &NodeTables<'_>,
+        nodes: &[u32],
+        marked: &[u32],
+        marks: &[u32],
+    ) -> bool
+        ensures { result ≡ list_all (serves_unmarked lookups.now self.now marked.now marks.now) nodes.now }
+    {
+        nodes.iter().all(|&node| is_at(marked, mark_of(marks, node), node)
+            || self.serves_node(lookups, node))
     }
 }

@@ -16,7 +16,7 @@ ghost use Rattle.vr_filter.specs.Filters.{after};
 ghost use Rattle.vr_pathfilters.specs.AfterChanges.{pairs_known_after};
 ghost use Rattle.vr_pathfilters.specs.Lists.{holds_of_each};
 ghost use Rattle.vr_pathfilters.specs.ListFilters.{StandsBy};
-ghost use Rattle.vr_pathfilters.specs.Pairs.{KnowsPairs};
+ghost use Rattle.vr_pathfilters.specs.Pairs.{AreMarked, KnowsPairs};
 
 use crate::lists::{ListFilter, ListRule};
 use crate::new_lists::{NewList, mark};
@@ -38,20 +38,20 @@ pub struct PairRule<'m> {
     places: PairPlaces,
 }
 
-// Whether the list of a vehicle serves each pair, with other nodes between the ends that it keeps. It looks at the
-// nodes that come between them, and at those that stood there.
-fn serves_between(
+// Whether the list of a vehicle serves each pair, with other nodes between the ends that it keeps. It asks the pairs of
+// these nodes, and of those that stood there and do so no more.
+fn serves_between<'a>(
     lookups: &NodeTables<'_>,
-    routes: &Routes,
+    routes: &'a Routes,
     v: u32,
     front: u32,
     behind: u32,
-    middle: &[u32],
-    marks: &mut [u32; 1000],
+    middle: &'a [u32],
+    marks: &'a [u32],
 ) -> bool
     requires vehicle { v < length routes.now.lists }
     requires seams { AreSeams (length (route routes.now.lists v)) front behind }
-    requires nodes { All (λ node. node < 1000) middle.now }
+    requires marked { AreMarked middle.now marks.now }
     requires few { length middle.now ≤ 1000 }
     requires before { IsTrue (list_all (serves_pair (route routes.now.lists v)) lookups.now.pairs) }
     requires distinct { IsTrue (is_distinct (spliced (route routes.now.lists v) front behind middle.now)) }
@@ -61,8 +61,6 @@ fn serves_between(
     // what holds of the model is known
     let _model = lookups.model();
     routes.know_once();
-    let marks = &mut marks[..];
-    mark(middle, marks);
     let old = routes.list(v);
     let new = NewList {
         routes,
@@ -73,7 +71,12 @@ fn serves_between(
         marks,
     };
     new.serves_each(lookups, middle)
-        && new.serves_each(lookups, &old[front as usize..behind as usize])
+        && new.serves_unmarked(
+            lookups,
+            &old[front as usize..behind as usize],
+            middle,
+            marks,
+        )
 }
 
 impl<'m> ListRule for PairRule<'m> {
@@ -89,6 +92,7 @@ impl<'m> ListRule for PairRule<'m> {
         let v = change.vehicle(k);
         let ends = strip(routes, v, change.pieces(k));
         routes.join_into(ends.middle, &mut self.list);
+        mark(self.list.as_slice(), &mut self.marks);
         if !serves_between(
             &self.lookups,
             routes,
@@ -96,7 +100,7 @@ impl<'m> ListRule for PairRule<'m> {
             ends.front,
             ends.behind,
             self.list.as_slice(),
-            &mut self.marks,
+            &self.marks,
         ) {
             return false;
         }
@@ -113,10 +117,10 @@ impl<'m> ListRule for PairRule<'m> {
 }
 
 /// Lets a change pass where each list afterwards serves each pair in order, and keeps the policy of its vehicle
-/// (`PickupDeliveryFilter` in OR-Tools, by `AddPickupAndDelivery` and `SetPickupAndDeliveryPolicyOfVehicle`). It
-/// looks at what the change brings into a list and takes out of it, however long the list is beside that; where the
-/// policy of the vehicle asks something of the order of pairs, it then looks at the whole list. It takes memory only
-/// when it is opened, and in a model without pairs it looks at no list.
+/// (`PickupDeliveryFilter` in OR-Tools, by `AddPickupAndDelivery` and `SetPickupAndDeliveryPolicyOfVehicle`). Of a list
+/// it looks at what stands afterwards between the ends that a change keeps, and at what is gone from there; where its
+/// vehicle has a policy, at the whole list too. It takes memory only when it is opened, and in a model without pairs it
+/// looks at no list.
 pub type PairFilter<'m> = ListFilter<PairRule<'m>>;
 
 impl<'m> PairFilter<'m> {

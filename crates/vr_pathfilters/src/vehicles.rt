@@ -83,8 +83,8 @@ fn pieces_allow(lookups: &NodeTables<'_>, routes: &Routes, v: u32, pieces: &[Pie
 }
 
 /// Lets a change pass where each visit of each list allows its vehicle afterwards (`SetAllowedVehiclesForIndex` in
-/// OR-Tools). It asks only the nodes that come to another vehicle, however long the lists are, and takes memory only
-/// when it is opened.
+/// OR-Tools). It asks the nodes that a change takes from the list of another vehicle or puts in one by one, and no
+/// others, and takes memory only when it is opened.
 pub type VehicleFilter<'m> = ListFilter<VehicleRule<'m>>;
 
 impl<'m> VehicleFilter<'m> {

@@ -67,7 +67,7 @@ improve-requires-clause-stands g c =
       };
       few = subst (λ p. AtMost 0 p) (sym c.in_ok-new.ensures.none) none_at_first;
       covers = c.in_ok-new.ensures.nodes;
-      lines = c.in_ok-new-2.ensures;
+      route_sums = c.in_ok-new-2.ensures;
     }
 
 pub returns-in_err-end-clause-judge_model : goal.returns-in_err-end-clause-judge_model

@@ -18,6 +18,7 @@ use Rattle.vr_descent.proofs.DescentLemmas.{same_count}
 use Rattle.vr_model.proofs.tables.Tests.{apart}
 use Rattle.vr_guided.specs.Counts.{AtMost, counted}
 use Rattle.vr_guided.specs.Guides.{makes_less}
+use Rattle.vr_guided.specs.RouteSums.{AreAllRouteSums}
 use Rattle.vr_guided.specs.Standing.{IsBest, from_here, from_state, standing}
 use Rattle.vr_guided.proofs.GuidedLemmas.{as_many, at_end, at_round, better, costly_of, ends_so, enough, few_more, few_raised, kept_lists, kept_no_dearer, left_after, on_scan, some_moves}
 use Rattle.vr_guided.proofs.searching.improve.Goals as goal
@@ -40,7 +41,18 @@ pub scans-init : goal.scans-init
 scans-init g c =
     record {
       model = c.requires.judge_model;
-      stands = c.requires.stands;
+      stands = record {
+        holds = c.requires.stands.holds;
+        costs = c.requires.stands.costs;
+        used = c.requires.stands.used;
+        some = c.requires.stands.some;
+        found = c.requires.stands.found;
+        best = c.requires.stands.best;
+        few = c.requires.stands.few;
+        covers = c.requires.stands.covers;
+        route_sums = c.write.ensures.many;
+      };
+      route_sums = c.write.ensures;
       asked = omega arith;
       no_dearer = omega (arith, ints);
       goes = record { told = []; outcome = refl; heard = told_nothing (λ w. (goal.Watch-dyn g (w.vtable, w.value)).after w.value) _ };
@@ -56,7 +68,7 @@ advance-requires-clause-holds g c =
 
 pub advance-requires-clause-accept_stands : goal.advance-requires-clause-accept_stands
 advance-requires-clause-accept_stands g c =
-    c.write.ensures
+    c.scans.invariant.route_sums
 
 pub advance-requires-clause-cost : goal.advance-requires-clause-cost
 advance-requires-clause-cost g c =
@@ -119,6 +131,8 @@ scans-preserved-in-Accepted g c =
     let best_old = c.scans.invariant.stands.best in
     let best_now : IsBest c.args.model.now c.advance.new.routes.visits c.scans.state.best = record { costs = best_old.costs; valid = best_old.valid; same_visits = best_old.same_visits ∙ visits_new } in
     let lists_kept : c.offer.new.self.routes.lists ≡ cheaper c.args.model.now c.scans.state.best.routes.lists (apply c.args.model.now c.scans.routes.lists c.in-Accepted.mv) = ap (λ b. b.routes.lists) offered ∙ (kept_lists c.args.model.now c.scans.state.best c.advance.new.routes c.advance.new.self.cost best_old.costs costs_new ∙ ap (λ r. cheaper c.args.model.now c.scans.state.best.routes.lists r.lists) routes_new) in
+    let followed : AreAllRouteSums c.args.model.now (counted c.scans.state.penalties) c.advance.new.routes.lists c.follow.new.self
+    = c.follow.ensures c.scans.routes.lists c.scans.invariant.route_sums (ap (λ r. r.lists) routes_new) in
     record {
       model = c.in_ok-ended.ensures.judge_model;
       stands = record {
@@ -131,8 +145,9 @@ scans-preserved-in-Accepted g c =
             (record { costs = costs_new; valid = c.in_ok-ended.ensures.holds.valid; same_visits = refl }));
         few = few_more (counted c.scans.state.penalties) c.scans.state.at.used c.advance.new.self.used (omega (arith, used_new)) c.scans.invariant.stands.few;
         covers = c.scans.invariant.stands.covers;
-        lines = c.write.ensures.many;
+        route_sums = followed.many;
       };
+      route_sums = followed;
       asked = omega (arith, c.in_ok-ended.ensures.asked, c.scans.invariant.asked);
       no_dearer = subst (λ b. b.cost ≤ℤ c.args.state.now.best.cost) (sym offered) (kept_no_dearer c.scans.state.best c.advance.new.routes c.advance.new.self.cost c.args.state.now.best.cost c.scans.invariant.no_dearer);
       goes = subst (λ b. Goes (λ w. (goal.Watch-dyn g (w.vtable, w.value)).after w.value) (from_state c.args.model.now c.args.limit c.args.lambda c.args.routes.now.lists c.args.state.now) (from_here c.args.model.now c.args.limit c.args.lambda (counted c.scans.state.penalties) c.advance.new.routes.lists b c.advance.new.self.used c.advance.new.self.found) c.args.watch.now.items c.advance.new.watch.items) (sym lists_kept)
@@ -160,6 +175,18 @@ raise-requires-clause-covers g c =
 pub raise-requires-clause-costly : goal.raise-requires-clause-costly
 raise-requires-clause-costly g c =
     costly_of (c.in-Complete.length == 0) (has_costly_arc c.args.model.now c.advance.new.routes.lists) (sym c.is_stuck.ensures ∙ c.if-is_stuck.false)
+
+pub write-requires-in-Complete-clause-few : goal.write-requires-in-Complete-clause-few
+write-requires-in-Complete-clause-few g c =
+    let done = completed c.args.model.now (makes_less c.args.model.now c.args.lambda (counted c.scans.state.penalties)) c.scans.routes.lists (c.args.limit.tries - c.scans.state.at.used) c.in-Complete.length (sym c.in-Complete.is ∙ c.in_ok-ended.ensures.ends) in
+    let scanned = done.0 in
+    let low = done.1 in
+    let routes_new : c.advance.new.routes ≡ c.scans.routes = c.in_ok-ended.ensures.routes ∙ ap (routes_after c.args.model.now c.scans.routes) scanned in
+    let ends : is_at_end c.args.model.now (standing c.scans.routes.lists c.scans.state.best.routes.lists c.scans.state.at.used c.scans.state.at.found) c.in-Complete.length ≡ false = ap (λ r. (c.in-Complete.length == 0) || not (has_costly_arc c.args.model.now r.lists)) (sym routes_new) ∙ (sym c.is_stuck.ensures ∙ c.if-is_stuck.false) in
+    let one = some_moves c.args.model.now c.args.limit c.args.lambda (counted c.scans.state.penalties) c.scans.routes.lists c.scans.state.best.routes.lists c.scans.state.at.used c.scans.state.at.found c.in-Complete.length ends in
+    let raised_new : counted c.raise.new.self ≡ raised c.args.model.now (counted c.scans.state.penalties) c.scans.routes.lists = c.raise.ensures.raised ∙ ap (λ r. raised c.args.model.now (counted c.scans.state.penalties) r.lists) routes_new in
+    few_more (counted c.raise.new.self) (c.scans.state.at.used + c.in-Complete.length) 1000000000 (omega (arith, low, c.scans.invariant.stands.used, c.requires.limits.tries))
+    (subst (λ p. AtMost (c.scans.state.at.used + c.in-Complete.length) p) (sym raised_new) (few_raised c.args.model.now (counted c.scans.state.penalties) c.scans.routes.lists c.scans.state.at.used c.in-Complete.length one c.scans.invariant.stands.few))
 
 pub scans-smaller : goal.scans-smaller
 scans-smaller g c =
@@ -233,8 +260,9 @@ scans-preserved g c =
         best = record { costs = best_old.costs; valid = best_old.valid; same_visits = best_old.same_visits ∙ sym (ap (λ r. r.visits) routes_new) };
         few = subst (λ k. AtMost k (counted c.raise.new.self)) (sym used_new) (subst (λ p. AtMost (c.scans.state.at.used + c.in-Complete.length) p) (sym raised_new) (few_raised c.args.model.now (counted c.scans.state.penalties) c.scans.routes.lists c.scans.state.at.used c.in-Complete.length one c.scans.invariant.stands.few));
         covers = c.raise.ensures.nodes ∙ c.scans.invariant.stands.covers;
-        lines = c.write.ensures.many;
+        route_sums = c.write-in-Complete.ensures.many;
       };
+      route_sums = c.write-in-Complete.ensures;
       asked = omega (arith, c.in_ok-ended.ensures.asked, c.scans.invariant.asked);
       no_dearer = c.scans.invariant.no_dearer;
       goes = subst (λ q. Goes (λ w. (goal.Watch-dyn g (w.vtable, w.value)).after w.value) (from_state c.args.model.now c.args.limit c.args.lambda c.args.routes.now.lists c.args.state.now) (from_here c.args.model.now c.args.limit c.args.lambda q c.advance.new.routes.lists c.scans.state.best.routes.lists c.advance.new.self.used c.advance.new.self.found) c.args.watch.now.items c.note_all.new.watch.items) (sym raised_new)
@@ -295,7 +323,7 @@ returns-then-is_stuck-clause-stands g c =
       best = record { costs = best_old.costs; valid = best_old.valid; same_visits = best_old.same_visits ∙ sym (ap (λ r. r.visits) routes_new) };
       few = few_more (counted c.scans.state.penalties) c.scans.state.at.used c.advance.new.self.used (omega (arith, used_new, c.scans.invariant.stands.used)) c.scans.invariant.stands.few;
       covers = c.scans.invariant.stands.covers;
-      lines = c.write.ensures.many;
+      route_sums = c.scans.invariant.route_sums.many;
     }
 
 pub returns-then-is_stuck-clause-no_dearer : goal.returns-then-is_stuck-clause-no_dearer
@@ -355,7 +383,7 @@ returns-in-Cut-clause-stands g c =
       best = record { costs = best_old.costs; valid = best_old.valid; same_visits = best_old.same_visits ∙ sym (ap (λ r. r.visits) routes_new) };
       few = few_more (counted c.scans.state.penalties) c.scans.state.at.used c.advance.new.self.used (omega (arith, used_new, c.scans.invariant.stands.used)) c.scans.invariant.stands.few;
       covers = c.scans.invariant.stands.covers;
-      lines = c.write.ensures.many;
+      route_sums = c.scans.invariant.route_sums.many;
     }
 
 pub returns-in-Cut-clause-no_dearer : goal.returns-in-Cut-clause-no_dearer

@@ -1,8 +1,9 @@
-use Rattle.std.proofs.Common.{◌<◌, ◌∙◌, ap₂, sym, subst, length, arith}
+use Rattle.std.proofs.Common.{◌<◌, ◌∙◌, refl, ap₂, sym, subst, length, arith}
 use Rattle.std.specs.Prelude.{All}
 use Rattle.vr_lists.proofs.VisitLists.{visits-below}
-use Rattle.vr_routes.specs.Pieces.{joined, no_part, part_at, IsWithin}
+use Rattle.vr_routes.specs.Pieces.{joined, part_at}
 use Rattle.vr_loads.specs.Loads.{can_carry}
+use Rattle.vr_pathfilters.proofs.PartEnds.{part_vehicle, part_within}
 use Rattle.vr_pathfilters.proofs.PartTours.{tour_of_part}
 use Rattle.vr_pathfilters.proofs.loads.part_carried.Goals as goal
 
@@ -16,8 +17,8 @@ can_carry-requires c =
       load = c.requires.load;
       many = c.requires.tours.list_of_each;
       carried = c.requires.carried;
-      vehicle = (let v = c.vehicle.ensures in let h = are.each_vehicle c.args.k no_part c.requires.part in omega (arith, v, h));
-      within = subst (All (IsWithin lists)) (sym c.pieces.ensures.value) (are.each_within c.args.k no_part c.requires.part);
+      vehicle = part_vehicle are c.args.k c.requires.part c.vehicle.ensures;
+      within = part_within are c.args.k c.requires.part c.pieces.ensures.value;
       few = c.pieces.ensures.few;
       nodes = subst (λ l. All (λ node. node < m.nodes) (joined lists l)) (sym c.pieces.ensures.value) (visits-below m (joined lists (part_at c.args.change.now c.args.k).pieces) tour.visits);
     }
@@ -27,6 +28,6 @@ returns c =
     let m = c.args.model.now in
     let lists = c.args.routes.now.lists in
     let part = part_at c.args.change.now c.args.k in
-    let known : part.vehicle < length m.vehicles = (let h = c.requires.made.makes.parts_are.each_vehicle c.args.k no_part c.requires.part in let n = c.requires.tours.list_of_each in omega (arith, h, n)) in
+    let known : part.vehicle < length m.vehicles = (let h = part_vehicle c.requires.made.makes.parts_are c.args.k c.requires.part refl in let n = c.requires.tours.list_of_each in omega (arith, h, n)) in
     c.can_carry.ensures ∙ (ap₂ (λ v l. can_carry m c.args.d v (joined lists l)) c.vehicle.ensures c.pieces.ensures.value
     ∙ sym (c.loads_decide.ensures m c.args.d part.vehicle c.requires.load known (joined lists part.pieces)))

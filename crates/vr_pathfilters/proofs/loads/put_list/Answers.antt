@@ -2,9 +2,10 @@ use Rattle.std.proofs.Common.{◌≡◌, ◌<◌, ◌∙◌, length, ap, sym, su
 use Rattle.std.specs.Prelude.{All}
 use Rattle.vr_model.specs.moves.Moves.{with_route}
 use Rattle.vr_lists.proofs.VisitLists.{visits-below}
-use Rattle.vr_routes.specs.Pieces.{joined, no_part, part_at}
+use Rattle.vr_routes.specs.Pieces.{joined, part_at}
 use Rattle.vr_loads.specs.Kept.{AreCarried}
 use Rattle.vr_pathfilters.proofs.Knowing.{with_part_is}
+use Rattle.vr_pathfilters.proofs.PartEnds.{part_vehicle}
 use Rattle.vr_pathfilters.proofs.PartTours.{tour_of_part}
 use Rattle.vr_pathfilters.proofs.loads.put_list.Goals as goal
 
@@ -16,7 +17,7 @@ put-requires c =
     let tour = tour_of_part m c.args.routes.now c.requires.tours c.args.change.now c.requires.made c.args.k low in
     let new = joined lists (part_at c.args.change.now c.args.k).pieces in
     let same : c.as_slice.result.now ≡ new = c.as_slice.ensures.value ∙ c.write_after.ensures in
-    let known : c.vehicle.result < length m.vehicles = (let h = c.requires.made.makes.parts_are.each_vehicle c.args.k no_part low in let n = c.requires.tours.list_of_each in let v = c.vehicle.ensures in omega (arith, h, n, v)) in
+    let known : c.vehicle.result < length m.vehicles = (let h = part_vehicle c.requires.made.makes.parts_are c.args.k low c.vehicle.ensures in let n = c.requires.tours.list_of_each in omega (arith, h, n)) in
     record {
       load = c.requires.load;
       vehicle = known;

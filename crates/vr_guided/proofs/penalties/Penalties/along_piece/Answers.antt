@@ -23,14 +23,14 @@ chain-all P lists v from to false h = h
 pub has_same_costs-same-requires-clause-v : goal.has_same_costs-same-requires-clause-v
 has_same_costs-same-requires-clause-v c =
     let w = subst (IsWithin c.args.routes.now.lists) c.in-Chain.is c.requires.within in
-    let known = c.requires.lines.known in
+    let known = c.requires.route_sums.known in
     let low = w.0 in
     omega (arith, low, known)
 
 pub along_kept-requires-clause-owner : goal.along_kept-requires-clause-owner
 along_kept-requires-clause-owner c =
     let w = subst (IsWithin c.args.routes.now.lists) c.in-Chain.is c.requires.within in
-    let known = c.requires.lines.known in
+    let known = c.requires.route_sums.known in
     let low = w.0 in
     omega (arith, low, known)
 

@@ -1,28 +1,23 @@
-use Rattle.std.proofs.Common.{◌≡◌, ◌∙◌, ◌-◌, ◌+◌, ◌<◌, All, ℕ, List, length, sym, ap, subst, arith}
+use Rattle.std.proofs.Common.{◌∙◌, ◌-◌, ◌+◌, ◌<◌, ℕ, List, length, sym, ap, arith}
 use Rattle.std.specs.List.{range_with_len}
 use Rattle.vr_model.specs.tables.Numbers.{each}
 use Rattle.vr_model.specs.routes.Routes.{UsedArc, arcs_of, route}
-use Rattle.vr_model.proofs.routes.Lists.{are-lists, are_lists-count, route-below}
 use Rattle.vr_guided.specs.Counts.{counted}
 use Rattle.vr_guided.specs.Worths.{greatest, worth_of, worthless}
 use Rattle.vr_guided.proofs.ArcLemmas.{each_onward}
+use Rattle.vr_guided.proofs.ListLemmas.{has_list, list_below, vehicles_left}
 use Rattle.vr_guided.proofs.WorthLemmas.{greatest_more}
 use Rattle.vr_guided.proofs.penalties.Penalties.greatest.Goals as goal
 
 pub loop-vehicle-init : goal.loop-vehicle-init
 loop-vehicle-init c =
-    let count = are_lists-count c.args.model.now c.args.routes.now.lists (are-lists c.args.model.now c.args.routes.now.lists c.requires.valid) in
-    let all : length c.args.model.now.vehicles - 0 ≡ length c.args.routes.now.lists = omega (arith, count) in
-    ap (λ k. greatest (worth_of c.args.model.now (counted c.args.self.now)) worthless (each (range_with_len 0 k) (λ v. arcs_of c.args.model.now v (route c.args.routes.now.lists v)))) all
+    ap (λ k. greatest (worth_of c.args.model.now (counted c.args.self.now)) worthless (each (range_with_len 0 k) (λ v. arcs_of c.args.model.now v (route c.args.routes.now.lists v)))) (vehicles_left c.args.model.now c.args.routes.now.lists c.requires.valid)
 
 pub list-requires : goal.list-requires
-list-requires c =
-    let count = are_lists-count c.args.model.now c.args.routes.now.lists (are-lists c.args.model.now c.args.routes.now.lists c.requires.valid) in
-    omega (arith, count, c.loop-vehicle-test.true, c.len-vehicle-end.ensures)
+list-requires c = record { vehicle = has_list c.args.model.now c.args.routes.now.lists c.requires.valid c.loop-vehicle-test.true c.len-vehicle-end.ensures }
 
 pub greatest_in-best-requires-clause-nodes : goal.greatest_in-best-requires-clause-nodes
-greatest_in-best-requires-clause-nodes c = subst (λ xs. All (λ node. node < c.args.model.now.nodes) xs) (sym c.list.ensures.value)
-    (route-below c.args.model.now c.args.routes.now.lists c.loop-vehicle.vehicle (are-lists c.args.model.now c.args.routes.now.lists c.requires.valid))
+greatest_in-best-requires-clause-nodes c = list_below c.args.model.now c.args.routes.now.lists c.requires.valid c.loop-vehicle.vehicle c.list.ensures.value
 
 pub loop-vehicle-preserved : goal.loop-vehicle-preserved
 loop-vehicle-preserved c =

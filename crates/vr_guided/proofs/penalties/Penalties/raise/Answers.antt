@@ -1,11 +1,11 @@
-use Rattle.std.proofs.Common.{◌≡◌, ◌∙◌, ◌-◌, ◌+◌, ◌<◌, All, ℕ, List, length, sym, ap, subst, arith}
+use Rattle.std.proofs.Common.{◌∙◌, ◌-◌, ◌+◌, ◌<◌, ℕ, List, length, sym, ap, arith}
 use Rattle.std.specs.List.{range_with_len}
 use Rattle.vr_model.specs.tables.Numbers.{each}
 use Rattle.vr_model.specs.routes.Routes.{UsedArc, arcs_of, route, used_arcs}
-use Rattle.vr_model.proofs.routes.Lists.{are-lists, are_lists-count, route-below, route-few}
 use Rattle.vr_guided.specs.Counts.{counted}
 use Rattle.vr_guided.specs.Worths.{greatest, raised_in_turn, worth_of, worthless}
 use Rattle.vr_guided.proofs.ArcLemmas.{each_onward}
+use Rattle.vr_guided.proofs.ListLemmas.{has_list, list_below, list_short, vehicles_left}
 use Rattle.vr_guided.proofs.RaiseLemmas.{raised_all, in_turn_more, at_most_more}
 use Rattle.vr_guided.proofs.penalties.Penalties.raise.Goals as goal
 
@@ -14,30 +14,22 @@ loop-vehicle-init c =
     let model = c.args.model.now in
     let lists = c.args.routes.now.lists in
     let old = counted c.args.self.now in
-    let count = are_lists-count model lists (are-lists model lists c.requires.valid) in
-    let all : length c.args.model.now.vehicles - 0 ≡ length c.args.routes.now.lists = omega (arith, count) in
     record {
       goes = ap (λ best. raised_in_turn model best old (each (range_with_len 0 (length model.vehicles - 0)) (λ v. arcs_of model v (route lists v)))) c.greatest-greatest.ensures
-          ∙ (ap (λ k. raised_in_turn model (greatest (worth_of model old) worthless (used_arcs model lists)) old (each (range_with_len 0 k) (λ v. arcs_of model v (route lists v)))) all
+          ∙ (ap (λ k. raised_in_turn model (greatest (worth_of model old) worthless (used_arcs model lists)) old (each (range_with_len 0 k) (λ v. arcs_of model v (route lists v)))) (vehicles_left c.args.model.now c.args.routes.now.lists c.requires.valid)
           ∙ raised_all model old lists c.requires.costly);
       nodes = c.requires.covers;
       few = at_most_more old 1000000000 _ (omega arith) c.requires.few;
     }
 
 pub list-requires : goal.list-requires
-list-requires c =
-    let count = are_lists-count c.args.model.now c.args.routes.now.lists (are-lists c.args.model.now c.args.routes.now.lists c.requires.valid) in
-    omega (arith, count, c.loop-vehicle-test.true, c.len-vehicle-end.ensures)
+list-requires c = record { vehicle = has_list c.args.model.now c.args.routes.now.lists c.requires.valid c.loop-vehicle-test.true c.len-vehicle-end.ensures }
 
 pub raise_route-requires-clause-nodes : goal.raise_route-requires-clause-nodes
-raise_route-requires-clause-nodes c = subst (λ xs. All (λ node. node < c.args.model.now.nodes) xs) (sym c.list.ensures.value)
-    (route-below c.args.model.now c.args.routes.now.lists c.loop-vehicle.vehicle (are-lists c.args.model.now c.args.routes.now.lists c.requires.valid))
+raise_route-requires-clause-nodes c = list_below c.args.model.now c.args.routes.now.lists c.requires.valid c.loop-vehicle.vehicle c.list.ensures.value
 
 pub raise_route-requires-clause-short : goal.raise_route-requires-clause-short
-raise_route-requires-clause-short c =
-    let few = route-few c.args.model.now c.args.routes.now.lists c.loop-vehicle.vehicle (are-lists c.args.model.now c.args.routes.now.lists c.requires.valid) in
-    let most = c.requires.well_formed.number_of_nodes.1 in
-    omega (arith, few, most, ap length c.list.ensures.value)
+raise_route-requires-clause-short c = list_short c.args.model.now c.args.routes.now.lists c.requires.valid c.requires.well_formed c.loop-vehicle.vehicle c.list.ensures.value
 
 pub loop-vehicle-preserved : goal.loop-vehicle-preserved
 loop-vehicle-preserved c =

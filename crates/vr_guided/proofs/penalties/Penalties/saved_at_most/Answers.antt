@@ -1,16 +1,15 @@
-use Rattle.std.proofs.Common.{◌≡◌, ◌∙◌, ℕ, List, length, to_z, of_z, ap₂, sym, arith}
+use Rattle.std.proofs.Common.{◌≡◌, ℕ, List, to_z, of_z, ap₂, arith}
 use Rattle.std.specs.Int.{w128}
 use Rattle.std.specs.Prelude.{ℤ, pos, ◌+ℤ◌, ◌-ℤ◌, ◌≤ℤ◌}
 use Rattle.std.proofs.lemmas.Int.{ints}
-use Rattle.vr_model.proofs.routes.Lists.{are-lists}
 use Rattle.vr_model.specs.search.GuidedSearches.{Penalties, penalised}
 use Rattle.vr_model.specs.declared.records.Model.{Model}
 use Rattle.vr_routes.specs.declared.pieces.Piece.{Piece}
-use Rattle.vr_routes.specs.Pieces.{ListAfter, changed, joined, no_part, part_at}
+use Rattle.vr_routes.specs.Pieces.{ListAfter, changed, joined, part_at}
 use Rattle.vr_model.specs.routes.Routes.{route}
 use Rattle.vr_guided.specs.Counts.{counted}
 use Rattle.vr_guided.specs.Walks.{route_weight}
-use Rattle.vr_guided.proofs.PartLemmas.{one_part, two_parts, part_change, part-of, second_there, unpenalised}
+use Rattle.vr_guided.proofs.PartLemmas.{alone, first_part, part_change, second_part, together, unchanged}
 use Rattle.vr_guided.proofs.penalties.Penalties.saved_at_most.Goals as goal
 
 -- what a part takes at most, by its vehicle and pieces
@@ -30,20 +29,16 @@ both_taken before after part other saved more read same here there sum = omega (
 
 pub saved_by_part-first-requires-clause-part : goal.saved_by_part-first-requires-clause-part
 saved_by_part-first-requires-clause-part c =
-    part-of c.args.model.now c.requires.well_formed c.args.routes.now.lists (are-lists c.args.model.now c.args.routes.now.lists c.requires.valid) c.args.change.now c.requires.parts c.requires.after 0 c.vehicle.result c.pieces.result.now
-    (omega (arith, c.parts-parts.ensures.value, c.parts-parts.ensures.some)) c.vehicle.ensures c.pieces.ensures.value
+    first_part c.requires.well_formed c.requires.valid c.requires.parts c.requires.after c.parts-parts.ensures.value c.parts-parts.ensures.some c.vehicle.ensures c.pieces.ensures.value
 
 pub saved_by_part-requires-clause-part : goal.saved_by_part-requires-clause-part
 saved_by_part-requires-clause-part c =
-    part-of c.args.model.now c.requires.well_formed c.args.routes.now.lists (are-lists c.args.model.now c.args.routes.now.lists c.requires.valid) c.args.change.now c.requires.parts c.requires.after 1 c.vehicle-2.result c.pieces-2.result.now
-    (second_there _ _ c.parts-parts.ensures.value c.parts-parts.ensures.some c.if-parts-eq1.false) c.vehicle-2.ensures c.pieces-2.ensures.value
+    second_part c.requires.well_formed c.requires.valid c.requires.parts c.requires.after c.parts-parts.ensures.value c.parts-parts.ensures.some c.if-parts-eq1.false c.vehicle-2.ensures c.pieces-2.ensures.value
 
 pub returns-then-not-is_any-clause-most : goal.returns-then-not-is_any-clause-most
 returns-then-not-is_any-clause-most c =
-    let none = c.is_any.ensures c.if-not-is_any.true in
-    let before = unpenalised c.args.model.now (counted c.args.self.now) c.args.routes.now.lists none in
-    let after = unpenalised c.args.model.now (counted c.args.self.now) (changed c.args.routes.now.lists c.args.change.now) none in
-    omega (arith, ints, before, after)
+    let none = unchanged c.args.model.now (counted c.args.self.now) c.args.routes.now.lists (changed c.args.routes.now.lists c.args.change.now) (c.is_any.ensures c.if-not-is_any.true) in
+    omega (arith, ints, none)
 
 pub returns-then-parts-eq1-clause-most : goal.returns-then-parts-eq1-clause-most
 returns-then-parts-eq1-clause-most c =
@@ -54,7 +49,7 @@ returns-then-parts-eq1-clause-most c =
     let same : to_z w128 (of_z w128 c.saved_by_part-first.result) ≡ c.saved_by_part-first.result = omega (arith, ints, first.low, first.high) in
     let here : pos 0 ≤ℤ (part_change m p lists (part_at c.args.change.now 0) +ℤ c.saved_by_part-first.result)
     = taken_at_most m p lists c.args.change.now 0 _ _ _ c.vehicle.ensures c.pieces.ensures.value first.most in
-    let sum = one_part m p lists c.args.change.now c.requires.parts (sym c.parts-parts.ensures.value ∙ c.if-parts-eq1.true) no_part in
+    let sum = alone m p c.requires.parts c.parts-parts.ensures.value c.if-parts-eq1.true in
     one_taken (penalised m p lists) (penalised m p (changed lists c.args.change.now)) (part_change m p lists (part_at c.args.change.now 0)) c.saved_by_part-first.result _ same here sum
 
 pub returns-clause-most : goal.returns-clause-most
@@ -70,9 +65,5 @@ returns-clause-most c =
     = taken_at_most m p lists c.args.change.now 0 _ _ _ c.vehicle.ensures c.pieces.ensures.value first.most in
     let there : pos 0 ≤ℤ (part_change m p lists (part_at c.args.change.now 1) +ℤ c.saved_by_part.result)
     = taken_at_most m p lists c.args.change.now 1 _ _ _ c.vehicle-2.ensures c.pieces-2.ensures.value second.most in
-    let value = c.parts-parts.ensures.value in
-    let few = c.parts-parts.ensures.few in
-    let more = second_there (length c.args.change.now) c.parts-parts.result value c.parts-parts.ensures.some c.if-parts-eq1.false in
-    let two : length c.args.change.now ≡ 2 = omega (arith, value, few, more) in
-    let sum = two_parts m p lists c.args.change.now c.requires.parts two no_part in
+    let sum = together m p c.requires.parts c.parts-parts.ensures.value c.parts-parts.ensures.some c.parts-parts.ensures.few c.if-parts-eq1.false in
     both_taken (penalised m p lists) (penalised m p (changed lists c.args.change.now)) (part_change m p lists (part_at c.args.change.now 0)) (part_change m p lists (part_at c.args.change.now 1)) c.saved_by_part-first.result c.saved_by_part.result _ same here there sum

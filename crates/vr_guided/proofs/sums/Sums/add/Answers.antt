@@ -3,7 +3,7 @@ use Rattle.std.specs.Int.{w128}
 use Rattle.std.specs.Prelude.{pos, ◌+ℤ◌}
 use Rattle.vr_model.specs.tables.Numbers.{number_at}
 use Rattle.vr_model.specs.tables.WellFormed.{IsIn}
-use Rattle.vr_guided.specs.Sums.{HaveRange}
+use Rattle.vr_guided.specs.Sums.{HaveWideRange}
 use Rattle.vr_guided.proofs.SumLemmas.{range-push, read-more}
 use Rattle.vr_guided.proofs.sums.Sums.add.Goals as goal
 
@@ -17,4 +17,4 @@ invariant_of-self c =
     let at : slice_index_or c.deref.result.now (c.len.result - 1) (pos 0) ≡ number_at xs (length xs - 1) = ap₂ (λ l k. slice_index_or l (k - 1) (pos 0)) c.deref.ensures.0 c.len.ensures.value in
     let value : to_z w128 (of_z w128 (to_z w128 (of_z w128 (slice_index_or c.deref.result.now (c.len.result - 1) (pos 0))) +ℤ to_z w128 (of_z w128 w))) ≡ number_at xs (length xs - 1) +ℤ w
     = ap (λ x. to_z w128 (of_z w128 (to_z w128 (of_z w128 x) +ℤ to_z w128 (of_z w128 w)))) at ∙ read-more (number_at xs (length xs - 1)) w (length xs - 1) before c.requires.weight (omega (arith, room)) in
-    subst HaveRange (sym (c.push.ensures.items ∙ ap (λ z. xs ++ z ∷ []) value)) (range-push xs w c.self.invariant some c.requires.weight)
+    subst HaveWideRange (sym (c.push.ensures.items ∙ ap (λ z. xs ++ z ∷ []) value)) (range-push xs w c.self.invariant some c.requires.weight)

@@ -2,14 +2,14 @@ use Rattle.std.proofs.Common.{◌≡◌, ◌∙◌, ◌<◌, List, ℤ, length, 
 use Rattle.std.specs.Int.{w128}
 use Rattle.std.specs.Prelude.{pos, ◌-ℤ◌}
 use Rattle.vr_model.specs.tables.Numbers.{number_at}
-use Rattle.vr_guided.specs.Sums.{HaveRange}
+use Rattle.vr_guided.specs.Sums.{HaveWideRange}
 use Rattle.vr_guided.proofs.SumLemmas.{read-between, sums-between}
 use Rattle.vr_guided.proofs.sums.Sums.between.Goals as goal
 
 pub returns : goal.returns
 returns c f v node nodes are =
     let xs : List ℤ = c.args.self.now in
-    let range : HaveRange xs = subst HaveRange c.self.view_is c.self.invariant in
+    let range : HaveWideRange xs = subst HaveWideRange c.self.view_is c.self.invariant in
     let order = c.requires.order in
     let place = c.requires.place in
     let few = c.requires.few in

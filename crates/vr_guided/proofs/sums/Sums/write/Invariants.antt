@@ -1,13 +1,13 @@
 use Rattle.std.proofs.Common.{◌≡◌, ◌<◌, take}
 use Rattle.vr_guided.specs.Counts.{counted}
-use Rattle.vr_guided.specs.Sums.{AreSums, weight_by}
-use Rattle.vr_guided.specs.Walks.{last_of}
+use Rattle.vr_guided.specs.Sums.{AreArcSums, weight_by}
+use Rattle.vr_sums.specs.Sums.{last_of}
 use Rattle.vr_guided.proofs.sums.Sums.write.Given as goal
 
 -- the sums of the stops so far
 abbrev pub invariant-loop-node : goal.invariant-loop-node
 invariant-loop-node l = record {
-  sums : AreSums (weight_by l.model (counted l.penalties) l.back) l.v l.ends.start (take l.node-index l.list) l.self;
+  sums : AreArcSums (weight_by l.model (counted l.penalties) l.back) l.v l.ends.start (take l.node-index l.list) l.self;
   at : l.at ≡ last_of l.ends.start (take l.node-index l.list);
   below : l.at < l.model.nodes;
 }

@@ -1,5 +1,5 @@
-use Rattle.std.proofs.Common.{◌≡◌, ◌∙◌, ◌<◌, ℕ, List, [], ◌∷◌, true, None, length, refl, ap, sym, subst, arith}
-use Rattle.std.specs.Prelude.{◌==◌, find, All}
+use Rattle.std.proofs.Common.{◌≡◌, ◌∙◌, ◌<◌, ℕ, List, [], ◌∷◌, true, None, length, refl, ap, sym, arith}
+use Rattle.std.specs.Prelude.{◌==◌, find}
 use Rattle.std.specs.List.{list_all}
 use Rattle.std.proofs.lemmas.Bool.{eqb-true}
 use Rattle.vr_model.specs.declared.records.Allowed.{Allowed}
@@ -7,8 +7,9 @@ use Rattle.vr_model.specs.declared.records.Model.{Model}
 use Rattle.vr_model.specs.routes.Routes.{route}
 use Rattle.vr_model.specs.routes.Rules.{allows_vehicle, row_allows_vehicle}
 use Rattle.vr_model.proofs.tables.Tests.{list_all-true}
-use Rattle.vr_routes.specs.Pieces.{joined, no_part, part_at, IsWithin}
+use Rattle.vr_routes.specs.Pieces.{joined, part_at}
 use Rattle.vr_pathfilters.specs.Vehicles.{is_allowed_list}
+use Rattle.vr_pathfilters.proofs.PartEnds.{part_vehicle, part_within}
 use Rattle.vr_pathfilters.proofs.PartTours.{rule_at}
 use Rattle.vr_pathfilters.proofs.VehicleLemmas.{all-joined, all-spliced}
 use Rattle.vr_pathfilters.proofs.vehicles.VehicleRuleListRule.keeps.Goals as goal
@@ -26,16 +27,14 @@ returns-then-is_empty-clause-answer c =
     allowing_all part.vehicle model.allowed (joined c.args.routes.now.lists part.pieces) (eqb-true (length model.allowed) 0 none)
 
 pub strip-ends-requires : goal.strip-ends-requires
-strip-ends-requires c =
-    let are = c.requires.made.makes.parts_are in
-    record {
-      vehicle = omega (arith, c.vehicle-v.ensures, are.each_vehicle c.args.k no_part c.requires.part);
-      within = subst (All (IsWithin c.args.routes.now.lists)) (sym c.pieces.ensures.value) (are.each_within c.args.k no_part c.requires.part);
-    }
+strip-ends-requires c = record {
+  vehicle = part_vehicle c.requires.made.makes.parts_are c.args.k c.requires.part c.vehicle-v.ensures;
+  within = part_within c.requires.made.makes.parts_are c.args.k c.requires.part c.pieces.ensures.value;
+}
 
 pub pieces_allow-requires : goal.pieces_allow-requires
 pieces_allow-requires c =
-    let low : c.vehicle-v.result < length c.args.routes.now.lists = omega (arith, c.vehicle-v.ensures, c.requires.made.makes.parts_are.each_vehicle c.args.k no_part c.requires.part) in
+    let low : c.vehicle-v.result < length c.args.routes.now.lists = part_vehicle c.requires.made.makes.parts_are c.args.k c.requires.part c.vehicle-v.ensures in
     record {
       rule = rule_at (is_allowed_list c.args.self.now.lookups) c.args.routes.now.lists c.requires.before c.vehicle-v.result low;
       within = c.strip-ends.ensures.within;
@@ -48,7 +47,7 @@ returns-clause-answer c =
     let part = part_at c.args.change.now c.args.k in
     let v = c.vehicle-v.result in
     let ends = c.strip-ends in
-    let low : v < length lists = omega (arith, c.vehicle-v.ensures, c.requires.made.makes.parts_are.each_vehicle c.args.k no_part c.requires.part) in
+    let low : v < length lists = part_vehicle c.requires.made.makes.parts_are c.args.k c.requires.part c.vehicle-v.ensures in
     c.pieces_allow.ensures
     ∙ (sym (all-joined (allows_vehicle model v) lists ends.result.middle.now)
     ∙ (sym (all-spliced (allows_vehicle model v) (route lists v) (joined lists ends.result.middle.now) ends.result.front ends.result.behind (rule_at (is_allowed_list model) lists c.requires.before v low))

@@ -1,5 +1,5 @@
 use Rattle.std.proofs.Common.{◌≡◌, length}
-use Rattle.vr_guided.proofs.lines.Lines.new.Given as goal
+use Rattle.vr_guided.proofs.route_sums.AllRouteSums.new.Given as goal
 
 abbrev pub invariant-loop : goal.invariant-loop
 invariant-loop l = record {
