@@ -5,3 +5,4 @@ pub mod SolutionLemmas
 pub mod ReplyLemmas
 pub mod GeneratedLemmas
 pub mod NumberLemmas
+pub mod RunLemmas

@@ -7,7 +7,7 @@ use Rattle.vr_model.specs.declared.records.Improve.TheVariants as improve
 use Rattle.vr_model.specs.declared.records.Model.{Model}
 use Rattle.vr_model.specs.search.Outcomes.{Outcome}
 use Rattle.vr_model.specs.first.FirstSolutions.{build, first_lists}
-use Rattle.vr_model.specs.routes.Costs.{assigned, cost, no_plan, parts_at, sum_of}
+use Rattle.vr_model.specs.routes.Costs.{assigned, cost, no_plan}
 use Rattle.vr_model.specs.routes.Routes.{inactive, route}
 use Rattle.vr_model.specs.routes.Rules.{is_open, is_valid}
 use Rattle.vr_model.specs.schedules.Choices.{chosen}

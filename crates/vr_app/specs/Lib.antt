@@ -12,3 +12,4 @@ pub mod Causes
 pub mod Met
 pub mod Answers
 pub mod Runs
+pub mod Ended

@@ -8,6 +8,7 @@ ghost use Rattle.vr_json.specs.declared.fault.Fault.{Fault};
 ghost use Rattle.vr_app.specs.Answers.{AnswersReply, IsOfAnswer, IsOfInput};
 ghost use Rattle.vr_app.specs.Causes.{HasFault, HasFirst, HasNoFirst, IsAnsweredBy, IsNotJson, IsRefused, IsTooLong};
 ghost use Rattle.vr_app.specs.Checked.{checked_of};
+ghost use Rattle.vr_app.specs.Ended.{Ran};
 ghost use Rattle.vr_app.specs.Input.{max_input, model_of};
 ghost use Rattle.vr_app.specs.Met.{IsBrokenBy, IsMet, IsMetBy, IsNotMet};
 ghost use Rattle.vr_app.specs.Reply as replies;
@@ -98,6 +99,30 @@ fn respond<S: Source>(
         Some(Request::Read(task)) => respond_to_input(alloc, task, source, watch),
         Some(Request::Generate(number)) => Ok(generated(alloc, number)?),
         Some(Request::Demo(number)) => Ok(demo(alloc, number)?),
+    }
+}
+
+// The same as `run`, by watchers that are lent. Each clause of that follows from the one here.
+fn run_watched<S: Source, K: Sink>(
+    alloc: Global,
+    words: &[String],
+    source: &mut S,
+    sink: &mut K,
+    watch: &mut Watchers,
+) -> u8
+    ensures status { IsStatus result }
+    ensures ran { let reports = joined (λ w later. after w later) watch.old.items in
+        Ran (λ k. K.written k) (λ k. K.faults k) reports (bytes_of words.now) (S.left source.old) (S.left source.new)
+        (S.faults source.old) (S.faults source.new) sink.old sink.new result }
+    ensures untouched { IsUnread (bytes_of words.now) → source.new ≡ source.old }
+{
+    match respond(alloc, words, source, watch) {
+        Ok(answer) => match write_all(sink, answer.text.as_slice()) {
+            Ok(()) => answer.status.number(),
+            Err(_) => Status::WriteFault.number(),
+        },
+        Err(Stop::ReadFault) => Status::ReadFault.number(),
+        Err(Stop::NoMemory) => Status::NoMemory.number(),
     }
 }
 
@@ -250,12 +275,5 @@ pub fn run<S: Source, K: Sink>(
         → S.left source.new ≡ Some []) }
 {
     let mut watch = watch;
-    match respond(alloc, words, source, &mut watch) {
-        Ok(answer) => match write_all(sink, answer.text.as_slice()) {
-            Ok(()) => answer.status.number(),
-            Err(_) => Status::WriteFault.number(),
-        },
-        Err(Stop::ReadFault) => Status::ReadFault.number(),
-        Err(Stop::NoMemory) => Status::NoMemory.number(),
-    }
+    run_watched(alloc, words, source, sink, &mut watch)
 }

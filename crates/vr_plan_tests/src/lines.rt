@@ -30,12 +30,20 @@ fn line_in(alloc: Global, model: &Model) -> Result<Option<Line>, NoMemory>
     Ok(Some(line))
 }
 
+/// The model of a dimension with these fields.
+pub fn model_of(alloc: Global, fields: &str) -> Result<Model, Fail>
+    ensures { IfOk result IsWellFormed }
+{
+    let text = TEXT.replace(alloc, "FIELDS", fields)?;
+    let model = read_model_text(alloc, text.as_str()).ok_or("a model")?;
+    Ok(model)
+}
+
 /// The line of a dimension with these fields.
 pub fn line_of(alloc: Global, fields: &str) -> Result<Line, Fail>
     ensures { IfOk result IsSoundLine }
 {
-    let text = TEXT.replace(alloc, "FIELDS", fields)?;
-    let model = read_model_text(alloc, text.as_str()).ok_or("a model")?;
+    let model = model_of(alloc, fields)?;
     let line = line_in(alloc, &model)?.ok_or("a line")?;
     Ok(line)
 }

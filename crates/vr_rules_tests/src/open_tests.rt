@@ -1,8 +1,10 @@
 //! Which routes are open and valid, and what they cost, on a model of two nodes with times.
 
-ghost use Rattle.std.specs.Prelude.{◌≡◌, ◌∷◌, [], IfOk, IfSome, IsTrue};
+ghost use Rattle.std.specs.Prelude.{◌≡◌, ◌<◌, ◌∷◌, [], IfOk, IfSome, IsTrue, length};
 ghost use Rattle.vr_model.specs.routes.Routes.{are_lists};
+ghost use Rattle.vr_model.specs.routes.Rules.{is_route_open};
 ghost use Rattle.vr_model.specs.tables.WellFormed.{IsWellFormed};
+ghost use Rattle.vr_rules.specs.Fronts.{IsDriven};
 ghost use Rattle.vr_rules.specs.TimedSamples.{timed, times};
 
 use crate::tests::{model_of, seq_of};
@@ -116,14 +118,23 @@ fn rules_of(alloc: Global, model: &Model, routes: &Routes) -> Result<(bool, bool
     Ok((open, valid))
 }
 
-// The same of a list of the model where the start is fixed or not; none where it is no list of the model.
+// The same of a list; none where it is no list of the model.
+fn judged_in(alloc: Global, model: &Model, list: &[u32]) -> Result<Option<(bool, bool)>, NoMemory>
+    requires { IsWellFormed model.now }
+{
+    match routes_of(alloc, model, list)? {
+        Some(routes) => {
+            let rules = rules_of(alloc, model, &routes)?;
+            Ok(Some(rules))
+        }
+        None => Ok(None),
+    }
+}
+
+// The same where the start is fixed or not.
 fn judged(alloc: Global, fix_start: bool, list: &[u32]) -> Result<Option<(bool, bool)>, NoMemory> {
     let model = well_formed_times(alloc, fix_start)?;
-    let Some(routes) = routes_of(alloc, &model, list)? else {
-        return Ok(None);
-    };
-    let rules = rules_of(alloc, &model, &routes)?;
-    Ok(Some(rules))
+    judged_in(alloc, &model, list)
 }
 
 #[test]
@@ -155,14 +166,19 @@ fn parts_of(alloc: Global, model: &Model, routes: &Routes) -> Result<Option<[i64
     ]))
 }
 
-// The same of a list, with whether the two nodes are active.
+// The same of routes of a list.
+fn costs_in(alloc: Global, model: &Model, list: &[u32]) -> Result<Option<[i64; 6]>, NoMemory>
+    requires { IsWellFormed model.now }
+{
+    match routes_of(alloc, model, list)? {
+        Some(routes) => parts_of(alloc, model, &routes),
+        None => Ok(None),
+    }
+}
+
 fn costs(alloc: Global, list: &[u32]) -> Result<Option<[i64; 6]>, NoMemory> {
     let model = well_formed_times(alloc, false)?;
-    let Some(routes) = routes_of(alloc, &model, list)? else {
-        return Ok(None);
-    };
-    let parts = parts_of(alloc, &model, &routes)?;
-    Ok(parts)
+    costs_in(alloc, &model, list)
 }
 
 #[test]
@@ -174,13 +190,18 @@ fn cost_has_its_parts(rt: HostRuntime) -> Result<(), Fail> {
 }
 
 // Which nodes are active in routes of a list.
+fn marks_in(alloc: Global, model: &Model, list: &[u32]) -> Result<Vec<bool>, NoMemory>
+    requires { IsWellFormed model.now }
+{
+    match routes_of(alloc, model, list)? {
+        Some(routes) => active_marks(alloc, model, &routes),
+        None => Ok(Vec::new(alloc)),
+    }
+}
+
 fn marks(alloc: Global, list: &[u32]) -> Result<Vec<bool>, NoMemory> {
     let model = well_formed_times(alloc, false)?;
-    let Some(routes) = routes_of(alloc, &model, list)? else {
-        return Ok(Vec::new(alloc));
-    };
-    let marks = active_marks(alloc, &model, &routes)?;
-    Ok(marks)
+    marks_in(alloc, &model, list)
 }
 
 #[test]
@@ -202,15 +223,28 @@ fn costs_twice(rules: &mut Rules<'_>, routes: &Routes) -> Result<Option<[i64; 2]
     Ok(Some([total_cost(&first), total_cost(&again)]))
 }
 
-// The same of the list of node 1.
+// The same of rules that are opened for it.
+fn costs_of(alloc: Global, model: &Model, routes: &Routes) -> Result<Option<[i64; 2]>, NoMemory>
+    requires well_formed { IsWellFormed model.now }
+    requires lists { IsTrue (are_lists model.now routes.now.lists) }
+{
+    let mut rules = Rules::open(alloc, model)?;
+    costs_twice(&mut rules, routes)
+}
+
+// The same of routes of the list of node 1.
+fn known_costs_in(alloc: Global, model: &Model) -> Result<Option<[i64; 2]>, NoMemory>
+    requires { IsWellFormed model.now }
+{
+    match routes_of(alloc, model, &[1])? {
+        Some(routes) => costs_of(alloc, model, &routes),
+        None => Ok(None),
+    }
+}
+
 fn known_costs(alloc: Global) -> Result<Option<[i64; 2]>, NoMemory> {
     let model = well_formed_times(alloc, false)?;
-    let Some(routes) = routes_of(alloc, &model, &[1])? else {
-        return Ok(None);
-    };
-    let mut rules = Rules::open(alloc, &model)?;
-    let costs = costs_twice(&mut rules, &routes)?;
-    Ok(costs)
+    known_costs_in(alloc, &model)
 }
 
 #[test]
@@ -268,14 +302,33 @@ fn a_visit_allows_what_its_row_lets(rt: HostRuntime) -> Result<(), Fail> {
     Ok(())
 }
 
-// Whether the vehicle may drive to node 1 behind its empty list.
+// Whether the vehicle may drive to node 1 behind its empty list, which it may drive.
+fn appends_in(room: &mut Room, model: &Model, lookups: &NodeTables<'_>) -> Result<bool, NoMemory>
+    requires well_formed { IsWellFormed model.now }
+    requires lookups { lookups.now ≡ model.now }
+    requires vehicle { 0 < length model.now.vehicles }
+    requires stands { IsTrue (is_route_open model.now 0 []) }
+    requires driven { IsDriven model.now (1 ∷ []) }
+{
+    let fronts = Fronts::open(room, model, 0, &[])?;
+    fronts.may_append(room, model, lookups, 0, &[], Item::Visit(1))
+}
+
+// The same with what was looked up of the model.
+fn appends(alloc: Global, model: &Model) -> Result<bool, NoMemory>
+    requires well_formed { IsWellFormed model.now }
+    requires vehicle { 0 < length model.now.vehicles }
+    requires stands { IsTrue (is_route_open model.now 0 []) }
+    requires driven { IsDriven model.now (1 ∷ []) }
+{
+    let lookups = NodeTables::open(alloc, model)?;
+    let mut room = Room::new(alloc);
+    appends_in(&mut room, model, &lookups)
+}
+
 fn may_append(alloc: Global, fix_start: bool) -> Result<bool, NoMemory> {
     let model = well_formed_times(alloc, fix_start)?;
-    let lookups = NodeTables::open(alloc, &model)?;
-    let mut room = Room::new(alloc);
-    let fronts = Fronts::open(&mut room, &model, 0, &[])?;
-    let may = fronts.may_append(&mut room, &model, &lookups, 0, &[], Item::Visit(1))?;
-    Ok(may)
+    appends(alloc, &model)
 }
 
 #[test]

@@ -14,7 +14,7 @@ use vr_lists::NodeTables;
 use vr_model::{
     First, Group, Improve, Matrix, Model, NoMemory, Pair, Policy, SearchRow, Seq, Vehicle,
 };
-use vr_rules::{Item, candidates, complete_routes, empty_lists, route_open};
+use vr_rules::{Candidate, Item, candidates, complete_routes, empty_lists, route_open};
 
 pub(crate) fn seq_of<T: Copy>(alloc: Global, values: &[T]) -> Result<Seq<T>, NoMemory>
     ensures { IfOk result (λ seq. seq ≡ values.now) }
@@ -127,17 +127,23 @@ fn a_pair_turned_round_and_half_a_pair(rt: HostRuntime) -> Result<(), Fail> {
     Ok(())
 }
 
-// The numbers and classes of the items of a model, with the last node of each.
-fn items_of(alloc: Global, model: &Model) -> Result<Vec<(u32, u32, u32)>, NoMemory>
-    requires { IsWellFormed model.now }
-{
-    let lookups = NodeTables::open(alloc, model)?;
+// The numbers and classes of candidates, with the last node of each.
+fn rows_of(alloc: Global, candidates: &[Candidate]) -> Result<Vec<(u32, u32, u32)>, NoMemory> {
     let mut rows = Vec::new(alloc);
-    for candidate in candidates(alloc, &lookups)?.iter() {
+    for candidate in candidates {
         let item: Item = candidate.item;
         rows.push((item.number(), item.last(), candidate.class))?;
     }
     Ok(rows)
+}
+
+// The same of the items of a model.
+fn items_of(alloc: Global, model: &Model) -> Result<Vec<(u32, u32, u32)>, NoMemory>
+    requires { IsWellFormed model.now }
+{
+    let lookups = NodeTables::open(alloc, model)?;
+    let found = candidates(alloc, &lookups)?;
+    rows_of(alloc, &found)
 }
 
 #[test]
@@ -171,15 +177,27 @@ fn optional(alloc: Global) -> Result<Model, NoMemory>
 }
 
 // How many vehicles have empty lists in routes of the model; none where such routes are not valid.
+fn empty_routes_in(
+    alloc: Global,
+    model: &Model,
+    lookups: &NodeTables<'_>,
+) -> Result<Option<u32>, NoMemory>
+    requires well_formed { IsWellFormed model.now }
+    requires lookups { lookups.now ≡ model.now }
+{
+    let lists = empty_lists(alloc, model)?;
+    match complete_routes(alloc, model, lookups, &lists)? {
+        Some(routes) => Ok(Some(routes.vehicles())),
+        None => Ok(None),
+    }
+}
+
+// The same with what was looked up of the model.
 fn empty_routes(alloc: Global, model: &Model) -> Result<Option<u32>, NoMemory>
     requires { IsWellFormed model.now }
 {
     let lookups = NodeTables::open(alloc, model)?;
-    let lists = empty_lists(alloc, model)?;
-    let Some(routes) = complete_routes(alloc, model, &lookups, &lists)? else {
-        return Ok(None);
-    };
-    Ok(Some(routes.vehicles()))
+    empty_routes_in(alloc, model, &lookups)
 }
 
 #[test]
