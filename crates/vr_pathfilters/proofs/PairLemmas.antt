@@ -187,7 +187,7 @@ absent_place xs x none =
     let past : nat_lt (place_of xs x) (length xs) ≡ false = sym (holds-place xs x) ∙ none in
     Prim.grind (arith, nat_tests, low, past)
 
-module _ (lists : List (List ℕ)) (v front behind : ℕ) (middle marks : List ℕ) (is : IsNewList lists v front behind middle marks) where
+module _ {lists : List (List ℕ)} {v front behind : ℕ} {middle marks : List ℕ} (is : IsNewList lists v front behind middle marks) where
   abbrev list_before : List ℕ
   list_before = route lists v
 
