@@ -9,7 +9,7 @@ use Rattle.vr_model.specs.declared.search.Event.{Event}
 use Rattle.vr_app.specs.Answers.{AnswersReply, IsOfAnswer}
 use Rattle.vr_app.specs.Causes.{HasFault, IsAnsweredBy}
 use Rattle.vr_app.specs.Checked.{checked_of}
-use Rattle.vr_app.specs.Ended.{Ends, IsCut, IsSilent, IsWritten, Ran, Responds}
+use Rattle.vr_app.specs.Ended.{Ends, IsCut, IsSilent, IsAnswered, Ran, Responds}
 use Rattle.vr_app.specs.Input.{model_of}
 use Rattle.vr_app.specs.Met.{IsBrokenBy, IsMetBy}
 use Rattle.vr_app.specs.Reply.{Replies, Reply, reply, reply_in}
@@ -70,14 +70,14 @@ answer-settles status (inr (inl (inr (inr e)))) = settled_by settled_9 (ap numbe
 
 module _ {K : Type 0} (written : K → Option (List ℕ)) (faults : K → ℕ) (P : Answer → Type 0) (failed : Type 0) (old new : K) (status : ℕ) where
   -- a status that tells of an answer is that of a written one
-  end-written : Ends written faults P failed old new status → IsSettled status → IsWritten P (written old) (written new) status
+  end-written : Ends written faults P failed old new status → IsSettled status → IsAnswered P (written old) (written new) status
   end-written (inl is) settled = is
   end-written (inr (inl cut)) settled = absurd (settled.is_written cut.status_is)
   end-written (inr (inr (inl silent))) settled = absurd (settled.is_read silent.0.status_is)
   end-written (inr (inr (inr silent))) settled = absurd (settled.has_memory silent.status_is)
 
   -- where neither source nor sink failed, there is a written answer, or memory was wanting
-  end-whole : Ends written faults P failed old new status → (failed → ⊥) → (Rose (faults old) (faults new) → ⊥) → (status ≡ 7) ⊎ IsWritten P (written old) (written new) status
+  end-whole : Ends written faults P failed old new status → (failed → ⊥) → (Rose (faults old) (faults new) → ⊥) → (status ≡ 7) ⊎ IsAnswered P (written old) (written new) status
   end-whole (inl is) calm quiet = inr is
   end-whole (inr (inl cut)) calm quiet = absurd (quiet cut.fault)
   end-whole (inr (inr (inl silent))) calm quiet = absurd (calm silent.1)
@@ -115,7 +115,7 @@ module _ {K : Type 0} {written : K → Option (List ℕ)} {faults : K → ℕ} {
   settles : (answer : Answer) → P answer → IsSettled (number_of answer.status)
   settles answer is = answer-settles answer.status is.settled
 
-  is_written : IsSettled status → IsWritten P (written old) (written new) status
+  is_written : IsSettled status → IsAnswered P (written old) (written new) status
   is_written = end-written written faults P F old new status ran.ends
 
   is_cut : status ≡ 3 → IsCut P (written old) (written new) (faults old) (faults new) status
@@ -128,7 +128,7 @@ module _ {K : Type 0} {written : K → Option (List ℕ)} {faults : K → ℕ} {
   is_starved = end-starved written faults P F old new status settles ran.ends
 
   -- a written answer that is a reply
-  written-replies : {r : Reply} (is : IsWritten P (written old) (written new) status) → AnswersReply r is.answer → Replies r (written old) (written new) status
+  written-replies : {r : Reply} (is : IsAnswered P (written old) (written new) status) → AnswersReply r is.answer → Replies r (written old) (written new) status
   written-replies is has = record { status = is.status_is ∙ has.status_is; written = subst (Took (written old) (written new)) has.text_is is.took }
 
   pub replies : IsSettled status → WhereTold left (λ bytes. Replies (reply reports words bytes) (written old) (written new) status)
@@ -193,7 +193,7 @@ module _ {K : Type 0} {written : K → Option (List ℕ)} {faults : K → ℕ} {
   unread_front e none bytes = let is = is_cut e in subst (TookFront (written old) (written new)) (is.responds.unread none bytes).text_is is.took
 
   -- where neither source nor sink fails
-  whole : (F → ⊥) → (Rose (faults old) (faults new) → ⊥) → (status ≡ 7) ⊎ IsWritten P (written old) (written new) status
+  whole : (F → ⊥) → (Rose (faults old) (faults new) → ⊥) → (status ≡ 7) ⊎ IsAnswered P (written old) (written new) status
   whole = end-whole written faults P F old new status ran.ends
 
   pub complete : WhereTold left (λ bytes. (Rose failed fails → ⊥) → (Rose (faults old) (faults new) → ⊥) → (status ≡ 7) ⊎ Replies (reply reports words bytes) (written old) (written new) status)

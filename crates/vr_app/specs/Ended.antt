@@ -21,7 +21,7 @@ pub record Responds (reports : List Event → List ℕ) (words : List (List ℕ)
   pub settled : IsOfAnswer answer.status
 
 -- an answer of which P holds was written, and the status is its own
-pub record IsWritten (P : Answer → Type 0) (old new : Option (List ℕ)) (status : ℕ) : Type 0 where
+pub record IsAnswered (P : Answer → Type 0) (old new : Option (List ℕ)) (status : ℕ) : Type 0 where
   pub answer : Answer
   pub responds : P answer
   pub status_is : status ≡ number_of answer.status
@@ -40,11 +40,11 @@ pub record IsSilent {K : Type 0} (cause : ℕ) (old new : K) (status : ℕ) : Ty
   pub status_is : status ≡ cause
   pub same : new ≡ old
 
--- an answer of which P holds is written or cut short, or there is none, since the source failed, which has this
--- consequence, or for want of memory
+-- an answer of which P holds is written, or cut short where the sink failed; or there is none, because the source
+-- failed, where `failed` holds, or memory was wanting
 abbrev pub Ends : {K : Type 0} → (K → Option (List ℕ)) → (K → ℕ) → (Answer → Type 0) → Type 0 → K → K → ℕ → Type 0
 Ends written faults P failed old new status =
-    IsWritten P (written old) (written new) status
+    IsAnswered P (written old) (written new) status
     ⊎ IsCut P (written old) (written new) (faults old) (faults new) status
     ⊎ (IsSilent 2 old new status × failed)
     ⊎ IsSilent 7 old new status

@@ -102,7 +102,7 @@ fn respond<S: Source>(
     }
 }
 
-// The same as `run`, by watchers that are lent. Each clause of that follows from the one here.
+// The same as `run`, by watchers that are lent. Each clause of `run` follows from those here.
 fn run_watched<S: Source, K: Sink>(
     alloc: Global,
     words: &[String],

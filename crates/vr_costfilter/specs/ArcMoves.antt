@@ -6,7 +6,7 @@ use Rattle.vr_model.specs.routes.Routes.{route, route_cost}
 use Rattle.vr_model.specs.declared.records.Model.{Model}
 use Rattle.vr_model.specs.declared.neighbours.Move.{Move}
 
--- what a list costs vehicle v beside the one that it has
+-- how much more a list costs vehicle v than the one that it has
 abbrev pub costs_more : Model → List (List ℕ) → ℕ → List ℕ → ℤ
 costs_more model lists v list = route_cost model v list -ℤ route_cost model v (route lists v)
 

@@ -82,7 +82,7 @@ impl<'m> ArcCost<'m> {
 
     /// What pieces add to the arc costs of a vehicle between the first `front` visits of its list and those from place
     /// `behind` on, in the place of what stands there.
-    #[inline]
+    #[inline(always)]
     pub(crate) fn between_adds(
         &self,
         routes: &Routes,

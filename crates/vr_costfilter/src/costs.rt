@@ -18,7 +18,7 @@ pub struct ArcCosts<'m> {
 
 impl<'m> ArcCosts<'m> {
     /// The cost of the arc from one node to another, in `0..=2^40` (`RoutingModel::GetArcCostForVehicle` in OR-Tools).
-    #[inline]
+    #[inline(always)]
     pub fn cost(&self, i: u32, j: u32) -> i64
         requires well_formed { IsWellFormed self.now.model.now }
         requires vehicle { self.now.vehicle < length self.now.model.now.vehicles }

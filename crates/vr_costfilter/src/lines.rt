@@ -67,7 +67,7 @@ impl Along {
 
     /// What the arcs cost from the stop before a place of a list of so many nodes to the stop at another place, 0 where
     /// it has no node.
-    #[inline]
+    #[inline(always)]
     pub fn stretch(&self, nodes: u32, front: u32, behind: u32) -> i64
         requires nodes { length self.now.ahead ≡ nodes + 2 }
         requires range { HaveRange self.now.ahead }
@@ -84,7 +84,7 @@ impl Along {
     }
 
     /// What the arcs of a chain of the list cost, or of the chain backwards.
-    #[inline]
+    #[inline(always)]
     pub fn chain(&self, reversed: bool, from: u32, to: u32) -> i64
         requires order { from < to }
         requires ahead { to < length self.now.ahead }

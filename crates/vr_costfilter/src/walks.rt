@@ -28,7 +28,7 @@ pub struct Gap {
 
 /// What the arcs of a vehicle cost from the stop before a gap of its list along pieces to the stop behind it, 0 where
 /// no node is left of the list then.
-#[inline]
+#[inline(always)]
 pub fn cost_between(
     costs: &ArcCosts,
     along: &[Along],
@@ -64,7 +64,7 @@ pub fn cost_between(
 }
 
 // Whether no node is left of the list of a vehicle with pieces in its gap.
-#[inline]
+#[inline(always)]
 fn is_left_empty(routes: &Routes, v: u32, gap: Gap, pieces: &[Piece]) -> bool
     requires vehicle { v < length routes.now.lists }
     requires within { All (IsWithin routes.now.lists) pieces.now }
@@ -84,7 +84,7 @@ fn is_left_empty(routes: &Routes, v: u32, gap: Gap, pieces: &[Piece]) -> bool
 }
 
 /// The node of the stop before a place of the list of a vehicle.
-#[inline]
+#[inline(always)]
 pub fn stop_before(model: &Model, routes: &Routes, v: u32, place: u32) -> u32
     requires well_formed { IsWellFormed model.now }
     requires as_many { length routes.now.lists ≡ length model.now.vehicles }
@@ -101,7 +101,7 @@ pub fn stop_before(model: &Model, routes: &Routes, v: u32, place: u32) -> u32
 }
 
 /// The node of the stop at a place of the list of a vehicle.
-#[inline]
+#[inline(always)]
 pub fn stop_at(model: &Model, routes: &Routes, v: u32, place: u32) -> u32
     requires well_formed { IsWellFormed model.now }
     requires as_many { length routes.now.lists ≡ length model.now.vehicles }
@@ -125,7 +125,7 @@ struct Path {
 }
 
 // The path of a vehicle from a node along pieces.
-#[inline]
+#[inline(always)]
 fn path_along(costs: &ArcCosts, along: &[Along], routes: &Routes, at: u32, pieces: &[Piece]) -> Path
     requires well_formed { IsWellFormed costs.now.model.now }
     requires many { length along.now ≡ length costs.now.model.now.vehicles }
@@ -151,7 +151,7 @@ fn path_along(costs: &ArcCosts, along: &[Along], routes: &Routes, at: u32, piece
 
 impl Path {
     // The path goes on along a piece.
-    #[inline]
+    #[inline(always)]
     fn along(self, costs: &ArcCosts, along: &[Along], routes: &Routes, piece: Piece) -> Path
         requires well_formed { IsWellFormed costs.now.model.now }
         requires many { length along.now ≡ length costs.now.model.now.vehicles }
@@ -186,7 +186,7 @@ impl Path {
     }
 
     // The path goes on to a node, and from there by arcs of a known cost to another one.
-    #[inline]
+    #[inline(always)]
     fn through(self, costs: &ArcCosts, first: u32, last: u32, inner: i64) -> Path
         requires well_formed { IsWellFormed costs.now.model.now }
         requires vehicle { costs.now.vehicle < length costs.now.model.now.vehicles }
@@ -207,7 +207,7 @@ impl Path {
 }
 
 // The first and the last node of a chain, or of the chain backwards.
-#[inline]
+#[inline(always)]
 fn ends_of(routes: &Routes, w: u32, reversed: bool, from: u32, to: u32) -> (u32, u32)
     requires vehicle { w < length routes.now.lists }
     requires order { from < to }
@@ -226,7 +226,7 @@ fn ends_of(routes: &Routes, w: u32, reversed: bool, from: u32, to: u32) -> (u32,
 
 // The arc costs of a vehicle along a chain of the list of vehicle `w`, or along the chain backwards. Where both
 // vehicles have the same costs it takes no longer for a long chain than for a short one.
-#[inline]
+#[inline(always)]
 fn chain_cost(
     costs: &ArcCosts,
     along: &[Along],
@@ -258,6 +258,7 @@ fn chain_cost(
 }
 
 // The arc costs of a vehicle along a chain, or along the chain backwards, added up.
+#[inline(never)]
 fn costs_along(costs: &ArcCosts, reversed: bool, chain: &[u32]) -> i64
     requires well_formed { IsWellFormed costs.now.model.now }
     requires vehicle { costs.now.vehicle < length costs.now.model.now.vehicles }

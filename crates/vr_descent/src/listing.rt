@@ -61,7 +61,7 @@ impl<'a> Iterator for MoveList<'a> {
 
     ghost remaining = { item_count (λ list. list) };
 
-    // A move that is answered through memory is read again more slowly than it is made.
+    // Inlined, so that a move stays in registers.
     #[inline(always)]
     fn next(&mut self) -> Option<Move> {
         loop {

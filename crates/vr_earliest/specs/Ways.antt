@@ -40,8 +40,8 @@ whole_way model d v list = to_node model d v (way_along model d v list) (vehicle
 abbrev pub earliest_end : Model → ℕ → ℕ → List ℕ → ℤ
 earliest_end model d v list = int_min horizon (whole_way model d v list).time
 
--- what a whole way tells of the span: where the vehicle starts freely the time since the floor of its start, or the
--- greatest slack and the transits where that is less, and else the transits
+-- what a whole way tells of the span: the transits; where the vehicle starts freely, the lesser of the time since the
+-- floor of its start and of the greatest slack plus the transits
 abbrev pub span_by : Model → ℕ → ℕ → Way → ℤ
 span_by model d v way = cond (starts_freely (dimension_at model d) v)
     (int_min (way.time -ℤ start_floor model d v) ((dimension_at model d).slack_max +ℤ way.transits))

@@ -32,8 +32,8 @@ pub struct Early {
     pub span: i64,
 }
 
-/// How early vehicles can end lists. It has committed lists, and in the dimensions where anything is paid for spans a
-/// change of long lists takes no longer than one of short lists. Contracts see the model, and what is kept of the
+/// How early vehicles can end lists. It has committed lists, and in the dimensions where anything is paid for spans it
+/// walks along what a change puts between the kept ends of lists alone. Contracts see the model, and what is kept of the
 /// committed lists.
 #[derive(Drop)]
 pub struct Earliest<'m> {

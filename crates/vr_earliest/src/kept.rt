@@ -37,7 +37,7 @@ impl Kept {
         }
     }
 
-    /// The way along the first visits of the list.
+    /// The way along the first `place` visits of the list.
     #[inline]
     pub fn way(&self, place: u32) -> Way
         requires place { place < length self.now.ways.items }

@@ -113,7 +113,7 @@ impl<'m> Guide<'m> {
     }
 
     // It goes on along the nodes of a piece.
-    #[inline]
+    #[inline(always)]
     fn along_piece(&self, routes: &Routes, piece: Piece, way: Way) -> Way
         requires guide { IsGuide self.now }
         requires within { IsWithin routes.now.lists piece }
@@ -138,6 +138,7 @@ impl<'m> Guide<'m> {
     }
 
     // It goes on along a chain, or along the chain backwards.
+    #[inline(always)]
     fn along_chain(&self, chain: &[u32], reversed: bool, way: Way) -> Way
         requires guide { IsGuide self.now }
         requires few { length chain.now ≤ 1000 }
@@ -154,7 +155,7 @@ impl<'m> Guide<'m> {
     }
 
     /// It goes on to a visit.
-    #[inline]
+    #[inline(always)]
     pub fn to_visit(&self, way: Way, node: u32) -> Way
         requires guide { IsGuide self.now }
         requires way { IsWayOf self.now.model.now 10000 way }
@@ -165,7 +166,7 @@ impl<'m> Guide<'m> {
     }
 
     // It goes on to a node, where no time lies below a floor.
-    #[inline]
+    #[inline(always)]
     fn to_node(&self, way: Way, node: u32, floor: i64) -> Way
         requires guide { IsGuide self.now }
         requires way { IsWayOf self.now.model.now 10000 way }
@@ -244,7 +245,7 @@ impl<'m> Guide<'m> {
 }
 
 // Node `k` of a chain, or of the chain backwards.
-#[inline]
+#[inline(always)]
 fn node_in(chain: &[u32], reversed: bool, k: usize) -> u32
     requires { k < length chain.now }
     ensures { result ≡ slice_index_or (cond reversed (reverse chain.now) chain.now) k 0 }

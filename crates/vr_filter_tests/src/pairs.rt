@@ -340,7 +340,7 @@ const IN_LONG: &[(Move, bool)] = &[
     // a node goes of the pair whose other one is kept at the end, or at the front
     (Move::MakeInactive { v: 0, a: 0 }, false),
     (Move::MakeInactive { v: 0, a: 59 }, false),
-    // a node of no pair goes between the nodes of two
+    // a node of no pair is taken out from between the nodes of two pairs
     (Move::MakeInactive { v: 0, a: 47 }, true),
     // a node goes to the other vehicle, and changes places with another one
     (

@@ -242,8 +242,8 @@ impl Penalties {
             (last_of (vehicle_at _model.now v).start (take front (route _routes.now.lists v)))
             (slice_range (route _routes.now.lists v) front behind) next }
     {
-        let both = route_sums.of(v);
-        both.on.between(front as usize, behind as usize + 1)
+        let sums = route_sums.of(v);
+        sums.on.between(front as usize, behind as usize + 1)
     }
 
     // What the arcs of a vehicle add from a node through the nodes of pieces to a last one.

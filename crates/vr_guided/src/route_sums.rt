@@ -102,7 +102,8 @@ impl AllRouteSums {
         }
     }
 
-    /// Those of some lists become those of routes that have these lists after a move. Takes no memory.
+    /// Where these are the sums of the lists before a move, they become those of `routes`, which has made it. Takes no
+    /// memory.
     pub fn follow(&mut self, model: &RoutingModel, penalties: &Penalties, routes: &Routes, mv: Move)
         requires well_formed { IsWellFormed model.now }
         requires valid { IsTrue (is_valid model.now routes.now.lists) }
@@ -113,15 +114,15 @@ impl AllRouteSums {
             → routes.now.lists ≡ apply model.now lists mv
             → AreAllRouteSums model.now (counted penalties.now) routes.now.lists self.new }
     {
-        let Some(both) = vehicles_of(mv) else {
+        let Some(named) = vehicles_of(mv) else {
             self.write(model, penalties, routes);
             return;
         };
-        self.write_of(model, penalties, routes, both.v);
-        if both.w == both.v {
+        self.write_of(model, penalties, routes, named.v);
+        if named.w == named.v {
             return;
         }
-        self.write_of(model, penalties, routes, both.w);
+        self.write_of(model, penalties, routes, named.w);
     }
 
     /// The sums of a vehicle.

@@ -15,8 +15,8 @@ use arrayvec::ArrayVec;
 use std::marker::Model;
 use vr_model::Model as RoutingModel;
 
-/// At each stop of a vehicle with its list, what the arcs before it add up to. Penalties times costs take more than the 64
-/// bits that `vr_sums` has for a sum.
+/// At each stop of a vehicle with its list, what the arcs before it add up to. Penalties times costs take more than the
+/// 64 bits that `vr_sums` has for a sum.
 #[derive(Drop)]
 pub struct Sums {
     items: ArrayVec<i128, 1002>,

@@ -22,8 +22,8 @@ impl TwoVehicles {
     }
 }
 
-/// The vehicles whose lists a move changes. `None` of a move that takes a pair out, since it does not name the list where
-/// the pair stands.
+/// The vehicles whose lists a move changes. `None` of a move that takes a pair out, since it does not name the list
+/// where the pair stands.
 pub fn vehicles_of(mv: Move) -> Option<TwoVehicles>
     ensures { result ≡ vehicles_of mv }
 {

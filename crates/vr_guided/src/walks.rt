@@ -207,15 +207,15 @@ impl Penalties {
         ensures sound { IsSoundWalk model.now.nodes walk.new }
     {
         let list = routes.list(v);
-        let both = route_sums.of(v);
+        let sums = route_sums.of(v);
         let low = list[from as usize];
         let high = list[to as usize - 1];
         let arcs = to - from - 1;
         if reversed {
-            let total = both.back.between(from as usize + 1, to as usize);
+            let total = sums.back.between(from as usize + 1, to as usize);
             self.jump(model, vehicle, walk, high, low, arcs, total);
         } else {
-            let total = both.on.between(from as usize + 1, to as usize);
+            let total = sums.on.between(from as usize + 1, to as usize);
             self.jump(model, vehicle, walk, low, high, arcs, total);
         }
     }

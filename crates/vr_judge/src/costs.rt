@@ -89,9 +89,9 @@ impl<'m> Costs<'m> {
         Ok(arcs + fixed + groups + plans + spans)
     }
 
-    /// What a move of the committed lists adds to their cost at least, where the lists after it are valid: what arcs and
-    /// fixed costs add, and what groups, soft upper bounds, spans and global spans add at least. The caller hands in the
-    /// change that the move makes.
+    /// What a move of the committed lists adds to their cost at least, where the lists after it are valid: what arcs
+    /// and fixed costs add, and what groups, soft upper bounds, spans and global spans add at least. The caller hands
+    /// in the change that the move makes.
     pub(crate) fn least(&mut self, routes: &Routes, mv: Move, change: &Change) -> i64
         requires stands { StandsCosts self.old routes.now }
         requires made { IsMadeOn routes.now change.now }

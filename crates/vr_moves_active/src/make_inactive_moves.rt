@@ -87,7 +87,7 @@ impl<'a> Iterator for MakeInactiveMoves<'a> {
 
     ghost remaining = { item_count (λ moves. moves) };
 
-    #[inline]
+    #[inline(always)]
     fn next(&mut self) -> Option<Move> {
         self.left.step()
     }

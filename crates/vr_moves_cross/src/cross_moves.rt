@@ -165,7 +165,7 @@ impl<'a> Iterator for CrossMoves<'a> {
 
     ghost remaining = { item_count (λ moves. moves) };
 
-    #[inline]
+    #[inline(always)]
     fn next(&mut self) -> Option<Move> {
         self.left.step()
     }

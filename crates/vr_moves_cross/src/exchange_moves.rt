@@ -175,7 +175,7 @@ impl<'a> Iterator for ExchangeMoves<'a> {
 
     ghost remaining = { item_count (λ moves. moves) };
 
-    #[inline]
+    #[inline(always)]
     fn next(&mut self) -> Option<Move> {
         self.left.step()
     }

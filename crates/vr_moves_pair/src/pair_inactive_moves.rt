@@ -64,7 +64,7 @@ impl<'a> Iterator for PairInactiveMoves<'a> {
 
     ghost remaining = { item_count (λ moves. moves) };
 
-    #[inline]
+    #[inline(always)]
     fn next(&mut self) -> Option<Move> {
         self.left.step()
     }

@@ -161,7 +161,7 @@ impl<'a> Iterator for OrOptMoves<'a> {
 
     ghost remaining = { item_count (λ moves. moves) };
 
-    #[inline]
+    #[inline(always)]
     fn next(&mut self) -> Option<Move> {
         self.left.step()
     }

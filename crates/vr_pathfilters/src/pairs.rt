@@ -119,8 +119,8 @@ impl<'m> ListRule for PairRule<'m> {
 /// Lets a change pass where each list afterwards serves each pair in order, and keeps the policy of its vehicle
 /// (`PickupDeliveryFilter` in OR-Tools, by `AddPickupAndDelivery` and `SetPickupAndDeliveryPolicyOfVehicle`). Of a list
 /// it looks at what stands afterwards between the ends that a change keeps, and at what is gone from there; where its
-/// vehicle has a policy, at the whole list too. It takes memory only when it is opened, and in a model without pairs it
-/// looks at no list.
+/// vehicle delivers last-in-first-out or first-in-first-out, at the whole list too. It takes memory only when it is
+/// opened, and in a model without pairs it looks at no list.
 pub type PairFilter<'m> = ListFilter<PairRule<'m>>;
 
 impl<'m> PairFilter<'m> {

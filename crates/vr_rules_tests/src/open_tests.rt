@@ -176,6 +176,7 @@ fn costs_in(alloc: Global, model: &Model, list: &[u32]) -> Result<Option<[i64; 6
     }
 }
 
+// The same of a list, with whether the two nodes are active.
 fn costs(alloc: Global, list: &[u32]) -> Result<Option<[i64; 6]>, NoMemory> {
     let model = well_formed_times(alloc, false)?;
     costs_in(alloc, &model, list)
@@ -199,6 +200,7 @@ fn marks_in(alloc: Global, model: &Model, list: &[u32]) -> Result<Vec<bool>, NoM
     }
 }
 
+// Which nodes are active in routes of a list.
 fn marks(alloc: Global, list: &[u32]) -> Result<Vec<bool>, NoMemory> {
     let model = well_formed_times(alloc, false)?;
     marks_in(alloc, &model, list)
@@ -242,6 +244,7 @@ fn known_costs_in(alloc: Global, model: &Model) -> Result<Option<[i64; 2]>, NoMe
     }
 }
 
+// The same of the list of node 1.
 fn known_costs(alloc: Global) -> Result<Option<[i64; 2]>, NoMemory> {
     let model = well_formed_times(alloc, false)?;
     known_costs_in(alloc, &model)
@@ -326,6 +329,7 @@ fn appends(alloc: Global, model: &Model) -> Result<bool, NoMemory>
     appends_in(&mut room, model, &lookups)
 }
 
+// Whether the vehicle may drive to node 1 behind its empty list.
 fn may_append(alloc: Global, fix_start: bool) -> Result<bool, NoMemory> {
     let model = well_formed_times(alloc, fix_start)?;
     appends(alloc, &model)
