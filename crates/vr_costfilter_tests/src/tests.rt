@@ -1,10 +1,11 @@
 //! What parts of the cost answer for a change is the difference of the costs of the whole lists.
 
-ghost use Rattle.std.specs.Prelude.{◌≡◌, IfOk, IfSome, IsTrue};
+ghost use Rattle.std.specs.Prelude.{◌≡◌, true, IfOk, IfSome, IsTrue};
+ghost use Rattle.vr_model.specs.moves.MoveTests.{is_move};
 ghost use Rattle.vr_model.specs.routes.Rules.{is_valid};
 ghost use Rattle.vr_model.specs.tables.Tables.{visits};
 ghost use Rattle.vr_model.specs.tables.WellFormed.{IsWellFormed};
-ghost use Rattle.vr_routes.specs.Changes.{IsMadeOn};
+ghost use Rattle.vr_routes.specs.Changes.{IsChange, IsMadeOn};
 ghost use Rattle.vr_routes.specs.Pieces.{changed};
 
 use std::alloc::Global;
@@ -52,11 +53,12 @@ fn are_sums(before: Parts, after: Parts, arcs: i64, fixed: i64, penalty: i64) ->
 }
 
 // Whether the parts answer what a change of valid routes adds, this much of it in penalties, where the lists after it,
-// which are these, are valid.
+// which are these, are valid; of arc costs also by the move that makes it.
 fn answer(
     alloc: Global,
     model: &Model,
     routes: &Routes,
+    mv: Move,
     change: &Change,
     after: &Routes,
     penalty: i64,
@@ -64,16 +66,20 @@ fn answer(
     requires well_formed { IsWellFormed model.now }
     requires of_model { routes.now.visits ≡ visits model.now }
     requires valid { IsTrue (is_valid model.now routes.now.lists) }
+    requires is_one { is_move model.now routes.now.lists mv ≡ true }
+    requires change { IsChange model.now routes.now.lists mv change.now }
     requires made { IsMadeOn routes.now change.now }
     requires after { after.now.lists ≡ changed routes.now.lists change.now }
     requires valid_after { IsTrue (is_valid model.now after.now.lists) }
 {
-    let arcs = ArcCost::open(alloc, model, routes)?.difference(routes, change)?;
+    let mut kept = ArcCost::open(alloc, model, routes)?;
+    let by_move = kept.added_by_move(routes, mv, change);
+    let arcs = kept.difference(routes, change)?;
     let fixed = FixedCost::open(model, routes)?.difference(routes, change)?;
     let groups = GroupCost::open(alloc, model, routes)?.difference(routes, change)?;
     let before = cost(alloc, model, routes)?;
     let after = cost(alloc, model, after)?;
-    Ok(groups == penalty && are_sums(before, after, arcs, fixed, groups))
+    Ok(groups == penalty && by_move == arcs && are_sums(before, after, arcs, fixed, groups))
 }
 
 // Whether the parts answer what a move of lists adds, this much of it in penalties: false where it is none, or the
@@ -98,7 +104,7 @@ fn agree(
     if !valid(alloc, model, &after)? {
         return Ok(false);
     }
-    let agree = answer(alloc, model, &routes, &change, &after, penalty)?;
+    let agree = answer(alloc, model, &routes, mv, &change, &after, penalty)?;
     Ok(agree)
 }
 
@@ -194,6 +200,28 @@ fn parts_answer_differences_of_whole_lists(rt: HostRuntime) -> Result<(), Fail> 
         )
     );
     assert!(rt; vans_agree(alloc, full, Move::MakeInactive { v: 2, a: 0 }, 1));
+    Ok(())
+}
+
+#[test]
+fn moves_within_a_list_and_in_place_of_a_visit_do_so_too(rt: HostRuntime) -> Result<(), Fail> {
+    let alloc = rt.alloc();
+    let part: &[&[u32]] = &[&[3, 1, 4], &[5], &[]];
+    let back = Move::OrOpt {
+        v: 0,
+        a: 2,
+        k: 1,
+        t: 0,
+    };
+    let within = Move::Exchange {
+        v: 0,
+        a: 0,
+        w: 0,
+        b: 2,
+    };
+    assert!(rt; vans_agree(alloc, part, back, 0));
+    assert!(rt; vans_agree(alloc, part, within, 0));
+    assert!(rt; vans_agree(alloc, part, Move::SwapActive { v: 0, a: 1, u: 2 }, 0));
     Ok(())
 }
 
