@@ -1,7 +1,7 @@
 //! How often searches ask a judge: no more often than they try moves, and less often where what a move makes at least
 //! rules it out.
 
-ghost use Rattle.std.specs.Prelude.{◌≡◌, ◌+◌, ◌<◌, ◌≤◌, ◌≤ℤ◌, IfOk, IsTrue, OnErr, OnOk};
+ghost use Rattle.std.specs.Prelude.{◌≡◌, ◌+◌, ◌<◌, ◌≤◌, ◌≤ℤ◌, IfOk, IfSome, IsTrue, OnErr, OnOk};
 ghost use Rattle.vr_model.specs.moves.Moves.{apply};
 ghost use Rattle.vr_model.specs.moves.MoveTests.{is_move};
 ghost use Rattle.vr_model.specs.routes.Costs.{cost};
@@ -11,7 +11,6 @@ ghost use Rattle.vr_model.specs.tables.WellFormed.{IsWellFormed};
 ghost use Rattle.vr_routes.specs.Changes.{IsChange};
 ghost use Rattle.vr_routes.specs.Judging.{HoldSame, cost_change, moved, verdict_of};
 
-use crate::samples::{By, one_list, routes_of};
 use std::alloc::Global;
 use std::marker::Brand;
 use std::sync::ledger::{Blank, Ledger};
@@ -21,8 +20,9 @@ use vr_guided::guide;
 use vr_judge::FilterJudge;
 use vr_model::{Lambda, Limit, Model, Move, NoMemory, Steps};
 use vr_plain::PlainJudge;
+use vr_routes::samples::routes_of;
 use vr_routes::{Change, Judge, Routes, Verdict};
-use vr_rules::total;
+use vr_rules::{total, valid};
 use vr_samples::read_model_text;
 use vr_watch::Watch;
 
@@ -61,6 +61,13 @@ impl<J: Judge + Drop> Judge for Counting<J> {
         self.judge.commit(routes, mv)?;
         Ok(())
     }
+}
+
+// Who judges moves.
+#[derive(Clone, Copy)]
+enum By {
+    Rebuilding,
+    Filters,
 }
 
 // Which search asks.
@@ -181,13 +188,28 @@ fn filter_count(
     })
 }
 
-// The same from a list of all nodes but 0.
+// One list of nodes 1, 2 and 3, where it is valid.
+fn one_list(alloc: Global, model: &Model) -> Result<Option<Routes>, NoMemory>
+    requires well_formed { IsWellFormed model.now }
+    ensures of_model { IfOk result (λ routes. IfSome routes (λ found. found.visits ≡ visits model.now)) }
+    ensures valid { IfOk result (λ routes. IfSome routes (λ found. IsTrue (is_valid model.now found.lists))) }
+{
+    let Some(routes) = routes_of(alloc, model, &[&[1, 2, 3]])? else {
+        return Ok(None);
+    };
+    if valid(alloc, model, &routes)? {
+        Ok(Some(routes))
+    } else {
+        Ok(None)
+    }
+}
+
+// The same from that list.
 fn counted(alloc: Global, model: &Model, by: By, search: Search) -> Result<Count, Fail>
     requires { IsWellFormed model.now }
     ensures { IfOk result (λ count. count.asked ≤ count.tries) }
 {
-    let lists = one_list(alloc, model)?;
-    let mut routes = routes_of(alloc, model, &lists)?.ok_or("valid routes")?;
+    let mut routes = one_list(alloc, model)?.ok_or("valid routes")?;
     let first_cost = total(alloc, model, &routes)?;
     let count = match by {
         By::Rebuilding => plain_count(alloc, model, &mut routes, first_cost, search)?,
