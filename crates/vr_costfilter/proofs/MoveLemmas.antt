@@ -1,7 +1,7 @@
 -- What moves add to arc costs, by the stretches of lists that they change.
-use Rattle.std.proofs.Common.{◌≡◌, ◌≢◌, ◌∙◌, ℕ, suc, ◌+◌, ◌<◌, ◌≤◌, Bool, true, false, List, [], ◌∷◌, ◌++◌, length, reverse, take, drop, refl, sym, ap, subst, arith, add-one, append_assoc, append-nil, length-set}
+use Rattle.std.proofs.Common.{◌≡◌, ◌≢◌, ◌∙◌, ℕ, suc, ◌+◌, ◌<◌, ◌≤◌, Bool, true, false, List, [], ◌∷◌, ◌++◌, length, reverse, take, drop, sym, ap, subst, arith, add-one, append_assoc, append-nil, length-set}
 use Rattle.std.proofs.lemmas.Int.{ints}
-use Rattle.std.specs.Prelude.{ℤ, ◌+ℤ◌, slice_range, slice_set, insert, remove, All}
+use Rattle.std.specs.Prelude.{◌+ℤ◌, slice_range, slice_set, remove, All}
 use Rattle.std.proofs.lemmas.Slice.{between_from_start}
 use Rattle.std.proofs.lemmas.List.{reverse-reverse, set_split}
 use Rattle.vr_model.specs.moves.Moves.{apply, chain_moved, reversed_between, with_route}

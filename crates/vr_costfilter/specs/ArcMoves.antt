@@ -1,5 +1,5 @@
 -- What moves add to arc costs.
-use Rattle.std.specs.Prelude.{◌≡◌, ℕ, List, ℤ, ◌-ℤ◌, drop, take, ◌++◌}
+use Rattle.std.specs.Prelude.{ℕ, List, ℤ, ◌-ℤ◌, drop, take, ◌++◌}
 use Rattle.vr_model.specs.moves.Moves.{apply}
 use Rattle.vr_model.specs.routes.Costs.{arcs_part}
 use Rattle.vr_model.specs.routes.Routes.{route, route_cost}

@@ -1,19 +1,14 @@
-use Rattle.std.proofs.Common.{◌≡◌, ◌∙◌, ◌<◌, ◌+◌, ◌++◌, ◌∷◌, [], ℕ, List, false, true, reverse, ap, sym, subst, arith}
+use Rattle.std.proofs.Common.{◌≡◌, ◌∙◌, ◌<◌, ◌++◌, [], ℕ, List, false, ap, arith}
 use Rattle.std.proofs.lemmas.Int.{ints}
-use Rattle.std.proofs.lemmas.List.Elements.{All-append, All-cons, All-nil}
-use Rattle.std.specs.Prelude.{ℤ, slice_range, slice_set, slice_index, insert, remove, All}
-use Rattle.vr_model.specs.moves.Moves.{chain_moved, reversed_between}
+use Rattle.std.proofs.lemmas.List.Elements.{All-append, All-nil}
 use Rattle.vr_model.specs.routes.Routes.{route}
 use Rattle.vr_routes.specs.Pieces.{nodes_of}
-use Rattle.vr_routes.proofs.FactLemmas.{of_two_opt, of_or_opt, of_relocate, of_exchange, of_cross}
-use Rattle.vr_costfilter.specs.ArcMoves.{arcs_added, costs_more, with_between}
+use Rattle.vr_routes.proofs.FactLemmas.{of_cross}
+use Rattle.vr_costfilter.specs.ArcMoves.{costs_more, with_between}
 use Rattle.vr_costfilter.proofs.PartLemmas.{small}
-use Rattle.vr_costfilter.proofs.MoveLemmas.{piece-all, one-list, two-lists, turned-list, shifted-back, shifted-on, without-one, with-other, swapped-list, other-front}
+use Rattle.vr_costfilter.proofs.MoveLemmas.{piece-all, two-lists, other-front}
 use Rattle.vr_model.specs.declared.neighbours.Move.TheVariants.{Cross}
-use Rattle.vr_routes.specs.declared.pieces.Piece.TheVariants.{Chain, Node}
-use Rattle.std.proofs.Common.{◌≡◌, ◌≢◌, ◌≤◌, refl, suc, take, drop, ap₂}
-use Rattle.std.specs.Prelude.{◌+ℤ◌}
-use Rattle.vr_routes.specs.declared.pieces.Piece.{Piece}
+use Rattle.std.proofs.Common.{◌≡◌, refl, take, drop}
 use Rattle.vr_costfilter.proofs.arcs.ArcCost.crossed.Goals as goal
 
 pub between_adds-one-requires-clause-nodes : goal.between_adds-one-requires-clause-nodes
@@ -43,8 +38,8 @@ returns-clause-exact c =
     let p = c.between_adds-one.ensures in
     let q = c.between_adds-other.ensures in
     let one : c.between_adds-one.result ≡ costs_more model lists a.v (take a.b other ++ drop a.a list) =
-        p.value ∙ ap (λ x. costs_more model lists a.v (with_between list 0 a.a (nodes_of lists x ++ []))) c.on.ensures ∙ ap (costs_more model lists a.v) (other-front list other a.a a.b) in
+    p.value ∙ ap (λ x. costs_more model lists a.v (with_between list 0 a.a (nodes_of lists x ++ []))) c.on.ensures ∙ ap (costs_more model lists a.v) (other-front list other a.a a.b) in
     let two : c.between_adds-other.result ≡ costs_more model lists a.w (take a.a list ++ drop a.b other) =
-        q.value ∙ ap (λ x. costs_more model lists a.w (with_between other 0 a.b (nodes_of lists x ++ []))) c.on-2.ensures ∙ ap (costs_more model lists a.w) (other-front other list a.b a.a) in
+    q.value ∙ ap (λ x. costs_more model lists a.w (with_between other 0 a.b (nodes_of lists x ++ []))) c.on-2.ensures ∙ ap (costs_more model lists a.w) (other-front other list a.b a.a) in
     let both = two-lists model lists (Cross a.v a.a a.w a.b) a.v a.w (take a.b other ++ drop a.a list) (take a.a list ++ drop a.b other) facts.vehicle facts.other facts.apart refl in
     omega (arith, ints, p.range.low, p.range.high, q.range.low, q.range.high, one, two, both)

@@ -1,19 +1,15 @@
-use Rattle.std.proofs.Common.{◌≡◌, ◌∙◌, ◌<◌, ◌+◌, ◌++◌, ◌∷◌, [], ℕ, List, false, true, reverse, ap, sym, subst, arith}
+use Rattle.std.proofs.Common.{◌≡◌, ◌∙◌, ◌<◌, ◌+◌, ◌++◌, ◌∷◌, [], ℕ, List, false, ap, sym, subst, arith}
 use Rattle.std.proofs.lemmas.Int.{ints}
 use Rattle.std.proofs.lemmas.List.Elements.{All-append, All-cons, All-nil}
-use Rattle.std.specs.Prelude.{ℤ, slice_range, slice_set, slice_index, insert, remove, All}
-use Rattle.vr_model.specs.moves.Moves.{chain_moved, reversed_between}
+use Rattle.std.specs.Prelude.{slice_range, slice_set, slice_index}
 use Rattle.vr_model.specs.routes.Routes.{route}
 use Rattle.vr_routes.specs.Pieces.{nodes_of}
-use Rattle.vr_routes.proofs.FactLemmas.{of_two_opt, of_or_opt, of_relocate, of_exchange, of_cross}
+use Rattle.vr_routes.proofs.FactLemmas.{of_exchange}
 use Rattle.vr_costfilter.specs.ArcMoves.{arcs_added, costs_more, with_between}
 use Rattle.vr_costfilter.proofs.PartLemmas.{small}
-use Rattle.vr_costfilter.proofs.MoveLemmas.{piece-all, one-list, two-lists, turned-list, shifted-back, shifted-on, without-one, with-other, swapped-list, other-front}
+use Rattle.vr_costfilter.proofs.MoveLemmas.{piece-all, one-list, two-lists, with-other, swapped-list}
 use Rattle.vr_model.specs.declared.neighbours.Move.TheVariants.{Exchange}
-use Rattle.vr_routes.specs.declared.pieces.Piece.TheVariants.{Chain, Node}
-use Rattle.std.proofs.Common.{◌≡◌, ◌≢◌, ◌≤◌, refl, suc, take, drop, ap₂}
-use Rattle.std.specs.Prelude.{◌+ℤ◌}
-use Rattle.vr_routes.specs.declared.pieces.Piece.{Piece}
+use Rattle.std.proofs.Common.{◌≡◌, ◌≤◌, ap₂}
 use Rattle.vr_routes.proofs.ChangeLemmas.{exchanged_within, exchanged_between}
 use Rattle.std.proofs.Common.{length}
 use Rattle.vr_costfilter.proofs.arcs.ArcCost.exchanged.Goals as goal
@@ -60,11 +56,11 @@ returns-then-v-w-clause-exact c =
     let here : a.b < length list = subst (λ u. a.b < length (route lists u)) (sym same) facts.other_place in
     let b = c.between_adds.ensures in
     let pieces : (c.node_at-2.result ∷ (nodes_of lists c.on.result ++ c.node_at.result ∷ [])) ≡ (y ∷ (slice_range list (a.a + 1) a.b ++ x ∷ [])) =
-        ap (λ n. n ∷ (nodes_of lists c.on.result ++ c.node_at.result ∷ [])) c.node_at-2.ensures
-        ∙ ap₂ (λ p n. y ∷ (nodes_of lists p ++ n ∷ [])) c.on.ensures c.node_at.ensures in
+    ap (λ n. n ∷ (nodes_of lists c.on.result ++ c.node_at.result ∷ [])) c.node_at-2.ensures
+    ∙ ap₂ (λ p n. y ∷ (nodes_of lists p ++ n ∷ [])) c.on.ensures c.node_at.ensures in
     let is = ap (λ nodes. costs_more model lists a.v (with_between list a.a (a.b + 1) nodes)) pieces
-        ∙ ap (costs_more model lists a.v) (swapped-list list a.a a.b y x (facts.behind same) here)
-        ∙ one-list model lists (Exchange a.v a.a a.w a.b) a.v (slice_set (slice_set list a.a y) a.b x) facts.vehicle (exchanged_within lists a.v a.w a.a a.b y x same facts.vehicle) in
+    ∙ ap (costs_more model lists a.v) (swapped-list list a.a a.b y x (facts.behind same) here)
+    ∙ one-list model lists (Exchange a.v a.a a.w a.b) a.v (slice_set (slice_set list a.a y) a.b x) facts.vehicle (exchanged_within lists a.v a.w a.a a.b y x same facts.vehicle) in
     let value : c.between_adds.result ≡ arcs_added model lists (Exchange a.v a.a a.w a.b) = b.value ∙ is in
     omega (arith, ints, b.range.low, b.range.high, value)
 
@@ -81,8 +77,8 @@ returns-clause-exact c =
     let p = c.between_adds-one.ensures in
     let q = c.between_adds-other.ensures in
     let one : c.between_adds-one.result ≡ costs_more model lists a.v (slice_set list a.a y) =
-        p.value ∙ ap (costs_more model lists a.v) (with-other list a.a c.node_at-2.result facts.place ∙ ap (slice_set list a.a) c.node_at-2.ensures) in
+    p.value ∙ ap (costs_more model lists a.v) (with-other list a.a c.node_at-2.result facts.place ∙ ap (slice_set list a.a) c.node_at-2.ensures) in
     let two : c.between_adds-other.result ≡ costs_more model lists a.w (slice_set other a.b x) =
-        q.value ∙ ap (costs_more model lists a.w) (with-other other a.b c.node_at.result facts.other_place ∙ ap (slice_set other a.b) c.node_at.ensures) in
+    q.value ∙ ap (costs_more model lists a.w) (with-other other a.b c.node_at.result facts.other_place ∙ ap (slice_set other a.b) c.node_at.ensures) in
     let both = two-lists model lists (Exchange a.v a.a a.w a.b) a.v a.w (slice_set list a.a y) (slice_set other a.b x) facts.vehicle facts.other c.if-v-w.false (exchanged_between lists a.v a.w a.b x (slice_set list a.a y) c.if-v-w.false) in
     omega (arith, ints, p.range.low, p.range.high, q.range.low, q.range.high, one, two, both)

@@ -1,19 +1,16 @@
-use Rattle.std.proofs.Common.{◌≡◌, ◌∙◌, ◌<◌, ◌+◌, ◌++◌, ◌∷◌, [], ℕ, List, false, true, reverse, ap, sym, subst, arith}
+use Rattle.std.proofs.Common.{◌≡◌, ◌∙◌, ◌<◌, ◌+◌, ◌++◌, [], ℕ, List, false, ap, arith}
 use Rattle.std.proofs.lemmas.Int.{ints}
-use Rattle.std.proofs.lemmas.List.Elements.{All-append, All-cons, All-nil}
-use Rattle.std.specs.Prelude.{ℤ, slice_range, slice_set, slice_index, insert, remove, All}
-use Rattle.vr_model.specs.moves.Moves.{chain_moved, reversed_between}
+use Rattle.std.proofs.lemmas.List.Elements.{All-append, All-nil}
+use Rattle.std.specs.Prelude.{slice_range}
+use Rattle.vr_model.specs.moves.Moves.{chain_moved}
 use Rattle.vr_model.specs.routes.Routes.{route}
 use Rattle.vr_routes.specs.Pieces.{nodes_of}
-use Rattle.vr_routes.proofs.FactLemmas.{of_two_opt, of_or_opt, of_relocate, of_exchange, of_cross}
+use Rattle.vr_routes.proofs.FactLemmas.{of_or_opt}
 use Rattle.vr_costfilter.specs.ArcMoves.{arcs_added, costs_more, with_between}
 use Rattle.vr_costfilter.proofs.PartLemmas.{small}
-use Rattle.vr_costfilter.proofs.MoveLemmas.{piece-all, one-list, two-lists, turned-list, shifted-back, shifted-on, without-one, with-other, swapped-list, other-front}
+use Rattle.vr_costfilter.proofs.MoveLemmas.{piece-all, one-list, shifted-back, shifted-on}
 use Rattle.vr_model.specs.declared.neighbours.Move.TheVariants.{OrOpt}
-use Rattle.vr_routes.specs.declared.pieces.Piece.TheVariants.{Chain, Node}
-use Rattle.std.proofs.Common.{◌≡◌, ◌≢◌, ◌≤◌, refl, suc, take, drop, ap₂}
-use Rattle.std.specs.Prelude.{◌+ℤ◌}
-use Rattle.vr_routes.specs.declared.pieces.Piece.{Piece}
+use Rattle.std.proofs.Common.{◌≡◌, ◌≤◌, refl, ap₂}
 use Rattle.vr_costfilter.proofs.arcs.ArcCost.shifted.Goals as goal
 
 pub between_adds-requires-clause-nodes : goal.between_adds-requires-clause-nodes
@@ -48,10 +45,10 @@ returns-then-t-a-clause-exact c =
     let within = facts.chain in
     let b = c.between_adds.ensures in
     let pieces : (nodes_of lists c.on-chain.result ++ (nodes_of lists c.on.result ++ [])) ≡ (slice_range list a.a (a.a + a.k) ++ (slice_range list a.t a.a ++ [])) =
-        ap₂ (λ x y. nodes_of lists x ++ (nodes_of lists y ++ [])) c.on-chain.ensures c.on.ensures in
+    ap₂ (λ x y. nodes_of lists x ++ (nodes_of lists y ++ [])) c.on-chain.ensures c.on.ensures in
     let is = ap (λ nodes. costs_more model lists a.v (with_between list a.t (a.a + a.k) nodes)) pieces
-        ∙ ap (costs_more model lists a.v) (shifted-back list a.a a.k a.t (let t_low = c.if-t-a.true in omega (arith, t_low)) (omega (arith, within)))
-        ∙ one-list model lists (OrOpt a.v a.a a.k a.t) a.v (chain_moved list a.a a.k a.t) facts.vehicle refl in
+    ∙ ap (costs_more model lists a.v) (shifted-back list a.a a.k a.t (let t_low = c.if-t-a.true in omega (arith, t_low)) (omega (arith, within)))
+    ∙ one-list model lists (OrOpt a.v a.a a.k a.t) a.v (chain_moved list a.a a.k a.t) facts.vehicle refl in
     let value : c.between_adds.result ≡ arcs_added model lists (OrOpt a.v a.a a.k a.t) = b.value ∙ is in
     omega (arith, ints, b.range.low, b.range.high, value)
 
@@ -64,9 +61,9 @@ returns-else-t-a-clause-exact c =
     let facts = of_or_opt model lists a.v a.a a.k a.t c.requires.is_one in
     let b = c.between_adds-else-t-a.ensures in
     let pieces : (nodes_of lists c.on-else-t-a.result ++ (nodes_of lists c.on-chain.result ++ [])) ≡ (slice_range list (a.a + a.k) (a.t + a.k) ++ (slice_range list a.a (a.a + a.k) ++ [])) =
-        ap₂ (λ x y. nodes_of lists x ++ (nodes_of lists y ++ [])) c.on-else-t-a.ensures c.on-chain.ensures in
+    ap₂ (λ x y. nodes_of lists x ++ (nodes_of lists y ++ [])) c.on-else-t-a.ensures c.on-chain.ensures in
     let is = ap (λ nodes. costs_more model lists a.v (with_between list a.a (a.t + a.k) nodes)) pieces
-        ∙ ap (costs_more model lists a.v) (shifted-on list a.a a.k a.t (let t_low = c.if-t-a.false in omega (arith, t_low)) facts.gap)
-        ∙ one-list model lists (OrOpt a.v a.a a.k a.t) a.v (chain_moved list a.a a.k a.t) facts.vehicle refl in
+    ∙ ap (costs_more model lists a.v) (shifted-on list a.a a.k a.t (let t_low = c.if-t-a.false in omega (arith, t_low)) facts.gap)
+    ∙ one-list model lists (OrOpt a.v a.a a.k a.t) a.v (chain_moved list a.a a.k a.t) facts.vehicle refl in
     let value : c.between_adds-else-t-a.result ≡ arcs_added model lists (OrOpt a.v a.a a.k a.t) = b.value ∙ is in
     omega (arith, ints, b.range.low, b.range.high, value)

@@ -1,19 +1,16 @@
-use Rattle.std.proofs.Common.{◌≡◌, ◌∙◌, ◌<◌, ◌+◌, ◌++◌, ◌∷◌, [], ℕ, List, false, true, reverse, ap, sym, subst, arith}
+use Rattle.std.proofs.Common.{◌≡◌, ◌∙◌, ◌<◌, [], ℕ, List, ap, arith}
 use Rattle.std.proofs.lemmas.Int.{ints}
-use Rattle.std.proofs.lemmas.List.Elements.{All-append, All-cons, All-nil}
-use Rattle.std.specs.Prelude.{ℤ, slice_range, slice_set, slice_index, insert, remove, All}
-use Rattle.vr_model.specs.moves.Moves.{chain_moved, reversed_between}
+use Rattle.std.proofs.lemmas.List.Elements.{All-cons, All-nil}
+use Rattle.std.specs.Prelude.{slice_set}
 use Rattle.vr_model.specs.routes.Routes.{route}
-use Rattle.vr_routes.specs.Pieces.{nodes_of}
-use Rattle.vr_routes.proofs.FactLemmas.{of_make_active, of_make_inactive, of_swap_active}
-use Rattle.vr_costfilter.specs.ArcMoves.{arcs_added, costs_more, with_between}
-use Rattle.vr_costfilter.proofs.PartLemmas.{small}
-use Rattle.vr_costfilter.proofs.MoveLemmas.{piece-all, one-list, two-lists, turned-list, shifted-back, shifted-on, without-one, with-other, swapped-list, other-front}
+use Rattle.vr_routes.proofs.FactLemmas.{of_swap_active}
+use Rattle.vr_costfilter.specs.ArcMoves.{arcs_added, costs_more}
+use Rattle.vr_costfilter.proofs.MoveLemmas.{one-list, with-other}
 use Rattle.vr_model.specs.declared.neighbours.Move.TheVariants.{SwapActive}
 use Rattle.std.proofs.Common.{refl}
 use Rattle.vr_model.specs.deciding.Testing.{and_left, and_right}
 use Rattle.vr_model.specs.tables.Tables.{is_visit}
-use Rattle.vr_model.specs.moves.MoveTests.{is_inactive, is_vehicle, is_place}
+use Rattle.vr_model.specs.moves.MoveTests.{is_vehicle, is_place}
 use Rattle.vr_model.proofs.routes.Lists.{visit_below}
 use Rattle.vr_costfilter.proofs.arcs.ArcCost.swapped.Goals as goal
 
@@ -34,5 +31,5 @@ returns-clause-exact c =
     let facts = of_swap_active model lists a.v a.a a.u c.requires.is_one in
     let b = c.between_adds.ensures in
     let value : c.between_adds.result ≡ arcs_added model lists (SwapActive a.v a.a a.u) =
-        b.value ∙ ap (costs_more model lists a.v) (with-other list a.a a.u facts.place) ∙ one-list model lists (SwapActive a.v a.a a.u) a.v (slice_set list a.a a.u) facts.vehicle refl in
+    b.value ∙ ap (costs_more model lists a.v) (with-other list a.a a.u facts.place) ∙ one-list model lists (SwapActive a.v a.a a.u) a.v (slice_set list a.a a.u) facts.vehicle refl in
     omega (arith, ints, b.range.low, b.range.high, value)

@@ -1,14 +1,13 @@
-use Rattle.std.proofs.Common.{◌≡◌, ◌∙◌, ◌<◌, ◌+◌, ◌++◌, ◌∷◌, [], ℕ, List, false, true, reverse, ap, sym, subst, arith}
+use Rattle.std.proofs.Common.{◌≡◌, ◌∙◌, ◌<◌, ◌+◌, [], ℕ, List, true, ap, arith}
 use Rattle.std.proofs.lemmas.Int.{ints}
-use Rattle.std.proofs.lemmas.List.Elements.{All-append, All-cons, All-nil}
-use Rattle.std.specs.Prelude.{ℤ, slice_range, slice_set, slice_index, insert, remove, All}
-use Rattle.vr_model.specs.moves.Moves.{chain_moved, reversed_between}
+use Rattle.std.proofs.lemmas.List.Elements.{All-append, All-nil}
+use Rattle.vr_model.specs.moves.Moves.{reversed_between}
 use Rattle.vr_model.specs.routes.Routes.{route}
 use Rattle.vr_routes.specs.Pieces.{nodes_of}
-use Rattle.vr_routes.proofs.FactLemmas.{of_two_opt, of_or_opt, of_relocate, of_exchange, of_cross}
-use Rattle.vr_costfilter.specs.ArcMoves.{arcs_added, costs_more, with_between}
+use Rattle.vr_routes.proofs.FactLemmas.{of_two_opt}
+use Rattle.vr_costfilter.specs.ArcMoves.{arcs_added, costs_more}
 use Rattle.vr_costfilter.proofs.PartLemmas.{small}
-use Rattle.vr_costfilter.proofs.MoveLemmas.{piece-all, one-list, two-lists, turned-list, shifted-back, shifted-on, without-one, with-other, swapped-list, other-front}
+use Rattle.vr_costfilter.proofs.MoveLemmas.{piece-all, one-list, turned-list}
 use Rattle.vr_model.specs.declared.neighbours.Move.TheVariants.{TwoOpt}
 use Rattle.vr_routes.specs.declared.pieces.Piece.TheVariants.{Chain}
 use Rattle.std.proofs.Common.{refl, suc}

@@ -1,7 +1,7 @@
 use Rattle.std.proofs.Common.{◌≡◌, ◌∙◌, ◌<◌, ◌++◌, ℕ, List, take, drop, ap, subst, sym, arith}
 use Rattle.std.proofs.lemmas.Int.{ints}
 use Rattle.std.specs.Prelude.{All}
-use Rattle.vr_model.specs.routes.Routes.{route, route_cost}
+use Rattle.vr_model.specs.routes.Routes.{route}
 use Rattle.vr_routes.specs.Pieces.{joined}
 use Rattle.vr_routes.proofs.JoinedPieces.{all_left, all_right}
 use Rattle.vr_costfilter.specs.ArcMoves.{costs_more}
@@ -23,5 +23,5 @@ returns-clause-value c =
     let lists : List (List ℕ) = c.args.routes.now.lists in
     let b = c.between_adds.ensures in
     let whole : c.between_adds.result ≡ costs_more model lists c.args.v (joined lists c.args.pieces.now) =
-        b.value ∙ sym (ap (costs_more model lists c.args.v) c.strip-ends.ensures.joins) in
+    b.value ∙ sym (ap (costs_more model lists c.args.v) c.strip-ends.ensures.joins) in
     omega (arith, ints, b.range.low, b.range.high, whole)
