@@ -29,7 +29,7 @@ pub struct Kept {
 }
 
 impl Kept {
-    /// Of no list.
+    // Of no list.
     fn new() -> Kept {
         Kept {
             ways: ArrayVec::new(),
