@@ -33,8 +33,8 @@ pub struct Early {
 }
 
 /// How early vehicles can end lists. It has committed lists, and in the dimensions where anything is paid for spans it
-/// walks along what a change puts between the kept ends of lists alone. Contracts see the model, and what is kept of the
-/// committed lists.
+/// walks along what a change puts between the kept ends of lists alone. Contracts see the model, and what is kept of
+/// the committed lists.
 #[derive(Drop)]
 pub struct Earliest<'m> {
     model: &'m RoutingModel,

@@ -139,8 +139,8 @@ impl<'a> NewList<'a> {
         nodes.iter().all(|&node| self.serves_node(lookups, node))
     }
 
-    /// Whether the list serves the pairs that some nodes are in, but for nodes that `marks` tells to be in `marked`: both
-    /// are handed in, since contracts see of this the list alone.
+    /// Whether the list serves the pairs that some nodes are in, but for nodes that `marks` tells to be in `marked`:
+    /// both are handed in, since contracts see of this the list alone.
     pub(crate) fn serves_unmarked(
         &self,
         lookups: &NodeTables<'_>,
