@@ -25,7 +25,8 @@ use vr_routes::{Change, Judge, Routes, Verdict};
 /// longer than any before.
 #[derive(Drop)]
 pub struct FilterJudge<'m> {
-    judging: Judging<'m, Filters<'m>>,
+    // in a box, so that who owns a judge moves and drops one pointer
+    judging: Box<Judging<'m, Filters<'m>>>,
 }
 
 impl<'m> Model for FilterJudge<'m> {
@@ -33,7 +34,7 @@ impl<'m> Model for FilterJudge<'m> {
 
     ghost Value = { Held };
 
-    ghost view = { λ judge. judge.judging };
+    ghost view = { λ judge. judge.judging.value };
 }
 
 impl<'m> FilterJudge<'m> {
@@ -51,7 +52,9 @@ impl<'m> FilterJudge<'m> {
     {
         let filters = filters_of(alloc, model, routes)?;
         let judging = Judging::open(alloc, model, filters, routes)?;
-        Ok(FilterJudge { judging })
+        Ok(FilterJudge {
+            judging: Box::new(alloc, judging)?,
+        })
     }
 }
 
