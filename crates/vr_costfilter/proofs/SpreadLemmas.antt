@@ -26,7 +26,7 @@ use Rattle.vr_timings.proofs.ExtentLemmas.{times-none}
 use Rattle.vr_timings.specs.declared.timings.Timing.{Timing}
 use Rattle.vr_timings.proofs.PlanLemmas.{plan-at, used-all}
 use Rattle.vr_earliest.specs.Ways.{earliest_end, least_span}
-use Rattle.vr_earliest.specs.declared.earliest.Early.{Early}
+use Rattle.vr_earliest.specs.declared.earlies.Early.{Early}
 use Rattle.vr_routes.specs.Pieces.{ListAfter, changed, joined, no_part, part_at}
 use Rattle.vr_routes.proofs.CommitLemmas.{as_many_lists}
 use Rattle.vr_routes.specs.Changes.{AreParts, IsMadeOn}

@@ -8,7 +8,7 @@ ghost use Rattle.vr_model.specs.routes.Rules.{is_valid};
 ghost use Rattle.vr_routes.specs.Pieces.{changed, joined, part_at};
 ghost use Rattle.vr_routes.specs.Changes.{IsMadeOn};
 ghost use Rattle.vr_timings.specs.Bounds.{cumul_cost, IsAround};
-ghost use Rattle.vr_earliest.specs.Kept.{StandsEarliest};
+ghost use Rattle.vr_earliest.specs.Earlies.{AreEarlies};
 ghost use Rattle.vr_costfilter.specs.GlobalCosts.{global_cost_of, AreKept, AreLike, AreNext};
 ghost use Rattle.vr_costfilter.specs.GlobalCosts.{AreSpansReady, IsGlobalCost, StandsSpans};
 ghost use Rattle.vr_costfilter.specs.Parts.{NothingReady};
@@ -19,7 +19,7 @@ use crate::reaches::{ListTimings, SpanRules};
 use arrayvec::ArrayVec;
 use std::alloc::Global;
 use std::marker::Model;
-use vr_earliest::Earliest;
+use vr_earliest::Earlies;
 use vr_model::{Model as RoutingModel, NoMemory};
 use vr_routes::{Change, Routes, Row};
 use vr_timings::Timer;
@@ -95,11 +95,11 @@ impl<'m> GlobalSpan<'m> {
     }
 
     /// What a change adds at least, where the lists after it are valid: how far its lists and those that stay reach at
-    /// least, less what the global spans cost now. No schedule is built.
-    pub fn least(&self, earliest: &Earliest, routes: &Routes, change: &Change) -> i64
+    /// least, less what the global spans cost now. The caller hands in what the chosen schedules of the changed lists
+    /// come to at least. No schedule is built.
+    pub fn least(&self, earlies: &Earlies, routes: &Routes, change: &Change) -> i64
         requires stands { StandsSpans self.now routes.now }
-        requires same_model { earliest.now.model ≡ self.now.model }
-        requires earliest { StandsEarliest earliest.now routes.now.lists }
+        requires earlies { AreEarlies self.now.model routes.now.lists change.now earlies.now }
         requires made { IsMadeOn routes.now change.now }
         ensures value { result ≡ global_least self.now.model routes.now.lists change.now
             -ℤ global_cost_of self.now.model routes.now.lists }
@@ -111,7 +111,7 @@ impl<'m> GlobalSpan<'m> {
         if self.rules.is_idle() {
             return 0;
         }
-        self.rules.least(earliest, &self.rows, routes, change) - self.cost
+        self.rules.least(earlies, &self.rows, routes, change) - self.cost
     }
 
     // What the schedules come to of the list that part `k` of a change gives its vehicle.

@@ -7,7 +7,7 @@ ghost use Rattle.vr_model.specs.routes.Rules.{is_valid};
 ghost use Rattle.vr_routes.specs.Pieces.{changed, part_at};
 ghost use Rattle.vr_routes.specs.Changes.{IsMadeOn};
 ghost use Rattle.vr_timings.specs.Bounds.{IsAround};
-ghost use Rattle.vr_earliest.specs.Kept.{StandsEarliest};
+ghost use Rattle.vr_earliest.specs.Earlies.{AreEarlies};
 ghost use Rattle.vr_costfilter.specs.Parts.{NothingReady};
 ghost use Rattle.vr_costfilter.specs.PlanCosts.{cost_after, soft_and_span, AreNextCosts, ArePlansReady, IsPlanCost};
 ghost use Rattle.vr_costfilter.specs.PlanCosts.{plans_least, StandsPlans};
@@ -17,7 +17,7 @@ use crate::schedules::PlanRules;
 use arrayvec::ArrayVec;
 use std::alloc::Global;
 use std::marker::Model;
-use vr_earliest::Earliest;
+use vr_earliest::Earlies;
 use vr_model::{Model as RoutingModel, NoMemory};
 use vr_routes::{Change, Routes, Row};
 use vr_timings::Timer;
@@ -83,11 +83,11 @@ impl<'m> PlanCost<'m> {
     }
 
     /// What a change adds at least, where the lists after it are valid: what the spans of the changed lists cost at
-    /// least, less what the lists of these vehicles cost now. No schedule is built.
-    pub fn least(&self, earliest: &Earliest, routes: &Routes, change: &Change) -> i64
+    /// least, less what the lists of these vehicles cost now. The caller hands in what the chosen schedules of the
+    /// changed lists come to at least. No schedule is built.
+    pub fn least(&self, earlies: &Earlies, routes: &Routes, change: &Change) -> i64
         requires stands { StandsPlans self.now routes.now }
-        requires same_model { earliest.now.model ≡ self.now.model }
-        requires earliest { StandsEarliest earliest.now routes.now.lists }
+        requires earlies { AreEarlies self.now.model routes.now.lists change.now earlies.now }
         requires made { IsMadeOn routes.now change.now }
         ensures value { result ≡ plans_least self.now.model routes.now.lists change.now }
         ensures least { IsTrue (is_valid self.now.model (changed routes.now.lists change.now))
@@ -101,8 +101,7 @@ impl<'m> PlanCost<'m> {
         let mut least = 0;
         for k in 0..change.parts() {
             let v = change.vehicle(k);
-            least += self.rules.least(earliest, routes, v, change.pieces(k))
-                - self.costs[v as usize];
+            least += self.rules.least(earlies, routes, change, k) - self.costs[v as usize];
         }
         least
     }

@@ -10,7 +10,7 @@ ghost use Rattle.vr_model.specs.declared.records.Model.{Model as Defined};
 ghost use Rattle.vr_timings.specs.Bounds.{cumul_cost, IsAround};
 ghost use Rattle.vr_timings.specs.Extents.{global_in};
 ghost use Rattle.vr_timings.specs.Tables.{AreTables, IsTable};
-ghost use Rattle.vr_earliest.specs.Kept.{StandsEarliest};
+ghost use Rattle.vr_earliest.specs.Earlies.{AreEarlies};
 ghost use Rattle.vr_costfilter.specs.GlobalCosts.{global_cost_of, row_with, AreKept, AreOf, AreOfSome, IsGlobalCost};
 ghost use Rattle.vr_costfilter.specs.GlobalCosts.{IsKept, IsReach, NonePays, Pays};
 ghost use Rattle.vr_costfilter.specs.Spreads.{global_least, AreRowsBefore};
@@ -18,7 +18,7 @@ ghost use Rattle.vr_costfilter.specs.Spreads.{global_least, AreRowsBefore};
 use crate::spreads::least_of_global_spans;
 use std::alloc::Global;
 use std::marker::Model;
-use vr_earliest::Earliest;
+use vr_earliest::Earlies;
 use vr_model::{Model as RoutingModel, NoMemory};
 use vr_routes::{Change, Routes};
 use vr_timings::{Extent, Table, Timer, Timing, global_cost, tables_of, timing_of, wider};
@@ -95,18 +95,17 @@ impl<'m> SpanRules<'m> {
     /// What the global spans cost at least after a change. No schedule is built.
     pub fn least(
         &self,
-        earliest: &Earliest,
+        earlies: &Earlies,
         rows: &[ListTimings],
         routes: &Routes,
         change: &Change,
     ) -> i64
-        requires of_model { earliest.now.model ≡ self.now }
-        requires earliest { StandsEarliest earliest.now routes.now.lists }
+        requires earlies { AreEarlies self.now routes.now.lists change.now earlies.now }
         requires before { AreRowsBefore self.now routes.now.lists rows.now change.now }
         ensures value { result ≡ global_least self.now routes.now.lists change.now }
         ensures range { IsGlobalCost result }
     {
-        least_of_global_spans(self.model, earliest, rows, routes, change)
+        least_of_global_spans(self.model, earlies, rows, routes, change)
     }
 }
 

@@ -1,6 +1,6 @@
 //! What a list costs by soft upper bounds and spans, at its chosen schedules.
 
-ghost use Rattle.std.specs.Prelude.{◌≡◌, ◌<◌, ◌≤◌, ◌*◌, ◌+ℤ◌, ◌*ℤ◌, All, IsTrue, IfOk, length};
+ghost use Rattle.std.specs.Prelude.{◌≡◌, ◌<◌, ◌≤◌, ◌*◌, ◌+ℤ◌, ◌*ℤ◌, IsTrue, IfOk, length};
 ghost use Rattle.std.specs.List.{list_all};
 ghost use Rattle.vr_model.specs.tables.Numbers.{below, number_at, total_by};
 ghost use Rattle.vr_model.specs.tables.Tables.{dimension_at, is_visit};
@@ -9,17 +9,18 @@ ghost use Rattle.vr_model.specs.routes.Routes.{is_distinct};
 ghost use Rattle.vr_timings.specs.Tables.{AreTables, IsTable};
 ghost use Rattle.vr_timings.specs.Timings.{soft_with, span_with};
 ghost use Rattle.vr_timings.specs.Bounds.{cumul_cost, IsAround};
-ghost use Rattle.vr_routes.specs.Pieces.{joined, IsWithin};
-ghost use Rattle.vr_earliest.specs.Kept.{StandsEarliest};
+ghost use Rattle.vr_routes.specs.Changes.{AreParts};
+ghost use Rattle.vr_routes.specs.Pieces.{joined, part_at};
+ghost use Rattle.vr_earliest.specs.Earlies.{AreEarlies};
 ghost use Rattle.vr_earliest.specs.Ways.{least_span};
 ghost use Rattle.vr_costfilter.specs.PlanCosts.{plans_cost, spans_least, IsIdle, IsPlanCost};
 ghost use Rattle.vr_costfilter.specs.Bounds.{IsFrom};
 
 use std::alloc::Global;
 use std::marker::Model;
-use vr_earliest::Earliest;
+use vr_earliest::Earlies;
 use vr_model::{Model as RoutingModel, NoMemory};
-use vr_routes::{Piece, Routes};
+use vr_routes::{Change, Piece, Routes};
 use vr_timings::{Table, Timer, may_pay_alone, span_cost, tables_of, times, timing_of};
 
 /// What is looked up of a model once. Contracts see the model.
@@ -78,21 +79,20 @@ impl<'m> PlanRules<'m> {
         Ok(cost)
     }
 
-    /// What the spans of the list that pieces are joined to cost at least. No schedule is built.
-    pub fn least(&self, earliest: &Earliest, routes: &Routes, v: u32, pieces: &[Piece]) -> i64
-        requires of_model { earliest.now.model ≡ self.now }
-        requires earliest { StandsEarliest earliest.now routes.now.lists }
-        requires vehicle { v < length self.now.vehicles }
-        requires within { All (IsWithin routes.now.lists) pieces.now }
-        requires few { length pieces.now ≤ 8 }
-        requires nodes { All (λ node. node < self.now.nodes) (joined routes.now.lists pieces.now) }
-        ensures value { result ≡ spans_least self.now v (joined routes.now.lists pieces.now) }
+    /// What the spans of the list cost at least that part `k` of a change gives its vehicle. No schedule is built.
+    pub fn least(&self, earlies: &Earlies, routes: &Routes, change: &Change, k: usize) -> i64
+        requires earlies { AreEarlies self.now routes.now.lists change.now earlies.now }
+        requires parts { AreParts routes.now.lists change.now }
+        requires part { k < length change.now }
+        requires vehicle { (part_at change.now k).vehicle < length self.now.vehicles }
+        ensures value { result ≡ spans_least self.now (part_at change.now k).vehicle
+            (joined routes.now.lists (part_at change.now k).pieces) }
         ensures range { IsAround (cumul_cost * 4) result }
     {
-        if Piece::nodes_in(routes, pieces) == 0 {
+        if Piece::nodes_in(routes, change.pieces(k)) == 0 {
             return 0;
         }
-        least_of_spans(self.model, earliest, routes, v, pieces)
+        least_of_spans(self.model, earlies, routes, change, k)
     }
 }
 
@@ -126,25 +126,23 @@ fn cost_of_plans(
 // What the spans of a list that has nodes cost at least.
 fn least_of_spans(
     model: &RoutingModel,
-    earliest: &Earliest,
+    earlies: &Earlies,
     routes: &Routes,
-    v: u32,
-    pieces: &[Piece],
+    change: &Change,
+    k: usize,
 ) -> i64
     requires well_formed { IsWellFormed model.now }
-    requires of_model { earliest.now.model ≡ model.now }
-    requires earliest { StandsEarliest earliest.now routes.now.lists }
-    requires vehicle { v < length model.now.vehicles }
-    requires within { All (IsWithin routes.now.lists) pieces.now }
-    requires few { length pieces.now ≤ 8 }
-    requires nodes { All (λ node. node < model.now.nodes) (joined routes.now.lists pieces.now) }
-    ensures value { result ≡ total_by (λ d. number_at (dimension_at model.now d).span_costs v
-        *ℤ least_span model.now d v (joined routes.now.lists pieces.now)) (below (length model.now.dimensions)) }
+    requires earlies { AreEarlies model.now routes.now.lists change.now earlies.now }
+    requires part { k < length change.now }
+    requires vehicle { (part_at change.now k).vehicle < length model.now.vehicles }
+    ensures value { result ≡ total_by (λ d. number_at (dimension_at model.now d).span_costs
+        (part_at change.now k).vehicle *ℤ least_span model.now d (part_at change.now k).vehicle
+        (joined routes.now.lists (part_at change.now k).pieces)) (below (length model.now.dimensions)) }
     ensures range { IsAround (cumul_cost * 4) result }
 {
     let mut cost = 0;
     for d in 0..model.dimensions.len() {
-        cost += least_of_span(model, earliest, routes, d as u32, v, pieces);
+        cost += least_of_span(model, earlies, routes, change, k, d as u32);
     }
     cost
 }
@@ -152,29 +150,28 @@ fn least_of_spans(
 // The same in one dimension.
 fn least_of_span(
     model: &RoutingModel,
-    earliest: &Earliest,
-    routes: &Routes,
+    earlies: &Earlies,
+    _routes: &Routes,
+    change: &Change,
+    k: usize,
     d: u32,
-    v: u32,
-    pieces: &[Piece],
 ) -> i64
     requires well_formed { IsWellFormed model.now }
-    requires of_model { earliest.now.model ≡ model.now }
-    requires earliest { StandsEarliest earliest.now routes.now.lists }
+    requires earlies { AreEarlies model.now _routes.now.lists change.now earlies.now }
+    requires part { k < length change.now }
     requires dimension { d < length model.now.dimensions }
-    requires vehicle { v < length model.now.vehicles }
-    requires within { All (IsWithin routes.now.lists) pieces.now }
-    requires few { length pieces.now ≤ 8 }
-    requires nodes { All (λ node. node < model.now.nodes) (joined routes.now.lists pieces.now) }
-    ensures value { result ≡ (number_at (dimension_at model.now d).span_costs v
-        *ℤ least_span model.now d v (joined routes.now.lists pieces.now)) }
+    requires vehicle { (part_at change.now k).vehicle < length model.now.vehicles }
+    ensures value { result ≡ (number_at (dimension_at model.now d).span_costs (part_at change.now k).vehicle
+        *ℤ least_span model.now d (part_at change.now k).vehicle
+        (joined _routes.now.lists (part_at change.now k).pieces)) }
     ensures range { IsAround cumul_cost result }
 {
+    let v = change.vehicle(k);
     let coefficient = *model.dimensions.get(d as usize).span_costs.get(v as usize);
     if coefficient == 0 {
         return 0;
     }
-    times(coefficient, earliest.after(d, v, routes, pieces).span)
+    times(coefficient, earlies.at(d, k).span)
 }
 
 // What the list of a vehicle costs by soft upper bounds and by its span in one dimension.

@@ -3,13 +3,13 @@
 ghost use Rattle.std.specs.Prelude.{◌≡◌, ◌<◌, length};
 ghost use Rattle.vr_timings.specs.Bounds.{cumul_cost, IsAround};
 ghost use Rattle.vr_routes.specs.Pieces.{part_at};
-ghost use Rattle.vr_earliest.specs.Kept.{StandsEarliest};
+ghost use Rattle.vr_earliest.specs.Earlies.{AreEarlies};
 ghost use Rattle.vr_costfilter.specs.GlobalCosts.{IsGlobalCost, Pays};
 ghost use Rattle.vr_costfilter.specs.Spreads as spreads;
 ghost use Rattle.vr_costfilter.specs.Spreads.{global_least, global_least_in, AreRowsBefore, IsSpreadInRange};
 
 use crate::reaches::ListTimings;
-use vr_earliest::Earliest;
+use vr_earliest::Earlies;
 use vr_model::Model as RoutingModel;
 use vr_model::limits::HORIZON;
 use vr_routes::{Change, Piece, Routes};
@@ -29,20 +29,19 @@ pub struct Spread {
 /// What the global spans cost at least after a change.
 pub fn least_of_global_spans(
     model: &RoutingModel,
-    earliest: &Earliest,
+    earlies: &Earlies,
     rows: &[ListTimings],
     routes: &Routes,
     change: &Change,
 ) -> i64
-    requires of_model { earliest.now.model ≡ model.now }
-    requires earliest { StandsEarliest earliest.now routes.now.lists }
+    requires earlies { AreEarlies model.now routes.now.lists change.now earlies.now }
     requires before { AreRowsBefore model.now routes.now.lists rows.now change.now }
     ensures value { result ≡ global_least model.now routes.now.lists change.now }
     ensures range { IsGlobalCost result }
 {
     let mut cost = 0;
     for d in 0..model.dimensions.len() {
-        cost += least_of_global_span(model, earliest, rows, routes, change, d as u32);
+        cost += least_of_global_span(model, earlies, rows, routes, change, d as u32);
     }
     cost
 }
@@ -50,14 +49,13 @@ pub fn least_of_global_spans(
 // The same in dimension `d`.
 fn least_of_global_span(
     model: &RoutingModel,
-    earliest: &Earliest,
+    earlies: &Earlies,
     rows: &[ListTimings],
     routes: &Routes,
     change: &Change,
     d: u32,
 ) -> i64
-    requires of_model { earliest.now.model ≡ model.now }
-    requires earliest { StandsEarliest earliest.now routes.now.lists }
+    requires earlies { AreEarlies model.now routes.now.lists change.now earlies.now }
     requires before { AreRowsBefore model.now routes.now.lists rows.now change.now }
     requires dimension { d < length model.now.dimensions }
     ensures value { result ≡ global_least_in model.now routes.now.lists change.now d }
@@ -67,21 +65,20 @@ fn least_of_global_span(
     if coefficient == 0 {
         return 0;
     }
-    let spread = spread_after(model, earliest, rows, routes, change, d);
+    let spread = spread_after(model, earlies, rows, routes, change, d);
     times(coefficient, (spread.last - spread.start).max(spread.span))
 }
 
 // How far the lists after a change reach at least.
 fn spread_after(
     model: &RoutingModel,
-    earliest: &Earliest,
+    earlies: &Earlies,
     rows: &[ListTimings],
     routes: &Routes,
     change: &Change,
     d: u32,
 ) -> Spread
-    requires of_model { earliest.now.model ≡ model.now }
-    requires earliest { StandsEarliest earliest.now routes.now.lists }
+    requires earlies { AreEarlies model.now routes.now.lists change.now earlies.now }
     requires before { AreRowsBefore model.now routes.now.lists rows.now change.now }
     requires dimension { d < length model.now.dimensions }
     requires pays { Pays model.now d }
@@ -90,7 +87,7 @@ fn spread_after(
 {
     let mut spread = spread_of_kept(model, rows, routes, change, d);
     for k in 0..change.parts() {
-        spread = with_changed(model, earliest, rows, routes, change, d, k, spread);
+        spread = with_changed(model, earlies, rows, routes, change, d, k, spread);
     }
     spread
 }
@@ -156,8 +153,8 @@ fn with_kept(
 // It reaches over the list too that part `k` of the change gives its vehicle.
 #[inline]
 fn with_changed(
-    model: &RoutingModel,
-    earliest: &Earliest,
+    _model: &RoutingModel,
+    earlies: &Earlies,
     _rows: &[ListTimings],
     routes: &Routes,
     change: &Change,
@@ -165,20 +162,19 @@ fn with_changed(
     k: usize,
     spread: Spread,
 ) -> Spread
-    requires of_model { earliest.now.model ≡ model.now }
-    requires earliest { StandsEarliest earliest.now routes.now.lists }
-    requires before { AreRowsBefore model.now routes.now.lists _rows.now change.now }
-    requires dimension { d < length model.now.dimensions }
+    requires earlies { AreEarlies _model.now routes.now.lists change.now earlies.now }
+    requires before { AreRowsBefore _model.now routes.now.lists _rows.now change.now }
+    requires dimension { d < length _model.now.dimensions }
     requires part { k < length change.now }
+    requires pays { Pays _model.now d }
     requires range { IsSpreadInRange spread }
-    ensures value { result ≡ spreads.with_changed model.now routes.now.lists d spread (part_at change.now k) }
+    ensures value { result ≡ spreads.with_changed _model.now routes.now.lists d spread (part_at change.now k) }
     ensures range { IsSpreadInRange result }
 {
-    let pieces = change.pieces(k);
-    if Piece::nodes_in(routes, pieces) == 0 {
+    if Piece::nodes_in(routes, change.pieces(k)) == 0 {
         return spread;
     }
-    let early = earliest.after(d, change.vehicle(k), routes, pieces);
+    let early = earlies.at(d, k);
     Spread {
         last: spread.last.max(early.last),
         start: spread.start,

@@ -4,3 +4,4 @@ pub mod WayLemmas
 pub mod KeptLemmas
 pub mod Earlier
 pub mod NoEarlier
+pub mod EarlyLemmas

@@ -4,3 +4,4 @@ pub mod Ways
 pub mod Rests
 pub mod Kept
 pub mod Laws
+pub mod Earlies

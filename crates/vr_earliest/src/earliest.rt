@@ -6,13 +6,15 @@ ghost use Rattle.vr_model.specs.routes.Routes.{route};
 ghost use Rattle.vr_model.specs.routes.Rules.{is_valid};
 ghost use Rattle.vr_model.specs.tables.Numbers.{horizon};
 ghost use Rattle.vr_model.specs.tables.WellFormed.{IsIn, IsWellFormed};
-ghost use Rattle.vr_routes.specs.Changes.{IsMadeOn};
-ghost use Rattle.vr_routes.specs.Pieces.{changed, joined, IsWithin};
+ghost use Rattle.vr_routes.specs.Changes.{AreParts, IsMadeOn};
+ghost use Rattle.vr_routes.specs.Pieces.{changed, joined, part_at, IsWithin};
+ghost use Rattle.vr_earliest.specs.Earlies.{AreEarlies, IsEarlyRow};
 ghost use Rattle.vr_earliest.specs.Floors.{AreAllFloors};
 ghost use Rattle.vr_earliest.specs.Guides.{IsGuide};
 ghost use Rattle.vr_earliest.specs.Kept.{AreAllKept, AreKept, StandsEarliest};
 ghost use Rattle.vr_earliest.specs.Ways.{earliest_end, least_span, whole_way, IsWayOf};
 
+use crate::earlies::{Earlies, Early};
 use crate::floors::Floors;
 use crate::kept::KeptLists;
 use crate::ways::{Guide, Way};
@@ -22,15 +24,6 @@ use vr_balance::strip;
 use vr_model::limits::HORIZON;
 use vr_model::{Model as RoutingModel, NoMemory};
 use vr_routes::{Change, Piece, Routes, Row};
-
-/// What the chosen schedule of a list comes to at least.
-#[derive(Clone, Copy)]
-pub struct Early {
-    /// It ends no earlier, in `0..=2^36`.
-    pub last: i64,
-    /// Its span is no less, in `-2^36..=2^36`.
-    pub span: i64,
-}
 
 /// How early vehicles can end lists. It has committed lists, and in the dimensions where anything is paid for spans it
 /// walks along what a change puts between the kept ends of lists alone. Contracts see the model, and what is kept of
@@ -100,6 +93,39 @@ impl<'m> Earliest<'m> {
             last: way.time.min(HORIZON),
             span: span.min(HORIZON).max(-HORIZON),
         }
+    }
+
+    /// Writes what the chosen schedules of the lists after a change come to at least, in each dimension where anything
+    /// is paid for spans. It takes no memory.
+    pub fn write_after(&self, routes: &Routes, change: &Change, out: &mut Earlies)
+        requires stands { StandsEarliest self.now routes.now.lists }
+        requires parts { AreParts routes.now.lists change.now }
+        requires nodes { (k : ℕ) → k < length change.now → All (λ node. node < self.now.model.nodes)
+            (joined routes.now.lists (part_at change.now k).pieces) }
+        ensures { AreEarlies self.now.model routes.now.lists change.now out.new }
+    {
+        let _few = change.parts();
+        for d in 0..self.kept.len() {
+            if !self.kept[d].lists.is_empty() {
+                out.set(d, self.row_after(d as u32, routes, change));
+            }
+        }
+    }
+
+    // What they come to at least in dimension `d`.
+    fn row_after(&self, d: u32, routes: &Routes, change: &Change) -> [Early; 2]
+        requires stands { StandsEarliest self.now routes.now.lists }
+        requires dimension { d < length self.now.model.dimensions }
+        requires parts { AreParts routes.now.lists change.now }
+        requires nodes { (k : ℕ) → k < length change.now → All (λ node. node < self.now.model.nodes)
+            (joined routes.now.lists (part_at change.now k).pieces) }
+        ensures { IsEarlyRow self.now.model routes.now.lists change.now d result }
+    {
+        let mut row = [Early { last: 0, span: 0 }; 2];
+        for k in 0..change.parts() {
+            row[k] = self.after(d, change.vehicle(k), routes, change.pieces(k));
+        }
+        row
     }
 
     /// Commits the lists after a change, where they are valid. It is called before the routes are changed, and takes no
@@ -172,7 +198,7 @@ fn write_list(model: &RoutingModel, floors: &[Floors], kept: &mut [KeptLists], v
 }
 
 // The whole way of the vehicle along the list that pieces are joined to. What is kept of its list is not walked.
-#[inline]
+#[inline(always)]
 fn way_after(guide: &Guide, kept: &KeptLists, routes: &Routes, pieces: &[Piece]) -> Way
     requires guide { IsGuide guide.now }
     requires vehicle { guide.now.v < length routes.now.lists }

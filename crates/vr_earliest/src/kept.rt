@@ -38,7 +38,7 @@ impl Kept {
     }
 
     /// The way along the first `place` visits of the list.
-    #[inline]
+    #[inline(always)]
     pub fn way(&self, place: u32) -> Way
         requires place { place < length self.now.ways.items }
         ensures { (other : WayOf) → result ≡ slice_index_or self.now.ways.items place other }
@@ -47,7 +47,7 @@ impl Kept {
     }
 
     /// What is left from a place of the list on.
-    #[inline]
+    #[inline(always)]
     pub fn rest(&self, place: u32) -> Rest
         requires place { place < length self.now.rests.items }
         ensures { (other : RestOf)

@@ -2,10 +2,12 @@
 //! come to, told by one walk along what a change puts into a list, which builds no schedule.
 #![tactic(auto)]
 
+mod earlies;
 mod earliest;
 mod floors;
 mod kept;
 pub mod laws;
 mod ways;
 
-pub use earliest::{Earliest, Early};
+pub use earlies::{Earlies, Early};
+pub use earliest::Earliest;

@@ -67,7 +67,7 @@ impl<'m> Guide<'m> {
     }
 
     /// The vehicle stands at its start.
-    #[inline]
+    #[inline(always)]
     pub fn setting_out(&self) -> Way
         requires guide { IsGuide self.now }
         ensures value { result ≡ setting_out_of self.now.model.now self.now.d self.now.v }
@@ -95,6 +95,7 @@ impl<'m> Guide<'m> {
     }
 
     /// A way goes on along the nodes of pieces.
+    #[inline(always)]
     pub fn along_pieces(&self, routes: &Routes, pieces: &[Piece], way: Way) -> Way
         requires guide { IsGuide self.now }
         requires within { All (IsWithin routes.now.lists) pieces.now }
@@ -183,7 +184,7 @@ impl<'m> Guide<'m> {
     }
 
     /// It goes on to a stop and through what is left from there to the end.
-    #[inline]
+    #[inline(always)]
     pub fn to_end(&self, way: Way, rest: Rest) -> Way
         requires guide { IsGuide self.now }
         requires way { IsWayOf self.now.model.now 9000 way }
@@ -216,7 +217,7 @@ impl<'m> Guide<'m> {
     }
 
     /// What a whole way tells of the span.
-    #[inline]
+    #[inline(always)]
     pub fn span_by(&self, way: Way) -> i64
         requires guide { IsGuide self.now }
         requires way { IsWayOf self.now.model.now 10001 way }
@@ -230,7 +231,7 @@ impl<'m> Guide<'m> {
     }
 
     // The transit from one node to another.
-    #[inline]
+    #[inline(always)]
     fn transit(&self, from: u32, to: u32) -> i64
         requires guide { IsGuide self.now }
         requires from { from < self.now.model.now.nodes }

@@ -14,7 +14,7 @@ ghost use Rattle.vr_judge.specs.Standing.{StandsCosts};
 use std::alloc::Global;
 use std::marker::Model;
 use vr_costfilter::{ArcCost, CostPart, FixedCost, GlobalSpan, GroupCost, PlanCost};
-use vr_earliest::Earliest;
+use vr_earliest::{Earlies, Earliest};
 use vr_model::{Model as RoutingModel, Move, NoMemory};
 use vr_routes::{Change, Routes};
 
@@ -29,6 +29,8 @@ pub(crate) struct Costs<'m> {
     spans: GlobalSpan<'m>,
     // how early vehicles can end lists, for what plans and spans add at least
     earliest: Earliest<'m>,
+    // room for that of the lists after a change
+    earlies: Earlies,
 }
 
 impl<'m> Model for Costs<'m> {
@@ -68,6 +70,7 @@ impl<'m> Costs<'m> {
             plans: PlanCost::open(alloc, model, routes)?,
             spans: GlobalSpan::open(alloc, model, routes)?,
             earliest: Earliest::open(alloc, model, routes)?,
+            earlies: Earlies::new(),
         })
     }
 
@@ -105,8 +108,9 @@ impl<'m> Costs<'m> {
         let arcs = self.arcs.added_by_move(routes, mv, change);
         let fixed = self.fixed.added(routes, change);
         let groups = self.groups.least(routes, change);
-        let plans = self.plans.least(&self.earliest, routes, change);
-        let spans = self.spans.least(&self.earliest, routes, change);
+        self.earliest.write_after(routes, change, &mut self.earlies);
+        let plans = self.plans.least(&self.earlies, routes, change);
+        let spans = self.spans.least(&self.earlies, routes, change);
         arcs + fixed + groups + plans + spans
     }
 

@@ -4,15 +4,16 @@ use Rattle.std.specs.Prelude.{ℤ, ◌*ℤ◌}
 use Rattle.vr_model.specs.tables.Numbers.{number_at}
 use Rattle.vr_model.specs.tables.Tables.{dimension_at}
 use Rattle.vr_model.proofs.tables.Totals.{total_by-more}
-use Rattle.vr_routes.specs.Pieces.{joined}
+use Rattle.vr_routes.specs.Pieces.{joined, part_at}
 use Rattle.vr_earliest.specs.Ways.{least_span}
 use Rattle.vr_costfilter.proofs.schedules.least_of_spans.Goals as goal
 
 pub loop-d-preserved : goal.loop-d-preserved
 loop-d-preserved c =
     let model = c.args.model.now in
-    let v = c.args.v in
-    let list : List ℕ = joined c.args.routes.now.lists c.args.pieces.now in
+    let part = part_at c.args.change.now c.args.k in
+    let v = part.vehicle in
+    let list : List ℕ = joined c.args.routes.now.lists part.pieces in
     let f : ℕ → ℤ = λ d. number_at (dimension_at model d).span_costs v *ℤ least_span model d v list in
     let next = total_by-more f c.loop-d.d in
     let i = c.loop-d.invariant in

@@ -3,6 +3,7 @@ use Rattle.std.proofs.lemmas.Int.{ints}
 use Rattle.vr_model.specs.declared.records.Model.{Model}
 use Rattle.vr_timings.specs.declared.timings.Timing.{Timing}
 use Rattle.vr_routes.specs.Pieces.{changed}
+use Rattle.vr_earliest.specs.Earlies.{AreEarlies}
 use Rattle.vr_costfilter.specs.GlobalCosts.{NonePays}
 use Rattle.vr_costfilter.specs.Spreads.{global_least, AreRowsBefore}
 use Rattle.vr_costfilter.proofs.GlobalLemmas.{none-costs}
@@ -17,6 +18,10 @@ returns-then-is_idle-clause-least c valid =
     let a = none-costs model none lists in
     let b = none-costs model none (changed lists c.args.change.now) in
     omega (arith, ints, a, b)
+
+pub least-requires-clause-earlies : goal.least-requires-clause-earlies
+least-requires-clause-earlies c =
+    subst (λ (m : Model). AreEarlies m c.args.routes.now.lists c.args.change.now c.args.earlies.now) (sym (ap (λ s. s.model) c.self.view_is)) c.requires.earlies
 
 pub least-requires-clause-before : goal.least-requires-clause-before
 least-requires-clause-before c =

@@ -1,25 +1,28 @@
 use Rattle.std.proofs.Common.{◌∙◌, ◌<◌, ℕ, List, length, ap, sym, subst, arith}
 use Rattle.std.proofs.lemmas.Int.{ints}
 use Rattle.std.proofs.lemmas.List.{get_or_default, take_all}
-use Rattle.std.specs.Prelude.{pos, All, ◌-ℤ◌, ◌≤ℤ◌}
+use Rattle.std.specs.Prelude.{pos, ◌-ℤ◌, ◌≤ℤ◌}
 use Rattle.vr_model.specs.tables.Numbers.{number_at, total_by}
 use Rattle.vr_model.specs.routes.Routes.{route}
 use Rattle.vr_model.specs.declared.records.Model.{Model}
 use Rattle.vr_routes.specs.Pieces.{changed, joined, no_part, part_at}
+use Rattle.vr_earliest.specs.Earlies.{AreEarlies}
 use Rattle.vr_costfilter.specs.PlanCosts.{plans_cost, soft_and_span, spans_least, IsIdle, IsPlanCost}
 use Rattle.vr_costfilter.specs.Sums.{part_less}
 use Rattle.vr_costfilter.proofs.LeastLemmas.{change-idle, change-least, least-idle, less-more}
-use Rattle.vr_costfilter.proofs.PartLemmas.{below-after}
 use Rattle.vr_costfilter.proofs.plans.PlanCost.least.Goals as goal
 
-pub least-requires-clause-nodes : goal.least-requires-clause-nodes
-least-requires-clause-nodes c =
-    let lists : List (List ℕ) = c.args.routes.now.lists in
+pub least-requires-clause-earlies : goal.least-requires-clause-earlies
+least-requires-clause-earlies c =
+    subst (λ (m : Model). AreEarlies m c.args.routes.now.lists c.args.change.now c.args.earlies.now) (sym (ap (λ s. s.model) c.self.view_is)) c.requires.earlies
+
+pub least-requires-clause-vehicle : goal.least-requires-clause-vehicle
+least-requires-clause-vehicle c =
     let h = c.requires.stands in
     let low = subst (λ n. c.loop-k.k < n) c.parts-k-end.ensures.value c.loop-k-test.true in
-    let nodes = below-after c.args.self.now.model c.args.routes.now h.of_model h.valid c.args.change.now c.requires.made c.loop-k.k low in
-    subst (λ (m : Model). All (λ node. node < m.nodes) (joined lists c.pieces.result.now)) (sym (ap (λ s. s.model) c.self.view_is))
-    (subst (λ l. All (λ node. node < c.args.self.now.model.nodes) (joined lists l)) (sym c.pieces.ensures.value) nodes)
+    let v = (part_at c.args.change.now c.loop-k.k).vehicle in
+    subst (λ (m : Model). v < length m.vehicles) (sym (ap (λ s. s.model) c.self.view_is))
+    (subst (λ n. v < n) h.as_many (c.requires.made.makes.parts_are.each_vehicle c.loop-k.k no_part low))
 
 pub overflow_sub-least : goal.overflow_sub-least
 overflow_sub-least c =
@@ -67,8 +70,7 @@ loop-k-preserved c =
     let within : v < length c.self.inside.costs.items = subst (λ n. v < n) (sym (ap length kept ∙ h.many ∙ sym h.as_many)) known in
     let is = c.index.ensures ∙ get_or_default c.self.inside.costs.items v c.index.result.now (pos 0) within ∙ ap (λ l. number_at l v) kept in
     let old = is ∙ h.costs v known ∙ ap (λ w. plans_cost model w (route lists w)) c.vehicle-v.ensures in
-    let new = c.least.ensures.value ∙ ap (λ m. spans_least m v (joined lists c.pieces.result.now)) (ap (λ s. s.model) c.self.view_is)
-    ∙ ap (λ l. spans_least model v (joined lists l)) c.pieces.ensures.value ∙ ap (λ w. spans_least model w (joined lists part.pieces)) c.vehicle-v.ensures in
+    let new = c.least.ensures.value ∙ ap (λ m. spans_least m part.vehicle (joined lists part.pieces)) (ap (λ s. s.model) c.self.view_is) in
     let b = subst IsPlanCost (sym is) (h.range v known) in
     let r = c.least.ensures.range in
     let i = c.loop-k.invariant in

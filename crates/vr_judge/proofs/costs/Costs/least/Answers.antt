@@ -1,14 +1,15 @@
-use Rattle.std.proofs.Common.{◌≡◌, ◌∙◌, arith, ℕ, List, true, ap, subst, sym}
-use Rattle.std.specs.Prelude.{◌-ℤ◌, ◌≤ℤ◌, IsTrue}
+use Rattle.std.proofs.Common.{◌≡◌, ◌∙◌, ◌<◌, arith, ℕ, List, true, ap, subst, sym}
+use Rattle.std.specs.Prelude.{◌-ℤ◌, ◌≤ℤ◌, All, IsTrue}
 use Rattle.std.proofs.lemmas.Int.{ints}
 use Rattle.vr_model.specs.routes.Costs.{arcs_part, cost, fixed_part, penalty_part}
 use Rattle.vr_model.specs.routes.Rules.{is_valid}
 use Rattle.vr_model.specs.declared.records.Model.{Model}
 use Rattle.vr_model.specs.moves.MoveTests.{is_move}
 use Rattle.vr_routes.specs.Changes.{IsChange}
-use Rattle.vr_routes.specs.Pieces.{changed}
+use Rattle.vr_routes.specs.Pieces.{changed, joined, part_at}
 use Rattle.vr_costfilter.specs.GlobalCosts.{global_cost_of}
 use Rattle.vr_costfilter.specs.PlanCosts.{soft_and_span}
+use Rattle.vr_costfilter.proofs.PartLemmas.{below-after}
 use Rattle.vr_judge.proofs.SumLemmas.{AreBounded, adds_least, are_read, cost_of_parts}
 use Rattle.vr_judge.proofs.costs.Costs.least.Goals as goal
 
@@ -21,6 +22,15 @@ pub added_by_move-arcs-requires-clause-change : goal.added_by_move-arcs-requires
 added_by_move-arcs-requires-clause-change c =
     let same : c.self.inside.arcs.model ≡ c.args.self.now.model = ap (λ k. k.arcs.model) c.self.view_is ∙ c.requires.stands.arcs_model in
     subst (λ (m : Model). IsChange m c.args.routes.now.lists c.args.mv c.args.change.now) (sym same) c.requires.change
+
+pub write_after-requires-clause-nodes : goal.write_after-requires-clause-nodes
+write_after-requires-clause-nodes c k low =
+    let parts = c.args.change.now in
+    let lists : List (List ℕ) = c.args.routes.now.lists in
+    let h = c.requires.stands in
+    let same : c.args.self.now.plans.model ≡ c.self.inside.earliest.model = h.plans_model ∙ sym h.earliest_model ∙ sym (ap (λ k. k.earliest.model) c.self.view_is) in
+    subst (λ (m : Model). All (λ node. node < m.nodes) (joined lists (part_at parts k).pieces)) same
+    (below-after c.args.self.now.plans.model c.args.routes.now h.plans.of_model h.plans.valid parts c.requires.made k low)
 
 pub overflow_add-result-3 : goal.overflow_add-result-3
 overflow_add-result-3 c =

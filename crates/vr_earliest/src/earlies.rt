@@ -1,0 +1,62 @@
+//! How early the lists after a change can end, told once for all that ask.
+
+ghost use Rattle.std.specs.Prelude.{◌≡◌, ◌<◌, length, slice_set};
+ghost use Rattle.vr_earliest.specs.Earlies.{early_at};
+
+use std::marker::Model;
+
+/// What the chosen schedule of a list comes to at least.
+#[derive(Clone, Copy)]
+pub struct Early {
+    /// It ends no earlier, in `0..=2^36`.
+    pub last: i64,
+    /// Its span is no less, in `-2^36..=2^36`.
+    pub span: i64,
+}
+
+/// What the chosen schedules of the lists after a change come to at least, in each dimension where anything is paid for
+/// spans: room that is written over for each change. It takes no memory. Contracts see what is told in each dimension
+/// of each list.
+#[derive(Drop)]
+pub struct Earlies {
+    // of each dimension, of each part of a change
+    rows: [[Early; 2]; 4],
+}
+
+impl Model for Earlies {
+    ghost use Rattle.std.specs.Prelude.{List};
+    ghost use Rattle.vr_earliest.specs.declared.earlies.Early.{Early as EarlyOf};
+
+    ghost Value = { List (List EarlyOf) };
+
+    ghost view = { λ earlies. earlies.rows };
+}
+
+impl Earlies {
+    /// Room for any change of any model.
+    pub fn new() -> Earlies {
+        Earlies {
+            rows: [[Early { last: 0, span: 0 }; 2]; 4],
+        }
+    }
+
+    /// What is told in dimension `d` of the list that part `k` of the change gives its vehicle.
+    #[inline]
+    pub fn at(&self, d: u32, k: usize) -> Early
+        requires dimension { d < 4 }
+        requires part { k < 2 }
+        ensures { result ≡ early_at self.now d k }
+    {
+        self.rows[d as usize][k]
+    }
+
+    // Writes what is told in dimension `d` of each list.
+    #[inline]
+    pub fn set(&mut self, d: usize, row: [Early; 2])
+        requires dimension { d < 4 }
+        ensures row { self.new ≡ slice_set self.old d row }
+        ensures many { length self.new ≡ 4 }
+    {
+        self.rows[d] = row;
+    }
+}
