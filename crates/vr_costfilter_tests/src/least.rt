@@ -13,7 +13,7 @@ use crate::tests::valid_routes;
 use std::alloc::Global;
 use std::test::Fail;
 use vr_costfilter::{GlobalSpan, PlanCost};
-use vr_earliest::Earliest;
+use vr_earliest::{Earlies, Earliest};
 use vr_model::{Model, Move, NoMemory};
 use vr_routes::{Change, Routes};
 use vr_rules::valid;
@@ -52,8 +52,10 @@ fn adds(
     requires same_model { earliest.now.model ≡ model.now }
     requires earliest { StandsEarliest earliest.now routes.now.lists }
 {
-    let plans = PlanCost::open(alloc, model, routes)?.least(earliest, routes, change);
-    let spans = GlobalSpan::open(alloc, model, routes)?.least(earliest, routes, change);
+    let mut earlies = Earlies::new();
+    earliest.write_after(routes, change, &mut earlies);
+    let plans = PlanCost::open(alloc, model, routes)?.least(&earlies, routes, change);
+    let spans = GlobalSpan::open(alloc, model, routes)?.least(&earlies, routes, change);
     Ok(Least { plans, spans })
 }
 
