@@ -23,7 +23,7 @@ use Rattle.vr_routes.specs.Changes.{AreParts}
 use Rattle.vr_routes.specs.Tours.{Tours}
 use Rattle.vr_routes.proofs.CommitLemmas.{as_many_lists}
 use Rattle.vr_costfilter.specs.GlobalCosts.{global_cost_of, row_with, vehicles_of, AreKept, AreLike, AreNext, AreOf, IsGlobalCost, IsReach, IsTimed, KeptSpans, NonePays, StandsSpans}
-use Rattle.vr_costfilter.proofs.SumLemmas.{route-kept}
+use Rattle.vr_parts.proofs.SumLemmas.{route-kept}
 
 -- ---- one list more
 

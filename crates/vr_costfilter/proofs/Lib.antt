@@ -1,11 +1,3 @@
-pub mod ChainLemmas
-pub mod PieceLemmas
-pub mod PathLemmas
-pub mod LineLemmas
-pub mod SumLemmas
-pub mod MoveLemmas
-pub mod PartLemmas
-pub mod RowLemmas
 pub mod FixedLemmas
 pub mod GroupLemmas
 pub mod PlanLemmas

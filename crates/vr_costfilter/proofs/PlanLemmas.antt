@@ -14,7 +14,7 @@ use Rattle.vr_timings.specs.Paying.{PaysNothing}
 use Rattle.vr_timings.specs.Timings.{plan_of, soft_of, soft_with, span_with, start_with, last_with}
 use Rattle.vr_timings.proofs.ExtentLemmas.{times-none}
 use Rattle.vr_timings.proofs.PlanLemmas.{plan-at}
-use Rattle.vr_costfilter.specs.Sums.{over_routes}
+use Rattle.vr_parts.specs.Sums.{over_routes}
 use Rattle.vr_earliest.specs.Ways.{least_span}
 use Rattle.vr_costfilter.specs.PlanCosts.{plans_cost, spans_least, IsIdle, IsPlanCost}
 

@@ -35,9 +35,9 @@ use Rattle.vr_costfilter.specs.GlobalCosts.{global_cost_of, KeptSpans, NonePays,
 use Rattle.vr_costfilter.specs.Spreads.{first_start, gives, global_least, global_least_in, last_end, no_spread, spread_after, spread_of_kept, with_changed, with_chosen, with_kept}
 use Rattle.vr_costfilter.specs.Spreads.{AreRowsBefore, IsSpread, IsSpreadInRange}
 use Rattle.vr_costfilter.specs.declared.spreads.Spread.{Spread}
-use Rattle.vr_costfilter.proofs.PartLemmas.{below-after}
+use Rattle.vr_parts.proofs.PartLemmas.{below-after}
 use Rattle.vr_costfilter.proofs.LeastLemmas.{no-earlier, times-le}
-use Rattle.vr_costfilter.proofs.SumLemmas.{part-list, route-kept}
+use Rattle.vr_parts.proofs.SumLemmas.{part-list, route-kept}
 
 -- ---- the greatest and the least of the numbers of some vehicles
 

@@ -1,8 +1,3 @@
-pub mod Parts
-pub mod Chains
-pub mod Along
-pub mod ArcMoves
-pub mod Sums
 pub mod Bounds
 pub mod Fixed
 pub mod Groups

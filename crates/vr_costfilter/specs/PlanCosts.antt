@@ -14,7 +14,7 @@ use Rattle.vr_earliest.specs.Ways.{least_span}
 use Rattle.vr_routes.specs.Tours.{Tours}
 use Rattle.vr_routes.specs.Pieces.{ListAfter, part_at, joined}
 use Rattle.vr_costfilter.specs.Bounds.{IsFrom}
-use Rattle.vr_costfilter.specs.Sums.{part_less}
+use Rattle.vr_parts.specs.Sums.{part_less}
 
 -- what the list of vehicle v costs by soft upper bounds and spans, in all dimensions
 abbrev pub plans_cost : Model → ℕ → List ℕ → ℤ

@@ -9,15 +9,15 @@ ghost use Rattle.vr_model.specs.routes.Rules.{is_valid};
 ghost use Rattle.vr_model.specs.tables.WellFormed.{IsWellFormed};
 ghost use Rattle.vr_routes.specs.Pieces.{changed, joined, nodes_of, IsWithin};
 ghost use Rattle.vr_routes.specs.Changes.{IsMadeOn};
-ghost use Rattle.vr_costfilter.specs.Parts.{NothingReady};
+ghost use Rattle.vr_parts.specs.Parts.{NothingReady};
 ghost use Rattle.vr_costfilter.specs.Fixed.{fixed_with, StandsFixed};
-ghost use Rattle.vr_timings.specs.Bounds.{IsAround};
+ghost use Rattle.vr_parts.specs.Bounds.{IsAddedByChange};
 ghost use Rattle.vr_sums.specs.Sums.{IsUpTo};
 
 use crate::CostPart;
-use crate::lists::{ListCost, added_by};
 use std::marker::Model;
 use vr_model::{Model as RoutingModel, NoMemory};
+use vr_parts::{ListCost, added_by};
 use vr_routes::{Change, Piece, Routes};
 
 /// The fixed costs of used vehicles (`SetFixedCostOfVehicle` in OR-Tools).
@@ -83,7 +83,7 @@ impl<'m> FixedCost<'m> {
         requires made { IsMadeOn routes.now change.now }
         ensures exact { result ≡ fixed_part self.now.model (changed routes.now.lists change.now)
             -ℤ fixed_part self.now.model routes.now.lists }
-        ensures range { IsAround 21990232555520000 result }
+        ensures range { IsAddedByChange result }
     {
         if !self.pays {
             return 0;
@@ -127,7 +127,7 @@ impl<'m> CostPart for FixedCost<'m> {
         ensures stands { StandsFixed self.new routes.now }
         ensures model { self.new.model ≡ self.old.model }
         ensures memory { IsOk result }
-        ensures range { IfOk result (IsAround 21990232555520000) }
+        ensures range { IfOk result IsAddedByChange }
     {
         let added = self.added(routes, change);
         Ok(added)

@@ -11,7 +11,7 @@ ghost use Rattle.vr_timings.specs.Bounds.{cumul_cost, IsAround};
 ghost use Rattle.vr_earliest.specs.Earlies.{AreEarlies};
 ghost use Rattle.vr_costfilter.specs.GlobalCosts.{global_cost_of, AreKept, AreLike, AreNext};
 ghost use Rattle.vr_costfilter.specs.GlobalCosts.{AreSpansReady, IsGlobalCost, StandsSpans};
-ghost use Rattle.vr_costfilter.specs.Parts.{NothingReady};
+ghost use Rattle.vr_parts.specs.Parts.{NothingReady};
 ghost use Rattle.vr_costfilter.specs.Spreads.{global_least};
 
 use crate::CostPart;

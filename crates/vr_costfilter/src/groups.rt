@@ -10,8 +10,8 @@ ghost use Rattle.vr_model.specs.routes.Costs.{penalty_for, penalty_part};
 ghost use Rattle.vr_model.specs.routes.Rules.{active_in as active_in_of, fits_group, is_valid};
 ghost use Rattle.vr_routes.specs.Changes.{IsMadeOn};
 ghost use Rattle.vr_routes.specs.Pieces.{changed, nodes_of, IsWithin};
-ghost use Rattle.vr_timings.specs.Bounds.{IsAround};
-ghost use Rattle.vr_costfilter.specs.Parts.{NothingReady};
+ghost use Rattle.vr_parts.specs.Bounds.{IsAddedByChange};
+ghost use Rattle.vr_parts.specs.Parts.{NothingReady};
 ghost use Rattle.vr_sums.specs.Sums.{IsUpTo};
 ghost use Rattle.vr_costfilter.specs.Groups.{pay, saved_by, saved_in as saved_in_of, AreSaved, AreFew, StandsGroups};
 
@@ -237,7 +237,7 @@ impl<'m> GroupCost<'m> {
         requires made { IsMadeOn routes.now change.now }
         ensures exact { result ≡ penalty_part self.old.model (changed routes.now.lists change.now)
             -ℤ penalty_part self.old.model routes.now.lists }
-        ensures range { IsAround 21990232555520000 result }
+        ensures range { IsAddedByChange result }
         ensures stays { self.new ≡ self.old }
     {
         if !self.pays {
@@ -262,7 +262,7 @@ impl<'m> GroupCost<'m> {
         ensures some { self.old.total ≢ pos 0
             → result ≡ penalty_part self.old.model (changed routes.now.lists change.now)
             -ℤ penalty_part self.old.model routes.now.lists }
-        ensures range { IsAround 21990232555520000 result }
+        ensures range { IsAddedByChange result }
         ensures stays { self.new ≡ self.old }
     {
         if self.total == 0 {
@@ -294,7 +294,7 @@ impl<'m> CostPart for GroupCost<'m> {
         ensures stands { StandsGroups self.new routes.now }
         ensures model { self.new.model ≡ self.old.model }
         ensures memory { IsOk result }
-        ensures range { IfOk result (IsAround 21990232555520000) }
+        ensures range { IfOk result IsAddedByChange }
     {
         let added = self.added(routes, change);
         Ok(added)

@@ -2,24 +2,17 @@
 //! penalties of groups, soft upper bounds and spans, and global spans.
 #![tactic(auto)]
 
-mod arcs;
-mod costs;
 mod fixed;
 mod globals;
 mod groups;
-mod lines;
-mod lists;
-mod moves;
-mod part;
 mod plans;
 mod reaches;
 mod schedules;
 mod spreads;
-mod walks;
 
-pub use arcs::ArcCost;
 pub use fixed::FixedCost;
 pub use globals::GlobalSpan;
 pub use groups::GroupCost;
-pub use part::CostPart;
 pub use plans::PlanCost;
+pub use vr_arccosts::ArcCost;
+pub use vr_parts::CostPart;

@@ -8,7 +8,7 @@ ghost use Rattle.vr_routes.specs.Pieces.{changed, part_at};
 ghost use Rattle.vr_routes.specs.Changes.{IsMadeOn};
 ghost use Rattle.vr_timings.specs.Bounds.{IsAround};
 ghost use Rattle.vr_earliest.specs.Earlies.{AreEarlies};
-ghost use Rattle.vr_costfilter.specs.Parts.{NothingReady};
+ghost use Rattle.vr_parts.specs.Parts.{NothingReady};
 ghost use Rattle.vr_costfilter.specs.PlanCosts.{cost_after, soft_and_span, AreNextCosts, ArePlansReady, IsPlanCost};
 ghost use Rattle.vr_costfilter.specs.PlanCosts.{plans_least, StandsPlans};
 

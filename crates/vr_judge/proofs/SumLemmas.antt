@@ -5,6 +5,7 @@ use Rattle.std.proofs.lemmas.Int.{ints}
 use Rattle.vr_model.specs.routes.Costs.{arcs_part, assigned, cost, fixed_part, global_part, penalty_part, soft_part, span_part}
 use Rattle.vr_model.specs.declared.records.Model.{Model}
 use Rattle.vr_timings.specs.Bounds.{IsAround, cumul_cost}
+use Rattle.vr_parts.specs.Bounds.{IsAddedByChange}
 use Rattle.vr_costfilter.specs.GlobalCosts.{global_cost_of}
 use Rattle.vr_costfilter.specs.PlanCosts.{soft_and_span}
 
@@ -14,9 +15,9 @@ read x = to_z w64 (of_z w64 x)
 
 -- what arcs, fixed costs, groups, plans and global spans add, as far as their parts promise
 pub record AreBounded (arcs fixed groups plans spans : ℤ) : Type 0 where
-  pub arcs_are : IsAround 21990232555520000 arcs
-  pub fixed_are : IsAround 21990232555520000 fixed
-  pub groups_are : IsAround 21990232555520000 groups
+  pub arcs_are : IsAddedByChange arcs
+  pub fixed_are : IsAddedByChange fixed
+  pub groups_are : IsAddedByChange groups
   pub plans_are : IsAround 5525520000000000000 plans
   pub spans_are : IsAround (cumul_cost * 8) spans
 

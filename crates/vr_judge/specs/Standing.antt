@@ -3,7 +3,7 @@ use Rattle.std.specs.Prelude.{◌≡◌, ℕ, Bool, List}
 use Rattle.vr_model.specs.tables.Tables.{visits}
 use Rattle.vr_model.specs.declared.records.Model.{Model}
 use Rattle.vr_routes.specs.Tours.{Tours}
-use Rattle.vr_costfilter.specs.Along.{KeptAlong, StandsAlong}
+use Rattle.vr_arccosts.specs.Along.{KeptAlong, StandsAlong}
 use Rattle.vr_costfilter.specs.Fixed.{KeptFixed, StandsFixed}
 use Rattle.vr_costfilter.specs.GlobalCosts.{KeptSpans, StandsSpans}
 use Rattle.vr_costfilter.specs.Groups.{KeptGroups, StandsGroups}

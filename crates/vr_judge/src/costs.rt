@@ -8,7 +8,7 @@ ghost use Rattle.vr_model.specs.tables.Tables.{visits};
 ghost use Rattle.vr_model.specs.tables.WellFormed.{IsWellFormed};
 ghost use Rattle.vr_routes.specs.Changes.{IsChange, IsMadeOn};
 ghost use Rattle.vr_routes.specs.Pieces.{changed};
-ghost use Rattle.vr_costfilter.specs.Parts.{after};
+ghost use Rattle.vr_parts.specs.Parts.{after};
 ghost use Rattle.vr_judge.specs.Standing.{StandsCosts};
 
 use std::alloc::Global;

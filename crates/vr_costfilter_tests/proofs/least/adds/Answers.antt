@@ -2,7 +2,7 @@ use Rattle.std.proofs.Common.{◌<◌, ℕ, List, subst, sym}
 use Rattle.std.specs.Prelude.{All}
 use Rattle.vr_model.specs.declared.records.Model.{Model}
 use Rattle.vr_routes.specs.Pieces.{joined, part_at}
-use Rattle.vr_costfilter.proofs.PartLemmas.{below-after}
+use Rattle.vr_parts.proofs.PartLemmas.{below-after}
 use Rattle.vr_costfilter_tests.proofs.least.adds.Goals as goal
 
 pub write_after-requires-clause-nodes : goal.write_after-requires-clause-nodes

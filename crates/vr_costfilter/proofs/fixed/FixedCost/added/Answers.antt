@@ -3,7 +3,7 @@ use Rattle.std.proofs.lemmas.Int.{ints}
 use Rattle.vr_routes.specs.Pieces.{changed}
 use Rattle.vr_costfilter.proofs.FixedLemmas.{fixed-over, none-fixed}
 use Rattle.vr_routes.proofs.CommitLemmas.{as_many_lists}
-use Rattle.vr_costfilter.proofs.PartLemmas.{small}
+use Rattle.vr_parts.proofs.PartLemmas.{small}
 use Rattle.vr_costfilter.proofs.fixed.FixedCost.added.Goals as goal
 
 pub returns-clause-exact : goal.returns-clause-exact

@@ -9,8 +9,8 @@ use Rattle.vr_timings.specs.declared.timings.Timing.{Timing}
 use Rattle.vr_timings.proofs.BoundLemmas.{read-around}
 use Rattle.vr_costfilter.specs.GlobalCosts.{global_cost_of, AreKept, AreOf, IsGlobalCost, KeptSpans, StandsSpans}
 use Rattle.vr_costfilter.proofs.GlobalLemmas.{of-same, rows-of}
-use Rattle.vr_costfilter.proofs.RowLemmas.{rows-push}
-use Rattle.vr_costfilter.proofs.PartLemmas.{small}
+use Rattle.vr_parts.proofs.RowLemmas.{rows-push}
+use Rattle.vr_parts.proofs.PartLemmas.{small}
 use Rattle.vr_costfilter.proofs.globals.GlobalSpan.open.Goals as goal
 
 pub row-requires-clause-vehicle : goal.row-requires-clause-vehicle

@@ -7,7 +7,7 @@ use Rattle.vr_model.specs.declared.records.Model.{Model}
 use Rattle.vr_timings.specs.declared.timings.Timing.{Timing}
 use Rattle.vr_routes.specs.Pieces.{joined, part_at}
 use Rattle.vr_costfilter.specs.GlobalCosts.{AreKept}
-use Rattle.vr_costfilter.proofs.PartLemmas.{is-part, known-vehicle}
+use Rattle.vr_parts.proofs.PartLemmas.{is-part, known-vehicle}
 use Rattle.vr_costfilter.proofs.GlobalLemmas.{none-kept}
 use Rattle.vr_costfilter.proofs.globals.GlobalSpan.row_after.Goals as goal
 

@@ -5,7 +5,7 @@ use Rattle.vr_timings.specs.declared.timings.Timing.{Timing}
 use Rattle.vr_routes.specs.Pieces.{joined, part_at}
 use Rattle.vr_costfilter.specs.GlobalCosts.{vehicles_of, AreKept}
 use Rattle.vr_costfilter.proofs.GlobalLemmas.{vehicles-more}
-use Rattle.vr_costfilter.proofs.RowLemmas.{rows-push}
+use Rattle.vr_parts.proofs.RowLemmas.{rows-push}
 use Rattle.vr_costfilter.proofs.globals.GlobalSpan.write_next.Goals as goal
 
 pub loop-k-preserved : goal.loop-k-preserved

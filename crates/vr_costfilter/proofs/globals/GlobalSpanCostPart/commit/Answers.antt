@@ -13,8 +13,8 @@ use Rattle.vr_timings.proofs.BoundLemmas.{read-around}
 use Rattle.vr_routes.specs.Pieces.{changed, joined, no_part, part_at, with_parts}
 use Rattle.vr_routes.proofs.CommitLemmas.{as_many_lists}
 use Rattle.vr_costfilter.specs.GlobalCosts.{global_cost_of, AreKept, IsGlobalCost}
-use Rattle.vr_costfilter.proofs.RowLemmas.{rows-set}
-use Rattle.vr_costfilter.proofs.SumLemmas.{upto, upto-next}
+use Rattle.vr_parts.proofs.RowLemmas.{rows-set}
+use Rattle.vr_parts.proofs.SumLemmas.{upto, upto-next}
 use Rattle.vr_costfilter.proofs.globals.GlobalSpanCostPart.commit.Goals as goal
 
 pub loop-k-preserved : goal.loop-k-preserved

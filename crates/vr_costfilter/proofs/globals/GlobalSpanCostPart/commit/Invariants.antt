@@ -2,7 +2,7 @@ use Rattle.std.proofs.Common.{◌≡◌, ◌<◌, ℕ, [], length}
 use Rattle.std.specs.Prelude.{slice_index_or}
 use Rattle.vr_model.specs.routes.Routes.{route}
 use Rattle.vr_costfilter.specs.GlobalCosts.{AreKept}
-use Rattle.vr_costfilter.proofs.SumLemmas.{upto}
+use Rattle.vr_parts.proofs.SumLemmas.{upto}
 use Rattle.vr_costfilter.proofs.globals.GlobalSpanCostPart.commit.Given as goal
 
 -- the rows are those of the lists after the parts so far

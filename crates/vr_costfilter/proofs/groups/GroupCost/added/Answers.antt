@@ -3,7 +3,7 @@ use Rattle.std.proofs.lemmas.Int.{ints}
 use Rattle.vr_routes.specs.Pieces.{changed}
 use Rattle.vr_costfilter.specs.Groups.{StandsGroups, saved_in}
 use Rattle.vr_costfilter.proofs.GroupLemmas.{are-few, penalties-stay, penalties-change}
-use Rattle.vr_costfilter.proofs.PartLemmas.{once-valid, once-after}
+use Rattle.vr_parts.proofs.PartLemmas.{once-valid, once-after}
 use Rattle.vr_costfilter.proofs.groups.GroupCost.added.Goals as goal
 
 pub returns-then-not-self-clause-exact : goal.returns-then-not-self-clause-exact

@@ -6,7 +6,7 @@ use Rattle.vr_model.specs.routes.Routes.{is_distinct}
 use Rattle.vr_model.specs.declared.records.Model.{Model}
 use Rattle.vr_routes.specs.Pieces.{joined, part_at}
 use Rattle.vr_costfilter.specs.PlanCosts.{plans_cost}
-use Rattle.vr_costfilter.proofs.PartLemmas.{is-part, known-vehicle}
+use Rattle.vr_parts.proofs.PartLemmas.{is-part, known-vehicle}
 use Rattle.vr_costfilter.proofs.plans.PlanCost.cost_after.Goals as goal
 
 pub returns-then-is_idle-clause-value : goal.returns-then-is_idle-clause-value

@@ -8,7 +8,7 @@ use Rattle.vr_model.specs.declared.records.Model.{Model}
 use Rattle.vr_routes.specs.Pieces.{changed, joined, no_part, part_at}
 use Rattle.vr_earliest.specs.Earlies.{AreEarlies}
 use Rattle.vr_costfilter.specs.PlanCosts.{plans_cost, soft_and_span, spans_least, IsIdle, IsPlanCost}
-use Rattle.vr_costfilter.specs.Sums.{part_less}
+use Rattle.vr_parts.specs.Sums.{part_less}
 use Rattle.vr_costfilter.proofs.LeastLemmas.{change-idle, change-least, least-idle, less-more}
 use Rattle.vr_costfilter.proofs.plans.PlanCost.least.Goals as goal
 

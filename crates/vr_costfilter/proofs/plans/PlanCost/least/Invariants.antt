@@ -1,7 +1,7 @@
 use Rattle.std.proofs.Common.{◌≡◌, ◌*◌, take}
 use Rattle.vr_model.specs.tables.Numbers.{total_by}
 use Rattle.vr_costfilter.specs.PlanCosts.{plans_cost, spans_least}
-use Rattle.vr_costfilter.specs.Sums.{part_less}
+use Rattle.vr_parts.specs.Sums.{part_less}
 use Rattle.vr_timings.specs.Bounds.{IsAround}
 use Rattle.vr_costfilter.proofs.plans.PlanCost.least.Given as goal
 

@@ -6,8 +6,8 @@ use Rattle.vr_model.specs.routes.Routes.{route, is_distinct}
 use Rattle.vr_model.specs.declared.records.Model.{Model}
 use Rattle.vr_costfilter.specs.PlanCosts.{plans_cost, IsPlanCost, KeptPlans, StandsPlans}
 use Rattle.vr_costfilter.proofs.PlanLemmas.{read-cost}
-use Rattle.vr_costfilter.proofs.RowLemmas.{rows-push}
-use Rattle.vr_costfilter.proofs.PartLemmas.{small}
+use Rattle.vr_parts.proofs.RowLemmas.{rows-push}
+use Rattle.vr_parts.proofs.PartLemmas.{small}
 use Rattle.vr_costfilter.proofs.plans.PlanCost.open.Goals as goal
 
 pub cost-requires-clause-vehicle : goal.cost-requires-clause-vehicle

@@ -4,7 +4,7 @@ use Rattle.vr_model.specs.tables.Numbers.{number_at}
 use Rattle.vr_routes.specs.Pieces.{part_at}
 use Rattle.vr_costfilter.specs.PlanCosts.{cost_after, IsPlanCost}
 use Rattle.vr_costfilter.proofs.PlanLemmas.{read-cost}
-use Rattle.vr_costfilter.proofs.RowLemmas.{rows-push}
+use Rattle.vr_parts.proofs.RowLemmas.{rows-push}
 use Rattle.vr_costfilter.proofs.plans.PlanCost.write_next.Goals as goal
 
 pub loop-k-preserved : goal.loop-k-preserved

@@ -6,8 +6,8 @@ use Rattle.vr_model.specs.moves.Moves.{with_route}
 use Rattle.vr_routes.specs.Pieces.{joined, no_part, part_at}
 use Rattle.vr_costfilter.specs.PlanCosts.{plans_cost, IsPlanCost}
 use Rattle.vr_costfilter.proofs.PlanLemmas.{read-cost}
-use Rattle.vr_costfilter.proofs.RowLemmas.{rows-set}
-use Rattle.vr_costfilter.proofs.SumLemmas.{upto, upto-next}
+use Rattle.vr_parts.proofs.RowLemmas.{rows-set}
+use Rattle.vr_parts.proofs.SumLemmas.{upto, upto-next}
 use Rattle.vr_costfilter.proofs.plans.PlanCostCostPart.commit.Goals as goal
 
 pub loop-k-preserved : goal.loop-k-preserved

@@ -2,7 +2,7 @@ use Rattle.std.proofs.Common.{◌≡◌, ◌<◌, ℕ, length}
 use Rattle.vr_model.specs.tables.Numbers.{number_at}
 use Rattle.vr_model.specs.routes.Routes.{route}
 use Rattle.vr_costfilter.specs.PlanCosts.{plans_cost, IsPlanCost}
-use Rattle.vr_costfilter.proofs.SumLemmas.{upto}
+use Rattle.vr_parts.proofs.SumLemmas.{upto}
 use Rattle.vr_costfilter.proofs.plans.PlanCostCostPart.commit.Given as goal
 
 abbrev pub invariant-loop-k : goal.invariant-loop-k

@@ -6,7 +6,7 @@ use Rattle.vr_model.specs.tables.Numbers.{number_at}
 use Rattle.vr_model.specs.routes.Routes.{route}
 use Rattle.vr_routes.specs.Pieces.{joined, no_part, part_at, changed}
 use Rattle.vr_costfilter.specs.PlanCosts.{plans_cost, IsIdle, IsPlanCost}
-use Rattle.vr_costfilter.proofs.SumLemmas.{sum-step, sum-whole}
+use Rattle.vr_parts.proofs.SumLemmas.{sum-step, sum-whole}
 use Rattle.vr_costfilter.proofs.PlanLemmas.{idle-sum, plans-over}
 use Rattle.vr_costfilter.proofs.plans.PlanCostCostPart.difference.Goals as goal
 

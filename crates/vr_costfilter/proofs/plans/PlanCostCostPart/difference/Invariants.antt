@@ -1,6 +1,6 @@
 use Rattle.std.proofs.Common.{◌≡◌, ◌*◌, take}
 use Rattle.vr_model.specs.tables.Numbers.{total_by}
-use Rattle.vr_costfilter.specs.Sums.{part_change}
+use Rattle.vr_parts.specs.Sums.{part_change}
 use Rattle.vr_costfilter.specs.PlanCosts.{plans_cost}
 use Rattle.vr_timings.specs.Bounds.{IsAround}
 use Rattle.vr_costfilter.proofs.plans.PlanCostCostPart.difference.Given as goal

@@ -9,7 +9,7 @@ use Rattle.vr_routes.specs.Changes.{IsChange}
 use Rattle.vr_routes.specs.Pieces.{changed, joined, part_at}
 use Rattle.vr_costfilter.specs.GlobalCosts.{global_cost_of}
 use Rattle.vr_costfilter.specs.PlanCosts.{soft_and_span}
-use Rattle.vr_costfilter.proofs.PartLemmas.{below-after}
+use Rattle.vr_parts.proofs.PartLemmas.{below-after}
 use Rattle.vr_judge.proofs.SumLemmas.{AreBounded, adds_least, are_read, cost_of_parts}
 use Rattle.vr_judge.proofs.costs.Costs.least.Goals as goal
 

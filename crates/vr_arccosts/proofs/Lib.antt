@@ -1,0 +1,5 @@
+pub mod ChainLemmas
+pub mod PieceLemmas
+pub mod PathLemmas
+pub mod LineLemmas
+pub mod MoveLemmas

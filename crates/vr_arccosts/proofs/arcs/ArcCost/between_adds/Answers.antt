@@ -1,0 +1,44 @@
+use Rattle.std.proofs.Common.{◌≡◌, ◌∙◌, ◌<◌, ℕ, List, ap, sym, subst, arith}
+use Rattle.std.proofs.lemmas.Int.{ints}
+use Rattle.std.specs.Prelude.{slice_range, All}
+use Rattle.vr_model.specs.routes.Routes.{route}
+use Rattle.vr_routes.specs.Pieces.{joined}
+use Rattle.vr_arccosts.specs.Along.{between_cost, StandsAlong}
+use Rattle.vr_arccosts.proofs.LineLemmas.{along-at}
+use Rattle.vr_parts.proofs.PartLemmas.{small}
+use Rattle.vr_arccosts.proofs.PathLemmas.{cost-between}
+use Rattle.vr_arccosts.proofs.arcs.ArcCost.between_adds.Goals as goal
+
+pub stop_before-requires-clause-nodes : goal.stop_before-requires-clause-nodes
+stop_before-requires-clause-nodes c =
+    let s = subst (λ k. StandsAlong k c.args.routes.now) (sym c.self.view_is) c.requires.stands in
+    (small c.self.inside.model.now s.well_formed c.args.routes.now.lists s.valid).below c.args.v
+
+pub stop_at-requires-clause-nodes : goal.stop_at-requires-clause-nodes
+stop_at-requires-clause-nodes c =
+    let s = subst (λ k. StandsAlong k c.args.routes.now) (sym c.self.view_is) c.requires.stands in
+    (small c.self.inside.model.now s.well_formed c.args.routes.now.lists s.valid).below c.args.v
+
+pub cost_between-after-requires-clause-nodes : goal.cost_between-after-requires-clause-nodes
+cost_between-after-requires-clause-nodes c =
+    subst (λ m. All (λ node. node < m.nodes) (joined c.args.routes.now.lists c.args.pieces.now)) (ap (λ s. s.model) (sym c.self.view_is)) c.requires.nodes
+
+pub returns-clause-value : goal.returns-clause-value
+returns-clause-value c =
+    let s = subst (λ k. StandsAlong k c.args.routes.now) (sym c.self.view_is) c.requires.stands in
+    let model : c.self.inside.model.now ≡ c.args.self.now.model = ap (λ s. s.model) c.self.view_is in
+    let lists : List (List ℕ) = c.args.routes.now.lists in
+    let v = c.args.v in
+    let front = c.args.front in
+    let behind = c.args.behind in
+    let list : List ℕ = route lists v in
+    let middle : List ℕ = joined lists c.args.pieces.now in
+    let many = s.many in
+    let as_many = s.as_many in
+    let kept = along-at c.self.inside.model.now lists c.self.inside.along.items v c.index.result.now s.along (omega (arith, many, as_many)) c.requires.vehicle c.index.ensures in
+    let a = c.cost_between-after.ensures in
+    let b = c.stretch-before.ensures in
+    let after = a.value ∙ ap (λ m. between_cost m v list front behind middle) model in
+    let before = b.value c.self.inside.model.now v list kept ∙ ap (λ m. between_cost m v list front behind (slice_range list front behind)) model in
+    let change = cost-between c.args.self.now.model v list middle front behind c.requires.order c.requires.place in
+    omega (arith, ints, a.range.low, a.range.high, b.range.at_least, b.range.at_most, after, before, change)

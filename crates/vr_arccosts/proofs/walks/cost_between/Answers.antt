@@ -1,0 +1,33 @@
+use Rattle.std.proofs.Common.{◌≡◌, ◌∙◌, ℕ, List, cond, take, drop, ap, sym, arith}
+use Rattle.std.proofs.lemmas.Int.{ints}
+use Rattle.std.specs.Prelude.{pos, ◌+ℤ◌}
+use Rattle.vr_model.specs.tables.Tables.{arc_cost, vehicle_at}
+use Rattle.vr_model.specs.routes.Routes.{route}
+use Rattle.vr_routes.specs.Pieces.{joined}
+use Rattle.vr_sums.specs.Sums.{last_of, path_sum}
+use Rattle.vr_arccosts.specs.Chains.{first_of}
+use Rattle.vr_arccosts.proofs.walks.cost_between.Goals as goal
+
+pub returns-then-is_left_empty-clause-value : goal.returns-then-is_left_empty-clause-value
+returns-then-is_left_empty-clause-value c =
+    let list : List ℕ = route c.args.routes.now.lists c.args.costs.now.vehicle in
+    let nodes : List ℕ = joined c.args.routes.now.lists c.args.pieces.now in
+    let from = last_of (vehicle_at c.args.costs.now.model.now c.args.costs.now.vehicle).start (take c.args.gap.front list) in
+    let to = first_of (drop c.args.gap.behind list) (vehicle_at c.args.costs.now.model.now c.args.costs.now.vehicle).end in
+    let cost = arc_cost c.args.costs.now.model.now c.args.costs.now.vehicle in
+    sym (ap (λ b. cond b (pos 0) (path_sum cost from nodes +ℤ cost (last_of from nodes) to)) (sym c.is_left_empty.ensures ∙ c.if-is_left_empty.true))
+
+pub returns-clause-value : goal.returns-clause-value
+returns-clause-value c =
+    let list : List ℕ = route c.args.routes.now.lists c.args.costs.now.vehicle in
+    let nodes : List ℕ = joined c.args.routes.now.lists c.args.pieces.now in
+    let from = last_of (vehicle_at c.args.costs.now.model.now c.args.costs.now.vehicle).start (take c.args.gap.front list) in
+    let to = first_of (drop c.args.gap.behind list) (vehicle_at c.args.costs.now.model.now c.args.costs.now.vehicle).end in
+    let cost = arc_cost c.args.costs.now.model.now c.args.costs.now.vehicle in
+    let whole = ap (λ b. cond b (pos 0) (path_sum cost from nodes +ℤ cost (last_of from nodes) to)) (sym c.is_left_empty.ensures ∙ c.if-is_left_empty.false) in
+    let p = c.path_along-path.ensures in
+    let at : last_of c.args.gap.from nodes ≡ last_of from nodes = ap (λ x. last_of x nodes) c.requires.from in
+    let along : path_sum cost c.args.gap.from nodes ≡ path_sum cost from nodes = ap (λ x. path_sum cost x nodes) c.requires.from in
+    let arc : cost c.path_along-path.result.at c.args.gap.to ≡ cost (last_of from nodes) to = ap (λ x. cost x c.args.gap.to) (p.at ∙ at) ∙ ap (cost (last_of from nodes)) c.requires.to in
+    let a = c.cost.ensures in
+    omega (arith, ints, p.cost, p.range.low, p.range.high, a.value, a.not_negative, a.bound, along, arc, whole)

@@ -1,0 +1,37 @@
+use Rattle.std.proofs.Common.{◌≡◌, ◌∙◌, ◌++◌, ℕ, List, drop, length, take, ap, sym, arith}
+use Rattle.std.specs.Prelude.{◌==◌}
+use Rattle.vr_model.specs.routes.Routes.{route}
+use Rattle.vr_routes.specs.Pieces.{joined}
+use Rattle.vr_routes.proofs.JoinedPieces.{empty_by_length}
+use Rattle.vr_arccosts.proofs.PathLemmas.{many-apart, some-where}
+use Rattle.vr_arccosts.proofs.walks.is_left_empty.Goals as goal
+
+pub returns-then-gap-gt0 : goal.returns-then-gap-gt0
+returns-then-gap-gt0 c =
+    let list : List ℕ = route c.args.routes.now.lists c.args.v in
+    let nodes : List ℕ = joined c.args.routes.now.lists c.args.pieces.now in
+    let many = many-apart list nodes c.args.gap.front c.args.gap.behind c.requires.order c.requires.place in
+    let some = c.if-gap-gt0.true in
+    sym (some-where (take c.args.gap.front list ++ (nodes ++ drop c.args.gap.behind list)) (λ none. absurd (omega (arith, many, some, none))))
+
+pub returns-then-gap-len : goal.returns-then-gap-len
+returns-then-gap-len c =
+    let list : List ℕ = route c.args.routes.now.lists c.args.v in
+    let nodes : List ℕ = joined c.args.routes.now.lists c.args.pieces.now in
+    let many = many-apart list nodes c.args.gap.front c.args.gap.behind c.requires.order c.requires.place in
+    let some = c.if-gap-len.true in
+    let n = c.len.ensures.value in
+    sym (some-where (take c.args.gap.front list ++ (nodes ++ drop c.args.gap.behind list)) (λ none. absurd (omega (arith, many, some, n, none))))
+
+pub returns : goal.returns
+returns c =
+    let list : List ℕ = route c.args.routes.now.lists c.args.v in
+    let nodes : List ℕ = joined c.args.routes.now.lists c.args.pieces.now in
+    let whole : List ℕ = take c.args.gap.front list ++ (nodes ++ drop c.args.gap.behind list) in
+    let many = many-apart list nodes c.args.gap.front c.args.gap.behind c.requires.order c.requires.place in
+    let front = c.if-gap-gt0.false in
+    let behind = c.if-gap-len.false in
+    let n = c.len.ensures.value in
+    let e = c.nodes_in.ensures in
+    let same : c.nodes_in.result ≡ length whole = omega (arith, many, front, behind, n, e) in
+    ap (λ k. k == 0) same ∙ empty_by_length whole

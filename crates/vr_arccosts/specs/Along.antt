@@ -1,0 +1,64 @@
+-- Sums of arc costs along the lines of vehicles.
+use Rattle.std.specs.Prelude.{◌≡◌, IsTrue, ℕ, ◌<◌, true, cond, ℤ, pos, ◌+ℤ◌}
+use Rattle.std.specs.Prelude.{List, [], ◌∷◌, ◌++◌, drop, length, slice_index_or, take}
+use Rattle.vr_model.specs.tables.Tables.{arc_cost, vehicle_at, visits}
+use Rattle.vr_model.specs.routes.Rules.{is_valid}
+use Rattle.vr_model.specs.tables.WellFormed.{IsWellFormed}
+use Rattle.vr_routes.specs.Tours.{Tours}
+use Rattle.vr_model.specs.routes.Routes.{is_empty, route}
+use Rattle.vr_model.specs.declared.records.Model.{Model}
+use Rattle.vr_sums.specs.Sums.{last_of, path_sum, AreSumsTo}
+use Rattle.vr_arccosts.specs.Chains.{first_of, turned}
+use Rattle.vr_arccosts.specs.declared.lines.Along.{Along}
+
+-- what the arcs of vehicle v cost from the stop before place f of its list through nodes to the stop at place b, 0
+-- where no node is left of the list then
+abbrev pub between_cost : Model → ℕ → List ℕ → ℕ → ℕ → List ℕ → ℤ
+between_cost model v list f b nodes =
+    let from = last_of (vehicle_at model v).start (take f list) in
+    let to = first_of (drop b list) (vehicle_at model v).end in
+    cond (is_empty (take f list ++ (nodes ++ drop b list))) (pos 0)
+    (path_sum (arc_cost model v) from nodes +ℤ arc_cost model v (last_of from nodes) to)
+
+-- the sums of no line
+abbrev pub no_sums : Along
+no_sums = record { ahead = []; behind = [] }
+
+-- the nodes of the line of vehicle v with a list, behind its start
+abbrev pub line_nodes : Model → ℕ → List ℕ → List ℕ
+line_nodes model v list = list ++ (vehicle_at model v).end ∷ []
+
+-- the sums are those of the first n arcs of the line of vehicle v with a list, ahead and backwards
+pub record IsAlongTo (model : Model) (v : ℕ) (list : List ℕ) (n : ℕ) (along : Along) : Type 0 where
+  pub ahead : AreSumsTo (arc_cost model v) (vehicle_at model v).start (line_nodes model v list) n along.ahead
+  pub behind : AreSumsTo (turned true (arc_cost model v)) (vehicle_at model v).start (line_nodes model v list) n
+      along.behind
+
+-- the same of all arcs of the line
+abbrev pub IsAlong : Model → ℕ → List ℕ → Along → Type 0
+IsAlong model v list along = IsAlongTo model v list (length (line_nodes model v list)) along
+
+-- arc n of the line of vehicle v with a list goes from one node to another
+pub record IsArc (model : Model) (v : ℕ) (list : List ℕ) (n at next : ℕ) : Type 0 where
+  pub inside : n < length (line_nodes model v list)
+  pub from : at ≡ last_of (vehicle_at model v).start (take n (line_nodes model v list))
+  pub to : next ≡ slice_index_or (line_nodes model v list) n 0
+
+-- the sums of each vehicle are those of its list
+abbrev pub AreAlong : Model → List (List ℕ) → List Along → Type 0
+AreAlong model lists along = (v : ℕ) → v < length lists
+    → IsAlong model v (route lists v) (slice_index_or along v no_sums)
+
+-- what contracts see of the arc costs that are kept
+pub record KeptAlong : Type 0 where
+  pub model : Model
+  pub along : List Along
+
+-- the sums are those of these lists of the model
+pub record StandsAlong (kept : KeptAlong) (tours : Tours) : Type 0 where
+  pub well_formed : IsWellFormed kept.model
+  pub of_model : tours.visits ≡ visits kept.model
+  pub valid : IsTrue (is_valid kept.model tours.lists)
+  pub as_many : length tours.lists ≡ length kept.model.vehicles
+  pub many : length kept.along ≡ length kept.model.vehicles
+  pub along : AreAlong kept.model tours.lists kept.along

@@ -1,0 +1,181 @@
+//! The arc costs of used vehicles.
+
+ghost use Rattle.std.specs.Prelude.{◌≡◌, ◌<◌, ◌≤◌, ◌-ℤ◌, All, IsTrue, IfOk, IsOk, OnOk, OnErr, length};
+ghost use Rattle.vr_model.specs.routes.Costs.{arcs_part};
+ghost use Rattle.vr_model.specs.routes.Routes.{route, route_cost};
+ghost use Rattle.vr_model.specs.tables.Tables.{visits};
+ghost use Rattle.vr_model.specs.routes.Rules.{is_valid};
+ghost use Rattle.vr_model.specs.tables.WellFormed.{IsWellFormed};
+ghost use Rattle.vr_routes.specs.Pieces.{changed, joined, IsWithin};
+ghost use Rattle.vr_routes.specs.Changes.{IsMadeOn};
+ghost use Rattle.vr_parts.specs.Parts.{NothingReady};
+ghost use Rattle.vr_arccosts.specs.Along.{StandsAlong};
+ghost use Rattle.vr_arccosts.specs.ArcMoves.{costs_more, with_between};
+ghost use Rattle.vr_parts.specs.Bounds.{IsAddedByChange, IsAddedByList};
+
+use crate::costs::ArcCosts;
+use crate::lines::Along;
+use crate::walks::{Gap, cost_between, stop_at, stop_before};
+use std::alloc::Global;
+use std::marker::Model;
+use vr_balance::strip;
+use vr_model::{Model as RoutingModel, NoMemory};
+use vr_parts::{CostPart, ListCost, added_by};
+use vr_routes::{Change, Piece, Routes, Row};
+
+/// The arc costs of used vehicles (`SetArcCostEvaluatorOfVehicle` in OR-Tools). It takes no longer for a change of long
+/// lists than for one of short lists, where the vehicles have the same costs.
+#[derive(Drop)]
+pub struct ArcCost<'m> {
+    model: &'m RoutingModel,
+    along: Vec<Along>,
+    // room for a list that a change makes
+    row: Row,
+}
+
+impl<'m> Model for ArcCost<'m> {
+    ghost use Rattle.vr_arccosts.specs.Along.{KeptAlong};
+
+    ghost Value = { KeptAlong };
+
+    ghost view = { λ part. record { model = part.model.now; along = part.along.items } };
+}
+
+impl<'m> ArcCost<'m> {
+    /// The arc costs of the lists of routes.
+    pub fn open(
+        alloc: Global,
+        model: &'m RoutingModel,
+        routes: &Routes,
+    ) -> Result<ArcCost<'m>, NoMemory>
+        requires well_formed { IsWellFormed model.now }
+        requires of_model { routes.now.visits ≡ visits model.now }
+        requires valid { IsTrue (is_valid model.now routes.now.lists) }
+        ensures model { IfOk result (λ part. part.model ≡ model.now) }
+        ensures stands { IfOk result (λ part. StandsAlong part routes.now) }
+    {
+        let mut along = Vec::new(alloc);
+        for v in 0..routes.vehicles() {
+            let mut sums = Along::new();
+            sums.write(model, v, routes.list(v));
+            along.push(sums)?;
+        }
+        Ok(ArcCost {
+            model,
+            along,
+            row: Row::new(),
+        })
+    }
+
+    /// What a change of the committed lists adds, also where the lists after it are not valid.
+    #[inline]
+    pub fn added(&self, routes: &Routes, change: &Change) -> i64
+        requires stands { StandsAlong self.now routes.now }
+        requires made { IsMadeOn routes.now change.now }
+        ensures exact { result ≡ arcs_part self.now.model (changed routes.now.lists change.now)
+            -ℤ arcs_part self.now.model routes.now.lists }
+        ensures range { IsAddedByChange result }
+    {
+        added_by(self, routes, change)
+    }
+
+    /// What pieces add to the arc costs of a vehicle between the first `front` visits of its list and those from place
+    /// `behind` on, in the place of what stands there.
+    #[inline(always)]
+    pub(crate) fn between_adds(
+        &self,
+        routes: &Routes,
+        v: u32,
+        front: u32,
+        behind: u32,
+        pieces: &[Piece],
+    ) -> i64
+        requires stands { StandsAlong self.now routes.now }
+        requires vehicle { v < length routes.now.lists }
+        requires order { front ≤ behind }
+        requires place { behind ≤ length (route routes.now.lists v) }
+        requires within { All (IsWithin routes.now.lists) pieces.now }
+        requires few { length pieces.now ≤ 8 }
+        requires nodes { All (λ node. node < self.now.model.nodes) (joined routes.now.lists pieces.now) }
+        ensures value { result ≡ costs_more self.now.model routes.now.lists v
+            (with_between (route routes.now.lists v) front behind (joined routes.now.lists pieces.now)) }
+        ensures range { IsAddedByList result }
+    {
+        let gap = Gap {
+            front,
+            behind,
+            from: stop_before(self.model, routes, v, front),
+            to: stop_at(self.model, routes, v, behind),
+        };
+        let number = self.model.vehicles.get(v as usize).costs;
+        let costs = ArcCosts {
+            model: self.model,
+            vehicle: v,
+            entries: self.model.matrices.get(number as usize).entries.as_slice(),
+        };
+        let before = self.along[v as usize].stretch(routes.len(v), front, behind);
+        let after = cost_between(&costs, &self.along, routes, gap, pieces);
+        after - before
+    }
+}
+
+impl<'m> ListCost for ArcCost<'m> {
+    ghost of_model = { λ part. part.model };
+
+    ghost list_cost = { route_cost };
+
+    ghost keeps = { StandsAlong };
+
+    #[inline]
+    fn list_adds(&self, routes: &Routes, v: u32, pieces: &[Piece]) -> i64 {
+        let ends = strip(routes, v, pieces);
+        self.between_adds(routes, v, ends.front, ends.behind, ends.middle)
+    }
+}
+
+impl<'m> CostPart for ArcCost<'m> {
+    ghost use Rattle.std.specs.Prelude.{ℕ, List};
+
+    ghost model = { λ part. part.model };
+
+    ghost value = { arcs_part };
+
+    ghost stands_at = { StandsAlong };
+
+    ghost ready = { λ part tours parts. Unit {0} };
+
+    fn difference(&mut self, routes: &Routes, change: &Change) -> Result<i64, NoMemory>
+        requires stands { StandsAlong self.old routes.now }
+        requires made { IsMadeOn routes.now change.now }
+        requires valid { IsTrue (is_valid self.old.model (changed routes.now.lists change.now)) }
+        ensures exact { IfOk result (λ difference. difference
+            ≡ arcs_part self.old.model (changed routes.now.lists change.now)
+            -ℤ arcs_part self.old.model routes.now.lists) }
+        ensures stands { StandsAlong self.new routes.now }
+        ensures model { self.new.model ≡ self.old.model }
+        ensures range { IfOk result IsAddedByChange }
+        ensures memory { IsOk result }
+    {
+        let added = self.added(routes, change);
+        Ok(added)
+    }
+
+    fn prepare(&mut self, _routes: &Routes, _change: &Change) -> Result<(), NoMemory>
+        requires stands { StandsAlong self.old _routes.now }
+        ensures ready { OnOk result (Unit {0}) }
+        ensures unready { OnErr result (NothingReady (λ tours parts. Unit {0})) }
+        ensures stands { StandsAlong self.new _routes.now }
+        ensures model { self.new.model ≡ self.old.model }
+        ensures memory { IsOk result }
+    {
+        Ok(())
+    }
+
+    fn commit(&mut self, routes: &Routes, change: &Change) {
+        for k in 0..change.parts() {
+            let v = change.vehicle(k);
+            routes.join_into(change.pieces(k), &mut self.row);
+            self.along[v as usize].write(self.model, v, self.row.as_slice());
+        }
+    }
+}

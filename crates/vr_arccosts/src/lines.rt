@@ -1,0 +1,104 @@
+//! Sums of arc costs along the lines of vehicles.
+
+ghost use Rattle.std.specs.Prelude.{◌≡◌, ◌<◌, ◌≤◌, ◌+◌, ◌^◌, ℕ, List, pos, neg_ℤ, All, length, slice_range};
+ghost use Rattle.vr_model.specs.declared.records.Model.{Model as RoutingModel};
+ghost use Rattle.vr_model.specs.tables.Tables.{arc_cost};
+ghost use Rattle.vr_model.specs.tables.WellFormed.{IsIn, IsWellFormed};
+ghost use Rattle.vr_sums.specs.Sums.{HaveRange};
+ghost use Rattle.vr_arccosts.specs.Chains.{chain_of, chain_sum};
+ghost use Rattle.vr_arccosts.specs.Along.{between_cost, IsAlong, IsAlongTo, IsArc};
+
+use vr_model::Model;
+use vr_sums::Sums;
+
+/// The sums of arc costs along the line of a vehicle, from its start through its list to its end, and those of the same
+/// arcs backwards.
+#[derive(Drop)]
+pub struct Along {
+    pub ahead: Sums,
+    pub behind: Sums,
+}
+
+impl Along {
+    /// The sums of no line.
+    pub fn new() -> Along {
+        Along {
+            ahead: Sums::new(),
+            behind: Sums::new(),
+        }
+    }
+
+    /// Writes the sums of the line of a vehicle with a list.
+    pub fn write(&mut self, model: &Model, v: u32, list: &[u32])
+        requires well_formed { IsWellFormed model.now }
+        requires vehicle { v < length model.now.vehicles }
+        requires nodes { All (λ node. node < model.now.nodes) list.now }
+        requires few { length list.now ≤ 1000 }
+        ensures { IsAlong model.now v list.now self.new }
+    {
+        let vehicle = model.vehicles.get(v as usize);
+        self.ahead.restart();
+        self.behind.restart();
+        let mut at = vehicle.start;
+        for k in 0..list.len() {
+            self.step(model, v, at, list[k]);
+            at = list[k];
+        }
+        self.step(model, v, at, vehicle.end);
+    }
+
+    // The line goes on from a node to another one.
+    fn step(&mut self, model: &Model, v: u32, at: u32, next: u32)
+        requires well_formed { IsWellFormed model.now }
+        requires vehicle { v < length model.now.vehicles }
+        requires at { at < model.now.nodes }
+        requires next { next < model.now.nodes }
+        requires same { length self.old.behind ≡ length self.old.ahead }
+        requires some { 0 < length self.old.ahead }
+        requires room { length self.old.ahead < 1002 }
+        requires ahead { HaveRange self.old.ahead }
+        requires behind { HaveRange self.old.behind }
+        ensures { (list : List ℕ) (n : ℕ) → IsAlongTo model.now v list n self.old → IsArc model.now v list n at next
+            → IsAlongTo model.now v list (n + 1) self.new }
+    {
+        self.ahead.extend(model.arc_cost(v, at, next));
+        self.behind.extend(model.arc_cost(v, next, at));
+    }
+
+    /// What the arcs cost from the stop before a place of a list of so many nodes to the stop at another place, 0 where
+    /// it has no node.
+    #[inline(always)]
+    pub fn stretch(&self, nodes: u32, front: u32, behind: u32) -> i64
+        requires nodes { length self.now.ahead ≡ nodes + 2 }
+        requires range { HaveRange self.now.ahead }
+        requires order { front ≤ behind }
+        requires place { behind ≤ nodes }
+        ensures value { (model : RoutingModel) (v : ℕ) (list : List ℕ) → IsAlong model v list self.now
+            → result ≡ between_cost model v list front behind (slice_range list front behind) }
+        ensures range { IsIn (neg_ℤ (pos (2 ^ 50))) (pos (2 ^ 50)) result }
+    {
+        if nodes == 0 {
+            return 0;
+        }
+        self.ahead.between(front, behind + 1)
+    }
+
+    /// What the arcs of a chain of the list cost, or of the chain backwards.
+    #[inline(always)]
+    pub fn chain(&self, reversed: bool, from: u32, to: u32) -> i64
+        requires order { from < to }
+        requires ahead { to < length self.now.ahead }
+        requires behind { to < length self.now.behind }
+        requires range { HaveRange self.now.ahead }
+        requires range_behind { HaveRange self.now.behind }
+        ensures value { (model : RoutingModel) (v : ℕ) (list : List ℕ) → IsAlong model v list self.now
+            → to ≤ length list → result ≡ chain_sum (arc_cost model v) (chain_of reversed list from to) }
+        ensures range { IsIn (neg_ℤ (pos (2 ^ 50))) (pos (2 ^ 50)) result }
+    {
+        if reversed {
+            self.behind.between(from + 1, to)
+        } else {
+            self.ahead.between(from + 1, to)
+        }
+    }
+}

@@ -1,0 +1,185 @@
+//! What moves add to arc costs.
+
+ghost use Rattle.std.specs.Prelude.{◌≡◌, ◌-ℤ◌, false, true};
+ghost use Rattle.vr_model.specs.moves.MoveTests.{is_move};
+ghost use Rattle.vr_model.specs.routes.Costs.{arcs_part};
+ghost use Rattle.vr_model.specs.declared.neighbours.Move.TheVariants.{TwoOpt, OrOpt, Relocate, Exchange, Cross};
+ghost use Rattle.vr_model.specs.declared.neighbours.Move.TheVariants.{MakeActive, MakeInactive, SwapActive};
+ghost use Rattle.vr_routes.specs.declared.pieces.Piece.TheVariants.{Chain};
+ghost use Rattle.vr_routes.specs.Changes.{IsChange};
+ghost use Rattle.vr_routes.specs.Pieces.{changed};
+ghost use Rattle.vr_arccosts.specs.Along.{StandsAlong};
+ghost use Rattle.vr_arccosts.specs.ArcMoves.{arcs_added};
+ghost use Rattle.vr_parts.specs.Bounds.{IsAddedByChange, IsAddedByList};
+
+use crate::ArcCost;
+use vr_model::Move;
+use vr_routes::{Change, Piece, Routes};
+
+impl<'m> ArcCost<'m> {
+    /// What a move of the committed lists adds, also where the lists after it are not valid. Of a move of visits or of
+    /// chains it looks at the numbers of the move alone, of a move of pairs at the change that it makes.
+    pub fn added_by_move(&self, routes: &Routes, mv: Move, change: &Change) -> i64
+        requires stands { StandsAlong self.now routes.now }
+        requires is_one { is_move self.now.model routes.now.lists mv ≡ true }
+        requires change { IsChange self.now.model routes.now.lists mv change.now }
+        ensures exact { result ≡ arcs_part self.now.model (changed routes.now.lists change.now)
+            -ℤ arcs_part self.now.model routes.now.lists }
+        ensures range { IsAddedByChange result }
+    {
+        match mv {
+            Move::TwoOpt { v, a, b } => self.turned(routes, v, a, b),
+            Move::OrOpt { v, a, k, t } => self.shifted(routes, v, a, k, t),
+            Move::Relocate { v, a, w, t } => self.relocated(routes, v, a, w, t),
+            Move::Exchange { v, a, w, b } => self.exchanged(routes, v, a, w, b),
+            Move::Cross { v, a, w, b } => self.crossed(routes, v, a, w, b),
+            Move::MakeActive { u, w, t } => self.made_active(routes, u, w, t),
+            Move::MakeInactive { v, a } => self.made_inactive(routes, v, a),
+            Move::SwapActive { v, a, u } => self.swapped(routes, v, a, u),
+            _ => self.added(routes, change),
+        }
+    }
+
+    // What a stretch of a list that is turned adds.
+    #[inline]
+    fn turned(&self, routes: &Routes, v: u32, a: u32, b: u32) -> i64
+        requires stands { StandsAlong self.now routes.now }
+        requires is_one { is_move self.now.model routes.now.lists (TwoOpt v a b) ≡ true }
+        ensures exact { result ≡ arcs_added self.now.model routes.now.lists (TwoOpt v a b) }
+        ensures range { IsAddedByList result }
+    {
+        // That a list is short says that the sum fits.
+        let _few = routes.len(v);
+        let stretch = Piece::Chain {
+            vehicle: v,
+            from: a,
+            to: b + 1,
+            reversed: true,
+        };
+        self.between_adds(routes, v, a, b + 1, &[stretch])
+    }
+
+    // What a chain adds that is put before another place of its list.
+    #[inline]
+    fn shifted(&self, routes: &Routes, v: u32, a: u32, k: u32, t: u32) -> i64
+        requires stands { StandsAlong self.now routes.now }
+        requires is_one { is_move self.now.model routes.now.lists (OrOpt v a k t) ≡ true }
+        ensures exact { result ≡ arcs_added self.now.model routes.now.lists (OrOpt v a k t) }
+        ensures range { IsAddedByList result }
+    {
+        // That a list is short says that the sums fit.
+        let _few = routes.len(v);
+        let chain = on(v, a, a + k);
+        if t < a {
+            self.between_adds(routes, v, t, a + k, &[chain, on(v, t, a)])
+        } else {
+            self.between_adds(routes, v, a, t + k, &[on(v, a + k, t + k), chain])
+        }
+    }
+
+    // What a visit adds that is put into the list of another vehicle.
+    #[inline]
+    fn relocated(&self, routes: &Routes, v: u32, a: u32, w: u32, t: u32) -> i64
+        requires stands { StandsAlong self.now routes.now }
+        requires is_one { is_move self.now.model routes.now.lists (Relocate v a w t) ≡ true }
+        ensures exact { result ≡ arcs_added self.now.model routes.now.lists (Relocate v a w t) }
+        ensures range { IsAddedByChange result }
+    {
+        // That a list is short says that the sum fits.
+        let _few = routes.len(v);
+        let visit = Piece::Node {
+            node: routes.node_at(v, a),
+        };
+        let without = self.between_adds(routes, v, a, a + 1, &[]);
+        let with = self.between_adds(routes, w, t, t, &[visit]);
+        without + with
+    }
+
+    // What two visits add that take each other's place.
+    #[inline]
+    fn exchanged(&self, routes: &Routes, v: u32, a: u32, w: u32, b: u32) -> i64
+        requires stands { StandsAlong self.now routes.now }
+        requires is_one { is_move self.now.model routes.now.lists (Exchange v a w b) ≡ true }
+        ensures exact { result ≡ arcs_added self.now.model routes.now.lists (Exchange v a w b) }
+        ensures range { IsAddedByChange result }
+    {
+        // That lists are short says that the sums fit.
+        let _few = routes.len(v) + routes.len(w);
+        let first = Piece::Node {
+            node: routes.node_at(v, a),
+        };
+        let second = Piece::Node {
+            node: routes.node_at(w, b),
+        };
+        if v == w {
+            let pieces = [second, on(v, a + 1, b), first];
+            return self.between_adds(routes, v, a, b + 1, &pieces);
+        }
+        let one = self.between_adds(routes, v, a, a + 1, &[second]);
+        let other = self.between_adds(routes, w, b, b + 1, &[first]);
+        one + other
+    }
+
+    // What the fronts of two lists add that change vehicles.
+    #[inline]
+    fn crossed(&self, routes: &Routes, v: u32, a: u32, w: u32, b: u32) -> i64
+        requires stands { StandsAlong self.now routes.now }
+        requires is_one { is_move self.now.model routes.now.lists (Cross v a w b) ≡ true }
+        ensures exact { result ≡ arcs_added self.now.model routes.now.lists (Cross v a w b) }
+        ensures range { IsAddedByChange result }
+    {
+        let one = self.between_adds(routes, v, 0, a, &[on(w, 0, b)]);
+        let other = self.between_adds(routes, w, 0, b, &[on(v, 0, a)]);
+        one + other
+    }
+
+    // What a visit adds that is put into a list.
+    #[inline]
+    fn made_active(&self, routes: &Routes, u: u32, w: u32, t: u32) -> i64
+        requires stands { StandsAlong self.now routes.now }
+        requires is_one { is_move self.now.model routes.now.lists (MakeActive u w t) ≡ true }
+        ensures exact { result ≡ arcs_added self.now.model routes.now.lists (MakeActive u w t) }
+        ensures range { IsAddedByList result }
+    {
+        self.between_adds(routes, w, t, t, &[Piece::Node { node: u }])
+    }
+
+    // What a visit adds that is left out of its list.
+    #[inline]
+    fn made_inactive(&self, routes: &Routes, v: u32, a: u32) -> i64
+        requires stands { StandsAlong self.now routes.now }
+        requires is_one { is_move self.now.model routes.now.lists (MakeInactive v a) ≡ true }
+        ensures exact { result ≡ arcs_added self.now.model routes.now.lists (MakeInactive v a) }
+        ensures range { IsAddedByList result }
+    {
+        // That a list is short says that the sum fits.
+        let _few = routes.len(v);
+        self.between_adds(routes, v, a, a + 1, &[])
+    }
+
+    // What a visit adds that takes the place of another one.
+    #[inline]
+    fn swapped(&self, routes: &Routes, v: u32, a: u32, u: u32) -> i64
+        requires stands { StandsAlong self.now routes.now }
+        requires is_one { is_move self.now.model routes.now.lists (SwapActive v a u) ≡ true }
+        ensures exact { result ≡ arcs_added self.now.model routes.now.lists (SwapActive v a u) }
+        ensures range { IsAddedByList result }
+    {
+        // That a list is short says that the sum fits.
+        let _few = routes.len(v);
+        self.between_adds(routes, v, a, a + 1, &[Piece::Node { node: u }])
+    }
+}
+
+// A chain of the list of a vehicle as it stands.
+#[inline]
+fn on(vehicle: u32, from: u32, to: u32) -> Piece
+    ensures { result ≡ Chain vehicle from to false }
+{
+    Piece::Chain {
+        vehicle,
+        from,
+        to,
+        reversed: false,
+    }
+}

@@ -1,0 +1,60 @@
+//! Parts of the cost that are sums over the lists of vehicles.
+
+ghost use Rattle.std.specs.Prelude.{◌≡◌, ◌<◌, ◌≤◌, ◌-ℤ◌, ℕ, ℤ, List, All, IsTrue, length};
+ghost use Rattle.vr_model.specs.routes.Routes.{route};
+ghost use Rattle.vr_model.specs.routes.Rules.{is_valid};
+ghost use Rattle.vr_model.specs.tables.Tables.{visits};
+ghost use Rattle.vr_model.specs.tables.WellFormed.{IsWellFormed};
+ghost use Rattle.vr_model.specs.declared.records.Model.{Model as RoutingModel};
+ghost use Rattle.vr_routes.specs.Pieces.{changed, joined, IsWithin};
+ghost use Rattle.vr_routes.specs.Changes.{IsMadeOn};
+ghost use Rattle.vr_routes.specs.Tours.{Tours};
+ghost use Rattle.vr_parts.specs.Bounds.{IsAddedByChange, IsAddedByList};
+ghost use Rattle.vr_parts.specs.Sums.{over_routes};
+
+use vr_routes::{Change, Piece, Routes};
+
+/// A part of the cost that adds up what each vehicle's list costs by itself.
+pub trait ListCost {
+    /// The model.
+    ghost of_model: { Self → RoutingModel };
+
+    /// What a list costs a vehicle.
+    ghost list_cost: { RoutingModel → ℕ → List ℕ → ℤ };
+
+    /// What is kept is of these lists.
+    ghost keeps: { Self → Tours → Type 0 };
+
+    /// What the list that pieces are joined to adds, in the place of the vehicle's list.
+    fn list_adds(&self, routes: &Routes, v: u32, pieces: &[Piece]) -> i64
+        requires well_formed { IsWellFormed (of_model self.now) }
+        requires keeps { keeps self.now routes.now }
+        requires as_many { length routes.now.lists ≡ length (of_model self.now).vehicles }
+        requires vehicle { v < length routes.now.lists }
+        requires within { All (IsWithin routes.now.lists) pieces.now }
+        requires few { length pieces.now ≤ 8 }
+        requires nodes { All (λ node. node < (of_model self.now).nodes) (joined routes.now.lists pieces.now) }
+        requires old_nodes { All (λ node. node < (of_model self.now).nodes) (route routes.now.lists v) }
+        ensures value { result ≡ list_cost (of_model self.now) v (joined routes.now.lists pieces.now)
+            -ℤ list_cost (of_model self.now) v (route routes.now.lists v) }
+        ensures range { IsAddedByList result };
+}
+
+/// What a change adds to such a part: what each changed list adds. The lists after it need not be valid.
+#[inline]
+pub fn added_by<C: ListCost>(cost: &C, routes: &Routes, change: &Change) -> i64
+    requires well_formed { IsWellFormed (C.of_model cost.now) }
+    requires keeps { C.keeps cost.now routes.now }
+    requires of_model { routes.now.visits ≡ visits (C.of_model cost.now) }
+    requires made { IsMadeOn routes.now change.now }
+    requires valid { IsTrue (is_valid (C.of_model cost.now) routes.now.lists) }
+    ensures value { result ≡ over_routes (C.list_cost (C.of_model cost.now)) (changed routes.now.lists change.now)
+        -ℤ over_routes (C.list_cost (C.of_model cost.now)) routes.now.lists }
+    ensures range { IsAddedByChange result }
+{
+    let mut total = 0;
+    for k in 0..change.parts() {
+        total += cost.list_adds(routes, change.vehicle(k), change.pieces(k));
+    }
+    total
+}
