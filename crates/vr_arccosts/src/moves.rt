@@ -48,8 +48,6 @@ impl<'m> ArcCost<'m> {
         ensures exact { result ≡ arcs_added self.now.model routes.now.lists (TwoOpt v a b) }
         ensures range { IsAddedByList result }
     {
-        // That a list is short says that the sum fits.
-        let _few = routes.len(v);
         let stretch = Piece::Chain {
             vehicle: v,
             from: a,
@@ -67,8 +65,6 @@ impl<'m> ArcCost<'m> {
         ensures exact { result ≡ arcs_added self.now.model routes.now.lists (OrOpt v a k t) }
         ensures range { IsAddedByList result }
     {
-        // That a list is short says that the sums fit.
-        let _few = routes.len(v);
         let chain = on(v, a, a + k);
         if t < a {
             self.between_adds(routes, v, t, a + k, &[chain, on(v, t, a)])
@@ -85,8 +81,6 @@ impl<'m> ArcCost<'m> {
         ensures exact { result ≡ arcs_added self.now.model routes.now.lists (Relocate v a w t) }
         ensures range { IsAddedByChange result }
     {
-        // That a list is short says that the sum fits.
-        let _few = routes.len(v);
         let visit = Piece::Node {
             node: routes.node_at(v, a),
         };
@@ -103,8 +97,6 @@ impl<'m> ArcCost<'m> {
         ensures exact { result ≡ arcs_added self.now.model routes.now.lists (Exchange v a w b) }
         ensures range { IsAddedByChange result }
     {
-        // That lists are short says that the sums fit.
-        let _few = routes.len(v) + routes.len(w);
         let first = Piece::Node {
             node: routes.node_at(v, a),
         };
@@ -152,8 +144,6 @@ impl<'m> ArcCost<'m> {
         ensures exact { result ≡ arcs_added self.now.model routes.now.lists (MakeInactive v a) }
         ensures range { IsAddedByList result }
     {
-        // That a list is short says that the sum fits.
-        let _few = routes.len(v);
         self.between_adds(routes, v, a, a + 1, &[])
     }
 
@@ -165,8 +155,6 @@ impl<'m> ArcCost<'m> {
         ensures exact { result ≡ arcs_added self.now.model routes.now.lists (SwapActive v a u) }
         ensures range { IsAddedByList result }
     {
-        // That a list is short says that the sum fits.
-        let _few = routes.len(v);
         self.between_adds(routes, v, a, a + 1, &[Piece::Node { node: u }])
     }
 }
