@@ -13,7 +13,8 @@ use Rattle.vr_earliest.specs.declared.ways.Rest.{Rest}
 use Rattle.vr_earliest.specs.declared.ways.Way.{Way}
 use Rattle.vr_earliest.specs.Rests.{before, rest_of}
 use Rattle.vr_earliest.specs.Ways.{way_along}
-use Rattle.vr_earliest.specs.Kept.{AreKept, AreRestsTo, AreWaysTo, IsKept}
+use Rattle.vr_parts.proofs.RowLemmas.{same-or-not}
+use Rattle.vr_earliest.specs.Kept.{HaveWays, AreRestsTo, AreWaysTo, HasWays}
 
 -- ---- place by place
 
@@ -50,14 +51,14 @@ rest-next model d v list k low =
     ∙ ap₂ (λ i n. before model d v (slice_index_or list i 0) (rest_of model d v (drop n list))) here next
 
 -- what is kept of the list of a vehicle
-pub kept-one : (model : Model) (d : ℕ) (lists : List (List ℕ)) (kept : List Kept) (v : ℕ) (one : Kept) → AreKept model d lists kept → v < length kept → one ≡ slice_index_or kept v one → IsKept model d v (route lists v) one
-kept-one model d lists kept v one h low is = subst (IsKept model d v (route lists v)) (sym is) (h.each v one low)
+pub kept-one : (model : Model) (d : ℕ) (lists : List (List ℕ)) (kept : List Kept) (v : ℕ) (one : Kept) → HaveWays model d lists kept → v < length kept → one ≡ slice_index_or kept v one → HasWays model d v (route lists v) one
+kept-one model d lists kept v one h low is = subst (HasWays model d v (route lists v)) (sym is) (h.each v one low)
 
 -- the way along the first visits of a list, and what is left behind a place of it
-pub way-at : (model : Model) (d v : ℕ) (list : List ℕ) (kept : Kept) (k : ℕ) (way : Way) → IsKept model d v list kept → k ≤ length list → ((other : Way) → way ≡ slice_index_or kept.ways.items k other) → way ≡ way_along model d v (take k list)
+pub way-at : (model : Model) (d v : ℕ) (list : List ℕ) (kept : Kept) (k : ℕ) (way : Way) → HasWays model d v list kept → k ≤ length list → ((other : Way) → way ≡ slice_index_or kept.ways.items k other) → way ≡ way_along model d v (take k list)
 way-at model d v list kept k way h low is = is way ∙ h.ways.each k way low
 
-pub rest-at : (model : Model) (d v : ℕ) (list : List ℕ) (kept : Kept) (k : ℕ) (rest : Rest) → IsKept model d v list kept → k ≤ length list → ((other : Rest) → rest ≡ slice_index_or kept.rests.items (length kept.rests.items - 1 - k) other)
+pub rest-at : (model : Model) (d v : ℕ) (list : List ℕ) (kept : Kept) (k : ℕ) (rest : Rest) → HasWays model d v list kept → k ≤ length list → ((other : Rest) → rest ≡ slice_index_or kept.rests.items (length kept.rests.items - 1 - k) other)
     → rest ≡ rest_of model d v (drop k list)
 rest-at model d v list kept k rest h low is =
     let many = h.rests.many in
@@ -67,16 +68,8 @@ rest-at model d v list kept k rest h low is =
 
 -- ---- a list is replaced
 
-same-or-not : (u v : ℕ) → (u ≡ v) ⊎ (u ≢ v)
-same-or-not u v = go (cases_lt u v) (cases_lt v u)
-  where
-    go : (u < v) ⊎ (v ≤ u) → (v < u) ⊎ (u ≤ v) → (u ≡ v) ⊎ (u ≢ v)
-    go (inl less) _ = inr (λ e. absurd (omega (arith, less, e)))
-    go (inr _) (inl more) = inr (λ e. absurd (omega (arith, more, e)))
-    go (inr high) (inr low) = inl (omega (arith, high, low))
-
-pub kept-set : (model : Model) (d : ℕ) (lists : List (List ℕ)) (kept : List Kept) (v : ℕ) (list : List ℕ) (new : Kept) → AreKept model d lists kept → v < length lists → v < length kept → IsKept model d v list new
-    → AreKept model d (with_route lists v list) (slice_set kept v new)
+pub kept-set : (model : Model) (d : ℕ) (lists : List (List ℕ)) (kept : List Kept) (v : ℕ) (list : List ℕ) (new : Kept) → HaveWays model d lists kept → v < length lists → v < length kept → HasWays model d v list new
+    → HaveWays model d (with_route lists v list) (slice_set kept v new)
 kept-set model d lists kept v list new h known low is = record {
   many = elim h.many [
     | inl same ↦ inl (length-set kept v new ∙ same ∙ sym (length-set lists v list))
@@ -85,21 +78,21 @@ kept-set model d lists kept v list new h known low is = record {
   each = λ u other under. go u other under (same-or-not u v);
 }
   where
-    go : (u : ℕ) (other : Kept) → u < length (slice_set kept v new) → (u ≡ v) ⊎ (u ≢ v) → IsKept model d u (route (with_route lists v list) u) (slice_index_or (slice_set kept v new) u other)
+    go : (u : ℕ) (other : Kept) → u < length (slice_set kept v new) → (u ≡ v) ⊎ (u ≢ v) → HasWays model d u (route (with_route lists v list) u) (slice_index_or (slice_set kept v new) u other)
     go u other under (inr apart) =
-        subst (λ l. IsKept model d u l (slice_index_or (slice_set kept v new) u other)) (sym (route_set_other lists v u list apart))
-        (subst (IsKept model d u (route lists u)) (sym (get_or-set_other kept v u new other apart)) (h.each u other (let l = length-set kept v new in omega (arith, under, l))))
-    go u other under (inl same) = subst (λ w. IsKept model d w (route (with_route lists v list) w) (slice_index_or (slice_set kept v new) w other)) (sym same)
-        (subst (λ l. IsKept model d v l (slice_index_or (slice_set kept v new) v other)) (sym (route_set_same lists v list known)) (subst (IsKept model d v list) (sym (get_or-set_same kept v new other low)) is))
+        subst (λ l. HasWays model d u l (slice_index_or (slice_set kept v new) u other)) (sym (route_set_other lists v u list apart))
+        (subst (HasWays model d u (route lists u)) (sym (get_or-set_other kept v u new other apart)) (h.each u other (let l = length-set kept v new in omega (arith, under, l))))
+    go u other under (inl same) = subst (λ w. HasWays model d w (route (with_route lists v list) w) (slice_index_or (slice_set kept v new) w other)) (sym same)
+        (subst (λ l. HasWays model d v l (slice_index_or (slice_set kept v new) v other)) (sym (route_set_same lists v list known)) (subst (HasWays model d v list) (sym (get_or-set_same kept v new other low)) is))
 
 -- where it is not kept, what is kept stays
-pub kept-stays : (model : Model) (d : ℕ) (lists : List (List ℕ)) (kept : List Kept) (v : ℕ) (list : List ℕ) → AreKept model d lists kept → length kept ≤ v → AreKept model d (with_route lists v list) kept
+pub kept-stays : (model : Model) (d : ℕ) (lists : List (List ℕ)) (kept : List Kept) (v : ℕ) (list : List ℕ) → HaveWays model d lists kept → length kept ≤ v → HaveWays model d (with_route lists v list) kept
 kept-stays model d lists kept v list h high = record {
   many = elim h.many [
     | inl same ↦ inl (same ∙ sym (length-set lists v list))
     | inr none ↦ inr none
   ];
-  each = λ u other under. subst (λ l. IsKept model d u l (slice_index_or kept u other)) (sym (route_set_other lists v u list (λ e. absurd (omega (arith, e, under, high))))) (h.each u other under);
+  each = λ u other under. subst (λ l. HasWays model d u l (slice_index_or kept u other)) (sym (route_set_other lists v u list (λ e. absurd (omega (arith, e, under, high))))) (h.each u other under);
 }
 
 -- a list that is written over as a whole

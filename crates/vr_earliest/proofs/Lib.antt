@@ -1,5 +1,4 @@
 pub mod FloorLemmas
-pub mod PartLemmas
 pub mod WayLemmas
 pub mod KeptLemmas
 pub mod Earlier

@@ -2,8 +2,7 @@
 use Rattle.std.specs.Prelude.{◌≡◌, ◌<◌, ◌≤◌, ◌-◌, ◌⊎◌, ℕ, suc, IsTrue, List, drop, length, slice_index_or, take, pos}
 use Rattle.vr_model.specs.tables.Numbers.{number_at}
 use Rattle.vr_model.specs.tables.Tables.{dimension_at}
-use Rattle.vr_model.specs.routes.Routes.{route}
-use Rattle.vr_model.specs.routes.Rules.{is_valid}
+use Rattle.vr_model.specs.routes.Routes.{are_lists, route}
 use Rattle.vr_model.specs.declared.records.Dimension.{Dimension}
 use Rattle.vr_model.specs.declared.records.Model.{Model}
 use Rattle.vr_earliest.specs.declared.kept.Kept.{Kept}
@@ -23,8 +22,8 @@ pub record AreRestsTo (model : Model) (d v : ℕ) (list : List ℕ) (n : ℕ) (r
   pub each : (k : ℕ) (other : Rest) → k ≤ n
       → slice_index_or rests k other ≡ rest_of model d v (drop (length list - k) list)
 
--- these ways, and what is left, are those of a list of vehicle v
-pub record IsKept (model : Model) (d v : ℕ) (list : List ℕ) (kept : Kept) : Type 0 where
+-- what is kept has the ways along a list of vehicle v, and what is left behind each of its places
+pub record HasWays (model : Model) (d v : ℕ) (list : List ℕ) (kept : Kept) : Type 0 where
   pub few : length list ≤ 1000
   pub ways : AreWaysTo model d v list (length list) kept.ways.items
   pub rests : AreRestsTo model d v list (length list) kept.rests.items
@@ -34,22 +33,22 @@ pub record IsUnpaid (dimension : Dimension) : Type 0 where
   pub spans : (v : ℕ) → v < length dimension.span_costs → number_at dimension.span_costs v ≡ pos 0
   pub global : dimension.global_span_cost ≡ pos 0
 
--- what is kept in dimension d is of these lists, of all of them where anything is paid for spans
-pub record AreKept (model : Model) (d : ℕ) (lists : List (List ℕ)) (kept : List Kept) : Type 0 where
+-- what is kept in dimension d has those of these lists, of all of them where anything is paid for spans
+pub record HaveWays (model : Model) (d : ℕ) (lists : List (List ℕ)) (kept : List Kept) : Type 0 where
   pub many : (length kept ≡ length lists) ⊎ IsUnpaid (dimension_at model d)
-  pub each : (v : ℕ) (other : Kept) → v < length kept → IsKept model d v (route lists v) (slice_index_or kept v other)
+  pub each : (v : ℕ) (other : Kept) → v < length kept → HasWays model d v (route lists v) (slice_index_or kept v other)
 
 -- the same in each dimension
-pub record AreAllKept (model : Model) (lists : List (List ℕ)) (kept : List (List Kept)) : Type 0 where
+pub record HaveAllWays (model : Model) (lists : List (List ℕ)) (kept : List (List Kept)) : Type 0 where
   pub many : length kept ≡ length model.dimensions
-  pub each : (d : ℕ) (other : List Kept) → d < length kept → AreKept model d lists (slice_index_or kept d other)
+  pub each : (d : ℕ) (other : List Kept) → d < length kept → HaveWays model d lists (slice_index_or kept d other)
 
 -- what contracts see of how early vehicles can end lists: the model, and what is kept in each dimension
 pub record KeptEarly : Type 0 where
   pub model : Model
   pub kept : List (List Kept)
 
--- what is kept is of these lists, which are valid
+-- what is kept is of these lists of the model
 pub record StandsEarliest (early : KeptEarly) (lists : List (List ℕ)) : Type 0 where
-  pub valid : IsTrue (is_valid early.model lists)
-  pub kept_are : AreAllKept early.model lists early.kept
+  pub lists_are : IsTrue (are_lists early.model lists)
+  pub ways : HaveAllWays early.model lists early.kept

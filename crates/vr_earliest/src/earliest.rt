@@ -2,8 +2,7 @@
 
 ghost use Rattle.std.specs.Prelude.{◌≡◌, ◌<◌, ◌≤◌, ℕ, List, pos, neg_ℤ, All, IfOk, IsTrue, length};
 ghost use Rattle.vr_model.specs.moves.Moves.{with_route};
-ghost use Rattle.vr_model.specs.routes.Routes.{route};
-ghost use Rattle.vr_model.specs.routes.Rules.{is_valid};
+ghost use Rattle.vr_model.specs.routes.Routes.{are_lists, route};
 ghost use Rattle.vr_model.specs.tables.Numbers.{horizon};
 ghost use Rattle.vr_model.specs.tables.WellFormed.{IsIn, IsWellFormed};
 ghost use Rattle.vr_routes.specs.Changes.{AreParts, IsMadeOn};
@@ -11,7 +10,7 @@ ghost use Rattle.vr_routes.specs.Pieces.{changed, joined, part_at, IsWithin};
 ghost use Rattle.vr_earliest.specs.Earlies.{AreEarlies, IsEarlyRow};
 ghost use Rattle.vr_earliest.specs.Floors.{AreAllFloors};
 ghost use Rattle.vr_earliest.specs.Guides.{IsGuide};
-ghost use Rattle.vr_earliest.specs.Kept.{AreAllKept, AreKept, StandsEarliest};
+ghost use Rattle.vr_earliest.specs.Kept.{HaveAllWays, HaveWays, StandsEarliest};
 ghost use Rattle.vr_earliest.specs.Ways.{earliest_end, least_span, whole_way, IsWayOf};
 
 use crate::earlies::{Earlies, Early};
@@ -58,7 +57,7 @@ impl<'m> Earliest<'m> {
         routes: &Routes,
     ) -> Result<Earliest<'m>, NoMemory>
         requires well_formed { IsWellFormed model.now }
-        requires valid { IsTrue (is_valid model.now routes.now.lists) }
+        requires lists { IsTrue (are_lists model.now routes.now.lists) }
         ensures model { IfOk result (λ earliest. earliest.model ≡ model.now) }
         ensures stands { IfOk result (λ earliest. StandsEarliest earliest routes.now.lists) }
     {
@@ -72,9 +71,9 @@ impl<'m> Earliest<'m> {
         })
     }
 
-    /// What the chosen schedule of the list that pieces are joined to comes to at least, for vehicle `v` in dimension
-    /// `d`. No schedule is built.
-    pub fn after(&self, d: u32, v: u32, routes: &Routes, pieces: &[Piece]) -> Early
+    // What the chosen schedule of the list that pieces are joined to comes to at least, for vehicle `v` in dimension `d`.
+    // No schedule is built.
+    fn after(&self, d: u32, v: u32, routes: &Routes, pieces: &[Piece]) -> Early
         requires stands { StandsEarliest self.now routes.now.lists }
         requires dimension { d < length self.now.model.dimensions }
         requires vehicle { v < length self.now.model.vehicles }
@@ -128,12 +127,11 @@ impl<'m> Earliest<'m> {
         row
     }
 
-    /// Commits the lists after a change, where they are valid. It is called before the routes are changed, and takes no
-    /// memory.
+    /// Commits the lists after a change. It is called before the routes are changed, and takes no memory.
     pub fn commit(&mut self, routes: &Routes, change: &Change)
         requires stands { StandsEarliest self.old routes.now.lists }
         requires made { IsMadeOn routes.now change.now }
-        requires valid { IsTrue (is_valid self.old.model (changed routes.now.lists change.now)) }
+        requires lists { IsTrue (are_lists self.old.model (changed routes.now.lists change.now)) }
         ensures stands { StandsEarliest self.new (changed routes.now.lists change.now) }
         ensures model { self.new.model ≡ self.old.model }
     {
@@ -170,9 +168,9 @@ fn kept_of(
     routes: &Routes,
 ) -> Result<Vec<KeptLists>, NoMemory>
     requires well_formed { IsWellFormed model.now }
-    requires valid { IsTrue (is_valid model.now routes.now.lists) }
+    requires lists { IsTrue (are_lists model.now routes.now.lists) }
     requires floors { AreAllFloors model.now floors.now }
-    ensures { IfOk result (λ kept. AreAllKept model.now routes.now.lists kept.items) }
+    ensures { IfOk result (λ kept. HaveAllWays model.now routes.now.lists kept.items) }
 {
     let mut kept = Vec::with_capacity(alloc, floors.len())?;
     for d in 0..floors.len() {
@@ -189,8 +187,8 @@ fn write_list(model: &RoutingModel, floors: &[Floors], kept: &mut [KeptLists], v
     requires vehicle { v < length model.now.vehicles }
     requires few { length list.now ≤ 1000 }
     requires nodes { All (λ node. node < model.now.nodes) list.now }
-    ensures { (lists : List (List ℕ)) → AreAllKept model.now lists kept.old → v < length lists
-        → AreAllKept model.now (with_route lists v list.now) kept.new }
+    ensures { (lists : List (List ℕ)) → HaveAllWays model.now lists kept.old → v < length lists
+        → HaveAllWays model.now (with_route lists v list.now) kept.new }
 {
     for d in 0..kept.len() {
         kept[d].write(model, &floors[d], d as u32, v, list);
@@ -202,7 +200,7 @@ fn write_list(model: &RoutingModel, floors: &[Floors], kept: &mut [KeptLists], v
 fn way_after(guide: &Guide, kept: &KeptLists, routes: &Routes, pieces: &[Piece]) -> Way
     requires guide { IsGuide guide.now }
     requires vehicle { guide.now.v < length routes.now.lists }
-    requires kept { AreKept guide.now.model.now guide.now.d routes.now.lists kept.now }
+    requires kept { HaveWays guide.now.model.now guide.now.d routes.now.lists kept.now }
     requires nodes_before { All (λ node. node < guide.now.model.now.nodes) (route routes.now.lists guide.now.v) }
     requires within { All (IsWithin routes.now.lists) pieces.now }
     requires few { length pieces.now ≤ 8 }

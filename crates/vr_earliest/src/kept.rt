@@ -1,15 +1,15 @@
 //! What is kept of committed lists, so that a change is told by what it changes alone.
 
-ghost use Rattle.std.specs.Prelude.{◌≡◌, ◌<◌, ◌≤◌, ◌-◌, All, ℕ, List, IfOk, IsTrue, false, length};
+ghost use Rattle.std.specs.Prelude.{◌≡◌, ◌≢◌, ◌<◌, ◌≤◌, ◌-◌, All, ℕ, List, IfOk, IsTrue, false, length};
 ghost use Rattle.std.specs.Prelude.{slice_index_or};
 ghost use Rattle.vr_model.specs.moves.Moves.{with_route};
-ghost use Rattle.vr_model.specs.routes.Rules.{is_valid};
+ghost use Rattle.vr_model.specs.routes.Routes.{are_lists};
 ghost use Rattle.vr_model.specs.tables.WellFormed.{IsWellFormed};
 ghost use Rattle.vr_earliest.specs.Floors.{AreFloors};
 ghost use Rattle.vr_earliest.specs.Guides.{IsGuide};
 ghost use Rattle.vr_earliest.specs.declared.ways.Rest.{Rest as RestOf};
 ghost use Rattle.vr_earliest.specs.declared.ways.Way.{Way as WayOf};
-ghost use Rattle.vr_earliest.specs.Kept.{AreKept, AreRestsTo, AreWaysTo, IsKept, IsUnpaid};
+ghost use Rattle.vr_earliest.specs.Kept.{AreRestsTo, AreWaysTo, HasWays, HaveWays, IsUnpaid};
 
 use crate::floors::Floors;
 use crate::ways::{Guide, Rest, Way};
@@ -61,7 +61,7 @@ impl Kept {
         requires guide { IsGuide guide.now }
         requires few { length list.now ≤ 1000 }
         requires nodes { All (λ node. node < guide.now.model.now.nodes) list.now }
-        ensures { IsKept guide.now.model.now guide.now.d guide.now.v list.now self.new }
+        ensures { HasWays guide.now.model.now guide.now.d guide.now.v list.now self.new }
     {
         self.write_ways(guide, list);
         self.write_rests(guide, list);
@@ -130,18 +130,17 @@ impl KeptLists {
         routes: &Routes,
     ) -> Result<KeptLists, NoMemory>
         requires well_formed { IsWellFormed model.now }
-        requires valid { IsTrue (is_valid model.now routes.now.lists) }
+        requires lists { IsTrue (are_lists model.now routes.now.lists) }
         requires dimension { d < length model.now.dimensions }
         requires floors { AreFloors model.now d floors.now }
-        ensures { IfOk result (AreKept model.now d routes.now.lists) }
+        ensures { IfOk result (HaveWays model.now d routes.now.lists) }
     {
-        let mut lists = Vec::new(alloc);
-        if pays(model.dimensions.get(d as usize)) {
-            for v in 0..routes.vehicles() {
-                let mut kept = Kept::new();
-                kept.write(&Guide::of(model, floors, d, v), routes.list(v));
-                lists.push(kept)?;
-            }
+        let many = how_many(model.dimensions.get(d as usize), routes);
+        let mut lists = Vec::with_capacity(alloc, many as usize)?;
+        for v in 0..many {
+            let mut kept = Kept::new();
+            kept.write(&Guide::of(model, floors, d, v), routes.list(v));
+            lists.push(kept)?;
         }
         Ok(KeptLists { lists })
     }
@@ -154,13 +153,25 @@ impl KeptLists {
         requires floors { AreFloors model.now d floors.now }
         requires few { length list.now ≤ 1000 }
         requires nodes { All (λ node. node < model.now.nodes) list.now }
-        ensures { (lists : List (List ℕ)) → AreKept model.now d lists self.old → v < length lists
-            → AreKept model.now d (with_route lists v list.now) self.new }
+        ensures { (lists : List (List ℕ)) → HaveWays model.now d lists self.old → v < length lists
+            → HaveWays model.now d (with_route lists v list.now) self.new }
     {
         if (v as usize) < self.lists.len() {
             let guide = Guide::of(model, floors, d, v);
             self.lists[v as usize].write(&guide, list);
         }
+    }
+}
+
+// Of how many lists something is kept in a dimension: of all where anything is paid for spans, and else of none.
+fn how_many(dimension: &Dimension, routes: &Routes) -> u32
+    ensures all { result ≢ length routes.now.lists → IsUnpaid dimension.now }
+    ensures no_more { result ≤ length routes.now.lists }
+{
+    if pays(dimension) {
+        routes.vehicles()
+    } else {
+        0
     }
 }
 

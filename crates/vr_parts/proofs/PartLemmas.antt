@@ -2,7 +2,7 @@
 use Rattle.std.proofs.Common.{◌≡◌, ◌<◌, ◌≤◌, ℕ, List, length, sym, subst, arith}
 use Rattle.std.specs.Prelude.{All, IsTrue}
 use Rattle.vr_model.specs.declared.records.Model.{Model}
-use Rattle.vr_model.specs.routes.Routes.{route, is_distinct}
+use Rattle.vr_model.specs.routes.Routes.{are_lists, route, is_distinct}
 use Rattle.vr_model.specs.tables.Tables.{is_visit}
 use Rattle.std.specs.List.{list_all}
 use Rattle.vr_model.specs.routes.Rules.{is_valid}
@@ -13,6 +13,7 @@ use Rattle.vr_model.proofs.routes.Lists.{are-lists, are_lists-count, route-below
 use Rattle.vr_routes.proofs.CommitLemmas.{as_many_lists}
 use Rattle.vr_routes.proofs.CommitLemmas.{entry_after, once_after}
 use Rattle.vr_routes.proofs.OnceLemmas.{once_of_times}
+use Rattle.vr_routes.proofs.PartLemmas.{part_is}
 use Rattle.vr_routes.proofs.SeatLemmas.{active_at, seat_of_active}
 use Rattle.vr_routes.proofs.TourLemmas.{held_below, visit_held, visits_below}
 use Rattle.vr_routes.specs.Changes.{IsMadeOn}
@@ -26,7 +27,6 @@ use Rattle.vr_model.specs.tables.Tables.{visits}
 use Rattle.vr_model.proofs.moves.Times.{times_of_distinct, joined_times}
 use Rattle.vr_model.proofs.tables.Tests.{all-from_list_all}
 use Rattle.std.proofs.lemmas.List.{get_or_default}
-use Rattle.vr_parts.proofs.SumLemmas.{part-list}
 
 -- lists of a model
 pub record AreSmall (model : Model) (lists : List (List ℕ)) : Type 0 where
@@ -36,9 +36,8 @@ pub record AreSmall (model : Model) (lists : List (List ℕ)) : Type 0 where
   pub visits : (v : ℕ) → IsTrue (list_all (is_visit model) (route lists v))
   pub distinct : (v : ℕ) → IsTrue (is_distinct (route lists v))
 
-pub small : (model : Model) → IsWellFormed model → (lists : List (List ℕ)) → IsTrue (is_valid model lists) → AreSmall model lists
-small model well lists valid =
-    let are = are-lists model lists valid in
+pub small-lists : (model : Model) → IsWellFormed model → (lists : List (List ℕ)) → IsTrue (are_lists model lists) → AreSmall model lists
+small-lists model well lists are =
     record {
       many = are_lists-count model lists are;
       below = λ v. route-below model lists v are;
@@ -46,6 +45,9 @@ small model well lists valid =
       visits = λ v. route-visits model lists v are;
       distinct = λ v. route-distinct model lists v are;
     }
+
+pub small : (model : Model) → IsWellFormed model → (lists : List (List ℕ)) → IsTrue (is_valid model lists) → AreSmall model lists
+small model well lists valid = small-lists model well lists (are-lists model lists valid)
 
 -- part k of a change
 pub record IsPart (model : Model) (lists : List (List ℕ)) (part : ListAfter) : Type 0 where
@@ -56,10 +58,10 @@ pub record IsPart (model : Model) (lists : List (List ℕ)) (part : ListAfter) :
   pub visits : IsTrue (list_all (is_visit model) (joined lists part.pieces))
   pub distinct : IsTrue (is_distinct (joined lists part.pieces))
 
-pub is-part : (model : Model) → IsWellFormed model → (lists : List (List ℕ)) (parts : List ListAfter) → AreParts lists parts → IsTrue (is_valid model (changed lists parts)) → (k : ℕ) → k < length parts → IsPart model lists (part_at parts k)
-is-part model well lists parts are valid k low =
-    let s = small model well (changed lists parts) valid in
-    let same = part-list lists parts are k low in
+pub of-part : (model : Model) → IsWellFormed model → (lists : List (List ℕ)) (parts : List ListAfter) → AreParts lists parts → IsTrue (are_lists model (changed lists parts)) → (k : ℕ) → k < length parts → IsPart model lists (part_at parts k)
+of-part model well lists parts are after k low =
+    let s = small-lists model well (changed lists parts) after in
+    let same = part_is lists parts are k low in
     let v = (part_at parts k).vehicle in
     record {
       vehicle = are.each_vehicle k no_part low;
@@ -69,6 +71,9 @@ is-part model well lists parts are valid k low =
       visits = subst (λ l. IsTrue (list_all (is_visit model) l)) same (s.visits v);
       distinct = subst (λ l. IsTrue (is_distinct l)) same (s.distinct v);
     }
+
+pub is-part : (model : Model) → IsWellFormed model → (lists : List (List ℕ)) (parts : List ListAfter) → AreParts lists parts → IsTrue (is_valid model (changed lists parts)) → (k : ℕ) → k < length parts → IsPart model lists (part_at parts k)
+is-part model well lists parts are valid = of-part model well lists parts are (are-lists model (changed lists parts) valid)
 
 -- the vehicle of a part is one of the model
 pub known-vehicle : (model : Model) → IsWellFormed model → (lists : List (List ℕ)) (parts : List ListAfter) → AreParts lists parts → IsTrue (is_valid model (changed lists parts)) → (k : ℕ) → k < length parts → (part_at parts k).vehicle < length model.vehicles
@@ -102,7 +107,7 @@ module _ (model : Model) (tours : Tours) (of_model : tours.visits ≡ visits mod
 
   -- each of their nodes is one of the model
   pub below-after : (k : ℕ) → k < length parts → All (λ node. node < model.nodes) (joined tours.lists (part_at parts k).pieces)
-  below-after k low = subst (All (λ node. node < model.nodes)) (part-list tours.lists parts made.makes.parts_are k low) each
+  below-after k low = subst (All (λ node. node < model.nodes)) (part_is tours.lists parts made.makes.parts_are k low) each
     where
       v : ℕ
       v = (part_at parts k).vehicle

@@ -1,7 +1,6 @@
 -- Sums over the lists of vehicles change by the changed lists alone.
 use Rattle.std.proofs.Common.{◌≡◌, ◌≢◌, ◌∙◌, ℕ, zero, suc, ◌+◌, ◌<◌, ◌≤◌, ◌⊎◌, List, [], ◌∷◌, ◌++◌, length, take, add-one, refl, sym, ap, inl, inr, arith, length-set}
 use Rattle.std.specs.Prelude.{ℤ, ◌+ℤ◌, ◌-ℤ◌, slice_index_or, All}
-use Rattle.std.specs.List.{AllPairs}
 use Rattle.std.proofs.lemmas.Int.{ints}
 use Rattle.std.proofs.lemmas.Bool.{cases_lt}
 use Rattle.std.proofs.lemmas.List.{get_or-take, get_or_default, length-take-le, take_all}
@@ -15,6 +14,7 @@ use Rattle.vr_routes.specs.Pieces.{ListAfter, joined, no_part, part_at, with_par
 use Rattle.vr_routes.specs.Changes.{AreParts}
 use Rattle.vr_model.proofs.routes.Lists.{route_set_same, route_set_other}
 use Rattle.vr_routes.proofs.CommitLemmas.{as_many_lists}
+use Rattle.vr_routes.proofs.PartLemmas.{part_is}
 use Rattle.vr_parts.specs.Sums.{over_routes, part_change}
 
 -- two sums over a range that differ at one place
@@ -112,19 +112,8 @@ module _ (f : ℕ → List ℕ → ℤ) (lists : List (List ℕ)) (parts : List 
       omega (arith, ints, s, a, b)
 
 -- the list of a part after the change is what its pieces are joined to
-list-of : (old : List (List ℕ)) (parts : List ListAfter) (lists : List (List ℕ)) → All (λ part. part.vehicle < length lists) parts → AllPairs (λ p q. p.vehicle ≢ q.vehicle) parts
-    → (k : ℕ) → k < length parts → route (with_parts old parts lists) (part_at parts k).vehicle ≡ joined old (part_at parts k).pieces
-list-of old [] lists known apart k low = absurd (omega (arith, low))
-list-of old (p ∷ parts) lists known apart zero low =
-    route-kept old parts (with_route lists p.vehicle (joined old p.pieces)) p.vehicle (λ j d under. apart 0 (suc j) d (omega arith) (omega (arith, under)))
-    ∙ route_set_same lists p.vehicle (joined old p.pieces) (known 0 no_part (omega arith))
-list-of old (p ∷ parts) lists known apart (suc k) low =
-    list-of old parts (with_route lists p.vehicle (joined old p.pieces))
-    (λ j d under. (let a = known (suc j) d (omega (arith, under)) in let m = length-set lists p.vehicle (joined old p.pieces) in omega (arith, a, m)))
-    (λ i j d less under. apart (suc i) (suc j) d (omega (arith, less)) (omega (arith, under))) k (omega (arith, low))
-
 pub part-list : (lists : List (List ℕ)) (parts : List ListAfter) → AreParts lists parts → (k : ℕ) → k < length parts → route (changed lists parts) (part_at parts k).vehicle ≡ joined lists (part_at parts k).pieces
-part-list lists parts are k low = list-of lists parts lists are.each_vehicle are.apart k low
+part-list = part_is
 
 -- ---- the loop over the parts of a change
 

@@ -4,7 +4,7 @@ use Rattle.std.proofs.lemmas.Bool.{cases_lt}
 use Rattle.std.proofs.lemmas.List.{get_or-set_same, get_or-set_other}
 use Rattle.vr_model.specs.moves.Moves.{with_route}
 use Rattle.vr_earliest.specs.declared.kept.Kept.{Kept}
-use Rattle.vr_earliest.specs.Kept.{AreKept}
+use Rattle.vr_earliest.specs.Kept.{HaveWays}
 use Rattle.vr_earliest.proofs.earliest.write_list.Goals as goal
 
 pub loop-d-preserved : goal.loop-d-preserved
@@ -23,12 +23,12 @@ loop-d-preserved c =
     record {
       many = many ∙ i.many;
       done = λ lists all known d other low. elim (cases_lt d at) [
-        | inl less ↦ subst (AreKept m d (with_route lists v list)) (sym (get_or-set_other kept at d new other (λ e. absurd (omega (arith, e, less))))) (i.done lists all known d other less)
+        | inl less ↦ subst (HaveWays m d (with_route lists v list)) (sym (get_or-set_other kept at d new other (λ e. absurd (omega (arith, e, less))))) (i.done lists all known d other less)
         | inr high ↦ (let here : d ≡ at = omega (arith, low, high) in
-            subst (λ n. AreKept m n (with_route lists v list) (slice_index_or (slice_set kept at new) n other)) (sym here)
-            (subst (AreKept m at (with_route lists v list)) (sym (get_or-set_same kept at new other inside))
+            subst (λ n. HaveWays m n (with_route lists v list) (slice_index_or (slice_set kept at new) n other)) (sym here)
+            (subst (HaveWays m at (with_route lists v list)) (sym (get_or-set_same kept at new other inside))
             (c.write.ensures lists (i.left lists all at c.index-kept-d.result (omega arith) inside) known)))
       ];
       left = λ lists all d other high low.
-          subst (AreKept m d lists) (sym (get_or-set_other kept at d new other (λ e. absurd (omega (arith, e, high))))) (i.left lists all d other (omega (arith, high)) (omega (arith, low, many)));
+          subst (HaveWays m d lists) (sym (get_or-set_other kept at d new other (λ e. absurd (omega (arith, e, high))))) (i.left lists all d other (omega (arith, high)) (omega (arith, low, many)));
     }

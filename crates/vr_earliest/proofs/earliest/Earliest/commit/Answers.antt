@@ -4,8 +4,9 @@ use Rattle.vr_model.specs.moves.Moves.{with_route}
 use Rattle.vr_model.specs.tables.WellFormed.{IsWellFormed}
 use Rattle.vr_routes.specs.Pieces.{joined, no_part, part_at}
 use Rattle.vr_earliest.specs.declared.kept.Kept.{Kept}
-use Rattle.vr_earliest.specs.Kept.{AreAllKept}
-use Rattle.vr_earliest.proofs.PartLemmas.{many-valid, small-part, upto, upto-many, upto-next}
+use Rattle.vr_earliest.specs.Kept.{HaveAllWays}
+use Rattle.vr_parts.proofs.PartLemmas.{of-part, small-lists}
+use Rattle.vr_parts.proofs.SumLemmas.{upto, upto-many, upto-next}
 use Rattle.vr_earliest.proofs.KeptLemmas.{written}
 use Rattle.vr_earliest.proofs.earliest.Earliest.commit.Goals as goal
 
@@ -13,14 +14,14 @@ pub join_into-requires-clause-room : goal.join_into-requires-clause-room
 join_into-requires-clause-room c =
     let low = subst (λ n. c.loop-k.k < n) c.parts-k-end.ensures.value c.loop-k-test.true in
     let well = subst IsWellFormed (ap (λ s. s.model) c.self.view_is) c.self.invariant.well_formed in
-    let part = small-part c.args.self.now.model well c.args.routes.now.lists c.args.change.now c.requires.made.makes.parts_are c.requires.valid c.loop-k.k low in
+    let part = of-part c.args.self.now.model well c.args.routes.now.lists c.args.change.now c.requires.made.makes.parts_are c.requires.lists c.loop-k.k low in
     subst (λ l. length (joined c.args.routes.now.lists l) ≤ 1000) (sym c.pieces.ensures.value) part.few
 
 pub write_list-requires-clause-vehicle : goal.write_list-requires-clause-vehicle
 write_list-requires-clause-vehicle c =
     let low = subst (λ n. c.loop-k.k < n) c.parts-k-end.ensures.value c.loop-k-test.true in
     let well = subst IsWellFormed (ap (λ s. s.model) c.self.view_is) c.self.invariant.well_formed in
-    let many = many-valid c.args.self.now.model well c.args.routes.now.lists c.requires.stands.valid in
+    let many = (small-lists c.args.self.now.model well c.args.routes.now.lists c.requires.stands.lists_are).many in
     let known = c.requires.made.makes.parts_are.each_vehicle c.loop-k.k no_part low in
     subst (λ m. c.vehicle.result < length m.vehicles) (sym c.loop-k.invariant.model) (let e = c.vehicle.ensures in omega (arith, e, known, many))
 
@@ -29,7 +30,7 @@ write_list-requires-clause-nodes c =
     let lists : List (List ℕ) = c.args.routes.now.lists in
     let low = subst (λ n. c.loop-k.k < n) c.parts-k-end.ensures.value c.loop-k-test.true in
     let well = subst IsWellFormed (ap (λ s. s.model) c.self.view_is) c.self.invariant.well_formed in
-    let part = small-part c.args.self.now.model well lists c.args.change.now c.requires.made.makes.parts_are c.requires.valid c.loop-k.k low in
+    let part = of-part c.args.self.now.model well lists c.args.change.now c.requires.made.makes.parts_are c.requires.lists c.loop-k.k low in
     let list = c.as_slice.ensures.value ∙ c.join_into.ensures ∙ ap (joined lists) c.pieces.ensures.value in
     subst (λ m. All (λ node. node < m.nodes) c.as_slice.result.now) (sym c.loop-k.invariant.model) (subst (All (λ node. node < c.args.self.now.model.nodes)) (sym list) part.nodes)
 
@@ -50,12 +51,12 @@ loop-k-preserved c =
     let known = c.requires.made.makes.parts_are.each_vehicle k no_part low in
     let all_many = upto-many lists parts k in
     let list = c.as_slice.ensures.value ∙ c.join_into.ensures ∙ ap (joined lists) c.pieces.ensures.value in
-    let set = c.write_list.ensures base (subst (AreAllKept m base) (sym c.deref_mut.ensures.value) i.kept) (omega (arith, vehicle, known, all_many)) in
+    let set = c.write_list.ensures base (subst (HaveAllWays m base) (sym c.deref_mut.ensures.value) i.kept) (omega (arith, vehicle, known, all_many)) in
     let next : with_route base v c.as_slice.result.now ≡ upto lists parts (k + 1) =
     ap (with_route base v) list ∙ ap (λ w. with_route base w (joined lists part.pieces)) vehicle ∙ sym (ap (upto lists parts) (add-one k) ∙ upto-next lists parts k low) in
     record {
       model = i.model;
       floors = i.floors;
-      kept = subst (AreAllKept m (upto lists parts (k + 1))) (sym (written old new c.loop-k.self-inside.kept.len (set.many ∙ sym i.kept.many) (sym c.deref_mut.ensures.len ∙ ap length c.deref_mut.ensures.value)))
-          (subst (λ l. AreAllKept m l new) next set);
+      kept = subst (HaveAllWays m (upto lists parts (k + 1))) (sym (written old new c.loop-k.self-inside.kept.len (set.many ∙ sym i.kept.many) (sym c.deref_mut.ensures.len ∙ ap length c.deref_mut.ensures.value)))
+          (subst (λ l. HaveAllWays m l new) next set);
     }

@@ -5,7 +5,7 @@ use Rattle.vr_model.proofs.tables.Tests.{none_from_test}
 use Rattle.vr_routes.specs.Pieces.{no_part}
 use Rattle.vr_earliest.specs.declared.earlies.Early.{Early}
 use Rattle.vr_earliest.specs.declared.kept.Kept.{Kept}
-use Rattle.vr_earliest.specs.Kept.{AreKept}
+use Rattle.vr_earliest.specs.Kept.{HaveWays}
 use Rattle.vr_earliest.proofs.EarlyLemmas.{AreTold, told-more, told-unpaid, unpaid-where-none}
 use Rattle.vr_earliest.proofs.earliest.Earliest.write_after.Goals as goal
 use Rattle.vr_earliest.proofs.earliest.Earliest.write_after.Goals.{then-not-is_empty, else-not-is_empty}
@@ -24,7 +24,7 @@ loop-d-preserved c =
       | then-not-is_empty w ↦ (
           let row : List Early = w.row_after.result in
           let few = (subst IsWellFormed (ap (λ s. s.model) c.self.view_is) c.self.invariant.well_formed).number_of_dimensions in
-          let many = c.requires.stands.kept_are.many in
+          let many = c.requires.stands.ways.many in
           let all = ap (λ (l : List (List Kept)). length l) kept in
           let set = w.set.ensures.row in
           subst (AreTold model lists parts (d + 1)) (sym (w.out-is ∙ set))
@@ -37,7 +37,7 @@ loop-d-preserved c =
           let one : List Kept = c.index.result.now in
           let is : one ≡ slice_index_or c.args.self.now.kept d one = c.index.ensures ∙ ap (λ (l : List (List Kept)). slice_index_or l d one) kept in
           let all = ap (λ (l : List (List Kept)). length l) kept in
-          let here : AreKept model d lists one = subst (AreKept model d lists) (sym is) (c.requires.stands.kept_are.each d one (omega (arith, all, n, low))) in
+          let here : HaveWays model d lists one = subst (HaveWays model d lists) (sym is) (c.requires.stands.ways.each d one (omega (arith, all, n, low))) in
           let empty = none_from_test _ _ none c.is_empty.ensures in
           let length_is = ap (λ (l : List Kept). length l) c.behind-self.view_is in
           subst (AreTold model lists parts (d + 1)) (sym w.out-is)
@@ -46,7 +46,7 @@ loop-d-preserved c =
 
 pub returns : goal.returns
 returns c =
-    let many = c.requires.stands.kept_are.many in
+    let many = c.requires.stands.ways.many in
     let kept = ap (λ s. length s.kept) c.self.view_is in
     let n = c.len-d-end.ensures in
     let end = c.loop-d-test.false in

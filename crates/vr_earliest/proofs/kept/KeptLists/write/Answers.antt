@@ -1,6 +1,6 @@
 use Rattle.std.proofs.Common.{sym, subst, arith}
 use Rattle.vr_model.specs.moves.Moves.{with_route}
-use Rattle.vr_earliest.specs.Kept.{AreKept, IsKept}
+use Rattle.vr_earliest.specs.Kept.{HaveWays, HasWays}
 use Rattle.vr_earliest.proofs.KeptLemmas.{kept-set, kept-stays}
 use Rattle.vr_earliest.proofs.kept.KeptLists.write.Goals as goal
 
@@ -10,10 +10,10 @@ returns-then-v-len c lists h known =
     let e = c.of-guide.ensures in
     let list = c.args.list.now in
     let new = c.write.new.self in
-    let a = subst (λ model. IsKept model c.of-guide.result.d c.of-guide.result.v list new) e.model c.write.ensures in
-    let b = subst (λ d. IsKept m d c.of-guide.result.v list new) e.dimension a in
-    let is = subst (λ v. IsKept m c.args.d v list new) e.vehicle b in
-    let old = subst (AreKept m c.args.d lists) (sym c.self.view_is) h in
+    let a = subst (λ model. HasWays model c.of-guide.result.d c.of-guide.result.v list new) e.model c.write.ensures in
+    let b = subst (λ d. HasWays m d c.of-guide.result.v list new) e.dimension a in
+    let is = subst (λ v. HasWays m c.args.d v list new) e.vehicle b in
+    let old = subst (HaveWays m c.args.d lists) (sym c.self.view_is) h in
     let len = c.len.ensures in
     let low = c.if-v-len.true in
     kept-set m c.args.d lists c.self.inside.lists.items c.args.v list new old known (omega (arith, len, low)) is
@@ -22,5 +22,5 @@ pub returns-else-v-len : goal.returns-else-v-len
 returns-else-v-len c lists h known =
     let len = c.len.ensures in
     let high = c.if-v-len.false in
-    subst (AreKept c.args.model.now c.args.d (with_route lists c.args.v c.args.list.now)) c.self.view_is
-    (kept-stays c.args.model.now c.args.d lists c.self.inside.lists.items c.args.v c.args.list.now (subst (AreKept c.args.model.now c.args.d lists) (sym c.self.view_is) h) (omega (arith, len, high)))
+    subst (HaveWays c.args.model.now c.args.d (with_route lists c.args.v c.args.list.now)) c.self.view_is
+    (kept-stays c.args.model.now c.args.d lists c.self.inside.lists.items c.args.v c.args.list.now (subst (HaveWays c.args.model.now c.args.d lists) (sym c.self.view_is) h) (omega (arith, len, high)))
