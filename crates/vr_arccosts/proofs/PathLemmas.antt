@@ -1,5 +1,5 @@
 -- Paths along the pieces of a list.
-use Rattle.std.proofs.Common.{◌≡◌, ◌∙◌, ℕ, zero, suc, ◌+◌, ◌-◌, ◌<◌, ◌≤◌, true, false, cond, List, [], ◌∷◌, ◌++◌, length, take, drop, refl, sym, ap, arith, length-append}
+use Rattle.std.proofs.Common.{◌≡◌, ◌∙◌, ℕ, zero, suc, ◌+◌, ◌-◌, ◌<◌, ◌≤◌, false, cond, List, [], ◌∷◌, ◌++◌, length, take, drop, refl, sym, ap, arith, length-append}
 use Rattle.std.specs.Prelude.{ℤ, pos, ◌+ℤ◌, ◌-ℤ◌, slice_index_or, slice_range, All}
 use Rattle.std.proofs.lemmas.Int.{ints}
 use Rattle.std.proofs.lemmas.List.{get_or-take, drop-drop, drop_all, length-drop, length-take-le, take-append-drop}
@@ -10,21 +10,10 @@ use Rattle.vr_model.specs.tables.WellFormed.{IsWellFormed}
 use Rattle.vr_model.specs.routes.Routes.{arcs_from, cost_of_arc, is_empty, route_cost}
 use Rattle.vr_sums.specs.Sums.{path_sum, last_of, IsUpTo}
 use Rattle.vr_sums.proofs.Paths.{path-append, last-append}
+use Rattle.vr_parts.proofs.EmptyLemmas.{empty-where, some-where}
 use Rattle.vr_arccosts.specs.Chains.{first_of}
 use Rattle.vr_arccosts.specs.Along.{between_cost}
 use Rattle.vr_arccosts.proofs.ChainLemmas.{path-bounds, costs-of, last-at}
-
--- ---- lists with and without nodes
-
-pub empty-where : (list : List ℕ) → length list ≡ 0 → is_empty list ≡ true
-empty-where [] e = refl
-empty-where (x ∷ xs) e = absurd (omega (arith, e))
-
-pub some-where : (list : List ℕ) → (length list ≡ 0 → ⊥) → is_empty list ≡ false
-some-where [] some = absurd (some refl)
-some-where (x ∷ xs) some = refl
-
--- ---- the cost of a list
 
 pub as-path : (model : Model) (v at : ℕ) (xs : List ℕ) → total_by (cost_of_arc model) (arcs_from v at xs) ≡ path_sum (arc_cost model v) at xs
 as-path model v at [] = refl

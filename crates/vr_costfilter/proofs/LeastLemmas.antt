@@ -29,9 +29,8 @@ use Rattle.vr_earliest.specs.Laws.{IsNoEarlier}
 use Rattle.vr_earliest.proofs.NoEarlier.{law}
 use Rattle.vr_costfilter.specs.PlanCosts.{plans_cost, plans_least, soft_and_span, spans_least, IsIdle}
 use Rattle.vr_parts.specs.Sums.{part_less}
-use Rattle.vr_costfilter.proofs.GroupLemmas.{total-more}
 use Rattle.vr_costfilter.proofs.PlanLemmas.{idle-sum, plans-over}
-use Rattle.vr_parts.proofs.SumLemmas.{changed-sum, part-list}
+use Rattle.vr_parts.proofs.SumLemmas.{changed-sum, part-list, total-more}
 
 pub times-le : (c x y : ℤ) → pos 0 ≤ℤ c → x ≤ℤ y → (c *ℤ x) ≤ℤ (c *ℤ y)
 times-le (pos m) (pos a) (pos b) low le = let h : a ≤ b = omega (arith, ints, le) in let p : m * a ≤ m * b = mul-le-mul_left m h in omega (arith, ints, p)

@@ -1,5 +1,3 @@
-pub mod FixedLemmas
-pub mod GroupLemmas
 pub mod PlanLemmas
 pub mod LeastLemmas
 pub mod GlobalLemmas

@@ -2,17 +2,14 @@
 //! penalties of groups, soft upper bounds and spans, and global spans.
 #![tactic(auto)]
 
-mod fixed;
 mod globals;
-mod groups;
 mod plans;
 mod reaches;
 mod schedules;
 mod spreads;
 
-pub use fixed::FixedCost;
 pub use globals::GlobalSpan;
-pub use groups::GroupCost;
 pub use plans::PlanCost;
 pub use vr_arccosts::ArcCost;
 pub use vr_parts::CostPart;
+pub use vr_usecosts::{FixedCost, GroupCost};

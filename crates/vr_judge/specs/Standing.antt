@@ -4,9 +4,9 @@ use Rattle.vr_model.specs.tables.Tables.{visits}
 use Rattle.vr_model.specs.declared.records.Model.{Model}
 use Rattle.vr_routes.specs.Tours.{Tours}
 use Rattle.vr_arccosts.specs.Along.{KeptAlong, StandsAlong}
-use Rattle.vr_costfilter.specs.Fixed.{KeptFixed, StandsFixed}
+use Rattle.vr_usecosts.specs.Fixed.{KeptFixed, StandsFixed}
 use Rattle.vr_costfilter.specs.GlobalCosts.{KeptSpans, StandsSpans}
-use Rattle.vr_costfilter.specs.Groups.{KeptGroups, StandsGroups}
+use Rattle.vr_usecosts.specs.Groups.{KeptGroups, StandsGroups}
 use Rattle.vr_costfilter.specs.PlanCosts.{KeptPlans, StandsPlans}
 use Rattle.vr_earliest.specs.Kept.{KeptEarly, StandsEarliest}
 use Rattle.vr_judge.specs.Rules.{keeps_rules, total_weight}

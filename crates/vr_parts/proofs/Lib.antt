@@ -1,3 +1,4 @@
 pub mod SumLemmas
 pub mod PartLemmas
 pub mod RowLemmas
+pub mod EmptyLemmas

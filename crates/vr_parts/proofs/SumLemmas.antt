@@ -3,7 +3,7 @@ use Rattle.std.proofs.Common.{◌≡◌, ◌≢◌, ◌∙◌, ℕ, zero, suc, �
 use Rattle.std.specs.Prelude.{ℤ, ◌+ℤ◌, ◌-ℤ◌, slice_index_or, All}
 use Rattle.std.proofs.lemmas.Int.{ints}
 use Rattle.std.proofs.lemmas.Bool.{cases_lt}
-use Rattle.std.proofs.lemmas.List.{get_or-take, get_or_default, length-take-le, take_all}
+use Rattle.std.proofs.lemmas.List.{get_or-take, get_or_default, length-take-le, take_all, take_more}
 use Rattle.std.proofs.Math.Seq.{take-suc}
 use Rattle.vr_model.specs.tables.Numbers.{total_by}
 use Rattle.vr_model.specs.routes.Routes.{route}
@@ -16,6 +16,13 @@ use Rattle.vr_model.proofs.routes.Lists.{route_set_same, route_set_other}
 use Rattle.vr_routes.proofs.CommitLemmas.{as_many_lists}
 use Rattle.vr_routes.proofs.PartLemmas.{part_is}
 use Rattle.vr_parts.specs.Sums.{over_routes, part_change}
+
+-- a sum over one value more of a list
+pub total-more : {A : Type 0} (f : A → ℤ) (xs : List A) (k : ℕ) (d : A) → k < length xs → total_by f (take (k + 1) xs) ≡ total_by f (take k xs) +ℤ f (slice_index_or xs k d)
+total-more f xs k d low =
+    let a = ap (total_by f) (take_more xs k d low) in
+    let b = total_by-append f (take k xs) (slice_index_or xs k d ∷ []) in
+    omega (arith, ints, a, b)
 
 -- two sums over a range that differ at one place
 sum-but : (g h : ℕ → ℤ) (a n v : ℕ) → a ≤ v → v < a + n → ((u : ℕ) → u ≢ v → g u ≡ h u) → sum_range g a n +ℤ h v ≡ sum_range h a n +ℤ g v
@@ -83,10 +90,7 @@ upto-kept lists parts are k low = route-kept lists (take k parts) lists (part_at
 -- one part more
 pub change-next : (f : ℕ → List ℕ → ℤ) (lists : List (List ℕ)) (parts : List ListAfter) (k : ℕ) → k < length parts
     → total_by (part_change f lists) (take (suc k) parts) ≡ total_by (part_change f lists) (take k parts) +ℤ part_change f lists (part_at parts k)
-change-next f lists parts k low =
-    let a = ap (total_by (part_change f lists)) (take-suc parts k no_part low) in
-    let b = total_by-append (part_change f lists) (take k parts) (part_at parts k ∷ []) in
-    omega (arith, ints, a, b)
+change-next f lists parts k low = ap (λ n. total_by (part_change f lists) (take n parts)) (sym (add-one k)) ∙ total-more (part_change f lists) parts k no_part low
 
 module _ (f : ℕ → List ℕ → ℤ) (lists : List (List ℕ)) (parts : List ListAfter) (are : AreParts lists parts) where
   sum-upto : (k : ℕ) → k ≤ length parts → over_routes f (upto lists parts k) ≡ over_routes f lists +ℤ total_by (part_change f lists) (take k parts)

@@ -3,7 +3,8 @@ use Rattle.std.specs.Prelude.{◌==◌}
 use Rattle.vr_model.specs.routes.Routes.{route}
 use Rattle.vr_routes.specs.Pieces.{joined}
 use Rattle.vr_routes.proofs.JoinedPieces.{empty_by_length}
-use Rattle.vr_arccosts.proofs.PathLemmas.{many-apart, some-where}
+use Rattle.vr_parts.proofs.EmptyLemmas.{some-where}
+use Rattle.vr_arccosts.proofs.PathLemmas.{many-apart}
 use Rattle.vr_arccosts.proofs.walks.is_left_empty.Goals as goal
 
 pub returns-then-gap-gt0 : goal.returns-then-gap-gt0

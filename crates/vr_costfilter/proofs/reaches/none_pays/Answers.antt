@@ -1,5 +1,5 @@
 use Rattle.std.proofs.Common.{◌≡◌, ◌∙◌, ap, subst, arith, inl, inr}
-use Rattle.std.proofs.lemmas.Bool.{cases_lt}
+use Rattle.std.proofs.lemmas.Bool.{cases_lt, false≢true}
 use Rattle.std.proofs.lemmas.Int.{ints}
 use Rattle.std.specs.Prelude.{pos}
 use Rattle.vr_model.specs.tables.Tables.{dimension_at, no_dimension}
@@ -19,3 +19,6 @@ returns c _ d low =
     let end = c.loop-d-test.false in
     let many = c.len-d-end.ensures in
     c.loop-d.invariant d (omega (arith, low, end, many))
+
+pub returns-then-get-ne0 : goal.returns-then-get-ne0
+returns-then-get-ne0 c none = absurd (false≢true none)

@@ -1,5 +1,5 @@
 use Rattle.std.proofs.Common.{◌≡◌, ◌∙◌, ap, subst, arith, inl, inr}
-use Rattle.std.proofs.lemmas.Bool.{cases_lt}
+use Rattle.std.proofs.lemmas.Bool.{cases_lt, false≢true}
 use Rattle.vr_model.specs.tables.Tables.{dimension_at}
 use Rattle.vr_timings.specs.Paying.{PaysNothing}
 use Rattle.vr_timings.proofs.TableLemmas.{table_at}
@@ -25,3 +25,6 @@ returns c _ =
       plans = λ v list. idle-all c.args.model.now v list (λ d low. c.loop-d.invariant d (omega (arith, n, high, low)) v list);
       spans = λ v list. idle-spans c.args.model.now v list (λ d low. c.loop-d.invariant d (omega (arith, n, high, low)) v list);
     }
+
+pub returns-then-not-tables-d : goal.returns-then-not-tables-d
+returns-then-not-tables-d c none = absurd (false≢true none)

@@ -5,7 +5,7 @@ use Rattle.vr_model.specs.tables.Numbers.{total_by, below}
 use Rattle.vr_model.proofs.tables.Totals.{total_by-more}
 use Rattle.vr_timings.specs.Timings.{soft_with, span_with}
 use Rattle.vr_timings.proofs.TableLemmas.{table_at}
-use Rattle.vr_costfilter.proofs.FixedLemmas.{some-by-test}
+use Rattle.vr_parts.proofs.EmptyLemmas.{some-by-test}
 use Rattle.vr_costfilter.proofs.schedules.cost_of_plans.Goals as goal
 
 pub cost_of_plan-requires-clause-table : goal.cost_of_plan-requires-clause-table

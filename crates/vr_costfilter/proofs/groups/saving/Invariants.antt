@@ -1,7 +1,0 @@
-use Rattle.std.proofs.Common.{◌≡◌, drop}
-use Rattle.vr_costfilter.specs.Groups.{saved_by}
-use Rattle.vr_costfilter.proofs.groups.saving.Given as goal
-
--- the groups so far have not the node
-abbrev pub invariant-loop-g : goal.invariant-loop-g
-invariant-loop-g l = saved_by l.model.groups l.node ≡ saved_by (drop l.g l.model.groups) l.node

@@ -1,0 +1,318 @@
+//! The penalties of groups.
+
+ghost use Rattle.std.specs.Prelude.{◌≡◌, ◌≢◌, ◌<◌, ◌≤◌, ◌-ℤ◌, ◌*ℤ◌, ◌≤ℤ◌, ℕ, ℤ, false, pos};
+ghost use Rattle.std.specs.Prelude.{All, IsTrue, IfOk, IsOk, OnOk, OnErr, length};
+ghost use Rattle.vr_model.specs.tables.Numbers.{number_at, total_by};
+ghost use Rattle.vr_model.specs.tables.Tables.{visits};
+ghost use Rattle.vr_model.specs.tables.WellFormed.{greatest_cost, IsIn, IsWellFormed, WherePresent};
+ghost use Rattle.vr_model.specs.routes.Routes.{holds};
+ghost use Rattle.vr_model.specs.routes.Costs.{penalty_for, penalty_part};
+ghost use Rattle.vr_model.specs.routes.Rules.{active_in as active_in_of, fits_group, is_valid};
+ghost use Rattle.vr_routes.specs.Changes.{IsMadeOn};
+ghost use Rattle.vr_routes.specs.Pieces.{changed, nodes_of, IsWithin};
+ghost use Rattle.vr_parts.specs.Bounds.{IsAddedByChange};
+ghost use Rattle.vr_parts.specs.Parts.{NothingReady};
+ghost use Rattle.vr_sums.specs.Sums.{IsUpTo};
+ghost use Rattle.vr_usecosts.specs.Groups.{pay, saved_by, saved_in as saved_in_of, AreSaved, AreFew, StandsGroups};
+
+use std::alloc::Global;
+use std::marker::Model;
+use vr_balance::{Balance, active_in};
+use vr_model::{Group, Model as RoutingModel, NoMemory, Seq};
+use vr_parts::CostPart;
+use vr_routes::{Change, Piece, Routes};
+
+/// The penalties of groups whose nodes are not all active (`AddDisjunction` in OR-Tools). It looks at the nodes that
+/// become active or inactive alone.
+#[derive(Drop)]
+pub struct GroupCost<'m> {
+    model: &'m RoutingModel,
+    // for each node what it saves where it is active: the penalty of its group
+    saved: Seq<i64>,
+    // whether some group has a penalty that is not 0
+    pays: bool,
+    // the penalties at the committed lists
+    total: i64,
+    balance: Balance,
+}
+
+impl<'m> Model for GroupCost<'m> {
+    ghost use Rattle.vr_usecosts.specs.Groups.{KeptGroups};
+
+    ghost Value = { KeptGroups };
+
+    ghost view = { λ part. record {
+      model = part.model.now;
+      saved = part.saved;
+      pays = part.pays;
+      total = part.total;
+    } };
+}
+
+// What an active node of a group saves.
+fn penalty(group: &Group) -> i64
+    requires present { WherePresent (IsIn (pos 0) greatest_cost) group.now.penalty }
+    ensures value { result ≡ pos (pay group.now.penalty) }
+    ensures range { IsUpTo 1 result }
+{
+    match group.penalty {
+        Some(penalty) => penalty,
+        None => 0,
+    }
+}
+
+// Whether the group has the node.
+fn has_node(group: &Group, node: u32) -> bool
+    ensures { result ≡ holds group.now.nodes node }
+{
+    group.nodes.as_slice().contains(&node)
+}
+
+// What a node saves where it is active.
+fn saving(model: &RoutingModel, node: u32) -> i64
+    requires well_formed { IsWellFormed model.now }
+    ensures value { result ≡ pos (saved_by model.now.groups node) }
+    ensures range { IsUpTo 1 result }
+{
+    for g in 0..model.groups.len() {
+        let group = model.groups.get(g);
+        if has_node(group, node) {
+            return penalty(group);
+        }
+    }
+    0
+}
+
+// What each node saves where it is active.
+fn savings(alloc: Global, model: &RoutingModel) -> Result<Seq<i64>, NoMemory>
+    requires well_formed { IsWellFormed model.now }
+    ensures { IfOk result (AreSaved model.now) }
+{
+    let mut saved = Seq::new(alloc);
+    for node in 0..model.nodes {
+        saved.push(saving(model, node))?;
+    }
+    Ok(saved)
+}
+
+// Whether some group has a penalty that is not 0.
+fn is_some_paid(model: &RoutingModel) -> bool
+    requires well_formed { IsWellFormed model.now }
+    ensures { result ≡ false → All (λ group. pay group.penalty ≡ 0) model.now.groups }
+{
+    for g in 0..model.groups.len() {
+        if penalty(model.groups.get(g)) != 0 {
+            return true;
+        }
+    }
+    false
+}
+
+// What a node saves.
+#[inline]
+fn saved_at(saved: &Seq<i64>, node: u32) -> i64
+    requires few { AreFew saved.now }
+    ensures value { result ≡ number_at saved.now node }
+    ensures range { IsUpTo 1 result }
+{
+    if (node as usize) < saved.len() {
+        return *saved.get(node as usize);
+    }
+    0
+}
+
+// What some nodes save.
+fn saved_by_nodes(saved: &Seq<i64>, nodes: &[u32]) -> i64
+    requires few { AreFew saved.now }
+    requires few_nodes { length nodes.now ≤ 1000 }
+    ensures value { result ≡ total_by (number_at saved.now) nodes.now }
+    ensures range { IsUpTo 1000 result }
+{
+    let mut total = 0;
+    for k in 0..nodes.len() {
+        total += saved_at(saved, nodes[k]);
+    }
+    total
+}
+
+// What the nodes of a piece save.
+fn saved_by_piece(saved: &Seq<i64>, routes: &Routes, piece: Piece) -> i64
+    requires few { AreFew saved.now }
+    requires within { IsWithin routes.now.lists piece }
+    ensures value { result ≡ total_by (number_at saved.now) (nodes_of routes.now.lists piece) }
+    ensures range { IsUpTo 1000 result }
+{
+    match piece {
+        Piece::Node { node } => saved_by_nodes(saved, &[node]),
+        Piece::Chain {
+            vehicle,
+            from,
+            to,
+            ..
+        } => saved_by_nodes(saved, &routes.list(vehicle)[from as usize..to as usize]),
+    }
+}
+
+// What the nodes of pieces save.
+fn saved_in(saved: &Seq<i64>, routes: &Routes, pieces: &[Piece]) -> i64
+    requires few { AreFew saved.now }
+    requires within { All (IsWithin routes.now.lists) pieces.now }
+    requires few_pieces { length pieces.now ≤ 18 }
+    ensures value { result ≡ saved_in_of saved.now routes.now.lists pieces.now }
+    ensures range { IsUpTo 18000 result }
+{
+    let mut total = 0;
+    for k in 0..pieces.len() {
+        total += saved_by_piece(saved, routes, pieces[k]);
+    }
+    total
+}
+
+// A penalty for each of so many nodes.
+fn for_each(penalty: i64, nodes: u32) -> i64
+    requires penalty { IsUpTo 1 penalty }
+    requires few { nodes ≤ 1000 }
+    ensures value { result ≡ (penalty *ℤ pos nodes) }
+    ensures range { IsUpTo 1000 result }
+{
+    penalty * i64::from(nodes)
+}
+
+// What a group costs: its penalty for each node that it lacks.
+fn penalty_of(routes: &Routes, group: &Group) -> i64
+    requires present { WherePresent (IsIn (pos 0) greatest_cost) group.now.penalty }
+    requires few { group.now.max ≤ 1000 }
+    requires fits { IsTrue (fits_group routes.now.lists group.now) }
+    ensures value { result ≡ penalty_for group.now.penalty group.now.max (active_in_of routes.now.lists group.now) }
+    ensures range { IsUpTo 1000 result }
+{
+    let active = active_in(routes, group);
+    match group.penalty {
+        Some(penalty) => for_each(penalty, group.max - active as u32),
+        None => 0,
+    }
+}
+
+// What the groups cost.
+fn penalties(model: &RoutingModel, routes: &Routes) -> i64
+    requires well_formed { IsWellFormed model.now }
+    requires valid { IsTrue (is_valid model.now routes.now.lists) }
+    ensures { result ≡ penalty_part model.now routes.now.lists }
+{
+    let mut total = 0;
+    for g in 0..model.groups.len() {
+        total += penalty_of(routes, model.groups.get(g));
+    }
+    total
+}
+
+impl<'m> GroupCost<'m> {
+    /// The penalties at the lists of routes. The only refusal is want of memory.
+    pub fn open(
+        alloc: Global,
+        model: &'m RoutingModel,
+        routes: &Routes,
+    ) -> Result<GroupCost<'m>, NoMemory>
+        requires well_formed { IsWellFormed model.now }
+        requires of_model { routes.now.visits ≡ visits model.now }
+        requires valid { IsTrue (is_valid model.now routes.now.lists) }
+        ensures model { IfOk result (λ part. part.model ≡ model.now) }
+        ensures stands { IfOk result (λ part. StandsGroups part routes.now) }
+    {
+        let saved = savings(alloc, model)?;
+        let pays = is_some_paid(model);
+        let total = penalties(model, routes);
+        Ok(GroupCost {
+            model,
+            saved,
+            pays,
+            total,
+            balance: Balance::new(),
+        })
+    }
+
+    /// What a change of the committed lists adds, also where the lists after it are not valid.
+    pub fn added(&mut self, routes: &Routes, change: &Change) -> i64
+        requires stands { StandsGroups self.old routes.now }
+        requires made { IsMadeOn routes.now change.now }
+        ensures exact { result ≡ penalty_part self.old.model (changed routes.now.lists change.now)
+            -ℤ penalty_part self.old.model routes.now.lists }
+        ensures range { IsAddedByChange result }
+        ensures stays { self.new ≡ self.old }
+    {
+        if !self.pays {
+            return 0;
+        }
+        self.balance.write(routes, change);
+        let gone = saved_in(&self.saved, routes, self.balance.gone());
+        let come = saved_in(&self.saved, routes, self.balance.come());
+        gone - come
+    }
+
+    /// What a change of the committed lists adds at least, where the lists after it are valid: 0 where the committed
+    /// ones have no penalty to pay, of which the change is not looked at, and else what it adds.
+    #[inline]
+    pub fn least(&mut self, routes: &Routes, change: &Change) -> i64
+        requires stands { StandsGroups self.old routes.now }
+        requires made { IsMadeOn routes.now change.now }
+        ensures least { IsTrue (is_valid self.old.model (changed routes.now.lists change.now))
+            → result ≤ℤ (penalty_part self.old.model (changed routes.now.lists change.now)
+            -ℤ penalty_part self.old.model routes.now.lists) }
+        ensures none { self.old.total ≡ pos 0 → result ≡ pos 0 }
+        ensures some { self.old.total ≢ pos 0
+            → result ≡ penalty_part self.old.model (changed routes.now.lists change.now)
+            -ℤ penalty_part self.old.model routes.now.lists }
+        ensures range { IsAddedByChange result }
+        ensures stays { self.new ≡ self.old }
+    {
+        if self.total == 0 {
+            return 0;
+        }
+        let added = self.added(routes, change);
+        added
+    }
+}
+
+impl<'m> CostPart for GroupCost<'m> {
+    ghost use Rattle.std.specs.Prelude.{List};
+
+    ghost model = { λ part. part.model };
+
+    ghost value = { penalty_part };
+
+    ghost stands_at = { StandsGroups };
+
+    ghost ready = { λ part tours parts. Unit {0} };
+
+    fn difference(&mut self, routes: &Routes, change: &Change) -> Result<i64, NoMemory>
+        requires stands { StandsGroups self.old routes.now }
+        requires made { IsMadeOn routes.now change.now }
+        requires valid { IsTrue (is_valid self.old.model (changed routes.now.lists change.now)) }
+        ensures exact { IfOk result (λ difference. difference
+            ≡ penalty_part self.old.model (changed routes.now.lists change.now)
+            -ℤ penalty_part self.old.model routes.now.lists) }
+        ensures stands { StandsGroups self.new routes.now }
+        ensures model { self.new.model ≡ self.old.model }
+        ensures memory { IsOk result }
+        ensures range { IfOk result IsAddedByChange }
+    {
+        let added = self.added(routes, change);
+        Ok(added)
+    }
+
+    fn prepare(&mut self, _routes: &Routes, _change: &Change) -> Result<(), NoMemory>
+        requires stands { StandsGroups self.old _routes.now }
+        ensures ready { OnOk result (Unit {0}) }
+        ensures unready { OnErr result (NothingReady (λ tours parts. Unit {0})) }
+        ensures stands { StandsGroups self.new _routes.now }
+        ensures model { self.new.model ≡ self.old.model }
+        ensures memory { IsOk result }
+    {
+        Ok(())
+    }
+
+    fn commit(&mut self, routes: &Routes, change: &Change) {
+        let added = self.added(routes, change);
+        self.total += added;
+    }
+}

@@ -1,0 +1,9 @@
+//! Parts of the cost that tell which vehicles and which nodes are used, and not in what order: the fixed costs of used
+//! vehicles, and the penalties of groups.
+#![tactic(auto)]
+
+mod fixed;
+mod groups;
+
+pub use fixed::FixedCost;
+pub use groups::GroupCost;
