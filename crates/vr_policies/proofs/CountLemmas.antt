@@ -4,7 +4,7 @@ use Rattle.std.specs.Prelude.{IsTrue, ◌==◌, ◌||◌, Option, Some, None, sl
 use Rattle.std.proofs.lemmas.Bool.{cases_lt}
 use Rattle.std.proofs.lemmas.List.{get_or-set_other, get_or-set_same, length-take-le, take_all}
 use Rattle.std.proofs.lemmas.List.Sums.{count_by-le-length, count_by_more_no, count_by_more_yes}
-use Rattle.vr_model.specs.deciding.Testing.{eq_of_test, or_cases, test_of_eq}
+use Rattle.vr_model.specs.deciding.Testing.{eq_of_test, test_of_eq}
 use Rattle.vr_model.specs.declared.records.Model.{Model}
 use Rattle.vr_model.specs.declared.records.Pair.{Pair}
 use Rattle.vr_model.specs.first.Items.{pair_of}
@@ -16,7 +16,7 @@ use Rattle.vr_model.proofs.tables.Members.{In}
 use Rattle.vr_model.proofs.tables.Tests.{clash, fails}
 use Rattle.vr_walks.specs.Spliced.{AreSeams, spliced}
 use Rattle.vr_policies.specs.declared.counts.Counts.{Counts}
-use Rattle.vr_policies.specs.Counted.{AreCounted, count_of, counts, no_counts, with_node, with_node_of}
+use Rattle.vr_policies.specs.Counted.{count_of, counts, no_counts, with_node, with_node_of}
 use Rattle.vr_policies.specs.Turns.{deliveries_in, is_delivery, is_pickup, pickups_in}
 use Rattle.vr_policies.proofs.PairsFound.{any_of, found_in, is_of, one_with, pair_found, two_nodes}
 use Rattle.vr_policies.proofs.Splices.{at_end_of_middle, count_rises, in_back, in_front, in_middle}
@@ -90,8 +90,8 @@ module _ (model : Model) (well_formed : IsWellFormed model) (list : List ℕ) (k
       by None e =
           ap (λ f. with_node_of f (counts model (take k list)) node) e
           ∙ both_counts
-              (sym (count_by_more_no (is_pickup model) list k 0 low (no_pickup (λ pair _ _ g. absent (pair_of model node) e pair g))))
-              (sym (count_by_more_no (is_delivery model) list k 0 low (no_delivery (λ pair _ _ g. absent (pair_of model node) e pair g))))
+          (sym (count_by_more_no (is_pickup model) list k 0 low (no_pickup (λ pair _ _ g. absent (pair_of model node) e pair g))))
+          (sym (count_by_more_no (is_delivery model) list k 0 low (no_delivery (λ pair _ _ g. absent (pair_of model node) e pair g))))
       by (Some pair) e =
           let r = found_in (is_of node) model.pairs pair e in
           ap (λ f. with_node_of f (counts model (take k list)) node) e ∙ by_kind pair e r.0 r.1 (pair.pickup == node) refl

@@ -4,7 +4,7 @@ use Rattle.std.specs.Prelude.{IsTrue, nat_lt, nat_le, ◌&&◌, count_by}
 use Rattle.std.proofs.lemmas.Bool.{cases_lt}
 use Rattle.std.proofs.lemmas.Bool.Decides.{nat_tests}
 use Rattle.std.proofs.lemmas.List.Sums.{sum_by-cons}
-use Rattle.vr_model.specs.deciding.Testing.{and_left, and_right, and_both}
+use Rattle.vr_model.specs.deciding.Testing.{and_left, and_right}
 use Rattle.vr_model.proofs.tables.Members.{In}
 use Rattle.vr_model.proofs.tables.Tests.{clash, lt_of_test, nat_of_test, test_of_lt}
 
@@ -114,14 +114,14 @@ module _ {A : Type 0} (xs : List A) (p d : A → ℕ) (n : ℕ) (served : AreSer
       elim (cases_lt (d x) (d y)) [
         | inl less ↦ less
         | inr not_less ↦ absurd
-          (let more = count_lt (λ z. nat_lt (p z) (p x)) (λ z. nat_lt (p z) (p y)) xs
-              (λ z _ before. let l = lt_of_test (p z) (p x) before in test_of_lt (p z) (p y) (omega (arith, l, order)))
-              x among (Prim.grind (arith, nat_tests)) (test_of_lt (p x) (p y) order) in
-          let fewer = count_le (λ z. nat_lt (d z) (d y)) (λ z. nat_lt (d z) (d x)) xs
-              (λ z _ before. let l = lt_of_test (d z) (d y) before in test_of_lt (d z) (d x) (omega (arith, l, not_less))) in
-          let a = counts x among low in
-          let b = counts y there low_too in
-          omega (arith, more, fewer, a, b))
+            (let more = count_lt (λ z. nat_lt (p z) (p x)) (λ z. nat_lt (p z) (p y)) xs
+            (λ z _ before. let l = lt_of_test (p z) (p x) before in test_of_lt (p z) (p y) (omega (arith, l, order)))
+            x among (Prim.grind (arith, nat_tests)) (test_of_lt (p x) (p y) order) in
+            let fewer = count_le (λ z. nat_lt (d z) (d y)) (λ z. nat_lt (d z) (d x)) xs
+            (λ z _ before. let l = lt_of_test (d z) (d y) before in test_of_lt (d z) (d x) (omega (arith, l, not_less))) in
+            let a = counts x among low in
+            let b = counts y there low_too in
+            omega (arith, more, fewer, a, b))
       ]
 
   abbrev pub IsLastOut : Type 0
@@ -176,8 +176,8 @@ module _ {A : Type 0} (xs : List A) (p d : A → ℕ) (n : ℕ) (served : AreSer
       let a = count_between p (p x + 1) (d x) (omega (arith, span)) xs in
       let b = count_between d (p x + 1) (d x) (omega (arith, span)) xs in
       let fewer = count_lt (within d x) (within p x) xs (λ z among_too inside_too. by z among_too inside_too (λ turned. none_cross level k z x among_too among turned)) y there
-          (let e : within d x y ≡ false = Prim.grind (arith, nat_tests) in e)
-          (let e : within p x y ≡ true = Prim.grind (arith, nat_tests) in e) in
+      (let e : within d x y ≡ false = Prim.grind (arith, nat_tests) in e)
+      (let e : within p x y ≡ true = Prim.grind (arith, nat_tests) in e) in
       omega (arith, is, a, b, fewer)
     where
       by : (z : A) → In xs z → IsTrue (within d x z) → (p z < k → p z < p x → p x < d z → d z ≤ d x → d z < n → ⊥) → IsTrue (within p x z)

@@ -1,17 +1,17 @@
 -- How many of the first nodes of a list are pickups or deliveries, told by the places of the pairs.
-use Rattle.std.proofs.Common.{◌≡◌, ◌∙◌, ℕ, zero, suc, ◌+◌, ◌<◌, ◌≤◌, List, [], ◌∷◌, ◌++◌, Bool, true, false, cond, not, length, take, drop, refl, sym, ap, ap₂, subst, inl, inr, arith}
-use Rattle.std.specs.Prelude.{IsTrue, nat_lt, ◌==◌, ◌&&◌, ◌||◌, count_by, map, slice_index}
+use Rattle.std.proofs.Common.{◌≡◌, ◌∙◌, ℕ, zero, suc, ◌+◌, ◌<◌, ◌≤◌, List, [], ◌∷◌, Bool, true, false, cond, not, length, take, drop, refl, sym, ap, ap₂, subst, inl, inr, arith}
+use Rattle.std.specs.Prelude.{IsTrue, nat_lt, ◌==◌, ◌||◌, count_by, map, slice_index}
 use Rattle.std.specs.List.{list_any}
 use Rattle.std.proofs.lemmas.Bool.Decides.{nat_tests}
 use Rattle.std.proofs.lemmas.List.{take-append-drop}
 use Rattle.std.proofs.lemmas.List.Sums.{position_or_len_is}
-use Rattle.vr_model.specs.deciding.Testing.{and_left, and_right, and_both, or_cases, or_left, or_right, eq_of_test, test_of_eq}
+use Rattle.vr_model.specs.deciding.Testing.{and_left, and_right, or_left, or_right, eq_of_test, test_of_eq}
 use Rattle.vr_model.specs.routes.Routes.{holds, is_distinct}
 use Rattle.vr_model.specs.routes.Rules.{place_of}
 use Rattle.vr_model.proofs.moves.Times.{at_least_two, times_of_distinct}
 use Rattle.vr_model.proofs.routes.Lists.{is_distinct-left}
 use Rattle.vr_model.proofs.tables.Members.{In}
-use Rattle.vr_model.proofs.tables.Tests.{apart, clash, eq_turned, fails, fails_not, or-false_left, or-false_right}
+use Rattle.vr_model.proofs.tables.Tests.{apart, clash, eq_turned, fails_not}
 use Rattle.vr_policies.proofs.Counting.{count_more, once}
 
 -- ---- counting pairs and counting nodes
@@ -72,7 +72,7 @@ counted_there f all distinct (x ∷ xs) apart =
     count_more (λ node. list_any (λ z. f z == node) all) x xs
     ∙ (ap₂ (λ m n. m + n) (sym (one_counted f x all distinct)) (counted_there f all distinct xs (and_right (not (holds xs x)) (is_distinct xs) apart))
     ∙ count_either (λ z. f z == x) (λ z. holds xs (f z)) all
-        (λ z same. ap (holds xs) (eq_of_test (f z) x same) ∙ fails_not (holds xs x) (and_left (not (holds xs x)) (is_distinct xs) apart)))
+    (λ z same. ap (holds xs) (eq_of_test (f z) x same) ∙ fails_not (holds xs x) (and_left (not (holds xs x)) (is_distinct xs) apart)))
 
 -- ---- the first nodes of a list
 

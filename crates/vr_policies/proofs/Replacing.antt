@@ -1,7 +1,7 @@
 -- Which pairs come in turn where other nodes stand in the place of a stretch of a list.
 use Rattle.std.proofs.Common.{◌≡◌, ◌∙◌, ◌⊎◌, inl, inr, ℕ, zero, suc, ◌+◌, ◌-◌, ◌<◌, ◌≤◌, List, [], ◌∷◌, ◌++◌, Bool, true, false, length, take, drop, refl, sym, ap, subst, arith}
-use Rattle.std.specs.Prelude.{IsTrue, ◌==◌, ◌&&◌, ◌||◌, nat_le, count_by, slice_index}
-use Rattle.std.specs.List.{list_all, list_any}
+use Rattle.std.specs.Prelude.{IsTrue, ◌==◌, nat_le, count_by, slice_index}
+use Rattle.std.specs.List.{list_all}
 use Rattle.std.proofs.lemmas.Bool.{cases_lt}
 use Rattle.std.proofs.lemmas.Bool.Decides.{nat_tests}
 use Rattle.std.proofs.lemmas.List.{get_or-take, length-take-le, take-take}
@@ -13,11 +13,11 @@ use Rattle.vr_model.specs.declared.records.Pair.{Pair}
 use Rattle.vr_model.specs.declared.records.Policy.{Policy}
 use Rattle.vr_model.specs.declared.records.Policy.TheVariants.{Any, Lifo, Fifo}
 use Rattle.vr_model.specs.routes.Routes.{holds}
-use Rattle.vr_model.specs.routes.Rules.{pairs_in, place_of}
+use Rattle.vr_model.specs.routes.Rules.{place_of}
 use Rattle.vr_model.specs.tables.WellFormed.{IsWellFormed}
 use Rattle.vr_model.proofs.moves.Times.{all_held, all_of_held}
 use Rattle.vr_model.proofs.tables.Members.{In}
-use Rattle.vr_model.proofs.tables.Tests.{clash, lt_of_test, nat_of_test, same_tests, test_of_lt}
+use Rattle.vr_model.proofs.tables.Tests.{lt_of_test, nat_of_test, same_tests}
 use Rattle.vr_lists.proofs.PlaceLemmas.{holds-place}
 use Rattle.vr_walks.specs.Spliced.{AreSeams, spliced}
 use Rattle.vr_walks.proofs.Splicing.{long}
@@ -26,7 +26,7 @@ use Rattle.vr_policies.specs.Replaced.{Serves, TurnsAreBetween, comes_in_turn, i
 use Rattle.vr_policies.proofs.Counting.{AreServed, count_more, once}
 use Rattle.vr_policies.proofs.PairsFound.{any_of, found_turns, is_of, one_with, pair_found}
 use Rattle.vr_policies.proofs.Places.{place_found, place_is}
-use Rattle.vr_policies.proofs.Splices.{IsKeptPlace, at_end_of_middle, back_place, count_rises, front_place, in_back, in_front, kept_place}
+use Rattle.vr_policies.proofs.Splices.{at_end_of_middle, back_place, count_rises, front_place, in_back, in_front, kept_place}
 use Rattle.vr_policies.proofs.Turning.{are_served, balanced, turn_of, turns_of}
 
 -- ---- the one of a rank among those that pass a test
@@ -181,14 +181,14 @@ module _ (model : Model) (well_formed : IsWellFormed model) (old middle : List �
       (elim (or_cases ((delivered old front + deliveries_in model middle) == delivered old behind) (nat_le (picked old front) (delivered old behind)) order) [
         | inl same ↦ (let c = eq_of_test (delivered old front + deliveries_in model middle) (delivered old behind) same in omega (arith, before, a, a_old, b, b_now, b_old, end, c))
         | inr none ↦ absurd
-          (let c = nat_of_test (picked old front) (delivered old behind) none in
-          let high = seams.high in
-          let order_of = seams.order in
-          let start : place_of old pair.pickup < length old = omega (arith, front_low, e, order_of, high) in
-          let more = one_picked_up model old pair among start in
-          let up_to = count_rises (is_pickup model) (place_of old pair.pickup + 1) front old (omega (arith, front_low, e)) in
-          let from = count_rises (is_delivery model) behind (place_of old pair.delivery) old (omega (arith, h)) in
-          omega (arith, c, more, up_to, from, before))
+            (let c = nat_of_test (picked old front) (delivered old behind) none in
+            let high = seams.high in
+            let order_of = seams.order in
+            let start : place_of old pair.pickup < length old = omega (arith, front_low, e, order_of, high) in
+            let more = one_picked_up model old pair among start in
+            let up_to = count_rises (is_pickup model) (place_of old pair.pickup + 1) front old (omega (arith, front_low, e)) in
+            let from = count_rises (is_delivery model) behind (place_of old pair.delivery) old (omega (arith, h)) in
+            omega (arith, c, more, up_to, from, before))
       ])
   first_kept pair among low order (inr (i, e, f, within_too)) (inl (front_too, g)) turn =
       absurd (let after = (are_now.of_pickup pair among low).0 in omega (arith, after, e, front_too))
@@ -246,8 +246,8 @@ module _ (model : Model) (well_formed : IsWellFormed model) (old middle : List �
           (elim (or_cases (pair.pickup == x) (pair.delivery == x) of) [
             | inl start ↦ subst (λ y. place_of new y < length new) (sym (eq_of_test pair.pickup x start)) there
             | inr end ↦ (let low = subst (λ y. place_of new y < length new) (sym (eq_of_test pair.delivery x end)) there in
-              let order = are_now.of_delivery pair among low in
-              omega (arith, order, low))
+                let order = are_now.of_delivery pair among low in
+                omega (arith, order, low))
           ]))
         where
           there : place_of new x < length new
@@ -301,10 +301,10 @@ module _ (model : Model) (well_formed : IsWellFormed model) (old middle : List �
     ends_behind : behind ≤ place_of old found.0.delivery
     ends_behind = elim (cases_lt (place_of old found.0.delivery) behind) [
       | inl before ↦ absurd
-        (let one = one_delivered model old found.0 found.1 (are_then.of_pickup found.0 found.1 within_old).1 in
-        let up_to = count_rises (is_delivery model) (place_of old found.0.delivery + 1) behind old (omega (arith, before)) in
-        let rank = end_rank in
-        omega (arith, one, up_to, rank))
+          (let one = one_delivered model old found.0 found.1 (are_then.of_pickup found.0 found.1 within_old).1 in
+          let up_to = count_rises (is_delivery model) (place_of old found.0.delivery + 1) behind old (omega (arith, before)) in
+          let rank = end_rank in
+          omega (arith, one, up_to, rank))
       | inr past ↦ past
     ]
 
@@ -322,7 +322,7 @@ module _ (model : Model) (well_formed : IsWellFormed model) (old middle : List �
         let start_now = front_place old middle front behind seams was.distinct is.distinct found.0.pickup (omega (arith, at, low)) in
         let end_now = back_place old middle front behind seams was.distinct is.distinct found.0.delivery j is_end (omega (arith, is_end, end_low)) in
         let turn = eq_of_test (picked new (place_of new found.0.pickup)) (delivered new (place_of new found.0.delivery))
-            (turn_of model well_formed new is.distinct is.each_pair Fifo turns_now found.0 found.1 (omega (arith, start_now, at, low, n))) in
+        (turn_of model well_formed new is.distinct is.each_pair Fifo turns_now found.0 found.1 (omega (arith, start_now, at, low, n))) in
         let a = ap (picked new) start_now ∙ (in_front (is_pickup model) old middle front behind seams (place_of old found.0.pickup) (omega (arith, at, low)) ∙ start_rank) in
         let b = ap (delivered new) end_now in
         let c = in_back (is_delivery model) old middle front behind seams j in
@@ -347,7 +347,7 @@ module _ (model : Model) (well_formed : IsWellFormed model) (old middle : List �
   turns-between policy turns = same_tests (takes_turns_between model policy old front behind middle) (takes_turns model policy new)
       (all_turn policy turns)
       (λ turns_now. and_both (keeps_order model policy old front behind middle) (list_all (comes_in_turn model policy new) middle)
-          (orders_kept policy turns turns_now) (come_in_turn policy turns_now))
+      (orders_kept policy turns turns_now) (come_in_turn policy turns_now))
 
 pub turns_are_between : TurnsAreBetween
 turns_are_between model policy old middle front behind well_formed seams was is turns = turns-between model well_formed old middle front behind seams was is policy turns

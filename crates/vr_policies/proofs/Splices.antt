@@ -1,5 +1,5 @@
 -- Counts and places in a list that keeps the front and the end of another one.
-use Rattle.std.proofs.Common.{◌≡◌, ◌∙◌, ◌⊎◌, inl, inr, ℕ, zero, suc, ◌+◌, ◌-◌, ◌<◌, ◌≤◌, List, [], ◌∷◌, ◌++◌, Bool, true, false, length, take, drop, refl, sym, ap, ap₂, subst, arith}
+use Rattle.std.proofs.Common.{◌≡◌, ◌∙◌, ◌⊎◌, inl, inr, ℕ, ◌+◌, ◌-◌, ◌<◌, ◌≤◌, List, ◌++◌, Bool, false, length, take, drop, sym, ap, arith}
 use Rattle.std.specs.Prelude.{IsTrue, count_by, slice_index}
 use Rattle.std.proofs.lemmas.Bool.{cases_lt}
 use Rattle.std.proofs.lemmas.List.{length-take-le, take-append-le, take-take, take_all}
@@ -53,7 +53,7 @@ module _ (f : ℕ → Bool) (old middle : List ℕ) (front behind : ℕ) (seams 
   in_back j =
       let e : front + (length middle + j) ≡ front + length middle + j = omega arith in
       let a = sym (ap (λ n. count_by f (take n new)) e) ∙ (ap (count_by f) (from_front (length middle + j) ∙ ap (λ xs. take front old ++ xs) (take-append-add middle (drop behind old) j))
-          ∙ (count_joined f (take front old) (middle ++ take j (drop behind old)) ∙ ap (λ n. count_by f (take front old) + n) (count_joined f middle (take j (drop behind old))))) in
+      ∙ (count_joined f (take front old) (middle ++ take j (drop behind old)) ∙ ap (λ n. count_by f (take front old) + n) (count_joined f middle (take j (drop behind old))))) in
       let b = count_split f behind j old in
       let c = at_end_of_middle in
       omega (arith, a, b, c)
@@ -97,9 +97,9 @@ module _ (old middle : List ℕ) (front behind : ℕ) (seams : AreSeams (length 
         | inr past ↦ elim (cases_lt (k - front) (length middle)) [
           | inl inside ↦ absurd (clash (holds middle x) (held_at middle x (k - front) inside (sym (at_middle old middle front behind seams k past inside) ∙ at)) none)
           | inr later ↦ (
-            let j : ℕ = k - front - length middle in
-            let low_too : j + behind < length old = omega (arith, low, n, past, later) in
-            let is = place_is old x (j + behind) distinct_old low_too (sym (at_back old middle front behind seams k past later) ∙ at) in
-            inr (j, omega (arith, past, later), omega (arith, is), omega (arith, low_too)))
+              let j : ℕ = k - front - length middle in
+              let low_too : j + behind < length old = omega (arith, low, n, past, later) in
+              let is = place_is old x (j + behind) distinct_old low_too (sym (at_back old middle front behind seams k past later) ∙ at) in
+              inr (j, omega (arith, past, later), omega (arith, is), omega (arith, low_too)))
         ]
       ]

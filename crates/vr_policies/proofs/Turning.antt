@@ -1,6 +1,6 @@
 -- The pairs of a list come in turn exactly where the list keeps a policy.
 use Rattle.std.proofs.Common.{◌≡◌, ◌∙◌, ℕ, ◌+◌, ◌<◌, ◌≤◌, List, [], ◌∷◌, ◌++◌, Bool, true, false, cond, not, length, take, refl, sym, ap, ap₂, subst, inl, inr, arith}
-use Rattle.std.specs.Prelude.{IsTrue, nat_lt, ◌==◌, ◌&&◌, ◌||◌, count_by, map, filter, slice_index}
+use Rattle.std.specs.Prelude.{IsTrue, nat_lt, ◌==◌, ◌&&◌, ◌||◌, count_by, map, slice_index}
 use Rattle.std.specs.List.{list_all}
 use Rattle.std.proofs.lemmas.Bool.{cases_lt}
 use Rattle.std.proofs.lemmas.Bool.Decides.{nat_tests}
@@ -12,18 +12,18 @@ use Rattle.vr_model.specs.declared.records.Pair.{Pair}
 use Rattle.vr_model.specs.declared.records.Policy.{Policy}
 use Rattle.vr_model.specs.declared.records.Policy.TheVariants.{Any, Lifo, Fifo}
 use Rattle.vr_model.specs.routes.Routes.{holds, is_distinct}
-use Rattle.vr_model.specs.routes.Rules.{keeps_policy, pairs_in, place_of, policy_allows, serves_pair}
+use Rattle.vr_model.specs.routes.Rules.{pairs_in, place_of, policy_allows, serves_pair}
 use Rattle.vr_model.specs.tables.Numbers.{each}
 use Rattle.vr_model.specs.tables.WellFormed.{IsWellFormed, nodes_of}
 use Rattle.vr_model.specs.tables.Tables.{vehicle_at}
 use Rattle.vr_model.proofs.moves.Times.{held_times, times_append, times_of_distinct}
 use Rattle.vr_model.proofs.routes.Lists.{is_distinct-right}
 use Rattle.vr_model.proofs.tables.Members.{In, of_filter, to_filter}
-use Rattle.vr_model.proofs.tables.Tests.{fails, fails_not, clash, lt_of_test, test_of_lt, same_tests, or-false_left, or-false_right, list_all-true}
+use Rattle.vr_model.proofs.tables.Tests.{fails, lt_of_test, test_of_lt, same_tests, list_all-true}
 use Rattle.vr_lists.proofs.PlaceLemmas.{holds-place, serves_pair-places}
 use Rattle.vr_policies.specs.Turns.{TurnsArePolicies, deliveries_in, is_in_turn, pickups_in, takes_turns}
-use Rattle.vr_policies.proofs.Counting.{AreServed, IsFirstOut, IsLastOut, count_same, counts_first, counts_last, first_counts, last_counts}
-use Rattle.vr_policies.proofs.Places.{counted_first, held_of, is_same_one, place_found}
+use Rattle.vr_policies.proofs.Counting.{AreServed, count_same, counts_first, counts_last, first_counts, last_counts}
+use Rattle.vr_policies.proofs.Places.{counted_first, is_same_one, place_found}
 
 -- ---- tests of all
 
@@ -63,11 +63,11 @@ module _ (f : Pair → ℕ) (is_node : (pair : Pair) → IsTrue (holds (nodes_of
       let both = subst (λ xs. IsTrue (is_distinct xs)) (flat_map-cons nodes_of q qs) distinct in
       and_both (not (holds (map f qs) (f q))) (is_distinct (map f qs))
       (ap not (fails (holds (map f qs) (f q)) (λ h.
-          let few = times_of_distinct (nodes_of q ++ each qs nodes_of) both (f q) in
-          let sum = times_append (f q) (nodes_of q) (each qs nodes_of) in
-          let here = held_times (f q) (nodes_of q) (is_node q) in
-          let later = held_times (f q) (each qs nodes_of) (held_among qs (f q) h) in
-          omega (arith, few, sum, here, later))))
+      let few = times_of_distinct (nodes_of q ++ each qs nodes_of) both (f q) in
+      let sum = times_append (f q) (nodes_of q) (each qs nodes_of) in
+      let here = held_times (f q) (nodes_of q) (is_node q) in
+      let later = held_times (f q) (each qs nodes_of) (held_among qs (f q) h) in
+      omega (arith, few, sum, here, later))))
       (numbers_distinct qs (is_distinct-right (nodes_of q) (each qs nodes_of) both))
 
 pub pickups_distinct : (model : Model) → IsWellFormed model → IsTrue (is_distinct (map pickup_of model.pairs))
@@ -118,11 +118,11 @@ module _ (model : Model) (well_formed : IsWellFormed model) (list : List ℕ) (d
   balanced =
       pickups_first (length list) (omega arith)
       ∙ (count_same (λ z. nat_lt (start z) (length list)) (λ z. nat_lt (end z) (length list)) model.pairs
-          (λ z among low. test_of_lt (end z) (length list) (are_served.of_pickup z among (lt_of_test (start z) (length list) low)).1)
-          (λ z among low.
-              let ends = lt_of_test (end z) (length list) low in
-              let order = are_served.of_delivery z among ends in
-              test_of_lt (start z) (length list) (omega (arith, order, ends)))
+      (λ z among low. test_of_lt (end z) (length list) (are_served.of_pickup z among (lt_of_test (start z) (length list) low)).1)
+      (λ z among low.
+      let ends = lt_of_test (end z) (length list) low in
+      let order = are_served.of_delivery z among ends in
+      test_of_lt (start z) (length list) (omega (arith, order, ends)))
       ∙ sym (deliveries_first (length list) (omega arith)))
 
   -- ---- policies
@@ -148,7 +148,7 @@ module _ (model : Model) (well_formed : IsWellFormed model) (list : List ℕ) (d
   all_allowed : (policy : Policy) → ((x y : Pair) → In model.pairs x → In model.pairs y → start x < length list → start y < length list → IsTrue (policy_allows policy list x y)) → IsTrue (keeps policy)
   all_allowed policy each_two =
       all_pass (λ x. list_all (λ y. policy_allows policy list x y) inside) inside (λ x among. all_pass (λ y. policy_allows policy list x y) inside (λ y there.
-          let a = low_of x among in let b = low_of y there in each_two x y a.0 b.0 a.1 b.1))
+      let a = low_of x among in let b = low_of y there in each_two x y a.0 b.0 a.1 b.1))
 
   pub turn_of : (policy : Policy) → IsTrue (takes_turns model policy list) → (x : Pair) → In model.pairs x → start x < length list → IsTrue (is_in_turn model policy list x)
   turn_of policy turns x among low = one_passes (is_in_turn model policy list) inside turns x (inside_of x among low)
@@ -198,20 +198,20 @@ module _ (model : Model) (well_formed : IsWellFormed model) (list : List ℕ) (d
   first_same : keeps Fifo ≡ takes_turns model Fifo list
   first_same = same_tests (keeps Fifo) (takes_turns model Fifo list)
       (λ kept. turns_of Fifo (λ x among low. first_turn x among low ∙ test_of_eq (early (start x)) (late (end x))
-          (first_counts model.pairs start end (length list) are_served
-              (λ x y a b l m order. first_order (start x) (start y) (end x) (end y) (allowed Fifo kept x y a b l m) order) x among low)))
+      (first_counts model.pairs start end (length list) are_served
+      (λ x y a b l m order. first_order (start x) (start y) (end x) (end y) (allowed Fifo kept x y a b l m) order) x among low)))
       (λ turns. all_allowed Fifo (λ x y a b l m. order_first (start x) (start y) (end x) (end y)
-          (counts_first model.pairs start end (length list) are_served
-              (λ z among low. eq_of_test (early (start z)) (late (end z)) (sym (first_turn z among low) ∙ turn_of Fifo turns z among low)) x y a b l m)))
+      (counts_first model.pairs start end (length list) are_served
+      (λ z among low. eq_of_test (early (start z)) (late (end z)) (sym (first_turn z among low) ∙ turn_of Fifo turns z among low)) x y a b l m)))
 
   last_same : keeps Lifo ≡ takes_turns model Lifo list
   last_same = same_tests (keeps Lifo) (takes_turns model Lifo list)
       (λ kept. turns_of Lifo (λ x among low. last_turn x among low ∙ test_of_eq (early (start x + 1) + late (end x)) (early (end x) + late (start x + 1))
-          (last_counts model.pairs start end (length list) are_served
-              (λ x y a b l m order span. last_order (start x) (start y) (end x) (end y) (allowed Lifo kept x y a b l m) order span) x among low)))
+      (last_counts model.pairs start end (length list) are_served
+      (λ x y a b l m order span. last_order (start x) (start y) (end x) (end y) (allowed Lifo kept x y a b l m) order span) x among low)))
       (λ turns. all_allowed Lifo (λ x y a b l m. order_last (start x) (start y) (end x) (end y)
-          (counts_last model.pairs start end (length list) are_served
-              (λ z among low. eq_of_test (early (start z + 1) + late (end z)) (early (end z) + late (start z + 1)) (sym (last_turn z among low) ∙ turn_of Lifo turns z among low)) x y a b l m)))
+      (counts_last model.pairs start end (length list) are_served
+      (λ z among low. eq_of_test (early (start z + 1) + late (end z)) (early (end z) + late (start z + 1)) (sym (last_turn z among low) ∙ turn_of Lifo turns z among low)) x y a b l m)))
 
   pub turning : (policy : Policy) → keeps policy ≡ takes_turns model policy list
   turning Any =

@@ -5,6 +5,7 @@ use Rattle.vr_model.specs.declared.records.Model.{Model}
 use Rattle.vr_model.specs.declared.records.Pair.{Pair}
 use Rattle.vr_model.specs.declared.records.Policy.{Policy}
 use Rattle.vr_model.specs.declared.records.Policy.TheVariants.{Any, Lifo, Fifo}
+use Rattle.vr_walks.specs.Spliced.{AreSeams}
 use Rattle.vr_policies.specs.declared.counts.Counts.{Counts}
 use Rattle.vr_policies.specs.Turns.{deliveries_in, pickups_in}
 
@@ -40,3 +41,12 @@ abbrev pub asks_turns : Policy → Bool
 asks_turns Any = false
 asks_turns Lifo = true
 asks_turns Fifo = true
+
+-- a list is counted, and the nodes that stand in the place of a stretch of it
+pub record IsNewCounted (model : Model) (old : List ℕ) (front behind : ℕ) (middle : List ℕ) (listed between : List Counts)
+    : Type 0 where
+  pub seams : AreSeams (length old) front behind
+  pub few : length old ≤ 1000
+  pub few_between : length middle ≤ 1000
+  pub listed_are : AreCounted model old listed
+  pub between_are : AreCounted model middle between

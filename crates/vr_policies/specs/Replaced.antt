@@ -12,6 +12,18 @@ use Rattle.vr_model.specs.declared.records.Policy.TheVariants.{Any, Lifo, Fifo}
 use Rattle.vr_walks.specs.Spliced.{AreSeams, spliced}
 use Rattle.vr_policies.specs.Turns.{deliveries_in, is_in_turn, pickups_in, takes_turns}
 
+-- a list, and other nodes in the place of a stretch of it
+pub record Replaced : Type 0 where
+  pub model : Model
+  pub old : List ℕ
+  pub front : ℕ
+  pub behind : ℕ
+  pub middle : List ℕ
+
+-- the list with these nodes
+abbrev pub list_of : Replaced → List ℕ
+list_of r = spliced r.old r.front r.behind r.middle
+
 -- a pair comes in turn, where there is one
 abbrev pub is_in_turn_if_any : Model → Policy → List ℕ → Option Pair → Bool
 is_in_turn_if_any model policy list None = true

@@ -4,7 +4,9 @@
 
 mod counts;
 pub mod laws;
+mod new_counts;
 mod turns;
 
 pub use counts::Counts;
+pub use new_counts::NewCounts;
 pub use turns::Turns;

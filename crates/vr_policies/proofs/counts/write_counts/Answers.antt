@@ -16,8 +16,8 @@ loop-k-preserved c =
     let node_low = c.requires.nodes k 0 low in
     let within : slice_index list k < length table = omega (arith, node_low, long) in
     let is : c.with_node-counts.result ≡ counts model (take (k + 1) list) =
-        c.with_node-counts.ensures ∙ (ap (λ before. with_node model before (slice_index list k)) c.loop-k.invariant.so_far
-        ∙ counts_more model c.model-model.ensures.well_formed list k low) in
+    c.with_node-counts.ensures ∙ (ap (λ before. with_node model before (slice_index list k)) c.loop-k.invariant.so_far
+    ∙ counts_more model c.model-model.ensures.well_formed list k low) in
     record {
       so_far = is;
       long = length-set table (slice_index list k) c.with_node-counts.result ∙ long;
