@@ -9,6 +9,8 @@ mod looked_up;
 #[cfg(test)]
 mod pairs;
 #[cfg(test)]
+mod policies;
+#[cfg(test)]
 mod samples;
 #[cfg(test)]
 mod tests;

@@ -139,7 +139,7 @@ fn pairs_from(
 }
 
 // The same of a sample.
-fn follow_in(
+pub(crate) fn follow_in(
     alloc: Global,
     sample: Sample,
     lists: &[&[u32]],

@@ -6,3 +6,4 @@ pub mod GroupNumbers
 pub mod GroupLemmas
 pub mod VehicleLemmas
 pub mod PairLemmas
+pub mod TurnLemmas

@@ -5,26 +5,25 @@ use Rattle.std.specs.List.{list_all}
 use Rattle.std.proofs.lemmas.Bool.{cases_lt}
 use Rattle.std.proofs.lemmas.Bool.Decides.{nat_tests}
 use Rattle.std.proofs.lemmas.List.{take-append-drop, get_or-take, get_or-drop, length-drop, length-take-le, get_or-set_same, get_or-set_other}
-use Rattle.std.proofs.lemmas.List.Concat.{flat_map-cons}
 use Rattle.std.proofs.lemmas.List.Folds.{drop_split, list_any-append}
-use Rattle.std.proofs.lemmas.List.Sums.{position_or_len_is}
-use Rattle.vr_model.specs.deciding.Testing.{and_left, and_right, and_both, or_cases, or_left, or_right, eq_of_test, test_of_eq}
+use Rattle.vr_model.specs.deciding.Testing.{and_left, and_right, and_both, or_left, or_right, eq_of_test, test_of_eq}
 use Rattle.vr_model.specs.declared.records.Model.{Model}
 use Rattle.vr_model.specs.declared.records.Pair.{Pair}
 use Rattle.vr_model.specs.moves.Moves.{comes_before}
-use Rattle.vr_model.specs.routes.Routes.{route, holds, is_active, is_distinct}
+use Rattle.vr_model.specs.routes.Routes.{route, holds, is_active}
 use Rattle.vr_model.specs.routes.Rules.{place_of, serves_pair}
-use Rattle.vr_model.specs.tables.Numbers.{each}
-use Rattle.vr_model.specs.tables.WellFormed.{IsWellFormed, nodes_of}
-use Rattle.vr_model.proofs.moves.Times.{all_held, all_of_held, at_least_two, times_of_distinct}
+use Rattle.vr_model.specs.tables.WellFormed.{IsWellFormed}
+use Rattle.vr_model.proofs.moves.Times.{all_held, all_of_held}
 use Rattle.vr_model.proofs.routes.Lists.{held_at, place_of_held}
 use Rattle.vr_model.proofs.tables.Members.{In}
-use Rattle.vr_model.proofs.tables.Tests.{apart, clash, eq_turned, fails, fails_not, lt_of_test, or-false_left, or-false_right, same_tests, test_of_lt}
+use Rattle.vr_model.proofs.tables.Tests.{clash, eq_turned, fails, lt_of_test, or-false_left, or-false_right, same_tests, test_of_lt}
 use Rattle.vr_lists.proofs.PlaceLemmas.{holds-place, place_of-within}
 use Rattle.vr_routes.specs.Seats.{IsSeat}
 use Rattle.vr_routes.proofs.SeatLemmas.{active_at}
 use Rattle.vr_walks.specs.Spliced.{spliced}
 use Rattle.vr_walks.proofs.Splicing.{at_front, at_middle, at_back, long}
+use Rattle.vr_policies.proofs.PairsFound.{is_of, pair_found}
+use Rattle.vr_policies.proofs.Places.{place_is}
 use Rattle.vr_pathfilters.specs.Pairs.{AreMarked, IsNewList, is_marked, serves_if_any, serves_node, serves_unmarked}
 
 -- ---- pairs of nodes that are not among those between
@@ -74,49 +73,6 @@ found_passes list q (pair ∷ pairs) all = by (q pair) (found_passes list q pair
     by : (b : Bool) → IsTrue (serves_if_any list (find q pairs)) → IsTrue (serves_if_any list (cond b (Some pair) (find q pairs)))
     by true rest = and_left (serves_pair list pair) (list_all (serves_pair list) pairs) all
     by false rest = rest
-
-abbrev is_of : ℕ → Pair → Bool
-is_of x pair = (pair.pickup == x) || (pair.delivery == x)
-
-held_in : (pairs : List Pair) (pair : Pair) (x : ℕ) → In pairs pair → IsTrue (is_of x pair) → IsTrue (holds (each pairs nodes_of) x)
-held_in [] pair x among of = absurd among
-held_in (q ∷ qs) pair x (inl e) of =
-    subst (λ xs. IsTrue (holds xs x)) (sym (flat_map-cons nodes_of q qs))
-    (elim (or_cases (pair.pickup == x) (pair.delivery == x) of) [
-      | inl h ↦ or_left (x == q.pickup) ((x == q.delivery) || holds (each qs nodes_of) x) (subst (λ (p : Pair). IsTrue (x == p.pickup)) e (eq_turned x pair.pickup ∙ h))
-      | inr h ↦ or_right (x == q.pickup) ((x == q.delivery) || holds (each qs nodes_of) x) (or_left (x == q.delivery) (holds (each qs nodes_of) x) (subst (λ (p : Pair). IsTrue (x == p.delivery)) e (eq_turned x pair.delivery ∙ h)))
-    ])
-held_in (q ∷ qs) pair x (inr more) of =
-    subst (λ xs. IsTrue (holds xs x)) (sym (flat_map-cons nodes_of q qs))
-    (or_right (x == q.pickup) ((x == q.delivery) || holds (each qs nodes_of) x) (or_right (x == q.delivery) (holds (each qs nodes_of) x) (held_in qs pair x more of)))
-
--- among pairs of distinct nodes, the pair of a node is the one that has it
-pair_found : (pairs : List Pair) (pair : Pair) (x : ℕ) → IsTrue (is_distinct (each pairs nodes_of)) → In pairs pair → IsTrue (is_of x pair) → find (is_of x) pairs ≡ Some pair
-pair_found [] pair x distinct among of = absurd among
-pair_found (q ∷ qs) pair x distinct (inl e) of =
-    ap (λ b. cond b (Some q) (find (is_of x) qs)) (subst (λ p. IsTrue (is_of x p)) e of) ∙ ap Some (sym e)
-pair_found (q ∷ qs) pair x distinct (inr more) of =
-    ap (λ b. cond b (Some q) (find (is_of x) qs)) other ∙ pair_found qs pair x (and_right (not (holds rest q.delivery)) (is_distinct rest) (and_right (not ((q.pickup == q.delivery) || holds rest q.pickup)) _ both)) more of
-  where
-    rest : List ℕ
-    rest = each qs nodes_of
-
-    both : IsTrue (is_distinct (q.pickup ∷ q.delivery ∷ rest))
-    both = subst (λ xs. IsTrue (is_distinct xs)) (flat_map-cons nodes_of q qs) distinct
-
-    there : IsTrue (holds rest x)
-    there = held_in qs pair x more of
-
-    no_pickup : (q.pickup == x) ≡ false
-    no_pickup = fails (q.pickup == x) (λ h. clash (holds rest q.pickup) (subst (λ y. IsTrue (holds rest y)) (sym (eq_of_test q.pickup x h)) there)
-        (or-false_right (q.pickup == q.delivery) (holds rest q.pickup) (fails_not ((q.pickup == q.delivery) || holds rest q.pickup) (and_left (not ((q.pickup == q.delivery) || holds rest q.pickup)) _ both))))
-
-    no_delivery : (q.delivery == x) ≡ false
-    no_delivery = fails (q.delivery == x) (λ h. clash (holds rest q.delivery) (subst (λ y. IsTrue (holds rest y)) (sym (eq_of_test q.delivery x h)) there)
-        (fails_not (holds rest q.delivery) (and_left (not (holds rest q.delivery)) (is_distinct rest) (and_right (not ((q.pickup == q.delivery) || holds rest q.pickup)) _ both))))
-
-    other : is_of x q ≡ false
-    other = ap₂ (λ a b. a || b) no_pickup no_delivery
 
 all_among : (p : Pair → Bool) (pairs : List Pair) → ((pair : Pair) → In pairs pair → IsTrue (p pair)) → IsTrue (list_all p pairs)
 all_among p [] each_one = refl
@@ -174,12 +130,6 @@ module _ (model : Model) (well_formed : IsWellFormed model) (old middle : List �
               cases false false false false e f g h = serves-kept old middle front behind order pair e f g h ∙ all_pass model.pairs before pair among
 
 -- ---- places
-
--- the place of a node of a list of distinct nodes
-pub place_is : (xs : List ℕ) (x k : ℕ) → IsTrue (is_distinct xs) → k < length xs → slice_index xs k ≡ x → k ≡ place_of xs x
-place_is xs x k distinct low at = sym (position_or_len_is (λ y. y == x) xs k 0 (omega (arith, low))
-    (λ j before. apart (slice_index xs j) x (λ same. let two = at_least_two x xs j k before low same at in let few = times_of_distinct xs distinct x in omega (arith, two, few)))
-    (λ _. test_of_eq (slice_index xs k) x at))
 
 absent_place : (xs : List ℕ) (x : ℕ) → holds xs x ≡ false → length xs ≡ place_of xs x
 absent_place xs x none =

@@ -8,7 +8,6 @@ use Rattle.vr_routes.proofs.CommitLemmas.{as_many_lists, once_after, entry_after
 use Rattle.std.proofs.Common.{◌∙◌}
 use Rattle.vr_filter.specs.Filters.{after}
 use Rattle.vr_pathfilters.specs.TourLists.{AreTours}
-use Rattle.vr_pathfilters.specs.Pairs.{KnowsPairs}
 
 -- the lists after a change are tours too
 pub tours_after : (model : Model) (tours : Tours) → AreTours model tours → (parts : List ListAfter)
@@ -18,12 +17,4 @@ tours_after model tours are parts made = record {
   list_of_each = as_many_lists tours.lists parts ∙ are.list_of_each;
   once = once_after tours parts made are.once;
   entries = entry_after tours parts made are.once are.entries;
-}
-
--- the tours of a well-formed model are so after a change too
-pub pairs_known_after : (model : Model) (tours : Tours) (parts : List ListAfter)
-    → KnowsPairs model tours → IsMadeOn tours parts → KnowsPairs model (after tours parts)
-pairs_known_after model tours parts knows made = record {
-  well_formed = knows.well_formed;
-  tours_are = tours_after model tours knows.tours_are parts made;
 }

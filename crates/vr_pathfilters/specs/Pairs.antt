@@ -1,21 +1,43 @@
 -- What the filter of pairs knows and asks.
-use Rattle.std.specs.Prelude.{ℕ, ◌==◌, ◌&&◌, ◌||◌, ◌<◌, ◌≤◌, Bool, true, List, length, nat_lt, slice_index}
+use Rattle.std.specs.Prelude.{◌≡◌, ℕ, ◌==◌, ◌&&◌, ◌||◌, ◌<◌, ◌≤◌, Bool, true, false, List, length, nat_lt, slice_index}
 use Rattle.std.specs.Prelude.{IsTrue, Option, Some, None}
 use Rattle.vr_model.specs.first.Items.{pair_of}
 use Rattle.vr_model.specs.routes.Routes.{route, holds, is_distinct}
 use Rattle.vr_model.specs.routes.Rules.{serves_pair}
+use Rattle.vr_model.specs.tables.Tables.{vehicle_at}
 use Rattle.vr_model.specs.tables.WellFormed.{IsWellFormed}
 use Rattle.vr_model.specs.declared.records.Model.{Model}
 use Rattle.vr_model.specs.declared.records.Pair.{Pair}
+use Rattle.vr_policies.specs.Counted.{AreCounted, asks_turns, count_of}
+use Rattle.vr_policies.specs.declared.counts.Counts.{Counts}
 use Rattle.vr_routes.specs.Seats.{IsOnce}
 use Rattle.vr_routes.specs.Tours.{Tours}
 use Rattle.vr_walks.specs.Spliced.{spliced, AreSeams}
 use Rattle.vr_pathfilters.specs.TourLists.{AreTours}
 
 -- the tours are those of a well-formed model
-pub record KnowsPairs (model : Model) (tours : Tours) : Type 0 where
+pub record KnowsTours (model : Model) (tours : Tours) : Type 0 where
   pub well_formed : IsWellFormed model
   pub tours_are : AreTours model tours
+
+-- the policy of vehicle v asks for turns
+abbrev pub asks_turns_of : Model → ℕ → Bool
+asks_turns_of model v = asks_turns (vehicle_at model v).policy
+
+-- the list of each vehicle whose policy asks for turns is counted
+abbrev pub AreAllCounted : Model → List (List ℕ) → List Counts → Type 0
+AreAllCounted model lists listed = (v : ℕ) → v < length lists → IsTrue (asks_turns_of model v)
+    → AreCounted model (route lists v) listed
+
+-- and the tours are those of the model
+pub record KnowsPairs (model : Model) (listed : List Counts) (tours : Tours) : Type 0 where
+  pub knows_tours : KnowsTours model tours
+  pub counted : AreAllCounted model tours.lists listed
+
+-- a list of vehicle v is counted, where its policy asks for turns, and what is kept of other nodes stays
+pub record IsListCounted (model : Model) (v : ℕ) (list : List ℕ) (before after : List Counts) : Type 0 where
+  pub counted : IsTrue (asks_turns_of model v) → AreCounted model list after
+  pub others : (node : ℕ) → holds list node ≡ false → count_of after node ≡ count_of before node
 
 -- a list serves a pair, where there is one
 abbrev pub serves_if_any : List ℕ → Option Pair → Bool

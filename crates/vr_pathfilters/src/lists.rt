@@ -35,9 +35,13 @@ pub trait ListRule {
         ensures same_rule { rule self.new ≡ rule self.old }
         ensures knows { (tours : Tours) → knows self.old tours → knows self.new tours };
 
-    /// It is still right after a change.
-    ghost knows_after: { (rule : Self) (tours : Tours) (parts : List ListAfter) → knows rule tours
-        → IsMadeOn tours parts → knows rule (after tours parts) };
+    /// What is kept becomes right for the lists after a change. It is called before the routes are changed, and takes no
+    /// memory.
+    fn commit(&mut self, routes: &Routes, change: &Change)
+        requires knows { knows self.old routes.now }
+        requires made { IsMadeOn routes.now change.now }
+        ensures same_rule { rule self.new ≡ rule self.old }
+        ensures knows { knows self.new (after routes.now change.now) };
 }
 
 /// Lets a change pass where a rule holds of each list afterwards. It never answers `NoMemory`, and counts no steps.
@@ -97,8 +101,9 @@ impl<R: ListRule> PathFilter for ListFilter<R> {
         Ok(())
     }
 
-    fn commit(&mut self, _routes: &Routes, _change: &Change) {
+    fn commit(&mut self, routes: &Routes, change: &Change) {
         self.is_prepared = false;
+        self.rule.commit(routes, change);
     }
 
     ghost keeps_rule = { λ f tours stands. stands.rule_holds };

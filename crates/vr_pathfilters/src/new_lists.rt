@@ -4,11 +4,13 @@ ghost use Rattle.std.specs.Prelude.{◌≡◌, ◌==◌, ◌&&◌, ◌<◌, ◌�
 ghost use Rattle.std.specs.List.{list_all};
 ghost use Rattle.vr_model.specs.routes.Routes.{route};
 ghost use Rattle.vr_model.specs.routes.Rules.{place_of, serves_pair};
+ghost use Rattle.vr_policies.specs.Replaced.{comes_in_turn, list_of};
 ghost use Rattle.vr_pathfilters.specs.Pairs.{AreMarked, serves_node, serves_unmarked};
 
 use std::marker::Model;
 use vr_lists::NodeTables;
-use vr_model::Pair;
+use vr_model::{Pair, Policy};
+use vr_policies::NewCounts;
 use vr_routes::Routes;
 
 /// The list of a vehicle after a change: what it keeps at both ends, with other nodes between. Contracts see the list.
@@ -31,6 +33,7 @@ impl<'a> Model for NewList<'a> {
     ghost use Rattle.std.specs.Prelude.{ℕ, List};
     ghost use Rattle.vr_model.specs.routes.Routes.{route};
     ghost use Rattle.vr_walks.specs.Spliced.{spliced};
+    ghost use Rattle.vr_policies.specs.Replaced.{comes_in_turn, list_of};
     ghost use Rattle.vr_pathfilters.specs.Pairs.{IsNewList};
 
     ghost Value = { List ℕ };
@@ -152,5 +155,43 @@ impl<'a> NewList<'a> {
     {
         nodes.iter().all(|&node| is_at(marked, mark_of(marks, node), node)
             || self.serves_node(lookups, node))
+    }
+
+    // Whether the pair that a node is in comes in turn.
+    #[inline]
+    fn comes_in_turn(
+        &self,
+        lookups: &NodeTables<'_>,
+        policy: Policy,
+        counted: &NewCounts<'_, '_>,
+        node: u32,
+    ) -> bool
+        requires same_model { counted.now.model ≡ lookups.now }
+        requires same_list { list_of counted.now ≡ self.now }
+        ensures { result ≡ comes_in_turn lookups.now policy self.now node }
+    {
+        match lookups.pair_of(node) {
+            None => true,
+            Some(pair) => {
+                counted.are_in_turn(policy, self.place(pair.pickup), self.place(pair.delivery))
+            }
+        }
+    }
+
+    /// Whether the pairs that some nodes are in come in turn, where the list is counted.
+    pub(crate) fn come_in_turn(
+        &self,
+        lookups: &NodeTables<'_>,
+        policy: Policy,
+        counted: &NewCounts<'_, '_>,
+        nodes: &[u32],
+    ) -> bool
+        requires same_model { counted.now.model ≡ lookups.now }
+        requires same_list { list_of counted.now ≡ self.now }
+        ensures { result ≡ list_all (comes_in_turn lookups.now policy self.now) nodes.now }
+    {
+        nodes
+            .iter()
+            .all(|&node| self.comes_in_turn(lookups, policy, counted, node))
     }
 }

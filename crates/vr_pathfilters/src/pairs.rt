@@ -5,37 +5,41 @@ ghost use Rattle.std.specs.Prelude.{IsOk, IsTrue, IfOk, OnOk, OnErr};
 ghost use Rattle.std.specs.List.{list_all};
 ghost use Rattle.vr_model.specs.routes.Routes.{is_distinct, route};
 ghost use Rattle.vr_model.specs.routes.Rules.{serves_pair};
-ghost use Rattle.vr_model.specs.tables.Tables.{visits};
+ghost use Rattle.vr_model.specs.tables.Tables.{vehicle_at, visits};
 ghost use Rattle.vr_model.specs.tables.WellFormed.{IsWellFormed};
 ghost use Rattle.vr_lists.specs.Pairs.{keeps_pairs};
 ghost use Rattle.vr_routes.specs.Changes.{IsMadeOn};
 ghost use Rattle.vr_routes.specs.Pieces.{ListAfter, changed, joined, part_at};
 ghost use Rattle.vr_routes.specs.Tours.{Tours};
+ghost use Rattle.vr_walks.specs.Lists.{IsTour};
 ghost use Rattle.vr_walks.specs.Spliced.{AreSeams, spliced};
 ghost use Rattle.vr_filter.specs.Filters.{after};
-ghost use Rattle.vr_pathfilters.specs.AfterChanges.{pairs_known_after};
+ghost use Rattle.vr_policies.specs.Counted.{AreCounted};
+ghost use Rattle.vr_policies.specs.Replaced.{takes_turns_between};
 ghost use Rattle.vr_pathfilters.specs.Lists.{holds_of_each};
 ghost use Rattle.vr_pathfilters.specs.ListFilters.{StandsBy};
-ghost use Rattle.vr_pathfilters.specs.Pairs.{AreMarked, KnowsPairs};
+ghost use Rattle.vr_pathfilters.specs.Pairs.{AreAllCounted, AreMarked, IsListCounted, KnowsPairs, KnowsTours};
 
 use crate::lists::{ListFilter, ListRule};
 use crate::new_lists::{NewList, mark};
 use std::alloc::Global;
 use vr_balance::strip;
 use vr_filter::PathFilter;
-use vr_lists::{NodeTables, PairPlaces, keeps_pairs};
+use vr_lists::NodeTables;
 use vr_model::{Model, NoMemory, Policy};
+use vr_policies::{NewCounts, Turns};
 use vr_routes::{Change, Routes, Row};
 
 /// The rule that a list serves each pair in order and keeps the policy of its vehicle.
 #[derive(Drop)]
 pub struct PairRule<'m> {
     lookups: NodeTables<'m>,
-    // room for the nodes that a change puts between the ends of a list, or for the whole list
+    // room for the nodes that a change puts between the ends of a list
     list: Row,
     // room for the place of each of them there
     marks: [u32; 1000],
-    places: PairPlaces,
+    // what is picked up and delivered along the lists of vehicles whose policy asks for turns
+    turns: Turns,
 }
 
 // Whether the list of a vehicle serves each pair, with other nodes between the ends that it keeps. It asks the pairs of
@@ -79,10 +83,91 @@ fn serves_between<'a>(
         )
 }
 
+// Whether the pairs of the list of a vehicle come in turn, with other nodes between the ends that it keeps, where they
+// came in turn before.
+fn takes_turns<'a>(
+    lookups: &NodeTables<'_>,
+    turns: &Turns,
+    policy: Policy,
+    routes: &'a Routes,
+    v: u32,
+    front: u32,
+    behind: u32,
+    middle: &'a [u32],
+    marks: &'a [u32],
+) -> bool
+    requires vehicle { v < length routes.now.lists }
+    requires seams { AreSeams (length (route routes.now.lists v)) front behind }
+    requires marked { AreMarked middle.now marks.now }
+    requires few { length middle.now ≤ 1000 }
+    requires distinct { IsTrue (is_distinct (spliced (route routes.now.lists v) front behind middle.now)) }
+    requires listed { AreCounted lookups.now (route routes.now.lists v) turns.now.listed }
+    requires between { AreCounted lookups.now middle.now turns.now.between }
+    ensures { result ≡ takes_turns_between lookups.now policy (route routes.now.lists v) front behind middle.now }
+{
+    routes.know_once();
+    let counted = NewCounts::of(lookups, turns, routes.list(v), front, behind, middle);
+    if !counted.keeps_order(policy) {
+        return false;
+    }
+    let new = NewList {
+        routes,
+        v,
+        front,
+        behind,
+        middle,
+        marks,
+    };
+    new.come_in_turn(lookups, policy, &counted, middle)
+}
+
+// The policy of a vehicle.
+fn policy_of(lookups: &NodeTables<'_>, v: u32) -> Policy
+    requires vehicle { v < length lookups.now.vehicles }
+    ensures { result ≡ (vehicle_at lookups.now v).policy }
+{
+    lookups.model().vehicles.get(v as usize).policy
+}
+
+// Vehicle `v` has a list: it is counted where the policy of the vehicle asks for turns.
+fn count_list(lookups: &NodeTables<'_>, v: u32, list: &[u32], turns: &mut Turns)
+    requires vehicle { v < length lookups.now.vehicles }
+    requires tour { IsTour lookups.now list.now }
+    requires few { length list.now ≤ 1000 }
+    ensures { IsListCounted lookups.now v list.now turns.old.listed turns.new.listed }
+{
+    // what holds of the model is known
+    let _model = lookups.model();
+    if !Turns::are_asked(policy_of(lookups, v)) {
+        return;
+    }
+    turns.put(lookups, list);
+}
+
+impl<'m> PairRule<'m> {
+    // The vehicle of part `k` of a change has the list of the part.
+    fn count_part(&mut self, routes: &Routes, change: &Change, k: usize)
+        requires knows { KnowsTours self.old.lookups routes.now }
+        requires made { IsMadeOn routes.now change.now }
+        requires part { k < length change.now }
+        ensures same_model { self.new.lookups ≡ self.old.lookups }
+        ensures counted { IsListCounted self.old.lookups (part_at change.now k).vehicle
+            (joined routes.now.lists (part_at change.now k).pieces) self.old.turns.listed self.new.turns.listed }
+    {
+        routes.write_after(change, k, &mut self.list);
+        count_list(
+            &self.lookups,
+            change.vehicle(k),
+            self.list.as_slice(),
+            &mut self.turns,
+        );
+    }
+}
+
 impl<'m> ListRule for PairRule<'m> {
     ghost rule = { λ r v list. keeps_pairs r.lookups v list };
 
-    ghost knows = { λ r tours. KnowsPairs r.lookups tours };
+    ghost knows = { λ r tours. KnowsPairs r.lookups r.turns.listed tours };
 
     fn keeps(&mut self, routes: &Routes, change: &Change, k: usize) -> bool {
         let model = self.lookups.model();
@@ -104,23 +189,45 @@ impl<'m> ListRule for PairRule<'m> {
         ) {
             return false;
         }
-        match model.vehicles.get(v as usize).policy {
-            Policy::Any => true,
-            _ => {
-                routes.write_after(change, k, &mut self.list);
-                keeps_pairs(model, v, self.list.as_slice(), &mut self.places)
-            }
+        let policy = policy_of(&self.lookups, v);
+        if !Turns::are_asked(policy) {
+            return true;
         }
+        self.turns.put_between(&self.lookups, self.list.as_slice());
+        takes_turns(
+            &self.lookups,
+            &self.turns,
+            policy,
+            routes,
+            v,
+            ends.front,
+            ends.behind,
+            self.list.as_slice(),
+            &self.marks,
+        )
     }
 
-    ghost knows_after = { λ r tours parts knows made. pairs_known_after r.lookups tours parts knows made };
+    fn commit(&mut self, routes: &Routes, change: &Change) {
+        for k in 0..change.parts() {
+            self.count_part(routes, change, k);
+        }
+    }
+}
+
+// What is picked up and delivered along the lists of vehicles whose policy asks for turns.
+fn count_all(lookups: &NodeTables<'_>, routes: &Routes, turns: &mut Turns)
+    requires tours { KnowsTours lookups.now routes.now }
+    ensures { AreAllCounted lookups.now routes.now.lists turns.new.listed }
+{
+    for v in 0..routes.vehicles() {
+        count_list(lookups, v, routes.list(v), turns);
+    }
 }
 
 /// Lets a change pass where each list afterwards serves each pair in order, and keeps the policy of its vehicle
 /// (`PickupDeliveryFilter` in OR-Tools, by `AddPickupAndDelivery` and `SetPickupAndDeliveryPolicyOfVehicle`). Of a list
-/// it looks at what stands afterwards between the ends that a change keeps, and at what is gone from there; where its
-/// vehicle delivers last-in-first-out or first-in-first-out, at the whole list too. It takes memory only when it is
-/// opened, and in a model without pairs it looks at no list.
+/// it looks at what stands afterwards between the ends that a change keeps, and at what is gone from there, whatever the
+/// policy of its vehicle is. It takes memory only when it is opened, and in a model without pairs it looks at no list.
 pub type PairFilter<'m> = ListFilter<PairRule<'m>>;
 
 impl<'m> PairFilter<'m> {
@@ -143,12 +250,14 @@ impl<'m> PairFilter<'m> {
         routes.know_once();
         routes.know_entries();
         let lookups = NodeTables::open(alloc, model)?;
+        let mut turns = Turns::new();
+        count_all(&lookups, routes, &mut turns);
         Ok(ListFilter {
             rule: PairRule {
                 lookups,
                 list: Row::new(),
                 marks: [0; 1000],
-                places: PairPlaces::new(),
+                turns,
             },
             is_prepared: false,
         })

@@ -13,7 +13,6 @@ ghost use Rattle.vr_pathfilters.specs.Lists.{holds_of_each};
 ghost use Rattle.vr_pathfilters.specs.TourLists.{AreTours};
 ghost use Rattle.vr_pathfilters.specs.ListFilters.{StandsBy};
 ghost use Rattle.vr_pathfilters.specs.Vehicles.{are_allowed_pieces, is_allowed_list};
-ghost use Rattle.vr_pathfilters.specs.AfterChanges.{tours_after};
 
 use crate::lists::{ListFilter, ListRule};
 use std::alloc::Global;
@@ -43,7 +42,7 @@ impl<'m> ListRule for VehicleRule<'m> {
         pieces_allow(&self.lookups, routes, v, ends.middle)
     }
 
-    ghost knows_after = { λ r tours parts knows made. tours_after r.lookups tours knows parts made };
+    fn commit(&mut self, _routes: &Routes, _change: &Change) {}
 }
 
 // Whether the nodes of a piece allow a vehicle. Those of its own list do.
