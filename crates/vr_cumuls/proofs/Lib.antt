@@ -1,0 +1,5 @@
+pub mod StageLemmas
+pub mod RunLemmas
+pub mod TimingLemmas
+pub mod KeptLemmas
+pub mod AfterLemmas
