@@ -1,3 +1,4 @@
+pub mod PartLemmas
 pub mod StageLemmas
 pub mod RunLemmas
 pub mod TimingLemmas

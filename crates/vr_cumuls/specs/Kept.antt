@@ -30,3 +30,8 @@ pub record IsKept (model : Model) (d v : ℕ) (list : List ℕ) (kept : Kept) : 
 -- what is kept in dimension d is of these lists
 pub record AreKept (model : Model) (d : ℕ) (lists : List (List ℕ)) (kept : List Kept) : Type 0 where
   pub each : (v : ℕ) (other : Kept) → v < length kept → IsKept model d v (route lists v) (slice_index_or kept v other)
+
+-- the same in each dimension
+pub record AreAllKept (model : Model) (lists : List (List ℕ)) (kept : List (List Kept)) : Type 0 where
+  pub many : length kept ≡ length model.dimensions
+  pub each : (d : ℕ) (other : List Kept) → d < length kept → AreKept model d lists (slice_index_or kept d other)

@@ -2,7 +2,8 @@
 //! along what it changes alone.
 #![tactic(auto)]
 
+mod dimensions;
 mod guides;
 mod kept;
 
-pub use kept::KeptCumuls;
+pub use dimensions::{AllCumuls, Paid};
