@@ -8,6 +8,7 @@ pub mod PartLemmas
 pub mod RowLemmas
 pub mod FixedLemmas
 pub mod GroupLemmas
+pub mod ScheduleLemmas
 pub mod PlanLemmas
 pub mod LeastLemmas
 pub mod GlobalLemmas
