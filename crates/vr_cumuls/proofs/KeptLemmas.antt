@@ -1,9 +1,8 @@
 -- What is kept of lists, written stage by stage, and after a list is replaced.
-use Rattle.std.proofs.Common.{◌≡◌, ◌≢◌, ◌∙◌, ◌⊎◌, inl, inr, ℕ, zero, suc, ◌+◌, ◌<◌, ◌≤◌, List, [], ◌∷◌, ◌++◌, length, length-append, length-set, take, drop, refl, sym, ap, subst, add-one, arith, Option, Some}
+use Rattle.std.proofs.Common.{◌≡◌, ◌≢◌, ◌∙◌, ◌⊎◌, inl, inr, ℕ, zero, suc, ◌+◌, ◌<◌, ◌≤◌, List, [], ◌∷◌, ◌++◌, length, length-set, take, drop, sym, ap, subst, add-one, arith, Some}
 use Rattle.std.specs.Prelude.{All, IsTrue, slice_index_or, slice_set}
 use Rattle.std.specs.List.{list_all}
 use Rattle.std.proofs.lemmas.Bool.{and_parts, cases_lt}
-use Rattle.std.proofs.lemmas.Int.{ints}
 use Rattle.std.proofs.lemmas.List.{take-append-drop, get_or_append_left, get_or_push, take_all, get_or-set_same, get_or-set_other}
 use Rattle.std.proofs.lemmas.List.Elements.{All-take}
 use Rattle.std.proofs.lemmas.List.Sums.{fold_more}
@@ -17,7 +16,7 @@ use Rattle.vr_cumuls.specs.Stages.{Runs, AreRuns, along, setting_out, to_end, to
 use Rattle.vr_cumuls.specs.Kept.{AreAllStages, AreKept, AreStages, IsKept}
 use Rattle.vr_cumuls.specs.declared.guides.Stage.{Stage}
 use Rattle.vr_cumuls.specs.declared.kept.Kept.{Kept}
-use Rattle.vr_cumuls.proofs.StageLemmas.{along-append, stage-more, whole-append}
+use Rattle.vr_cumuls.proofs.StageLemmas.{stage-more, whole-append}
 use Rattle.vr_cumuls.proofs.RunLemmas.{same-out, same-whole}
 
 module _ (model : Model) (d v : ℕ) (runs : Runs) (list : List ℕ) where

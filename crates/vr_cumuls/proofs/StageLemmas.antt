@@ -1,7 +1,6 @@
 -- Going on along stops, and with another cost behind.
 use Rattle.std.proofs.Common.{◌≡◌, ◌∙◌, ◌+◌, ◌<◌, ◌≤◌, ℕ, drop, length, Bool, true, false, cond, List, [], ◌∷◌, ◌++◌, refl, sym, ap, ap₂, subst, arith, Option, Some, None}
-use Rattle.std.specs.Prelude.{ℤ, pos, ◌+ℤ◌, ◌-ℤ◌, ◌≤ℤ◌, ◌&&◌, IfSome, IsTrue, int_le, option_map, slice_index_or, unwrap_or}
-use Rattle.std.specs.Int.{int_max}
+use Rattle.std.specs.Prelude.{ℤ, ◌+ℤ◌, ◌-ℤ◌, ◌≤ℤ◌, ◌&&◌, IfSome, IsTrue, int_le, option_map, slice_index_or, unwrap_or}
 use Rattle.std.specs.Option.{option_and_then}
 use Rattle.std.proofs.lemmas.Bool.{and_parts, and_from}
 use Rattle.std.proofs.lemmas.Int.{ints}
@@ -13,7 +12,7 @@ use Rattle.vr_model.specs.tables.Tables.{dimension_at, row_of, transit, vehicle_
 use Rattle.vr_model.specs.declared.records.Model.{Model}
 use Rattle.vr_model.specs.declared.records.StopRow.{StopRow}
 use Rattle.vr_walks.specs.Early.{IsEarliestBehind}
-use Rattle.vr_cumuls.specs.Stages.{Runs, along, go_on, is_had, next_cumul, no_run, paid_more, setting_out, to_end, to_visit, visit_more, whole, IsStageOf}
+use Rattle.vr_cumuls.specs.Stages.{Runs, along, go_on, is_had, next_cumul, paid_more, setting_out, to_end, to_visit, visit_more, whole, IsStageOf}
 use Rattle.vr_cumuls.specs.declared.guides.Stage.{Stage}
 
 -- ---- one stop further

@@ -1,20 +1,18 @@
 -- A vehicle that comes to its end so has gone along its chosen schedule.
-use Rattle.std.proofs.Common.{◌≡◌, ◌∙◌, ℕ, zero, suc, ◌+◌, ◌*◌, ◌<◌, ◌≤◌, Bool, true, false, cond, List, [], ◌∷◌, ◌++◌, length, length-append, map, take, get_or, refl, sym, ap, ap₂, subst, add-one, arith, Option, Some, None}
-use Rattle.std.specs.Prelude.{◌==◌, ℤ, pos, ◌+ℤ◌, ◌*ℤ◌, ◌-ℤ◌, ◌≤ℤ◌, All, IsTrue, int_le, slice_index_or, unwrap_or}
+use Rattle.std.proofs.Common.{◌≡◌, ◌∙◌, ℕ, zero, suc, ◌+◌, ◌*◌, ◌<◌, ◌≤◌, Bool, true, false, cond, List, [], ◌∷◌, ◌++◌, length, map, take, get_or, refl, sym, ap, subst, add-one, arith, Option, Some, None}
+use Rattle.std.specs.Prelude.{◌==◌, ℤ, pos, ◌+ℤ◌, ◌-ℤ◌, ◌≤ℤ◌, int_le, slice_index_or, unwrap_or}
 use Rattle.std.specs.Int.{int_max}
 use Rattle.std.specs.List.{zip}
-use Rattle.std.specs.Option.{option_and_then}
 use Rattle.std.proofs.lemmas.Int.{ints, int_max_is}
-use Rattle.std.proofs.lemmas.List.{get_or_append_left, length-map, take_all}
+use Rattle.std.proofs.lemmas.List.{get_or_append_left, take_all}
 use Rattle.std.proofs.lemmas.List.Sums.{fold_more}
 use Rattle.std.proofs.lemmas.Option.{option_and_then_some}
 use Rattle.vr_spans.specs.declared.runs.Run.{Run}
 use Rattle.vr_model.specs.tables.Numbers.{horizon, number_at, total_by}
-use Rattle.vr_model.specs.tables.Tables.{dimension_at, is_visit, no_dimension, row_of, transit, vehicle_at}
+use Rattle.vr_model.specs.tables.Tables.{dimension_at, no_dimension, row_of, transit, vehicle_at}
 use Rattle.vr_model.specs.tables.WellFormed.{IsIn, IsSoft, IsStopRow, IsWellFormed, WherePresent}
 use Rattle.vr_model.specs.schedules.ChosenLaws.{ChosenIsLeast}
 use Rattle.vr_model.specs.schedules.Lines.{line, stop_rows}
-use Rattle.vr_model.specs.schedules.Schedules.{cumul}
 use Rattle.vr_model.specs.routes.Costs.{no_plan, row_cost, soft_cost}
 use Rattle.vr_model.specs.declared.records.Model.{Model}
 use Rattle.vr_model.specs.declared.records.Soft.{Soft}
@@ -25,12 +23,12 @@ use Rattle.vr_walks.specs.Early.{AreChosen, AreEarly}
 use Rattle.vr_walks.specs.Lists.{node_at_stop, IsTour, IsUsed}
 use Rattle.vr_walks.specs.VisitRuns.{IsAllowedRun}
 use Rattle.vr_walks.proofs.EarlyLemmas.{at_new, begin_list, chosen_list, in_range, step_list}
-use Rattle.vr_walks.proofs.LineParts.{end_allows_run, end_node, visit_allows_run, visit_of_tour}
+use Rattle.vr_walks.proofs.LineParts.{end_allows_run, end_node, visit_allows_run}
 use Rattle.vr_timings.specs.Bounds.{cumul_cost, IsAround}
 use Rattle.vr_timings.specs.Timings.{plan_of, soft_of, IsTiming, IsTimingOf}
 use Rattle.vr_timings.specs.declared.timings.Timing.{Timing}
 use Rattle.vr_timings.proofs.BoundLemmas.{max-around, mul-around, mul-sign}
-use Rattle.vr_cumuls.specs.Stages.{Runs, AreRuns, along, go_on, no_run, setting_out, to_end, to_visit, visit_more, whole}
+use Rattle.vr_cumuls.specs.Stages.{Runs, AreRuns, along, no_run, setting_out, to_end, to_visit, visit_more, whole}
 use Rattle.vr_cumuls.specs.declared.guides.Stage.{Stage}
 use Rattle.vr_cumuls.proofs.StageLemmas.{gone, some-same, IsBehind}
 

@@ -1,9 +1,9 @@
-use Rattle.std.proofs.Common.{◌≡◌, ◌∙◌, ◌+◌, ap₂, arith, length}
+use Rattle.std.proofs.Common.{◌+◌, arith, length}
 use Rattle.std.proofs.lemmas.Int.{ints}
-use Rattle.std.specs.Prelude.{◌-ℤ◌, ◌*ℤ◌, ◌+ℤ◌}
+use Rattle.std.specs.Prelude.{◌-ℤ◌}
 use Rattle.vr_model.specs.tables.Numbers.{number_at}
 use Rattle.vr_model.specs.tables.Tables.{dimension_at}
-use Rattle.vr_timings.specs.Timings.{last_with, plan_of, span_with, start_with}
+use Rattle.vr_timings.specs.Timings.{last_with, plan_of, start_with}
 use Rattle.vr_timings.proofs.ExtentLemmas.{times-none}
 use Rattle.vr_costfilter.proofs.ScheduleLemmas.{timed-cost, timing-more}
 use Rattle.vr_costfilter.proofs.schedules.cost_of_plan.Goals as goal

@@ -1,4 +1,4 @@
-use Rattle.std.proofs.Common.{◌≡◌, ◌∙◌, ◌<◌, ◌≤◌, ◌+◌, ℕ, List, length, ap, sym, subst, arith, to_z, of_z, w64}
+use Rattle.std.proofs.Common.{◌≡◌, ◌∙◌, ◌<◌, ◌+◌, ℕ, List, length, ap, sym, subst, arith, to_z, of_z, w64}
 use Rattle.std.proofs.lemmas.Int.{ints}
 use Rattle.std.specs.Prelude.{IsTrue, ◌+ℤ◌, ◌-ℤ◌, ◌*ℤ◌}
 use Rattle.std.specs.List.{list_all}
@@ -6,7 +6,7 @@ use Rattle.vr_model.specs.tables.Numbers.{number_at}
 use Rattle.vr_model.specs.tables.Tables.{dimension_at, is_visit}
 use Rattle.vr_model.specs.routes.Routes.{is_distinct}
 use Rattle.vr_routes.specs.Pieces.{joined, part_at}
-use Rattle.vr_timings.specs.Timings.{last_with, plan_of, soft_with, span_with, start_with, IsTiming}
+use Rattle.vr_timings.specs.Timings.{last_with, plan_of, soft_with, span_with, start_with}
 use Rattle.vr_timings.proofs.ExtentLemmas.{times-none}
 use Rattle.vr_costfilter.proofs.PartLemmas.{is-part, known-vehicle}
 use Rattle.vr_costfilter.proofs.ScheduleLemmas.{timed-cost, timing-more}

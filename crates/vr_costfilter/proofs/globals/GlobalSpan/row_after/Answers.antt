@@ -1,4 +1,4 @@
-use Rattle.std.proofs.Common.{◌≡◌, ◌∙◌, List, ℕ, ap, subst}
+use Rattle.std.proofs.Common.{List, ℕ, ap, subst}
 use Rattle.vr_model.specs.declared.records.Model.{Model}
 use Rattle.vr_routes.specs.Pieces.{joined, part_at}
 use Rattle.vr_costfilter.specs.GlobalCosts.{AreKept}

@@ -1,4 +1,3 @@
-use Rattle.std.proofs.Common.{◌≡◌}
 use Rattle.vr_cumuls.specs.Kept.{AreAllKept}
 use Rattle.vr_earliest.proofs.PartLemmas.{upto}
 use Rattle.vr_cumuls.proofs.dimensions.AllCumuls.commit.Given as goal

@@ -1,15 +1,8 @@
-use Rattle.std.proofs.Common.{◌≡◌, ◌∙◌, ◌<◌, ◌≤◌, ◌+◌, ℕ, List, false, length, ap, sym, subst, arith}
-use Rattle.std.specs.Prelude.{IsTrue, slice_index_or}
-use Rattle.std.specs.List.{list_all}
-use Rattle.vr_model.specs.tables.Tables.{is_visit}
-use Rattle.vr_model.specs.routes.Routes.{route}
-use Rattle.vr_routes.specs.declared.pieces.Piece.{Piece}
+use Rattle.std.proofs.Common.{◌≤◌, ◌+◌, ℕ, List, length, sym, subst, arith}
 use Rattle.vr_routes.specs.Pieces.{joined, no_part, part_at}
 use Rattle.vr_timings.specs.Timings.{IsTiming, IsTimingOf}
 use Rattle.vr_walks.specs.Lists.{IsUsed}
 use Rattle.vr_earliest.proofs.PartLemmas.{many-valid}
-use Rattle.vr_cumuls.specs.declared.kept.Kept.{Kept}
-use Rattle.vr_cumuls.specs.Kept.{AreKept}
 use Rattle.vr_cumuls.proofs.PartLemmas.{list-after, list-of, used-after}
 use Rattle.vr_cumuls.proofs.dimensions.AllCumuls.timing_after.Goals as goal
 

@@ -1,8 +1,7 @@
-use Rattle.std.proofs.Common.{◌≡◌, ◌∙◌, ◌<◌, length, ap, sym, subst, arith, to_z, of_z, w64}
+use Rattle.std.proofs.Common.{◌∙◌, ◌<◌, length, ap, sym, subst, arith}
 use Rattle.std.specs.Prelude.{All, pos}
 use Rattle.vr_model.specs.tables.Numbers.{horizon}
 use Rattle.vr_model.specs.tables.WellFormed.{IsIn}
-use Rattle.std.proofs.lemmas.Int.{ints}
 use Rattle.vr_model.specs.declared.records.Dimension.{Dimension}
 use Rattle.vr_model.specs.tables.Tables.{evaluator_of, no_dimension}
 use Rattle.vr_timings.proofs.BoundLemmas.{read-cumul}

@@ -1,13 +1,7 @@
-use Rattle.std.proofs.Common.{◌≡◌, ◌∙◌, ◌+◌, ◌*◌, ◌≤◌, suc, List, ℕ, Some, drop, length, add-one, ap, ap₂, sym, subst, arith, to_z, of_z, w64}
+use Rattle.std.proofs.Common.{◌≡◌, ◌∙◌, ◌+◌, suc, List, ℕ, Some, drop, length, add-one, ap, ap₂, sym, arith}
 use Rattle.std.specs.Prelude.{ℤ, ◌+ℤ◌, ◌-ℤ◌, pos, slice_index_or}
 use Rattle.std.proofs.lemmas.Int.{ints}
-use Rattle.std.proofs.lemmas.List.{drop_more}
-use Rattle.vr_model.specs.tables.Numbers.{horizon}
-use Rattle.vr_model.specs.tables.WellFormed.{IsIn}
-use Rattle.vr_timings.specs.Bounds.{cumul_cost}
-use Rattle.vr_timings.proofs.BoundLemmas.{read-cumul}
 use Rattle.vr_cumuls.specs.Guides.{runs_of}
-use Rattle.vr_cumuls.specs.Kept.{AreAllStages}
 use Rattle.vr_cumuls.specs.Stages.{paid_more}
 use Rattle.vr_cumuls.specs.declared.guides.Stage.{Stage}
 use Rattle.vr_cumuls.proofs.KeptLemmas.{end-small, kept-rest, kept-small}

@@ -1,16 +1,11 @@
-use Rattle.std.proofs.Common.{◌≡◌, ◌∙◌, ◌+◌, ◌*◌, ◌≤◌, ◌++◌, suc, List, ℕ, Some, [], drop, length, take, ap, sym, subst, arith, to_z, of_z, w64}
-use Rattle.std.specs.Prelude.{ℤ, pos, All, IsTrue, slice_index_or}
-use Rattle.std.proofs.lemmas.Int.{ints}
-use Rattle.vr_model.specs.tables.Numbers.{horizon}
+use Rattle.std.proofs.Common.{◌≡◌, ◌++◌, List, ℕ, Some, drop, length, take, ap, subst, arith}
+use Rattle.std.specs.Prelude.{pos, All, IsTrue, slice_index_or}
 use Rattle.vr_model.specs.tables.Tables.{is_visit}
-use Rattle.vr_model.specs.tables.WellFormed.{IsIn}
 use Rattle.vr_model.specs.routes.Routes.{route}
 use Rattle.vr_routes.specs.Pieces.{joined}
 use Rattle.vr_routes.proofs.JoinedPieces.{all_left, all_right}
-use Rattle.vr_timings.proofs.BoundLemmas.{read-cumul}
 use Rattle.vr_cumuls.specs.Guides.{runs_of}
-use Rattle.vr_cumuls.specs.Kept.{AreAllStages}
-use Rattle.vr_cumuls.specs.Stages.{setting_out, whole, IsStageOf}
+use Rattle.vr_cumuls.specs.Stages.{whole}
 use Rattle.vr_cumuls.specs.declared.guides.Stage.{Stage}
 use Rattle.vr_cumuls.proofs.KeptLemmas.{all-visits, kept-small}
 use Rattle.vr_cumuls.proofs.AfterLemmas.{after-range, after-timing}

@@ -3,7 +3,7 @@ use Rattle.std.specs.Prelude.{slice_index_or}
 use Rattle.std.proofs.lemmas.List.{get_or_push}
 use Rattle.vr_cumuls.specs.Guides.{runs_of}
 use Rattle.vr_cumuls.specs.Kept.{AreStages}
-use Rattle.vr_cumuls.specs.Stages.{to_end, to_visit, IsStageOf}
+use Rattle.vr_cumuls.specs.Stages.{to_end, to_visit}
 use Rattle.vr_cumuls.specs.declared.guides.Stage.{Stage}
 use Rattle.vr_cumuls.proofs.KeptLemmas.{kept-so, stages-more, stages-whole}
 use Rattle.vr_cumuls.proofs.StageLemmas.{stage-more}
