@@ -22,6 +22,7 @@ use Rattle.vr_routes.specs.Pieces.{ListAfter, joined, no_part, part_at, with_par
 use Rattle.vr_routes.specs.Changes.{AreParts}
 use Rattle.vr_routes.specs.Tours.{Tours}
 use Rattle.vr_routes.proofs.CommitLemmas.{as_many_lists}
+use Rattle.vr_cumuls.specs.Kept.{AreAllKept}
 use Rattle.vr_costfilter.specs.GlobalCosts.{global_cost_of, row_with, vehicles_of, AreKept, AreLike, AreNext, AreOf, IsGlobalCost, IsReach, IsTimed, KeptSpans, NonePays, StandsSpans}
 use Rattle.vr_parts.proofs.SumLemmas.{route-kept}
 
@@ -145,6 +146,7 @@ module _ (before later : KeptSpans) (tours : Tours) (stands : StandsSpans before
     rows = kept;
     cost = like.cost ∙ stands.cost ∙ ap (λ m. global_cost_of m tours.lists) (sym like.model);
     range = subst IsGlobalCost (sym like.cost) stands.range;
+    cumuls = subst (λ (m : Model). AreAllKept m tours.lists later.cumuls) (sym like.model) (subst (λ ks. AreAllKept before.model tours.lists ks) (sym like.cumuls) stands.cumuls);
   }
 
   -- with the next rows, the rows are those of the changed lists

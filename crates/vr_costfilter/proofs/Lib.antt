@@ -1,3 +1,4 @@
+pub mod ScheduleLemmas
 pub mod PlanLemmas
 pub mod LeastLemmas
 pub mod GlobalLemmas

@@ -1,10 +1,14 @@
 -- Soft bounds and spans as a sum over the lists of vehicles.
-use Rattle.std.proofs.Common.{◌≡◌, ◌∙◌, ℕ, suc, ◌<◌, Bool, true, false, cond, List, length, refl, ap, sym, arith, to_z, of_z, w64}
-use Rattle.std.specs.Prelude.{ℤ, pos, ◌+ℤ◌, ◌-ℤ◌, ◌*ℤ◌}
+use Rattle.std.proofs.Common.{◌≡◌, ◌∙◌, ℕ, suc, ◌<◌, Bool, true, false, cond, List, length, refl, ap, sym, subst, arith, to_z, of_z, w64}
+use Rattle.std.specs.Prelude.{IsTrue, ℤ, pos, ◌+ℤ◌, ◌-ℤ◌, ◌*ℤ◌}
 use Rattle.std.specs.List.{range_with_len}
 use Rattle.std.proofs.lemmas.Int.{ints}
 use Rattle.vr_model.specs.tables.Numbers.{number_at, total_by, below}
-use Rattle.vr_model.specs.tables.Tables.{dimension_at}
+use Rattle.vr_model.specs.tables.Tables.{dimension_at, visits}
+use Rattle.vr_model.specs.tables.WellFormed.{IsWellFormed}
+use Rattle.vr_model.specs.routes.Rules.{is_valid}
+use Rattle.vr_routes.specs.Tours.{Tours}
+use Rattle.vr_cumuls.specs.Kept.{AreAllKept}
 use Rattle.vr_model.specs.routes.Routes.{route, is_empty}
 use Rattle.vr_model.specs.schedules.Schedules.{Plan, cumul}
 use Rattle.vr_model.specs.routes.Costs.{plan_at, assigned, over_plans, soft_part, span_part}
@@ -16,7 +20,7 @@ use Rattle.vr_timings.proofs.ExtentLemmas.{times-none}
 use Rattle.vr_timings.proofs.PlanLemmas.{plan-at}
 use Rattle.vr_parts.specs.Sums.{over_routes}
 use Rattle.vr_earliest.specs.Ways.{least_span}
-use Rattle.vr_costfilter.specs.PlanCosts.{plans_cost, spans_least, IsIdle, IsPlanCost}
+use Rattle.vr_costfilter.specs.PlanCosts.{plans_cost, spans_least, IsIdle, IsPlanCost, KeptPlans, StandsPlans}
 
 -- ---- a sum over the lists
 
@@ -96,3 +100,18 @@ read-cost x h = omega (arith, ints, h.low, h.high)
 -- nothing is a cost that a list may have
 pub nothing-is-cost : IsPlanCost (pos 0)
 nothing-is-cost = record { low = omega (arith, ints); high = omega (arith, ints) }
+
+-- ---- what is kept
+
+-- what is like what stands, stands
+pub plans-like : (before later : KeptPlans) (tours : Tours) → StandsPlans before tours → later.model ≡ before.model → later.costs ≡ before.costs → later.cumuls ≡ before.cumuls → StandsPlans later tours
+plans-like before later tours stands model costs cumuls = record {
+  well_formed = subst IsWellFormed (sym model) stands.well_formed;
+  of_model = stands.of_model ∙ ap visits (sym model);
+  valid = subst (λ m. IsTrue (is_valid m tours.lists)) (sym model) stands.valid;
+  as_many = stands.as_many ∙ ap (λ (m : Model). length m.vehicles) (sym model);
+  many = ap (λ (l : List ℤ). length l) costs ∙ stands.many ∙ ap (λ (m : Model). length m.vehicles) (sym model);
+  costs = λ v known. ap (λ l. number_at l v) costs ∙ stands.costs v known ∙ ap (λ (m : Model). plans_cost m v (route tours.lists v)) (sym model);
+  range = λ v known. subst (λ l. IsPlanCost (number_at l v)) (sym costs) (stands.range v known);
+  cumuls = subst (λ (m : Model). AreAllKept m tours.lists later.cumuls) (sym model) (subst (λ ks. AreAllKept before.model tours.lists ks) (sym cumuls) stands.cumuls);
+}

@@ -14,6 +14,8 @@ use Rattle.vr_timings.specs.Timings.{IsTiming, IsTimingOf}
 use Rattle.vr_timings.specs.declared.extents.Extent.{Extent}
 use Rattle.vr_timings.specs.declared.tables.Table.{Table}
 use Rattle.vr_timings.specs.declared.timings.Timing.{Timing}
+use Rattle.vr_cumuls.specs.Kept.{AreAllKept}
+use Rattle.vr_cumuls.specs.declared.kept.Kept.{Kept}
 use Rattle.vr_routes.specs.Tours.{Tours}
 use Rattle.vr_routes.specs.Pieces.{ListAfter, changed, joined, part_at}
 
@@ -77,7 +79,8 @@ pub record AreSpanRules (model : Model) (tables : List Table) (idle : Bool) : Ty
 abbrev pub IsGlobalCost : ℤ → Type 0
 IsGlobalCost = IsAround (cumul_cost * 4)
 
--- what contracts see of what is kept: of each list, what all cost, and the same of a change that is ready
+-- what contracts see of what is kept: of each list, what all cost, the same of a change that is ready, and cumuls of the
+-- chosen schedules
 pub record KeptSpans : Type 0 where
   pub model : Model
   pub rows : List (List (Option Timing))
@@ -86,6 +89,7 @@ pub record KeptSpans : Type 0 where
   pub next : List (List (Option Timing))
   pub next_cost : ℤ
   pub is_prepared : Bool
+  pub cumuls : List (List Kept)
 
 -- it is of these lists of a model
 pub record StandsSpans (kept : KeptSpans) (tours : Tours) : Type 0 where
@@ -98,6 +102,7 @@ pub record StandsSpans (kept : KeptSpans) (tours : Tours) : Type 0 where
       → AreKept kept.model v (route tours.lists v) (slice_index_or kept.rows v [])
   pub cost : kept.cost ≡ global_cost_of kept.model tours.lists
   pub range : IsGlobalCost kept.cost
+  pub cumuls : AreAllKept kept.model tours.lists kept.cumuls
 
 -- the vehicles of parts
 abbrev pub vehicles_of : List ListAfter → List ℕ
@@ -115,6 +120,7 @@ pub record AreLike (before later : KeptSpans) : Type 0 where
   pub model : later.model ≡ before.model
   pub rows : later.rows ≡ before.rows
   pub cost : later.cost ≡ before.cost
+  pub cumuls : later.cumuls ≡ before.cumuls
 
 -- the lists after a change are timed, and what all cost then is there
 pub record AreSpansReady (kept : KeptSpans) (tours : Tours) (parts : List ListAfter) : Type 0 where

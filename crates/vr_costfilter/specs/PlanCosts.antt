@@ -11,6 +11,8 @@ use Rattle.vr_timings.specs.Tables.{AreTables}
 use Rattle.vr_timings.specs.Timings.{soft_with, span_with}
 use Rattle.vr_timings.specs.declared.tables.Table.{Table}
 use Rattle.vr_earliest.specs.Ways.{least_span}
+use Rattle.vr_cumuls.specs.Kept.{AreAllKept}
+use Rattle.vr_cumuls.specs.declared.kept.Kept.{Kept}
 use Rattle.vr_routes.specs.Tours.{Tours}
 use Rattle.vr_routes.specs.Pieces.{ListAfter, part_at, joined}
 use Rattle.vr_costfilter.specs.Bounds.{IsFrom}
@@ -51,12 +53,14 @@ pub record ArePlanRules (model : Model) (tables : List Table) (idle : Bool) : Ty
   pub of_dimensions : AreTables model tables
   pub none_costs : IsTrue idle → IsIdle model
 
--- what contracts see of the costs that are kept: of each list, and of the lists of a change that is ready
+-- what contracts see of what is kept: what each list costs and the lists of a change that is ready, and cumuls of the
+-- chosen schedules
 pub record KeptPlans : Type 0 where
   pub model : Model
   pub costs : List ℤ
   pub next : List ℤ
   pub is_prepared : Bool
+  pub cumuls : List (List Kept)
 
 -- these are the costs of the lists of a model
 pub record StandsPlans (kept : KeptPlans) (tours : Tours) : Type 0 where
@@ -67,6 +71,7 @@ pub record StandsPlans (kept : KeptPlans) (tours : Tours) : Type 0 where
   pub many : length kept.costs ≡ length kept.model.vehicles
   pub costs : (v : ℕ) → v < length tours.lists → number_at kept.costs v ≡ plans_cost kept.model v (route tours.lists v)
   pub range : (v : ℕ) → v < length tours.lists → IsPlanCost (number_at kept.costs v)
+  pub cumuls : AreAllKept kept.model tours.lists kept.cumuls
 
 -- what a list costs that a part of a change gives its vehicle
 abbrev pub cost_after : Model → List (List ℕ) → ListAfter → ℤ

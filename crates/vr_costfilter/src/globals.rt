@@ -19,14 +19,16 @@ use crate::reaches::{ListTimings, SpanRules};
 use arrayvec::ArrayVec;
 use std::alloc::Global;
 use std::marker::Model;
+use vr_cumuls::AllCumuls;
 use vr_earliest::Earlies;
 use vr_model::{Model as RoutingModel, NoMemory};
 use vr_routes::{Change, Routes, Row};
 use vr_timings::Timer;
 
-/// What global spans cost (`SetGlobalSpanCostCoefficient` in OR-Tools). A change builds the schedules of the changed
-/// lists alone, in the dimensions whose global span has a coefficient, and looks over where the other lists start and
-/// end.
+/// What global spans cost (`SetGlobalSpanCostCoefficient` in OR-Tools). A change is told by the cumuls that are
+/// kept of the committed lists, along what it changes alone, in the dimensions whose global span has a coefficient; only
+/// where they do not tell it are the schedules of the changed lists built. Then it is looked over where the other lists
+/// start and end.
 #[derive(Drop)]
 pub struct GlobalSpan<'m> {
     rules: SpanRules<'m>,
@@ -39,6 +41,8 @@ pub struct GlobalSpan<'m> {
     next: ArrayVec<ListTimings, 2>,
     next_cost: i64,
     is_prepared: bool,
+    // the cumuls of the committed lists
+    cumuls: AllCumuls,
     // room for a list that a change makes
     row: Row,
     timer: Timer,
@@ -57,6 +61,7 @@ impl<'m> Model for GlobalSpan<'m> {
       next = part.next.items;
       next_cost = part.next_cost;
       is_prepared = part.is_prepared;
+      cumuls = part.cumuls;
     } };
 }
 
@@ -81,6 +86,7 @@ impl<'m> GlobalSpan<'m> {
             rows.push(row)?;
         }
         let cost = rules.cost(&rows, &[], &[]);
+        let cumuls = rules.cumuls(alloc, routes)?;
         Ok(GlobalSpan {
             rules,
             rows,
@@ -89,6 +95,7 @@ impl<'m> GlobalSpan<'m> {
             next: ArrayVec::new(),
             next_cost: 0,
             is_prepared: false,
+            cumuls,
             row: Row::new(),
             timer,
         })
@@ -121,7 +128,7 @@ impl<'m> GlobalSpan<'m> {
         change: &Change,
         k: usize,
     ) -> Result<ListTimings, NoMemory>
-        requires well_formed { IsWellFormed self.old.model }
+        requires stands { StandsSpans self.old routes.now }
         requires made { IsMadeOn routes.now change.now }
         requires valid { IsTrue (is_valid self.old.model (changed routes.now.lists change.now)) }
         requires part { k < length change.now }
@@ -132,16 +139,20 @@ impl<'m> GlobalSpan<'m> {
         if self.rules.is_idle() {
             return Ok([None; 4]);
         }
-        routes.write_after(change, k, &mut self.row);
-        let row = self
-            .rules
-            .row(change.vehicle(k), self.row.as_slice(), &mut self.timer)?;
+        let row = self.rules.row_after(
+            &self.cumuls,
+            routes,
+            change,
+            k,
+            &mut self.row,
+            &mut self.timer,
+        )?;
         Ok(row)
     }
 
     // Writes the rows of the lists after a change, and makes none ready.
     fn write_next(&mut self, routes: &Routes, change: &Change) -> Result<(), NoMemory>
-        requires well_formed { IsWellFormed self.old.model }
+        requires stands { StandsSpans self.old routes.now }
         requires made { IsMadeOn routes.now change.now }
         requires valid { IsTrue (is_valid self.old.model (changed routes.now.lists change.now)) }
         ensures next { OnOk result (AreNext self.new routes.now change.now) }
@@ -209,7 +220,8 @@ impl<'m> CostPart for GlobalSpan<'m> {
         Ok(made)
     }
 
-    fn commit(&mut self, _routes: &Routes, change: &Change) {
+    fn commit(&mut self, routes: &Routes, change: &Change) {
+        self.rules.commit(&mut self.cumuls, routes, change);
         for k in 0..change.parts() {
             self.rows[change.vehicle(k) as usize] = self.next[k];
         }

@@ -17,14 +17,16 @@ use crate::schedules::PlanRules;
 use arrayvec::ArrayVec;
 use std::alloc::Global;
 use std::marker::Model;
+use vr_cumuls::AllCumuls;
 use vr_earliest::Earlies;
 use vr_model::{Model as RoutingModel, NoMemory};
 use vr_routes::{Change, Routes, Row};
 use vr_timings::Timer;
 
 /// What soft upper bounds and spans cost (`SetCumulVarSoftUpperBound` and `SetSpanCostCoefficientForVehicle` in
-/// OR-Tools). A change builds the schedules of the changed lists alone, in the dimensions where they may cost anything,
-/// and none where the model has no such cost.
+/// OR-Tools). A change is told by the cumuls that are kept of the committed lists, along what it changes alone; only
+/// where they do not tell it are the schedules of the changed lists built, in the dimensions where they may cost
+/// anything.
 #[derive(Drop)]
 pub struct PlanCost<'m> {
     rules: PlanRules<'m>,
@@ -33,6 +35,8 @@ pub struct PlanCost<'m> {
     // what the lists of a change that is ready cost
     next: ArrayVec<i64, 2>,
     is_prepared: bool,
+    // the cumuls of the committed lists
+    cumuls: AllCumuls,
     // room for a list that a change makes
     row: Row,
     timer: Timer,
@@ -48,6 +52,7 @@ impl<'m> Model for PlanCost<'m> {
       costs = part.costs.items;
       next = part.next.items;
       is_prepared = part.is_prepared;
+      cumuls = part.cumuls;
     } };
 }
 
@@ -72,11 +77,13 @@ impl<'m> PlanCost<'m> {
             let cost = rules.cost(v, routes.list(v), &mut timer)?;
             costs.push(cost)?;
         }
+        let cumuls = rules.cumuls(alloc, routes)?;
         Ok(PlanCost {
             rules,
             costs,
             next: ArrayVec::new(),
             is_prepared: false,
+            cumuls,
             row: Row::new(),
             timer,
         })
@@ -108,7 +115,7 @@ impl<'m> PlanCost<'m> {
 
     // What the list costs that part `k` of a change gives its vehicle.
     fn cost_after(&mut self, routes: &Routes, change: &Change, k: usize) -> Result<i64, NoMemory>
-        requires well_formed { IsWellFormed self.old.model }
+        requires stands { StandsPlans self.old routes.now }
         requires made { IsMadeOn routes.now change.now }
         requires valid { IsTrue (is_valid self.old.model (changed routes.now.lists change.now)) }
         requires part { k < length change.now }
@@ -120,9 +127,14 @@ impl<'m> PlanCost<'m> {
         if self.rules.is_idle() {
             return Ok(0);
         }
-        routes.write_after(change, k, &mut self.row);
-        let v = change.vehicle(k);
-        let cost = self.rules.cost(v, self.row.as_slice(), &mut self.timer)?;
+        let cost = self.rules.cost_after(
+            &self.cumuls,
+            routes,
+            change,
+            k,
+            &mut self.row,
+            &mut self.timer,
+        )?;
         Ok(cost)
     }
 
@@ -135,6 +147,7 @@ impl<'m> PlanCost<'m> {
         ensures unprepared { self.new.is_prepared ≡ false }
         ensures model { self.new.model ≡ self.old.model }
         ensures costs { self.new.costs ≡ self.old.costs }
+        ensures cumuls { self.new.cumuls ≡ self.old.cumuls }
     {
         self.is_prepared = false;
         self.next.clear();
@@ -154,6 +167,7 @@ impl<'m> PlanCost<'m> {
         ensures unready { OnErr result (NothingReady (ArePlansReady self.new)) }
         ensures model { self.new.model ≡ self.old.model }
         ensures costs { self.new.costs ≡ self.old.costs }
+        ensures cumuls { self.new.cumuls ≡ self.old.cumuls }
     {
         self.write_next(routes, change)?;
         self.is_prepared = true;
@@ -199,7 +213,8 @@ impl<'m> CostPart for PlanCost<'m> {
         Ok(made)
     }
 
-    fn commit(&mut self, _routes: &Routes, change: &Change) {
+    fn commit(&mut self, routes: &Routes, change: &Change) {
+        self.rules.commit(&mut self.cumuls, routes, change);
         for k in 0..change.parts() {
             self.costs[change.vehicle(k) as usize] = self.next[k];
         }

@@ -6,11 +6,15 @@ ghost use Rattle.std.specs.List.{list_all};
 ghost use Rattle.vr_model.specs.tables.Tables.{is_visit};
 ghost use Rattle.vr_model.specs.tables.WellFormed.{IsWellFormed};
 ghost use Rattle.vr_model.specs.routes.Routes.{is_distinct, route};
+ghost use Rattle.vr_model.specs.routes.Rules.{is_valid};
+ghost use Rattle.vr_routes.specs.Changes.{IsMadeOn};
+ghost use Rattle.vr_routes.specs.Pieces.{changed, joined, part_at};
 ghost use Rattle.vr_model.specs.declared.records.Model.{Model as Defined};
 ghost use Rattle.vr_timings.specs.Bounds.{cumul_cost, IsAround};
 ghost use Rattle.vr_timings.specs.Extents.{global_in};
 ghost use Rattle.vr_timings.specs.Tables.{AreTables, IsTable};
 ghost use Rattle.vr_earliest.specs.Earlies.{AreEarlies};
+ghost use Rattle.vr_cumuls.specs.Kept.{AreAllKept};
 ghost use Rattle.vr_costfilter.specs.GlobalCosts.{global_cost_of, row_with, AreKept, AreOf, AreOfSome, IsGlobalCost};
 ghost use Rattle.vr_costfilter.specs.GlobalCosts.{IsKept, IsReach, NonePays, Pays};
 ghost use Rattle.vr_costfilter.specs.Spreads.{global_least, AreRowsBefore};
@@ -18,9 +22,10 @@ ghost use Rattle.vr_costfilter.specs.Spreads.{global_least, AreRowsBefore};
 use crate::spreads::least_of_global_spans;
 use std::alloc::Global;
 use std::marker::Model;
+use vr_cumuls::{AllCumuls, Paid};
 use vr_earliest::Earlies;
 use vr_model::{Model as RoutingModel, NoMemory};
-use vr_routes::{Change, Routes};
+use vr_routes::{Change, Piece, Routes, Row};
 use vr_timings::{Extent, Table, Timer, Timing, global_cost, tables_of, timing_of, wider};
 
 /// What the schedule of one list comes to in each dimension whose global span has a coefficient, none where the list is
@@ -79,6 +84,58 @@ impl<'m> SpanRules<'m> {
     {
         let row = row_of_list(self.model, &self.tables, v, list, timer)?;
         Ok(row)
+    }
+
+    /// What is kept of the lists of routes.
+    pub fn cumuls(&self, alloc: Global, routes: &Routes) -> Result<AllCumuls, NoMemory>
+        requires valid { IsTrue (is_valid self.now routes.now.lists) }
+        ensures { IfOk result (AreAllKept self.now routes.now.lists) }
+    {
+        let cumuls = AllCumuls::open(alloc, self.model, &self.tables, Paid::Together, routes)?;
+        Ok(cumuls)
+    }
+
+    /// What is kept becomes that of the lists after a change.
+    pub fn commit(&self, cumuls: &mut AllCumuls, routes: &Routes, change: &Change)
+        requires kept { AreAllKept self.now routes.now.lists cumuls.old }
+        requires before { IsTrue (is_valid self.now routes.now.lists) }
+        requires made { IsMadeOn routes.now change.now }
+        requires valid { IsTrue (is_valid self.now (changed routes.now.lists change.now)) }
+        ensures { AreAllKept self.now (changed routes.now.lists change.now) cumuls.new }
+    {
+        cumuls.commit(self.model, &self.tables, routes, change);
+    }
+
+    /// What the chosen schedules of the list come to that part `k` of a change gives its vehicle. The list is written
+    /// out only where what is kept does not tell its schedule.
+    pub fn row_after(
+        &self,
+        cumuls: &AllCumuls,
+        routes: &Routes,
+        change: &Change,
+        k: usize,
+        row: &mut Row,
+        timer: &mut Timer,
+    ) -> Result<ListTimings, NoMemory>
+        requires kept { AreAllKept self.now routes.now.lists cumuls.now }
+        requires before { IsTrue (is_valid self.now routes.now.lists) }
+        requires made { IsMadeOn routes.now change.now }
+        requires valid { IsTrue (is_valid self.now (changed routes.now.lists change.now)) }
+        requires part { k < length change.now }
+        ensures { IfOk result (AreKept self.now (part_at change.now k).vehicle
+            (joined routes.now.lists (part_at change.now k).pieces)) }
+    {
+        let timings = row_of_part(
+            self.model,
+            &self.tables,
+            cumuls,
+            routes,
+            change,
+            k,
+            row,
+            timer,
+        )?;
+        Ok(timings)
     }
 
     /// What the global spans cost, where some vehicles have the next rows in the place of theirs.
@@ -170,6 +227,73 @@ fn kept_in(
     }
     let timing = timing_of(model, table, d, v, list, timer)?;
     Ok(Some(timing))
+}
+
+// What the chosen schedules of the list come to that part `k` of a change gives its vehicle.
+fn row_of_part(
+    model: &RoutingModel,
+    tables: &[Table],
+    cumuls: &AllCumuls,
+    routes: &Routes,
+    change: &Change,
+    k: usize,
+    row: &mut Row,
+    timer: &mut Timer,
+) -> Result<ListTimings, NoMemory>
+    requires well_formed { IsWellFormed model.now }
+    requires tables { AreTables model.now tables.now }
+    requires kept { AreAllKept model.now routes.now.lists cumuls.now }
+    requires before { IsTrue (is_valid model.now routes.now.lists) }
+    requires made { IsMadeOn routes.now change.now }
+    requires valid { IsTrue (is_valid model.now (changed routes.now.lists change.now)) }
+    requires part { k < length change.now }
+    ensures { IfOk result (AreKept model.now (part_at change.now k).vehicle
+        (joined routes.now.lists (part_at change.now k).pieces)) }
+{
+    let mut timings: ListTimings = [None; 4];
+    for d in 0..tables.len() {
+        timings[d] = kept_after(
+            model, &tables[d], d as u32, cumuls, routes, change, k, row, timer,
+        )?;
+    }
+    Ok(timings)
+}
+
+// The same in one dimension.
+fn kept_after(
+    model: &RoutingModel,
+    table: &Table,
+    d: u32,
+    cumuls: &AllCumuls,
+    routes: &Routes,
+    change: &Change,
+    k: usize,
+    row: &mut Row,
+    timer: &mut Timer,
+) -> Result<Option<Timing>, NoMemory>
+    requires well_formed { IsWellFormed model.now }
+    requires dimension { d < length model.now.dimensions }
+    requires table { IsTable model.now d table.now }
+    requires kept { AreAllKept model.now routes.now.lists cumuls.now }
+    requires before { IsTrue (is_valid model.now routes.now.lists) }
+    requires made { IsMadeOn routes.now change.now }
+    requires valid { IsTrue (is_valid model.now (changed routes.now.lists change.now)) }
+    requires part { k < length change.now }
+    ensures { IfOk result (IsKept model.now d (part_at change.now k).vehicle
+        (joined routes.now.lists (part_at change.now k).pieces)) }
+{
+    if model.dimensions.get(d as usize).global_span_cost == 0 {
+        return Ok(None);
+    }
+    if Piece::nodes_in(routes, change.pieces(k)) == 0 {
+        return Ok(None);
+    }
+    if let Some(timing) = cumuls.timing_after(model, table, d, routes, change, k) {
+        return Ok(Some(timing));
+    }
+    routes.write_after(change, k, row);
+    let timing = kept_in(model, table, d, change.vehicle(k), row.as_slice(), timer)?;
+    Ok(timing)
 }
 
 // What the global spans cost in all dimensions.

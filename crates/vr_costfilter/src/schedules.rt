@@ -1,27 +1,30 @@
 //! What a list costs by soft upper bounds and spans, at its chosen schedules.
 
-ghost use Rattle.std.specs.Prelude.{◌≡◌, ◌<◌, ◌≤◌, ◌*◌, ◌+ℤ◌, ◌*ℤ◌, IsTrue, IfOk, length};
+ghost use Rattle.std.specs.Prelude.{◌≡◌, ◌<◌, ◌≤◌, ◌*◌, ◌+ℤ◌, ◌-ℤ◌, ◌*ℤ◌, IsTrue, IfOk, false, length};
 ghost use Rattle.std.specs.List.{list_all};
 ghost use Rattle.vr_model.specs.tables.Numbers.{below, number_at, total_by};
 ghost use Rattle.vr_model.specs.tables.Tables.{dimension_at, is_visit};
 ghost use Rattle.vr_model.specs.tables.WellFormed.{IsWellFormed};
-ghost use Rattle.vr_model.specs.routes.Routes.{is_distinct};
+ghost use Rattle.vr_model.specs.routes.Routes.{is_distinct, is_empty};
+ghost use Rattle.vr_model.specs.routes.Rules.{is_valid};
 ghost use Rattle.vr_timings.specs.Tables.{AreTables, IsTable};
-ghost use Rattle.vr_timings.specs.Timings.{soft_with, span_with};
+ghost use Rattle.vr_timings.specs.Timings.{soft_with, span_with, IsTimingOf};
 ghost use Rattle.vr_timings.specs.Bounds.{cumul_cost, IsAround};
-ghost use Rattle.vr_routes.specs.Changes.{AreParts};
-ghost use Rattle.vr_routes.specs.Pieces.{joined, part_at};
+ghost use Rattle.vr_routes.specs.Changes.{AreParts, IsMadeOn};
+ghost use Rattle.vr_routes.specs.Pieces.{changed, joined, part_at};
+ghost use Rattle.vr_cumuls.specs.Kept.{AreAllKept};
 ghost use Rattle.vr_earliest.specs.Earlies.{AreEarlies};
 ghost use Rattle.vr_earliest.specs.Ways.{least_span};
-ghost use Rattle.vr_costfilter.specs.PlanCosts.{plans_cost, spans_least, IsIdle, IsPlanCost};
+ghost use Rattle.vr_costfilter.specs.PlanCosts.{cost_after, plans_cost, spans_least, IsIdle, IsPlanCost};
 ghost use Rattle.vr_costfilter.specs.Bounds.{IsFrom};
 
 use std::alloc::Global;
 use std::marker::Model;
+use vr_cumuls::{AllCumuls, Paid};
 use vr_earliest::Earlies;
 use vr_model::{Model as RoutingModel, NoMemory};
-use vr_routes::{Change, Piece, Routes};
-use vr_timings::{Table, Timer, may_pay_alone, span_cost, tables_of, times, timing_of};
+use vr_routes::{Change, Piece, Routes, Row};
+use vr_timings::{Table, Timer, Timing, may_pay_alone, span_cost, tables_of, times, timing_of};
 
 /// What is looked up of a model once. Contracts see the model.
 #[derive(Drop)]
@@ -79,6 +82,61 @@ impl<'m> PlanRules<'m> {
         Ok(cost)
     }
 
+    /// What is kept of the lists of routes.
+    pub fn cumuls(&self, alloc: Global, routes: &Routes) -> Result<AllCumuls, NoMemory>
+        requires valid { IsTrue (is_valid self.now routes.now.lists) }
+        ensures { IfOk result (AreAllKept self.now routes.now.lists) }
+    {
+        let cumuls = AllCumuls::open(alloc, self.model, &self.tables, Paid::Alone, routes)?;
+        Ok(cumuls)
+    }
+
+    /// What is kept becomes that of the lists after a change.
+    pub fn commit(&self, cumuls: &mut AllCumuls, routes: &Routes, change: &Change)
+        requires kept { AreAllKept self.now routes.now.lists cumuls.old }
+        requires before { IsTrue (is_valid self.now routes.now.lists) }
+        requires made { IsMadeOn routes.now change.now }
+        requires valid { IsTrue (is_valid self.now (changed routes.now.lists change.now)) }
+        ensures { AreAllKept self.now (changed routes.now.lists change.now) cumuls.new }
+    {
+        cumuls.commit(self.model, &self.tables, routes, change);
+    }
+
+    /// What the list costs that part `k` of a change gives its vehicle. The list is written out only where what is kept
+    /// does not tell its schedule.
+    pub fn cost_after(
+        &self,
+        cumuls: &AllCumuls,
+        routes: &Routes,
+        change: &Change,
+        k: usize,
+        row: &mut Row,
+        timer: &mut Timer,
+    ) -> Result<i64, NoMemory>
+        requires kept { AreAllKept self.now routes.now.lists cumuls.now }
+        requires before { IsTrue (is_valid self.now routes.now.lists) }
+        requires made { IsMadeOn routes.now change.now }
+        requires valid { IsTrue (is_valid self.now (changed routes.now.lists change.now)) }
+        requires part { k < length change.now }
+        ensures value { IfOk result (λ cost. cost ≡ cost_after self.now routes.now.lists (part_at change.now k)) }
+        ensures range { IfOk result IsPlanCost }
+    {
+        if Piece::nodes_in(routes, change.pieces(k)) == 0 {
+            return Ok(0);
+        }
+        let cost = cost_of_part(
+            self.model,
+            &self.tables,
+            cumuls,
+            routes,
+            change,
+            k,
+            row,
+            timer,
+        )?;
+        Ok(cost)
+    }
+
     /// What the spans of the list cost at least that part `k` of a change gives its vehicle. No schedule is built.
     pub fn least(&self, earlies: &Earlies, routes: &Routes, change: &Change, k: usize) -> i64
         requires earlies { AreEarlies self.now routes.now.lists change.now earlies.now }
@@ -120,6 +178,75 @@ fn cost_of_plans(
     for d in 0..tables.len() {
         cost += cost_of_plan(model, &tables[d], d as u32, v, list, timer)?;
     }
+    Ok(cost)
+}
+
+// What the list costs that part `k` of a change gives its vehicle, where it has nodes.
+fn cost_of_part(
+    model: &RoutingModel,
+    tables: &[Table],
+    cumuls: &AllCumuls,
+    routes: &Routes,
+    change: &Change,
+    k: usize,
+    row: &mut Row,
+    timer: &mut Timer,
+) -> Result<i64, NoMemory>
+    requires well_formed { IsWellFormed model.now }
+    requires tables { AreTables model.now tables.now }
+    requires kept { AreAllKept model.now routes.now.lists cumuls.now }
+    requires before { IsTrue (is_valid model.now routes.now.lists) }
+    requires made { IsMadeOn routes.now change.now }
+    requires valid { IsTrue (is_valid model.now (changed routes.now.lists change.now)) }
+    requires part { k < length change.now }
+    requires some { is_empty (joined routes.now.lists (part_at change.now k).pieces) ≡ false }
+    ensures value { IfOk result (λ cost. cost ≡ cost_after model.now routes.now.lists (part_at change.now k)) }
+    ensures range { IfOk result IsPlanCost }
+{
+    let mut cost = 0;
+    for d in 0..tables.len() {
+        cost += cost_of_plan_after(
+            model, &tables[d], d as u32, cumuls, routes, change, k, row, timer,
+        )?;
+    }
+    Ok(cost)
+}
+
+// The same in one dimension.
+fn cost_of_plan_after(
+    model: &RoutingModel,
+    table: &Table,
+    d: u32,
+    cumuls: &AllCumuls,
+    routes: &Routes,
+    change: &Change,
+    k: usize,
+    row: &mut Row,
+    timer: &mut Timer,
+) -> Result<i64, NoMemory>
+    requires well_formed { IsWellFormed model.now }
+    requires dimension { d < length model.now.dimensions }
+    requires table { IsTable model.now d table.now }
+    requires kept { AreAllKept model.now routes.now.lists cumuls.now }
+    requires before { IsTrue (is_valid model.now routes.now.lists) }
+    requires made { IsMadeOn routes.now change.now }
+    requires valid { IsTrue (is_valid model.now (changed routes.now.lists change.now)) }
+    requires part { k < length change.now }
+    requires some { is_empty (joined routes.now.lists (part_at change.now k).pieces) ≡ false }
+    ensures value { IfOk result (λ cost. cost
+        ≡ soft_with model.now d (part_at change.now k).vehicle (joined routes.now.lists (part_at change.now k).pieces)
+        +ℤ span_with model.now d (part_at change.now k).vehicle (joined routes.now.lists (part_at change.now k).pieces)) }
+    ensures range { IfOk result (IsFrom 690000000000000 690000000000000000) }
+{
+    if table.is_free {
+        return Ok(0);
+    }
+    let v = change.vehicle(k);
+    if let Some(timing) = cumuls.timing_after(model, table, d, routes, change, k) {
+        return Ok(cost_of_timing(model, d, v, timing));
+    }
+    routes.write_after(change, k, row);
+    let cost = cost_of_plan(model, table, d, v, row.as_slice(), timer)?;
     Ok(cost)
 }
 
@@ -198,8 +325,21 @@ fn cost_of_plan(
         return Ok(0);
     }
     let timing = timing_of(model, table, d, v, list, timer)?;
+    Ok(cost_of_timing(model, d, v, timing))
+}
+
+// What a schedule of a list of vehicle `v` costs by soft upper bounds and by its span.
+fn cost_of_timing(model: &RoutingModel, d: u32, v: u32, timing: Timing) -> i64
+    requires well_formed { IsWellFormed model.now }
+    requires dimension { d < length model.now.dimensions }
+    requires vehicle { v < length model.now.vehicles }
+    requires timing { IsTimingOf 1002 timing }
+    ensures value { result
+        ≡ timing.soft +ℤ (number_at (dimension_at model.now d).span_costs v *ℤ (timing.last -ℤ timing.start)) }
+    ensures range { IsFrom 690000000000000 690000000000000000 result }
+{
     let dimension = model.dimensions.get(d as usize);
-    Ok(timing.soft + span_cost(dimension, v, timing))
+    timing.soft + span_cost(dimension, v, timing)
 }
 
 // Whether no list of a model may cost anything by soft upper bounds and spans.

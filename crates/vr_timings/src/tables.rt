@@ -51,8 +51,8 @@ fn row_places(alloc: Global, model: &Model, d: u32) -> Result<Vec<u32>, NoMemory
     Ok(places)
 }
 
-// The row of a node among rows, by the place that was looked up.
-pub(crate) fn row_of<'r>(rows: &'r Seq<StopRow>, places: &[u32], node: u32) -> Option<&'r StopRow>
+/// The row of a node among rows, by the places that were looked up.
+pub fn row_of<'r>(rows: &'r Seq<StopRow>, places: &[u32], node: u32) -> Option<&'r StopRow>
     requires places { ArePlaces (length places.now) (keys_of_rows rows.now) places.now }
     requires node { node < length places.now }
     ensures value { option_copied result ≡ row_of_key rows.now node }

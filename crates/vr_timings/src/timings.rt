@@ -137,8 +137,8 @@ fn soft_cost(dimension: &Dimension, places: &[u32], v: u32, list: &[u32], cumuls
     cost + row_cost(StopRow::of_key(&dimension.ends, v), cumuls[list.len() + 1])
 }
 
-// What a cumul costs by the row of its stop.
-fn row_cost(row: Option<&StopRow>, x: i64) -> i64
+/// What a cumul costs by the soft upper bound in the row of its stop, 0 or more.
+pub fn row_cost(row: Option<&StopRow>, x: i64) -> i64
     requires valid { WherePresent IsStopRow (option_copied row) }
     requires range { IsIn (pos 0) horizon x }
     ensures value { result ≡ row_cost (option_copied row.entry) x }

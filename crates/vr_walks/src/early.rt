@@ -23,17 +23,20 @@ use vr_spans::Run;
 /// The cumuls of the stops of one list.
 pub type Cumuls = ArrayVec<i64, 1002>;
 
-// The run of cumuls that each stop of a vehicle allows.
+/// The run of cumuls that each stop of a vehicle allows.
 #[derive(Drop)]
-struct StopRuns<'a> {
-    start: Run,
-    visits: &'a [Run],
-    finish: Ahead,
+pub struct StopRuns<'a> {
+    /// What the start allows.
+    pub start: Run,
+    /// What each visit allows, by its node.
+    pub visits: &'a [Run],
+    /// The end, and what it allows.
+    pub finish: Ahead,
 }
 
-// The run of cumuls that each stop of vehicle `v` allows, nothing where it has breaks or some stop allows more than
-// one.
-fn single_runs<'a>(model: &Model, d: u32, v: u32, stops: &'a Stops) -> Option<StopRuns<'a>>
+/// The run of cumuls that each stop of vehicle `v` allows, nothing where it has breaks or some stop allows more than
+/// one.
+pub fn single_runs<'a>(model: &Model, d: u32, v: u32, stops: &'a Stops) -> Option<StopRuns<'a>>
     requires vehicle { v < length model.now.vehicles }
     requires stops { AreStops model.now d stops.now }
     ensures no_breaks { IfSome result (λ runs. breaks_of (dimension_at model.now d) v ≡ []) }
@@ -123,10 +126,10 @@ fn drive(model: &Model, d: u32, v: u32, runs: &StopRuns, list: &[u32], cumuls: &
     true
 }
 
-// The least cumul of a stop behind an arc from a cumul, nothing where the stop allows none that is reached, or where
-// the slack would be too great.
+/// The least cumul of a stop behind an arc from a cumul, nothing where the stop allows none that is reached, or where
+/// the slack would be too great. Cumuls are in `0..=2^36`, transits within 2^31.
 #[inline]
-fn earliest_behind(cumul: i64, transit: i64, slack: i64, allowed: Run) -> Option<i64>
+pub fn earliest_behind(cumul: i64, transit: i64, slack: i64, allowed: Run) -> Option<i64>
     requires cumul { IsIn (pos 0) horizon cumul }
     requires least { neg_ℤ (pos (2 ^ 31)) ≤ℤ transit }
     requires greatest { transit ≤ℤ pos (2 ^ 31) }

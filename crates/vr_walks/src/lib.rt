@@ -15,8 +15,9 @@ mod stretches;
 mod visits;
 mod walking;
 
-pub use early::{Cumuls, write_earliest};
+pub use early::{Cumuls, StopRuns, earliest_behind, single_runs, write_earliest};
 pub use lines::{no_line, write_line, write_rows};
+pub use single::{Ahead, slack_of};
 pub use standing::{go_on, goes_between, goes_from, is_stuck, leave_rows};
 pub use stops::Stops;
 pub use walking::{goes_through, passes_along};

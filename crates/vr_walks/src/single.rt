@@ -25,11 +25,13 @@ use vr_model::{Evaluator, Model, Steps, laws};
 use vr_spans::Run;
 use vr_steps::Levels;
 
-// A stop to which an arc leads: its node, and the run of the cumuls that it allows.
+/// A stop to which an arc leads.
 #[derive(Clone, Copy)]
-pub(crate) struct Ahead {
-    pub(crate) node: u32,
-    pub(crate) allowed: Run,
+pub struct Ahead {
+    /// Its node.
+    pub node: u32,
+    /// The run of the cumuls that it allows.
+    pub allowed: Run,
 }
 
 // What a walk of one run goes between: the runs at its two ends, and the end of the vehicle.
@@ -274,9 +276,9 @@ fn cross_by_run(
     run_behind(run, transit, slack, ahead.allowed)
 }
 
-// The greatest slack of dimension `d`.
+/// The greatest slack of dimension `d`, in `0..=2^36`.
 #[inline]
-pub(crate) fn slack_of(model: &Model, d: u32) -> i64
+pub fn slack_of(model: &Model, d: u32) -> i64
     requires well_formed { IsWellFormed model.now }
     requires dimension { d < length model.now.dimensions }
     ensures value { result ≡ (dimension_at model.now d).slack_max }

@@ -7,6 +7,7 @@ use Rattle.vr_model.specs.declared.records.Model.{Model}
 use Rattle.vr_timings.specs.Bounds.{cumul_cost}
 use Rattle.vr_timings.specs.declared.timings.Timing.{Timing}
 use Rattle.vr_timings.proofs.BoundLemmas.{read-around}
+use Rattle.vr_cumuls.specs.Kept.{AreAllKept}
 use Rattle.vr_costfilter.specs.GlobalCosts.{global_cost_of, AreKept, AreOf, IsGlobalCost, KeptSpans, StandsSpans}
 use Rattle.vr_costfilter.proofs.GlobalLemmas.{of-same, rows-of}
 use Rattle.vr_parts.proofs.RowLemmas.{rows-push}
@@ -66,7 +67,7 @@ returns-clause-stands c =
     let r = c.cost-cost.ensures in
     let read = read-around c.cost-cost.result (cumul_cost * 4) r.range (omega arith) in
     let cost = read ∙ r.value lists are ∙ ap (λ (m : Model). global_cost_of m lists) c.in_ok-rules.ensures in
-    let kept : Model → KeptSpans = λ m. record { model = m; rows = rows; cost = to_z w64 (of_z w64 c.cost-cost.result); vehicles = c.new.result.items; next = c.new-2.result.items; next_cost = pos 0; is_prepared = false } in
+    let kept : Model → KeptSpans = λ m. record { model = m; rows = rows; cost = to_z w64 (of_z w64 c.cost-cost.result); vehicles = c.new.result.items; next = c.new-2.result.items; next_cost = pos 0; is_prepared = false; cumuls = c.in_ok-cumuls.cumuls } in
     let stands : StandsSpans (kept model) c.args.routes.now = record {
       well_formed = c.requires.well_formed;
       of_model = c.requires.of_model;
@@ -76,5 +77,6 @@ returns-clause-stands c =
       rows = each;
       cost = cost;
       range = subst IsGlobalCost (sym read) r.range;
+      cumuls = subst (λ m. AreAllKept m lists c.in_ok-cumuls.cumuls) c.in_ok-rules.ensures c.in_ok-cumuls.ensures;
     } in
     subst (λ m. StandsSpans (kept m) c.args.routes.now) (sym c.in_ok-rules.ensures) stands

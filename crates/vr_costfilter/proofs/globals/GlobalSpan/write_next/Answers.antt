@@ -4,9 +4,14 @@ use Rattle.vr_model.specs.declared.records.Model.{Model}
 use Rattle.vr_timings.specs.declared.timings.Timing.{Timing}
 use Rattle.vr_routes.specs.Pieces.{joined, part_at}
 use Rattle.vr_costfilter.specs.GlobalCosts.{vehicles_of, AreKept}
-use Rattle.vr_costfilter.proofs.GlobalLemmas.{vehicles-more}
+use Rattle.vr_costfilter.proofs.GlobalLemmas.{stands-like, vehicles-more}
 use Rattle.vr_parts.proofs.RowLemmas.{rows-push}
 use Rattle.vr_costfilter.proofs.globals.GlobalSpan.write_next.Goals as goal
+
+pub row_after-requires-clause-stands : goal.row_after-requires-clause-stands
+row_after-requires-clause-stands c =
+    let i = c.loop-k.invariant in
+    stands-like c.args.self.now c.loop-k.self c.args.routes.now c.requires.stands (record { model = i.model; rows = i.rows; cost = i.cost; cumuls = i.cumuls })
 
 pub loop-k-preserved : goal.loop-k-preserved
 loop-k-preserved c =
@@ -27,6 +32,7 @@ loop-k-preserved c =
       model = ap (λ s. s.model) same ∙ i.model;
       rows = ap (λ s. s.rows) same ∙ i.rows;
       cost = ap (λ s. s.cost) same ∙ i.cost;
+      cumuls = ap (λ s. s.cumuls) same ∙ i.cumuls;
       unprepared = ap (λ s. s.is_prepared) same ∙ i.unprepared;
       vehicles = c.push.ensures.items ∙ ap (λ us. us ++ c.vehicle.result ∷ []) (ap (λ s. s.vehicles) same ∙ i.vehicles)
           ∙ ap (λ v. vehicles_of (take k parts) ++ v ∷ []) c.vehicle.ensures ∙ sym (vehicles-more parts k low);

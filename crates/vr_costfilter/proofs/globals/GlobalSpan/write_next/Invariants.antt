@@ -10,6 +10,7 @@ invariant-loop-k l = record {
   model : l.self.model ≡ l.fn.self.model;
   rows : l.self.rows ≡ l.fn.self.rows;
   cost : l.self.cost ≡ l.fn.self.cost;
+  cumuls : l.self.cumuls ≡ l.fn.self.cumuls;
   unprepared : l.self.is_prepared ≡ false;
   vehicles : l.self.vehicles ≡ vehicles_of (take l.k l.change);
   many : length l.self.next ≡ l.k;

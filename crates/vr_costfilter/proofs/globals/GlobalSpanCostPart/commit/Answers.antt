@@ -12,6 +12,7 @@ use Rattle.vr_timings.specs.declared.timings.Timing.{Timing}
 use Rattle.vr_timings.proofs.BoundLemmas.{read-around}
 use Rattle.vr_routes.specs.Pieces.{changed, joined, no_part, part_at, with_parts}
 use Rattle.vr_routes.proofs.CommitLemmas.{as_many_lists}
+use Rattle.vr_cumuls.specs.Kept.{AreAllKept}
 use Rattle.vr_costfilter.specs.GlobalCosts.{global_cost_of, AreKept, IsGlobalCost}
 use Rattle.vr_parts.proofs.RowLemmas.{rows-set}
 use Rattle.vr_parts.proofs.SumLemmas.{upto, upto-next}
@@ -21,7 +22,7 @@ pub loop-k-preserved : goal.loop-k-preserved
 loop-k-preserved c =
     let i = c.loop-k.invariant in
     let model = c.args.self.now.model in
-    let lists : List (List ℕ) = c.args._routes.now.lists in
+    let lists : List (List ℕ) = c.args.routes.now.lists in
     let parts = c.args.change.now in
     let k = c.loop-k.k in
     let rows : List (List (Option Timing)) = c.loop-k.self-inside.rows.items in
@@ -41,6 +42,7 @@ loop-k-preserved c =
     let next : upto lists parts (k + 1) ≡ with_route base v list = ap (upto lists parts) (add-one k) ∙ upto-next lists parts k low ∙ ap (λ w. with_route base w list) (sym vehicle) in
     record {
       model = i.model;
+      cumuls = i.cumuls;
       next = i.next;
       next_cost = i.next_cost;
       many = length-set rows v row ∙ many;
@@ -51,7 +53,7 @@ pub returns-clause-stands : goal.returns-clause-stands
 returns-clause-stands c =
     let i = c.loop-k.invariant in
     let h = c.requires.stands in
-    let lists : List (List ℕ) = c.args._routes.now.lists in
+    let lists : List (List ℕ) = c.args.routes.now.lists in
     let parts = c.args.change.now in
     let rows : List (List (Option Timing)) = c.loop-k.self-inside.rows.items in
     let many = c.parts-k-end.ensures.value in
@@ -63,11 +65,12 @@ returns-clause-stands c =
     let read = read-around c.loop-k.self-inside.next_cost (cumul_cost * 4) range (omega arith) in
     record {
       well_formed = subst IsWellFormed same h.well_formed;
-      of_model = subst (λ m. c.args._routes.now.visits ≡ visits m) same h.of_model;
+      of_model = subst (λ m. c.args.routes.now.visits ≡ visits m) same h.of_model;
       valid = subst (λ m. IsTrue (is_valid m (changed lists parts))) same c.requires.valid;
       as_many = as_many_lists lists parts ∙ h.as_many ∙ ap (λ m. length m.vehicles) same;
       many = i.many ∙ h.many ∙ sym (as_many_lists lists parts);
       rows = subst (λ (m : Model). (u : ℕ) → u < length (changed lists parts) → AreKept m u (route (changed lists parts) u) (slice_index_or rows u [])) same kept;
       cost = read ∙ i.next_cost ∙ c.requires.ready.cost ∙ ap (λ m. global_cost_of m (changed lists parts)) same;
       range = subst IsGlobalCost (sym read) range;
+      cumuls = subst (λ m. AreAllKept m (changed lists parts) c.loop-k.self-inside.cumuls) same i.cumuls;
     }

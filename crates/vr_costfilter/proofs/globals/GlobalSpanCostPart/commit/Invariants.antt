@@ -1,6 +1,8 @@
 use Rattle.std.proofs.Common.{◌≡◌, ◌<◌, ℕ, [], length}
 use Rattle.std.specs.Prelude.{slice_index_or}
 use Rattle.vr_model.specs.routes.Routes.{route}
+use Rattle.vr_cumuls.specs.Kept.{AreAllKept}
+use Rattle.vr_routes.specs.Pieces.{changed}
 use Rattle.vr_costfilter.specs.GlobalCosts.{AreKept}
 use Rattle.vr_parts.proofs.SumLemmas.{upto}
 use Rattle.vr_costfilter.proofs.globals.GlobalSpanCostPart.commit.Given as goal
@@ -9,8 +11,9 @@ use Rattle.vr_costfilter.proofs.globals.GlobalSpanCostPart.commit.Given as goal
 abbrev pub invariant-loop-k : goal.invariant-loop-k
 invariant-loop-k l = record {
   model : l.self-inside.rules ≡ l.fn.self.model;
+  cumuls : AreAllKept l.fn.self.model (changed l.routes.lists l.change) l.self-inside.cumuls;
   next : l.self-inside.next.items ≡ l.fn.self.next;
   next_cost : l.self-inside.next_cost ≡ l.fn.self.next_cost;
   many : length l.self-inside.rows.items ≡ length l.fn.self.rows;
-  rows : (u : ℕ) → u < length (upto l._routes.lists l.change l.k) → AreKept l.fn.self.model u (route (upto l._routes.lists l.change l.k) u) (slice_index_or l.self-inside.rows.items u []);
+  rows : (u : ℕ) → u < length (upto l.routes.lists l.change l.k) → AreKept l.fn.self.model u (route (upto l.routes.lists l.change l.k) u) (slice_index_or l.self-inside.rows.items u []);
 }

@@ -4,6 +4,7 @@ use Rattle.std.specs.List.{list_all}
 use Rattle.vr_model.specs.tables.Tables.{is_visit}
 use Rattle.vr_model.specs.routes.Routes.{route, is_distinct}
 use Rattle.vr_model.specs.declared.records.Model.{Model}
+use Rattle.vr_cumuls.specs.Kept.{AreAllKept}
 use Rattle.vr_costfilter.specs.PlanCosts.{plans_cost, IsPlanCost, KeptPlans, StandsPlans}
 use Rattle.vr_costfilter.proofs.PlanLemmas.{read-cost}
 use Rattle.vr_parts.proofs.RowLemmas.{rows-push}
@@ -56,7 +57,7 @@ returns-clause-stands c =
     let high = c.loop-v-test.false in
     let low = c.loop-v.auto.v-end in
     let all : c.loop-v.v ≡ length lists = omega (arith, end, high, low) in
-    let kept : Model → KeptPlans = λ m. record { model = m; costs = c.loop-v.costs.items; next = c.new.result.items; is_prepared = false } in
+    let kept : Model → KeptPlans = λ m. record { model = m; costs = c.loop-v.costs.items; next = c.new.result.items; is_prepared = false; cumuls = c.in_ok-cumuls.cumuls } in
     let stands : StandsPlans (kept c.args.model.now) c.args.routes.now = record {
       well_formed = c.requires.well_formed;
       of_model = c.requires.of_model;
@@ -65,5 +66,6 @@ returns-clause-stands c =
       many = i.many ∙ all ∙ s.many;
       costs = λ v known. i.costs v (subst (λ n. v < n) (sym all) known);
       range = λ v known. i.range v (subst (λ n. v < n) (sym all) known);
+      cumuls = subst (λ m. AreAllKept m lists c.in_ok-cumuls.cumuls) c.in_ok-rules.ensures c.in_ok-cumuls.ensures;
     } in
     subst (λ m. StandsPlans (kept m) c.args.routes.now) (sym c.in_ok-rules.ensures) stands

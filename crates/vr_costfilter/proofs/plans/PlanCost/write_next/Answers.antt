@@ -3,9 +3,12 @@ use Rattle.std.specs.Prelude.{ℤ, pos}
 use Rattle.vr_model.specs.tables.Numbers.{number_at}
 use Rattle.vr_routes.specs.Pieces.{part_at}
 use Rattle.vr_costfilter.specs.PlanCosts.{cost_after, IsPlanCost}
-use Rattle.vr_costfilter.proofs.PlanLemmas.{read-cost}
+use Rattle.vr_costfilter.proofs.PlanLemmas.{plans-like, read-cost}
 use Rattle.vr_parts.proofs.RowLemmas.{rows-push}
 use Rattle.vr_costfilter.proofs.plans.PlanCost.write_next.Goals as goal
+
+pub cost_after-requires-clause-stands : goal.cost_after-requires-clause-stands
+cost_after-requires-clause-stands c = let i = c.loop-k.invariant in plans-like c.args.self.now c.loop-k.self c.args.routes.now c.requires.stands i.model i.costs i.cumuls
 
 pub loop-k-preserved : goal.loop-k-preserved
 loop-k-preserved c =
@@ -24,6 +27,7 @@ loop-k-preserved c =
     record {
       model = ap (λ s. s.model) same ∙ i.model;
       costs = ap (λ s. s.costs) same ∙ i.costs;
+      cumuls = ap (λ s. s.cumuls) same ∙ i.cumuls;
       unprepared = ap (λ s. s.is_prepared) same ∙ i.unprepared;
       many = ap length new ∙ length-append old (cost ∷ []) ∙ ap (λ n. n + 1) (ap length next ∙ i.many);
       next = rows-push (λ j x. x ≡ cost_after model lists (part_at parts j)) (pos 0) old c.push.new.self.items cost k (ap length next ∙ i.many) (λ j low. ap (λ xs. number_at xs j) next ∙ i.next j low) value new;

@@ -9,6 +9,7 @@ abbrev pub invariant-loop-k : goal.invariant-loop-k
 invariant-loop-k l = record {
   model : l.self.model ≡ l.fn.self.model;
   costs : l.self.costs ≡ l.fn.self.costs;
+  cumuls : l.self.cumuls ≡ l.fn.self.cumuls;
   unprepared : l.self.is_prepared ≡ false;
   many : length l.self.next ≡ l.k;
   next : (j : ℕ) → j < l.k → number_at l.self.next j ≡ cost_after l.fn.self.model l.routes.lists (part_at l.change j);

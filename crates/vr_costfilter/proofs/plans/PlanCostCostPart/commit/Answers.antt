@@ -14,7 +14,7 @@ pub loop-k-preserved : goal.loop-k-preserved
 loop-k-preserved c =
     let i = c.loop-k.invariant in
     let model = c.args.self.now.model in
-    let lists : List (List ℕ) = c.args._routes.now.lists in
+    let lists : List (List ℕ) = c.args.routes.now.lists in
     let parts = c.args.change.now in
     let k = c.loop-k.k in
     let rows : List ℤ = c.loop-k.self-inside.costs.items in
@@ -37,6 +37,7 @@ loop-k-preserved c =
     ap (upto lists parts) (add-one k) ∙ upto-next lists parts k low ∙ ap (λ w. with_route base w (joined lists part.pieces)) (sym vehicle) in
     record {
       model = i.model;
+      cumuls = i.cumuls;
       next = i.next;
       many = length-set rows v _ ∙ many;
       costs = subst (λ x. (u : ℕ) → u < length (upto lists parts (k + 1)) → (number_at (slice_set rows v x) u ≡ plans_cost model u (route (upto lists parts (k + 1)) u)) × IsPlanCost (number_at (slice_set rows v x) u)) (sym stored)

@@ -7,7 +7,7 @@ use Rattle.vr_model.specs.routes.Routes.{route}
 use Rattle.vr_routes.specs.Pieces.{joined, no_part, part_at, changed}
 use Rattle.vr_costfilter.specs.PlanCosts.{plans_cost, IsIdle, IsPlanCost}
 use Rattle.vr_parts.proofs.SumLemmas.{sum-step, sum-whole}
-use Rattle.vr_costfilter.proofs.PlanLemmas.{idle-sum, plans-over}
+use Rattle.vr_costfilter.proofs.PlanLemmas.{idle-sum, plans-like, plans-over}
 use Rattle.vr_costfilter.proofs.plans.PlanCostCostPart.difference.Goals as goal
 
 pub overflow_sub-total : goal.overflow_sub-total
@@ -128,3 +128,9 @@ returns-then-is_idle-clause-exact c =
     let u = idle-sum model idle lists in
     let w = idle-sum model idle (changed lists parts) in
     omega (arith, ints, x, y, u, w)
+
+pub returns-in_err-make_ready-clause-stands : goal.returns-in_err-make_ready-clause-stands
+returns-in_err-make_ready-clause-stands c = let e = c.make_ready.ensures in plans-like c.args.self.now c.make_ready.new.self c.args.routes.now c.requires.stands e.model e.costs e.cumuls
+
+pub returns-clause-stands : goal.returns-clause-stands
+returns-clause-stands c = let e = c.make_ready.ensures in plans-like c.args.self.now c.make_ready.new.self c.args.routes.now c.requires.stands e.model e.costs e.cumuls

@@ -1,0 +1,146 @@
+-- Going on along stops, and with another cost behind.
+use Rattle.std.proofs.Common.{◌≡◌, ◌∙◌, ◌+◌, ◌<◌, ◌≤◌, ℕ, drop, length, Bool, true, false, cond, List, [], ◌∷◌, ◌++◌, refl, sym, ap, ap₂, subst, arith, Option, Some, None}
+use Rattle.std.specs.Prelude.{ℤ, ◌+ℤ◌, ◌-ℤ◌, ◌≤ℤ◌, ◌&&◌, IfSome, IsTrue, int_le, option_map, slice_index_or, unwrap_or}
+use Rattle.std.specs.Option.{option_and_then}
+use Rattle.std.proofs.lemmas.Bool.{and_parts, and_from}
+use Rattle.std.proofs.lemmas.Int.{ints}
+use Rattle.std.proofs.lemmas.List.{drop_more}
+use Rattle.std.proofs.lemmas.List.Sums.{fold-append}
+use Rattle.vr_spans.specs.declared.runs.Run.{Run}
+use Rattle.vr_model.specs.routes.Costs.{row_cost}
+use Rattle.vr_model.specs.tables.Tables.{dimension_at, row_of, transit, vehicle_at}
+use Rattle.vr_model.specs.declared.records.Model.{Model}
+use Rattle.vr_model.specs.declared.records.StopRow.{StopRow}
+use Rattle.vr_walks.specs.Early.{IsEarliestBehind}
+use Rattle.vr_cumuls.specs.Stages.{Runs, along, go_on, is_had, next_cumul, paid_more, setting_out, to_end, to_visit, visit_more, whole, IsStageOf}
+use Rattle.vr_cumuls.specs.declared.guides.Stage.{Stage}
+
+-- ---- one stop further
+
+-- a stage that follows another one
+pub record IsBehind (t s : ℤ) (node : ℕ) (allowed : Run) (row : Option StopRow) (stage next : Stage) : Type 0 where
+  pub earliest : IsEarliestBehind stage.cumul t s allowed next.cumul
+  pub at : next.at ≡ node
+  pub soft : next.soft ≡ stage.soft +ℤ row_cost row next.cumul
+
+pub had-so : (cumul t s : ℤ) (allowed : Run) → IsTrue (is_had cumul t s allowed) → IsEarliestBehind cumul t s allowed (next_cumul cumul t allowed)
+had-so cumul t s allowed had =
+    let two = and_parts (int_le (next_cumul cumul t allowed) allowed.hi) (int_le (next_cumul cumul t allowed -ℤ (cumul +ℤ t)) s) had in
+    let a = two.0 in
+    let b = two.1 in
+    record { least = refl; most = grind (arith, ints, a); slack = grind (arith, ints, b) }
+
+pub some-same : (a b : Stage) → Some a ≡ Some b → a ≡ b
+some-same a b e = ap (λ o. unwrap_or o a) e
+
+-- what is gone on to follows
+pub gone : (t s : ℤ) (node : ℕ) (allowed : Run) (row : Option StopRow) (stage next : Stage) → go_on t s node allowed row stage ≡ Some next → IsBehind t s node allowed row stage next
+gone t s node allowed row stage next e = by (is_had stage.cumul t s allowed) refl e
+  where
+    by : (b : Bool) → is_had stage.cumul t s allowed ≡ b
+        → cond b (Some (record { at = node; cumul = next_cumul stage.cumul t allowed; soft = stage.soft +ℤ row_cost row (next_cumul stage.cumul t allowed) })) None ≡ Some next
+        → IsBehind t s node allowed row stage next
+    by true had e =
+        subst (IsBehind t s node allowed row stage) (some-same (record { at = node; cumul = next_cumul stage.cumul t allowed; soft = stage.soft +ℤ row_cost row (next_cumul stage.cumul t allowed) }) next e)
+        (record { earliest = had-so stage.cumul t s allowed had; at = refl; soft = refl })
+    by false had e = absurd (cc)
+
+-- what follows is gone on to
+pub going : (t s : ℤ) (node : ℕ) (allowed : Run) (row : Option StopRow) (stage : Stage) (cumul soft : ℤ) → IsEarliestBehind stage.cumul t s allowed cumul → soft ≡ stage.soft +ℤ row_cost row cumul
+    → go_on t s node allowed row stage ≡ Some (record { at = node; cumul = cumul; soft = soft })
+going t s node allowed row stage cumul soft is costs =
+    let least = is.least in
+    let most = is.most in
+    let slack = is.slack in
+    let a : IsTrue (int_le cumul allowed.hi) = grind (arith, ints, most) in
+    let b : IsTrue (int_le (cumul -ℤ (stage.cumul +ℤ t)) s) = grind (arith, ints, slack) in
+    let had : is_had stage.cumul t s allowed ≡ true = subst (λ c. IsTrue (int_le c allowed.hi && int_le (c -ℤ (stage.cumul +ℤ t)) s)) least (and_from _ _ a b) in
+    ap (λ b. cond b (Some (record { at = node; cumul = next_cumul stage.cumul t allowed; soft = stage.soft +ℤ row_cost row (next_cumul stage.cumul t allowed) })) None) had
+    ∙ ap₂ (λ (c : ℤ) (x : ℤ). Some (record { at = node; cumul = c; soft = x })) (sym least) (ap (λ c. stage.soft +ℤ row_cost row c) (sym least) ∙ sym costs)
+
+-- the same, where the numbers are those that were read
+pub going-as : (t s : ℤ) (node : ℕ) (allowed : Run) (row : Option StopRow) (stage : Stage) (from t_read s_read next : ℤ) → from ≡ stage.cumul → t_read ≡ t → s_read ≡ s → IsEarliestBehind from t_read s_read allowed next
+    → (cumul soft : ℤ) → cumul ≡ next → soft ≡ stage.soft +ℤ row_cost row next → go_on t s node allowed row stage ≡ Some (record { at = node; cumul = cumul; soft = soft })
+going-as t s node allowed row stage from t_read s_read next from_is t_is s_is behind cumul soft cumul_is soft_is =
+    let a = subst (λ x. IsEarliestBehind x t_read s_read allowed next) from_is behind in
+    let b = subst (λ x. IsEarliestBehind stage.cumul x s_read allowed next) t_is a in
+    let c = subst (λ x. IsEarliestBehind stage.cumul t x allowed next) s_is b in
+    going t s node allowed row stage next soft c soft_is ∙ ap (λ (x : ℤ). Some (record { at = node; cumul = x; soft = soft })) (sym cumul_is)
+
+-- a vehicle sets out where its start allows a cumul
+pub starting : (model : Model) (d v : ℕ) (runs : Runs) → runs.start.lo ≤ℤ runs.start.hi → (at : ℕ) (cumul soft : ℤ) → at ≡ (vehicle_at model v).start → cumul ≡ runs.start.lo
+    → soft ≡ row_cost (row_of (dimension_at model d).starts v) runs.start.lo → setting_out model d v runs ≡ Some (record { at = at; cumul = cumul; soft = soft })
+starting model d v runs some at cumul soft at_is cumul_is soft_is =
+    let test : int_le runs.start.lo runs.start.hi ≡ true = grind (arith, ints, some) in
+    ap (λ b. cond b (Some (record { at = (vehicle_at model v).start; cumul = runs.start.lo; soft = row_cost (row_of (dimension_at model d).starts v) runs.start.lo })) None) test
+    ∙ ap₂ (λ (n : ℕ) (x : ℤ). Some (record { at = n; cumul = x; soft = row_cost (row_of (dimension_at model d).starts v) runs.start.lo })) (sym at_is) (sym cumul_is)
+    ∙ ap (λ (x : ℤ). Some (record { at = at; cumul = cumul; soft = x })) (sym soft_is)
+
+-- the numbers of a stage of fewer stops
+pub stage-more : (model : Model) (n m : ℕ) (stage : Stage) → n ≤ m → IsStageOf model n stage → IsStageOf model m stage
+stage-more model n m stage le h = record {
+  at = h.at;
+  cumul = h.cumul;
+  not_negative = h.not_negative;
+  bound = (let b = h.bound in omega (arith, ints, b, le));
+}
+
+-- what holds of an answer, where it follows
+pub some-map : (P Q : Stage → Type 0) (o : Option Stage) → ((s : Stage) → P s → Q s) → IfSome o P → IfSome o Q
+some-map P Q None f h = h
+some-map P Q (Some s) f h = f s h
+
+-- ---- another cost behind
+
+swapped : (a b c : ℤ) → (a +ℤ b) +ℤ c ≡ (a +ℤ c) +ℤ b
+swapped a b c = omega (arith, ints)
+
+go-shift : (z t s : ℤ) (node : ℕ) (allowed : Run) (row : Option StopRow) (stage : Stage) → go_on t s node allowed row (paid_more z stage) ≡ option_map (paid_more z) (go_on t s node allowed row stage)
+go-shift z t s node allowed row stage = by (is_had stage.cumul t s allowed)
+  where
+    c : ℤ
+    c = next_cumul stage.cumul t allowed
+
+    by : (b : Bool) → cond b (Some (record { at = node; cumul = next_cumul stage.cumul t allowed; soft = (stage.soft +ℤ z) +ℤ row_cost row (next_cumul stage.cumul t allowed) })) None
+        ≡ option_map (paid_more z) (cond b (Some (record { at = node; cumul = next_cumul stage.cumul t allowed; soft = stage.soft +ℤ row_cost row (next_cumul stage.cumul t allowed) })) None)
+    by true = ap (λ (x : ℤ). Some (record { at = node; cumul = next_cumul stage.cumul t allowed; soft = x })) (swapped stage.soft z (row_cost row (next_cumul stage.cumul t allowed)))
+    by false = refl
+
+module _ (model : Model) (d v : ℕ) (runs : Runs) where
+  more-shift : (z : ℤ) (o : Option Stage) (node : ℕ) → visit_more model d v runs (option_map (paid_more z) o) node ≡ option_map (paid_more z) (visit_more model d v runs o node)
+  more-shift z None node = refl
+  more-shift z (Some stage) node = go-shift z (transit model d v stage.at node) (dimension_at model d).slack_max node _ (row_of (dimension_at model d).nodes node) stage
+
+  along-shift : (z : ℤ) (o : Option Stage) (nodes : List ℕ) → along model d v runs (option_map (paid_more z) o) nodes ≡ option_map (paid_more z) (along model d v runs o nodes)
+  along-shift z o [] = refl
+  along-shift z o (x ∷ xs) = ap (λ p. along model d v runs p xs) (more-shift z o x) ∙ along-shift z (visit_more model d v runs o x) xs
+
+  end-shift : (z : ℤ) (o : Option Stage) → option_and_then (to_end model d v runs) (option_map (paid_more z) o) ≡ option_map (paid_more z) (option_and_then (to_end model d v runs) o)
+  end-shift z None = refl
+  end-shift z (Some stage) = go-shift z (transit model d v stage.at (vehicle_at model v).end) (dimension_at model d).slack_max (vehicle_at model v).end runs.finish (row_of (dimension_at model d).ends v) stage
+
+  whole-shift : (z : ℤ) (o : Option Stage) (nodes : List ℕ) → whole model d v runs (option_map (paid_more z) o) nodes ≡ option_map (paid_more z) (whole model d v runs o nodes)
+  whole-shift z o nodes = ap (option_and_then (to_end model d v runs)) (along-shift z o nodes) ∙ end-shift z (along model d v runs o nodes)
+
+  -- a stage at the same stop and with the same cumul as another one comes to the same end, but for what was paid on the way
+  pub resumed : (nodes : List ℕ) (old end new : Stage) → whole model d v runs (Some old) nodes ≡ Some end → new.at ≡ old.at → new.cumul ≡ old.cumul → (z : ℤ) → new.soft ≡ old.soft +ℤ z
+      → whole model d v runs (Some new) nodes ≡ Some (paid_more z end)
+  resumed nodes old end new told at cumul z soft =
+      let same : new ≡ paid_more z old = stage-is new at cumul soft in
+      ap (λ (s : Stage). whole model d v runs (Some s) nodes) same ∙ whole-shift z (Some old) nodes ∙ ap (option_map (paid_more z)) told
+    where
+      stage-is : (s : Stage) → s.at ≡ old.at → s.cumul ≡ old.cumul → s.soft ≡ old.soft +ℤ z → s ≡ paid_more z old
+      stage-is s a c x = ap₂ (λ (n : ℕ) (y : ℤ). record { at = n; cumul = y; soft = s.soft }) a c ∙ ap (λ (y : ℤ). record { at = old.at; cumul = old.cumul; soft = y }) x
+
+  -- first along some visits, then along others
+  pub along-append : (o : Option Stage) (xs ys : List ℕ) → along model d v runs o (xs ++ ys) ≡ along model d v runs (along model d v runs o xs) ys
+  along-append o xs ys = fold-append (visit_more model d v runs) o xs ys
+
+  pub whole-append : (o : Option Stage) (xs ys : List ℕ) → whole model d v runs o (xs ++ ys) ≡ whole model d v runs (along model d v runs o xs) ys
+  whole-append o xs ys = ap (option_and_then (to_end model d v runs)) (along-append o xs ys)
+
+  -- one visit of a list more
+  pub whole-next : (list : List ℕ) (k : ℕ) → k < length list → (gone next : Stage) → to_visit model d v runs (slice_index_or list k 0) gone ≡ Some next
+      → whole model d v runs (Some next) (drop (k + 1) list) ≡ whole model d v runs (Some gone) (drop k list)
+  whole-next list k low gone next e =
+      sym (ap (whole model d v runs (Some gone)) (drop_more list k 0 low) ∙ ap (λ o. whole model d v runs o (drop (k + 1) list)) e)

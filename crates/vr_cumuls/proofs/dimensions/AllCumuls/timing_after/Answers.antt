@@ -1,0 +1,45 @@
+use Rattle.std.proofs.Common.{◌≤◌, ◌+◌, ℕ, List, length, sym, subst, arith}
+use Rattle.vr_routes.specs.Pieces.{joined, no_part, part_at}
+use Rattle.vr_timings.specs.Timings.{IsTiming, IsTimingOf}
+use Rattle.vr_walks.specs.Lists.{IsUsed}
+use Rattle.vr_parts.proofs.PartLemmas.{small}
+use Rattle.vr_cumuls.proofs.PartLemmas.{list-after, list-of, used-after}
+use Rattle.vr_cumuls.proofs.dimensions.AllCumuls.timing_after.Goals as goal
+
+pub timing_after-requires-clause-vehicle : goal.timing_after-requires-clause-vehicle
+timing_after-requires-clause-vehicle c =
+    let many = (small c.args.model.now c.requires.well_formed c.args.routes.now.lists c.requires.before).many in
+    let known = c.requires.made.makes.parts_are.each_vehicle c.args.k no_part c.requires.part in
+    let e = c.vehicle.ensures in
+    omega (arith, e, known, many)
+
+pub timing_after-requires-clause-before : goal.timing_after-requires-clause-before
+timing_after-requires-clause-before c = (list-of c.args.model.now c.requires.well_formed c.args.routes.now.lists c.requires.before c.vehicle.result).tour.visits
+
+pub timing_after-requires-clause-short : goal.timing_after-requires-clause-short
+timing_after-requires-clause-short c = (list-of c.args.model.now c.requires.well_formed c.args.routes.now.lists c.requires.before c.vehicle.result).few
+
+pub timing_after-requires-clause-used : goal.timing_after-requires-clause-used
+timing_after-requires-clause-used c =
+    let m = c.args.model.now in
+    let lists : List (List ℕ) = c.args.routes.now.lists in
+    let part = list-after m c.requires.well_formed lists c.args.change.now c.requires.made.makes.parts_are c.requires.valid c.args.k c.requires.part in
+    subst (λ ps. IsUsed m (joined lists ps)) (sym c.pieces.ensures.value) (used-after m (joined lists (part_at c.args.change.now c.args.k).pieces) part c.requires.some)
+
+pub timing_after-requires-clause-few : goal.timing_after-requires-clause-few
+timing_after-requires-clause-few c =
+    let m = c.args.model.now in
+    let lists : List (List ℕ) = c.args.routes.now.lists in
+    let part = list-after m c.requires.well_formed lists c.args.change.now c.requires.made.makes.parts_are c.requires.valid c.args.k c.requires.part in
+    subst (λ ps. length (joined lists ps) ≤ 1000) (sym c.pieces.ensures.value) part.few
+
+pub returns-clause-timing : goal.returns-clause-timing
+returns-clause-timing c =
+    let m = c.args.model.now in
+    let lists : List (List ℕ) = c.args.routes.now.lists in
+    let a = subst (λ v. IsTiming m c.args.d v (joined lists c.pieces.result.now) c.in_ok-timing.timing) c.vehicle.ensures c.in_ok-timing.ensures.timing in
+    subst (λ ps. IsTiming m c.args.d (part_at c.args.change.now c.args.k).vehicle (joined lists ps) c.in_ok-timing.timing) c.pieces.ensures.value a
+
+pub returns-clause-range : goal.returns-clause-range
+returns-clause-range c =
+    subst (λ ps. IsTimingOf (length (joined c.args.routes.now.lists ps) + 2) c.in_ok-timing.timing) c.pieces.ensures.value c.in_ok-timing.ensures.range

@@ -1,0 +1,34 @@
+use Rattle.std.proofs.Common.{◌∙◌, ◌+◌, ℕ, List, length-append, ap, sym, subst, arith}
+use Rattle.std.specs.Prelude.{IsTrue}
+use Rattle.vr_model.proofs.routes.Lists.{are-lists, are_lists-count, route-visits}
+use Rattle.std.specs.List.{list_all}
+use Rattle.vr_model.specs.tables.Tables.{is_visit}
+use Rattle.vr_model.specs.routes.Routes.{route}
+use Rattle.vr_cumuls.specs.Kept.{IsKept}
+use Rattle.vr_cumuls.specs.declared.kept.Kept.{Kept}
+use Rattle.vr_cumuls.proofs.KeptLemmas.{each-push}
+use Rattle.vr_cumuls.proofs.kept.KeptCumuls.open.Goals as goal
+
+pub write_list-requires-clause-vehicle : goal.write_list-requires-clause-vehicle
+write_list-requires-clause-vehicle c =
+    let many = are_lists-count c.args.model.now c.args.routes.now.lists (are-lists c.args.model.now c.args.routes.now.lists c.requires.valid) in
+    let end = c.vehicles-v-end.ensures.value in
+    let low = c.loop-v-test.true in
+    omega (arith, many, end, low)
+
+pub write_list-requires-clause-visits : goal.write_list-requires-clause-visits
+write_list-requires-clause-visits c =
+    subst (λ l. IsTrue (list_all (is_visit c.args.model.now) l)) (sym c.list.ensures.value) (route-visits c.args.model.now c.args.routes.now.lists c.loop-v.v (are-lists c.args.model.now c.args.routes.now.lists c.requires.valid))
+
+pub loop-v-preserved : goal.loop-v-preserved
+loop-v-preserved c =
+    let i = c.loop-v.invariant in
+    let m = c.args.model.now in
+    let lists : List (List ℕ) = c.args.routes.now.lists in
+    let P = λ (v : ℕ) (kept : Kept). IsKept m c.args.d v (route lists v) kept in
+    let new = c.write_list.new.kept in
+    let is = subst (λ l. IsKept m c.args.d c.loop-v.v l new) c.list.ensures.value c.write_list.ensures in
+    rw c.in_ok-push.ensures.items (record {
+      many = length-append c.loop-v.lists.items _ ∙ ap (λ n. n + 1) i.many;
+      each = λ v other low. each-push P c.loop-v.lists.items new i.each (subst (λ n. P n new) (sym i.many) is) v other low;
+    })

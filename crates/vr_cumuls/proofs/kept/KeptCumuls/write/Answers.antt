@@ -1,0 +1,12 @@
+use Rattle.std.proofs.Common.{sym, subst, arith}
+use Rattle.vr_cumuls.specs.Kept.{AreKept}
+use Rattle.vr_cumuls.proofs.KeptLemmas.{kept-set}
+use Rattle.vr_cumuls.proofs.kept.KeptCumuls.write.Goals as goal
+
+pub returns-then-v-len : goal.returns-then-v-len
+returns-then-v-len c lists h known =
+    let m = c.args.model.now in
+    let old = subst (AreKept m c.args.d lists) (sym c.self.view_is) h in
+    let len = c.len.ensures in
+    let low = c.if-v-len.true in
+    kept-set m c.args.d lists c.self.inside.lists.items c.args.v c.args.list.now c.write_list.new.kept old known (omega (arith, len, low)) c.write_list.ensures
