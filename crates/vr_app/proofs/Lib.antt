@@ -1,8 +1,0 @@
-pub mod InputLemmas
-pub mod CauseLemmas
-pub mod MetLemmas
-pub mod SolutionLemmas
-pub mod ReplyLemmas
-pub mod GeneratedLemmas
-pub mod NumberLemmas
-pub mod RunLemmas

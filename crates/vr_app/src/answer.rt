@@ -1,105 +1,31 @@
 //! The answers to the input.
 
-ghost use Rattle.std.specs.Prelude.{◌≡◌, ◌≤◌, [], Ok, Some, IfOk, OnOk, IsTrue, false, length, option_map};
-ghost use Rattle.serde_json.specs.Data.{depth};
-ghost use Rattle.serde_json.specs.Read.{max_depth};
+ghost use Rattle.std.specs.Prelude.{◌≡◌, ◌≤◌, Some, IfOk, OnOk, length, option_map};
 ghost use Rattle.serde_json.specs.View.{view};
-ghost use Rattle.serde_json.specs.Written.{has_float};
-ghost use Rattle.vr_json.specs.Reading.{Answers as ModelAnswers};
-ghost use Rattle.vr_json.specs.Trees.{line_of};
 ghost use Rattle.vr_model.specs.first.FirstSolutions.{first_lists};
 ghost use Rattle.vr_model.specs.tables.Tables.{visits};
 ghost use Rattle.vr_model.specs.tables.WellFormed.{IsWellFormed};
 ghost use Rattle.vr_watch.specs.Told.{Told};
-ghost use Rattle.vr_app.specs.Answers.{Answers, AnswersReply, IsOfShort, IsOfSolving};
-ghost use Rattle.vr_app.specs.Found.{answer as wanted, events_of, found_from, line_of_found};
-ghost use Rattle.vr_app.specs.Input.{max_input, model_of, value_of};
-ghost use Rattle.vr_app.specs.Reply as replies;
-ghost use Rattle.vr_app.specs.Reports.{joined};
-ghost use Rattle.vr_app.specs.Texts as texts;
+ghost use Rattle.vr_replies.specs.Answers.{AnswersReply, IsOfShort, IsOfSolving};
+ghost use Rattle.vr_replies.specs.Found.{answer as wanted, events_of, found_from, line_of_found};
+ghost use Rattle.vr_replies.specs.Input.{max_input, model_of};
+ghost use Rattle.vr_replies.specs.Reply as replies;
+ghost use Rattle.vr_replies.specs.Reports.{joined};
 
-use crate::checked::answer_checked;
 use crate::first::first_routes;
-use crate::input::parse;
-use crate::logs::with_reports;
-use crate::search::{Watchers, search};
-use crate::status::Status;
-use crate::texts::{refused_tree, status_tree};
-use crate::words::{Mode, Task};
+use crate::search::search;
 use serde_json::Value;
 use std::alloc::Global;
-use vr_json::{Fault, Path, ReadFail, to_line};
+use vr_improve::Watchers;
+use vr_json::ReadFail;
 use vr_model::{Model, NoMemory, Seq};
 use vr_print::solution_line;
-use vr_read::read_model;
+use vr_replies::{
+    Answer, Mode, Status, Task, answer_checked, done, none_found, not_json, parse_owned,
+    read_owned, refused,
+};
 use vr_routes::Routes;
 use vr_rules::total;
-
-/// A status, and the text to write.
-#[derive(Drop)]
-pub(crate) struct Answer {
-    pub status: Status,
-    pub text: Seq<u8>,
-}
-
-/// The answer of a tree's line.
-pub(crate) fn line(alloc: Global, status: Status, tree: &Value) -> Result<Answer, NoMemory>
-    requires whole { has_float (view tree.now) ≡ false }
-    requires nested { depth (view tree.now) ≤ max_depth }
-    ensures { IfOk result (Answers status (line_of (view tree.now))) }
-{
-    let text = to_line(alloc, tree)?;
-    Ok(Answer { status, text })
-}
-
-// The answer that tells a status alone.
-fn status_line(alloc: Global, status: Status, name: &str) -> Result<Answer, NoMemory>
-    ensures { IfOk result (Answers status (line_of (texts.status_tree name.now))) }
-{
-    let tree = status_tree(alloc, name)?;
-    line(alloc, status, &tree)
-}
-
-/// The answer to words that are not accepted.
-pub(crate) fn usage(alloc: Global) -> Result<Answer, NoMemory>
-    ensures reply { IfOk result (AnswersReply replies.usage) }
-    ensures status { IfOk result (λ a. a.status ≡ Status.Usage) }
-{
-    status_line(alloc, Status::Usage, "USAGE")
-}
-
-/// The answer to an input of too many bytes.
-pub(crate) fn too_long(alloc: Global) -> Result<Answer, NoMemory>
-    ensures reply { IfOk result (AnswersReply replies.too_long) }
-    ensures status { IfOk result (λ a. a.status ≡ Status.TooLong) }
-{
-    status_line(alloc, Status::TooLong, "TOO_LONG")
-}
-
-// The answer to an input that is no JSON.
-fn not_json(alloc: Global) -> Result<Answer, NoMemory>
-    ensures reply { IfOk result (AnswersReply replies.not_json) }
-    ensures status { IfOk result (λ a. a.status ≡ Status.NotJson) }
-{
-    status_line(alloc, Status::NotJson, "NOT_JSON")
-}
-
-/// The answer to a model for which the construction gives no first solution.
-pub(crate) fn none_found(alloc: Global) -> Result<Answer, NoMemory>
-    ensures reply { IfOk result (AnswersReply replies.none_found) }
-    ensures status { IfOk result (λ a. a.status ≡ Status.NoneFound) }
-{
-    status_line(alloc, Status::NoneFound, "ROUTING_FAIL")
-}
-
-/// The answer to an input that is refused.
-pub(crate) fn refused(alloc: Global, fault: &Fault) -> Result<Answer, NoMemory>
-    ensures reply { IfOk result (AnswersReply (replies.refused fault.now)) }
-    ensures status { IfOk result (λ a. a.status ≡ Status.Refused) }
-{
-    let tree = refused_tree(alloc, fault)?;
-    line(alloc, Status::Refused, &tree)
-}
 
 // The line of what a mode finds for a model with this first solution. With `Log` the watchers are told of each event.
 fn line_from(
@@ -143,14 +69,6 @@ fn line_found(
     }
 }
 
-/// The model of a value, which is let go.
-pub(crate) fn read_owned(alloc: Global, value: Value) -> Result<Model, ReadFail>
-    ensures model { ModelAnswers result (model_of (view value)) }
-    ensures well_formed { IfOk result IsWellFormed }
-{
-    read_model(alloc, &value, &Path::root(alloc))
-}
-
 // The answer of a mode to a value.
 fn answer_solved(
     alloc: Global,
@@ -175,18 +93,6 @@ fn answer_solved(
     }
 }
 
-// The answer that is the line of a solution, and behind it the reports of the watchers where they are asked for.
-fn done(mode: Mode, line: Seq<u8>, watch: &Watchers) -> Result<Answer, NoMemory>
-    ensures { let reports = joined (λ w later. after w later) watch.now.items [] in
-        IfOk result (Answers Status.Done (replies.with_reports mode line reports)) }
-{
-    let text = with_reports(mode, line, watch)?;
-    Ok(Answer {
-        status: Status::Done,
-        text,
-    })
-}
-
 // The answer to a value.
 fn answer_value(
     alloc: Global,
@@ -203,13 +109,6 @@ fn answer_value(
         Task::Find(mode) => answer_solved(alloc, mode, value, watch),
         Task::Check => answer_checked(alloc, value),
     }
-}
-
-// The value of an input, whose bytes are let go.
-fn parse_owned(alloc: Global, bytes: Vec<u8>) -> Result<Option<Value>, NoMemory>
-    ensures { IfOk result (λ value. option_map view value ≡ value_of bytes.items) }
-{
-    parse(alloc, &bytes)
 }
 
 /// The answer to an input of at most `MOST_INPUT_BYTES` bytes. The bytes are let go before the model is read, and their

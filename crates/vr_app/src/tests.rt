@@ -5,7 +5,6 @@ ghost use Rattle.vr_model.specs.routes.Rules.{is_valid};
 ghost use Rattle.vr_model.specs.tables.Tables.{visits};
 ghost use Rattle.vr_model.specs.tables.WellFormed.{IsWellFormed};
 
-use crate::numbered::summary_of_tree;
 use crate::search::judge_of;
 use serde_json::Value;
 use std::alloc::Global;
@@ -16,23 +15,6 @@ use vr_model::{Model, NoMemory, Seq};
 use vr_read::read_model;
 use vr_routes::Routes;
 use vr_rules::{empty_lists, valid};
-
-const DROPPED: &str = "{\"format\":1,\"nodes\":3,\"matrices\":[[[0,5,9],[5,0,4],[9,4,0]]],\
-    \"vehicles\":[{\"start\":0,\"end\":0}],\
-    \"groups\":[{\"nodes\":[2],\"penalty\":3}]}";
-
-const SUMMARY: &str =
-    "{\"cost\":13,\"dropped\":1,\"first_cost\":18,\"number\":7,\"status\":\"DEMO\",\
-    \"tries\":10,\"used\":1}\n";
-
-#[test]
-fn a_search_is_summarised(rt: HostRuntime) -> Result<(), Fail> {
-    let alloc = rt.alloc();
-    let tree = Value::from_str(alloc, DROPPED).map_err(|_| "a value")?;
-    let answer = summary_of_tree(alloc, 7, tree)?;
-    assert!(rt; answer.text.as_slice() == SUMMARY.as_bytes());
-    Ok(())
-}
 
 const ONE_NODE: &str =
     "{\"format\":1,\"nodes\":1,\"matrices\":[[[0]]],\"vehicles\":[{\"start\":0,\"end\":0}]}";

@@ -3,6 +3,12 @@
 #![tactic(auto)]
 
 #[cfg(test)]
-mod open_tests;
+mod items;
 #[cfg(test)]
-mod tests;
+mod policies;
+#[cfg(test)]
+mod samples;
+#[cfg(test)]
+mod stops;
+#[cfg(test)]
+mod times;

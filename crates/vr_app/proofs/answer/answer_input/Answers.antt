@@ -1,9 +1,9 @@
 use Rattle.std.proofs.Common.{◌∙◌, ap, sym, subst, IfOk, option_map, None, Some}
 use Rattle.serde_json.specs.View.{view}
-use Rattle.vr_app.specs.Answers.{AnswersReply}
-use Rattle.vr_app.specs.Reply.{Reply}
-use Rattle.vr_app.specs.Reports.{joined}
-use Rattle.vr_app.proofs.InputLemmas.{reply-value}
+use Rattle.vr_replies.specs.Answers.{AnswersReply}
+use Rattle.vr_replies.specs.Reply.{Reply}
+use Rattle.vr_replies.specs.Reports.{joined}
+use Rattle.vr_replies.proofs.InputLemmas.{reply-value}
 use Rattle.vr_app.proofs.answer.answer_input.Goals as goal
 
 pub returns-in-None-clause-reply : goal.returns-in-None-clause-reply

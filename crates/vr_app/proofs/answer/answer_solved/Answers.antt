@@ -1,11 +1,11 @@
 use Rattle.std.proofs.Common.{◌∙◌, [], Result, sym, subst}
 use Rattle.vr_json.specs.declared.fault.Fault.{Fault}
 use Rattle.vr_model.specs.declared.records.Model.{Model}
-use Rattle.vr_app.specs.Answers.{AnswersReply}
-use Rattle.vr_app.specs.Found.{answer}
-use Rattle.vr_app.specs.Reply.{reply_to_model}
-use Rattle.vr_app.specs.Reports.{joined}
-use Rattle.vr_app.proofs.ReplyLemmas.{done-replies, told-joined}
+use Rattle.vr_replies.specs.Answers.{AnswersReply}
+use Rattle.vr_replies.specs.Found.{answer}
+use Rattle.vr_replies.specs.Reply.{reply_to_model}
+use Rattle.vr_replies.specs.Reports.{joined}
+use Rattle.vr_replies.proofs.ReplyLemmas.{done-replies, told-joined}
 use Rattle.vr_app.proofs.answer.answer_solved.Goals as goal
 
 pub returns-in-Some-clause-reply : goal.returns-in-Some-clause-reply

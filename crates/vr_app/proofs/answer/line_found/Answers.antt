@@ -1,7 +1,7 @@
 use Rattle.std.proofs.Common.{◌∙◌, ℕ, List, Option, ap, refl, sym, subst, option_map}
 use Rattle.vr_rules.specs.Placing.{lists_in}
 use Rattle.vr_watch.specs.Told.{Told}
-use Rattle.vr_app.specs.Found.{events_of, found_from}
+use Rattle.vr_replies.specs.Found.{events_of, found_from}
 use Rattle.vr_app.proofs.answer.line_found.Goals as goal
 
 pub returns-in-None-clause-told : goal.returns-in-None-clause-told

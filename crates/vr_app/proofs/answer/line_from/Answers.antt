@@ -5,8 +5,8 @@ use Rattle.vr_model.specs.routes.Costs.{cost}
 use Rattle.vr_model.specs.routes.Rules.{is_valid}
 use Rattle.vr_model.proofs.routes.CostFits.{costs_are_bounded}
 use Rattle.vr_print.specs.Solution.{solution_tree}
-use Rattle.vr_app.specs.Found.{line_of_found, searched}
-use Rattle.vr_app.proofs.SolutionLemmas.{first_lists-valid, searched-sound}
+use Rattle.vr_replies.specs.Found.{line_of_found, searched}
+use Rattle.vr_replies.proofs.SolutionLemmas.{first_lists-valid, searched-sound}
 use Rattle.vr_app.proofs.answer.line_from.Goals as goal
 
 pub total-requires-clause-valid : goal.total-requires-clause-valid

@@ -1,9 +1,9 @@
 use Rattle.std.proofs.Common.{subst}
 use Rattle.std.specs.Prelude.{IfOk}
 use Rattle.serde_json.specs.Data.{Data}
-use Rattle.vr_app.specs.Answers.{AnswersReply}
-use Rattle.vr_app.specs.Input.{model_of}
-use Rattle.vr_app.specs.Reply.{reply_of_demo, summary_of_model}
+use Rattle.vr_replies.specs.Answers.{AnswersReply}
+use Rattle.vr_replies.specs.Input.{model_of}
+use Rattle.vr_replies.specs.Reply.{reply_of_demo, summary_of_model}
 use Rattle.vr_app.proofs.numbered.demo.Goals as goal
 
 pub returns-clause-reply : goal.returns-clause-reply

@@ -1,0 +1,15 @@
+pub mod Words
+pub mod Status
+pub mod Input
+pub mod Found
+pub mod Bests
+pub mod Checked
+pub mod Texts
+pub mod Reports
+pub mod Reply
+pub mod Solutions
+pub mod Causes
+pub mod Met
+pub mod Answers
+pub mod Runs
+pub mod Ended

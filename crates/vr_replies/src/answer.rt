@@ -1,0 +1,86 @@
+//! A status with the text to write, and those that tell a status alone.
+
+ghost use Rattle.std.specs.Prelude.{◌≡◌, ◌≤◌, IfOk, false};
+ghost use Rattle.serde_json.specs.Data.{depth};
+ghost use Rattle.serde_json.specs.Read.{max_depth};
+ghost use Rattle.serde_json.specs.View.{view};
+ghost use Rattle.serde_json.specs.Written.{has_float};
+ghost use Rattle.vr_json.specs.Trees.{line_of};
+ghost use Rattle.vr_replies.specs.Answers.{Answers, AnswersReply};
+ghost use Rattle.vr_replies.specs.Reply as replies;
+ghost use Rattle.vr_replies.specs.Texts as texts;
+
+use crate::status::Status;
+use crate::texts::{refused_tree, status_tree};
+use serde_json::Value;
+use std::alloc::Global;
+use vr_json::{Fault, to_line};
+use vr_model::{NoMemory, Seq};
+
+/// A status, and the text to write.
+#[derive(Drop)]
+pub struct Answer {
+    /// How the run ends where the text is written.
+    pub status: Status,
+    /// One line, and the reports of watchers behind it where these are asked for.
+    pub text: Seq<u8>,
+}
+
+/// The answer of a tree's line.
+pub(crate) fn line(alloc: Global, status: Status, tree: &Value) -> Result<Answer, NoMemory>
+    requires whole { has_float (view tree.now) ≡ false }
+    requires nested { depth (view tree.now) ≤ max_depth }
+    ensures { IfOk result (Answers status (line_of (view tree.now))) }
+{
+    let text = to_line(alloc, tree)?;
+    Ok(Answer { status, text })
+}
+
+// The answer that tells a status alone.
+fn status_line(alloc: Global, status: Status, name: &str) -> Result<Answer, NoMemory>
+    ensures { IfOk result (Answers status (line_of (texts.status_tree name.now))) }
+{
+    let tree = status_tree(alloc, name)?;
+    line(alloc, status, &tree)
+}
+
+/// The answer to words that are not accepted. `NoMemory` where there was no memory.
+pub fn usage(alloc: Global) -> Result<Answer, NoMemory>
+    ensures reply { IfOk result (AnswersReply replies.usage) }
+    ensures status { IfOk result (λ a. a.status ≡ Status.Usage) }
+{
+    status_line(alloc, Status::Usage, "USAGE")
+}
+
+/// The answer to an input of more than 64 MiB. `NoMemory` where there was no memory.
+pub fn too_long(alloc: Global) -> Result<Answer, NoMemory>
+    ensures reply { IfOk result (AnswersReply replies.too_long) }
+    ensures status { IfOk result (λ a. a.status ≡ Status.TooLong) }
+{
+    status_line(alloc, Status::TooLong, "TOO_LONG")
+}
+
+/// The answer to an input that is no JSON. `NoMemory` where there was no memory.
+pub fn not_json(alloc: Global) -> Result<Answer, NoMemory>
+    ensures reply { IfOk result (AnswersReply replies.not_json) }
+    ensures status { IfOk result (λ a. a.status ≡ Status.NotJson) }
+{
+    status_line(alloc, Status::NotJson, "NOT_JSON")
+}
+
+/// The answer to a model for which the construction gives no first solution. `NoMemory` where there was no memory.
+pub fn none_found(alloc: Global) -> Result<Answer, NoMemory>
+    ensures reply { IfOk result (AnswersReply replies.none_found) }
+    ensures status { IfOk result (λ a. a.status ≡ Status.NoneFound) }
+{
+    status_line(alloc, Status::NoneFound, "ROUTING_FAIL")
+}
+
+/// The answer to an input that is refused: the code and the path of the fault. `NoMemory` where there was no memory.
+pub fn refused(alloc: Global, fault: &Fault) -> Result<Answer, NoMemory>
+    ensures reply { IfOk result (AnswersReply (replies.refused fault.now)) }
+    ensures status { IfOk result (λ a. a.status ≡ Status.Refused) }
+{
+    let tree = refused_tree(alloc, fault)?;
+    line(alloc, Status::Refused, &tree)
+}

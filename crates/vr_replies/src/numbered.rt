@@ -1,0 +1,87 @@
+//! The answers to numbers: the model of a number, and a search in short.
+
+ghost use Rattle.std.specs.Prelude.{◌≡◌, Some, IfOk, IsTrue};
+ghost use Rattle.vr_model.specs.routes.Rules.{is_valid};
+ghost use Rattle.vr_model.specs.tables.WellFormed.{IsWellFormed};
+ghost use Rattle.vr_replies.specs.Answers.{AnswersReply};
+ghost use Rattle.vr_replies.specs.Bests.{IsBestOf};
+ghost use Rattle.vr_replies.specs.Found.{Found};
+ghost use Rattle.vr_replies.specs.Reply as replies;
+ghost use Rattle.vr_replies.specs.Texts as texts;
+
+use crate::answer::{Answer, line};
+use crate::status::Status;
+use crate::texts::{Summary, summary_tree};
+use std::alloc::Global;
+use vr_gen::generate;
+use vr_improve::Best;
+use vr_model::{Model, NoMemory};
+use vr_routes::Routes;
+use vr_rules::total;
+
+/// The answer that is the model of a number. `NoMemory` where there was no memory.
+pub fn generated(alloc: Global, number: u64) -> Result<Answer, NoMemory>
+    ensures reply { IfOk result (AnswersReply (replies.reply_generated number)) }
+    ensures status { IfOk result (λ a. a.status ≡ Status.Done) }
+{
+    let tree = generate(alloc, number)?;
+    let answer = line(alloc, Status::Done, &tree)?;
+    Ok(answer)
+}
+
+/// The answer that tells in short of a search in the model of a number, from a first solution that costs `first_cost`.
+/// `NoMemory` where there was no memory.
+pub fn summarised(
+    alloc: Global,
+    number: u64,
+    model: &Model,
+    first_cost: i64,
+    best: &Best,
+) -> Result<Answer, NoMemory>
+    requires well_formed { IsWellFormed model.now }
+    requires valid { IsTrue (is_valid model.now best.now.routes.lists) }
+    ensures reply { (found : Found) → IsBestOf model.now found first_cost best.now
+        → IfOk result (AnswersReply (replies.summary_of_found number model.now (Some found))) }
+    ensures status { IfOk result (λ a. a.status ≡ Status.Done) }
+{
+    let summary = summary_of(alloc, number, model, first_cost, best)?;
+    let tree = summary_tree(alloc, &summary)?;
+    line(alloc, Status::Done, &tree)
+}
+
+// The same search as numbers.
+fn summary_of(
+    alloc: Global,
+    number: u64,
+    model: &Model,
+    first_cost: i64,
+    best: &Best,
+) -> Result<Summary, NoMemory>
+    requires well_formed { IsWellFormed model.now }
+    requires valid { IsTrue (is_valid model.now best.now.routes.lists) }
+    ensures { (found : Found) → IsBestOf model.now found first_cost best.now
+        → IfOk result (λ summary. summary ≡ texts.summary_of number model.now found) }
+{
+    let cost = total(alloc, model, &best.routes)?;
+    Ok(Summary {
+        number,
+        cost,
+        first_cost,
+        dropped: best.routes.inactive().len() as u64,
+        used: used(&best.routes),
+        tries: best.report.tries,
+    })
+}
+
+// How many lists are not empty.
+fn used(routes: &Routes) -> u64
+    ensures { result ≡ texts.used routes.now.lists }
+{
+    let mut count = 0;
+    for vehicle in 0..routes.vehicles() {
+        if !routes.list(vehicle).is_empty() {
+            count += 1;
+        }
+    }
+    count
+}
