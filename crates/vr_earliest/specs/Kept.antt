@@ -2,7 +2,8 @@
 use Rattle.std.specs.Prelude.{◌≡◌, ◌<◌, ◌≤◌, ◌-◌, ◌⊎◌, ℕ, suc, IsTrue, List, drop, length, slice_index_or, take, pos}
 use Rattle.vr_model.specs.tables.Numbers.{number_at}
 use Rattle.vr_model.specs.tables.Tables.{dimension_at}
-use Rattle.vr_model.specs.routes.Routes.{are_lists, route}
+use Rattle.vr_model.specs.routes.Routes.{route}
+use Rattle.vr_model.specs.routes.Rules.{is_valid}
 use Rattle.vr_model.specs.declared.records.Dimension.{Dimension}
 use Rattle.vr_model.specs.declared.records.Model.{Model}
 use Rattle.vr_earliest.specs.declared.kept.Kept.{Kept}
@@ -48,7 +49,7 @@ pub record KeptEarly : Type 0 where
   pub model : Model
   pub kept : List (List Kept)
 
--- what is kept is of these lists of the model
+-- what is kept is of these lists, which are valid
 pub record StandsEarliest (early : KeptEarly) (lists : List (List ℕ)) : Type 0 where
-  pub lists_are : IsTrue (are_lists early.model lists)
+  pub valid : IsTrue (is_valid early.model lists)
   pub ways : HaveAllWays early.model lists early.kept

@@ -2,7 +2,8 @@
 
 ghost use Rattle.std.specs.Prelude.{◌≡◌, ◌<◌, ◌≤◌, ℕ, List, pos, neg_ℤ, All, IfOk, IsTrue, length};
 ghost use Rattle.vr_model.specs.moves.Moves.{with_route};
-ghost use Rattle.vr_model.specs.routes.Routes.{are_lists, route};
+ghost use Rattle.vr_model.specs.routes.Routes.{route};
+ghost use Rattle.vr_model.specs.routes.Rules.{is_valid};
 ghost use Rattle.vr_model.specs.tables.Numbers.{horizon};
 ghost use Rattle.vr_model.specs.tables.WellFormed.{IsIn, IsWellFormed};
 ghost use Rattle.vr_routes.specs.Changes.{AreParts, IsMadeOn};
@@ -57,7 +58,7 @@ impl<'m> Earliest<'m> {
         routes: &Routes,
     ) -> Result<Earliest<'m>, NoMemory>
         requires well_formed { IsWellFormed model.now }
-        requires lists { IsTrue (are_lists model.now routes.now.lists) }
+        requires valid { IsTrue (is_valid model.now routes.now.lists) }
         ensures model { IfOk result (λ earliest. earliest.model ≡ model.now) }
         ensures stands { IfOk result (λ earliest. StandsEarliest earliest routes.now.lists) }
     {
@@ -71,8 +72,8 @@ impl<'m> Earliest<'m> {
         })
     }
 
-    // What the chosen schedule of the list that pieces are joined to comes to at least, for vehicle `v` in dimension `d`.
-    // No schedule is built.
+    // What the chosen schedule of the list that pieces are joined to comes to at least, for vehicle `v` in dimension
+    // `d`. No schedule is built.
     fn after(&self, d: u32, v: u32, routes: &Routes, pieces: &[Piece]) -> Early
         requires stands { StandsEarliest self.now routes.now.lists }
         requires dimension { d < length self.now.model.dimensions }
@@ -127,11 +128,12 @@ impl<'m> Earliest<'m> {
         row
     }
 
-    /// Commits the lists after a change. It is called before the routes are changed, and takes no memory.
+    /// Commits the lists after a change, where they are valid. It is called before the routes are changed, and takes no
+    /// memory.
     pub fn commit(&mut self, routes: &Routes, change: &Change)
         requires stands { StandsEarliest self.old routes.now.lists }
         requires made { IsMadeOn routes.now change.now }
-        requires lists { IsTrue (are_lists self.old.model (changed routes.now.lists change.now)) }
+        requires valid { IsTrue (is_valid self.old.model (changed routes.now.lists change.now)) }
         ensures stands { StandsEarliest self.new (changed routes.now.lists change.now) }
         ensures model { self.new.model ≡ self.old.model }
     {
@@ -168,7 +170,7 @@ fn kept_of(
     routes: &Routes,
 ) -> Result<Vec<KeptLists>, NoMemory>
     requires well_formed { IsWellFormed model.now }
-    requires lists { IsTrue (are_lists model.now routes.now.lists) }
+    requires valid { IsTrue (is_valid model.now routes.now.lists) }
     requires floors { AreAllFloors model.now floors.now }
     ensures { IfOk result (λ kept. HaveAllWays model.now routes.now.lists kept.items) }
 {

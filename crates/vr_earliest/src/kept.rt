@@ -3,7 +3,7 @@
 ghost use Rattle.std.specs.Prelude.{◌≡◌, ◌≢◌, ◌<◌, ◌≤◌, ◌-◌, All, ℕ, List, IfOk, IsTrue, false, length};
 ghost use Rattle.std.specs.Prelude.{slice_index_or};
 ghost use Rattle.vr_model.specs.moves.Moves.{with_route};
-ghost use Rattle.vr_model.specs.routes.Routes.{are_lists};
+ghost use Rattle.vr_model.specs.routes.Rules.{is_valid};
 ghost use Rattle.vr_model.specs.tables.WellFormed.{IsWellFormed};
 ghost use Rattle.vr_earliest.specs.Floors.{AreFloors};
 ghost use Rattle.vr_earliest.specs.Guides.{IsGuide};
@@ -130,7 +130,7 @@ impl KeptLists {
         routes: &Routes,
     ) -> Result<KeptLists, NoMemory>
         requires well_formed { IsWellFormed model.now }
-        requires lists { IsTrue (are_lists model.now routes.now.lists) }
+        requires valid { IsTrue (is_valid model.now routes.now.lists) }
         requires dimension { d < length model.now.dimensions }
         requires floors { AreFloors model.now d floors.now }
         ensures { IfOk result (HaveWays model.now d routes.now.lists) }

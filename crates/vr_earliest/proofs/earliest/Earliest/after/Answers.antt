@@ -7,7 +7,7 @@ use Rattle.std.proofs.lemmas.Int.{ints, int_max_is, int_min_is}
 use Rattle.vr_routes.specs.Pieces.{joined}
 use Rattle.vr_earliest.specs.declared.ways.Way.{Way}
 use Rattle.vr_earliest.specs.Ways.{span_by, whole_way}
-use Rattle.vr_parts.proofs.PartLemmas.{small-lists}
+use Rattle.vr_parts.proofs.PartLemmas.{small}
 use Rattle.vr_earliest.proofs.WayLemmas.{guided}
 use Rattle.vr_earliest.proofs.earliest.Earliest.after.Goals as goal
 
@@ -16,7 +16,7 @@ way_after-way-requires-clause-vehicle c =
     let h = c.requires.stands in
     let m = c.args.self.now.model in
     let well = subst IsWellFormed (ap (λ s. s.model) c.self.view_is) c.self.invariant.well_formed in
-    let many = (small-lists m well c.args.routes.now.lists h.lists_are).many in
+    let many = (small m well c.args.routes.now.lists h.valid).many in
     let known = c.requires.vehicle in
     let same = c.of-guide.ensures.vehicle in
     omega (arith, many, known, same)
@@ -26,8 +26,8 @@ way_after-way-requires-clause-nodes_before c =
     let h = c.requires.stands in
     let m = c.args.self.now.model in
     let well = subst IsWellFormed (ap (λ s. s.model) c.self.view_is) c.self.invariant.well_formed in
-    let small = small-lists m well c.args.routes.now.lists h.lists_are in
-    subst (λ model. All (λ node. node < model.nodes) (route c.args.routes.now.lists c.of-guide.result.v)) (sym (c.of-guide.ensures.model ∙ ap (λ s. s.model) c.self.view_is)) (small.below c.of-guide.result.v)
+    let few = small m well c.args.routes.now.lists h.valid in
+    subst (λ model. All (λ node. node < model.nodes) (route c.args.routes.now.lists c.of-guide.result.v)) (sym (c.of-guide.ensures.model ∙ ap (λ s. s.model) c.self.view_is)) (few.below c.of-guide.result.v)
 
 pub returns-clause-last : goal.returns-clause-last
 returns-clause-last c =

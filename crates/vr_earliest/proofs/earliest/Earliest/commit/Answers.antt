@@ -5,7 +5,7 @@ use Rattle.vr_model.specs.tables.WellFormed.{IsWellFormed}
 use Rattle.vr_routes.specs.Pieces.{joined, no_part, part_at}
 use Rattle.vr_earliest.specs.declared.kept.Kept.{Kept}
 use Rattle.vr_earliest.specs.Kept.{HaveAllWays}
-use Rattle.vr_parts.proofs.PartLemmas.{of-part, small-lists}
+use Rattle.vr_parts.proofs.PartLemmas.{is-part, small}
 use Rattle.vr_parts.proofs.SumLemmas.{upto, upto-many, upto-next}
 use Rattle.vr_earliest.proofs.KeptLemmas.{written}
 use Rattle.vr_earliest.proofs.earliest.Earliest.commit.Goals as goal
@@ -14,14 +14,14 @@ pub join_into-requires-clause-room : goal.join_into-requires-clause-room
 join_into-requires-clause-room c =
     let low = subst (λ n. c.loop-k.k < n) c.parts-k-end.ensures.value c.loop-k-test.true in
     let well = subst IsWellFormed (ap (λ s. s.model) c.self.view_is) c.self.invariant.well_formed in
-    let part = of-part c.args.self.now.model well c.args.routes.now.lists c.args.change.now c.requires.made.makes.parts_are c.requires.lists c.loop-k.k low in
+    let part = is-part c.args.self.now.model well c.args.routes.now.lists c.args.change.now c.requires.made.makes.parts_are c.requires.valid c.loop-k.k low in
     subst (λ l. length (joined c.args.routes.now.lists l) ≤ 1000) (sym c.pieces.ensures.value) part.few
 
 pub write_list-requires-clause-vehicle : goal.write_list-requires-clause-vehicle
 write_list-requires-clause-vehicle c =
     let low = subst (λ n. c.loop-k.k < n) c.parts-k-end.ensures.value c.loop-k-test.true in
     let well = subst IsWellFormed (ap (λ s. s.model) c.self.view_is) c.self.invariant.well_formed in
-    let many = (small-lists c.args.self.now.model well c.args.routes.now.lists c.requires.stands.lists_are).many in
+    let many = (small c.args.self.now.model well c.args.routes.now.lists c.requires.stands.valid).many in
     let known = c.requires.made.makes.parts_are.each_vehicle c.loop-k.k no_part low in
     subst (λ m. c.vehicle.result < length m.vehicles) (sym c.loop-k.invariant.model) (let e = c.vehicle.ensures in omega (arith, e, known, many))
 
@@ -30,7 +30,7 @@ write_list-requires-clause-nodes c =
     let lists : List (List ℕ) = c.args.routes.now.lists in
     let low = subst (λ n. c.loop-k.k < n) c.parts-k-end.ensures.value c.loop-k-test.true in
     let well = subst IsWellFormed (ap (λ s. s.model) c.self.view_is) c.self.invariant.well_formed in
-    let part = of-part c.args.self.now.model well lists c.args.change.now c.requires.made.makes.parts_are c.requires.lists c.loop-k.k low in
+    let part = is-part c.args.self.now.model well lists c.args.change.now c.requires.made.makes.parts_are c.requires.valid c.loop-k.k low in
     let list = c.as_slice.ensures.value ∙ c.join_into.ensures ∙ ap (joined lists) c.pieces.ensures.value in
     subst (λ m. All (λ node. node < m.nodes) c.as_slice.result.now) (sym c.loop-k.invariant.model) (subst (All (λ node. node < c.args.self.now.model.nodes)) (sym list) part.nodes)
 

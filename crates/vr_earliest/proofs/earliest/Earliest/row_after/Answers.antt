@@ -2,7 +2,7 @@ use Rattle.std.proofs.Common.{◌≡◌, ◌∙◌, ◌<◌, ℕ, List, sym, sub
 use Rattle.std.proofs.lemmas.Bool.{cases_lt}
 use Rattle.std.proofs.lemmas.List.{get_or-set_other, get_or-set_same, length-set}
 use Rattle.std.specs.Prelude.{All, slice_index_or, slice_set}
-use Rattle.vr_model.proofs.routes.Lists.{are_lists-count}
+use Rattle.vr_model.proofs.routes.Lists.{are-lists, are_lists-count}
 use Rattle.vr_routes.specs.Pieces.{joined, no_part, part_at}
 use Rattle.vr_earliest.specs.declared.earlies.Early.{Early}
 use Rattle.vr_earliest.specs.Earlies.{no_early, IsEarly, IsEarlyPart}
@@ -13,7 +13,7 @@ after-requires-clause-vehicle c =
     let low = subst (λ n. c.loop-k.k < n) c.parts-k-end.ensures.value c.loop-k-test.true in
     let model = c.args.self.now.model in
     let lists : List (List ℕ) = c.args.routes.now.lists in
-    let many = are_lists-count model lists c.requires.stands.lists_are in
+    let many = are_lists-count model lists (are-lists model lists c.requires.stands.valid) in
     let known = c.requires.parts.each_vehicle c.loop-k.k no_part low in
     let same = c.vehicle.ensures in
     omega (arith, many, known, same)

@@ -4,20 +4,20 @@ use Rattle.vr_model.specs.routes.Routes.{route}
 use Rattle.vr_earliest.specs.declared.kept.Kept.{Kept}
 use Rattle.vr_earliest.specs.Kept.{HasWays}
 use Rattle.vr_earliest.proofs.FloorLemmas.{each-push}
-use Rattle.vr_parts.proofs.PartLemmas.{small-lists}
+use Rattle.vr_parts.proofs.PartLemmas.{small}
 use Rattle.vr_earliest.proofs.kept.KeptLists.of.Goals as goal
 
 pub of-requires-clause-vehicle : goal.of-requires-clause-vehicle
 of-requires-clause-vehicle c =
-    let many = (small-lists c.args.model.now c.requires.well_formed c.args.routes.now.lists c.requires.lists).many in
+    let many = (small c.args.model.now c.requires.well_formed c.args.routes.now.lists c.requires.valid).many in
     let no_more = c.how_many-many.ensures.no_more in
     let low = c.loop-v-test.true in
     omega (arith, many, no_more, low)
 
 pub write-requires-clause-nodes : goal.write-requires-clause-nodes
 write-requires-clause-nodes c =
-    let small = small-lists c.args.model.now c.requires.well_formed c.args.routes.now.lists c.requires.lists in
-    subst (λ m. All (λ node. node < m.nodes) c.list.result.now) (sym c.of.ensures.model) (subst (λ l. All (λ node. node < c.args.model.now.nodes) l) (sym c.list.ensures.value) (small.below c.loop-v.v))
+    let few = small c.args.model.now c.requires.well_formed c.args.routes.now.lists c.requires.valid in
+    subst (λ m. All (λ node. node < m.nodes) c.list.result.now) (sym c.of.ensures.model) (subst (λ l. All (λ node. node < c.args.model.now.nodes) l) (sym c.list.ensures.value) (few.below c.loop-v.v))
 
 pub loop-v-preserved : goal.loop-v-preserved
 loop-v-preserved c =
