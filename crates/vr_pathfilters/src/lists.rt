@@ -35,8 +35,8 @@ pub trait ListRule {
         ensures same_rule { rule self.new ≡ rule self.old }
         ensures knows { (tours : Tours) → knows self.old tours → knows self.new tours };
 
-    /// What is kept becomes right for the lists after a change. It is called before the routes are changed, and takes no
-    /// memory.
+    /// What is kept becomes right for the lists after a change. It is called before the routes are changed, and takes
+    /// no memory.
     fn commit(&mut self, routes: &Routes, change: &Change)
         requires knows { knows self.old routes.now }
         requires made { IsMadeOn routes.now change.now }

@@ -226,8 +226,9 @@ fn count_all(lookups: &NodeTables<'_>, routes: &Routes, turns: &mut Turns)
 
 /// Lets a change pass where each list afterwards serves each pair in order, and keeps the policy of its vehicle
 /// (`PickupDeliveryFilter` in OR-Tools, by `AddPickupAndDelivery` and `SetPickupAndDeliveryPolicyOfVehicle`). Of a list
-/// it looks at what stands afterwards between the ends that a change keeps, and at what is gone from there, whatever the
-/// policy of its vehicle is. It takes memory only when it is opened, and in a model without pairs it looks at no list.
+/// it looks at what stands afterwards between the ends that a change keeps, and at what is gone from there, whatever
+/// the policy of its vehicle is. It takes memory only when it is opened, and in a model without pairs it judges a
+/// change without a look at any list.
 pub type PairFilter<'m> = ListFilter<PairRule<'m>>;
 
 impl<'m> PairFilter<'m> {

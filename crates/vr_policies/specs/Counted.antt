@@ -1,5 +1,6 @@
 -- How many pickups and deliveries stand in a list up to each of its nodes.
-use Rattle.std.specs.Prelude.{◌≡◌, ℕ, ◌+◌, ◌<◌, ◌≤◌, Bool, true, false, cond, ◌==◌, List, length, take, slice_index, slice_index_or, Option, Some, None}
+use Rattle.std.specs.Prelude.{◌≡◌, ℕ, ◌+◌, ◌<◌, ◌≤◌, Bool, true, false, cond}
+use Rattle.std.specs.Prelude.{◌==◌, List, length, take, slice_index, slice_index_or, Option, Some, None}
 use Rattle.vr_model.specs.first.Items.{pair_of}
 use Rattle.vr_model.specs.declared.records.Model.{Model}
 use Rattle.vr_model.specs.declared.records.Pair.{Pair}
@@ -43,8 +44,8 @@ asks_turns Lifo = true
 asks_turns Fifo = true
 
 -- a list is counted, and the nodes that stand in the place of a stretch of it
-pub record IsNewCounted (model : Model) (old : List ℕ) (front behind : ℕ) (middle : List ℕ) (listed between : List Counts)
-    : Type 0 where
+pub record IsNewCounted (model : Model) (old : List ℕ) (front behind : ℕ) (middle : List ℕ)
+    (listed between : List Counts) : Type 0 where
   pub seams : AreSeams (length old) front behind
   pub few : length old ≤ 1000
   pub few_between : length middle ≤ 1000

@@ -1,5 +1,6 @@
 -- Which pairs come in turn where other nodes stand in the place of a stretch of a list.
-use Rattle.std.specs.Prelude.{◌≡◌, ℕ, ◌+◌, Bool, true, ◌==◌, ◌&&◌, ◌||◌, nat_le, List, length, take, IsTrue, Option, Some, None}
+use Rattle.std.specs.Prelude.{◌≡◌, ℕ, ◌+◌, Bool, true, ◌==◌, ◌&&◌, ◌||◌}
+use Rattle.std.specs.Prelude.{nat_le, List, length, take, IsTrue, Option, Some, None}
 use Rattle.std.specs.List.{list_all}
 use Rattle.vr_model.specs.first.Items.{pair_of}
 use Rattle.vr_model.specs.tables.WellFormed.{IsWellFormed}

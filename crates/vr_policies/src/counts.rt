@@ -2,15 +2,29 @@
 
 ghost use Rattle.std.specs.Prelude.{◌≡◌, ◌<◌, ◌≤◌, ℕ, All, IsTrue, false, length, take};
 ghost use Rattle.vr_model.specs.routes.Routes.{holds, is_distinct};
-ghost use Rattle.vr_policies.specs.Counted.{AreCounted, counts, count_of as count_of_node, with_node as with_one_node};
+ghost use Rattle.vr_policies.specs.Counted.{AreCounted, counts, count_of as count_of_node, no_counts};
+ghost use Rattle.vr_policies.specs.Counted.{with_node as with_one_node};
 
 use vr_lists::NodeTables;
 
 /// How many pickups and how many deliveries are among some nodes.
-#[derive(Clone, Copy, Default)]
+#[derive(Clone, Copy)]
 pub struct Counts {
     pub pickups: u32,
     pub deliveries: u32,
+}
+
+impl Counts {
+    // Of no nodes.
+    #[inline]
+    pub(crate) fn none() -> Counts
+        ensures { result ≡ no_counts }
+    {
+        Counts {
+            pickups: 0,
+            deliveries: 0,
+        }
+    }
 }
 
 // What is counted with one node more.
@@ -48,10 +62,7 @@ pub(crate) fn write_counts(lookups: &NodeTables<'_>, list: &[u32], table: &mut [
 {
     // what holds of the model is known
     let _model = lookups.model();
-    let mut counts = Counts {
-        pickups: 0,
-        deliveries: 0,
-    };
+    let mut counts = Counts::none();
     for k in 0..list.len() {
         counts = with_node(lookups, counts, list[k]);
         table[list[k] as usize] = counts;
@@ -66,10 +77,7 @@ fn count_of(table: &[Counts], node: u32) -> Counts
     if (node as usize) < table.len() {
         return table[node as usize];
     }
-    Counts {
-        pickups: 0,
-        deliveries: 0,
-    }
+    Counts::none()
 }
 
 /// What is counted of the nodes of a list before a place, of all of them at its end and past it.
@@ -88,10 +96,7 @@ pub(crate) fn counts_before(
 {
     let last = place.min(list.len());
     if last == 0 {
-        return Counts {
-            pickups: 0,
-            deliveries: 0,
-        };
+        return Counts::none();
     }
     count_of(table, list[last - 1])
 }

@@ -12,8 +12,8 @@ use std::marker::Model;
 use vr_lists::NodeTables;
 use vr_model::Policy;
 
-/// A list with other nodes in the place of a stretch, whose pickups and deliveries are counted. Contracts see the model,
-/// the list before, the stretch and the nodes.
+/// A list with other nodes in the place of a stretch, whose pickups and deliveries are counted. Contracts see the
+/// model, the list before, the stretch and the nodes.
 #[derive(Drop)]
 pub struct NewCounts<'a, 'm> {
     lookups: &'a NodeTables<'m>,
@@ -46,7 +46,8 @@ impl<'a, 'm> Model for NewCounts<'a, 'm> {
 }
 
 impl<'a, 'm> NewCounts<'a, 'm> {
-    /// A list that keeps its first `front` nodes and those from `behind` on, with others between, where all are counted.
+    /// A list that keeps its first `front` nodes and those from `behind` on, with others between, where all are
+    /// counted.
     #[inline]
     pub fn of(
         lookups: &'a NodeTables<'m>,
@@ -148,8 +149,8 @@ impl<'a, 'm> NewCounts<'a, 'm> {
         }
     }
 
-    /// Whether pairs that begin before the nodes between and end behind them come in turn with these, where they came in
-    /// turn before.
+    /// Whether pairs that begin before the nodes between and end behind them come in turn with these, where they came
+    /// in turn before.
     #[inline]
     pub fn keeps_order(&self, policy: Policy) -> bool
         ensures { result ≡ keeps_order_of self.now.model policy self.now.old self.now.front self.now.behind

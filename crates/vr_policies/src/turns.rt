@@ -8,8 +8,8 @@ use crate::counts::{Counts, write_counts};
 use vr_lists::NodeTables;
 use vr_model::Policy;
 
-/// How many pickups and deliveries stand in lists up to each of their nodes. It has room for the largest model in place,
-/// 16 kilobytes, and takes no memory.
+/// How many pickups and deliveries stand in lists up to each of their nodes. It has room for the largest model in
+/// place, 16 kilobytes, and takes no memory.
 #[derive(Drop)]
 pub struct Turns {
     /// For each node of the committed lists, what stands in its list up to it.
@@ -21,13 +21,9 @@ pub struct Turns {
 impl Turns {
     /// Room for any lists of any model.
     pub fn new() -> Turns {
-        let none = Counts {
-            pickups: 0,
-            deliveries: 0,
-        };
         Turns {
-            listed: [none; 1000],
-            between: [none; 1000],
+            listed: [Counts::none(); 1000],
+            between: [Counts::none(); 1000],
         }
     }
 
