@@ -79,8 +79,8 @@ pub record AreSpanRules (model : Model) (tables : List Table) (idle : Bool) : Ty
 abbrev pub IsGlobalCost : ℤ → Type 0
 IsGlobalCost = IsAround (cumul_cost * 4)
 
--- what contracts see of what is kept: of each list, what all cost, the same of a change that is ready, and cumuls of the
--- chosen schedules
+-- what contracts see of what is kept: of each list, what all cost, the same of a change that is ready, and cumuls of
+-- the chosen schedules
 pub record KeptSpans : Type 0 where
   pub model : Model
   pub rows : List (List (Option Timing))

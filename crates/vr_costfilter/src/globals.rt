@@ -26,9 +26,9 @@ use vr_routes::{Change, Routes, Row};
 use vr_timings::Timer;
 
 /// What global spans cost (`SetGlobalSpanCostCoefficient` in OR-Tools). A change is told by the cumuls that are
-/// kept of the committed lists, along what it changes alone, in the dimensions whose global span has a coefficient; only
-/// where they do not tell it are the schedules of the changed lists built. Then it is looked over where the other lists
-/// start and end.
+/// kept of the committed lists, along what it changes alone, in the dimensions whose global span has a coefficient;
+/// only where they do not tell it are the schedules of the changed lists built. Then it is looked over where the other
+/// lists start and end.
 #[derive(Drop)]
 pub struct GlobalSpan<'m> {
     rules: SpanRules<'m>,
