@@ -1,5 +1,5 @@
-//! Tests of the whole of what the program does, through [`vr_app::run`]. They stand in a crate of their own, so that
-//! the crate that they test is proved once.
+//! Tests of the whole of what the program does, through [`vr_app::run`], and of what is told of a search in short. They
+//! stand in a crate of their own, so that the crates that they test are proved once.
 #![tactic(auto)]
 
 #[cfg(test)]
@@ -16,3 +16,5 @@ mod logged;
 mod numbered;
 #[cfg(test)]
 mod solved;
+#[cfg(test)]
+mod summarised;
