@@ -1,8 +1,8 @@
 //! The whole of what the program does: from the words and the bytes of a source to a status and the bytes of a sink.
 //!
 //! [`run`] is the only public item. `first` builds a first solution, `search` improves it by the judge that it chooses,
-//! `answer` works out the answer to an input, `numbered` a summary of a search, and `reply` ties these to the source and
-//! the sink. What is asked and replied without a search stands in `vr_replies`.
+//! `answer` works out the answer to an input, `numbered` a summary of a search, and `reply` ties these to the source
+//! and the sink. What is asked and replied without a search stands in `vr_replies`.
 #![tactic(auto)]
 
 mod answer;
