@@ -32,7 +32,7 @@ const SOFT: &str = r#"{"format":1,"nodes":2,"matrices":[[[0,10],[10,0]]],
 
 // What parts answer for a change: soft upper bounds with spans, and global spans.
 #[derive(Clone, Copy, PartialEq)]
-struct Added {
+pub(crate) struct Added {
     plans: i64,
     spans: i64,
 }
@@ -126,7 +126,7 @@ fn told(before: Parts, after: Parts, added: Added) -> Option<Added> {
 }
 
 // The same of the model of a text.
-fn answer_of(alloc: Global, text: &str, lists: &[&[u32]], mv: Move) -> Option<Added> {
+pub(crate) fn answer_of(alloc: Global, text: &str, lists: &[&[u32]], mv: Move) -> Option<Added> {
     match read_model_text(alloc, text) {
         Some(model) => answer(alloc, &model, lists, mv).unwrap_or(None),
         None => None,
