@@ -10,8 +10,8 @@ use vr_model::Move;
 // The lists of the vehicles of the model below.
 const LISTS: [&[u32]; 3] = [
     &[
-        1, 2, 3, 4, 5, 6, 7, 8, 9, 10, 11, 12, 13, 14, 15, 16, 17, 18, 19, 20, 21, 22, 23, 24, 25, 26, 27, 28, 29, 30,
-        31, 32, 33, 34, 35, 36, 37, 38, 39, 40,
+        1, 2, 3, 4, 5, 6, 7, 8, 9, 10, 11, 12, 13, 14, 15, 16, 17, 18, 19, 20, 21, 22, 23, 24, 25,
+        26, 27, 28, 29, 30, 31, 32, 33, 34, 35, 36, 37, 38, 39, 40,
     ],
     &[
         41, 42, 43, 44, 45, 46, 47, 48, 49, 50, 51, 52, 53, 54, 55, 56, 57, 58, 59, 60,
@@ -23,16 +23,66 @@ const LISTS: [&[u32]; 3] = [
 const MOVES: [Move; 12] = [
     Move::TwoOpt { v: 0, a: 3, b: 9 },
     Move::TwoOpt { v: 0, a: 0, b: 39 },
-    Move::OrOpt { v: 0, a: 5, k: 3, t: 20 },
-    Move::OrOpt { v: 0, a: 30, k: 2, t: 1 },
-    Move::Relocate { v: 0, a: 0, w: 1, t: 20 },
-    Move::Relocate { v: 0, a: 39, w: 1, t: 0 },
-    Move::Relocate { v: 0, a: 17, w: 2, t: 0 },
-    Move::Relocate { v: 1, a: 19, w: 0, t: 12 },
-    Move::Exchange { v: 0, a: 2, w: 1, b: 18 },
-    Move::Exchange { v: 0, a: 7, w: 0, b: 8 },
-    Move::Cross { v: 0, a: 10, w: 1, b: 15 },
-    Move::Cross { v: 0, a: 0, w: 1, b: 20 },
+    Move::OrOpt {
+        v: 0,
+        a: 5,
+        k: 3,
+        t: 20,
+    },
+    Move::OrOpt {
+        v: 0,
+        a: 30,
+        k: 2,
+        t: 1,
+    },
+    Move::Relocate {
+        v: 0,
+        a: 0,
+        w: 1,
+        t: 20,
+    },
+    Move::Relocate {
+        v: 0,
+        a: 39,
+        w: 1,
+        t: 0,
+    },
+    Move::Relocate {
+        v: 0,
+        a: 17,
+        w: 2,
+        t: 0,
+    },
+    Move::Relocate {
+        v: 1,
+        a: 19,
+        w: 0,
+        t: 12,
+    },
+    Move::Exchange {
+        v: 0,
+        a: 2,
+        w: 1,
+        b: 18,
+    },
+    Move::Exchange {
+        v: 0,
+        a: 7,
+        w: 0,
+        b: 8,
+    },
+    Move::Cross {
+        v: 0,
+        a: 10,
+        w: 1,
+        b: 15,
+    },
+    Move::Cross {
+        v: 0,
+        a: 0,
+        w: 1,
+        b: 20,
+    },
 ];
 
 // Writes row `i` of the times.
@@ -53,7 +103,12 @@ fn write_visit(text: &mut String, i: u32) -> Result<(), Fail>
 {
     let opens = if i % 10 == 0 { i * 11 } else { i };
     write!(text, r#"{{"node":{i},"window":[{opens},5000],"#)?;
-    write!(text, r#""soft":{{"bound":{},"coefficient":{}}}}}"#, (i * 37) % 300, i % 4)?;
+    write!(
+        text,
+        r#""soft":{{"bound":{},"coefficient":{}}}}}"#,
+        (i * 37) % 300,
+        i % 4
+    )?;
     Ok(())
 }
 
@@ -66,9 +121,18 @@ fn text_of(alloc: Global, slack: u32) -> Result<String, Fail> {
         write!(text, ",")?;
         write_times(&mut text, i)?;
     }
-    write!(text, r#"]],"vehicles":[{{"start":0,"end":0}},{{"start":0,"end":0}},{{"start":0,"end":0}}],"#)?;
-    write!(text, r#""dimensions":[{{"name":"time","evaluators":[{{"matrix":0}}],"capacity":5000,"#)?;
-    write!(text, r#""slack_max":{slack},"span_cost":2,"global_span_cost":3,"nodes":["#)?;
+    write!(
+        text,
+        r#"]],"vehicles":[{{"start":0,"end":0}},{{"start":0,"end":0}},{{"start":0,"end":0}}],"#
+    )?;
+    write!(
+        text,
+        r#""dimensions":[{{"name":"time","evaluators":[{{"matrix":0}}],"capacity":5000,"#
+    )?;
+    write!(
+        text,
+        r#""slack_max":{slack},"span_cost":2,"global_span_cost":3,"nodes":["#
+    )?;
     write_visit(&mut text, 1)?;
     for i in 2..61_u32 {
         write!(text, ",")?;
