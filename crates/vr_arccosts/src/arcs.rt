@@ -23,8 +23,9 @@ use vr_model::{Model as RoutingModel, NoMemory};
 use vr_parts::{CostPart, ListCost, added_by};
 use vr_routes::{Change, Piece, Routes, Row};
 
-/// The arc costs of used vehicles (`SetArcCostEvaluatorOfVehicle` in OR-Tools). It takes no longer for a change of long
-/// lists than for one of short lists, where the vehicles have the same costs.
+/// The arc costs of used vehicles (`SetArcCostEvaluatorOfVehicle` in OR-Tools). To tell what a change adds takes no
+/// longer for long lists than for short ones, where the vehicles have the same costs; a commit goes along the changed
+/// lists.
 #[derive(Drop)]
 pub struct ArcCost<'m> {
     model: &'m RoutingModel,

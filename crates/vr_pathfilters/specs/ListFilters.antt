@@ -9,7 +9,7 @@ pub record StandsBy (rule : ℕ → List ℕ → Bool) (knows : Tours → Type 0
   pub known : knows tours
   pub rule_holds : IsTrue (holds_of_each rule tours.lists)
 
--- a change was made ready after which the rule holds
+-- some change was made ready, and the rule holds after this one
 pub record IsReadyBy (rule : ℕ → List ℕ → Bool) (is_prepared : Bool) (lists : List (List ℕ)) (parts : List ListAfter)
     : Type 0 where
   pub prepared : is_prepared ≡ true

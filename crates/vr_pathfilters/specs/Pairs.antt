@@ -29,7 +29,7 @@ abbrev pub AreAllCounted : Model → List (List ℕ) → List Counts → Type 0
 AreAllCounted model lists listed = (v : ℕ) → v < length lists → IsTrue (asks_turns_of model v)
     → AreCounted model (route lists v) listed
 
--- and the tours are those of the model
+-- the tours are those of a well-formed model, and the list of each vehicle whose policy asks for turns is counted
 pub record KnowsPairs (model : Model) (listed : List Counts) (tours : Tours) : Type 0 where
   pub knows_tours : KnowsTours model tours
   pub counted : AreAllCounted model tours.lists listed

@@ -10,6 +10,6 @@ use Rattle.vr_routes.specs.declared.pieces.Piece.{Piece}
 abbrev pub is_allowed_list : Model → ℕ → List ℕ → Bool
 is_allowed_list model v list = list_all (allows_vehicle model v) list
 
--- each node of some pieces does
+-- each node of some pieces allows vehicle v
 abbrev pub are_allowed_pieces : Model → List (List ℕ) → ℕ → List Piece → Bool
 are_allowed_pieces model lists v pieces = list_all (λ piece. is_allowed_list model v (nodes_of lists piece)) pieces

@@ -34,9 +34,9 @@ use vr_routes::{Change, Routes, Row};
 #[derive(Drop)]
 pub struct PairRule<'m> {
     lookups: NodeTables<'m>,
-    // room for the nodes that a change puts between the ends of a list
+    // room for the nodes that a change puts between the ends of a list, and at a commit for a whole list
     list: Row,
-    // room for the place of each of them there
+    // room for the place of each node between the ends there
     marks: [u32; 1000],
     // what is picked up and delivered along the lists of vehicles whose policy asks for turns
     turns: Turns,
@@ -129,7 +129,7 @@ fn policy_of(lookups: &NodeTables<'_>, v: u32) -> Policy
     lookups.model().vehicles.get(v as usize).policy
 }
 
-// Vehicle `v` has a list: it is counted where the policy of the vehicle asks for turns.
+// Counts a list of vehicle `v`, where the policy of the vehicle asks for turns.
 fn count_list(lookups: &NodeTables<'_>, v: u32, list: &[u32], turns: &mut Turns)
     requires vehicle { v < length lookups.now.vehicles }
     requires tour { IsTour lookups.now list.now }
@@ -145,7 +145,7 @@ fn count_list(lookups: &NodeTables<'_>, v: u32, list: &[u32], turns: &mut Turns)
 }
 
 impl<'m> PairRule<'m> {
-    // The vehicle of part `k` of a change has the list of the part.
+    // Counts the list that part `k` of a change gives its vehicle, where the policy of the vehicle asks for turns.
     fn count_part(&mut self, routes: &Routes, change: &Change, k: usize)
         requires knows { KnowsTours self.old.lookups routes.now }
         requires made { IsMadeOn routes.now change.now }
@@ -214,7 +214,7 @@ impl<'m> ListRule for PairRule<'m> {
     }
 }
 
-// What is picked up and delivered along the lists of vehicles whose policy asks for turns.
+// Counts the list of each vehicle whose policy asks for turns.
 fn count_all(lookups: &NodeTables<'_>, routes: &Routes, turns: &mut Turns)
     requires tours { KnowsTours lookups.now routes.now }
     ensures { AreAllCounted lookups.now routes.now.lists turns.new.listed }

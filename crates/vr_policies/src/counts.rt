@@ -80,7 +80,8 @@ fn count_of(table: &[Counts], node: u32) -> Counts
     Counts::none()
 }
 
-/// What is counted of the nodes of a list before a place, of all of them at its end and past it.
+/// What is counted of the nodes of a list before a place, of all of them at its end and past it. The contract asks of
+/// which model; the answer comes of the table alone.
 #[inline]
 pub(crate) fn counts_before(
     lookups: &NodeTables<'_>,

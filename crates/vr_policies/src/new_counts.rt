@@ -16,6 +16,7 @@ use vr_model::Policy;
 /// model, the list before, the stretch and the nodes.
 #[derive(Drop)]
 pub struct NewCounts<'a, 'm> {
+    // whose pairs are counted: contracts see it, and the answers come of the counts alone
     lookups: &'a NodeTables<'m>,
     turns: &'a Turns,
     old: &'a [u32],

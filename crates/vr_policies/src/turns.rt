@@ -12,7 +12,7 @@ use vr_model::Policy;
 /// place, 16 kilobytes, and takes no memory.
 #[derive(Drop)]
 pub struct Turns {
-    /// For each node of the committed lists, what stands in its list up to it.
+    /// For each node of the lists that were put, what stands in its list up to it.
     pub listed: [Counts; 1000],
     /// For each node that a change puts in, what stands among these up to it.
     pub between: [Counts; 1000],
@@ -39,7 +39,7 @@ impl Turns {
         }
     }
 
-    /// Counts the nodes of a committed list, which stand in no other one.
+    /// Counts the nodes of a committed list. What `listed` has of other nodes stays; of `between` nothing is promised.
     pub fn put(&mut self, lookups: &NodeTables<'_>, list: &[u32])
         requires nodes { All (λ node. node < 1000) list.now }
         requires few { length list.now ≤ 1000 }
@@ -51,7 +51,7 @@ impl Turns {
         write_counts(lookups, list, &mut self.listed);
     }
 
-    /// Counts the nodes that a change puts into a list.
+    /// Counts the nodes that a change puts into a list. What is kept of committed lists stays.
     pub fn put_between(&mut self, lookups: &NodeTables<'_>, middle: &[u32])
         requires nodes { All (λ node. node < 1000) middle.now }
         requires few { length middle.now ≤ 1000 }

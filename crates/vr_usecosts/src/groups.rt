@@ -22,8 +22,8 @@ use vr_model::{Group, Model as RoutingModel, NoMemory, Seq};
 use vr_parts::CostPart;
 use vr_routes::{Change, Piece, Routes};
 
-/// The penalties of groups whose nodes are not all active (`AddDisjunction` in OR-Tools). It looks at the nodes that
-/// become active or inactive alone.
+/// The penalties of groups that have fewer active nodes than they may have (`AddDisjunction` in OR-Tools). For a change
+/// it looks at the nodes that become active or inactive alone.
 #[derive(Drop)]
 pub struct GroupCost<'m> {
     model: &'m RoutingModel,
@@ -249,8 +249,8 @@ impl<'m> GroupCost<'m> {
         gone - come
     }
 
-    /// What a change of the committed lists adds at least, where the lists after it are valid: 0 where the committed
-    /// ones have no penalty to pay, of which the change is not looked at, and else what it adds.
+    /// What a change of the committed lists adds at least, where the lists after it are valid: 0, without a look at the
+    /// change, where the committed ones have no penalty to pay, and else what it adds.
     #[inline]
     pub fn least(&mut self, routes: &Routes, change: &Change) -> i64
         requires stands { StandsGroups self.old routes.now }

@@ -1,4 +1,4 @@
-//! Parts of the cost that tell which vehicles and which nodes are used, and not in what order: the fixed costs of used
+//! Parts of the cost that ask which vehicles and which nodes are used, and not in what order: the fixed costs of used
 //! vehicles, and the penalties of groups.
 #![tactic(auto)]
 
