@@ -33,7 +33,8 @@ spans_least model v list = cond (is_empty list) (pos 0)
 abbrev pub soft_and_span : Model → List (List ℕ) → ℤ
 soft_and_span model lists = soft_part model (assigned model lists) +ℤ span_part model (assigned model lists)
 
--- a number that one list may cost: soft costs are not negative, and no span costs much
+-- a number that one list may cost: in each of four dimensions at most what 1003 cumuls cost, rounded up, for its stops
+-- and its span; less than 0 only by a span, which costs no more than one cumul
 abbrev pub IsPlanCost : ℤ → Type 0
 IsPlanCost = IsFrom 2760000000000000 2760000000000000000
 

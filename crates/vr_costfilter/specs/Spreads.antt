@@ -17,7 +17,7 @@ use Rattle.vr_routes.specs.Changes.{AreParts}
 use Rattle.vr_costfilter.specs.GlobalCosts.{AreKept}
 use Rattle.vr_costfilter.specs.declared.spreads.Spread.{Spread}
 
--- no list is told
+-- how far no lists reach
 abbrev pub no_spread : Spread
 no_spread = record { last = pos 0; start = horizon; span = neg_ℤ horizon }
 

@@ -25,10 +25,10 @@ use vr_model::{Model as RoutingModel, NoMemory};
 use vr_routes::{Change, Routes, Row};
 use vr_timings::Timer;
 
-/// What global spans cost (`SetGlobalSpanCostCoefficient` in OR-Tools). A change is told by the cumuls that are
-/// kept of the committed lists, along what it changes alone, in the dimensions whose global span has a coefficient;
-/// only where they do not tell it are the schedules of the changed lists built. Then it is looked over where the other
-/// lists start and end.
+/// What global spans cost (`SetGlobalSpanCostCoefficient` in OR-Tools). A change is told by the cumuls that are kept of
+/// the committed lists, along what it puts in and behind that until a cumul is as it was, in the dimensions whose
+/// global span has a coefficient; only where they do not tell it are the schedules of the changed lists built. Where
+/// lists start and end after the change is then looked over vehicle by vehicle.
 #[derive(Drop)]
 pub struct GlobalSpan<'m> {
     rules: SpanRules<'m>,

@@ -235,7 +235,8 @@ fn cost_of_plan_after(
     requires some { is_empty (joined routes.now.lists (part_at change.now k).pieces) ≡ false }
     ensures value { let part = part_at change.now k in
         let list = joined routes.now.lists part.pieces in
-        IfOk result (λ cost. cost ≡ soft_with model.now d part.vehicle list +ℤ span_with model.now d part.vehicle list) }
+        IfOk result (λ cost. cost
+        ≡ soft_with model.now d part.vehicle list +ℤ span_with model.now d part.vehicle list) }
     ensures range { IfOk result (IsFrom 690000000000000 690000000000000000) }
 {
     if table.is_free {

@@ -1,5 +1,5 @@
-//! What soft upper bounds with spans, and global spans, answer for moves of long lists is the difference of the costs of
-//! the whole lists: where every slack may be as long as it takes, and where no slack may be longer than a bound.
+//! What soft upper bounds with spans, and global spans, answer for moves of long lists is the difference of the costs
+//! of the whole lists: where every slack may be as long as it takes, and where no slack may be longer than a bound.
 
 use crate::timed::answer_of;
 use std::alloc::Global;
@@ -143,7 +143,7 @@ fn text_of(alloc: Global, slack: u32) -> Result<String, Fail> {
 }
 
 #[test]
-fn kept_cumuls_tell_what_moves_of_long_lists_add(rt: HostRuntime) -> Result<(), Fail> {
+fn moves_of_long_lists_add_what_costs_differ_by(rt: HostRuntime) -> Result<(), Fail> {
     let text = text_of(rt.alloc(), 5000)?;
     for mv in MOVES {
         assert!(rt; answer_of(rt.alloc(), text.as_str(), &LISTS, mv).is_some());
@@ -152,7 +152,7 @@ fn kept_cumuls_tell_what_moves_of_long_lists_add(rt: HostRuntime) -> Result<(), 
 }
 
 #[test]
-fn so_do_schedules_whose_slacks_are_bounded(rt: HostRuntime) -> Result<(), Fail> {
+fn so_they_do_where_slacks_are_bounded(rt: HostRuntime) -> Result<(), Fail> {
     let text = text_of(rt.alloc(), 9)?;
     for mv in MOVES {
         assert!(rt; answer_of(rt.alloc(), text.as_str(), &LISTS, mv).is_some());

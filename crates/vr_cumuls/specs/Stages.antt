@@ -1,6 +1,6 @@
 -- How far a vehicle comes along its stops, at each the least cumul that the one before it leaves.
-use Rattle.std.specs.Prelude.{◌≡◌, ◌<◌, ◌*◌, ◌&&◌, ℕ, Bool, List, [], cond, fold, int_le, slice_index_or, Option, Some, None}
-use Rattle.std.specs.Prelude.{ℤ, pos, ◌+ℤ◌, ◌-ℤ◌, ◌≤ℤ◌}
+use Rattle.std.specs.Prelude.{◌≡◌, ◌<◌, ◌*◌, ◌&&◌, ℕ, Bool, List, [], cond, fold, int_le, slice_index_or}
+use Rattle.std.specs.Prelude.{Option, Some, None, ℤ, pos, ◌+ℤ◌, ◌-ℤ◌, ◌≤ℤ◌}
 use Rattle.std.specs.Int.{int_max}
 use Rattle.std.specs.Option.{option_and_then}
 use Rattle.vr_spans.specs.declared.runs.Run.{Run}
@@ -22,7 +22,7 @@ pub record Runs : Type 0 where
   pub visits : List Run
   pub finish : Run
 
--- these runs are what the stops of vehicle v allow in dimension d, where it has no breaks
+-- these runs are what the stops of vehicle v allow in dimension d, and it has no breaks there
 pub record AreRuns (model : Model) (d v : ℕ) (runs : Runs) : Type 0 where
   pub no_breaks : breaks_of (dimension_at model d) v ≡ []
   pub start : IsRunFor (allowed_by model d v Start) runs.start

@@ -20,7 +20,7 @@ use vr_model::{Model as RoutingModel, NoMemory};
 use vr_routes::{Change, Routes, Row};
 use vr_timings::{Table, Timing};
 
-/// What schedules are paid for in a dimension.
+/// For which costs the cumuls of a dimension are kept.
 #[derive(Clone, Copy)]
 pub enum Paid {
     /// Soft upper bounds, and the span of each vehicle.
@@ -29,7 +29,7 @@ pub enum Paid {
     Together,
 }
 
-/// The cumuls of the chosen schedules of committed lists, in the dimensions where anything is paid for schedules.
+/// The cumuls of the chosen schedules of committed lists, in the dimensions where schedules may cost anything.
 /// Contracts see what is kept in each dimension.
 #[derive(Drop)]
 pub struct AllCumuls {
@@ -48,7 +48,7 @@ impl Model for AllCumuls {
 }
 
 impl AllCumuls {
-    /// Of the lists of routes, where anything is paid for. The only refusal is want of memory.
+    /// Of the lists of routes, in the dimensions with such costs. The only refusal is want of memory.
     pub fn open(
         alloc: Global,
         model: &RoutingModel,
@@ -138,7 +138,7 @@ impl AllCumuls {
     }
 }
 
-// Whether anything is paid for in a dimension.
+// Whether a dimension has a coefficient of such costs.
 fn is_paid(model: &RoutingModel, table: &Table, d: u32, paid: Paid) -> bool
     requires { d < length model.now.dimensions }
 {
@@ -148,7 +148,7 @@ fn is_paid(model: &RoutingModel, table: &Table, d: u32, paid: Paid) -> bool
     }
 }
 
-// What is kept of the lists of routes in dimension `d`, where anything is paid for.
+// What is kept of the lists of routes in dimension `d`; of none where it has no such costs.
 fn kept_in(
     alloc: Global,
     model: &RoutingModel,

@@ -1,4 +1,8 @@
 //! A vehicle goes along its stops, at each the least cumul that the one before it leaves.
+//!
+//! Clauses bound what soft upper bounds cost by the number of stops that a stage has paid for: at most 1002 of a
+//! committed list, with 8 pieces of at most 1000 nodes behind its front 9002, and then at most 1001 more to the end.
+//! 11000 and 12000 are above all of these.
 
 ghost use Rattle.std.specs.Prelude.{◌≡◌, ◌<◌, ◌≤◌, ◌+◌, ◌*◌, All, IfSome, IsTrue, Some, cond, length, reverse};
 ghost use Rattle.std.specs.Prelude.{ℕ, slice_index_or, pos, ◌+ℤ◌, ◌≤ℤ◌};
@@ -21,7 +25,7 @@ use vr_timings::{Table, row_cost, row_of};
 use vr_walks::{Ahead, earliest_behind, single_runs, slack_of};
 
 /// How far a vehicle has come: the node of the stop where it is, its cumul there, and what the soft upper bounds of the
-/// stops so far cost, this one among them.
+/// stops so far cost, this one among them. Cumuls are in `0..=2^36`, costs at least 0.
 #[derive(Clone, Copy, Default)]
 pub struct Stage {
     pub at: u32,

@@ -50,7 +50,7 @@ impl Earlies {
         self.rows[d as usize][k]
     }
 
-    // Writes what is told in dimension `d` of each list.
+    /// Writes what is told in dimension `d` of each list.
     #[inline]
     pub fn set(&mut self, d: usize, row: [Early; 2])
         requires dimension { d < 4 }

@@ -104,6 +104,7 @@ impl<'m> Earliest<'m> {
             (joined routes.now.lists (part_at change.now k).pieces) }
         ensures { AreEarlies self.now.model routes.now.lists change.now out.new }
     {
+        // that there are two parts at most is for the clause alone
         let _few = change.parts();
         for d in 0..self.kept.len() {
             if !self.kept[d].lists.is_empty() {

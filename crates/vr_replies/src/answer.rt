@@ -1,4 +1,4 @@
-//! A status with the text to write, and those that tell a status alone.
+//! A status with the text to write; the answers that tell a status alone, and the answer to an input that is refused.
 
 ghost use Rattle.std.specs.Prelude.{◌≡◌, ◌≤◌, IfOk, false};
 ghost use Rattle.serde_json.specs.Data.{depth};

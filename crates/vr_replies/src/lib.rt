@@ -1,9 +1,9 @@
 //! What the program is asked and what it replies, but for searches: the words that it takes, the statuses, the texts,
 //! and the answers that need no search. The reply to words and bytes is defined here (`specs/Reply`).
 //!
-//! `words` says what is asked for, `input` reads bytes, `answer` has the answers that tell a status alone, `checked`
-//! answers what is checked, `numbered` what has a number, `logs` puts the reports of watchers behind a line, and
-//! `texts` makes the trees that tell no solution.
+//! `words` says what is asked for, `input` reads bytes and the model in them, `answer` has the answers that tell a
+//! status alone and those of refusals, `checked` answers what is checked, `numbered` what has a number, `logs` puts the
+//! reports of watchers behind the line of a solution, and `texts` makes the trees that tell no solution.
 #![tactic(auto)]
 
 mod answer;
