@@ -78,3 +78,19 @@ returns-clause-stands c = record {
   earliest_model = ap (λ k. k.earliest.model) c.self.view_is ∙ (c.requires.stands.earliest_model ∙ ap (λ k. k.model) (sym c.self.view_is));
   earliest = subst (λ e. StandsEarliest e c.args.routes.now.lists) (sym (ap (λ k. k.earliest) c.self.view_is)) c.requires.stands.earliest;
 }
+
+pub returns-in_err-spans-clause-stands : goal.returns-in_err-spans-clause-stands
+returns-in_err-spans-clause-stands c = record {
+  arcs_model = c.in_ok-arcs.ensures.model ∙ (ap (λ k. k.arcs.model) c.self.view_is ∙ (c.requires.stands.arcs_model ∙ ap (λ k. k.model) (sym c.self.view_is)));
+  fixed_model = c.in_ok-fixed.ensures.model ∙ (ap (λ k. k.fixed.model) c.self.view_is ∙ (c.requires.stands.fixed_model ∙ ap (λ k. k.model) (sym c.self.view_is)));
+  groups_model = c.in_ok-groups.ensures.model ∙ (ap (λ k. k.groups.model) c.self.view_is ∙ (c.requires.stands.groups_model ∙ ap (λ k. k.model) (sym c.self.view_is)));
+  plans_model = c.in_ok-plans.ensures.model ∙ (ap (λ k. k.plans.model) c.self.view_is ∙ (c.requires.stands.plans_model ∙ ap (λ k. k.model) (sym c.self.view_is)));
+  spans_model = c.in_err-spans.ensures.model ∙ (ap (λ k. k.spans.model) c.self.view_is ∙ (c.requires.stands.spans_model ∙ ap (λ k. k.model) (sym c.self.view_is)));
+  arcs = c.in_ok-arcs.ensures.stands;
+  fixed = c.in_ok-fixed.ensures.stands;
+  groups = c.in_ok-groups.ensures.stands;
+  plans = c.in_ok-plans.ensures.stands;
+  spans = c.in_err-spans.ensures.stands;
+  earliest_model = ap (λ k. k.earliest.model) c.self.view_is ∙ (c.requires.stands.earliest_model ∙ ap (λ k. k.model) (sym c.self.view_is));
+  earliest = subst (λ e. StandsEarliest e c.args.routes.now.lists) (sym (ap (λ k. k.earliest) c.self.view_is)) c.requires.stands.earliest;
+}
