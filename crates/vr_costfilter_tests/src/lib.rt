@@ -10,3 +10,5 @@ mod least;
 mod tests;
 #[cfg(test)]
 mod timed;
+#[cfg(test)]
+mod told;

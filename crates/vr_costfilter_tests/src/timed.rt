@@ -9,6 +9,7 @@ ghost use Rattle.vr_routes.specs.Changes.{IsMadeOn};
 ghost use Rattle.vr_routes.specs.Pieces.{changed};
 
 use crate::tests::valid_routes;
+use crate::told::tells_first;
 use std::alloc::Global;
 use std::test::Fail;
 use vr_costfilter::{CostPart, GlobalSpan, PlanCost};
@@ -35,6 +36,8 @@ const SOFT: &str = r#"{"format":1,"nodes":2,"matrices":[[[0,10],[10,0]]],
 pub(crate) struct Added {
     plans: i64,
     spans: i64,
+    // whether kept cumuls tell what its first list comes to
+    pub(crate) is_told: bool,
 }
 
 // Whether costs are those before and what was added.
@@ -111,9 +114,18 @@ fn answer(
     }
     let plans = plans_added(alloc, model, &routes, &change, &after)?;
     let spans = spans_added(alloc, model, &routes, &change, &after)?;
+    let is_told = tells_first(alloc, model, &routes, &change, &after)?;
     let before = cost(alloc, model, &routes)?;
     let after = cost(alloc, model, &after)?;
-    Ok(told(before, after, Added { plans, spans }))
+    Ok(told(
+        before,
+        after,
+        Added {
+            plans,
+            spans,
+            is_told,
+        },
+    ))
 }
 
 // What was added, where it is what costs differ by.
@@ -141,7 +153,11 @@ fn a_reversed_list_reaches_as_far(rt: HostRuntime) -> Result<(), Fail> {
         &[&[1, 2], &[]],
         Move::TwoOpt { v: 0, a: 0, b: 1 },
     );
-    let nothing = Added { plans: 0, spans: 0 };
+    let nothing = Added {
+        plans: 0,
+        spans: 0,
+        is_told: false,
+    };
     assert!(rt; added == Some(nothing));
     Ok(())
 }
@@ -162,6 +178,7 @@ fn two_shorter_lists_reach_less_far(rt: HostRuntime) -> Result<(), Fail> {
     let less = Added {
         plans: 0,
         spans: -50,
+        is_told: false,
     };
     assert!(rt; added == Some(less));
     Ok(())
@@ -178,6 +195,7 @@ fn an_emptied_list_costs_no_soft_bound_and_no_span(rt: HostRuntime) -> Result<()
     let less = Added {
         plans: -58,
         spans: 0,
+        is_told: true,
     };
     assert!(rt; added == Some(less));
     Ok(())
