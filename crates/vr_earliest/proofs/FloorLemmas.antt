@@ -1,11 +1,10 @@
 -- Floors of stops: no number that a stop allows lies below.
-use Rattle.std.proofs.Common.{◌≡◌, ◌∙◌, ℕ, zero, suc, ◌+◌, ◌<◌, ◌≤◌, ◌⊎◌, inl, inr, Bool, true, false, cond, not, List, [], ◌∷◌, ◌++◌, length, length-append, Option, Some, None, refl, ap, sym, subst, arith}
+use Rattle.std.proofs.Common.{◌≡◌, ◌∙◌, ℕ, ◌+◌, ◌<◌, ◌⊎◌, inl, inr, Bool, true, false, cond, not, List, [], ◌∷◌, ◌++◌, length, length-append, Option, Some, None, refl, ap, sym, subst, arith}
 use Rattle.std.specs.Prelude.{ℤ, pos, ◌+ℤ◌, ◌≤ℤ◌, fold, IsTrue, int_le, slice_index_or}
 use Rattle.std.specs.Int.{int_min}
 use Rattle.std.specs.List.{list_all}
 use Rattle.std.proofs.lemmas.Int.{ints, int_min_is}
-use Rattle.std.proofs.lemmas.Bool.{cases_lt}
-use Rattle.std.proofs.lemmas.List.{get_or_append_left, get_or_default, get_or_push}
+use Rattle.std.proofs.lemmas.List.{get_or_default}
 use Rattle.vr_model.specs.tables.Numbers.{horizon, number_at, within}
 use Rattle.vr_model.specs.tables.Tables.{row_of}
 use Rattle.vr_model.specs.tables.WellFormed.{IsIn, IsInterval}
@@ -15,6 +14,7 @@ use Rattle.vr_model.specs.declared.records.Interval.{Interval}
 use Rattle.vr_model.specs.declared.records.Dimension.{Dimension}
 use Rattle.vr_model.specs.declared.records.StopRow.{StopRow}
 use Rattle.vr_model.proofs.tables.Tests.{clash, fails_not}
+use Rattle.vr_parts.proofs.RowLemmas.{rows-push}
 use Rattle.vr_earliest.specs.Floors.{behind, opening, floor_of, starts_freely, AreFree, HaveFloors}
 
 -- ---- what is allowed
@@ -68,35 +68,15 @@ pub floors-more : (rows : List StopRow) (n : ℕ) (floors more : List ℤ) (x : 
     → HaveFloors rows (n + 1) more
 floors-more rows n floors more x h is range e = record {
   many = ap length e ∙ length-append floors (x ∷ []) ∙ ap (λ m. m + 1) h.many;
-  each = λ key low. each key (cases_lt key n) low;
-  range = λ key low. in_range key (cases_lt key n) low;
+  each = rows-push (λ key y. y ≡ floor_of (row_of rows key)) (pos 0) floors more x n h.many h.each is e;
+  range = rows-push (λ key y. IsIn (pos 0) horizon y) (pos 0) floors more x n h.many h.range range e;
 }
-  where
-    before : (key : ℕ) → key < n → number_at more key ≡ number_at floors key
-    before key low = ap (λ l. number_at l key) e ∙ get_or_append_left floors (x ∷ []) (pos 0) key (let m = h.many in omega (arith, low, m))
-
-    at : (key : ℕ) → key ≡ n → number_at more key ≡ x
-    at key same = ap (λ l. number_at l key) e ∙ get_or_push floors x (pos 0) key (h.many ∙ sym same)
-
-    each : (key : ℕ) → (key < n) ⊎ (n ≤ key) → key < n + 1 → number_at more key ≡ floor_of (row_of rows key)
-    each key (inl low) _ = before key low ∙ h.each key low
-    each key (inr high) low = let same : key ≡ n = omega (arith, high, low) in at key same ∙ is ∙ ap (λ m. floor_of (row_of rows m)) (sym same)
-
-    in_range : (key : ℕ) → (key < n) ⊎ (n ≤ key) → key < n + 1 → IsIn (pos 0) horizon (number_at more key)
-    in_range key (inl low) _ = subst (IsIn (pos 0) horizon) (sym (before key low)) (h.range key low)
-    in_range key (inr high) low = subst (IsIn (pos 0) horizon) (sym (at key (omega (arith, high, low)))) range
 
 pub free-more : (dimension : Dimension) (n : ℕ) (free more : List Bool) (x : Bool) → AreFree dimension n free → x ≡ starts_freely dimension n → more ≡ free ++ x ∷ [] → AreFree dimension (n + 1) more
 free-more dimension n free more x h is e = record {
   many = ap length e ∙ length-append free (x ∷ []) ∙ ap (λ m. m + 1) h.many;
-  each = λ v other low. each v other (cases_lt v n) low;
+  each = λ v other. rows-push (λ w y. y ≡ starts_freely dimension w) other free more x n h.many (λ w. h.each w other) is e v;
 }
-  where
-    each : (v : ℕ) (other : Bool) → (v < n) ⊎ (n ≤ v) → v < n + 1 → slice_index_or more v other ≡ starts_freely dimension v
-    each v other (inl low) _ = ap (λ l. slice_index_or l v other) e ∙ get_or_append_left free (x ∷ []) other v (let m = h.many in omega (arith, low, m)) ∙ h.each v other low
-    each v other (inr high) low =
-        let same : v ≡ n = omega (arith, high, low) in
-        ap (λ l. slice_index_or l v other) e ∙ get_or_push free x other v (h.many ∙ sym same) ∙ is ∙ ap (starts_freely dimension) (sym same)
 
 -- ---- ranges
 
@@ -106,14 +86,6 @@ behind-range interval x is range = go (within interval.lo interval.hi x)
     go : (b : Bool) → IsIn (pos 0) (pos 68719476737) (cond b (interval.hi +ℤ pos 1) x)
     go true = (let a = is.lo_in_range in let b = is.in_order in let c = is.hi_in_range in record { at_least = omega (arith, ints, a, b); at_most = omega (arith, ints, c) })
     go false = range
-
--- what holds of each entry at its place holds with one entry more
-pub each-push : {A : Type 0} (P : ℕ → A → Type 0) (xs : List A) (x : A) → ((k : ℕ) (d : A) → k < length xs → P k (slice_index_or xs k d)) → P (length xs) x
-    → (k : ℕ) (d : A) → k < length (xs ++ x ∷ []) → P k (slice_index_or (xs ++ x ∷ []) k d)
-each-push P [] x each last zero d low = last
-each-push P [] x each last (suc k) d low = absurd (omega (arith, low))
-each-push P (y ∷ ys) x each last zero d low = each zero d (omega arith)
-each-push P (y ∷ ys) x each last (suc k) d low = each-push (λ j. P (suc j)) ys x (λ j e less. each (suc j) e (omega (arith, less))) last k d (omega (arith, low))
 
 -- a floor that is looked up
 pub record IsFloor (rows : List StopRow) (key : ℕ) (x : ℤ) : Type 0 where

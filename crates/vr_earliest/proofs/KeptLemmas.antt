@@ -1,19 +1,17 @@
 -- What is kept of lists, written place by place, and after a list is replaced.
-use Rattle.std.proofs.Common.{◌≡◌, ◌≢◌, ◌∙◌, ◌⊎◌, inl, inr, ℕ, zero, suc, ◌+◌, ◌-◌, ◌<◌, ◌≤◌, List, [], ◌∷◌, ◌++◌, length, length-append, length-set, take, drop, refl, ap, ap₂, sym, subst, arith}
+use Rattle.std.proofs.Common.{◌≡◌, ◌∙◌, inl, inr, ℕ, suc, ◌+◌, ◌-◌, ◌<◌, ◌≤◌, List, [], ◌∷◌, ◌++◌, length, length-append, length-set, take, drop, ap, ap₂, sym, subst, arith}
 use Rattle.std.specs.Prelude.{slice_index_or, slice_set}
 use Rattle.std.proofs.Math.Seq.{drop-cons}
-use Rattle.std.proofs.lemmas.Bool.{cases_lt}
-use Rattle.std.proofs.lemmas.List.{get_or_append_left, get_or_push, get_or-set_same, get_or-set_other, append-nil, take_all}
 use Rattle.vr_model.specs.routes.Routes.{route}
 use Rattle.vr_model.specs.moves.Moves.{with_route}
 use Rattle.vr_model.specs.declared.records.Model.{Model}
-use Rattle.vr_model.proofs.routes.Lists.{route_set_same, route_set_other}
+use Rattle.vr_model.proofs.routes.Lists.{route_set_other}
 use Rattle.vr_earliest.specs.declared.kept.Kept.{Kept}
 use Rattle.vr_earliest.specs.declared.ways.Rest.{Rest}
 use Rattle.vr_earliest.specs.declared.ways.Way.{Way}
 use Rattle.vr_earliest.specs.Rests.{before, rest_of}
 use Rattle.vr_earliest.specs.Ways.{way_along}
-use Rattle.vr_parts.proofs.RowLemmas.{same-or-not}
+use Rattle.vr_parts.proofs.RowLemmas.{rows-push, set-at}
 use Rattle.vr_earliest.specs.Kept.{HaveWays, AreRestsTo, AreWaysTo, HasWays}
 
 -- ---- place by place
@@ -21,11 +19,8 @@ use Rattle.vr_earliest.specs.Kept.{HaveWays, AreRestsTo, AreWaysTo, HasWays}
 -- one entry more
 entries-more : {A : Type 0} (f : ℕ → A) (xs more : List A) (x : A) (n : ℕ) → length xs ≡ suc n → ((k : ℕ) (other : A) → k ≤ n → slice_index_or xs k other ≡ f k)
     → more ≡ xs ++ x ∷ [] → x ≡ f (n + 1) → (k : ℕ) (other : A) → k ≤ n + 1 → slice_index_or more k other ≡ f k
-entries-more f xs more x n many each is next k other high = ap (λ l. slice_index_or l k other) is ∙ go (cases_lt k (suc n))
-  where
-    go : (k < suc n) ⊎ (suc n ≤ k) → slice_index_or (xs ++ x ∷ []) k other ≡ f k
-    go (inl less) = get_or_append_left xs (x ∷ []) other k (omega (arith, less, many)) ∙ each k other (omega (arith, less))
-    go (inr above) = let here : n + 1 ≡ k = omega (arith, above, high) in get_or_push xs x other k (omega (arith, here, many)) ∙ next ∙ ap f here
+entries-more f xs more x n many each is next k other high =
+    rows-push (λ j y. y ≡ f j) other xs more x (n + 1) (omega (arith, many)) (λ j less. each j other (omega (arith, less))) next is k (omega (arith, high))
 
 pub ways-more : (model : Model) (d v : ℕ) (list : List ℕ) (n : ℕ) (ways more : List Way) (way : Way) → AreWaysTo model d v list n ways → more ≡ ways ++ way ∷ [] → way ≡ way_along model d v (take (n + 1) list)
     → AreWaysTo model d v list (n + 1) more
@@ -75,15 +70,8 @@ kept-set model d lists kept v list new h known low is = record {
     | inl same ↦ inl (length-set kept v new ∙ same ∙ sym (length-set lists v list))
     | inr none ↦ inr none
   ];
-  each = λ u other under. go u other under (same-or-not u v);
+  each = λ u other under. set-at (HasWays model d) lists kept v list new low is u other (λ _. known) (λ _. h.each u other (let l = length-set kept v new in omega (arith, under, l)));
 }
-  where
-    go : (u : ℕ) (other : Kept) → u < length (slice_set kept v new) → (u ≡ v) ⊎ (u ≢ v) → HasWays model d u (route (with_route lists v list) u) (slice_index_or (slice_set kept v new) u other)
-    go u other under (inr apart) =
-        subst (λ l. HasWays model d u l (slice_index_or (slice_set kept v new) u other)) (sym (route_set_other lists v u list apart))
-        (subst (HasWays model d u (route lists u)) (sym (get_or-set_other kept v u new other apart)) (h.each u other (let l = length-set kept v new in omega (arith, under, l))))
-    go u other under (inl same) = subst (λ w. HasWays model d w (route (with_route lists v list) w) (slice_index_or (slice_set kept v new) w other)) (sym same)
-        (subst (λ l. HasWays model d v l (slice_index_or (slice_set kept v new) v other)) (sym (route_set_same lists v list known)) (subst (HasWays model d v list) (sym (get_or-set_same kept v new other low)) is))
 
 -- where it is not kept, what is kept stays
 pub kept-stays : (model : Model) (d : ℕ) (lists : List (List ℕ)) (kept : List Kept) (v : ℕ) (list : List ℕ) → HaveWays model d lists kept → length kept ≤ v → HaveWays model d (with_route lists v list) kept
@@ -94,14 +82,3 @@ kept-stays model d lists kept v list h high = record {
   ];
   each = λ u other under. subst (λ l. HasWays model d u l (slice_index_or kept u other)) (sym (route_set_other lists v u list (λ e. absurd (omega (arith, e, under, high))))) (h.each u other under);
 }
-
--- a list that is written over as a whole
-pub written : {A : Type 0} (old new : List A) (len : ℕ) → length new ≡ length old → len ≡ length old → take len (new ++ drop (length new) old) ≡ new
-written old new len same is =
-    ap (take len) (ap (λ l. new ++ l) (drop-all old (length new) (omega (arith, same))) ∙ append-nil new) ∙ take_all len new (omega (arith, same, is))
-  where
-    drop-all : {A : Type 0} (l : List A) (n : ℕ) → length l ≤ n → drop n l ≡ []
-    drop-all [] zero _ = refl
-    drop-all [] (suc n) _ = refl
-    drop-all (x ∷ xs) zero low = absurd (omega (arith, low))
-    drop-all (x ∷ xs) (suc n) low = drop-all xs n (omega (arith, low))

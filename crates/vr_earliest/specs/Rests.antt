@@ -43,3 +43,7 @@ pub record IsRestOf (model : Model) (n : ℕ) (rest : Rest) : Type 0 where
   pub high : rest.transits ≤ℤ pos (2147483648 * n)
   pub early : pos 0 ≤ℤ rest.floor
   pub late : rest.floor ≤ℤ pos (68719476736 + 2147483648 * n)
+
+-- what is left of a list, of 1000 nodes at most
+abbrev pub IsListRest : Model → Rest → Type 0
+IsListRest model = IsRestOf model 1000

@@ -60,3 +60,19 @@ pub record IsWayOf (model : Model) (n : ℕ) (way : Way) : Type 0 where
   pub late : way.time ≤ℤ pos (68719476736 + 2147483648 * n)
   pub low : neg_ℤ (pos (2147483648 * n)) ≤ℤ way.transits
   pub high : way.transits ≤ℤ pos (2147483648 * n)
+
+-- a way along the front of a list, of 1000 nodes at most
+abbrev pub IsFrontWay : Model → Way → Type 0
+IsFrontWay model = IsWayOf model 1000
+
+-- a way on from there along eight pieces at most, of 1000 nodes at most each
+abbrev pub IsMiddleWay : Model → Way → Type 0
+IsMiddleWay model = IsWayOf model 9000
+
+-- a way on from there along a piece of 1000 nodes at most
+abbrev pub IsLongWay : Model → Way → Type 0
+IsLongWay model = IsWayOf model 10000
+
+-- a way on from the middle to a stop and along what is left behind it, 1000 arcs at most
+abbrev pub IsWholeWay : Model → Way → Type 0
+IsWholeWay model = IsWayOf model 10001

@@ -12,7 +12,7 @@ ghost use Rattle.vr_earliest.specs.Earlies.{AreEarlies, IsEarlyRow};
 ghost use Rattle.vr_earliest.specs.Floors.{AreAllFloors};
 ghost use Rattle.vr_earliest.specs.Guides.{IsGuide};
 ghost use Rattle.vr_earliest.specs.Kept.{HaveAllWays, HaveWays, StandsEarliest};
-ghost use Rattle.vr_earliest.specs.Ways.{earliest_end, least_span, whole_way, IsWayOf};
+ghost use Rattle.vr_earliest.specs.Ways.{earliest_end, least_span, whole_way, IsWholeWay};
 
 use crate::earlies::{Earlies, Early};
 use crate::floors::Floors;
@@ -210,7 +210,7 @@ fn way_after(guide: &Guide, kept: &KeptLists, routes: &Routes, pieces: &[Piece])
     requires nodes { All (λ node. node < guide.now.model.now.nodes) (joined routes.now.lists pieces.now) }
     ensures value { result
         ≡ whole_way guide.now.model.now guide.now.d guide.now.v (joined routes.now.lists pieces.now) }
-    ensures range { IsWayOf guide.now.model.now 10001 result }
+    ensures range { IsWholeWay guide.now.model.now result }
 {
     let v = guide.v;
     if (v as usize) < kept.lists.len() {

@@ -8,9 +8,11 @@ ghost use Rattle.vr_model.specs.tables.WellFormed.{IsIn, IsWellFormed};
 ghost use Rattle.vr_routes.specs.Pieces.{joined, nodes_of, IsWithin};
 ghost use Rattle.vr_earliest.specs.Floors.{AreFloors};
 ghost use Rattle.vr_earliest.specs.Guides.{IsGuide};
-ghost use Rattle.vr_earliest.specs.Rests.{at_end as at_end_of, before as before_rest, to_end as to_end_on, IsRestOf};
+ghost use Rattle.vr_earliest.specs.Rests.{at_end as at_end_of, before as before_rest, to_end as to_end_on};
+ghost use Rattle.vr_earliest.specs.Rests.{IsListRest, IsRestOf};
 ghost use Rattle.vr_earliest.specs.Ways.{along, setting_out as setting_out_of, span_by as span_by_way};
-ghost use Rattle.vr_earliest.specs.Ways.{to_node as to_node_on, to_visit as to_visit_on, IsWayOf};
+ghost use Rattle.vr_earliest.specs.Ways.{to_node as to_node_on, to_visit as to_visit_on};
+ghost use Rattle.vr_earliest.specs.Ways.{IsFrontWay, IsLongWay, IsMiddleWay, IsWayOf, IsWholeWay};
 
 use crate::floors::Floors;
 use vr_model::{Evaluator, Model};
@@ -101,10 +103,10 @@ impl<'m> Guide<'m> {
         requires within { All (IsWithin routes.now.lists) pieces.now }
         requires few { length pieces.now ≤ 8 }
         requires nodes { All (λ node. node < self.now.model.now.nodes) (joined routes.now.lists pieces.now) }
-        requires way { IsWayOf self.now.model.now 1000 way }
+        requires way { IsFrontWay self.now.model.now way }
         ensures value { result
             ≡ along self.now.model.now self.now.d self.now.v way (joined routes.now.lists pieces.now) }
-        ensures range { IsWayOf self.now.model.now 9000 result }
+        ensures range { IsMiddleWay self.now.model.now result }
     {
         let mut gone = way;
         for k in 0..pieces.len() {
@@ -119,7 +121,7 @@ impl<'m> Guide<'m> {
         requires guide { IsGuide self.now }
         requires within { IsWithin routes.now.lists piece }
         requires nodes { All (λ node. node < self.now.model.now.nodes) (nodes_of routes.now.lists piece) }
-        requires way { IsWayOf self.now.model.now 9000 way }
+        requires way { IsMiddleWay self.now.model.now way }
         ensures value { result
             ≡ along self.now.model.now self.now.d self.now.v way (nodes_of routes.now.lists piece) }
         ensures few { length (nodes_of routes.now.lists piece) ≤ 1000 }
@@ -144,7 +146,7 @@ impl<'m> Guide<'m> {
         requires guide { IsGuide self.now }
         requires few { length chain.now ≤ 1000 }
         requires nodes { All (λ node. node < self.now.model.now.nodes) (cond reversed (reverse chain.now) chain.now) }
-        requires way { IsWayOf self.now.model.now 9000 way }
+        requires way { IsMiddleWay self.now.model.now way }
         ensures { result
             ≡ along self.now.model.now self.now.d self.now.v way (cond reversed (reverse chain.now) chain.now) }
     {
@@ -159,7 +161,7 @@ impl<'m> Guide<'m> {
     #[inline(always)]
     pub fn to_visit(&self, way: Way, node: u32) -> Way
         requires guide { IsGuide self.now }
-        requires way { IsWayOf self.now.model.now 10000 way }
+        requires way { IsLongWay self.now.model.now way }
         requires node { node < self.now.model.now.nodes }
         ensures { result ≡ to_visit_on self.now.model.now self.now.d self.now.v way node }
     {
@@ -170,7 +172,7 @@ impl<'m> Guide<'m> {
     #[inline(always)]
     fn to_node(&self, way: Way, node: u32, floor: i64) -> Way
         requires guide { IsGuide self.now }
-        requires way { IsWayOf self.now.model.now 10000 way }
+        requires way { IsLongWay self.now.model.now way }
         requires node { node < self.now.model.now.nodes }
         requires floor { IsIn (pos 0) horizon floor }
         ensures { result ≡ to_node_on self.now.model.now self.now.d self.now.v way node floor }
@@ -187,10 +189,10 @@ impl<'m> Guide<'m> {
     #[inline(always)]
     pub fn to_end(&self, way: Way, rest: Rest) -> Way
         requires guide { IsGuide self.now }
-        requires way { IsWayOf self.now.model.now 9000 way }
-        requires rest { IsRestOf self.now.model.now 1000 rest }
+        requires way { IsMiddleWay self.now.model.now way }
+        requires rest { IsListRest self.now.model.now rest }
         ensures value { result ≡ to_end_on self.now.model.now self.now.d self.now.v way rest }
-        ensures range { IsWayOf self.now.model.now 10001 result }
+        ensures range { IsWholeWay self.now.model.now result }
     {
         let left = self.transit(way.at, rest.at) + rest.transits;
         Way {
@@ -205,7 +207,7 @@ impl<'m> Guide<'m> {
     pub fn before(&self, node: u32, rest: Rest) -> Rest
         requires guide { IsGuide self.now }
         requires node { node < self.now.model.now.nodes }
-        requires rest { IsRestOf self.now.model.now 1000 rest }
+        requires rest { IsListRest self.now.model.now rest }
         ensures { result ≡ before_rest self.now.model.now self.now.d self.now.v node rest }
     {
         let transits = self.transit(node, rest.at) + rest.transits;
@@ -220,7 +222,7 @@ impl<'m> Guide<'m> {
     #[inline(always)]
     pub fn span_by(&self, way: Way) -> i64
         requires guide { IsGuide self.now }
-        requires way { IsWayOf self.now.model.now 10001 way }
+        requires way { IsWholeWay self.now.model.now way }
         ensures { result ≡ span_by_way self.now.model.now self.now.d self.now.v way }
     {
         if !self.floors.free[self.v as usize] {

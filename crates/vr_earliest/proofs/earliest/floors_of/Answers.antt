@@ -1,7 +1,7 @@
 use Rattle.std.proofs.Common.{◌∙◌, ℕ, ◌+◌, length-append, ap, subst, sym}
 use Rattle.vr_earliest.specs.declared.floors.Floors.{Floors}
 use Rattle.vr_earliest.specs.Floors.{AreFloors}
-use Rattle.vr_earliest.proofs.FloorLemmas.{each-push}
+use Rattle.vr_parts.proofs.RowLemmas.{each-push}
 use Rattle.vr_earliest.proofs.earliest.floors_of.Goals as goal
 
 pub loop-d-preserved : goal.loop-d-preserved

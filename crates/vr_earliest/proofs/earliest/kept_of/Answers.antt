@@ -1,7 +1,7 @@
 use Rattle.std.proofs.Common.{◌∙◌, ℕ, ◌+◌, List, length-append, ap, subst, sym}
 use Rattle.vr_earliest.specs.declared.kept.Kept.{Kept}
 use Rattle.vr_earliest.specs.Kept.{HaveWays}
-use Rattle.vr_earliest.proofs.FloorLemmas.{each-push}
+use Rattle.vr_parts.proofs.RowLemmas.{each-push}
 use Rattle.vr_earliest.proofs.earliest.kept_of.Goals as goal
 
 pub loop-d-preserved : goal.loop-d-preserved

@@ -7,7 +7,7 @@ use Rattle.vr_earliest.specs.declared.kept.Kept.{Kept}
 use Rattle.vr_earliest.specs.Kept.{HaveAllWays}
 use Rattle.vr_parts.proofs.PartLemmas.{is-part, small}
 use Rattle.vr_parts.proofs.SumLemmas.{upto, upto-many, upto-next}
-use Rattle.vr_earliest.proofs.KeptLemmas.{written}
+use Rattle.vr_parts.proofs.RowLemmas.{written}
 use Rattle.vr_earliest.proofs.earliest.Earliest.commit.Goals as goal
 
 pub join_into-requires-clause-room : goal.join_into-requires-clause-room

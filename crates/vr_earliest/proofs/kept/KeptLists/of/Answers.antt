@@ -3,7 +3,7 @@ use Rattle.std.specs.Prelude.{All}
 use Rattle.vr_model.specs.routes.Routes.{route}
 use Rattle.vr_earliest.specs.declared.kept.Kept.{Kept}
 use Rattle.vr_earliest.specs.Kept.{HasWays}
-use Rattle.vr_earliest.proofs.FloorLemmas.{each-push}
+use Rattle.vr_parts.proofs.RowLemmas.{each-push}
 use Rattle.vr_parts.proofs.PartLemmas.{small}
 use Rattle.vr_earliest.proofs.kept.KeptLists.of.Goals as goal
 
