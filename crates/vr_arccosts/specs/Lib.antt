@@ -1,3 +1,4 @@
 pub mod Chains
+pub mod Bounds
 pub mod Along
 pub mod ArcMoves

@@ -7,6 +7,7 @@ ghost use Rattle.vr_model.specs.tables.WellFormed.{IsIn, IsWellFormed};
 ghost use Rattle.vr_sums.specs.Sums.{HaveRange};
 ghost use Rattle.vr_arccosts.specs.Chains.{chain_of, chain_sum};
 ghost use Rattle.vr_arccosts.specs.Along.{between_cost, IsAlong, IsAlongTo, IsArc};
+ghost use Rattle.vr_arccosts.specs.Bounds.{HasRoomForStop};
 
 use vr_model::Model;
 use vr_sums::Sums;
@@ -55,7 +56,7 @@ impl Along {
         requires next { next < model.now.nodes }
         requires same { length self.old.behind ≡ length self.old.ahead }
         requires some { 0 < length self.old.ahead }
-        requires room { length self.old.ahead < 1002 }
+        requires room { HasRoomForStop self.old.ahead }
         requires ahead { HaveRange self.old.ahead }
         requires behind { HaveRange self.old.behind }
         ensures { (list : List ℕ) (n : ℕ) → IsAlongTo model.now v list n self.old → IsArc model.now v list n at next

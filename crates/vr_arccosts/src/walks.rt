@@ -7,9 +7,10 @@ ghost use Rattle.vr_model.specs.routes.Routes.{is_empty, route};
 ghost use Rattle.vr_model.specs.tables.WellFormed.{IsWellFormed};
 ghost use Rattle.vr_routes.specs.declared.pieces.Piece.TheVariants.{Chain};
 ghost use Rattle.vr_routes.specs.Pieces.{joined, nodes_of, IsWithin};
-ghost use Rattle.vr_sums.specs.Sums.{last_of, path_sum, IsUpTo};
+ghost use Rattle.vr_sums.specs.Sums.{last_of, path_sum};
 ghost use Rattle.vr_arccosts.specs.Chains.{chain_sum, first_of, turned};
 ghost use Rattle.vr_arccosts.specs.Along.{between_cost, AreAlong};
+ghost use Rattle.vr_arccosts.specs.Bounds.{IsChainCost, IsGapCost, IsPathCost, IsPieceFurther};
 
 use crate::costs::ArcCosts;
 use crate::lines::Along;
@@ -54,7 +55,7 @@ pub fn cost_between(
     requires to_known { gap.to < costs.now.model.now.nodes }
     ensures value { result ≡ between_cost costs.now.model.now costs.now.vehicle
         (route routes.now.lists costs.now.vehicle) gap.front gap.behind (joined routes.now.lists pieces.now) }
-    ensures range { IsUpTo 8009 result }
+    ensures range { IsGapCost result }
 {
     if is_left_empty(routes, costs.vehicle, gap, pieces) {
         return 0;
@@ -140,7 +141,7 @@ fn path_along(costs: &ArcCosts, along: &[Along], routes: &Routes, at: u32, piece
     ensures cost { result.cost
         ≡ path_sum (arc_cost costs.now.model.now costs.now.vehicle) at (joined routes.now.lists pieces.now) }
     ensures known { result.at < costs.now.model.now.nodes }
-    ensures range { IsUpTo 8008 result.cost }
+    ensures range { IsPathCost result.cost }
 {
     let mut path = Path { at, cost: 0 };
     for k in 0..pieces.len() {
@@ -161,11 +162,11 @@ impl Path {
         requires within { IsWithin routes.now.lists piece }
         requires nodes { All (λ node. node < costs.now.model.now.nodes) (nodes_of routes.now.lists piece) }
         requires at { self.at < costs.now.model.now.nodes }
-        requires cost { IsUpTo 8008 self.cost }
+        requires cost { IsPathCost self.cost }
         ensures at { result.at ≡ last_of self.at (nodes_of routes.now.lists piece) }
         ensures cost { let cost = arc_cost costs.now.model.now costs.now.vehicle in
             result.cost ≡ self.cost +ℤ path_sum cost self.at (nodes_of routes.now.lists piece) }
-        ensures range { (n : ℕ) → IsUpTo n self.cost → IsUpTo (n + 1001) result.cost }
+        ensures range { IsPieceFurther self.cost result.cost }
     {
         match piece {
             Piece::Node { node } => self.through(costs, node, node, 0),
@@ -192,12 +193,12 @@ impl Path {
         requires vehicle { costs.now.vehicle < length costs.now.model.now.vehicles }
         requires at { self.at < costs.now.model.now.nodes }
         requires first { first < costs.now.model.now.nodes }
-        requires cost { IsUpTo 8008 self.cost }
-        requires inner { IsUpTo 1000 inner }
+        requires cost { IsPathCost self.cost }
+        requires inner { IsChainCost inner }
         ensures at { result.at ≡ last }
         ensures cost { result.cost
             ≡ self.cost +ℤ (arc_cost costs.now.model.now costs.now.vehicle self.at first +ℤ inner) }
-        ensures range { (n : ℕ) → IsUpTo n self.cost → IsUpTo (n + 1001) result.cost }
+        ensures range { IsPieceFurther self.cost result.cost }
     {
         Path {
             at: last,
@@ -248,7 +249,7 @@ fn chain_cost(
         (nodes_of routes.now.lists (Chain w from to reversed)) }
     ensures value { result ≡ chain_sum (arc_cost costs.now.model.now costs.now.vehicle)
         (nodes_of routes.now.lists (Chain w from to reversed)) }
-    ensures range { IsUpTo 1000 result }
+    ensures range { IsChainCost result }
 {
     let vehicles = &costs.model.vehicles;
     if vehicles.get(costs.vehicle as usize).costs != vehicles.get(w as usize).costs {
@@ -265,7 +266,7 @@ fn costs_along(costs: &ArcCosts, reversed: bool, chain: &[u32]) -> i64
     requires few { length chain.now ≤ 1000 }
     requires nodes { All (λ node. node < costs.now.model.now.nodes) chain.now }
     ensures value { result ≡ chain_sum (turned reversed (arc_cost costs.now.model.now costs.now.vehicle)) chain.now }
-    ensures range { IsUpTo 1000 result }
+    ensures range { IsChainCost result }
 {
     let mut cost = 0;
     for k in 1..chain.len() {
