@@ -41,6 +41,14 @@ pub record AreSaved (model : Model) (saved : List ℤ) : Type 0 where
 abbrev pub AreFew : List ℤ → Type 0
 AreFew saved = (node : ℕ) → IsUpTo 1 (number_at saved node)
 
+-- what some nodes come to: a penalty for each of 1000 nodes at most
+abbrev pub IsForNodes : ℤ → Type 0
+IsForNodes = IsUpTo 1000
+
+-- what the nodes of pieces come to: a penalty for each of 1000 nodes at most of 18 pieces at most
+abbrev pub IsForPieces : ℤ → Type 0
+IsForPieces = IsUpTo 18000
+
 -- what the nodes of pieces save
 abbrev pub saved_in : List ℤ → List (List ℕ) → List Piece → ℤ
 saved_in saved lists pieces = total_by (λ piece. total_by (number_at saved) (nodes_of lists piece)) pieces

@@ -13,7 +13,8 @@ ghost use Rattle.vr_routes.specs.Pieces.{changed, nodes_of, IsWithin};
 ghost use Rattle.vr_parts.specs.Bounds.{IsAddedByChange};
 ghost use Rattle.vr_parts.specs.Parts.{NothingReady};
 ghost use Rattle.vr_sums.specs.Sums.{IsUpTo};
-ghost use Rattle.vr_usecosts.specs.Groups.{pay, saved_by, saved_in as saved_in_of, AreSaved, AreFew, StandsGroups};
+ghost use Rattle.vr_usecosts.specs.Groups.{pay, saved_by, saved_in as saved_in_of, AreSaved, AreFew};
+ghost use Rattle.vr_usecosts.specs.Groups.{IsForNodes, IsForPieces, StandsGroups};
 
 use std::alloc::Global;
 use std::marker::Model;
@@ -126,7 +127,7 @@ fn saved_by_nodes(saved: &Seq<i64>, nodes: &[u32]) -> i64
     requires few { AreFew saved.now }
     requires few_nodes { length nodes.now ≤ 1000 }
     ensures value { result ≡ total_by (number_at saved.now) nodes.now }
-    ensures range { IsUpTo 1000 result }
+    ensures range { IsForNodes result }
 {
     let mut total = 0;
     for k in 0..nodes.len() {
@@ -140,7 +141,7 @@ fn saved_by_piece(saved: &Seq<i64>, routes: &Routes, piece: Piece) -> i64
     requires few { AreFew saved.now }
     requires within { IsWithin routes.now.lists piece }
     ensures value { result ≡ total_by (number_at saved.now) (nodes_of routes.now.lists piece) }
-    ensures range { IsUpTo 1000 result }
+    ensures range { IsForNodes result }
 {
     match piece {
         Piece::Node { node } => saved_by_nodes(saved, &[node]),
@@ -159,7 +160,7 @@ fn saved_in(saved: &Seq<i64>, routes: &Routes, pieces: &[Piece]) -> i64
     requires within { All (IsWithin routes.now.lists) pieces.now }
     requires few_pieces { length pieces.now ≤ 18 }
     ensures value { result ≡ saved_in_of saved.now routes.now.lists pieces.now }
-    ensures range { IsUpTo 18000 result }
+    ensures range { IsForPieces result }
 {
     let mut total = 0;
     for k in 0..pieces.len() {
@@ -173,7 +174,7 @@ fn for_each(penalty: i64, nodes: u32) -> i64
     requires penalty { IsUpTo 1 penalty }
     requires few { nodes ≤ 1000 }
     ensures value { result ≡ (penalty *ℤ pos nodes) }
-    ensures range { IsUpTo 1000 result }
+    ensures range { IsForNodes result }
 {
     penalty * i64::from(nodes)
 }
@@ -184,7 +185,7 @@ fn penalty_of(routes: &Routes, group: &Group) -> i64
     requires few { group.now.max ≤ 1000 }
     requires fits { IsTrue (fits_group routes.now.lists group.now) }
     ensures value { result ≡ penalty_for group.now.penalty group.now.max (active_in_of routes.now.lists group.now) }
-    ensures range { IsUpTo 1000 result }
+    ensures range { IsForNodes result }
 {
     let active = active_in(routes, group);
     match group.penalty {
