@@ -1,3 +1,4 @@
+pub mod AfterChanges
 pub mod PartTours
 pub mod PartEnds
 pub mod PartWeights

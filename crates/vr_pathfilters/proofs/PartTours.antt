@@ -21,7 +21,7 @@ use Rattle.vr_walks.specs.Lists.{IsTour}
 use Rattle.vr_pathfilters.specs.Lists.{holds_of_each}
 use Rattle.vr_filter.specs.Filters.{after}
 use Rattle.vr_pathfilters.specs.TourLists.{AreTours}
-use Rattle.vr_pathfilters.specs.AfterChanges.{tours_after}
+use Rattle.vr_pathfilters.proofs.AfterChanges.{tours_after}
 
 in_of_held : (xs : List ℕ) (x : ℕ) → IsTrue (holds xs x) → In xs x
 in_of_held [] x h = absurd (clash false h refl)

@@ -1,5 +1,5 @@
 -- The rule of groups, and what is kept of them.
-use Rattle.std.specs.Prelude.{◌≡◌, ℕ, ◌+◌, Bool, true, cond, ◌&&◌, ◌||◌, ◌==◌, nat_lt, nat_le, IsTrue, List}
+use Rattle.std.specs.Prelude.{◌≡◌, ℕ, ◌+◌, ◌≤◌, Bool, true, cond, ◌&&◌, ◌||◌, ◌==◌, nat_lt, nat_le, IsTrue, List}
 use Rattle.std.specs.Prelude.{length, is_some}
 use Rattle.std.specs.List.{list_all}
 use Rattle.vr_model.specs.routes.Rules.{active_in, fits_group, has_required, has_enough}
@@ -26,6 +26,10 @@ one_of numbers g node = cond (number_of numbers node == g) 1 0
 -- how many nodes of pieces are of group g
 abbrev pub many_of : List ℕ → List (List ℕ) → List Piece → ℕ → ℕ
 many_of numbers lists pieces g = over_pieces (one_of numbers g) lists pieces
+
+-- no more than 18 pieces of 1000 nodes have
+abbrev pub IsInPieces : ℕ → Type 0
+IsInPieces many = many ≤ 18000
 
 -- as many nodes of group g may come and go: as many of them; or it has a penalty, and no more come than go, or there is
 -- room for them

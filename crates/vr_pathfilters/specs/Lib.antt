@@ -1,6 +1,5 @@
 pub mod Lists
 pub mod TourLists
-pub mod AfterChanges
 pub mod Vehicles
 pub mod Known
 pub mod ListFilters

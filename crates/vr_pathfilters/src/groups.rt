@@ -11,7 +11,7 @@ ghost use Rattle.vr_routes.specs.Tours.{Tours};
 ghost use Rattle.vr_balance.specs.Balances.{IsBalance, AreWithin};
 ghost use Rattle.vr_filter.specs.Filters.{after, IsSameRule, IsSameWeight, NothingReady};
 ghost use Rattle.vr_lists.specs.Nodes.{number_of};
-ghost use Rattle.vr_pathfilters.specs.Groups.{keeps_groups, one_of, many_of};
+ghost use Rattle.vr_pathfilters.specs.Groups.{keeps_groups, many_of, one_of, IsInPieces};
 ghost use Rattle.vr_pathfilters.specs.Groups.{allows_number, allows_node, allows_pieces, KnowsGroups, IsGroupsReady};
 
 use std::alloc::Global;
@@ -85,7 +85,7 @@ fn many_in_pieces(numbers: &Seq<u32>, routes: &Routes, pieces: &[Piece], g: u32)
     requires within { All (IsWithin routes.now.lists) pieces.now }
     requires few { length pieces.now ≤ 18 }
     ensures value { result ≡ many_of numbers.now routes.now.lists pieces.now g }
-    ensures few { result ≤ 18000 }
+    ensures few { IsInPieces result }
 {
     let mut many = 0;
     for k in 0..pieces.len() {
@@ -97,8 +97,8 @@ fn many_in_pieces(numbers: &Seq<u32>, routes: &Routes, pieces: &[Piece], g: u32)
 // Whether so many nodes of group g may come and go.
 fn allows(model: &Model, routes: &Routes, g: u32, come: usize, gone: usize) -> bool
     requires well_formed { IsWellFormed model.now }
-    requires few { come ≤ 18000 }
-    requires few_too { gone ≤ 18000 }
+    requires few { IsInPieces come }
+    requires few_too { IsInPieces gone }
     ensures { result ≡ allows_number model.now routes.now.lists g come gone }
 {
     if come == gone {

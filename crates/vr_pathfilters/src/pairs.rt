@@ -107,9 +107,6 @@ fn takes_turns<'a>(
 {
     routes.know_once();
     let counted = NewCounts::of(lookups, turns, routes.list(v), front, behind, middle);
-    if !counted.keeps_order(policy) {
-        return false;
-    }
     let new = NewList {
         routes,
         v,

@@ -68,14 +68,6 @@ module _ (old middle : List ℕ) (front behind : ℕ) (seams : AreSeams (length 
   abbrev pub IsKeptPlace : ℕ → ℕ → Type 0
   IsKeptPlace now before = ((now < front) × (before ≡ now)) ⊎ ((j : ℕ) × (now ≡ front + length middle + j) × (before ≡ behind + j) × (behind + j < length old))
 
-  pub front_place : (x : ℕ) → place_of old x < front → place_of changed x ≡ place_of old x
-  front_place x low =
-      let n = long old middle front behind seams in
-      let order = seams.order in
-      let high = seams.high in
-      sym (place_is changed x (place_of old x) distinct (omega (arith, n, low))
-      (at_front old middle front behind seams (place_of old x) low ∙ place_found old x (omega (arith, low, order, high))))
-
   pub back_place : (x j : ℕ) → place_of old x ≡ behind + j → behind + j < length old → place_of changed x ≡ front + length middle + j
   back_place x j at low =
       let n = long old middle front behind seams in
@@ -84,22 +76,39 @@ module _ (old middle : List ℕ) (front behind : ℕ) (seams : AreSeams (length 
       sym (place_is changed x k distinct (omega (arith, n, low))
       (at_back old middle front behind seams k (omega arith) (omega arith) ∙ (ap (slice_index old) same ∙ place_found old x (omega (arith, at, low)))))
 
+  pub kept_front : (x : ℕ) → place_of changed x < front → place_of old x ≡ place_of changed x
+  kept_front x low =
+      let n = long old middle front behind seams in
+      let order = seams.order in
+      let high = seams.high in
+      sym (place_is old x (place_of changed x) distinct_old (omega (arith, low, order, high))
+      (sym (at_front old middle front behind seams (place_of changed x) low) ∙ place_found changed x (omega (arith, n, low))))
+
+  pub kept_back : (x j : ℕ) → place_of changed x ≡ front + length middle + j → place_of changed x < length changed → (place_of old x ≡ behind + j) × (behind + j < length old)
+  kept_back x j now low =
+      let k : ℕ = place_of changed x in
+      let n = long old middle front behind seams in
+      let high = seams.high in
+      let same : k - front - length middle + behind ≡ behind + j = omega (arith, now) in
+      let low_too : behind + j < length old = omega (arith, low, n, now, high) in (
+        sym (place_is old x (behind + j) distinct_old low_too
+            (ap (slice_index old) (sym same) ∙ (sym (at_back old middle front behind seams k (omega (arith, now)) (omega (arith, now))) ∙ place_found changed x low))),
+        low_too,
+      )
+
   -- a node that is not one of the new ones
   pub kept_place : (x : ℕ) → place_of changed x < length changed → holds middle x ≡ false → IsKeptPlace (place_of changed x) (place_of old x)
   kept_place x low none =
       let k : ℕ = place_of changed x in
-      let n = long old middle front behind seams in
       let at = place_found changed x low in
-      let order = seams.order in
-      let high = seams.high in
       elim (cases_lt k front) [
-        | inl before ↦ inl (before, sym (place_is old x k distinct_old (omega (arith, before, order, high)) (sym (at_front old middle front behind seams k before) ∙ at)))
+        | inl before ↦ inl (before, kept_front x before)
         | inr past ↦ elim (cases_lt (k - front) (length middle)) [
           | inl inside ↦ absurd (clash (holds middle x) (held_at middle x (k - front) inside (sym (at_middle old middle front behind seams k past inside) ∙ at)) none)
           | inr later ↦ (
               let j : ℕ = k - front - length middle in
-              let low_too : j + behind < length old = omega (arith, low, n, past, later) in
-              let is = place_is old x (j + behind) distinct_old low_too (sym (at_back old middle front behind seams k past later) ∙ at) in
-              inr (j, omega (arith, past, later), omega (arith, is), omega (arith, low_too)))
+              let now : k ≡ front + length middle + j = omega (arith, past, later) in
+              let before = kept_back x j now low in
+              inr (j, now, before.0, before.1))
         ]
       ]

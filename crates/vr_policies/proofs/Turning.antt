@@ -195,14 +195,17 @@ module _ (model : Model) (well_formed : IsWellFormed model) (list : List ℕ) (d
     | inr not_less ↦ Prim.grind (arith, nat_tests)
   ]
 
+  -- where the pairs come in turn, the first in is the first out
+  pub first_out : IsTrue (takes_turns model Fifo list) → (x y : Pair) → In model.pairs x → In model.pairs y → start x < length list → start y < length list → start x < start y → end x < end y
+  first_out turns = counts_first model.pairs start end (length list) are_served
+      (λ z among low. eq_of_test (early (start z)) (late (end z)) (sym (first_turn z among low) ∙ turn_of Fifo turns z among low))
+
   first_same : keeps Fifo ≡ takes_turns model Fifo list
   first_same = same_tests (keeps Fifo) (takes_turns model Fifo list)
       (λ kept. turns_of Fifo (λ x among low. first_turn x among low ∙ test_of_eq (early (start x)) (late (end x))
       (first_counts model.pairs start end (length list) are_served
       (λ x y a b l m order. first_order (start x) (start y) (end x) (end y) (allowed Fifo kept x y a b l m) order) x among low)))
-      (λ turns. all_allowed Fifo (λ x y a b l m. order_first (start x) (start y) (end x) (end y)
-      (counts_first model.pairs start end (length list) are_served
-      (λ z among low. eq_of_test (early (start z)) (late (end z)) (sym (first_turn z among low) ∙ turn_of Fifo turns z among low)) x y a b l m)))
+      (λ turns. all_allowed Fifo (λ x y a b l m. order_first (start x) (start y) (end x) (end y) (first_out turns x y a b l m)))
 
   last_same : keeps Lifo ≡ takes_turns model Lifo list
   last_same = same_tests (keeps Lifo) (takes_turns model Lifo list)

@@ -18,6 +18,10 @@ counts model nodes = record { pickups = pickups_in model nodes; deliveries = del
 abbrev pub no_counts : Counts
 no_counts = record { pickups = 0; deliveries = 0 }
 
+-- no more than three lists of 1000 nodes have
+abbrev pub IsOfThreeLists : ℕ → Type 0
+IsOfThreeLists many = many ≤ 3000
+
 -- what a table has of a node
 abbrev pub count_of : List Counts → ℕ → Counts
 count_of table node = slice_index_or table node no_counts

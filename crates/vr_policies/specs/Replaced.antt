@@ -1,6 +1,5 @@
 -- Which pairs come in turn where other nodes stand in the place of a stretch of a list.
-use Rattle.std.specs.Prelude.{◌≡◌, ℕ, ◌+◌, Bool, true, ◌==◌, ◌&&◌, ◌||◌}
-use Rattle.std.specs.Prelude.{nat_le, List, length, take, IsTrue, Option, Some, None}
+use Rattle.std.specs.Prelude.{◌≡◌, ℕ, Bool, true, List, length, IsTrue, Option, Some, None}
 use Rattle.std.specs.List.{list_all}
 use Rattle.vr_model.specs.first.Items.{pair_of}
 use Rattle.vr_model.specs.tables.WellFormed.{IsWellFormed}
@@ -9,9 +8,8 @@ use Rattle.vr_model.specs.routes.Rules.{serves_pair}
 use Rattle.vr_model.specs.declared.records.Model.{Model}
 use Rattle.vr_model.specs.declared.records.Pair.{Pair}
 use Rattle.vr_model.specs.declared.records.Policy.{Policy}
-use Rattle.vr_model.specs.declared.records.Policy.TheVariants.{Any, Lifo, Fifo}
 use Rattle.vr_walks.specs.Spliced.{AreSeams, spliced}
-use Rattle.vr_policies.specs.Turns.{deliveries_in, is_in_turn, pickups_in, takes_turns}
+use Rattle.vr_policies.specs.Turns.{is_in_turn, takes_turns}
 
 -- a list, and other nodes in the place of a stretch of it
 pub record Replaced : Type 0 where
@@ -34,19 +32,10 @@ is_in_turn_if_any model policy list (Some pair) = is_in_turn model policy list p
 abbrev pub comes_in_turn : Model → Policy → List ℕ → ℕ → Bool
 comes_in_turn model policy list node = is_in_turn_if_any model policy list (pair_of model node)
 
--- first in first out, up to the end of the new stretch as many are delivered as up to the end of the old one, or what
--- is picked up before the stretch is delivered before its end
-abbrev pub keeps_order : Model → Policy → List ℕ → ℕ → ℕ → List ℕ → Bool
-keeps_order model Any old front behind middle = true
-keeps_order model Lifo old front behind middle = true
-keeps_order model Fifo old front behind middle =
-    ((deliveries_in model (take front old) + deliveries_in model middle) == deliveries_in model (take behind old))
-    || nat_le (pickups_in model (take front old)) (deliveries_in model (take behind old))
-
--- the pairs of the new nodes come in turn, and those that begin before them and end behind them do
+-- the pairs of the new nodes come in turn
 abbrev pub takes_turns_between : Model → Policy → List ℕ → ℕ → ℕ → List ℕ → Bool
-takes_turns_between model policy old front behind middle = keeps_order model policy old front behind middle
-    && list_all (comes_in_turn model policy (spliced old front behind middle)) middle
+takes_turns_between model policy old front behind middle =
+    list_all (comes_in_turn model policy (spliced old front behind middle)) middle
 
 -- a list of distinct nodes that serves each pair
 pub record Serves (model : Model) (list : List ℕ) : Type 0 where
@@ -54,7 +43,7 @@ pub record Serves (model : Model) (list : List ℕ) : Type 0 where
   pub each_pair : IsTrue (list_all (serves_pair list) model.pairs)
 
 -- where the pairs of a list come in turn, all pairs do with other nodes in the place of a stretch exactly where those
--- of the new nodes do, and those that begin before them and end behind them
+-- of the new nodes do: then pairs that begin before them and end behind them come in turn too
 abbrev pub TurnsAreBetween : Type 0
 TurnsAreBetween = (model : Model) (policy : Policy) (old middle : List ℕ) (front behind : ℕ) → IsWellFormed model
     → AreSeams (length old) front behind → Serves model old → Serves model (spliced old front behind middle)

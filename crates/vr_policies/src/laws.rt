@@ -9,7 +9,7 @@ pub fn turns_are_policies()
 {}
 
 /// Where other nodes stand in the place of a stretch of a list whose pairs come in turn, all pairs come in turn exactly
-/// where those of the new nodes do, and those that begin before them and end behind them.
+/// where those of the new nodes do.
 pub fn turns_are_between()
     ensures { TurnsAreBetween }
 {}

@@ -2,9 +2,9 @@
 
 ghost use Rattle.std.specs.Prelude.{◌≡◌, ◌+◌, ◌<◌, ◌≤◌, ◌^◌, length, take};
 ghost use Rattle.vr_walks.specs.Spliced.{AreSeams, spliced};
-ghost use Rattle.vr_policies.specs.Counted.{AreCounted, counts};
+ghost use Rattle.vr_policies.specs.Counted.{counts, AreCounted, IsOfThreeLists};
 ghost use Rattle.vr_policies.specs.Turns.{are_in_turn as are_in_turn_in};
-ghost use Rattle.vr_policies.specs.Replaced.{keeps_order as keeps_order_of, list_of};
+ghost use Rattle.vr_policies.specs.Replaced.{list_of};
 
 use crate::counts::{Counts, counts_before};
 use crate::turns::Turns;
@@ -106,8 +106,8 @@ impl<'a, 'm> NewCounts<'a, 'm> {
     fn before(&self, place: usize) -> Counts
         requires place { place ≤ 2 ^ 32 }
         ensures value { result ≡ counts self.now.model (take place (list_of self.now)) }
-        ensures pickups { result.pickups ≤ 3000 }
-        ensures deliveries { result.deliveries ≤ 3000 }
+        ensures pickups { IsOfThreeLists result.pickups }
+        ensures deliveries { IsOfThreeLists result.deliveries }
     {
         let front = self.front as usize;
         if place <= front {
@@ -146,26 +146,6 @@ impl<'a, 'm> NewCounts<'a, 'm> {
                 let a = self.before(pickup as usize);
                 let b = self.before(delivery as usize);
                 a.pickups == b.deliveries
-            }
-        }
-    }
-
-    /// Whether pairs that begin before the nodes between and end behind them come in turn with these, where they came
-    /// in turn before.
-    #[inline]
-    pub fn keeps_order(&self, policy: Policy) -> bool
-        ensures { result ≡ keeps_order_of self.now.model policy self.now.old self.now.front self.now.behind
-            self.now.middle }
-    {
-        match policy {
-            Policy::Any => true,
-            Policy::Lifo => true,
-            Policy::Fifo => {
-                let at_front = self.listed(self.front as usize);
-                let inside = self.between(self.middle.len());
-                let at_behind = self.listed(self.behind as usize);
-                at_front.deliveries + inside.deliveries == at_behind.deliveries
-                    || at_front.pickups <= at_behind.deliveries
             }
         }
     }

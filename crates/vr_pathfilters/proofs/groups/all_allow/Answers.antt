@@ -1,7 +1,7 @@
 use Rattle.std.proofs.Common.{sym, ap, ◌∙◌}
 use Rattle.std.specs.Prelude.{◌&&◌}
 use Rattle.vr_filter.specs.Filters.{after}
-use Rattle.vr_pathfilters.specs.AfterChanges.{tours_after}
+use Rattle.vr_pathfilters.proofs.AfterChanges.{tours_after}
 use Rattle.vr_pathfilters.specs.Groups.{allows_pieces}
 use Rattle.vr_pathfilters.proofs.GroupLemmas.{whole}
 use Rattle.vr_pathfilters.proofs.groups.all_allow.Goals as goal

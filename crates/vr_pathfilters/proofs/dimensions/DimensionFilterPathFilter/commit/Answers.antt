@@ -2,7 +2,7 @@ use Rattle.std.proofs.Common.{◌≡◌, length, sym, subst, ◌∙◌}
 use Rattle.vr_model.specs.tables.WellFormed.{WherePresent}
 use Rattle.vr_loads.specs.Kept.{AreCarried}
 use Rattle.vr_pathfilters.specs.Known.{AreKnown, KnowsLoads, with_part}
-use Rattle.vr_pathfilters.specs.AfterChanges.{tours_after}
+use Rattle.vr_pathfilters.proofs.AfterChanges.{tours_after}
 use Rattle.vr_pathfilters.proofs.Knowing.{both_parts, as_many_with_part}
 use Rattle.vr_pathfilters.proofs.dimensions.DimensionFilterPathFilter.commit.Goals as goal
 

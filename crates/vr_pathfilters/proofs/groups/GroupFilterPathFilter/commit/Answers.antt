@@ -1,4 +1,4 @@
-use Rattle.vr_pathfilters.specs.AfterChanges.{tours_after}
+use Rattle.vr_pathfilters.proofs.AfterChanges.{tours_after}
 use Rattle.vr_pathfilters.proofs.groups.GroupFilterPathFilter.commit.Goals as goal
 
 pub returns-clause-stands : goal.returns-clause-stands
