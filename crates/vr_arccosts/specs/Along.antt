@@ -49,6 +49,14 @@ abbrev pub AreAlong : Model → List (List ℕ) → List Along → Type 0
 AreAlong model lists along = (v : ℕ) → v < length lists
     → IsAlong model v (route lists v) (slice_index_or along v no_sums)
 
+-- vehicle v is one of a well-formed model, and the sums are those of the lists of all its vehicles
+pub record HaveAlong (model : Model) (v : ℕ) (lists : List (List ℕ)) (kept : List Along) : Type 0 where
+  pub well_formed : IsWellFormed model
+  pub vehicle : v < length model.vehicles
+  pub as_many : length lists ≡ length model.vehicles
+  pub many : length kept ≡ length model.vehicles
+  pub along : AreAlong model lists kept
+
 -- what contracts see of the arc costs that are kept
 pub record KeptAlong : Type 0 where
   pub model : Model

@@ -9,7 +9,7 @@ ghost use Rattle.vr_routes.specs.declared.pieces.Piece.TheVariants.{Chain};
 ghost use Rattle.vr_routes.specs.Pieces.{joined, nodes_of, IsWithin};
 ghost use Rattle.vr_sums.specs.Sums.{last_of, path_sum};
 ghost use Rattle.vr_arccosts.specs.Chains.{chain_sum, first_of, turned};
-ghost use Rattle.vr_arccosts.specs.Along.{between_cost, AreAlong};
+ghost use Rattle.vr_arccosts.specs.Along.{between_cost, HaveAlong};
 ghost use Rattle.vr_arccosts.specs.Bounds.{IsChainCost, IsGapCost, IsPathCost, IsPieceFurther};
 
 use crate::costs::ArcCosts;
@@ -37,11 +37,7 @@ pub fn cost_between(
     gap: Gap,
     pieces: &[Piece],
 ) -> i64
-    requires well_formed { IsWellFormed costs.now.model.now }
-    requires many { length along.now ≡ length costs.now.model.now.vehicles }
-    requires as_many { length routes.now.lists ≡ length costs.now.model.now.vehicles }
-    requires along { AreAlong costs.now.model.now routes.now.lists along.now }
-    requires vehicle { costs.now.vehicle < length costs.now.model.now.vehicles }
+    requires have { HaveAlong costs.now.model.now costs.now.vehicle routes.now.lists along.now }
     requires within { All (IsWithin routes.now.lists) pieces.now }
     requires few { length pieces.now ≤ 8 }
     requires nodes { All (λ node. node < costs.now.model.now.nodes) (joined routes.now.lists pieces.now) }
@@ -128,11 +124,7 @@ struct Path {
 // The path of a vehicle from a node along pieces.
 #[inline(always)]
 fn path_along(costs: &ArcCosts, along: &[Along], routes: &Routes, at: u32, pieces: &[Piece]) -> Path
-    requires well_formed { IsWellFormed costs.now.model.now }
-    requires many { length along.now ≡ length costs.now.model.now.vehicles }
-    requires as_many { length routes.now.lists ≡ length costs.now.model.now.vehicles }
-    requires along { AreAlong costs.now.model.now routes.now.lists along.now }
-    requires vehicle { costs.now.vehicle < length costs.now.model.now.vehicles }
+    requires have { HaveAlong costs.now.model.now costs.now.vehicle routes.now.lists along.now }
     requires within { All (IsWithin routes.now.lists) pieces.now }
     requires few { length pieces.now ≤ 8 }
     requires nodes { All (λ node. node < costs.now.model.now.nodes) (joined routes.now.lists pieces.now) }
@@ -154,11 +146,7 @@ impl Path {
     // The path goes on along a piece.
     #[inline(always)]
     fn along(self, costs: &ArcCosts, along: &[Along], routes: &Routes, piece: Piece) -> Path
-        requires well_formed { IsWellFormed costs.now.model.now }
-        requires many { length along.now ≡ length costs.now.model.now.vehicles }
-        requires as_many { length routes.now.lists ≡ length costs.now.model.now.vehicles }
-        requires along { AreAlong costs.now.model.now routes.now.lists along.now }
-        requires vehicle { costs.now.vehicle < length costs.now.model.now.vehicles }
+        requires have { HaveAlong costs.now.model.now costs.now.vehicle routes.now.lists along.now }
         requires within { IsWithin routes.now.lists piece }
         requires nodes { All (λ node. node < costs.now.model.now.nodes) (nodes_of routes.now.lists piece) }
         requires at { self.at < costs.now.model.now.nodes }
@@ -237,11 +225,7 @@ fn chain_cost(
     from: u32,
     to: u32,
 ) -> i64
-    requires well_formed { IsWellFormed costs.now.model.now }
-    requires many { length along.now ≡ length costs.now.model.now.vehicles }
-    requires as_many { length routes.now.lists ≡ length costs.now.model.now.vehicles }
-    requires along { AreAlong costs.now.model.now routes.now.lists along.now }
-    requires vehicle { costs.now.vehicle < length costs.now.model.now.vehicles }
+    requires have { HaveAlong costs.now.model.now costs.now.vehicle routes.now.lists along.now }
     requires other { w < length costs.now.model.now.vehicles }
     requires order { from < to }
     requires within { to ≤ length (route routes.now.lists w) }

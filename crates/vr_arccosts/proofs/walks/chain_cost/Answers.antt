@@ -37,10 +37,10 @@ returns-clause-value c =
     let v = c.args.costs.now.vehicle in
     let w = c.args.w in
     let list : List ℕ = route c.args.routes.now.lists w in
-    let as_many = c.requires.as_many in
-    let many = c.requires.many in
+    let as_many = c.requires.have.as_many in
+    let many = c.requires.have.many in
     let other = c.requires.other in
-    let kept = along-at model c.args.routes.now.lists c.args.along.now w c.index-along-w.result c.requires.along (omega (arith, as_many, many)) (omega (arith, as_many, other)) c.index-along-w.is in
+    let kept = along-at model c.args.routes.now.lists c.args.along.now w c.index-along-w.result c.requires.have.along (omega (arith, as_many, many)) (omega (arith, as_many, other)) c.index-along-w.is in
     let chain : List ℕ = chain_of c.args.reversed list c.args.from c.args.to in
     let a = c.chain.ensures in
     let value = a.value model w list kept c.requires.within in
@@ -53,12 +53,12 @@ returns-clause-range c =
     let model = c.args.costs.now.model.now in
     let w = c.args.w in
     let list : List ℕ = route c.args.routes.now.lists w in
-    let as_many = c.requires.as_many in
-    let many = c.requires.many in
+    let as_many = c.requires.have.as_many in
+    let many = c.requires.have.many in
     let other = c.requires.other in
-    let kept = along-at model c.args.routes.now.lists c.args.along.now w c.index-along-w.result c.requires.along (omega (arith, as_many, many)) (omega (arith, as_many, other)) c.index-along-w.is in
+    let kept = along-at model c.args.routes.now.lists c.args.along.now w c.index-along-w.result c.requires.have.along (omega (arith, as_many, many)) (omega (arith, as_many, other)) c.index-along-w.is in
     let few = few-along model w list c.index-along-w.result kept in
     let long = chain-length list c.args.from c.args.to c.requires.order c.requires.within c.args.reversed in
     let within = c.requires.within in
     subst (IsUpTo 1000) (sym (returns-clause-value c))
-    (up-to-few model c.requires.well_formed c.args.costs.now.vehicle c.requires.vehicle false (chain_of c.args.reversed list c.args.from c.args.to) (omega (arith, few, long, within)) c.requires.nodes)
+    (up-to-few model c.requires.have.well_formed c.args.costs.now.vehicle c.requires.have.vehicle false (chain_of c.args.reversed list c.args.from c.args.to) (omega (arith, few, long, within)) c.requires.nodes)
