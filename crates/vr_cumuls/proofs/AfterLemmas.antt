@@ -1,44 +1,99 @@
 -- What a change makes of a list is timed by what it keeps.
-use Rattle.std.proofs.Common.{◌≡◌, ◌∙◌, ◌+◌, ◌<◌, ◌≤◌, ◌++◌, ℕ, List, Some, length, take, drop, ap, sym, subst, arith, to_z, of_z, w64}
-use Rattle.std.specs.Prelude.{pos, slice_index_or}
-use Rattle.vr_model.specs.tables.Numbers.{horizon}
+use Rattle.std.proofs.Common.{◌≡◌, ◌∙◌, ◌+◌, ◌<◌, ◌≤◌, ◌++◌, ℕ, List, [], Some, length, reverse, take, drop, ap, ap₂, sym, subst, arith, to_z, of_z, w64}
+use Rattle.std.specs.Prelude.{All, slice_index_or}
 use Rattle.std.proofs.lemmas.Int.{ints}
+use Rattle.std.proofs.lemmas.List.{drop-map, get_or-drop, map-append, reverse-append, reverse-reverse, take-append-drop}
+use Rattle.std.proofs.lemmas.List.Elements.{All-append}
 use Rattle.vr_model.specs.schedules.ChosenLaws.{ChosenIsLeast}
-use Rattle.vr_model.specs.tables.WellFormed.{IsIn, IsWellFormed}
+use Rattle.vr_model.specs.tables.WellFormed.{IsWellFormed}
 use Rattle.vr_model.specs.declared.records.Model.{Model}
 use Rattle.vr_walks.specs.Lists.{IsUsed}
 use Rattle.vr_timings.specs.Timings.{IsTiming, IsTimingOf}
+use Rattle.vr_timings.specs.declared.timings.Timing.{Timing}
 use Rattle.vr_timings.proofs.BoundLemmas.{read-cumul}
-use Rattle.vr_cumuls.specs.Kept.{AreAllStages}
-use Rattle.vr_cumuls.specs.Stages.{Runs, AreRuns, along, setting_out, whole}
+use Rattle.vr_cumuls.specs.Floors.{end_step, first_of, AreAimed, IsVisitStep, WentBack}
+use Rattle.vr_cumuls.specs.Kept.{AreSteps, HasMet}
+use Rattle.vr_cumuls.specs.Runs.{Runs, AreRuns}
+use Rattle.vr_cumuls.specs.Stages.{along, setting_out, whole}
 use Rattle.vr_cumuls.specs.declared.guides.Stage.{Stage}
-use Rattle.vr_cumuls.proofs.KeptLemmas.{gone-anew}
-use Rattle.vr_cumuls.proofs.TimingLemmas.{is-timing, last-range, soft-high, soft-low, timing-range}
+use Rattle.vr_cumuls.specs.declared.kept.Met.{Met}
+use Rattle.vr_cumuls.specs.declared.trails.Step.{Step}
+use Rattle.vr_cumuls.proofs.FloorLemmas.{aimed-append, aimed-right, first-append}
+use Rattle.vr_cumuls.proofs.StageLemmas.{along-append, whole-append}
+use Rattle.vr_cumuls.proofs.TimingLemmas.{first-range, is-timing, last-range, soft-high, soft-low, timing-range}
 
-module _ (law : ChosenIsLeast) (model : Model) (well : IsWellFormed model) (d v : ℕ) (dimension : d < length model.dimensions) (runs : Runs) (are : AreRuns model d v runs) (old : List ℕ) (stages : List Stage) (told : AreAllStages model d v runs old stages)
-    (new : List ℕ) (used : IsUsed model new) (few : length new ≤ 1000) (front behind : ℕ) (middle : List ℕ) (low : front ≤ length old) (joins : new ≡ take front old ++ (middle ++ drop behind old))
-    (first gone end start other : Stage) (first_is : first ≡ slice_index_or stages front other) (anew : along model d v runs (Some first) middle ≡ Some gone) (rest : whole model d v runs (Some gone) (drop behind old) ≡ Some end)
-    (start_is : start ≡ slice_index_or stages 0 other) where
-  whole-is : whole model d v runs (setting_out model d v runs) new ≡ Some end
-  whole-is = gone-anew model d v runs old stages told front behind middle new low joins first gone end other first_is anew rest
+-- what the chosen schedule of a list comes to, and its numbers
+pub record IsTimed (model : Model) (d v : ℕ) (list : List ℕ) (timing : Timing) : Type 0 where
+  pub is_timing : IsTiming model d v list timing
+  pub range : IsTimingOf (length list + 2) timing
 
-  out : setting_out model d v runs ≡ Some start
-  out = told.stages_are.each 0 other (omega arith) ∙ ap (λ s. Some s) (sym start_is)
+-- what is on a trail, back along the middle of a list and then along a part of its front
+trail-is : (model : Model) (d v : ℕ) (runs : Runs) (nodes middle : List ℕ) (next first : Step) (between trail : List Step) (met : Met) (back : WentBack model d v runs middle next [] between first) (meets : HasMet model d v runs nodes first between trail met)
+    → reverse trail ≡ meets.steps ++ back.steps
+trail-is model d v runs nodes middle next first between trail met back meets =
+    ap reverse (meets.trail ∙ ap (λ l. l ++ reverse meets.steps) back.trail) ∙ reverse-append (reverse back.steps) (reverse meets.steps)
+    ∙ ap₂ (λ (xs ys : List Step). xs ++ ys) (reverse-reverse meets.steps) (reverse-reverse back.steps)
 
-  soft-read : to_z w64 (of_z w64 end.soft) ≡ end.soft
-  soft-read =
-      let a = soft-low model well d v dimension runs are new used.tour law used start end out whole-is in
-      let b = soft-high model well d v dimension runs are new used.tour law used start end out whole-is in
-      omega (arith, ints, a, b, few)
+pub trail-known : (model : Model) (d v : ℕ) (runs : Runs) (nodes middle : List ℕ) (next first : Step) (between trail : List Step) (met : Met) → WentBack model d v runs middle next [] between first → HasMet model d v runs nodes first between trail met
+    → All (IsVisitStep model) (reverse trail)
+trail-known model d v runs nodes middle next first between trail met back meets =
+    subst (All (IsVisitStep model)) (sym (trail-is model d v runs nodes middle next first between trail met back meets)) (All-append (IsVisitStep model) meets.steps back.steps meets.known back.known)
 
-  last-read : to_z w64 (of_z w64 end.cumul) ≡ end.cumul
-  last-read = read-cumul end.cumul (last-range model well d v dimension runs are new used.tour law used start end out whole-is)
+-- a list keeps the front and the end of an old one: new steps were put on a trail back along its middle and along a part of the front, then gone along
+module _ (model : Model) (d v : ℕ) (runs : Runs) (old : List ℕ) (steps : List Step) (steps_are : AreSteps model d v runs old steps) (new : List ℕ) (front behind : ℕ) (middle : List ℕ) (joins : new ≡ take front old ++ (middle ++ drop behind old))
+    (next first : Step) (between trail : List Step) (next_is : next ≡ slice_index_or steps behind (end_step model v runs)) (back : WentBack model d v runs middle next [] between first)
+    (met : Met) (meets : HasMet model d v runs (take front old) first between trail met) (gone end : Stage) (anew : along model d v runs (Some met.stage) (reverse trail) ≡ Some gone)
+    (rest : whole model d v runs (Some gone) (drop behind steps) ≡ Some end) where
+  abbrev kept : List Step
+  kept = meets.kept ++ meets.steps
 
-  start-read : to_z w64 (of_z w64 start.cumul) ≡ start.cumul
-  start-read = read-cumul start.cumul (subst (IsIn (pos 0) horizon) (ap (λ (s : Stage). s.cumul) (sym start_is)) (told.stages_are.range 0 other (omega arith)).cumul)
+  abbrev left : List Step
+  left = back.steps ++ drop behind steps
 
-  pub after-timing : IsTiming model d v new (record { soft = to_z w64 (of_z w64 end.soft); start = to_z w64 (of_z w64 start.cumul); last = to_z w64 (of_z w64 end.cumul) })
-  after-timing = is-timing model well d v dimension runs are new used.tour law used start end out whole-is _ soft-read start-read last-read
+  abbrev last : Step
+  last = end_step model v runs
 
-  pub after-range : IsTimingOf (length new + 2) (record { soft = to_z w64 (of_z w64 end.soft); start = to_z w64 (of_z w64 start.cumul); last = to_z w64 (of_z w64 end.cumul) })
-  after-range = timing-range model well d v dimension runs are new used.tour law used start end out whole-is _ soft-read start-read last-read
+  next-first : first_of (drop behind steps) last ≡ next
+  next-first = get_or-drop behind steps 0 last ∙ ap (λ n. slice_index_or steps n last) (let e : behind + 0 ≡ behind = omega arith in e) ∙ sym next_is
+
+  left-first : first_of left last ≡ first
+  left-first = first-append back.steps (drop behind steps) last ∙ ap (first_of back.steps) next-first ∙ sym back.first_is
+
+  new-steps : AreSteps model d v runs new (kept ++ left)
+  new-steps = record {
+    nodes_are = map-append (λ (s : Step). s.node) kept left
+        ∙ ap₂ (λ (xs ys : List ℕ). xs ++ ys) meets.nodes_are (map-append (λ (s : Step). s.node) back.steps (drop behind steps)
+        ∙ ap₂ (λ (xs ys : List ℕ). xs ++ ys) back.nodes_are (sym (drop-map (λ (s : Step). s.node) behind steps) ∙ ap (drop behind) steps_are.nodes_are)) ∙ sym joins;
+    aimed = aimed-append model d v runs kept left last (subst (AreAimed model d v runs kept) (sym left-first) meets.aimed)
+        (aimed-append model d v runs back.steps (drop behind steps) last (subst (AreAimed model d v runs back.steps) (sym next-first) back.aimed)
+        (aimed-right model d v runs (take behind steps) (drop behind steps) last (subst (λ l. AreAimed model d v runs l last) (sym (take-append-drop behind steps)) steps_are.aimed)));
+  }
+
+  out : setting_out model d v runs (first_of (kept ++ left) (end_step model v runs)) ≡ Some meets.first
+  out = ap (setting_out model d v runs) (first-append kept left last ∙ ap (first_of kept) left-first) ∙ meets.out
+
+  whole-is : whole model d v runs (setting_out model d v runs (first_of (kept ++ left) (end_step model v runs))) (kept ++ left) ≡ Some end
+  whole-is =
+      ap (λ o. whole model d v runs o (kept ++ left)) out ∙ whole-append model d v runs (Some meets.first) kept left
+      ∙ ap (λ o. whole model d v runs o left) (along-append model d v runs (Some meets.first) meets.kept meets.steps ∙ ap (λ o. along model d v runs o meets.steps) meets.gone)
+      ∙ whole-append model d v runs (along model d v runs (Some met.stage) meets.steps) back.steps (drop behind steps)
+      ∙ ap (λ o. whole model d v runs o (drop behind steps)) (sym (along-append model d v runs (Some met.stage) meets.steps back.steps) ∙ ap (along model d v runs (Some met.stage)) (sym (trail-is model d v runs (take front old) middle next first between trail met back meets)) ∙ anew) ∙ rest
+
+  module _ (law : ChosenIsLeast) (well : IsWellFormed model) (dimension : d < length model.dimensions) (are : AreRuns model d v runs) (used : IsUsed model new) (few : length new ≤ 1000) where
+    soft-read : to_z w64 (of_z w64 end.soft) ≡ end.soft
+    soft-read =
+        let a = soft-low model well d v dimension runs are new used.tour (kept ++ left) new-steps law used meets.first end out whole-is in
+        let b = soft-high model well d v dimension runs are new used.tour (kept ++ left) new-steps law used meets.first end out whole-is in
+        omega (arith, ints, a, b, few)
+
+    last-read : to_z w64 (of_z w64 end.cumul) ≡ end.cumul
+    last-read = read-cumul end.cumul (last-range model well d v dimension runs are new used.tour (kept ++ left) new-steps law used meets.first end out whole-is)
+
+    start-read : to_z w64 (of_z w64 met.start) ≡ meets.first.cumul
+    start-read = ap (λ x. to_z w64 (of_z w64 x)) meets.start ∙ read-cumul meets.first.cumul (first-range model well d v dimension runs are new used.tour (kept ++ left) new-steps law used meets.first end out whole-is)
+
+    pub after-timed : IsTimed model d v new (record { soft = to_z w64 (of_z w64 end.soft); start = to_z w64 (of_z w64 met.start); last = to_z w64 (of_z w64 end.cumul) })
+    after-timed = record {
+      is_timing = is-timing model well d v dimension runs are new used.tour (kept ++ left) new-steps law used meets.first end out whole-is _ soft-read start-read last-read;
+      range = timing-range model well d v dimension runs are new used.tour (kept ++ left) new-steps law used meets.first end out whole-is _ soft-read start-read last-read;
+    }

@@ -1,6 +1,9 @@
 pub mod PartLemmas
+pub mod FloorLemmas
 pub mod StageLemmas
 pub mod RunLemmas
+pub mod LeastLemmas
 pub mod TimingLemmas
 pub mod KeptLemmas
+pub mod MetLemmas
 pub mod AfterLemmas

@@ -1,6 +1,6 @@
 -- Going on along stops, and with another cost behind.
 use Rattle.std.proofs.Common.{◌≡◌, ◌∙◌, ◌+◌, ◌<◌, ◌≤◌, ℕ, drop, length, Bool, true, false, cond, List, [], ◌∷◌, ◌++◌, refl, sym, ap, ap₂, subst, arith, Option, Some, None}
-use Rattle.std.specs.Prelude.{ℤ, ◌+ℤ◌, ◌-ℤ◌, ◌≤ℤ◌, ◌&&◌, IfSome, IsTrue, int_le, option_map, slice_index_or, unwrap_or}
+use Rattle.std.specs.Prelude.{ℤ, ◌+ℤ◌, ◌-ℤ◌, ◌&&◌, IsTrue, int_le, option_map, slice_index_or, unwrap_or}
 use Rattle.std.specs.Option.{option_and_then}
 use Rattle.std.proofs.lemmas.Bool.{and_parts, and_from}
 use Rattle.std.proofs.lemmas.Int.{ints}
@@ -12,8 +12,10 @@ use Rattle.vr_model.specs.tables.Tables.{dimension_at, row_of, transit, vehicle_
 use Rattle.vr_model.specs.declared.records.Model.{Model}
 use Rattle.vr_model.specs.declared.records.StopRow.{StopRow}
 use Rattle.vr_walks.specs.Early.{IsEarliestBehind}
-use Rattle.vr_cumuls.specs.Stages.{Runs, along, go_on, is_had, next_cumul, paid_more, setting_out, to_end, to_visit, visit_more, whole, IsStageOf}
+use Rattle.vr_cumuls.specs.Runs.{Runs}
+use Rattle.vr_cumuls.specs.Stages.{along, go_on, is_had, next_cumul, paid_more, to_end, to_visit, visit_more, whole, IsStageOf}
 use Rattle.vr_cumuls.specs.declared.guides.Stage.{Stage}
+use Rattle.vr_cumuls.specs.declared.trails.Step.{Step}
 
 -- ---- one stop further
 
@@ -67,15 +69,6 @@ going-as t s node allowed row stage from t_read s_read next from_is t_is s_is be
     let c = subst (λ x. IsEarliestBehind stage.cumul t x allowed next) s_is b in
     going t s node allowed row stage next soft c soft_is ∙ ap (λ (x : ℤ). Some (record { at = node; cumul = x; soft = soft })) (sym cumul_is)
 
--- a vehicle sets out where its start allows a cumul
-pub starting : (model : Model) (d v : ℕ) (runs : Runs) → runs.start.lo ≤ℤ runs.start.hi → (at : ℕ) (cumul soft : ℤ) → at ≡ (vehicle_at model v).start → cumul ≡ runs.start.lo
-    → soft ≡ row_cost (row_of (dimension_at model d).starts v) runs.start.lo → setting_out model d v runs ≡ Some (record { at = at; cumul = cumul; soft = soft })
-starting model d v runs some at cumul soft at_is cumul_is soft_is =
-    let test : int_le runs.start.lo runs.start.hi ≡ true = grind (arith, ints, some) in
-    ap (λ b. cond b (Some (record { at = (vehicle_at model v).start; cumul = runs.start.lo; soft = row_cost (row_of (dimension_at model d).starts v) runs.start.lo })) None) test
-    ∙ ap₂ (λ (n : ℕ) (x : ℤ). Some (record { at = n; cumul = x; soft = row_cost (row_of (dimension_at model d).starts v) runs.start.lo })) (sym at_is) (sym cumul_is)
-    ∙ ap (λ (x : ℤ). Some (record { at = at; cumul = cumul; soft = x })) (sym soft_is)
-
 -- the numbers of a stage of fewer stops
 pub stage-more : (model : Model) (n m : ℕ) (stage : Stage) → n ≤ m → IsStageOf model n stage → IsStageOf model m stage
 stage-more model n m stage le h = record {
@@ -84,11 +77,6 @@ stage-more model n m stage le h = record {
   not_negative = h.not_negative;
   bound = (let b = h.bound in omega (arith, ints, b, le));
 }
-
--- what holds of an answer, where it follows
-pub some-map : (P Q : Stage → Type 0) (o : Option Stage) → ((s : Stage) → P s → Q s) → IfSome o P → IfSome o Q
-some-map P Q None f h = h
-some-map P Q (Some s) f h = f s h
 
 -- ---- another cost behind
 
@@ -107,11 +95,11 @@ go-shift z t s node allowed row stage = by (is_had stage.cumul t s allowed)
     by false = refl
 
 module _ (model : Model) (d v : ℕ) (runs : Runs) where
-  more-shift : (z : ℤ) (o : Option Stage) (node : ℕ) → visit_more model d v runs (option_map (paid_more z) o) node ≡ option_map (paid_more z) (visit_more model d v runs o node)
-  more-shift z None node = refl
-  more-shift z (Some stage) node = go-shift z (transit model d v stage.at node) (dimension_at model d).slack_max node _ (row_of (dimension_at model d).nodes node) stage
+  more-shift : (z : ℤ) (o : Option Stage) (step : Step) → visit_more model d v runs (option_map (paid_more z) o) step ≡ option_map (paid_more z) (visit_more model d v runs o step)
+  more-shift z None step = refl
+  more-shift z (Some stage) step = go-shift z (transit model d v stage.at step.node) (dimension_at model d).slack_max step.node _ (row_of (dimension_at model d).nodes step.node) stage
 
-  along-shift : (z : ℤ) (o : Option Stage) (nodes : List ℕ) → along model d v runs (option_map (paid_more z) o) nodes ≡ option_map (paid_more z) (along model d v runs o nodes)
+  along-shift : (z : ℤ) (o : Option Stage) (steps : List Step) → along model d v runs (option_map (paid_more z) o) steps ≡ option_map (paid_more z) (along model d v runs o steps)
   along-shift z o [] = refl
   along-shift z o (x ∷ xs) = ap (λ p. along model d v runs p xs) (more-shift z o x) ∙ along-shift z (visit_more model d v runs o x) xs
 
@@ -119,28 +107,28 @@ module _ (model : Model) (d v : ℕ) (runs : Runs) where
   end-shift z None = refl
   end-shift z (Some stage) = go-shift z (transit model d v stage.at (vehicle_at model v).end) (dimension_at model d).slack_max (vehicle_at model v).end runs.finish (row_of (dimension_at model d).ends v) stage
 
-  whole-shift : (z : ℤ) (o : Option Stage) (nodes : List ℕ) → whole model d v runs (option_map (paid_more z) o) nodes ≡ option_map (paid_more z) (whole model d v runs o nodes)
-  whole-shift z o nodes = ap (option_and_then (to_end model d v runs)) (along-shift z o nodes) ∙ end-shift z (along model d v runs o nodes)
+  whole-shift : (z : ℤ) (o : Option Stage) (steps : List Step) → whole model d v runs (option_map (paid_more z) o) steps ≡ option_map (paid_more z) (whole model d v runs o steps)
+  whole-shift z o steps = ap (option_and_then (to_end model d v runs)) (along-shift z o steps) ∙ end-shift z (along model d v runs o steps)
 
   -- a stage at the same stop and with the same cumul as another one comes to the same end, but for what was paid on the way
-  pub resumed : (nodes : List ℕ) (old end new : Stage) → whole model d v runs (Some old) nodes ≡ Some end → new.at ≡ old.at → new.cumul ≡ old.cumul → (z : ℤ) → new.soft ≡ old.soft +ℤ z
-      → whole model d v runs (Some new) nodes ≡ Some (paid_more z end)
-  resumed nodes old end new told at cumul z soft =
+  pub resumed : (steps : List Step) (old end new : Stage) → whole model d v runs (Some old) steps ≡ Some end → new.at ≡ old.at → new.cumul ≡ old.cumul → (z : ℤ) → new.soft ≡ old.soft +ℤ z
+      → whole model d v runs (Some new) steps ≡ Some (paid_more z end)
+  resumed steps old end new told at cumul z soft =
       let same : new ≡ paid_more z old = stage-is new at cumul soft in
-      ap (λ (s : Stage). whole model d v runs (Some s) nodes) same ∙ whole-shift z (Some old) nodes ∙ ap (option_map (paid_more z)) told
+      ap (λ (s : Stage). whole model d v runs (Some s) steps) same ∙ whole-shift z (Some old) steps ∙ ap (option_map (paid_more z)) told
     where
       stage-is : (s : Stage) → s.at ≡ old.at → s.cumul ≡ old.cumul → s.soft ≡ old.soft +ℤ z → s ≡ paid_more z old
       stage-is s a c x = ap₂ (λ (n : ℕ) (y : ℤ). record { at = n; cumul = y; soft = s.soft }) a c ∙ ap (λ (y : ℤ). record { at = old.at; cumul = old.cumul; soft = y }) x
 
-  -- first along some visits, then along others
-  pub along-append : (o : Option Stage) (xs ys : List ℕ) → along model d v runs o (xs ++ ys) ≡ along model d v runs (along model d v runs o xs) ys
+  -- first along some steps, then along others
+  pub along-append : (o : Option Stage) (xs ys : List Step) → along model d v runs o (xs ++ ys) ≡ along model d v runs (along model d v runs o xs) ys
   along-append o xs ys = fold-append (visit_more model d v runs) o xs ys
 
-  pub whole-append : (o : Option Stage) (xs ys : List ℕ) → whole model d v runs o (xs ++ ys) ≡ whole model d v runs (along model d v runs o xs) ys
+  pub whole-append : (o : Option Stage) (xs ys : List Step) → whole model d v runs o (xs ++ ys) ≡ whole model d v runs (along model d v runs o xs) ys
   whole-append o xs ys = ap (option_and_then (to_end model d v runs)) (along-append o xs ys)
 
-  -- one visit of a list more
-  pub whole-next : (list : List ℕ) (k : ℕ) → k < length list → (gone next : Stage) → to_visit model d v runs (slice_index_or list k 0) gone ≡ Some next
-      → whole model d v runs (Some next) (drop (k + 1) list) ≡ whole model d v runs (Some gone) (drop k list)
-  whole-next list k low gone next e =
-      sym (ap (whole model d v runs (Some gone)) (drop_more list k 0 low) ∙ ap (λ o. whole model d v runs o (drop (k + 1) list)) e)
+  -- one step more
+  pub whole-next : (steps : List Step) (k : ℕ) (other : Step) → k < length steps → (gone next : Stage) → to_visit model d v runs (slice_index_or steps k other) gone ≡ Some next
+      → whole model d v runs (Some next) (drop (k + 1) steps) ≡ whole model d v runs (Some gone) (drop k steps)
+  whole-next steps k other low gone next e =
+      sym (ap (whole model d v runs (Some gone)) (drop_more steps k other low) ∙ ap (λ o. whole model d v runs o (drop (k + 1) steps)) e)

@@ -1,10 +1,10 @@
 -- A vehicle that comes to its end so has gone along its chosen schedule.
-use Rattle.std.proofs.Common.{◌≡◌, ◌∙◌, ℕ, zero, suc, ◌+◌, ◌*◌, ◌<◌, ◌≤◌, Bool, true, false, cond, List, [], ◌∷◌, ◌++◌, length, map, take, get_or, refl, sym, ap, subst, add-one, arith, Option, Some, None}
-use Rattle.std.specs.Prelude.{◌==◌, ℤ, pos, ◌+ℤ◌, ◌-ℤ◌, ◌≤ℤ◌, int_le, slice_index_or, unwrap_or}
+use Rattle.std.proofs.Common.{◌≡◌, ◌∙◌, ℕ, zero, suc, ◌+◌, ◌-◌, ◌*◌, ◌<◌, ◌≤◌, List, [], ◌∷◌, ◌++◌, length, map, take, get_or, refl, sym, ap, subst, add-one, arith, Option, Some, None}
+use Rattle.std.specs.Prelude.{◌==◌, ℤ, pos, ◌+ℤ◌, ◌-ℤ◌, ◌≤ℤ◌, IsTrue, option_map, slice_index_or, unwrap_or}
 use Rattle.std.specs.Int.{int_max}
 use Rattle.std.specs.List.{zip}
 use Rattle.std.proofs.lemmas.Int.{ints, int_max_is}
-use Rattle.std.proofs.lemmas.List.{get_or_append_left, take_all}
+use Rattle.std.proofs.lemmas.List.{get_or_append_left, get_or_past, take_all}
 use Rattle.std.proofs.lemmas.List.Sums.{fold_more}
 use Rattle.std.proofs.lemmas.Option.{option_and_then_some}
 use Rattle.vr_spans.specs.declared.runs.Run.{Run}
@@ -13,23 +13,30 @@ use Rattle.vr_model.specs.tables.Tables.{dimension_at, no_dimension, row_of, tra
 use Rattle.vr_model.specs.tables.WellFormed.{IsIn, IsSoft, IsStopRow, IsWellFormed, WherePresent}
 use Rattle.vr_model.specs.schedules.ChosenLaws.{ChosenIsLeast}
 use Rattle.vr_model.specs.schedules.Lines.{line, stop_rows}
+use Rattle.vr_model.specs.schedules.Schedules.{Plan, IsSchedule, allows, arc_at, cumul}
 use Rattle.vr_model.specs.routes.Costs.{no_plan, row_cost, soft_cost}
 use Rattle.vr_model.specs.declared.records.Model.{Model}
 use Rattle.vr_model.specs.declared.records.Soft.{Soft}
 use Rattle.vr_model.specs.declared.records.StopRow.{StopRow}
+use Rattle.vr_model.proofs.schedules.LineArcs.{arcs_of_line}
 use Rattle.vr_model.proofs.schedules.LinesSound.{found_is}
-use Rattle.vr_steps.proofs.LineLemmas.{visit_below}
 use Rattle.vr_walks.specs.Early.{AreChosen, AreEarly}
 use Rattle.vr_walks.specs.Lists.{node_at_stop, IsTour, IsUsed}
 use Rattle.vr_walks.specs.VisitRuns.{IsAllowedRun}
-use Rattle.vr_walks.proofs.EarlyLemmas.{at_new, begin_list, chosen_list, in_range, step_list}
-use Rattle.vr_walks.proofs.LineParts.{end_allows_run, end_node, visit_allows_run}
+use Rattle.vr_walks.proofs.EarlyLemmas.{at_new, chosen_list, in_range}
+use Rattle.vr_walks.proofs.LineParts.{end_allows_run, end_node}
 use Rattle.vr_timings.specs.Bounds.{cumul_cost, IsAround}
 use Rattle.vr_timings.specs.Timings.{plan_of, soft_of, IsTiming, IsTimingOf}
 use Rattle.vr_timings.specs.declared.timings.Timing.{Timing}
 use Rattle.vr_timings.proofs.BoundLemmas.{max-around, mul-around, mul-sign}
-use Rattle.vr_cumuls.specs.Stages.{Runs, AreRuns, along, no_run, setting_out, to_end, to_visit, visit_more, whole}
+use Rattle.vr_cumuls.specs.Floors.{end_step, first_of, floor_of}
+use Rattle.vr_cumuls.specs.Kept.{AreSteps}
+use Rattle.vr_cumuls.specs.Runs.{Runs, AreRuns, no_run}
+use Rattle.vr_cumuls.specs.Stages.{along, raised, setting_out, standing, to_end, to_visit, visit_more, whole}
 use Rattle.vr_cumuls.specs.declared.guides.Stage.{Stage}
+use Rattle.vr_cumuls.specs.declared.trails.Step.{Step}
+use Rattle.vr_cumuls.proofs.FloorLemmas.{before-had, floor-had, many-steps, node-of}
+use Rattle.vr_cumuls.proofs.LeastLemmas.{allowed-in, arc-transit, begin-least, floors-least, run-of, start-least, step-least, step-node, stops-and-arcs}
 use Rattle.vr_cumuls.proofs.StageLemmas.{gone, some-same, IsBehind}
 
 -- ---- what a cumul costs
@@ -85,7 +92,10 @@ rows-long f (x ∷ xs) last = ap suc (rows-long f xs last)
 
 -- ---- stop by stop
 
-module _ (model : Model) (well : IsWellFormed model) (d v : ℕ) (dimension : d < length model.dimensions) (runs : Runs) (are : AreRuns model d v runs) (list : List ℕ) (tour : IsTour model list) where
+module _ (model : Model) (well : IsWellFormed model) (d v : ℕ) (dimension : d < length model.dimensions) (runs : Runs) (are : AreRuns model d v runs) (list : List ℕ) (tour : IsTour model list) (steps : List Step) (steps_are : AreSteps model d v runs list steps) where
+  abbrev end : Step
+  end = end_step model v runs
+
   -- there are least cumuls of the stops up to k, the last one and their cost as a stage tells it
   pub record Comes (first : ℤ) (k : ℕ) (stage : Stage) : Type 0 where
     pub cumuls : List ℤ
@@ -106,21 +116,30 @@ module _ (model : Model) (well : IsWellFormed model) (d v : ℕ) (dimension : d 
   ends-valid : (key : ℕ) → WherePresent IsStopRow (row_of (dimension_at model d).ends key)
   ends-valid key = found_is IsStopRow (λ row. row.key == key) (dimension_at model d).ends (well.each_dimension d no_dimension dimension).rows_of_ends.each_row
 
-  begins : (stage : Stage) → setting_out model d v runs ≡ Some stage → Comes stage.cumul 0 stage
-  begins stage e = by (int_le runs.start.lo runs.start.hi) refl e
+  begins : (stage : Stage) → setting_out model d v runs (first_of steps (end_step model v runs)) ≡ Some stage → Comes stage.cumul 0 stage
+  begins stage e = by (floor_of model d v (vehicle_at model v).start runs.start (first_of steps end)) refl e
     where
       row : Option StopRow
       row = row_of (dimension_at model d).starts v
 
-      by : (b : Bool) → int_le runs.start.lo runs.start.hi ≡ b → cond b (Some (record { at = (vehicle_at model v).start; cumul = runs.start.lo; soft = row_cost (row_of (dimension_at model d).starts v) runs.start.lo })) None ≡ Some stage
-          → Comes stage.cumul 0 stage
-      by true some e =
-          let x : ℤ = runs.start.lo in
-          let costs = row-range row x (starts-valid v) are.start.ends.lo in
+      by : (o : Option ℤ) → floor_of model d v (vehicle_at model v).start runs.start (first_of steps (end_step model v runs)) ≡ o → option_map (standing model d v) o ≡ Some stage → Comes stage.cumul 0 stage
+      by None is e = absurd (cc)
+      by (Some x) is e =
+          let node : ℕ = (vehicle_at model v).start in
+          let next : Step = first_of steps end in
+          let floor = floor-had next.floor (transit model d v node next.node) (dimension_at model d).slack_max runs.start x is in
+          let f = floor.is in
+          let most = floor.most in
+          let m = int_max_is ((next.floor -ℤ transit model d v node next.node) -ℤ (dimension_at model d).slack_max) runs.start.lo in
+          let lo = are.start.ends.lo.at_least in
+          let hi = are.start.ends.hi.at_most in
+          let range : IsIn (pos 0) horizon x = record { at_least = omega (arith, ints, f, m, lo); at_most = omega (arith, ints, most, hi) } in
+          let costs = row-range row x (starts-valid v) range in
           let none = sum-none (map (row_of (dimension_at model d).nodes) list ++ row_of (dimension_at model d).ends v ∷ []) in
-          subst (λ (s : Stage). Comes s.cumul 0 s) (some-same (record { at = (vehicle_at model v).start; cumul = runs.start.lo; soft = row_cost (row_of (dimension_at model d).starts v) runs.start.lo }) stage e) (record {
+          let there = allowed-in (line model d v list) 0 runs.start x (record { exact = are.start.exact; ends = are.start.ends }) (omega (arith, ints, f, m)) most in
+          subst (λ (s : Stage). Comes s.cumul 0 s) (some-same (standing model d v x) stage e) (record {
             cumuls = x ∷ [];
-            early = begin_list model d v list runs.start are.start (grind (arith, ints, some)) (x ∷ []) refl;
+            early = begin-least (line model d v list) (stops-and-arcs model d v runs are list tour steps steps_are) x there (start-least model d v runs are list tour steps steps_are x is);
             start = refl;
             last = refl;
             at = refl;
@@ -128,22 +147,23 @@ module _ (model : Model) (well : IsWellFormed model) (d v : ℕ) (dimension : d 
             low = costs.low;
             high = (let h = costs.high in omega (arith, ints, h));
           })
-      by false none e = absurd (cc)
 
-  -- over the arc from stop k
-  over : (first : ℤ) (k : ℕ) (stage next : Stage) → k ≤ length list → Comes first k stage → (allowed : Run) → IsAllowedRun (line model d v list) (k + 1) allowed → (row : Option StopRow) → WherePresent IsStopRow row
+  -- over the arc from stop k, to a floor below which no schedule comes to the next one
+  over : (first : ℤ) (k : ℕ) (stage next : Stage) → k ≤ length list → Comes first k stage → (allowed : Run) → IsAllowedRun (line model d v list) (k + 1) allowed
+      → (floor : ℤ) → allowed.lo ≤ℤ floor → ((plan : Plan) → IsSchedule (line model d v list) plan → floor ≤ℤ cumul plan (k + 1)) → (row : Option StopRow) → WherePresent IsStopRow row
       → slice_index_or (stop_rows (dimension_at model d) v list) (k + 1) None ≡ row → (node : ℕ) → node ≡ node_at_stop model v list (k + 1)
-      → IsBehind (transit model d v stage.at node) (dimension_at model d).slack_max node allowed row stage next → Comes first (k + 1) next
-  over first k stage next le comes allowed is row valid at node to behind =
+      → IsBehind (transit model d v stage.at node) (dimension_at model d).slack_max node (raised floor allowed) row stage next → Comes first (k + 1) next
+  over first k stage next le comes allowed is floor above none_before row valid at node to behind =
       let x : ℤ = next.cumul in
       let old : List ℤ = comes.cumuls in
       let many = comes.early.many in
       let least = behind.earliest.least in
       let most = behind.earliest.most in
-      let m = int_max_is (stage.cumul +ℤ transit model d v stage.at node) allowed.lo in
+      let slack = behind.earliest.slack in
+      let m = int_max_is (stage.cumul +ℤ transit model d v stage.at node) floor in
       let lo = is.ends.lo.at_least in
       let hi = is.ends.hi.at_most in
-      let range : IsIn (pos 0) horizon x = record { at_least = omega (arith, ints, least, m, lo); at_most = omega (arith, ints, most, hi) } in
+      let range : IsIn (pos 0) horizon x = record { at_least = omega (arith, ints, least, m, lo, above); at_most = omega (arith, ints, most, hi) } in
       let costs = row-range row x valid range in
       let n = rows-long (row_of (dimension_at model d).nodes) list (row_of (dimension_at model d).ends v) in
       let next_row : slice_index_or (stop_rows (dimension_at model d) v list) (length old) None ≡ row = ap (λ i. slice_index_or (stop_rows (dimension_at model d) v list) i None) (many ∙ sym (add-one k)) ∙ at in
@@ -154,9 +174,11 @@ module _ (model : Model) (well : IsWellFormed model) (d v : ℕ) (dimension : d 
       let high = comes.high in
       let add = costs.low in
       let most_add = costs.high in
+      let there = allowed-in (line model d v list) (k + 1) allowed x is (omega (arith, ints, least, m, above)) most in
       record {
         cumuls = old ++ x ∷ [];
-        early = step_list model d v list k old le comes.early allowed is stage.at node comes.at to stage.cumul (transit model d v stage.at node) (dimension_at model d).slack_max x (sym comes.last) refl refl behind.earliest;
+        early = subst (λ i. AreEarly (line model d v list) i (old ++ x ∷ [])) (sym (add-one k)) (step-least (line model d v list) (stops-and-arcs model d v runs are list tour steps steps_are) k old comes.early x
+            (subst (λ i. IsTrue (allows (line model d v list) i x)) (add-one k) there) (slack-left way comes.last least slack) (late way comes.last least));
         start = get_or_append_left old (x ∷ []) (pos 0) 0 (omega (arith, many)) ∙ comes.start;
         last = at_new old x (k + 1) (many ∙ sym (add-one k));
         at = behind.at ∙ to;
@@ -164,47 +186,88 @@ module _ (model : Model) (well : IsWellFormed model) (d v : ℕ) (dimension : d 
         low = omega (arith, ints, soft, low, add);
         high = omega (arith, ints, soft, high, most_add);
       }
-
-  visits : (first : ℤ) (k : ℕ) (stage next : Stage) → k < length list → Comes first k stage → to_visit model d v runs (get_or list k 0) stage ≡ Some next → Comes first (k + 1) next
-  visits first k stage next low comes e =
-      let node : ℕ = get_or list k 0 in
-      let known : node < length runs.visits = (let n = are.visits.long in let h = visit_below model list k 0 tour.visits low in omega (arith, n, h)) in
-      let allowed : Run = slice_index_or runs.visits node no_run in
-      let row : Option StopRow = row_of (dimension_at model d).nodes node in
-      let next_k : suc k ≡ k + 1 = omega arith in
-      over first k stage next (omega (arith, low)) comes allowed (visit_allows_run model d v list k runs.visits allowed no_run are.visits tour low known refl) row (nodes-valid node)
-      (subst (λ i. slice_index_or (stop_rows (dimension_at model d) v list) i None ≡ row) next_k (row-behind (row_of (dimension_at model d).nodes) list (row_of (dimension_at model d).ends v) k low))
-      node (subst (λ i. node ≡ node_at_stop model v list i) next_k (node-behind list ((vehicle_at model v).end ∷ []) k low))
-      (gone (transit model d v stage.at node) (dimension_at model d).slack_max node allowed row stage next e)
     where
-      node-behind : (xs more : List ℕ) (k : ℕ) → k < length xs → get_or xs k 0 ≡ slice_index_or (xs ++ more) k 0
-      node-behind xs more k low = sym (get_or_append_left xs more 0 k low)
+      t : ℤ
+      t = transit model d v stage.at node
+
+      way : transit model d v stage.at node ≡ (arc_at (line model d v list) k).transit
+      way = arc-transit model d v runs are list tour steps steps_are k stage.at node le comes.at to
+
+      slack-left : t ≡ (arc_at (line model d v list) k).transit → number_at comes.cumuls k ≡ stage.cumul → next.cumul ≡ int_max (stage.cumul +ℤ t) floor → (next.cumul -ℤ (stage.cumul +ℤ t)) ≤ℤ (dimension_at model d).slack_max
+          → IsIn (pos 0) (line model d v list).slack_max ((next.cumul -ℤ number_at comes.cumuls k) -ℤ (arc_at (line model d v list) k).transit)
+      slack-left way last least most =
+          let m = int_max_is (stage.cumul +ℤ t) floor in
+          record { at_least = omega (arith, ints, way, last, least, m); at_most = omega (arith, ints, way, last, most) }
+
+      late : t ≡ (arc_at (line model d v list) k).transit → number_at comes.cumuls k ≡ stage.cumul → next.cumul ≡ int_max (stage.cumul +ℤ t) floor
+          → (plan : Plan) → IsSchedule (line model d v list) plan → next.cumul ≤ℤ cumul plan (suc k)
+      late way last least plan s =
+          let n = arcs_of_line model d v list in
+          let low : k < length (line model d v list).arcs = omega (arith, n, le) in
+          let m = int_max_is (stage.cumul +ℤ t) floor in
+          let left = s.slacks_left k low in
+          let none = (s.slacks_bounded k low).0 in
+          let first = comes.early.least plan s k (omega arith) in
+          let there = subst (λ i. floor ≤ℤ cumul plan i) (add-one k) (none_before plan s) in
+          omega (arith, ints, way, last, least, m, left, none, first, there)
+
+  visits : (first : ℤ) (k : ℕ) (stage next : Stage) → k < length list → Comes first k stage → to_visit model d v runs (slice_index_or steps k (end_step model v runs)) stage ≡ Some next → Comes first (k + 1) next
+  visits first k stage next low comes e =
+      let step : Step = slice_index_or steps k end in
+      let n = many-steps model d v runs list steps steps_are in
+      let node = node-of model d v runs list steps steps_are k end low in
+      let allowed : Run = slice_index_or runs.visits step.node no_run in
+      let row : Option StopRow = row_of (dimension_at model d).nodes step.node in
+      let is = before-had model d v runs step.node (slice_index_or steps (suc k) end) step (steps_are.aimed.each k (omega (arith, n, low))) in
+      let behind : Step = slice_index_or steps (suc k) end in
+      let floor = floor-had behind.floor (transit model d v step.node behind.node) (dimension_at model d).slack_max allowed step.floor is.floor in
+      let f = floor.is in
+      let m = int_max_is ((behind.floor -ℤ transit model d v step.node behind.node) -ℤ (dimension_at model d).slack_max) allowed.lo in
+      over first k stage next (omega (arith, low)) comes allowed (run-of model d v runs are list tour steps steps_are k end low)
+      step.floor (omega (arith, ints, f, m)) (λ plan s. floors-least model d v runs are list tour steps steps_are plan s (left k low) k (left-is k low)) row (nodes-valid step.node)
+      (subst (λ i. slice_index_or (stop_rows (dimension_at model d) v list) i None ≡ row) (sym (add-one k)) (row-behind (row_of (dimension_at model d).nodes) list (row_of (dimension_at model d).ends v) k low ∙ ap (row_of (dimension_at model d).nodes) (sym node)))
+      step.node (step-node model d v runs are list tour steps steps_are k (omega (arith, low)))
+      (gone (transit model d v stage.at step.node) (dimension_at model d).slack_max step.node (raised step.floor allowed) row stage next e)
+    where
+      left : (k : ℕ) → k < length list → ℕ
+      left k low = length list - k
+
+      left-is : (k : ℕ) (low : k < length list) → (length list - k) + k ≡ length list
+      left-is k low = omega (arith, low)
 
   ends : (first : ℤ) (stage next : Stage) → Comes first (length list) stage → to_end model d v runs stage ≡ Some next → Comes first (length list + 1) next
   ends first stage next comes e =
       let node : ℕ = (vehicle_at model v).end in
       let row : Option StopRow = row_of (dimension_at model d).ends v in
-      let n : suc (length list) ≡ length list + 1 = omega arith in
-      over first (length list) stage next (omega arith) comes runs.finish (end_allows_run model d v list (length list) runs.finish are.finish refl) row (ends-valid v)
-      (subst (λ i. slice_index_or (stop_rows (dimension_at model d) v list) i None ≡ row) n (row-last (row_of (dimension_at model d).nodes) list row))
+      over first (length list) stage next (omega arith) comes runs.finish (end_allows_run model d v list (length list) runs.finish are.finish refl)
+      runs.finish.lo (omega (arith, ints)) (λ plan s. end-least plan (floors-least model d v runs are list tour steps steps_are plan s 0 (length list) (omega arith))) row (ends-valid v)
+      (subst (λ i. slice_index_or (stop_rows (dimension_at model d) v list) i None ≡ row) (sym (add-one (length list))) (row-last (row_of (dimension_at model d).nodes) list row))
       node (sym (end_node model v list (length list) refl))
       (gone (transit model d v stage.at node) (dimension_at model d).slack_max node runs.finish row stage next e)
+    where
+      end-least : (plan : Plan) → (slice_index_or steps (length list) (end_step model v runs)).floor ≤ℤ cumul plan (length list + 1) → runs.finish.lo ≤ℤ cumul plan (length list + 1)
+      end-least plan h = subst (λ (x : Step). x.floor ≤ℤ cumul plan (length list + 1)) (get_or_past steps (length list) end (let n = many-steps model d v runs list steps steps_are in omega (arith, n))) h
 
-  comes-to : (first : Stage) → setting_out model d v runs ≡ Some first → (k : ℕ) → k ≤ length list → (stage : Stage) → along model d v runs (setting_out model d v runs) (take k list) ≡ Some stage → Comes first.cumul k stage
+  comes-to : (first : Stage) → setting_out model d v runs (first_of steps (end_step model v runs)) ≡ Some first → (k : ℕ) → k ≤ length list → (stage : Stage)
+      → along model d v runs (setting_out model d v runs (first_of steps (end_step model v runs))) (take k steps) ≡ Some stage → Comes first.cumul k stage
   comes-to first out zero le stage e = subst (λ (s : Stage). Comes first.cumul 0 s) (some-same first stage (sym out ∙ e)) (begins first out)
   comes-to first out (suc k) le stage e =
       let low : k < length list = omega (arith, le) in
-      let node : ℕ = get_or list k 0 in
-      let split = sym (fold_more (visit_more model d v runs) (setting_out model d v runs) list k 0 low) ∙ ap (λ n. along model d v runs (setting_out model d v runs) (take n list)) (add-one k) ∙ e in
+      let step : Step = slice_index_or steps k end in
+      let n = many-steps model d v runs list steps steps_are in
+      let split = sym (fold_more (visit_more model d v runs) (setting_out model d v runs (first_of steps end)) steps k end (omega (arith, low, n)))
+      ∙ ap (λ n. along model d v runs (setting_out model d v runs (first_of steps end)) (take n steps)) (add-one k) ∙ e in
       subst (λ n. Comes first.cumul n stage) (add-one k)
-      (option_and_then_some (to_visit model d v runs node) (along model d v runs (setting_out model d v runs) (take k list)) stage split
+      (option_and_then_some (to_visit model d v runs step) (along model d v runs (setting_out model d v runs (first_of steps end)) (take k steps)) stage split
       (λ before told more. visits first.cumul k before stage low (comes-to first out k (omega (arith, low)) before told) more))
 
   -- at the end it has the timing of the chosen schedule
-  module _ (law : ChosenIsLeast) (some : IsUsed model list) (first last : Stage) (out : setting_out model d v runs ≡ Some first) (told : whole model d v runs (setting_out model d v runs) list ≡ Some last) where
+  module _ (law : ChosenIsLeast) (some : IsUsed model list) (first last : Stage) (out : setting_out model d v runs (first_of steps (end_step model v runs)) ≡ Some first)
+      (told : whole model d v runs (setting_out model d v runs (first_of steps (end_step model v runs))) steps ≡ Some last) where
     comes : Comes first.cumul (length list + 1) last
-    comes = option_and_then_some (to_end model d v runs) (along model d v runs (setting_out model d v runs) list) last told
-        (λ before there more. ends first.cumul before last (comes-to first out (length list) (omega arith) before (ap (along model d v runs (setting_out model d v runs)) (take_all (length list) list (omega arith)) ∙ there)) more)
+    comes = option_and_then_some (to_end model d v runs) (along model d v runs (setting_out model d v runs (first_of steps end)) steps) last told
+        (λ before there more. ends first.cumul before last (comes-to first out (length list) (omega arith) before
+        (ap (along model d v runs (setting_out model d v runs (first_of steps end))) (take_all (length list) steps (let n = many-steps model d v runs list steps steps_are in omega (arith, n))) ∙ there)) more)
 
     chosen : AreChosen (line model d v list) comes.cumuls
     chosen = chosen_list model d v list comes.cumuls comes.early law are.no_breaks
@@ -221,6 +284,9 @@ module _ (model : Model) (well : IsWellFormed model) (d v : ℕ) (dimension : d 
 
     pub last-range : IsIn (pos 0) horizon last.cumul
     last-range = subst (IsIn (pos 0) horizon) comes.last (in_range model d v list comes.cumuls comes.early (length list + 1) (pos 0) (let n = comes.early.many in omega (arith, n)))
+
+    pub first-range : IsIn (pos 0) horizon first.cumul
+    first-range = subst (IsIn (pos 0) horizon) comes.start (in_range model d v list comes.cumuls comes.early 0 (pos 0) (let n = comes.early.many in omega (arith, n)))
 
     pub is-timing : (timing : Timing) → timing.soft ≡ last.soft → timing.start ≡ first.cumul → timing.last ≡ last.cumul → IsTiming model d v list timing
     is-timing timing soft start end = record {

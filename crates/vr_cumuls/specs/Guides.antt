@@ -4,7 +4,7 @@ use Rattle.vr_model.specs.tables.Numbers.{horizon}
 use Rattle.vr_model.specs.tables.Tables.{dimension_at, evaluator_of, vehicle_at}
 use Rattle.vr_model.specs.tables.WellFormed.{IsIn, IsWellFormed}
 use Rattle.vr_timings.specs.Tables.{IsTable}
-use Rattle.vr_cumuls.specs.Stages.{Runs, AreRuns}
+use Rattle.vr_cumuls.specs.Runs.{Runs, AreRuns}
 use Rattle.vr_cumuls.specs.declared.guides.Guide.{Guide}
 
 -- the runs that a guide has

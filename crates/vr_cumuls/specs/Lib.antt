@@ -1,3 +1,5 @@
+pub mod Runs
+pub mod Floors
 pub mod Stages
 pub mod Guides
 pub mod Kept

@@ -1,37 +1,20 @@
--- How far a vehicle comes along its stops, at each the least cumul that the one before it leaves.
-use Rattle.std.specs.Prelude.{◌≡◌, ◌<◌, ◌*◌, ◌&&◌, ℕ, Bool, List, [], cond, fold, int_le, slice_index_or}
+-- How far a vehicle comes along its stops, at each the least cumul that the one before it and its floor leave.
+use Rattle.std.specs.Prelude.{◌<◌, ◌*◌, ◌&&◌, ℕ, Bool, List, cond, fold, int_le, option_map, slice_index_or}
 use Rattle.std.specs.Prelude.{Option, Some, None, ℤ, pos, ◌+ℤ◌, ◌-ℤ◌, ◌≤ℤ◌}
 use Rattle.std.specs.Int.{int_max}
 use Rattle.std.specs.Option.{option_and_then}
 use Rattle.vr_spans.specs.declared.runs.Run.{Run}
 use Rattle.vr_model.specs.tables.Numbers.{horizon}
-use Rattle.vr_model.specs.tables.Tables.{breaks_of, dimension_at, row_of, transit, vehicle_at}
+use Rattle.vr_model.specs.tables.Tables.{dimension_at, row_of, transit, vehicle_at}
 use Rattle.vr_model.specs.tables.WellFormed.{IsIn}
 use Rattle.vr_model.specs.routes.Costs.{row_cost}
 use Rattle.vr_model.specs.declared.records.Model.{Model}
 use Rattle.vr_model.specs.declared.records.StopRow.{StopRow}
-use Rattle.vr_steps.specs.Stops.{allowed_by}
-use Rattle.vr_steps.specs.declared.stops.StopName.TheVariants.{Start, End}
-use Rattle.vr_walks.specs.VisitRuns.{AreVisitRuns, IsRunFor}
 use Rattle.vr_timings.specs.Bounds.{cumul_cost}
+use Rattle.vr_cumuls.specs.Runs.{Runs, no_run}
+use Rattle.vr_cumuls.specs.Floors.{floor_of}
 use Rattle.vr_cumuls.specs.declared.guides.Stage.{Stage}
-
--- the run of cumuls that each stop of a vehicle allows: its start, the visits by their nodes, and its end
-pub record Runs : Type 0 where
-  pub start : Run
-  pub visits : List Run
-  pub finish : Run
-
--- these runs are what the stops of vehicle v allow in dimension d, and it has no breaks there
-pub record AreRuns (model : Model) (d v : ℕ) (runs : Runs) : Type 0 where
-  pub no_breaks : breaks_of (dimension_at model d) v ≡ []
-  pub start : IsRunFor (allowed_by model d v Start) runs.start
-  pub visits : AreVisitRuns model d v runs.visits
-  pub finish : IsRunFor (allowed_by model d v End) runs.finish
-
--- the run of no cumul
-abbrev pub no_run : Run
-no_run = record { lo = pos 1; hi = pos 0 }
+use Rattle.vr_cumuls.specs.declared.trails.Step.{Step}
 
 -- the least cumul of a stop behind an arc that takes t
 abbrev pub next_cumul : ℤ → ℤ → Run → ℤ
@@ -52,20 +35,29 @@ go_on t s node allowed row stage = cond (is_had stage.cumul t s allowed)
     }))
     None
 
--- vehicle v stands at its start, at the least cumul that it allows
-abbrev pub setting_out : Model → ℕ → ℕ → Runs → Option Stage
-setting_out model d v runs = cond (int_le runs.start.lo runs.start.hi)
-    (Some (record {
-      at = (vehicle_at model v).start;
-      cumul = runs.start.lo;
-      soft = row_cost (row_of (dimension_at model d).starts v) runs.start.lo;
-    }))
-    None
+-- vehicle v stands at its start at a cumul
+abbrev pub standing : Model → ℕ → ℕ → ℤ → Stage
+standing model d v cumul = record {
+  at = (vehicle_at model v).start;
+  cumul = cumul;
+  soft = row_cost (row_of (dimension_at model d).starts v) cumul;
+}
 
--- it goes on to a visit
-abbrev pub to_visit : Model → ℕ → ℕ → Runs → ℕ → Stage → Option Stage
-to_visit model d v runs node stage = go_on (transit model d v stage.at node) (dimension_at model d).slack_max node
-    (slice_index_or runs.visits node no_run) (row_of (dimension_at model d).nodes node) stage
+-- it stands there at the floor of its start, before the next step
+abbrev pub setting_out : Model → ℕ → ℕ → Runs → Step → Option Stage
+setting_out model d v runs next =
+    option_map (standing model d v) (floor_of model d v (vehicle_at model v).start runs.start next)
+
+-- the cumuls of a run from a floor on
+abbrev pub raised : ℤ → Run → Run
+raised floor allowed = record { lo = floor; hi = allowed.hi }
+
+-- it goes on to a visit, at the least cumul from its floor on
+abbrev pub to_visit : Model → ℕ → ℕ → Runs → Step → Stage → Option Stage
+to_visit model d v runs step stage =
+    go_on (transit model d v stage.at step.node) (dimension_at model d).slack_max step.node
+    (raised step.floor (slice_index_or runs.visits step.node no_run)) (row_of (dimension_at model d).nodes step.node)
+    stage
 
 -- it goes on to its end
 abbrev pub to_end : Model → ℕ → ℕ → Runs → Stage → Option Stage
@@ -73,16 +65,16 @@ to_end model d v runs stage = go_on (transit model d v stage.at (vehicle_at mode
     (dimension_at model d).slack_max (vehicle_at model v).end runs.finish (row_of (dimension_at model d).ends v) stage
 
 -- one visit more, where the stage before it was had
-abbrev pub visit_more : Model → ℕ → ℕ → Runs → Option Stage → ℕ → Option Stage
-visit_more model d v runs stage node = option_and_then (to_visit model d v runs node) stage
+abbrev pub visit_more : Model → ℕ → ℕ → Runs → Option Stage → Step → Option Stage
+visit_more model d v runs stage step = option_and_then (to_visit model d v runs step) stage
 
--- it goes on along visits in order
-abbrev pub along : Model → ℕ → ℕ → Runs → Option Stage → List ℕ → Option Stage
-along model d v runs stage nodes = fold (visit_more model d v runs) stage nodes
+-- it goes on along steps to visits in order
+abbrev pub along : Model → ℕ → ℕ → Runs → Option Stage → List Step → Option Stage
+along model d v runs stage steps = fold (visit_more model d v runs) stage steps
 
--- it goes on along visits to its end
-abbrev pub whole : Model → ℕ → ℕ → Runs → Option Stage → List ℕ → Option Stage
-whole model d v runs stage nodes = option_and_then (to_end model d v runs) (along model d v runs stage nodes)
+-- it goes on along them to its end
+abbrev pub whole : Model → ℕ → ℕ → Runs → Option Stage → List Step → Option Stage
+whole model d v runs stage steps = option_and_then (to_end model d v runs) (along model d v runs stage steps)
 
 -- the same stage, where z more was paid on the way
 abbrev pub paid_more : ℤ → Stage → Stage

@@ -14,6 +14,7 @@ ghost use Rattle.vr_timings.specs.Timings.{IsTiming, IsTimingOf};
 ghost use Rattle.vr_cumuls.specs.Kept.{AreAllKept, AreKept};
 
 use crate::kept::KeptCumuls;
+use crate::trails::Trail;
 use std::alloc::Global;
 use std::marker::Model;
 use vr_model::{Model as RoutingModel, NoMemory};
@@ -72,7 +73,8 @@ impl AllCumuls {
     }
 
     /// What the chosen schedule of the list comes to that part `k` of a change gives its vehicle, in dimension `d`.
-    /// Nothing where it is not told by what is kept; then it has to be looked for.
+    /// Nothing where it is not told by what is kept; then it has to be looked for. The trail is room that the caller
+    /// lends: it is written over.
     pub fn timing_after(
         &self,
         model: &RoutingModel,
@@ -81,6 +83,7 @@ impl AllCumuls {
         routes: &Routes,
         change: &Change,
         k: usize,
+        trail: &mut Trail,
     ) -> Option<Timing>
         requires well_formed { IsWellFormed model.now }
         requires dimension { d < length model.now.dimensions }
@@ -104,6 +107,7 @@ impl AllCumuls {
             change.vehicle(k),
             routes,
             change.pieces(k),
+            trail,
         )?;
         Some(timing)
     }

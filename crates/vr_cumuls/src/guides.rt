@@ -1,11 +1,12 @@
-//! A vehicle goes along its stops, at each the least cumul that the one before it leaves.
+//! A vehicle goes back along its stops, to each by its floor, and then along them, at each the least cumul that the one
+//! before it and its floor leave.
 //!
 //! Clauses bound what soft upper bounds cost by the number of stops that a stage has paid for: at most 1002 of a
-//! committed list, with 8 pieces of at most 1000 nodes behind its front 9002, and then at most 1001 more to the end.
-//! 11000 and 12000 are above all of these.
+//! committed list, with at most 1000 steps of a trail behind its front 2002, and then at most 1001 more to the end.
+//! 4000 is above all of these.
 
 ghost use Rattle.std.specs.Prelude.{◌≡◌, ◌<◌, ◌≤◌, ◌+◌, ◌*◌, All, IfSome, IsTrue, Some, cond, length, reverse};
-ghost use Rattle.std.specs.Prelude.{ℕ, slice_index_or, pos, ◌+ℤ◌, ◌≤ℤ◌};
+ghost use Rattle.std.specs.Prelude.{ℕ, List, [], ◌∷◌, slice_index_or, pos, ◌+ℤ◌, ◌≤ℤ◌};
 ghost use Rattle.std.specs.Option.{option_copied};
 ghost use Rattle.vr_model.specs.tables.Numbers.{horizon};
 ghost use Rattle.vr_model.specs.tables.Tables.{dimension_at, is_visit, row_of as row_of_key, transit, vehicle_at};
@@ -14,10 +15,13 @@ ghost use Rattle.vr_routes.specs.Pieces.{joined, nodes_of, IsWithin};
 ghost use Rattle.vr_timings.specs.Bounds.{cumul_cost};
 ghost use Rattle.vr_timings.specs.Tables.{IsTable};
 ghost use Rattle.vr_walks.specs.VisitRuns.{HasCumulEnds};
+ghost use Rattle.vr_cumuls.specs.Floors.{before as before_by, end_step as end_step_by, floor_of as floor_by};
+ghost use Rattle.vr_cumuls.specs.Floors.{IsStep, IsVisitStep, WentBack};
 ghost use Rattle.vr_cumuls.specs.Guides.{runs_of, IsGuide};
-ghost use Rattle.vr_cumuls.specs.Stages.{along, go_on as go_on_by, setting_out as setting_out_by};
+ghost use Rattle.vr_cumuls.specs.Stages.{along, go_on as go_on_by, standing as standing_by};
 ghost use Rattle.vr_cumuls.specs.Stages.{to_end as to_end_by, to_visit as to_visit_by, IsStageOf};
 
+use crate::trails::{Step, Trail};
 use vr_model::{Evaluator, Model, StopRow};
 use vr_routes::{Piece, Routes};
 use vr_spans::Run;
@@ -74,62 +78,69 @@ impl<'m> Guide<'m> {
         })
     }
 
-    /// The vehicle stands at its start, nothing where that allows no cumul.
+    /// The step to the end.
     #[inline]
-    pub fn setting_out(&self) -> Option<Stage>
+    pub fn end_step(&self) -> Step
         requires guide { IsGuide self.now }
-        ensures value { IfSome result (λ stage.
-            setting_out_by self.now.model.now self.now.d self.now.v (runs_of self.now) ≡ Some stage) }
-        ensures range { IfSome result (IsStageOf self.now.model.now 1) }
+        ensures value { result ≡ end_step_by self.now.model.now self.now.v (runs_of self.now) }
+        ensures range { IsStep self.now.model.now result }
     {
-        if self.start.lo > self.start.hi {
-            return None;
+        Step {
+            node: self.finish.node,
+            floor: self.finish.allowed.lo,
         }
-        let cumul = self.start.lo;
-        let dimension = self.model.dimensions.get(self.d as usize);
-        Some(Stage {
-            at: self.model.vehicles.get(self.v as usize).start,
-            cumul,
-            soft: row_cost(StopRow::of_key(&dimension.starts, self.v), cumul),
-        })
     }
 
-    /// It goes on along the nodes of pieces, nothing where it cannot.
+    /// Back along the nodes of pieces, which come before the next step: puts the steps to them on the trail, the last
+    /// one first, and gives the first one, or the next step where there is none. Nothing where some stop allows no
+    /// cumul from its floor on.
     #[inline]
-    pub fn along_pieces(&self, routes: &Routes, pieces: &[Piece], stage: Stage) -> Option<Stage>
+    pub fn back_along_pieces(
+        &self,
+        routes: &Routes,
+        pieces: &[Piece],
+        next: Step,
+        trail: &mut Trail,
+    ) -> Option<Step>
         requires guide { IsGuide self.now }
         requires within { All (IsWithin routes.now.lists) pieces.now }
-        requires few { length pieces.now ≤ 8 }
         requires visits { All (λ node. IsTrue (is_visit self.now.model.now node)) (joined routes.now.lists pieces.now) }
-        requires stage { IsStageOf self.now.model.now 1002 stage }
-        ensures value { IfSome result (λ next. along self.now.model.now self.now.d self.now.v (runs_of self.now)
-            (Some stage) (joined routes.now.lists pieces.now) ≡ Some next) }
-        ensures range { IfSome result (IsStageOf self.now.model.now 9002) }
+        requires next { IsStep self.now.model.now next }
+        requires room { length trail.old.steps.items + length (joined routes.now.lists pieces.now) ≤ 1000 }
+        ensures back { IfSome result (WentBack self.now.model.now self.now.d self.now.v (runs_of self.now)
+            (joined routes.now.lists pieces.now) next trail.old.steps.items trail.new.steps.items) }
+        ensures range { IfSome result (IsStep self.now.model.now) }
     {
-        let mut gone = stage;
+        let mut first = next;
         for k in 0..pieces.len() {
-            match self.along_piece(routes, pieces[k], gone) {
-                Some(next) => gone = next,
+            match self.back_along_piece(routes, pieces[pieces.len() - 1 - k], first, trail) {
+                Some(step) => first = step,
                 None => return None,
             }
         }
-        Some(gone)
+        Some(first)
     }
 
-    // It goes on along the nodes of a piece.
+    // Back along the nodes of a piece.
     #[inline]
-    fn along_piece(&self, routes: &Routes, piece: Piece, stage: Stage) -> Option<Stage>
+    fn back_along_piece(
+        &self,
+        routes: &Routes,
+        piece: Piece,
+        next: Step,
+        trail: &mut Trail,
+    ) -> Option<Step>
         requires guide { IsGuide self.now }
         requires within { IsWithin routes.now.lists piece }
         requires visits { All (λ node. IsTrue (is_visit self.now.model.now node)) (nodes_of routes.now.lists piece) }
-        requires stage { IsStageOf self.now.model.now 9002 stage }
-        ensures value { IfSome result (λ next. along self.now.model.now self.now.d self.now.v (runs_of self.now)
-            (Some stage) (nodes_of routes.now.lists piece) ≡ Some next) }
-        ensures range { IfSome result (λ next. (n : ℕ) → IsStageOf self.now.model.now n stage
-            → IsStageOf self.now.model.now (n + 1000) next) }
+        requires next { IsStep self.now.model.now next }
+        requires room { length trail.old.steps.items + length (nodes_of routes.now.lists piece) ≤ 1000 }
+        ensures back { IfSome result (WentBack self.now.model.now self.now.d self.now.v (runs_of self.now)
+            (nodes_of routes.now.lists piece) next trail.old.steps.items trail.new.steps.items) }
+        ensures range { IfSome result (IsStep self.now.model.now) }
     {
         match piece {
-            Piece::Node { node } => self.to_visit(stage, node),
+            Piece::Node { node } => self.step_back(node, next, trail),
             Piece::Chain {
                 vehicle,
                 from,
@@ -137,27 +148,137 @@ impl<'m> Guide<'m> {
                 reversed,
             } => {
                 let list = routes.list(vehicle);
-                self.along_chain(&list[from as usize..to as usize], reversed, stage)
+                self.back_along_chain(&list[from as usize..to as usize], reversed, next, trail)
             }
         }
     }
 
-    // It goes on along a chain, or along the chain backwards.
+    /// Back along a chain, or along the chain backwards: from its last node to its first, or the other way round.
     #[inline]
-    fn along_chain(&self, chain: &[u32], reversed: bool, stage: Stage) -> Option<Stage>
+    pub fn back_along_chain(
+        &self,
+        chain: &[u32],
+        reversed: bool,
+        next: Step,
+        trail: &mut Trail,
+    ) -> Option<Step>
         requires guide { IsGuide self.now }
-        requires few { length chain.now ≤ 1000 }
         requires visits { All (λ node. IsTrue (is_visit self.now.model.now node))
             (cond reversed (reverse chain.now) chain.now) }
-        requires stage { IsStageOf self.now.model.now 9002 stage }
+        requires next { IsStep self.now.model.now next }
+        requires room { length trail.old.steps.items + length (cond reversed (reverse chain.now) chain.now) ≤ 1000 }
+        ensures back { IfSome result (WentBack self.now.model.now self.now.d self.now.v (runs_of self.now)
+            (cond reversed (reverse chain.now) chain.now) next trail.old.steps.items trail.new.steps.items) }
+        ensures range { IfSome result (IsStep self.now.model.now) }
+    {
+        let mut first = next;
+        for k in 0..chain.len() {
+            let node = node_in(chain, reversed, chain.len() - 1 - k);
+            match self.step_back(node, first, trail) {
+                Some(step) => first = step,
+                None => return None,
+            }
+        }
+        Some(first)
+    }
+
+    // Back to a visit.
+    #[inline]
+    fn step_back(&self, node: u32, next: Step, trail: &mut Trail) -> Option<Step>
+        requires guide { IsGuide self.now }
+        requires node { IsTrue (is_visit self.now.model.now node) }
+        requires next { IsStep self.now.model.now next }
+        requires room { length trail.old.steps.items < 1000 }
+        ensures back { IfSome result (λ step. (nodes : List ℕ) → nodes ≡ node ∷ []
+            → WentBack self.now.model.now self.now.d self.now.v (runs_of self.now)
+            nodes next trail.old.steps.items trail.new.steps.items step) }
+        ensures range { IfSome result (IsStep self.now.model.now) }
+    {
+        let step = self.before(node, next)?;
+        trail.steps.push(step);
+        Some(step)
+    }
+
+    /// The step to a visit that comes before the next step, nothing where it allows no cumul from its floor on.
+    #[inline]
+    pub fn before(&self, node: u32, next: Step) -> Option<Step>
+        requires guide { IsGuide self.now }
+        requires node { IsTrue (is_visit self.now.model.now node) }
+        requires next { IsStep self.now.model.now next }
+        ensures value { IfSome result (λ step.
+            before_by self.now.model.now self.now.d self.now.v (runs_of self.now) node next ≡ Some step) }
+        ensures range { IfSome result (IsVisitStep self.now.model.now) }
+    {
+        let floor = self.floor_of(node, self.visits[node as usize], next)?;
+        Some(Step { node, floor })
+    }
+
+    /// The floor of the start before the next step, nothing where it allows no cumul from there on.
+    #[inline]
+    pub fn start_floor(&self, next: Step) -> Option<i64>
+        requires guide { IsGuide self.now }
+        requires next { IsStep self.now.model.now next }
+        ensures value { IfSome result (λ floor.
+            floor_by self.now.model.now self.now.d self.now.v (vehicle_at self.now.model.now self.now.v).start
+            self.now.start next ≡ Some floor) }
+        ensures range { IfSome result (IsIn (pos 0) horizon) }
+    {
+        let start = self.model.vehicles.get(self.v as usize).start;
+        let floor = self.floor_of(start, self.start, next)?;
+        Some(floor)
+    }
+
+    // The floor of a stop at a node, before the next step.
+    #[inline]
+    fn floor_of(&self, node: u32, allowed: Run, next: Step) -> Option<i64>
+        requires guide { IsGuide self.now }
+        requires node { node < self.now.model.now.nodes }
+        requires allowed { HasCumulEnds allowed }
+        requires next { IsStep self.now.model.now next }
+        ensures value { IfSome result (λ floor.
+            floor_by self.now.model.now self.now.d self.now.v node allowed next ≡ Some floor) }
+        ensures range { IfSome result (IsIn (pos 0) horizon) }
+    {
+        let transit = self
+            .model
+            .transit_by(self.d, self.v, self.evaluator, node, next.node);
+        let floor = (next.floor - transit - self.slack).max(allowed.lo);
+        if floor > allowed.hi {
+            return None;
+        }
+        Some(floor)
+    }
+
+    /// The vehicle stands at its start, at a cumul.
+    #[inline]
+    pub fn standing(&self, cumul: i64) -> Stage
+        requires guide { IsGuide self.now }
+        requires cumul { IsIn (pos 0) horizon cumul }
+        ensures value { result ≡ standing_by self.now.model.now self.now.d self.now.v cumul }
+        ensures range { IsStageOf self.now.model.now 1 result }
+    {
+        let dimension = self.model.dimensions.get(self.d as usize);
+        Stage {
+            at: self.model.vehicles.get(self.v as usize).start,
+            cumul,
+            soft: row_cost(StopRow::of_key(&dimension.starts, self.v), cumul),
+        }
+    }
+
+    /// It goes on along a trail, from the last step on it to the first; nothing where it cannot.
+    #[inline]
+    pub fn along_trail(&self, trail: &Trail, stage: Stage) -> Option<Stage>
+        requires guide { IsGuide self.now }
+        requires steps { All (IsVisitStep self.now.model.now) (reverse trail.now.steps.items) }
+        requires stage { IsStageOf self.now.model.now 1002 stage }
         ensures value { IfSome result (λ next. along self.now.model.now self.now.d self.now.v (runs_of self.now)
-            (Some stage) (cond reversed (reverse chain.now) chain.now) ≡ Some next) }
-        ensures range { IfSome result (λ next. (n : ℕ) → IsStageOf self.now.model.now n stage
-            → IsStageOf self.now.model.now (n + 1000) next) }
+            (Some stage) (reverse trail.now.steps.items) ≡ Some next) }
+        ensures range { IfSome result (IsStageOf self.now.model.now 2002) }
     {
         let mut gone = stage;
-        for k in 0..chain.len() {
-            match self.to_visit(gone, node_in(chain, reversed, k)) {
+        let many = trail.steps.len();
+        for k in 0..many {
+            match self.to_visit(gone, trail.steps[many - 1 - k]) {
                 Some(next) => gone = next,
                 None => return None,
             }
@@ -167,26 +288,30 @@ impl<'m> Guide<'m> {
 
     /// It goes on to a visit, nothing where it cannot.
     #[inline]
-    pub fn to_visit(&self, stage: Stage, node: u32) -> Option<Stage>
+    pub fn to_visit(&self, stage: Stage, step: Step) -> Option<Stage>
         requires guide { IsGuide self.now }
-        requires stage { IsStageOf self.now.model.now 12000 stage }
-        requires node { IsTrue (is_visit self.now.model.now node) }
+        requires stage { IsStageOf self.now.model.now 4000 stage }
+        requires step { IsVisitStep self.now.model.now step }
         ensures value { IfSome result (λ next.
-            to_visit_by self.now.model.now self.now.d self.now.v (runs_of self.now) node stage ≡ Some next) }
-        ensures at { IfSome result (λ next. next.at ≡ node) }
+            to_visit_by self.now.model.now self.now.d self.now.v (runs_of self.now) step stage ≡ Some next) }
+        ensures at { IfSome result (λ next. next.at ≡ step.node) }
         ensures range { IfSome result (λ next. (n : ℕ) → IsStageOf self.now.model.now n stage
             → IsStageOf self.now.model.now (n + 1) next) }
     {
         let dimension = self.model.dimensions.get(self.d as usize);
-        let row = row_of(&dimension.nodes, &self.table.rows, node);
-        self.go_on(stage, node, self.visits[node as usize], row)
+        let row = row_of(&dimension.nodes, &self.table.rows, step.node);
+        let raised = Run {
+            lo: step.floor,
+            hi: self.visits[step.node as usize].hi,
+        };
+        self.go_on(stage, step.node, raised, row)
     }
 
     /// It goes on to its end, nothing where it cannot.
     #[inline]
     pub fn to_end(&self, stage: Stage) -> Option<Stage>
         requires guide { IsGuide self.now }
-        requires stage { IsStageOf self.now.model.now 12000 stage }
+        requires stage { IsStageOf self.now.model.now 4000 stage }
         ensures value { IfSome result (λ next.
             to_end_by self.now.model.now self.now.d self.now.v (runs_of self.now) stage ≡ Some next) }
         ensures range { IfSome result (λ next. (n : ℕ) → IsStageOf self.now.model.now n stage
@@ -201,7 +326,7 @@ impl<'m> Guide<'m> {
     #[inline]
     fn go_on(&self, stage: Stage, node: u32, allowed: Run, row: Option<&StopRow>) -> Option<Stage>
         requires guide { IsGuide self.now }
-        requires stage { IsStageOf self.now.model.now 12000 stage }
+        requires stage { IsStageOf self.now.model.now 4000 stage }
         requires node { node < self.now.model.now.nodes }
         requires allowed { HasCumulEnds allowed }
         requires row { WherePresent IsStopRow (option_copied row) }

@@ -2,6 +2,7 @@
 
 ghost use Rattle.std.specs.Prelude.{◌*◌, ◌-ℤ◌, pos};
 ghost use Rattle.std.specs.Prelude.{◌≡◌, ◌<◌, ◌≤◌, ◌+◌, All, ℕ, List, IfOk, IfSome, IsTrue, Some, drop, length};
+ghost use Rattle.std.specs.Prelude.{slice_index_or, take};
 ghost use Rattle.std.specs.List.{list_all};
 ghost use Rattle.vr_model.specs.moves.Moves.{with_route};
 ghost use Rattle.vr_model.specs.routes.Routes.{route};
@@ -16,10 +17,12 @@ ghost use Rattle.vr_timings.specs.Tables.{IsTable};
 ghost use Rattle.vr_timings.specs.Timings.{IsTiming, IsTimingOf};
 ghost use Rattle.vr_walks.specs.Lists.{IsUsed};
 ghost use Rattle.vr_cumuls.specs.Guides.{runs_of, IsGuide};
-ghost use Rattle.vr_cumuls.specs.Kept.{AreKept, IsKept};
-ghost use Rattle.vr_cumuls.specs.Stages.{paid_more, whole, IsStageOf};
+ghost use Rattle.vr_cumuls.specs.Floors.{end_step, first_of, IsStep, IsVisitStep};
+ghost use Rattle.vr_cumuls.specs.Kept.{steps_of, AreKept, AreSteps, HasMet, IsKept};
+ghost use Rattle.vr_cumuls.specs.Stages.{paid_more, setting_out, standing, whole, IsStageOf};
 
 use crate::guides::{Guide, Stage};
+use crate::trails::{Step, Trail};
 use arrayvec::ArrayVec;
 use std::alloc::Global;
 use std::marker::Model;
@@ -31,14 +34,24 @@ use vr_timings::{Table, Timing};
 /// What is kept of the list of a vehicle.
 #[derive(Drop)]
 pub struct Kept {
-    // the stages at the start, at each visit and at the end; fewer where they are not found stop by stop
+    // the steps to its visits, from the last one to the first
+    trail: Trail,
+    // the stages at the start, at each visit and at the end; fewer where there is no schedule
     stages: ArrayVec<Stage, 1002>,
+}
+
+/// Where a walk along new steps begins: the stage there, and the cumul at the start.
+#[derive(Clone, Copy)]
+pub struct Met {
+    stage: Stage,
+    start: i64,
 }
 
 impl Kept {
     // Of no list.
     fn new() -> Kept {
         Kept {
+            trail: Trail::new(),
             stages: ArrayVec::new(),
         }
     }
@@ -50,7 +63,7 @@ impl Kept {
         self.stages.clear();
     }
 
-    // Writes the stages of a list, as far as there are any.
+    // Writes the steps and the stages of a list, as far as there are any.
     fn write(&mut self, guide: &Guide, list: &[u32])
         requires guide { IsGuide guide.now }
         requires few { length list.now ≤ 1000 }
@@ -58,13 +71,33 @@ impl Kept {
         ensures { IsKept guide.now.model.now guide.now.d guide.now.v list.now self.new }
     {
         self.stages.clear();
-        let Some(first) = guide.setting_out() else {
+        self.trail.steps.clear();
+        let end = guide.end_step();
+        if let Some(first) = guide.back_along_chain(list, false, end, &mut self.trail) {
+            self.write_stages(guide, list, first);
+        }
+    }
+
+    // Writes the stages along the steps, of which `first` is the first one.
+    fn write_stages(&mut self, guide: &Guide, list: &[u32], first: Step)
+        requires guide { IsGuide guide.now }
+        requires few { length list.now ≤ 1000 }
+        requires none { length self.old.stages.items ≡ 0 }
+        requires steps { AreSteps guide.now.model.now guide.now.d guide.now.v (runs_of guide.now) list.now
+            (steps_of self.old) }
+        requires known { All (IsVisitStep guide.now.model.now) (steps_of self.old) }
+        requires first { first ≡ first_of (steps_of self.old) (end_step guide.now.model.now guide.now.v
+            (runs_of guide.now)) }
+        requires range { IsStep guide.now.model.now first }
+        ensures { IsKept guide.now.model.now guide.now.d guide.now.v list.now self.new }
+    {
+        let Some(floor) = guide.start_floor(first) else {
             return;
         };
-        let mut stage = first;
+        let mut stage = guide.standing(floor);
         self.stages.push(stage);
         for k in 0..list.len() {
-            match guide.to_visit(stage, list[k]) {
+            match guide.to_visit(stage, self.trail.steps[list.len() - 1 - k]) {
                 Some(next) => stage = next,
                 None => return,
             }
@@ -75,6 +108,100 @@ impl Kept {
         }
     }
 
+    // The kept step to the stop behind the first `k` visits of a list of `n`.
+    #[inline]
+    fn step_behind(&self, guide: &Guide, n: usize, k: usize) -> Step
+        requires guide { IsGuide guide.now }
+        requires many { length self.now.trail.steps.items ≡ n }
+        requires known { All (IsVisitStep guide.now.model.now) (steps_of self.now) }
+        requires place { k ≤ n }
+        ensures range { IsStep guide.now.model.now result }
+        ensures value { result ≡ slice_index_or (steps_of self.now) k (end_step guide.now.model.now guide.now.v
+            (runs_of guide.now)) }
+    {
+        if k < n {
+            self.trail.steps[n - 1 - k]
+        } else {
+            guide.end_step()
+        }
+    }
+
+    // Back along the first `front` visits of the list, which come before the next step, until a floor is as kept: the
+    // kept stage there. Where all are others, the stage at the start. Nothing where there is no schedule.
+    fn meet(
+        &self,
+        guide: &Guide,
+        list: &[u32],
+        front: usize,
+        next: Step,
+        trail: &mut Trail,
+    ) -> Option<Met>
+        requires guide { IsGuide guide.now }
+        requires kept { IsKept guide.now.model.now guide.now.d guide.now.v list.now self.now }
+        requires told { length self.now.stages.items ≡ length list.now + 2 }
+        requires few { length list.now ≤ 1000 }
+        requires place { front ≤ length list.now }
+        requires next { IsStep guide.now.model.now next }
+        requires room { length trail.old.steps.items + front ≤ 1000 }
+        ensures { IfSome result (HasMet guide.now.model.now guide.now.d guide.now.v (runs_of guide.now)
+            (take front list.now) next trail.old.steps.items trail.new.steps.items) }
+    {
+        let mut first = next;
+        for k in 0..front {
+            let place = front - 1 - k;
+            let kept = self.trail.steps[list.len() - 1 - place];
+            let step = match guide.before(kept.node, first) {
+                Some(step) => step,
+                None => return None,
+            };
+            if step.floor == kept.floor {
+                return Some(Met {
+                    stage: self.stages[place + 1],
+                    start: self.stages[0].cumul,
+                });
+            }
+            trail.steps.push(step);
+            first = step;
+        }
+        self.set_out(guide, list, first)
+    }
+
+    // The stage at the start before another step, nothing where the start allows no cumul from its floor on.
+    fn set_out(&self, guide: &Guide, list: &[u32], next: Step) -> Option<Met>
+        requires guide { IsGuide guide.now }
+        requires kept { IsKept guide.now.model.now guide.now.d guide.now.v list.now self.now }
+        requires told { length self.now.stages.items ≡ length list.now + 2 }
+        requires few { length list.now ≤ 1000 }
+        requires next { IsStep guide.now.model.now next }
+        ensures value { IfSome result (λ met. setting_out guide.now.model.now guide.now.d guide.now.v
+            (runs_of guide.now) next ≡ Some met.stage) }
+        ensures start { IfSome result (λ met. met.start ≡ met.stage.cumul) }
+        ensures range { IfSome result (λ met. IsStageOf guide.now.model.now 1002 met.stage) }
+    {
+        let floor = guide.start_floor(next)?;
+        Some(Met {
+            stage: self.start_stage(guide, list, floor),
+            start: floor,
+        })
+    }
+
+    // The stage at the start at a cumul, the kept one where it is the same.
+    fn start_stage(&self, guide: &Guide, list: &[u32], cumul: i64) -> Stage
+        requires guide { IsGuide guide.now }
+        requires kept { IsKept guide.now.model.now guide.now.d guide.now.v list.now self.now }
+        requires told { length self.now.stages.items ≡ length list.now + 2 }
+        requires few { length list.now ≤ 1000 }
+        requires cumul { IsIn (pos 0) horizon cumul }
+        ensures value { result ≡ standing guide.now.model.now guide.now.d guide.now.v cumul }
+        ensures range { IsStageOf guide.now.model.now 1002 result }
+    {
+        let kept = self.stages[0];
+        if kept.cumul == cumul {
+            return kept;
+        }
+        guide.standing(cumul)
+    }
+
     // The stage at the end of a vehicle that goes on along the list from place `behind` on, nothing where it cannot.
     // Once it comes to a cumul that is kept, all that follows is as kept.
     fn end_behind(&self, guide: &Guide, list: &[u32], behind: usize, stage: Stage) -> Option<Stage>
@@ -82,15 +209,14 @@ impl Kept {
         requires kept { IsKept guide.now.model.now guide.now.d guide.now.v list.now self.now }
         requires told { length self.now.stages.items ≡ length list.now + 2 }
         requires few { length list.now ≤ 1000 }
-        requires visits { All (λ node. IsTrue (is_visit guide.now.model.now node)) list.now }
         requires place { behind ≤ length list.now }
-        requires stage { IsStageOf guide.now.model.now 9002 stage }
+        requires stage { IsStageOf guide.now.model.now 2002 stage }
         ensures { IfSome result (λ end. whole guide.now.model.now guide.now.d guide.now.v (runs_of guide.now)
-            (Some stage) (drop behind list.now) ≡ Some end) }
+            (Some stage) (drop behind (steps_of self.now)) ≡ Some end) }
     {
         let mut gone = stage;
         for k in behind..list.len() {
-            match guide.to_visit(gone, list[k]) {
+            match guide.to_visit(gone, self.trail.steps[list.len() - 1 - k]) {
                 Some(next) => gone = next,
                 None => return None,
             }
@@ -103,15 +229,19 @@ impl Kept {
     }
 
     // What the chosen schedule of the list that pieces are joined to comes to.
-    fn timing_after(&self, guide: &Guide, routes: &Routes, pieces: &[Piece]) -> Option<Timing>
+    fn timing_after(
+        &self,
+        guide: &Guide,
+        routes: &Routes,
+        pieces: &[Piece],
+        trail: &mut Trail,
+    ) -> Option<Timing>
         requires guide { IsGuide guide.now }
         requires known { guide.now.v < length routes.now.lists }
         requires kept { IsKept guide.now.model.now guide.now.d guide.now.v (route routes.now.lists guide.now.v)
             self.now }
-        requires before { IsTrue (list_all (is_visit guide.now.model.now) (route routes.now.lists guide.now.v)) }
         requires short { length (route routes.now.lists guide.now.v) ≤ 1000 }
         requires within { All (IsWithin routes.now.lists) pieces.now }
-        requires pieces { length pieces.now ≤ 8 }
         requires used { IsUsed guide.now.model.now (joined routes.now.lists pieces.now) }
         requires few { length (joined routes.now.lists pieces.now) ≤ 1000 }
         ensures timing { IfSome result (IsTiming guide.now.model.now guide.now.d guide.now.v
@@ -124,12 +254,17 @@ impl Kept {
             return None;
         }
         let ends = strip(routes, guide.v, pieces);
-        let front = self.stages[ends.front as usize];
-        let stage = guide.along_pieces(routes, ends.middle, front)?;
-        let end = self.end_behind(guide, list, ends.behind as usize, stage)?;
+        let front = ends.front as usize;
+        let behind = ends.behind as usize;
+        trail.steps.clear();
+        let next = self.step_behind(guide, list.len(), behind);
+        let first = guide.back_along_pieces(routes, ends.middle, next, trail)?;
+        let met = self.meet(guide, list, front, first, trail)?;
+        let gone = guide.along_trail(trail, met.stage)?;
+        let end = self.end_behind(guide, list, behind, gone)?;
         Some(Timing {
             soft: end.soft,
-            start: self.stages[0].cumul,
+            start: met.start,
             last: end.cumul,
         })
     }
@@ -141,7 +276,7 @@ fn resumed(end: Stage, kept: Stage, gone: Stage) -> Stage
     requires end { IsIn (pos 0) (pos (cumul_cost * 1002)) end.soft }
     requires cumul { IsIn (pos 0) horizon end.cumul }
     requires kept { IsIn (pos 0) (pos (cumul_cost * 1002)) kept.soft }
-    requires gone { IsIn (pos 0) (pos (cumul_cost * 11000)) gone.soft }
+    requires gone { IsIn (pos 0) (pos (cumul_cost * 4000)) gone.soft }
     ensures { result ≡ paid_more (gone.soft -ℤ kept.soft) end }
 {
     Stage {
@@ -218,8 +353,8 @@ impl KeptCumuls {
 
     /// What the chosen schedule of the list that pieces are joined to comes to, for vehicle `v` in dimension `d`.
     /// Nothing where it is not told so: where nothing is kept, the vehicle has breaks, a stop allows several runs of
-    /// cumuls, some slack would be too great at the least cumuls, or there is no schedule. What the change keeps of the
-    /// front of the list is not walked, and of its end as much as gets another cumul.
+    /// cumuls, or there is no schedule. What the change keeps of the front of the list is walked as far back as it gets
+    /// another floor, and of its end as much as gets another cumul. The trail is written over.
     pub fn timing_after(
         &self,
         model: &RoutingModel,
@@ -228,6 +363,7 @@ impl KeptCumuls {
         v: u32,
         routes: &Routes,
         pieces: &[Piece],
+        trail: &mut Trail,
     ) -> Option<Timing>
         requires well_formed { IsWellFormed model.now }
         requires dimension { d < length model.now.dimensions }
@@ -235,10 +371,8 @@ impl KeptCumuls {
         requires table { IsTable model.now d table.now }
         requires kept { AreKept model.now d routes.now.lists self.now }
         requires known { v < length routes.now.lists }
-        requires before { IsTrue (list_all (is_visit model.now) (route routes.now.lists v)) }
         requires short { length (route routes.now.lists v) ≤ 1000 }
         requires within { All (IsWithin routes.now.lists) pieces.now }
-        requires pieces { length pieces.now ≤ 8 }
         requires used { IsUsed model.now (joined routes.now.lists pieces.now) }
         requires few { length (joined routes.now.lists pieces.now) ≤ 1000 }
         ensures timing { IfSome result (IsTiming model.now d v (joined routes.now.lists pieces.now)) }
@@ -248,7 +382,7 @@ impl KeptCumuls {
             return None;
         }
         let guide = Guide::of(model, table, d, v)?;
-        let timing = self.lists[v as usize].timing_after(&guide, routes, pieces)?;
+        let timing = self.lists[v as usize].timing_after(&guide, routes, pieces, trail)?;
         Some(timing)
     }
 }

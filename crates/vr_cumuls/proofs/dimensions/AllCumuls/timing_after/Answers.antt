@@ -13,9 +13,6 @@ timing_after-requires-clause-vehicle c =
     let e = c.vehicle.ensures in
     omega (arith, e, known, many)
 
-pub timing_after-requires-clause-before : goal.timing_after-requires-clause-before
-timing_after-requires-clause-before c = (list-of c.args.model.now c.requires.well_formed c.args.routes.now.lists c.requires.before c.vehicle.result).tour.visits
-
 pub timing_after-requires-clause-short : goal.timing_after-requires-clause-short
 timing_after-requires-clause-short c = (list-of c.args.model.now c.requires.well_formed c.args.routes.now.lists c.requires.before c.vehicle.result).few
 

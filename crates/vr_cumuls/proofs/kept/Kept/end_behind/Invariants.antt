@@ -1,10 +1,11 @@
 use Rattle.std.proofs.Common.{◌≡◌, ◌+◌, Some, drop}
 use Rattle.vr_cumuls.specs.Guides.{runs_of}
+use Rattle.vr_cumuls.specs.Kept.{steps_of}
 use Rattle.vr_cumuls.specs.Stages.{whole, IsStageOf}
 use Rattle.vr_cumuls.proofs.kept.Kept.end_behind.Given as goal
 
 abbrev pub invariant-loop-k : goal.invariant-loop-k
 invariant-loop-k l = record {
-  value : whole l.guide.model.now l.guide.d l.guide.v (runs_of l.guide) (Some l.gone) (drop l.k l.list) ≡ whole l.guide.model.now l.guide.d l.guide.v (runs_of l.guide) (Some l.fn.stage) (drop l.fn.behind l.list);
-  range : IsStageOf l.guide.model.now (9002 + l.k) l.gone;
+  value : whole l.guide.model.now l.guide.d l.guide.v (runs_of l.guide) (Some l.gone) (drop l.k (steps_of l.self)) ≡ whole l.guide.model.now l.guide.d l.guide.v (runs_of l.guide) (Some l.fn.stage) (drop l.fn.behind (steps_of l.self));
+  range : IsStageOf l.guide.model.now (2002 + l.k) l.gone;
 }

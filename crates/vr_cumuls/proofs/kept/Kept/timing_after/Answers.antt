@@ -1,21 +1,39 @@
-use Rattle.std.proofs.Common.{◌≡◌, ◌++◌, List, ℕ, Some, drop, length, take, ap, subst, arith}
-use Rattle.std.specs.Prelude.{pos, All, IsTrue, slice_index_or}
+use Rattle.std.proofs.Common.{◌≡◌, ◌∙◌, ◌+◌, ◌++◌, List, ℕ, drop, length, take, ap, sym, subst, arith}
+use Rattle.std.specs.Prelude.{All, IsTrue}
 use Rattle.vr_model.specs.tables.Tables.{is_visit}
 use Rattle.vr_model.specs.routes.Routes.{route}
 use Rattle.vr_routes.specs.Pieces.{joined}
 use Rattle.vr_routes.proofs.JoinedPieces.{all_left, all_right}
-use Rattle.vr_cumuls.specs.Guides.{runs_of}
-use Rattle.vr_cumuls.specs.Stages.{whole}
-use Rattle.vr_cumuls.specs.declared.guides.Stage.{Stage}
-use Rattle.vr_cumuls.proofs.KeptLemmas.{all-visits, kept-small}
-use Rattle.vr_cumuls.proofs.AfterLemmas.{after-range, after-timing}
+use Rattle.vr_cumuls.specs.Floors.{WentBack}
+use Rattle.vr_cumuls.specs.Guides.{runs_of, IsGuide}
+use Rattle.vr_cumuls.specs.Kept.{steps_of, AreAllStages, HasMet, IsKept}
+use Rattle.vr_cumuls.specs.declared.guides.Guide.{Guide}
+use Rattle.vr_cumuls.specs.declared.kept.Kept.{Kept}
+use Rattle.vr_cumuls.proofs.KeptLemmas.{all-visits, items-many}
+use Rattle.vr_cumuls.proofs.AfterLemmas.{after-timed, trail-known}
 use Rattle.vr_cumuls.proofs.kept.Kept.timing_after.Goals as goal
 
-abbrev no_stage : Stage
-no_stage = record { at = 0; cumul = pos 0; soft = pos 0 }
+-- what is kept is told
+told : (guide : Guide) (kept : Kept) (list read : List ℕ) → IsGuide guide → IsKept guide.model.now guide.d guide.v list kept → read ≡ list → length kept.stages.items ≡ length read + 2
+    → AreAllStages guide.model.now guide.d guide.v (runs_of guide) list (steps_of kept) kept.stages.items
+told guide kept list read h is same test = is.told (let n = ap length same in omega (arith, test, n)) (runs_of guide) h.runs_are
 
-pub along_pieces-requires-clause-visits : goal.along_pieces-requires-clause-visits
-along_pieces-requires-clause-visits c =
+pub step_behind-next-requires-clause-many : goal.step_behind-next-requires-clause-many
+step_behind-next-requires-clause-many c =
+    let g = c.args.guide.now in
+    let list : List ℕ = route c.args.routes.now.lists g.v in
+    let test = c.if-len-list.false in
+    let is = told g c.args.self.now list c.list-list.result.now c.requires.guide c.requires.kept c.list-list.ensures.value (let n = c.len.ensures.value in omega (arith, test, n)) in
+    items-many g.model.now g.d g.v (runs_of g) list c.args.self.now.trail.steps.items is.steps_are ∙ ap length (sym c.list-list.ensures.value)
+
+pub step_behind-next-requires-clause-known : goal.step_behind-next-requires-clause-known
+step_behind-next-requires-clause-known c =
+    let g = c.args.guide.now in
+    let test = c.if-len-list.false in
+    (told g c.args.self.now (route c.args.routes.now.lists g.v) c.list-list.result.now c.requires.guide c.requires.kept c.list-list.ensures.value (let n = c.len.ensures.value in omega (arith, test, n))).known
+
+pub back_along_pieces-requires-clause-visits : goal.back_along_pieces-requires-clause-visits
+back_along_pieces-requires-clause-visits c =
     let lists : List (List ℕ) = c.args.routes.now.lists in
     let ends = c.strip-ends.result in
     let list : List ℕ = route lists c.args.guide.now.v in
@@ -24,49 +42,32 @@ along_pieces-requires-clause-visits c =
     let all : All P (take ends.front list ++ (middle ++ drop ends.behind list)) = subst (All P) c.strip-ends.ensures.joins (all-visits c.args.guide.now.model.now (joined lists c.args.pieces.now) c.requires.used.tour.visits) in
     all_left P middle (drop ends.behind list) (all_right P (take ends.front list) (middle ++ drop ends.behind list) all)
 
-pub along_pieces-requires-clause-stage : goal.along_pieces-requires-clause-stage
-along_pieces-requires-clause-stage c =
+pub along_trail-requires-clause-steps : goal.along_trail-requires-clause-steps
+along_trail-requires-clause-steps c =
     let g = c.args.guide.now in
-    let list : List ℕ = route c.args.routes.now.lists g.v in
-    let test = c.if-len-list.false in
-    let n = ap (λ (l : List ℕ). length l) c.list-list.ensures.value in
-    let told = c.requires.kept.told (omega (arith, test, n)) (runs_of g) c.requires.guide.runs_are in
-    let a = c.strip-ends.ensures.order in
-    let b = c.strip-ends.ensures.high in
-    kept-small g.model.now g.d g.v (runs_of g) list c.args.self.now.stages.items c.deref.result.now told c.deref.ensures.0 c.requires.short c.strip-ends.result.front no_stage (omega (arith, a, b))
+    let ends = c.strip-ends.result in
+    let between = c.back_along_pieces.new.trail.steps.items in
+    let middle : List ℕ = joined c.args.routes.now.lists ends.middle.now in
+    let back = subst (λ l. WentBack g.model.now g.d g.v (runs_of g) middle c.step_behind-next.result l between c.in_ok-first.first) c.clear.ensures c.in_ok-first.ensures.back in
+    trail-known g.model.now g.d g.v (runs_of g) (take ends.front c.list-list.result.now) middle c.step_behind-next.result c.in_ok-first.first between c.meet.new.trail.steps.items c.in_ok-met.met back c.in_ok-met.ensures
 
-pub returns-clause-timing : goal.returns-clause-timing
-returns-clause-timing c =
+pub returns : goal.returns
+returns c =
     let g = c.args.guide.now in
     let h = c.requires.guide in
     let lists : List (List ℕ) = c.args.routes.now.lists in
     let list : List ℕ = route lists g.v in
-    let stages : List Stage = c.args.self.now.stages.items in
     let test = c.if-len-list.false in
-    let n = ap (λ (l : List ℕ). length l) c.list-list.ensures.value in
-    let told = c.requires.kept.told (omega (arith, test, n)) (runs_of g) h.runs_are in
+    let is = told g c.args.self.now list c.list-list.result.now h c.requires.kept c.list-list.ensures.value (let n = c.len.ensures.value in omega (arith, test, n)) in
     let ends = c.strip-ends.result in
-    let e = c.strip-ends.ensures in
-    let a = e.order in
-    let b = e.high in
-    after-timing c.chosen_is_least.ensures g.model.now h.well_formed g.d g.v h.dimension (runs_of g) h.runs_are list stages told (joined lists c.args.pieces.now) c.requires.used c.requires.few ends.front ends.behind (joined lists ends.middle.now) (omega (arith, a, b)) e.joins
-    (slice_index_or c.deref.result.now ends.front no_stage) c.in_ok-stage.stage c.in_ok-end.end (slice_index_or c.deref-2.result.now 0 no_stage) no_stage (ap (λ (l : List Stage). slice_index_or l ends.front no_stage) c.deref.ensures.0) c.in_ok-stage.ensures.value
-    (subst (λ (l : List ℕ). whole g.model.now g.d g.v (runs_of g) (Some c.in_ok-stage.stage) (drop ends.behind l) ≡ Some c.in_ok-end.end) c.list-list.ensures.value c.in_ok-end.ensures) (ap (λ (l : List Stage). slice_index_or l 0 no_stage) c.deref-2.ensures.0)
-
-pub returns-clause-range : goal.returns-clause-range
-returns-clause-range c =
-    let g = c.args.guide.now in
-    let h = c.requires.guide in
-    let lists : List (List ℕ) = c.args.routes.now.lists in
-    let list : List ℕ = route lists g.v in
-    let stages : List Stage = c.args.self.now.stages.items in
-    let test = c.if-len-list.false in
-    let n = ap (λ (l : List ℕ). length l) c.list-list.ensures.value in
-    let told = c.requires.kept.told (omega (arith, test, n)) (runs_of g) h.runs_are in
-    let ends = c.strip-ends.result in
-    let e = c.strip-ends.ensures in
-    let a = e.order in
-    let b = e.high in
-    after-range c.chosen_is_least.ensures g.model.now h.well_formed g.d g.v h.dimension (runs_of g) h.runs_are list stages told (joined lists c.args.pieces.now) c.requires.used c.requires.few ends.front ends.behind (joined lists ends.middle.now) (omega (arith, a, b)) e.joins
-    (slice_index_or c.deref.result.now ends.front no_stage) c.in_ok-stage.stage c.in_ok-end.end (slice_index_or c.deref-2.result.now 0 no_stage) no_stage (ap (λ (l : List Stage). slice_index_or l ends.front no_stage) c.deref.ensures.0) c.in_ok-stage.ensures.value
-    (subst (λ (l : List ℕ). whole g.model.now g.d g.v (runs_of g) (Some c.in_ok-stage.stage) (drop ends.behind l) ≡ Some c.in_ok-end.end) c.list-list.ensures.value c.in_ok-end.ensures) (ap (λ (l : List Stage). slice_index_or l 0 no_stage) c.deref-2.ensures.0)
+    let between = c.back_along_pieces.new.trail.steps.items in
+    let trail = c.meet.new.trail.steps.items in
+    let next = c.step_behind-next.result in
+    let first = c.in_ok-first.first in
+    let met = c.in_ok-met.met in
+    let middle : List ℕ = joined lists ends.middle.now in
+    let back = subst (λ l. WentBack g.model.now g.d g.v (runs_of g) middle next l between first) c.clear.ensures c.in_ok-first.ensures.back in
+    let meets = subst (λ (l : List ℕ). HasMet g.model.now g.d g.v (runs_of g) (take ends.front l) first between trail met) c.list-list.ensures.value c.in_ok-met.ensures in
+    let timed = after-timed g.model.now g.d g.v (runs_of g) list (steps_of c.args.self.now) is.steps_are (joined lists c.args.pieces.now) ends.front ends.behind middle c.strip-ends.ensures.joins next first between trail c.step_behind-next.ensures.value back
+    met meets c.in_ok-gone.gone c.in_ok-end.end c.in_ok-gone.ensures.value c.in_ok-end.ensures c.chosen_is_least.ensures h.well_formed h.dimension h.runs_are c.requires.used c.requires.few in
+    record { timing = timed.is_timing; range = timed.range }

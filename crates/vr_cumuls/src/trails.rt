@@ -1,0 +1,27 @@
+//! The stops that a vehicle heads for, and how early it may come to each.
+
+use arrayvec::ArrayVec;
+
+/// A stop that a vehicle heads for: its node, and its floor, the least cumul there from which the vehicle can go on to
+/// its end with no slack above the greatest one. Floors are in `0..=2^36`.
+#[derive(Clone, Copy, Default)]
+pub struct Step {
+    pub node: u32,
+    pub floor: i64,
+}
+
+/// Room for the steps to visits of a list, from the last one to the first. A caller lends it, so that a walk from the
+/// end backwards takes no memory; what is on it before a call does not matter.
+#[derive(Drop)]
+pub struct Trail {
+    pub steps: ArrayVec<Step, 1000>,
+}
+
+impl Trail {
+    /// With no step on it. It takes no memory.
+    pub fn new() -> Trail {
+        Trail {
+            steps: ArrayVec::new(),
+        }
+    }
+}
