@@ -1,17 +1,17 @@
 -- What is kept of lists, written stage by stage, and after a list is replaced.
-use Rattle.std.proofs.Common.{◌≡◌, ◌≢◌, ◌∙◌, ◌⊎◌, inl, inr, ℕ, zero, suc, ◌+◌, ◌<◌, ◌≤◌, List, [], ◌∷◌, ◌++◌, length, length-set, reverse, take, drop, refl, sym, ap, subst, add-one, arith, Option, Some, None}
+use Rattle.std.proofs.Common.{◌≡◌, ◌∙◌, inl, inr, ℕ, zero, suc, ◌+◌, ◌<◌, ◌≤◌, List, [], ◌∷◌, ◌++◌, length, length-set, reverse, take, drop, refl, sym, ap, subst, add-one, arith, Option, Some, None}
 use Rattle.std.specs.Prelude.{All, IsTrue, ℤ, pos, option_map, slice_index_or, slice_set}
 use Rattle.std.specs.List.{list_all}
 use Rattle.std.proofs.lemmas.Bool.{and_parts, cases_lt}
-use Rattle.std.proofs.lemmas.List.{take-append-drop, get_or_append_left, get_or_push, length-reverse, take_all, get_or-set_same, get_or-set_other}
+use Rattle.std.proofs.lemmas.List.{take-append-drop, get_or_append_left, get_or_push, length-reverse, take_all}
 use Rattle.std.proofs.lemmas.List.Elements.{All-take}
 use Rattle.std.proofs.lemmas.List.Sums.{fold_more}
 use Rattle.std.specs.Option.{option_and_then}
-use Rattle.vr_model.specs.routes.Routes.{route}
 use Rattle.vr_model.specs.moves.Moves.{with_route}
 use Rattle.vr_model.specs.tables.Tables.{is_visit, vehicle_at}
 use Rattle.vr_model.specs.declared.records.Model.{Model}
-use Rattle.vr_model.proofs.routes.Lists.{route_set_same, route_set_other}
+use Rattle.vr_model.proofs.routes.Lists.{route_set_other}
+use Rattle.vr_parts.proofs.RowLemmas.{set-at}
 use Rattle.vr_cumuls.specs.Floors.{end_step, first_of, floor_of, AreAimed, IsVisitStep}
 use Rattle.vr_cumuls.specs.Runs.{Runs, AreRuns}
 use Rattle.vr_cumuls.specs.Stages.{along, setting_out, standing, to_end, to_visit, visit_more, whole, IsStageOf}
@@ -158,35 +158,12 @@ kept-so model d v runs of_these list kept are = record { told = λ many others o
 pub kept-none : (model : Model) (d v : ℕ) (list : List ℕ) (kept : Kept) → length kept.stages.items ≤ suc (length list) → IsKept model d v list kept
 kept-none model d v list kept few = record { told = λ many. absurd (omega (arith, few, many)) }
 
--- ---- one list more
-
-pub each-push : (P : ℕ → Kept → Type 0) (xs : List Kept) (x : Kept) → ((k : ℕ) (d : Kept) → k < length xs → P k (slice_index_or xs k d)) → P (length xs) x
-    → (k : ℕ) (d : Kept) → k < length (xs ++ x ∷ []) → P k (slice_index_or (xs ++ x ∷ []) k d)
-each-push P [] x each last zero d low = last
-each-push P [] x each last (suc k) d low = absurd (omega (arith, low))
-each-push P (y ∷ ys) x each last zero d low = each zero d (omega arith)
-each-push P (y ∷ ys) x each last (suc k) d low = each-push (λ j. P (suc j)) ys x (λ j e less. each (suc j) e (omega (arith, less))) last k d (omega (arith, low))
-
 -- ---- a list is replaced
-
-same-or-not : (u v : ℕ) → (u ≡ v) ⊎ (u ≢ v)
-same-or-not u v = go (cases_lt u v) (cases_lt v u)
-  where
-    go : (u < v) ⊎ (v ≤ u) → (v < u) ⊎ (u ≤ v) → (u ≡ v) ⊎ (u ≢ v)
-    go (inl less) _ = inr (λ e. absurd (omega (arith, less, e)))
-    go (inr _) (inl more) = inr (λ e. absurd (omega (arith, more, e)))
-    go (inr high) (inr low) = inl (omega (arith, high, low))
 
 pub kept-set : (model : Model) (d : ℕ) (lists : List (List ℕ)) (kept : List Kept) (v : ℕ) (list : List ℕ) (new : Kept) → AreKept model d lists kept → v < length lists → v < length kept → IsKept model d v list new
     → AreKept model d (with_route lists v list) (slice_set kept v new)
-kept-set model d lists kept v list new h known low is = record { each = λ u other under. go u other under (same-or-not u v) }
-  where
-    go : (u : ℕ) (other : Kept) → u < length (slice_set kept v new) → (u ≡ v) ⊎ (u ≢ v) → IsKept model d u (route (with_route lists v list) u) (slice_index_or (slice_set kept v new) u other)
-    go u other under (inr apart) =
-        subst (λ l. IsKept model d u l (slice_index_or (slice_set kept v new) u other)) (sym (route_set_other lists v u list apart))
-        (subst (IsKept model d u (route lists u)) (sym (get_or-set_other kept v u new other apart)) (h.each u other (let l = length-set kept v new in omega (arith, under, l))))
-    go u other under (inl same) = subst (λ w. IsKept model d w (route (with_route lists v list) w) (slice_index_or (slice_set kept v new) w other)) (sym same)
-        (subst (λ l. IsKept model d v l (slice_index_or (slice_set kept v new) v other)) (sym (route_set_same lists v list known)) (subst (IsKept model d v list) (sym (get_or-set_same kept v new other low)) is))
+kept-set model d lists kept v list new h known low is =
+    record { each = λ u other under. set-at (IsKept model d) lists kept v list new low is u other (λ _. known) (λ _. h.each u other (let l = length-set kept v new in omega (arith, under, l))) }
 
 -- where it is not kept, what is kept stays
 pub kept-stays : (model : Model) (d : ℕ) (lists : List (List ℕ)) (kept : List Kept) (v : ℕ) (list : List ℕ) → AreKept model d lists kept → length kept ≤ v → AreKept model d (with_route lists v list) kept

@@ -6,7 +6,7 @@ use Rattle.vr_model.specs.tables.Tables.{is_visit}
 use Rattle.vr_routes.specs.Pieces.{joined, no_part, part_at}
 use Rattle.vr_parts.proofs.PartLemmas.{small}
 use Rattle.vr_parts.proofs.SumLemmas.{upto, upto-many, upto-next}
-use Rattle.vr_earliest.proofs.KeptLemmas.{written}
+use Rattle.vr_parts.proofs.RowLemmas.{written}
 use Rattle.vr_cumuls.specs.declared.kept.Kept.{Kept}
 use Rattle.vr_cumuls.specs.Kept.{AreAllKept}
 use Rattle.vr_cumuls.proofs.PartLemmas.{list-after}

@@ -1,6 +1,6 @@
 use Rattle.std.proofs.Common.{◌∙◌, ℕ, ◌+◌, List, length-append, ap, subst, sym, arith}
 use Rattle.vr_timings.proofs.TableLemmas.{table_at}
-use Rattle.vr_earliest.proofs.FloorLemmas.{each-push}
+use Rattle.vr_parts.proofs.RowLemmas.{each-push}
 use Rattle.vr_cumuls.specs.declared.kept.Kept.{Kept}
 use Rattle.vr_cumuls.specs.Kept.{AreKept}
 use Rattle.vr_cumuls.proofs.dimensions.AllCumuls.open.Goals as goal

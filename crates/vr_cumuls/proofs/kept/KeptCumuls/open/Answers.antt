@@ -6,7 +6,7 @@ use Rattle.vr_model.specs.tables.Tables.{is_visit}
 use Rattle.vr_model.specs.routes.Routes.{route}
 use Rattle.vr_cumuls.specs.Kept.{IsKept}
 use Rattle.vr_cumuls.specs.declared.kept.Kept.{Kept}
-use Rattle.vr_cumuls.proofs.KeptLemmas.{each-push}
+use Rattle.vr_parts.proofs.RowLemmas.{each-push}
 use Rattle.vr_cumuls.proofs.kept.KeptCumuls.open.Goals as goal
 
 pub write_list-requires-clause-vehicle : goal.write_list-requires-clause-vehicle
