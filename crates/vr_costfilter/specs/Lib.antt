@@ -1,4 +1,0 @@
-pub mod Bounds
-pub mod PlanCosts
-pub mod GlobalCosts
-pub mod Spreads

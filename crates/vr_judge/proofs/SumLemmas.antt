@@ -6,8 +6,8 @@ use Rattle.vr_model.specs.routes.Costs.{arcs_part, assigned, cost, fixed_part, g
 use Rattle.vr_model.specs.declared.records.Model.{Model}
 use Rattle.vr_timings.specs.Bounds.{IsAround, cumul_cost}
 use Rattle.vr_parts.specs.Bounds.{IsAddedByChange}
-use Rattle.vr_costfilter.specs.GlobalCosts.{global_cost_of}
-use Rattle.vr_costfilter.specs.PlanCosts.{soft_and_span}
+use Rattle.vr_globalcosts.specs.GlobalCosts.{global_cost_of}
+use Rattle.vr_plancosts.specs.PlanCosts.{soft_and_span, IsPlanChange}
 
 -- a number as code reads it
 abbrev pub read : ℤ → ℤ
@@ -18,7 +18,7 @@ pub record AreBounded (arcs fixed groups plans spans : ℤ) : Type 0 where
   pub arcs_are : IsAddedByChange arcs
   pub fixed_are : IsAddedByChange fixed
   pub groups_are : IsAddedByChange groups
-  pub plans_are : IsAround 5525520000000000000 plans
+  pub plans_are : IsPlanChange plans
   pub spans_are : IsAround (cumul_cost * 8) spans
 
 -- each, and the sum of the first two, three, four and five, is read as it is

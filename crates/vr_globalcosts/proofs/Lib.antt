@@ -1,0 +1,2 @@
+pub mod GlobalLemmas
+pub mod SpreadLemmas

@@ -1,0 +1,63 @@
+use Rattle.std.proofs.Common.{◌∙◌, ℕ, List, Option, ap, sym, subst, arith}
+use Rattle.std.proofs.lemmas.Int.{ints}
+use Rattle.vr_model.specs.declared.records.Model.{Model}
+use Rattle.vr_timings.specs.declared.timings.Timing.{Timing}
+use Rattle.vr_routes.specs.Pieces.{changed}
+use Rattle.vr_earliest.specs.Earlies.{AreEarlies}
+use Rattle.vr_globalcosts.specs.GlobalCosts.{NonePays}
+use Rattle.vr_globalcosts.specs.Spreads.{global_least, AreRowsBefore}
+use Rattle.vr_globalcosts.proofs.GlobalLemmas.{none-costs}
+use Rattle.vr_globalcosts.proofs.SpreadLemmas.{least-holds, none-least, rows-before}
+use Rattle.vr_globalcosts.proofs.globals.GlobalSpan.least.Goals as goal
+
+pub returns-then-is_idle-clause-least : goal.returns-then-is_idle-clause-least
+returns-then-is_idle-clause-least c valid =
+    let model = c.args.self.now.model in
+    let lists : List (List ℕ) = c.args.routes.now.lists in
+    let none = subst NonePays (ap (λ s. s.model) c.self.view_is) (c.is_idle.ensures c.if-is_idle.true) in
+    let a = none-costs model none lists in
+    let b = none-costs model none (changed lists c.args.change.now) in
+    omega (arith, ints, a, b)
+
+pub least-requires-clause-earlies : goal.least-requires-clause-earlies
+least-requires-clause-earlies c =
+    subst (λ (m : Model). AreEarlies m c.args.routes.now.lists c.args.change.now c.args.earlies.now) (sym (ap (λ s. s.model) c.self.view_is)) c.requires.earlies
+
+pub least-requires-clause-before : goal.least-requires-clause-before
+least-requires-clause-before c =
+    let lists : List (List ℕ) = c.args.routes.now.lists in
+    let before = rows-before c.args.self.now c.args.routes.now c.requires.stands c.args.change.now c.requires.made in
+    subst (λ (m : Model). AreRowsBefore m lists c.deref.result.now c.args.change.now) (sym (ap (λ s. s.model) c.self.view_is))
+    (subst (λ (rows : List (List (Option Timing))). AreRowsBefore c.args.self.now.model lists rows c.args.change.now) (sym (c.deref.ensures.value ∙ ap (λ s. s.rows) c.self.view_is)) before)
+
+pub returns-then-is_idle-clause-value : goal.returns-then-is_idle-clause-value
+returns-then-is_idle-clause-value c =
+    let model = c.args.self.now.model in
+    let lists : List (List ℕ) = c.args.routes.now.lists in
+    let none = subst NonePays (ap (λ s. s.model) c.self.view_is) (c.is_idle.ensures c.if-is_idle.true) in
+    let a = none-least model none lists c.args.change.now in
+    let b = none-costs model none lists in
+    omega (arith, ints, a, b)
+
+pub returns-clause-value : goal.returns-clause-value
+returns-clause-value c =
+    let least = c.least.ensures.value ∙ ap (λ m. global_least m c.args.routes.now.lists c.args.change.now) (ap (λ s. s.model) c.self.view_is) in
+    let cost = ap (λ s. s.cost) c.self.view_is in
+    let now = c.requires.stands.cost in
+    let r = c.least.ensures.range in
+    let s = c.requires.stands.range in
+    omega (arith, ints, least, cost, now, r.low, r.high, s.low, s.high)
+
+pub returns-clause-least : goal.returns-clause-least
+returns-clause-least c valid =
+    let h = c.requires.stands in
+    let value = returns-clause-value c in
+    let least = least-holds c.args.self.now.model h.well_formed c.args.routes.now.lists c.args.change.now c.requires.made.makes.parts_are valid in
+    omega (arith, ints, value, least)
+
+pub returns-clause-range : goal.returns-clause-range
+returns-clause-range c =
+    let cost = ap (λ s. s.cost) c.self.view_is in
+    let r = c.least.ensures.range in
+    let s = c.requires.stands.range in
+    record { low = omega (arith, ints, cost, r.low, r.high, s.low, s.high); high = omega (arith, ints, cost, r.low, r.high, s.low, s.high) }

@@ -1,0 +1,28 @@
+use Rattle.std.proofs.Common.{◌∙◌, ◌<◌, ℕ, List, ap, length, subst, sym, arith}
+use Rattle.std.specs.Prelude.{fold}
+use Rattle.std.proofs.lemmas.List.{take_all}
+use Rattle.std.proofs.lemmas.List.Sums.{fold_more}
+use Rattle.vr_routes.specs.Pieces.{no_part, part_at}
+use Rattle.vr_globalcosts.specs.Spreads.{spread_of_kept, with_changed}
+use Rattle.vr_globalcosts.proofs.spreads.spread_after.Goals as goal
+
+pub loop-k-preserved : goal.loop-k-preserved
+loop-k-preserved c =
+    let model = c.args.model.now in
+    let lists : List (List ℕ) = c.args.routes.now.lists in
+    let parts = c.args.change.now in
+    let e = c.with_changed-spread.ensures in
+    let low = subst (λ n. c.loop-k.k < n) c.parts-k-end.ensures.value c.loop-k-test.true in
+    record {
+      value = e.value ∙ ap (λ s. with_changed model lists c.args.d s (part_at parts c.loop-k.k)) c.loop-k.invariant.value
+          ∙ sym (fold_more (with_changed model lists c.args.d) (spread_of_kept model lists parts c.args.d (length lists)) parts c.loop-k.k no_part low);
+      range = e.range;
+    }
+
+pub returns-clause-value : goal.returns-clause-value
+returns-clause-value c =
+    let lists : List (List ℕ) = c.args.routes.now.lists in
+    let many = c.parts-k-end.ensures.value in
+    let end = c.loop-k-test.false in
+    c.loop-k.invariant.value
+    ∙ ap (fold (with_changed c.args.model.now lists c.args.d) (spread_of_kept c.args.model.now lists c.args.change.now c.args.d (length lists))) (take_all c.loop-k.k c.args.change.now (omega (arith, many, end)))

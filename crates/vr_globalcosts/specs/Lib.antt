@@ -1,0 +1,2 @@
+pub mod GlobalCosts
+pub mod Spreads

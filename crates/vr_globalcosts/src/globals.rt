@@ -1,0 +1,223 @@
+//! Global spans.
+
+ghost use Rattle.std.specs.Prelude.{◌≡◌, ◌-ℤ◌, ◌≤ℤ◌, ◌<◌, ◌*◌, false, IsTrue};
+ghost use Rattle.std.specs.Prelude.{IfOk, OnOk, OnErr, length};
+ghost use Rattle.vr_model.specs.tables.Tables.{visits};
+ghost use Rattle.vr_model.specs.tables.WellFormed.{IsWellFormed};
+ghost use Rattle.vr_model.specs.routes.Rules.{is_valid};
+ghost use Rattle.vr_routes.specs.Pieces.{changed, joined, part_at};
+ghost use Rattle.vr_routes.specs.Changes.{IsMadeOn};
+ghost use Rattle.vr_timings.specs.Bounds.{cumul_cost, IsAround};
+ghost use Rattle.vr_earliest.specs.Earlies.{AreEarlies};
+ghost use Rattle.vr_globalcosts.specs.GlobalCosts.{global_cost_of, AreKept, AreLike, AreNext};
+ghost use Rattle.vr_globalcosts.specs.GlobalCosts.{AreSpansReady, IsGlobalCost, StandsSpans};
+ghost use Rattle.vr_parts.specs.Parts.{NothingReady};
+ghost use Rattle.vr_globalcosts.specs.Spreads.{global_least};
+
+use crate::reaches::{ListTimings, SpanRules};
+use arrayvec::ArrayVec;
+use std::alloc::Global;
+use std::marker::Model;
+use vr_cumuls::AllCumuls;
+use vr_earliest::Earlies;
+use vr_model::{Model as RoutingModel, NoMemory};
+use vr_parts::CostPart;
+use vr_routes::{Change, Routes};
+use vr_timedparts::Room;
+
+/// What global spans cost (`SetGlobalSpanCostCoefficient` in OR-Tools). A change is told by the cumuls that are kept of
+/// the committed lists, along what it puts in and behind that until a cumul is as it was, in the dimensions whose
+/// global span has a coefficient; only where they do not tell it are the schedules of the changed lists built. Where
+/// lists start and end after the change is then looked over vehicle by vehicle.
+#[derive(Drop)]
+pub struct GlobalSpan<'m> {
+    rules: SpanRules<'m>,
+    // what the schedules of each list come to
+    rows: Vec<ListTimings>,
+    // what the global spans cost
+    cost: i64,
+    // the vehicles of a change that is ready, their rows, and what the global spans cost after it
+    vehicles: ArrayVec<u32, 2>,
+    next: ArrayVec<ListTimings, 2>,
+    next_cost: i64,
+    is_prepared: bool,
+    // the cumuls of the committed lists
+    cumuls: AllCumuls,
+    // room for a list that a change makes
+    room: Room,
+}
+
+impl<'m> Model for GlobalSpan<'m> {
+    ghost use Rattle.vr_globalcosts.specs.GlobalCosts.{KeptSpans};
+
+    ghost Value = { KeptSpans };
+
+    ghost view = { λ part. record {
+      model = part.rules;
+      rows = part.rows.items;
+      cost = part.cost;
+      vehicles = part.vehicles.items;
+      next = part.next.items;
+      next_cost = part.next_cost;
+      is_prepared = part.is_prepared;
+      cumuls = part.cumuls;
+    } };
+}
+
+impl<'m> GlobalSpan<'m> {
+    /// What the global spans cost with the lists of routes. The only refusal is want of memory, as of each other call.
+    pub fn open(
+        alloc: Global,
+        model: &'m RoutingModel,
+        routes: &Routes,
+    ) -> Result<GlobalSpan<'m>, NoMemory>
+        requires well_formed { IsWellFormed model.now }
+        requires of_model { routes.now.visits ≡ visits model.now }
+        requires valid { IsTrue (is_valid model.now routes.now.lists) }
+        ensures model { IfOk result (λ part. part.model ≡ model.now) }
+        ensures stands { IfOk result (λ part. StandsSpans part routes.now) }
+    {
+        let rules = SpanRules::open(alloc, model)?;
+        let mut room = Room::new(alloc);
+        let mut rows = Vec::new(alloc);
+        for v in 0..routes.vehicles() {
+            let row = rules.row(v, routes.list(v), &mut room.timer)?;
+            rows.push(row)?;
+        }
+        let cost = rules.cost(&rows, &[], &[]);
+        let cumuls = rules.cumuls(alloc, routes)?;
+        Ok(GlobalSpan {
+            rules,
+            rows,
+            cost,
+            vehicles: ArrayVec::new(),
+            next: ArrayVec::new(),
+            next_cost: 0,
+            is_prepared: false,
+            cumuls,
+            room,
+        })
+    }
+
+    /// What a change adds at least, where the lists after it are valid: how far its lists and those that stay reach at
+    /// least, less what the global spans cost now. The caller hands in what the chosen schedules of the changed lists
+    /// come to at least. No schedule is built.
+    pub fn least(&self, earlies: &Earlies, routes: &Routes, change: &Change) -> i64
+        requires stands { StandsSpans self.now routes.now }
+        requires earlies { AreEarlies self.now.model routes.now.lists change.now earlies.now }
+        requires made { IsMadeOn routes.now change.now }
+        ensures value { result ≡ global_least self.now.model routes.now.lists change.now
+            -ℤ global_cost_of self.now.model routes.now.lists }
+        ensures least { IsTrue (is_valid self.now.model (changed routes.now.lists change.now))
+            → result ≤ℤ (global_cost_of self.now.model (changed routes.now.lists change.now)
+            -ℤ global_cost_of self.now.model routes.now.lists) }
+        ensures range { IsAround (cumul_cost * 8) result }
+    {
+        if self.rules.is_idle() {
+            return 0;
+        }
+        self.rules.least(earlies, &self.rows, routes, change) - self.cost
+    }
+
+    // What the schedules come to of the list that part `k` of a change gives its vehicle.
+    fn row_after(
+        &mut self,
+        routes: &Routes,
+        change: &Change,
+        k: usize,
+    ) -> Result<ListTimings, NoMemory>
+        requires stands { StandsSpans self.old routes.now }
+        requires made { IsMadeOn routes.now change.now }
+        requires valid { IsTrue (is_valid self.old.model (changed routes.now.lists change.now)) }
+        requires part { k < length change.now }
+        ensures kept { IfOk result (AreKept self.old.model (part_at change.now k).vehicle
+            (joined routes.now.lists (part_at change.now k).pieces)) }
+        ensures stays { self.new ≡ self.old }
+    {
+        if self.rules.is_idle() {
+            return Ok([None; 4]);
+        }
+        let row = self
+            .rules
+            .row_after(&self.cumuls, routes, change, k, &mut self.room)?;
+        Ok(row)
+    }
+
+    // Writes the rows of the lists after a change, and makes none ready.
+    fn write_next(&mut self, routes: &Routes, change: &Change) -> Result<(), NoMemory>
+        requires stands { StandsSpans self.old routes.now }
+        requires made { IsMadeOn routes.now change.now }
+        requires valid { IsTrue (is_valid self.old.model (changed routes.now.lists change.now)) }
+        ensures next { OnOk result (AreNext self.new routes.now change.now) }
+        ensures unprepared { self.new.is_prepared ≡ false }
+        ensures like { AreLike self.old self.new }
+    {
+        self.is_prepared = false;
+        self.vehicles.clear();
+        self.next.clear();
+        for k in 0..change.parts() {
+            let row = self.row_after(routes, change, k)?;
+            self.vehicles.push(change.vehicle(k));
+            self.next.push(row);
+        }
+        Ok(())
+    }
+
+    // Makes what is kept of the lists after a change ready.
+    fn make_ready(&mut self, routes: &Routes, change: &Change) -> Result<(), NoMemory>
+        requires stands { StandsSpans self.old routes.now }
+        requires made { IsMadeOn routes.now change.now }
+        requires valid { IsTrue (is_valid self.old.model (changed routes.now.lists change.now)) }
+        ensures ready { OnOk result (AreSpansReady self.new routes.now change.now) }
+        ensures unready { OnErr result (NothingReady (AreSpansReady self.new)) }
+        ensures like { AreLike self.old self.new }
+    {
+        self.write_next(routes, change)?;
+        self.next_cost = self.rules.cost(&self.rows, &self.vehicles, &self.next);
+        self.is_prepared = true;
+        Ok(())
+    }
+}
+
+impl<'m> CostPart for GlobalSpan<'m> {
+    ghost use Rattle.std.specs.Prelude.{List};
+
+    ghost model = { λ part. part.model };
+
+    ghost value = { global_cost_of };
+
+    ghost stands_at = { StandsSpans };
+
+    ghost ready = { AreSpansReady };
+
+    fn difference(&mut self, routes: &Routes, change: &Change) -> Result<i64, NoMemory>
+        requires stands { StandsSpans self.old routes.now }
+        requires made { IsMadeOn routes.now change.now }
+        requires valid { IsTrue (is_valid self.old.model (changed routes.now.lists change.now)) }
+        ensures exact { IfOk result (λ difference. difference
+            ≡ global_cost_of self.old.model (changed routes.now.lists change.now)
+            -ℤ global_cost_of self.old.model routes.now.lists) }
+        ensures stands { StandsSpans self.new routes.now }
+        ensures model { self.new.model ≡ self.old.model }
+        ensures range { IfOk result (IsAround (cumul_cost * 8)) }
+    {
+        if self.rules.is_idle() {
+            return Ok(0);
+        }
+        self.make_ready(routes, change)?;
+        Ok(self.next_cost - self.cost)
+    }
+
+    fn prepare(&mut self, routes: &Routes, change: &Change) -> Result<(), NoMemory> {
+        let made = self.make_ready(routes, change)?;
+        Ok(made)
+    }
+
+    fn commit(&mut self, routes: &Routes, change: &Change) {
+        self.rules.commit(&mut self.cumuls, routes, change);
+        for k in 0..change.parts() {
+            self.rows[change.vehicle(k) as usize] = self.next[k];
+        }
+        self.cost = self.next_cost;
+    }
+}

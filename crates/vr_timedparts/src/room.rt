@@ -1,0 +1,24 @@
+//! Room that calls are lent.
+
+use std::alloc::Global;
+use vr_routes::Row;
+use vr_timings::Timer;
+
+/// Room for a list that a change makes, and for its schedule.
+#[derive(Drop)]
+pub struct Room {
+    /// The list.
+    pub row: Row,
+    /// What its schedule is built with.
+    pub timer: Timer,
+}
+
+impl Room {
+    /// Room for any list. It takes no memory before the first schedule is built.
+    pub fn new(alloc: Global) -> Room {
+        Room {
+            row: Row::new(),
+            timer: Timer::new(alloc),
+        }
+    }
+}
