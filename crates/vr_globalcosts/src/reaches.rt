@@ -275,7 +275,8 @@ fn kept_after(
     if Piece::nodes_in(routes, change.pieces(k)) == 0 {
         return Ok(None);
     }
-    if let Some(timing) = cumuls.timing_after(model, table, d, routes, change, k) {
+    let told = cumuls.timing_after(model, table, d, routes, change, k, &mut room.trail);
+    if let Some(timing) = told {
         return Ok(Some(timing));
     }
     routes.write_after(change, k, &mut room.row);

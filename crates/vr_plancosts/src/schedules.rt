@@ -229,7 +229,8 @@ fn cost_of_plan_after(
         return Ok(0);
     }
     let v = change.vehicle(k);
-    if let Some(timing) = cumuls.timing_after(model, table, d, routes, change, k) {
+    let told = cumuls.timing_after(model, table, d, routes, change, k, &mut room.trail);
+    if let Some(timing) = told {
         return Ok(cost_of_timing(model, d, v, timing));
     }
     routes.write_after(change, k, &mut room.row);

@@ -1,12 +1,15 @@
 //! Room that calls are lent.
 
 use std::alloc::Global;
+use vr_cumuls::Trail;
 use vr_routes::Row;
 use vr_timings::Timer;
 
-/// Room for a list that a change makes, and for its schedule.
+/// Room for a list that a change makes, and for its schedule, whether it is told by what is kept or built.
 #[derive(Drop)]
 pub struct Room {
+    /// The stops of it that kept cumuls do not tell.
+    pub trail: Trail,
     /// The list.
     pub row: Row,
     /// What its schedule is built with.
@@ -17,6 +20,7 @@ impl Room {
     /// Room for any list. It takes no memory before the first schedule is built.
     pub fn new(alloc: Global) -> Room {
         Room {
+            trail: Trail::new(),
             row: Row::new(),
             timer: Timer::new(alloc),
         }
