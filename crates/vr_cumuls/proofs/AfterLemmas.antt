@@ -16,7 +16,7 @@ use Rattle.vr_cumuls.specs.Kept.{AreSteps, HasMet}
 use Rattle.vr_cumuls.specs.Runs.{Runs, AreRuns}
 use Rattle.vr_cumuls.specs.Stages.{along, setting_out, whole}
 use Rattle.vr_cumuls.specs.declared.guides.Stage.{Stage}
-use Rattle.vr_cumuls.specs.declared.kept.Met.{Met}
+use Rattle.vr_cumuls.specs.declared.kept.Outset.{Outset}
 use Rattle.vr_cumuls.specs.declared.trails.Step.{Step}
 use Rattle.vr_cumuls.proofs.FloorLemmas.{aimed-append, aimed-right, first-append}
 use Rattle.vr_cumuls.proofs.StageLemmas.{along-append, whole-append}
@@ -28,13 +28,13 @@ pub record IsTimed (model : Model) (d v : ℕ) (list : List ℕ) (timing : Timin
   pub range : IsTimingOf (length list + 2) timing
 
 -- what is on a trail, back along the middle of a list and then along a part of its front
-trail-is : (model : Model) (d v : ℕ) (runs : Runs) (nodes middle : List ℕ) (next first : Step) (between trail : List Step) (met : Met) (back : WentBack model d v runs middle next [] between first) (meets : HasMet model d v runs nodes first between trail met)
+trail-is : (model : Model) (d v : ℕ) (runs : Runs) (nodes middle : List ℕ) (next first : Step) (between trail : List Step) (met : Outset) (back : WentBack model d v runs middle next [] between first) (meets : HasMet model d v runs nodes first between trail met)
     → reverse trail ≡ meets.steps ++ back.steps
 trail-is model d v runs nodes middle next first between trail met back meets =
     ap reverse (meets.trail ∙ ap (λ l. l ++ reverse meets.steps) back.trail) ∙ reverse-append (reverse back.steps) (reverse meets.steps)
     ∙ ap₂ (λ (xs ys : List Step). xs ++ ys) (reverse-reverse meets.steps) (reverse-reverse back.steps)
 
-pub trail-known : (model : Model) (d v : ℕ) (runs : Runs) (nodes middle : List ℕ) (next first : Step) (between trail : List Step) (met : Met) → WentBack model d v runs middle next [] between first → HasMet model d v runs nodes first between trail met
+pub trail-known : (model : Model) (d v : ℕ) (runs : Runs) (nodes middle : List ℕ) (next first : Step) (between trail : List Step) (met : Outset) → WentBack model d v runs middle next [] between first → HasMet model d v runs nodes first between trail met
     → All (IsVisitStep model) (reverse trail)
 trail-known model d v runs nodes middle next first between trail met back meets =
     subst (All (IsVisitStep model)) (sym (trail-is model d v runs nodes middle next first between trail met back meets)) (All-append (IsVisitStep model) meets.steps back.steps meets.known back.known)
@@ -42,7 +42,7 @@ trail-known model d v runs nodes middle next first between trail met back meets 
 -- a list keeps the front and the end of an old one: new steps were put on a trail back along its middle and along a part of the front, then gone along
 module _ (model : Model) (d v : ℕ) (runs : Runs) (old : List ℕ) (steps : List Step) (steps_are : AreSteps model d v runs old steps) (new : List ℕ) (front behind : ℕ) (middle : List ℕ) (joins : new ≡ take front old ++ (middle ++ drop behind old))
     (next first : Step) (between trail : List Step) (next_is : next ≡ slice_index_or steps behind (end_step model v runs)) (back : WentBack model d v runs middle next [] between first)
-    (met : Met) (meets : HasMet model d v runs (take front old) first between trail met) (gone end : Stage) (anew : along model d v runs (Some met.stage) (reverse trail) ≡ Some gone)
+    (met : Outset) (meets : HasMet model d v runs (take front old) first between trail met) (gone end : Stage) (anew : along model d v runs (Some met.stage) (reverse trail) ≡ Some gone)
     (rest : whole model d v runs (Some gone) (drop behind steps) ≡ Some end) where
   abbrev kept : List Step
   kept = meets.kept ++ meets.steps

@@ -8,7 +8,7 @@ use Rattle.vr_cumuls.specs.Kept.{AreAllStages, HasMet}
 use Rattle.vr_cumuls.specs.Runs.{Runs}
 use Rattle.vr_cumuls.specs.Stages.{along, setting_out, IsStageOf}
 use Rattle.vr_cumuls.specs.declared.guides.Stage.{Stage}
-use Rattle.vr_cumuls.specs.declared.kept.Met.{Met}
+use Rattle.vr_cumuls.specs.declared.kept.Outset.{Outset}
 use Rattle.vr_cumuls.specs.declared.trails.Step.{Step}
 use Rattle.vr_cumuls.proofs.FloorLemmas.{aimed-append, aimed-cons, aimed-left, aimed-none, before-had, first-append, many-steps}
 use Rattle.vr_cumuls.proofs.KeptLemmas.{kept-out}
@@ -41,7 +41,7 @@ module _ (model : Model) (d v : ℕ) (runs : Runs) (list : List ℕ) (steps : Li
       (aimed-append model d v runs (take i steps) (last ∷ []) first (subst (AreAimed model d v runs (take i steps)) next ahead) (aimed-cons model d v runs last [] first here (aimed-none model d v runs first)))
 
   -- a floor is as kept at visit i of the front
-  pub met-kept : (front i : ℕ) (next first step : Step) (old new : List Step) (met : Met) (other : Stage) → i < front → front ≤ length list
+  pub met-kept : (front i : ℕ) (next first step : Step) (old new : List Step) (met : Outset) (other : Stage) → i < front → front ≤ length list
       → WentBack model d v runs (drop (i + 1) (take front list)) next old new first
       → before model d v runs (slice_index_or steps i (end_step model v runs)).node first ≡ Some step → step.floor ≡ (slice_index_or steps i (end_step model v runs)).floor
       → met.stage ≡ slice_index_or stages (i + 1) other → met.start ≡ (slice_index_or stages 0 other).cumul → IsStageOf model 1002 met.stage
@@ -70,7 +70,7 @@ module _ (model : Model) (d v : ℕ) (runs : Runs) (list : List ℕ) (steps : Li
           first-append (take (i + 1) steps) w.steps next ∙ get_or-take (i + 1) steps 0 (first_of w.steps next) (omega arith) ∙ get_or_default steps 0 (first_of w.steps next) end (omega (arith, known))
 
 -- no floor of the front is as kept
-pub met-start : (model : Model) (d v : ℕ) (runs : Runs) (nodes : List ℕ) (next first : Step) (old new : List Step) (met : Met) → WentBack model d v runs nodes next old new first
+pub met-start : (model : Model) (d v : ℕ) (runs : Runs) (nodes : List ℕ) (next first : Step) (old new : List Step) (met : Outset) → WentBack model d v runs nodes next old new first
     → setting_out model d v runs first ≡ Some met.stage → met.start ≡ met.stage.cumul → IsStageOf model 1002 met.stage → HasMet model d v runs nodes next old new met
 met-start model d v runs nodes next first old new met w out start range = record {
   kept = [];

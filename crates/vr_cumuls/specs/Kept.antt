@@ -7,7 +7,7 @@ use Rattle.vr_cumuls.specs.Floors.{end_step, first_of, nodes_in, AreAimed, IsVis
 use Rattle.vr_cumuls.specs.Stages.{along, setting_out, whole, IsStageOf}
 use Rattle.vr_cumuls.specs.declared.guides.Stage.{Stage}
 use Rattle.vr_cumuls.specs.declared.kept.Kept.{Kept}
-use Rattle.vr_cumuls.specs.declared.kept.Met.{Met}
+use Rattle.vr_cumuls.specs.declared.kept.Outset.{Outset}
 use Rattle.vr_cumuls.specs.declared.trails.Step.{Step}
 
 -- the steps of vehicle v to the visits of a list, and then to its end
@@ -49,7 +49,7 @@ pub record IsKept (model : Model) (d v : ℕ) (list : List ℕ) (kept : Kept) : 
 -- of the steps to these nodes, before the next step, the last ones were put on a trail, and a stage is met behind the
 -- first ones
 pub record HasMet (model : Model) (d v : ℕ) (runs : Runs) (nodes : List ℕ) (next : Step) (old new : List Step)
-    (met : Met) : Type 0 where
+    (met : Outset) : Type 0 where
   pub kept : List Step
   pub steps : List Step
   pub nodes_are : nodes_in (kept ++ steps) ≡ nodes

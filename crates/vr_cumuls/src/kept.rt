@@ -42,7 +42,7 @@ pub struct Kept {
 
 /// Where a walk along new steps begins: the stage there, and the cumul at the start.
 #[derive(Clone, Copy)]
-pub struct Met {
+pub struct Outset {
     stage: Stage,
     start: i64,
 }
@@ -135,7 +135,7 @@ impl Kept {
         front: usize,
         next: Step,
         trail: &mut Trail,
-    ) -> Option<Met>
+    ) -> Option<Outset>
         requires guide { IsGuide guide.now }
         requires kept { IsKept guide.now.model.now guide.now.d guide.now.v list.now self.now }
         requires told { length self.now.stages.items ≡ length list.now + 2 }
@@ -155,7 +155,7 @@ impl Kept {
                 None => return None,
             };
             if step.floor == kept.floor {
-                return Some(Met {
+                return Some(Outset {
                     stage: self.stages[place + 1],
                     start: self.stages[0].cumul,
                 });
@@ -167,7 +167,7 @@ impl Kept {
     }
 
     // The stage at the start before another step, nothing where the start allows no cumul from its floor on.
-    fn set_out(&self, guide: &Guide, list: &[u32], next: Step) -> Option<Met>
+    fn set_out(&self, guide: &Guide, list: &[u32], next: Step) -> Option<Outset>
         requires guide { IsGuide guide.now }
         requires kept { IsKept guide.now.model.now guide.now.d guide.now.v list.now self.now }
         requires told { length self.now.stages.items ≡ length list.now + 2 }
@@ -179,7 +179,7 @@ impl Kept {
         ensures range { IfSome result (λ met. IsStageOf guide.now.model.now 1002 met.stage) }
     {
         let floor = guide.start_floor(next)?;
-        Some(Met {
+        Some(Outset {
             stage: self.start_stage(guide, list, floor),
             start: floor,
         })

@@ -11,7 +11,7 @@ use Rattle.vr_cumuls.specs.Guides.{runs_of}
 use Rattle.vr_cumuls.specs.Kept.{steps_of, HasMet}
 use Rattle.vr_cumuls.specs.Stages.{setting_out, IsStageOf}
 use Rattle.vr_cumuls.specs.declared.guides.Stage.{Stage}
-use Rattle.vr_cumuls.specs.declared.kept.Met.{Met}
+use Rattle.vr_cumuls.specs.declared.kept.Outset.{Outset}
 use Rattle.vr_cumuls.specs.declared.trails.Step.{Step}
 use Rattle.vr_cumuls.proofs.FloorLemmas.{back-many, back-more, back-none, back-one, drop-one, node-of, step-read, visit-step}
 use Rattle.vr_cumuls.proofs.KeptLemmas.{items-many, kept-small}
@@ -139,6 +139,6 @@ returns c =
     (λ met out start range. met-start g.model.now g.d g.v (runs_of g) nodes c.args.next c.loop-k.first c.args.trail.now.steps.items c.loop-k.trail.steps.items met back out start range)
     c.set_out.ensures.value c.set_out.ensures.start c.set_out.ensures.range
   where
-    out-met : (o : Option Met) (A B C P : Met → Type 0) → ((m : Met) → A m → B m → C m → P m) → IfSome o A → IfSome o B → IfSome o C → IfSome o P
+    out-met : (o : Option Outset) (A B C P : Outset → Type 0) → ((m : Outset) → A m → B m → C m → P m) → IfSome o A → IfSome o B → IfSome o C → IfSome o P
     out-met None A B C P f a b c = a
     out-met (Some m) A B C P f a b c = f m a b c
