@@ -1,2 +1,4 @@
 pub mod GlobalLemmas
+pub mod OrdersLemmas
 pub mod SpreadLemmas
+pub mod KeptLemmas

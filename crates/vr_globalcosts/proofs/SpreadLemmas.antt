@@ -1,8 +1,6 @@
 -- How far lists reach at least, one list further.
-use Rattle.std.proofs.Common.{◌≡◌, ◌≢◌, ◌∙◌, ◌<◌, ◌≤◌, ◌+◌, ℕ, zero, suc, Bool, true, List, [], ◌∷◌, false, cond, not, length, map, take, drop, refl, add-one, ap, ap₂, sym, subst, arith, inl, inr, to_z, of_z, w64}
+use Rattle.std.proofs.Common.{◌≡◌, ◌∙◌, ◌<◌, ◌≤◌, ◌+◌, ℕ, zero, suc, Bool, true, List, [], ◌∷◌, false, cond, not, length, map, take, refl, add-one, ap, ap₂, sym, subst, arith, to_z, of_z, w64}
 use Rattle.std.specs.Prelude.{ℤ, pos, neg_ℤ, fold, ◌-ℤ◌, ◌*ℤ◌, ◌≤ℤ◌, ◌==◌, ◌||◌, All, IsTrue}
-use Rattle.std.proofs.Math.Seq.{drop-cons}
-use Rattle.std.proofs.lemmas.Bool.Decides.{eqb_tells}
 use Rattle.std.proofs.lemmas.List.{take_all}
 use Rattle.std.proofs.lemmas.List.Sums.{fold_more, fold-append}
 use Rattle.std.specs.Int.{int_max, int_min}
@@ -21,45 +19,25 @@ use Rattle.vr_model.proofs.tables.Members.{In, to_below, to_filter}
 use Rattle.vr_model.proofs.routes.Bounded.{fold-max_least, fold-min_most}
 use Rattle.vr_model.proofs.routes.CostBounds.{end-up_to, start-up_to}
 use Rattle.vr_timings.specs.Extents.{global_in}
-use Rattle.vr_timings.specs.Timings.{last_with, start_with, IsTimingOf}
+use Rattle.vr_timings.specs.Timings.{last_with, start_with}
 use Rattle.vr_timings.proofs.ExtentLemmas.{times-none}
-use Rattle.vr_timings.specs.declared.timings.Timing.{Timing}
 use Rattle.vr_timings.proofs.PlanLemmas.{plan-at, used-all}
 use Rattle.vr_earliest.specs.Ways.{earliest_end, least_span}
 use Rattle.vr_earliest.specs.declared.earlies.Early.{Early}
 use Rattle.vr_routes.specs.Pieces.{ListAfter, changed, joined, no_part, part_at}
 use Rattle.vr_routes.proofs.CommitLemmas.{as_many_lists}
-use Rattle.vr_routes.specs.Changes.{AreParts, IsMadeOn}
-use Rattle.vr_routes.specs.Tours.{Tours}
-use Rattle.vr_globalcosts.specs.GlobalCosts.{global_cost_of, KeptSpans, NonePays, StandsSpans}
+use Rattle.vr_routes.specs.Changes.{AreParts}
+use Rattle.vr_globalcosts.specs.GlobalCosts.{global_cost_of, vehicles_of, NonePays}
+use Rattle.vr_globalcosts.proofs.GlobalLemmas.{away}
 use Rattle.vr_globalcosts.specs.Spreads.{first_start, gives, global_least, global_least_in, last_end, no_spread, spread_after, spread_of_kept, with_changed, with_chosen, with_kept}
-use Rattle.vr_globalcosts.specs.Spreads.{AreRowsBefore, IsSpread, IsSpreadInRange}
+use Rattle.vr_globalcosts.specs.Spreads.{IsSpread, IsSpreadInRange}
+use Rattle.vr_orders.specs.Orders.{names}
+use Rattle.vr_orders.proofs.ReachLemmas.{greatest-in, least-in}
 use Rattle.vr_globalcosts.specs.declared.spreads.Spread.{Spread}
-use Rattle.vr_parts.proofs.PartLemmas.{below-after}
 use Rattle.vr_timedparts.proofs.ChosenLemmas.{no-earlier, times-le}
 use Rattle.vr_parts.proofs.SumLemmas.{part-list, route-kept}
 
 -- ---- the greatest and the least of the numbers of some vehicles
-
-fold-max-in : (f : ℕ → ℤ) (x : ℤ) (vs : List ℕ) (v : ℕ) → In vs v → f v ≤ℤ fold int_max x (map f vs)
-fold-max-in f x [] v h = absurd h
-fold-max-in f x (w ∷ ws) v (inl e) = let i = fold-max_least (int_max x (f w)) (map f ws) in let m = int_max_is x (f w) in let s : f v ≡ f w = ap f e in omega (arith, ints, i, m, s)
-fold-max-in f x (w ∷ ws) v (inr h) = fold-max-in f (int_max x (f w)) ws v h
-
-greatest-in : (f : ℕ → ℤ) (vs : List ℕ) (v : ℕ) → In vs v → f v ≤ℤ greatest (map f vs)
-greatest-in f [] v h = absurd h
-greatest-in f (w ∷ ws) v (inl e) = let i = fold-max_least (f w) (map f ws) in let s : f v ≡ f w = ap f e in omega (arith, ints, i, s)
-greatest-in f (w ∷ ws) v (inr h) = fold-max-in f (f w) ws v h
-
-fold-min-in : (f : ℕ → ℤ) (x : ℤ) (vs : List ℕ) (v : ℕ) → In vs v → fold int_min x (map f vs) ≤ℤ f v
-fold-min-in f x [] v h = absurd h
-fold-min-in f x (w ∷ ws) v (inl e) = let i = fold-min_most (int_min x (f w)) (map f ws) in let m = int_min_is x (f w) in let s : f v ≡ f w = ap f e in omega (arith, ints, i, m, s)
-fold-min-in f x (w ∷ ws) v (inr h) = fold-min-in f (int_min x (f w)) ws v h
-
-least-in : (f : ℕ → ℤ) (vs : List ℕ) (v : ℕ) → In vs v → least (map f vs) ≤ℤ f v
-least-in f [] v h = absurd h
-least-in f (w ∷ ws) v (inl e) = let i = fold-min_most (f w) (map f ws) in let s : f v ≡ f w = ap f e in omega (arith, ints, i, s)
-least-in f (w ∷ ws) v (inr h) = fold-min-in f (f w) ws v h
 
 greatest-low : (f : ℕ → ℤ) (vs : List ℕ) → All (λ v. pos 0 ≤ℤ f v) vs → pos 0 ≤ℤ greatest (map f vs)
 greatest-low f [] each = omega (arith, ints)
@@ -145,37 +123,10 @@ module _ (model : Model) (well : IsWellFormed model) (lists : List (List ℕ)) (
 
 -- ---- one list more of those after a change
 
-both-fail : (a b : Bool) → (a || b) ≡ false → (a ≡ false) × (b ≡ false)
-both-fail true b e = absurd (let f : true ≡ false → ⊥ = λ e. Prim.cc in f e)
-both-fail false b e = (refl, e)
-
-pub test-same : (x y : ℕ) → x ≡ y → (x == y) ≡ true
-test-same x y e = elim (eqb_tells x y) [
-  | inl at ↦ at.0
-  | inr other ↦ absurd (other.1 e)
-]
-
-pub test-other : (x y : ℕ) → x ≢ y → (x == y) ≡ false
-test-other x y e = elim (eqb_tells x y) [
-  | inl at ↦ absurd (e at.1)
-  | inr other ↦ other.0
-]
-
--- a vehicle to which no part gives a list is that of no part
-away : (parts : List ListAfter) (v : ℕ) → gives parts v ≡ false → All (λ part. v ≢ part.vehicle) parts
-away [] v none k d low = absurd (omega (arith, low))
-away (p ∷ ps) v none zero d low = λ same. absurd (let f : true ≡ false → ⊥ = λ e. Prim.cc in f (sym (test-same p.vehicle v (sym same)) ∙ (both-fail (p.vehicle == v) (gives ps v) none).0))
-away (p ∷ ps) v none (suc k) d low = away ps v (both-fail (p.vehicle == v) (gives ps v) none).1 k d (omega (arith, low))
-
--- whether one of the parts from a place on gives a vehicle a list
-pub gives-next : (parts : List ListAfter) (v k : ℕ) → k < length parts → gives (drop k parts) v ≡ ((part_at parts k).vehicle == v) || gives (drop (k + 1) parts) v
-gives-next parts v k low = ap (λ ps. gives ps v) (drop-cons parts k no_part low) ∙ ap (λ n. ((part_at parts k).vehicle == v) || gives (drop n parts) v) (sym (add-one k))
-
-pub gives-none : (parts : List ListAfter) (v k : ℕ) → length parts ≤ k → gives (drop k parts) v ≡ false
-gives-none [] v zero high = refl
-gives-none [] v (suc k) high = refl
-gives-none (p ∷ ps) v zero high = absurd (omega (arith, high))
-gives-none (p ∷ ps) v (suc k) high = gives-none ps v k (omega (arith, high))
+-- some part gives a vehicle a list where it is one of their vehicles
+pub names-gives : (parts : List ListAfter) (v : ℕ) → names (vehicles_of parts) v ≡ gives parts v
+names-gives [] v = refl
+names-gives (p ∷ ps) v = ap (λ b. (p.vehicle == v) || b) (names-gives ps v)
 
 pub kept-more : (model : Model) (lists : List (List ℕ)) (parts : List ListAfter) (d n : ℕ) → spread_of_kept model lists parts d (n + 1) ≡ with_kept model lists parts d (spread_of_kept model lists parts d n) n
 kept-more model lists parts d n = ap (fold (with_kept model lists parts d) no_spread) (below-more n) ∙ fold-append (with_kept model lists parts d) no_spread (below n) (n ∷ [])
@@ -209,7 +160,7 @@ module _ (model : Model) (well : IsWellFormed model) (lists : List (List ℕ)) (
         by false none = there (is_empty (route lists v)) refl
           where
             same : route later v ≡ route lists v
-            same = route-kept lists parts lists v (away parts v none)
+            same = route-kept lists parts lists v (away parts v (names-gives parts v ∙ none))
 
             there : (b : Bool) → is_empty (route lists v) ≡ b
                 → IsSpread model later d (cond b s (reached model d v (route lists v) s))
@@ -276,33 +227,7 @@ pub same-spread : (a b : Spread) → a.last ≡ b.last → a.start ≡ b.start �
 same-spread a b last start span =
     ap₂ (λ (x y : ℤ). (let s : Spread = record { last = x; start = y; span = a.span } in s)) last start ∙ ap (λ (z : ℤ). (let s : Spread = record { last = b.last; start = b.start; span = z } in s)) span
 
--- what is kept of lists stands before a change of them
-pub rows-before : (kept : KeptSpans) (tours : Tours) → StandsSpans kept tours → (parts : List ListAfter) → IsMadeOn tours parts → AreRowsBefore kept.model tours.lists kept.rows parts
-rows-before kept tours stands parts made = record {
-  well_formed = stands.well_formed;
-  as_many = stands.as_many;
-  many = stands.many;
-  kept = stands.rows;
-  parts_are = made.makes.parts_are;
-  nodes = below-after kept.model tours stands.of_model stands.valid parts made;
-}
-
 -- ---- ranges
-
-pub range-timed : (timing : Timing) (n : ℕ) → IsTimingOf n timing → (s t : Spread) → IsSpreadInRange s
-    → t.last ≡ int_max s.last timing.last → t.start ≡ int_min s.start timing.start → t.span ≡ s.span → IsSpreadInRange t
-range-timed timing n is s t h last start span =
-    let a = int_max_is s.last timing.last in
-    let b = int_min_is s.start timing.start in
-    let x = is.start_in_range in
-    let y = is.last_in_range in
-    let p = h.last in
-    let q = h.start in
-    record {
-      last = record { at_least = omega (arith, ints, a, last, y.at_least, p.at_least); at_most = omega (arith, ints, a, last, y.at_most, p.at_most) };
-      start = record { at_least = omega (arith, ints, b, start, x.at_least, q.at_least); at_most = omega (arith, ints, b, start, x.at_most, q.at_most) };
-      span = subst (IsIn (neg_ℤ horizon) horizon) (sym span) h.span;
-    }
 
 pub range-early : (early : Early) → IsIn (pos 0) horizon early.last → IsIn (neg_ℤ horizon) horizon early.span → (s t : Spread) → IsSpreadInRange s
     → t.last ≡ int_max s.last early.last → t.start ≡ s.start → t.span ≡ int_max s.span early.span → IsSpreadInRange t

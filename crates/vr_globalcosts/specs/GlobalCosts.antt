@@ -1,16 +1,15 @@
--- What the global spans cost, by what is kept of each list.
-use Rattle.std.specs.Prelude.{◌≡◌, ◌==◌, ◌<◌, ◌+◌, ◌*◌, Bool, IsTrue, IfSome, MatchOption, ℕ, cond, true, false}
-use Rattle.std.specs.Prelude.{List, [], ◌∷◌, length, map, slice_index_or, ℤ, pos, Option, None}
+-- What the global spans cost, by the orders of the used vehicles and what is told of the lists after a change.
+use Rattle.std.specs.Prelude.{◌≡◌, ◌<◌, ◌*◌, Bool, IsTrue, IfSome, ℕ, true, fold}
+use Rattle.std.specs.Prelude.{List, [], length, map, slice_index_or, ℤ, pos, ◌*ℤ◌, Option, None}
+use Rattle.vr_model.specs.tables.Numbers.{below, total_by}
 use Rattle.vr_model.specs.tables.Tables.{dimension_at, visits}
 use Rattle.vr_model.specs.tables.WellFormed.{IsWellFormed}
-use Rattle.vr_model.specs.routes.Routes.{is_empty, route}
 use Rattle.vr_model.specs.routes.Costs.{assigned, global_part}
 use Rattle.vr_model.specs.routes.Rules.{is_valid}
 use Rattle.vr_model.specs.declared.records.Model.{Model}
 use Rattle.vr_timings.specs.Bounds.{cumul_cost, IsAround}
-use Rattle.vr_timings.specs.Extents.{used_below, IsExtent, IsExtentInRange}
+use Rattle.vr_timings.specs.Extents.{length_of}
 use Rattle.vr_timings.specs.Tables.{AreTables}
-use Rattle.vr_timings.specs.Timings.{IsTiming, IsTimingOf}
 use Rattle.vr_timings.specs.declared.extents.Extent.{Extent}
 use Rattle.vr_timings.specs.declared.tables.Table.{Table}
 use Rattle.vr_timings.specs.declared.timings.Timing.{Timing}
@@ -18,6 +17,8 @@ use Rattle.vr_cumuls.specs.Kept.{AreAllKept}
 use Rattle.vr_cumuls.specs.declared.kept.Kept.{Kept}
 use Rattle.vr_routes.specs.Tours.{Tours}
 use Rattle.vr_routes.specs.Pieces.{ListAfter, changed, joined, part_at}
+use Rattle.vr_orders.specs.Lists.{beside, extent_but, AreInRange, AreOrders, IsInRange, IsTold}
+use Rattle.vr_orders.specs.declared.lists.Orders.{Orders}
 
 -- what the global spans cost at the chosen schedules of lists
 abbrev pub global_cost_of : Model → List (List ℕ) → ℤ
@@ -31,43 +32,62 @@ Pays model d = (dimension_at model d).global_span_cost ≡ pos 0 → ⊥
 abbrev pub NonePays : Model → Type 0
 NonePays model = (d : ℕ) → d < length model.dimensions → (dimension_at model d).global_span_cost ≡ pos 0
 
--- what the chosen schedule of a list that is used comes to
-pub record IsTimed (model : Model) (d v : ℕ) (list : List ℕ) (timing : Timing) : Type 0 where
-  pub used : is_empty list ≡ false
-  pub is_timing : IsTiming model d v list timing
-  pub range : IsTimingOf (length list + 2) timing
-
--- it is told where the dimension pays, and none is of the empty list
+-- what the chosen schedule of a list comes to is told where the dimension pays, and none is of the empty list
 abbrev pub IsKept : Model → ℕ → ℕ → List ℕ → Option Timing → Type 0
-IsKept model d v list timing = Pays model d → MatchOption timing (is_empty list ≡ true) (IsTimed model d v list)
+IsKept model d v list timing = Pays model d → IsTold model d v list timing
 
 -- the same of each dimension
 pub record AreKept (model : Model) (v : ℕ) (list : List ℕ) (row : List (Option Timing)) : Type 0 where
   pub many : length row ≡ 4
   pub each : (d : ℕ) → d < length model.dimensions → IsKept model d v list (slice_index_or row d None)
 
--- the row of vehicle v, where some vehicles have the next rows in the place of theirs
-abbrev pub row_with : List ℕ → List (List (Option Timing)) → List (List (Option Timing)) → ℕ → List (Option Timing)
-row_with [] next rows v = slice_index_or rows v []
-row_with (u ∷ us) [] rows v = slice_index_or rows v []
-row_with (u ∷ us) (row ∷ next) rows v = cond (u == v) row (row_with us next rows v)
+-- the orders that are read where there are none
+abbrev pub no_orders : Orders
+no_orders = record { starts = []; ends = [] }
 
--- these rows are those of lists
-pub record AreOf (model : Model) (lists : List (List ℕ)) (rows : List (List (Option Timing))) (vehicles : List ℕ)
-    (next : List (List (Option Timing))) : Type 0 where
-  pub many : length rows ≡ length lists
-  pub each : (v : ℕ) → v < length lists → AreKept model v (route lists v) (row_with vehicles next rows v)
+-- the orders of dimension d
+abbrev pub orders_at : List Orders → ℕ → Orders
+orders_at orders d = slice_index_or orders d no_orders
 
--- these rows are those of some lists
-pub record AreOfSome (model : Model) (rows : List (List (Option Timing))) (vehicles : List ℕ)
-    (next : List (List (Option Timing))) : Type 0 where
-  pub lists : List (List ℕ)
-  pub of_these : AreOf model lists rows vehicles next
+-- in each dimension that pays, the used vehicles of lists stand in the orders of their starts and ends
+pub record AreAllOrders (model : Model) (lists : List (List ℕ)) (orders : List Orders) : Type 0 where
+  pub many : length orders ≡ length model.dimensions
+  pub each : (d : ℕ) → d < length model.dimensions → Pays model d → AreOrders model d lists (orders_at orders d)
 
--- from where to where the used ones of the first n vehicles reach
-pub record IsReach (model : Model) (lists : List (List ℕ)) (d n : ℕ) (extent : Option Extent) : Type 0 where
-  pub reach : MatchOption extent (used_below lists n ≡ []) (IsExtent model lists d (used_below lists n))
-  pub range : IfSome extent IsExtentInRange
+-- what a row tells in dimension d
+abbrev pub told_in : ℕ → List (Option Timing) → Option Timing
+told_in d row = slice_index_or row d None
+
+-- from where to where lists reach where these vehicles get lists of which these rows tell
+abbrev pub extent_after : ℕ → List ℕ → List (List (Option Timing)) → Orders → Option Extent
+extent_after d vehicles next orders =
+    fold (λ extent row. beside extent (told_in d row)) (extent_but vehicles orders) next
+
+-- what the global span of dimension d costs then
+abbrev pub span_cost_after : Model → List Orders → List ℕ → List (List (Option Timing)) → ℕ → ℤ
+span_cost_after model orders vehicles next d =
+    (dimension_at model d).global_span_cost *ℤ length_of (extent_after d vehicles next (orders_at orders d))
+
+-- what all of them cost then
+abbrev pub spans_cost_after : Model → List Orders → List ℕ → List (List (Option Timing)) → ℤ
+spans_cost_after model orders vehicles next =
+    total_by (span_cost_after model orders vehicles next) (below (length model.dimensions))
+
+-- the cumuls that rows tell in dimension d are in their range
+abbrev pub AreTold : ℕ → List (List (Option Timing)) → Type 0
+AreTold d next = (k : ℕ) → k < length next → IfSome (told_in d (slice_index_or next k [])) IsInRange
+
+-- where a dimension pays, all cumuls that the orders and the rows tell are in their range
+pub record AreRanged (model : Model) (orders : List Orders) (next : List (List (Option Timing))) : Type 0 where
+  pub many : length orders ≡ length model.dimensions
+  pub in_orders : (d : ℕ) → d < length model.dimensions → Pays model d → AreInRange (orders_at orders d)
+  pub in_rows : (d : ℕ) → d < length model.dimensions → Pays model d → AreTold d next
+
+-- there are orders for each dimension, and no vehicle stands in them
+pub record AreBlank (model : Model) (orders : List Orders) : Type 0 where
+  pub many : length orders ≡ length model.dimensions
+  pub starts : (d : ℕ) → (orders_at orders d).starts ≡ []
+  pub ends : (d : ℕ) → (orders_at orders d).ends ≡ []
 
 -- the model is well formed, the tables are those of its dimensions, and where it is called idle no global span pays
 pub record AreSpanRules (model : Model) (tables : List Table) (idle : Bool) : Type 0 where
@@ -79,14 +99,14 @@ pub record AreSpanRules (model : Model) (tables : List Table) (idle : Bool) : Ty
 abbrev pub IsGlobalCost : ℤ → Type 0
 IsGlobalCost = IsAround (cumul_cost * 4)
 
--- what contracts see of what is kept: of each list, what all cost, the same of a change that is ready, and cumuls of
--- the chosen schedules
+-- what contracts see of what is kept: the orders and what all costs, the rows, the orders and the cost of a change that
+-- is ready, and cumuls of the chosen schedules
 pub record KeptSpans : Type 0 where
   pub model : Model
-  pub rows : List (List (Option Timing))
+  pub orders : List Orders
   pub cost : ℤ
-  pub vehicles : List ℕ
   pub next : List (List (Option Timing))
+  pub next_orders : List Orders
   pub next_cost : ℤ
   pub is_prepared : Bool
   pub cumuls : List (List Kept)
@@ -97,9 +117,8 @@ pub record StandsSpans (kept : KeptSpans) (tours : Tours) : Type 0 where
   pub of_model : tours.visits ≡ visits kept.model
   pub valid : IsTrue (is_valid kept.model tours.lists)
   pub as_many : length tours.lists ≡ length kept.model.vehicles
-  pub many : length kept.rows ≡ length tours.lists
-  pub rows : (v : ℕ) → v < length tours.lists
-      → AreKept kept.model v (route tours.lists v) (slice_index_or kept.rows v [])
+  pub orders : AreAllOrders kept.model tours.lists kept.orders
+  pub room : length kept.next_orders ≡ length kept.model.dimensions
   pub cost : kept.cost ≡ global_cost_of kept.model tours.lists
   pub range : IsGlobalCost kept.cost
   pub cumuls : AreAllKept kept.model tours.lists kept.cumuls
@@ -108,23 +127,29 @@ pub record StandsSpans (kept : KeptSpans) (tours : Tours) : Type 0 where
 abbrev pub vehicles_of : List ListAfter → List ℕ
 vehicles_of parts = map (λ part. part.vehicle) parts
 
--- the vehicles of a change and the rows of their lists after it are there
-pub record AreNext (kept : KeptSpans) (tours : Tours) (parts : List ListAfter) : Type 0 where
-  pub vehicles : kept.vehicles ≡ vehicles_of parts
-  pub many : length kept.next ≡ length parts
-  pub rows : (k : ℕ) → k < length parts → AreKept kept.model (part_at parts k).vehicle
-      (joined tours.lists (part_at parts k).pieces) (slice_index_or kept.next k [])
+-- these are the rows of the lists after a change
+pub record AreRows (model : Model) (lists : List (List ℕ)) (parts : List ListAfter)
+    (next : List (List (Option Timing))) : Type 0 where
+  pub many : length next ≡ length parts
+  pub rows : (k : ℕ) → k < length parts
+      → AreKept model (part_at parts k).vehicle (joined lists (part_at parts k).pieces) (slice_index_or next k [])
+
+-- what they tell in dimension d is what the chosen schedules of these lists come to
+abbrev pub AreToldOf : Model → ℕ → List (List ℕ) → List ListAfter → List (List (Option Timing)) → Type 0
+AreToldOf model d lists parts next = (k : ℕ) → k < length parts → IsTold model d (part_at parts k).vehicle
+    (joined lists (part_at parts k).pieces) (told_in d (slice_index_or next k []))
 
 -- the model is the same, and what is kept of the lists too
 pub record AreLike (before later : KeptSpans) : Type 0 where
   pub model : later.model ≡ before.model
-  pub rows : later.rows ≡ before.rows
+  pub orders : later.orders ≡ before.orders
+  pub room : length later.next_orders ≡ length before.next_orders
   pub cost : later.cost ≡ before.cost
   pub cumuls : later.cumuls ≡ before.cumuls
 
--- the lists after a change are timed, and what all cost then is there
+-- the orders of the lists after a change are there, and what all cost then
 pub record AreSpansReady (kept : KeptSpans) (tours : Tours) (parts : List ListAfter) : Type 0 where
   pub prepared : kept.is_prepared ≡ true
-  pub timed : AreNext kept tours parts
+  pub orders : AreAllOrders kept.model (changed tours.lists parts) kept.next_orders
   pub cost : kept.next_cost ≡ global_cost_of kept.model (changed tours.lists parts)
   pub range : IsGlobalCost kept.next_cost

@@ -1,25 +1,28 @@
 -- How far lists reach at least after a change.
-use Rattle.std.specs.Prelude.{◌≡◌, ◌==◌, ◌<◌, ℕ, Bool, cond, List, [], fold, length, map, slice_index_or, All}
-use Rattle.std.specs.Prelude.{ℤ, pos, neg_ℤ, ◌-ℤ◌, ◌*ℤ◌, ◌≤ℤ◌, Option}
+use Rattle.std.specs.Prelude.{◌==◌, ℕ, Bool, cond, List, fold, length, map}
+use Rattle.std.specs.Prelude.{ℤ, pos, neg_ℤ, ◌-ℤ◌, ◌*ℤ◌, ◌≤ℤ◌, Option, None, Some}
 use Rattle.std.specs.Int.{int_max, int_min}
 use Rattle.std.specs.List.{list_any}
 use Rattle.vr_model.specs.tables.Numbers.{below, horizon, total_by}
 use Rattle.vr_model.specs.tables.Tables.{dimension_at}
-use Rattle.vr_model.specs.tables.WellFormed.{IsIn, IsWellFormed}
+use Rattle.vr_model.specs.tables.WellFormed.{IsIn}
 use Rattle.vr_model.specs.routes.Routes.{is_empty, route, used_vehicles}
 use Rattle.vr_model.specs.routes.Costs.{assigned, end_at, greatest, least, start_at}
 use Rattle.vr_model.specs.declared.records.Model.{Model}
 use Rattle.vr_timings.specs.Timings.{last_with, start_with}
-use Rattle.vr_timings.specs.declared.timings.Timing.{Timing}
+use Rattle.vr_timings.specs.declared.extents.Extent.{Extent}
 use Rattle.vr_earliest.specs.Ways.{earliest_end, least_span}
-use Rattle.vr_routes.specs.Pieces.{ListAfter, joined, part_at}
-use Rattle.vr_routes.specs.Changes.{AreParts}
-use Rattle.vr_globalcosts.specs.GlobalCosts.{AreKept}
+use Rattle.vr_routes.specs.Pieces.{ListAfter, joined}
 use Rattle.vr_globalcosts.specs.declared.spreads.Spread.{Spread}
 
 -- how far no lists reach
 abbrev pub no_spread : Spread
 no_spread = record { last = pos 0; start = horizon; span = neg_ℤ horizon }
+
+-- how far lists reach whose chosen schedules have an extent
+abbrev pub spread_of : Option Extent → Spread
+spread_of None = no_spread
+spread_of (Some extent) = record { last = extent.last; start = extent.start; span = neg_ℤ horizon }
 
 -- a spread reaches over one list more, at its chosen schedule
 abbrev pub with_chosen : Model → ℕ → ℕ → List ℕ → Spread → Spread
@@ -87,13 +90,3 @@ pub record IsSpreadInRange (spread : Spread) : Type 0 where
   pub last : IsIn (pos 0) horizon spread.last
   pub start : IsIn (pos 0) horizon spread.start
   pub span : IsIn (neg_ℤ horizon) horizon spread.span
-
--- these rows are those of the lists of a well formed model, and a change of the lists leads to nodes of the model
-pub record AreRowsBefore (model : Model) (lists : List (List ℕ)) (rows : List (List (Option Timing)))
-    (parts : List ListAfter) : Type 0 where
-  pub well_formed : IsWellFormed model
-  pub as_many : length lists ≡ length model.vehicles
-  pub many : length rows ≡ length lists
-  pub kept : (v : ℕ) → v < length lists → AreKept model v (route lists v) (slice_index_or rows v [])
-  pub parts_are : AreParts lists parts
-  pub nodes : (k : ℕ) → k < length parts → All (λ node. node < model.nodes) (joined lists (part_at parts k).pieces)

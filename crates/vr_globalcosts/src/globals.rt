@@ -9,18 +9,20 @@ ghost use Rattle.vr_routes.specs.Pieces.{changed, joined, part_at};
 ghost use Rattle.vr_routes.specs.Changes.{IsMadeOn};
 ghost use Rattle.vr_timings.specs.Bounds.{cumul_cost, IsAround};
 ghost use Rattle.vr_earliest.specs.Earlies.{AreEarlies};
-ghost use Rattle.vr_globalcosts.specs.GlobalCosts.{global_cost_of, AreKept, AreLike, AreNext};
+ghost use Rattle.vr_globalcosts.specs.GlobalCosts.{global_cost_of, AreKept, AreLike, AreRows};
 ghost use Rattle.vr_globalcosts.specs.GlobalCosts.{AreSpansReady, IsGlobalCost, StandsSpans};
 ghost use Rattle.vr_parts.specs.Parts.{NothingReady};
 ghost use Rattle.vr_globalcosts.specs.Spreads.{global_least};
 
-use crate::reaches::{ListTimings, SpanRules};
+use crate::reaches::{ListTimings, SpanRules, vehicles_of};
 use arrayvec::ArrayVec;
 use std::alloc::Global;
 use std::marker::Model;
+use std::mem;
 use vr_cumuls::AllCumuls;
 use vr_earliest::Earlies;
 use vr_model::{Model as RoutingModel, NoMemory};
+use vr_orders::Orders;
 use vr_parts::CostPart;
 use vr_routes::{Change, Routes};
 use vr_timedparts::Room;
@@ -28,17 +30,17 @@ use vr_timedparts::Room;
 /// What global spans cost (`SetGlobalSpanCostCoefficient` in OR-Tools). A change is told by the cumuls that are kept of
 /// the committed lists, along what it puts in and behind that until a cumul is as it was, in the dimensions whose
 /// global span has a coefficient; only where they do not tell it are the schedules of the changed lists built. Where
-/// lists start and end after the change is then looked over vehicle by vehicle.
+/// the other lists start and end is told by the first entries of the orders of the used vehicles.
 #[derive(Drop)]
 pub struct GlobalSpan<'m> {
     rules: SpanRules<'m>,
-    // what the schedules of each list come to
-    rows: Vec<ListTimings>,
+    // the used vehicles by starts and by ends, in each dimension
+    orders: Vec<Orders>,
     // what the global spans cost
     cost: i64,
-    // the vehicles of a change that is ready, their rows, and what the global spans cost after it
-    vehicles: ArrayVec<u32, 2>,
+    // what the lists of a change that is ready come to, the orders after it, and what the global spans cost then
     next: ArrayVec<ListTimings, 2>,
+    next_orders: Vec<Orders>,
     next_cost: i64,
     is_prepared: bool,
     // the cumuls of the committed lists
@@ -54,10 +56,10 @@ impl<'m> Model for GlobalSpan<'m> {
 
     ghost view = { λ part. record {
       model = part.rules;
-      rows = part.rows.items;
+      orders = part.orders.items;
       cost = part.cost;
-      vehicles = part.vehicles.items;
       next = part.next.items;
+      next_orders = part.next_orders.items;
       next_cost = part.next_cost;
       is_prepared = part.is_prepared;
       cumuls = part.cumuls;
@@ -79,19 +81,16 @@ impl<'m> GlobalSpan<'m> {
     {
         let rules = SpanRules::open(alloc, model)?;
         let mut room = Room::new(alloc);
-        let mut rows = Vec::new(alloc);
-        for v in 0..routes.vehicles() {
-            let row = rules.row(v, routes.list(v), &mut room.timer)?;
-            rows.push(row)?;
-        }
-        let cost = rules.cost(&rows, &[], &[]);
+        let orders = rules.orders(alloc, routes, &mut room.timer)?;
+        let next_orders = rules.no_orders(alloc)?;
+        let cost = rules.cost(&orders, &[], &[]);
         let cumuls = rules.cumuls(alloc, routes)?;
         Ok(GlobalSpan {
             rules,
-            rows,
+            orders,
             cost,
-            vehicles: ArrayVec::new(),
             next: ArrayVec::new(),
+            next_orders,
             next_cost: 0,
             is_prepared: false,
             cumuls,
@@ -116,7 +115,7 @@ impl<'m> GlobalSpan<'m> {
         if self.rules.is_idle() {
             return 0;
         }
-        self.rules.least(earlies, &self.rows, routes, change) - self.cost
+        self.rules.least(earlies, &self.orders, routes, change) - self.cost
     }
 
     // What the schedules come to of the list that part `k` of a change gives its vehicle.
@@ -148,19 +147,31 @@ impl<'m> GlobalSpan<'m> {
         requires stands { StandsSpans self.old routes.now }
         requires made { IsMadeOn routes.now change.now }
         requires valid { IsTrue (is_valid self.old.model (changed routes.now.lists change.now)) }
-        ensures next { OnOk result (AreNext self.new routes.now change.now) }
+        ensures next { OnOk result (AreRows self.new.model routes.now.lists change.now self.new.next) }
         ensures unprepared { self.new.is_prepared ≡ false }
         ensures like { AreLike self.old self.new }
     {
         self.is_prepared = false;
-        self.vehicles.clear();
         self.next.clear();
         for k in 0..change.parts() {
             let row = self.row_after(routes, change, k)?;
-            self.vehicles.push(change.vehicle(k));
             self.next.push(row);
         }
         Ok(())
+    }
+
+    // What the global spans cost after a change whose rows are written.
+    fn cost_after(&self, routes: &Routes, change: &Change) -> i64
+        requires stands { StandsSpans self.now routes.now }
+        requires made { IsMadeOn routes.now change.now }
+        requires rows { AreRows self.now.model routes.now.lists change.now self.now.next }
+        ensures value { result ≡ global_cost_of self.now.model (changed routes.now.lists change.now) }
+        ensures range { IsGlobalCost result }
+    {
+        // the lists are those of the clauses alone
+        let _routes = routes;
+        let vehicles = vehicles_of(change);
+        self.rules.cost(&self.orders, &vehicles, &self.next)
     }
 
     // Makes what is kept of the lists after a change ready.
@@ -173,7 +184,14 @@ impl<'m> GlobalSpan<'m> {
         ensures like { AreLike self.old self.new }
     {
         self.write_next(routes, change)?;
-        self.next_cost = self.rules.cost(&self.rows, &self.vehicles, &self.next);
+        self.next_cost = self.cost_after(routes, change);
+        self.rules.write_orders(
+            &self.orders,
+            routes,
+            change,
+            &self.next,
+            &mut self.next_orders,
+        );
         self.is_prepared = true;
         Ok(())
     }
@@ -204,8 +222,8 @@ impl<'m> CostPart for GlobalSpan<'m> {
         if self.rules.is_idle() {
             return Ok(0);
         }
-        self.make_ready(routes, change)?;
-        Ok(self.next_cost - self.cost)
+        self.write_next(routes, change)?;
+        Ok(self.cost_after(routes, change) - self.cost)
     }
 
     fn prepare(&mut self, routes: &Routes, change: &Change) -> Result<(), NoMemory> {
@@ -215,9 +233,7 @@ impl<'m> CostPart for GlobalSpan<'m> {
 
     fn commit(&mut self, routes: &Routes, change: &Change) {
         self.rules.commit(&mut self.cumuls, routes, change);
-        for k in 0..change.parts() {
-            self.rows[change.vehicle(k) as usize] = self.next[k];
-        }
+        mem::swap(&mut self.orders, &mut self.next_orders);
         self.cost = self.next_cost;
     }
 }

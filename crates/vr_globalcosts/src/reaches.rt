@@ -1,33 +1,36 @@
 //! From where to where the chosen schedules of lists reach, and what that costs.
 
-ghost use Rattle.std.specs.Prelude.{◌≡◌, ◌<◌, ◌≤◌, ◌+◌, ℕ, List, Option, None, IsTrue, IfOk, length};
-ghost use Rattle.std.specs.Prelude.{slice_index_or};
+ghost use Rattle.std.specs.Prelude.{◌≡◌, ◌<◌, ◌≤◌, ◌+◌, ◌*ℤ◌, IsTrue, IfOk, IfSome, length, take};
 ghost use Rattle.std.specs.List.{list_all};
-ghost use Rattle.vr_model.specs.tables.Tables.{is_visit};
+ghost use Rattle.vr_model.specs.tables.Tables.{dimension_at, is_visit};
 ghost use Rattle.vr_model.specs.tables.WellFormed.{IsWellFormed};
 ghost use Rattle.vr_model.specs.routes.Routes.{is_distinct, route};
 ghost use Rattle.vr_model.specs.routes.Rules.{is_valid};
-ghost use Rattle.vr_routes.specs.Changes.{IsMadeOn};
+ghost use Rattle.vr_routes.specs.Changes.{AreParts, IsMadeOn};
 ghost use Rattle.vr_routes.specs.Pieces.{changed, joined, part_at};
-ghost use Rattle.vr_model.specs.declared.records.Model.{Model as Defined};
 ghost use Rattle.vr_timings.specs.Bounds.{cumul_cost, IsAround};
-ghost use Rattle.vr_timings.specs.Extents.{global_in};
+ghost use Rattle.vr_timings.specs.Extents.{length_of, IsExtentInRange};
 ghost use Rattle.vr_timings.specs.Tables.{AreTables, IsTable};
 ghost use Rattle.vr_earliest.specs.Earlies.{AreEarlies};
 ghost use Rattle.vr_cumuls.specs.Kept.{AreAllKept};
-ghost use Rattle.vr_globalcosts.specs.GlobalCosts.{global_cost_of, row_with, AreKept, AreOf, AreOfSome, IsGlobalCost};
-ghost use Rattle.vr_globalcosts.specs.GlobalCosts.{IsKept, IsReach, NonePays, Pays};
-ghost use Rattle.vr_globalcosts.specs.Spreads.{global_least, AreRowsBefore};
+ghost use Rattle.vr_orders.specs.Lists.{AreInRange, AreOrders};
+ghost use Rattle.vr_globalcosts.specs.GlobalCosts as reaches;
+ghost use Rattle.vr_globalcosts.specs.GlobalCosts.{extent_after, spans_cost_after, AreAllOrders, AreBlank, AreKept};
+ghost use Rattle.vr_globalcosts.specs.GlobalCosts.{AreRanged, AreRows, AreTold, AreToldOf, IsGlobalCost, IsKept};
+ghost use Rattle.vr_globalcosts.specs.GlobalCosts.{NonePays, Pays};
+ghost use Rattle.vr_globalcosts.specs.Spreads.{global_least};
 
 use crate::spreads::least_of_global_spans;
+use arrayvec::ArrayVec;
 use std::alloc::Global;
 use std::marker::Model;
 use vr_cumuls::{AllCumuls, Paid};
 use vr_earliest::Earlies;
 use vr_model::{Model as RoutingModel, NoMemory};
+use vr_orders::{Orders, beside};
 use vr_routes::{Change, Piece, Routes};
 use vr_timedparts::Room;
-use vr_timings::{Extent, Table, Timer, Timing, global_cost, tables_of, timing_of, wider};
+use vr_timings::{Extent, Table, Timer, Timing, global_cost, tables_of, timing_of};
 
 /// What the schedule of one list comes to in each dimension whose global span has a coefficient, none where the list is
 /// empty.
@@ -75,16 +78,33 @@ impl<'m> SpanRules<'m> {
         self.idle
     }
 
-    /// What the chosen schedules of a list come to.
-    pub fn row(&self, v: u32, list: &[u32], timer: &mut Timer) -> Result<ListTimings, NoMemory>
-        requires vehicle { v < length self.now.vehicles }
-        requires visits { IsTrue (list_all (is_visit self.now) list.now) }
-        requires distinct { IsTrue (is_distinct list.now) }
-        requires few { length list.now ≤ 1000 }
-        ensures { IfOk result (AreKept self.now v list.now) }
+    /// The orders of no used vehicle, in each dimension.
+    pub fn no_orders(&self, alloc: Global) -> Result<Vec<Orders>, NoMemory>
+        ensures { IfOk result (λ orders. AreBlank self.now orders.items) }
     {
-        let row = row_of_list(self.model, &self.tables, v, list, timer)?;
-        Ok(row)
+        let mut orders = Vec::with_capacity(alloc, self.model.dimensions.len())?;
+        for _d in 0..self.model.dimensions.len() {
+            orders.push(Orders::new())?;
+        }
+        Ok(orders)
+    }
+
+    /// The orders of the used vehicles of routes, in each dimension that pays.
+    pub fn orders(
+        &self,
+        alloc: Global,
+        routes: &Routes,
+        timer: &mut Timer,
+    ) -> Result<Vec<Orders>, NoMemory>
+        requires valid { IsTrue (is_valid self.now routes.now.lists) }
+        ensures { IfOk result (λ orders. AreAllOrders self.now routes.now.lists orders.items) }
+    {
+        let mut orders = self.no_orders(alloc)?;
+        for v in 0..routes.vehicles() {
+            let row = row_of_list(self.model, &self.tables, v, routes.list(v), timer)?;
+            set_list(self.model, &mut orders, routes, v, &row);
+        }
+        Ok(orders)
     }
 
     /// What is kept of the lists of routes.
@@ -129,32 +149,62 @@ impl<'m> SpanRules<'m> {
         Ok(timings)
     }
 
-    /// What the global spans cost, where some vehicles have the next rows in the place of theirs.
-    pub fn cost(&self, rows: &[ListTimings], vehicles: &[u32], next: &[ListTimings]) -> i64
-        requires many { length next.now ≡ length vehicles.now }
-        requires known { AreOfSome self.now rows.now vehicles.now next.now }
-        ensures value { (lists : List (List ℕ)) → AreOf self.now lists rows.now vehicles.now next.now
-            → result ≡ global_cost_of self.now lists }
+    /// What the global spans cost, where these vehicles get lists of which these rows tell.
+    pub fn cost(&self, orders: &[Orders], vehicles: &[u32], next: &[ListTimings]) -> i64
+        requires ranged { AreRanged self.now orders.now next.now }
+        ensures value { result ≡ spans_cost_after self.now orders.now vehicles.now next.now }
         ensures range { IsGlobalCost result }
     {
-        cost_of_spans(self.model, rows, vehicles, next)
+        cost_of_spans(self.model, orders, vehicles, next)
+    }
+
+    /// Writes the orders of the lists after a change. It takes no memory.
+    pub fn write_orders(
+        &self,
+        orders: &[Orders],
+        routes: &Routes,
+        change: &Change,
+        next: &[ListTimings],
+        out: &mut [Orders],
+    )
+        requires orders { AreAllOrders self.now routes.now.lists orders.now }
+        requires as_many { length routes.now.lists ≡ length self.now.vehicles }
+        requires parts { AreParts routes.now.lists change.now }
+        requires rows { AreRows self.now routes.now.lists change.now next.now }
+        requires room { length out.old ≡ length self.now.dimensions }
+        ensures { AreAllOrders self.now (changed routes.now.lists change.now) out.new }
+    {
+        write_all(self.model, orders, routes, change, next, out);
     }
 
     /// What the global spans cost at least after a change. No schedule is built.
     pub fn least(
         &self,
         earlies: &Earlies,
-        rows: &[ListTimings],
+        orders: &[Orders],
         routes: &Routes,
         change: &Change,
     ) -> i64
         requires earlies { AreEarlies self.now routes.now.lists change.now earlies.now }
-        requires before { AreRowsBefore self.now routes.now.lists rows.now change.now }
+        requires as_many { length routes.now.lists ≡ length self.now.vehicles }
+        requires orders { AreAllOrders self.now routes.now.lists orders.now }
+        requires parts { AreParts routes.now.lists change.now }
         ensures value { result ≡ global_least self.now routes.now.lists change.now }
         ensures range { IsGlobalCost result }
     {
-        least_of_global_spans(self.model, earlies, rows, routes, change)
+        least_of_global_spans(self.model, earlies, orders, routes, change)
     }
+}
+
+/// The vehicles to which a change gives lists.
+pub fn vehicles_of(change: &Change) -> ArrayVec<u32, 2>
+    ensures { result.items ≡ reaches.vehicles_of change.now }
+{
+    let mut vehicles = ArrayVec::new();
+    for k in 0..change.parts() {
+        vehicles.push(change.vehicle(k));
+    }
+    vehicles
 }
 
 // Whether no global span of a model has a coefficient.
@@ -294,20 +344,18 @@ fn kept_after(
 // What the global spans cost in all dimensions.
 fn cost_of_spans(
     model: &RoutingModel,
-    rows: &[ListTimings],
+    orders: &[Orders],
     vehicles: &[u32],
     next: &[ListTimings],
 ) -> i64
     requires well_formed { IsWellFormed model.now }
-    requires many { length next.now ≡ length vehicles.now }
-    requires known { AreOfSome model.now rows.now vehicles.now next.now }
-    ensures value { (lists : List (List ℕ)) → AreOf model.now lists rows.now vehicles.now next.now
-        → result ≡ global_cost_of model.now lists }
+    requires ranged { AreRanged model.now orders.now next.now }
+    ensures value { result ≡ spans_cost_after model.now orders.now vehicles.now next.now }
     ensures range { IsGlobalCost result }
 {
     let mut cost = 0;
-    for d in 0..model.dimensions.len() {
-        cost += cost_of_span(model, rows, vehicles, next, d as u32);
+    for d in 0..orders.len() {
+        cost += cost_of_span(model, &orders[d], vehicles, next, d as u32);
     }
     cost
 }
@@ -315,69 +363,115 @@ fn cost_of_spans(
 // What the global span costs in dimension `d`.
 fn cost_of_span(
     model: &RoutingModel,
-    rows: &[ListTimings],
+    orders: &Orders,
     vehicles: &[u32],
     next: &[ListTimings],
     d: u32,
 ) -> i64
     requires well_formed { IsWellFormed model.now }
     requires dimension { d < length model.now.dimensions }
-    requires many { length next.now ≡ length vehicles.now }
-    requires known { AreOfSome model.now rows.now vehicles.now next.now }
-    ensures value { (lists : List (List ℕ)) → AreOf model.now lists rows.now vehicles.now next.now
-        → result ≡ global_in model.now lists d }
+    requires orders { Pays model.now d → AreInRange orders.now }
+    requires next { Pays model.now d → AreTold d next.now }
+    ensures value { result ≡ ((dimension_at model.now d).global_span_cost
+        *ℤ length_of (extent_after d vehicles.now next.now orders.now)) }
     ensures range { IsAround cumul_cost result }
 {
     let dimension = model.dimensions.get(d as usize);
     if dimension.global_span_cost == 0 {
         return 0;
     }
-    global_cost(dimension, reach(rows, vehicles, next, d))
+    global_cost(dimension, reach(orders, vehicles, next, d))
 }
 
 // From where to where all lists reach in dimension `d`, `None` where none is used.
-fn reach(rows: &[ListTimings], vehicles: &[u32], next: &[ListTimings], d: u32) -> Option<Extent>
+fn reach(orders: &Orders, vehicles: &[u32], next: &[ListTimings], d: u32) -> Option<Extent>
     requires dimension { d < 4 }
-    requires many { length next.now ≡ length vehicles.now }
-    ensures { (model : Defined) (lists : List (List ℕ)) → AreOf model lists rows.now vehicles.now next.now
-        → d < length model.dimensions → Pays model d → IsReach model lists d (length rows.now) result }
+    requires orders { AreInRange orders.now }
+    requires next { AreTold d next.now }
+    ensures value { result ≡ extent_after d vehicles.now next.now orders.now }
+    ensures range { IfSome result IsExtentInRange }
 {
-    let mut extent = None;
-    for v in 0..rows.len() {
-        extent = beside(extent, timing_at(rows, vehicles, next, v, d));
+    let mut extent = orders.extent_but(vehicles);
+    for k in 0..next.len() {
+        extent = beside(extent, next[k][d as usize]);
     }
     extent
 }
 
-// The extent with what is kept of one list more.
-fn beside(extent: Option<Extent>, timing: Option<Timing>) -> Option<Extent>
-    ensures { (model : Defined) (lists : List (List ℕ)) (d n : ℕ) → Pays model d
-        → IsKept model d n (route lists n) timing → IsReach model lists d n extent
-        → IsReach model lists d (n + 1) result }
+// Vehicle `v` gets its list, where those before it have theirs, in the dimensions that pay.
+fn set_list(
+    model: &RoutingModel,
+    orders: &mut [Orders],
+    _routes: &Routes,
+    v: u32,
+    row: &ListTimings,
+)
+    requires before { AreAllOrders model.now (take v _routes.now.lists) orders.old }
+    requires few { length _routes.now.lists ≤ 100 }
+    requires dimensions { length model.now.dimensions ≤ 4 }
+    requires vehicle { v < length _routes.now.lists }
+    requires row { AreKept model.now v (route _routes.now.lists v) row.now }
+    ensures { AreAllOrders model.now (take (v + 1) _routes.now.lists) orders.new }
 {
-    match timing {
-        None => extent,
-        Some(timing) => Some(wider(extent, timing)),
+    for d in 0..orders.len() {
+        if model.dimensions.get(d).global_span_cost != 0 {
+            orders[d].set(v, row[d]);
+        }
     }
 }
 
-// What is kept of the list of vehicle `v` in dimension `d`.
-fn timing_at(
-    rows: &[ListTimings],
-    vehicles: &[u32],
+// Writes the orders of the lists after a change in the dimensions that pay.
+fn write_all(
+    model: &RoutingModel,
+    orders: &[Orders],
+    routes: &Routes,
+    change: &Change,
     next: &[ListTimings],
-    v: usize,
-    d: u32,
-) -> Option<Timing>
-    requires vehicle { v < length rows.now }
-    requires dimension { d < 4 }
-    requires many { length next.now ≡ length vehicles.now }
-    ensures { result ≡ slice_index_or (row_with vehicles.now next.now rows.now v) d None }
+    out: &mut [Orders],
+)
+    requires well_formed { IsWellFormed model.now }
+    requires orders { AreAllOrders model.now routes.now.lists orders.now }
+    requires as_many { length routes.now.lists ≡ length model.now.vehicles }
+    requires parts { AreParts routes.now.lists change.now }
+    requires rows { AreRows model.now routes.now.lists change.now next.now }
+    requires room { length out.old ≡ length model.now.dimensions }
+    ensures { AreAllOrders model.now (changed routes.now.lists change.now) out.new }
 {
-    for k in 0..vehicles.len() {
-        if vehicles[k] as usize == v {
-            return next[k][d as usize];
+    for d in 0..orders.len() {
+        if model.dimensions.get(d).global_span_cost != 0 {
+            write_in(
+                model,
+                &orders[d],
+                routes,
+                change,
+                next,
+                d as u32,
+                &mut out[d],
+            );
         }
     }
-    rows[v][d as usize]
+}
+
+// The same in one dimension.
+fn write_in(
+    _model: &RoutingModel,
+    orders: &Orders,
+    _routes: &Routes,
+    change: &Change,
+    next: &[ListTimings],
+    d: u32,
+    out: &mut Orders,
+)
+    requires orders { AreOrders _model.now d _routes.now.lists orders.now }
+    requires few { length _routes.now.lists ≤ 100 }
+    requires parts { AreParts _routes.now.lists change.now }
+    requires dimension { d < 4 }
+    requires many { length next.now ≡ length change.now }
+    requires told { AreToldOf _model.now d _routes.now.lists change.now next.now }
+    ensures { AreOrders _model.now d (changed _routes.now.lists change.now) out.new }
+{
+    out.copy_from(orders);
+    for k in 0..change.parts() {
+        out.set(change.vehicle(k), next[k][d as usize]);
+    }
 }

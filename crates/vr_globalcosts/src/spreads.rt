@@ -1,17 +1,21 @@
 //! What global spans cost at least after a change, told without a schedule of the changed lists.
 
-ghost use Rattle.std.specs.Prelude.{◌≡◌, ◌<◌, length};
+ghost use Rattle.std.specs.Prelude.{◌≡◌, ◌<◌, ◌≤◌, length};
+ghost use Rattle.vr_model.specs.tables.WellFormed.{IsWellFormed};
 ghost use Rattle.vr_timings.specs.Bounds.{cumul_cost, IsAround};
+ghost use Rattle.vr_routes.specs.Changes.{AreParts};
 ghost use Rattle.vr_routes.specs.Pieces.{part_at};
 ghost use Rattle.vr_earliest.specs.Earlies.{AreEarlies};
-ghost use Rattle.vr_globalcosts.specs.GlobalCosts.{IsGlobalCost, Pays};
+ghost use Rattle.vr_orders.specs.Lists.{extent_but, AreInRange, AreOrders};
+ghost use Rattle.vr_globalcosts.specs.GlobalCosts.{AreAllOrders, IsGlobalCost, Pays};
 ghost use Rattle.vr_globalcosts.specs.Spreads as spreads;
-ghost use Rattle.vr_globalcosts.specs.Spreads.{global_least, global_least_in, AreRowsBefore, IsSpreadInRange};
+ghost use Rattle.vr_globalcosts.specs.Spreads.{global_least, global_least_in, spread_of, IsSpreadInRange};
 
-use crate::reaches::ListTimings;
+use crate::reaches::vehicles_of;
 use vr_earliest::Earlies;
 use vr_model::Model as RoutingModel;
 use vr_model::limits::HORIZON;
+use vr_orders::Orders;
 use vr_routes::{Change, Piece, Routes};
 use vr_timings::times;
 
@@ -30,18 +34,20 @@ pub struct Spread {
 pub fn least_of_global_spans(
     model: &RoutingModel,
     earlies: &Earlies,
-    rows: &[ListTimings],
+    orders: &[Orders],
     routes: &Routes,
     change: &Change,
 ) -> i64
+    requires well_formed { IsWellFormed model.now }
     requires earlies { AreEarlies model.now routes.now.lists change.now earlies.now }
-    requires before { AreRowsBefore model.now routes.now.lists rows.now change.now }
+    requires orders { AreAllOrders model.now routes.now.lists orders.now }
+    requires parts { AreParts routes.now.lists change.now }
     ensures value { result ≡ global_least model.now routes.now.lists change.now }
     ensures range { IsGlobalCost result }
 {
     let mut cost = 0;
-    for d in 0..model.dimensions.len() {
-        cost += least_of_global_span(model, earlies, rows, routes, change, d as u32);
+    for d in 0..orders.len() {
+        cost += least_of_global_span(model, earlies, &orders[d], routes, change, d as u32);
     }
     cost
 }
@@ -50,14 +56,16 @@ pub fn least_of_global_spans(
 fn least_of_global_span(
     model: &RoutingModel,
     earlies: &Earlies,
-    rows: &[ListTimings],
+    orders: &Orders,
     routes: &Routes,
     change: &Change,
     d: u32,
 ) -> i64
-    requires earlies { AreEarlies model.now routes.now.lists change.now earlies.now }
-    requires before { AreRowsBefore model.now routes.now.lists rows.now change.now }
+    requires well_formed { IsWellFormed model.now }
     requires dimension { d < length model.now.dimensions }
+    requires earlies { AreEarlies model.now routes.now.lists change.now earlies.now }
+    requires orders { Pays model.now d → AreOrders model.now d routes.now.lists orders.now }
+    requires parts { AreParts routes.now.lists change.now }
     ensures value { result ≡ global_least_in model.now routes.now.lists change.now d }
     ensures range { IsAround cumul_cost result }
 {
@@ -65,7 +73,7 @@ fn least_of_global_span(
     if coefficient == 0 {
         return 0;
     }
-    let spread = spread_after(model, earlies, rows, routes, change, d);
+    let spread = spread_after(model, earlies, orders, routes, change, d);
     times(coefficient, (spread.last - spread.start).max(spread.span))
 }
 
@@ -73,79 +81,44 @@ fn least_of_global_span(
 fn spread_after(
     model: &RoutingModel,
     earlies: &Earlies,
-    rows: &[ListTimings],
+    orders: &Orders,
     routes: &Routes,
     change: &Change,
     d: u32,
 ) -> Spread
-    requires earlies { AreEarlies model.now routes.now.lists change.now earlies.now }
-    requires before { AreRowsBefore model.now routes.now.lists rows.now change.now }
+    requires well_formed { IsWellFormed model.now }
     requires dimension { d < length model.now.dimensions }
     requires pays { Pays model.now d }
+    requires earlies { AreEarlies model.now routes.now.lists change.now earlies.now }
+    requires orders { AreOrders model.now d routes.now.lists orders.now }
+    requires parts { AreParts routes.now.lists change.now }
     ensures value { result ≡ spreads.spread_after model.now routes.now.lists change.now d }
     ensures range { IsSpreadInRange result }
 {
-    let mut spread = spread_of_kept(model, rows, routes, change, d);
+    let vehicles = vehicles_of(change);
+    let mut spread = spread_of_kept(orders, &vehicles);
     for k in 0..change.parts() {
-        spread = with_changed(model, earlies, rows, routes, change, d, k, spread);
+        spread = with_changed(model, earlies, routes, change, d, k, spread);
     }
     spread
 }
 
-// How far the lists reach that a change leaves as they are.
-fn spread_of_kept(
-    model: &RoutingModel,
-    rows: &[ListTimings],
-    routes: &Routes,
-    change: &Change,
-    d: u32,
-) -> Spread
-    requires before { AreRowsBefore model.now routes.now.lists rows.now change.now }
-    requires dimension { d < length model.now.dimensions }
-    requires pays { Pays model.now d }
-    ensures value { result
-        ≡ spreads.spread_of_kept model.now routes.now.lists change.now d (length routes.now.lists) }
+// How far the lists reach of the used vehicles that are none of these.
+fn spread_of_kept(orders: &Orders, vehicles: &[u32]) -> Spread
+    requires range { AreInRange orders.now }
+    ensures value { result ≡ spread_of (extent_but vehicles.now orders.now) }
     ensures range { IsSpreadInRange result }
 {
-    let mut spread = Spread {
-        last: 0,
-        start: HORIZON,
-        span: -HORIZON,
-    };
-    for v in 0..rows.len() {
-        spread = with_kept(model, rows, routes, change, d, v, spread);
-    }
-    spread
-}
-
-// It reaches over the list of vehicle `v` too, where the change leaves that list as it is.
-#[inline]
-fn with_kept(
-    _model: &RoutingModel,
-    rows: &[ListTimings],
-    _routes: &Routes,
-    change: &Change,
-    d: u32,
-    v: usize,
-    spread: Spread,
-) -> Spread
-    requires before { AreRowsBefore _model.now _routes.now.lists rows.now change.now }
-    requires dimension { d < length _model.now.dimensions }
-    requires pays { Pays _model.now d }
-    requires vehicle { v < length rows.now }
-    requires range { IsSpreadInRange spread }
-    ensures value { result ≡ spreads.with_kept _model.now _routes.now.lists change.now d spread v }
-    ensures range { IsSpreadInRange result }
-{
-    if gives(change, v) {
-        return spread;
-    }
-    match rows[v][d as usize] {
-        None => spread,
-        Some(timing) => Spread {
-            last: spread.last.max(timing.last),
-            start: spread.start.min(timing.start),
-            span: spread.span,
+    match orders.extent_but(vehicles) {
+        None => Spread {
+            last: 0,
+            start: HORIZON,
+            span: -HORIZON,
+        },
+        Some(extent) => Spread {
+            last: extent.last,
+            start: extent.start,
+            span: -HORIZON,
         },
     }
 }
@@ -155,7 +128,6 @@ fn with_kept(
 fn with_changed(
     _model: &RoutingModel,
     earlies: &Earlies,
-    _rows: &[ListTimings],
     routes: &Routes,
     change: &Change,
     d: u32,
@@ -163,8 +135,9 @@ fn with_changed(
     spread: Spread,
 ) -> Spread
     requires earlies { AreEarlies _model.now routes.now.lists change.now earlies.now }
-    requires before { AreRowsBefore _model.now routes.now.lists _rows.now change.now }
     requires dimension { d < length _model.now.dimensions }
+    requires dimensions { length _model.now.dimensions ≤ 4 }
+    requires parts { AreParts routes.now.lists change.now }
     requires part { k < length change.now }
     requires pays { Pays _model.now d }
     requires range { IsSpreadInRange spread }
@@ -180,17 +153,4 @@ fn with_changed(
         start: spread.start,
         span: spread.span.max(early.span),
     }
-}
-
-// Whether a change gives vehicle `v` a list.
-#[inline]
-fn gives(change: &Change, v: usize) -> bool
-    ensures { result ≡ spreads.gives change.now v }
-{
-    for k in 0..change.parts() {
-        if change.vehicle(k) as usize == v {
-            return true;
-        }
-    }
-    false
 }

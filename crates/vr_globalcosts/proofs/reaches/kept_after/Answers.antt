@@ -1,38 +1,31 @@
-use Rattle.std.proofs.Common.{◌≡◌, ◌∙◌, ◌<◌, ℕ, List, [], ◌∷◌, true, false, length, refl, ap, sym, subst, arith}
+use Rattle.std.proofs.Common.{◌∙◌, ◌<◌, length, ap, sym, subst, arith}
 use Rattle.std.specs.Prelude.{IsTrue}
 use Rattle.std.specs.List.{list_all}
 use Rattle.vr_model.specs.tables.Tables.{is_visit}
-use Rattle.vr_model.specs.routes.Routes.{is_distinct, is_empty}
+use Rattle.vr_model.specs.routes.Routes.{is_distinct}
+use Rattle.vr_model.proofs.routes.Lists.{empty_where, not_empty}
 use Rattle.vr_routes.specs.Pieces.{joined, part_at}
 use Rattle.vr_globalcosts.specs.GlobalCosts.{IsKept}
 use Rattle.vr_parts.proofs.PartLemmas.{is-part, known-vehicle}
 use Rattle.vr_globalcosts.proofs.reaches.kept_after.Goals as goal
 
-empty-of : (list : List ℕ) → length list ≡ 0 → is_empty list ≡ true
-empty-of [] e = refl
-empty-of (x ∷ xs) e = absurd (omega (arith, e))
-
-some-of : (list : List ℕ) → (length list ≡ 0 → ⊥) → is_empty list ≡ false
-some-of [] some = absurd (some refl)
-some-of (x ∷ xs) some = refl
-
 pub returns-then-nodes_in-eq0 : goal.returns-then-nodes_in-eq0
 returns-then-nodes_in-eq0 c pays =
     let many = c.nodes_in.ensures ∙ ap (λ ps. length (joined c.args.routes.now.lists ps)) c.pieces.ensures.value in
-    empty-of (joined c.args.routes.now.lists (part_at c.args.change.now c.args.k).pieces) (sym many ∙ c.if-nodes_in-eq0.true)
+    empty_where (joined c.args.routes.now.lists (part_at c.args.change.now c.args.k).pieces) (omega (arith, many, c.if-nodes_in-eq0.true))
 
 pub timing_after-requires-clause-some : goal.timing_after-requires-clause-some
 timing_after-requires-clause-some c =
     let many = c.nodes_in.ensures ∙ ap (λ ps. length (joined c.args.routes.now.lists ps)) c.pieces.ensures.value in
-    some-of (joined c.args.routes.now.lists (part_at c.args.change.now c.args.k).pieces) (λ none. c.if-nodes_in-eq0.false (many ∙ none))
+    not_empty (joined c.args.routes.now.lists (part_at c.args.change.now c.args.k).pieces) (omega (arith, many, c.if-nodes_in-eq0.false))
 
 pub returns-in-Some : goal.returns-in-Some
 returns-in-Some c pays =
     let many = c.nodes_in.ensures ∙ ap (λ ps. length (joined c.args.routes.now.lists ps)) c.pieces.ensures.value in
     record {
-      used = some-of (joined c.args.routes.now.lists (part_at c.args.change.now c.args.k).pieces) (λ none. c.if-nodes_in-eq0.false (many ∙ none));
+      used = not_empty (joined c.args.routes.now.lists (part_at c.args.change.now c.args.k).pieces) (omega (arith, many, c.if-nodes_in-eq0.false));
       is_timing = c.in-Some.ensures.timing;
-      range = c.in-Some.ensures.range;
+      range = (let r = c.in-Some.ensures.range in record { start = r.start_in_range; last = r.last_in_range });
     }
 
 pub kept_in-requires-clause-vehicle : goal.kept_in-requires-clause-vehicle

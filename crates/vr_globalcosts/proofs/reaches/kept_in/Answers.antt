@@ -9,5 +9,5 @@ pub returns : goal.returns
 returns c pays = record {
   used = not_empty c.args.list.now (some_from_test _ _ c.if-is_empty.false c.is_empty.ensures);
   is_timing = c.in_ok-timing.ensures.timing;
-  range = c.in_ok-timing.ensures.range;
+  range = (let r = c.in_ok-timing.ensures.range in record { start = r.start_in_range; last = r.last_in_range });
 }

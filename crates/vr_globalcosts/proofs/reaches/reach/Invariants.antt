@@ -1,9 +1,13 @@
-use Rattle.std.proofs.Common.{◌<◌, ℕ, List, length}
-use Rattle.vr_model.specs.declared.records.Model.{Model}
-use Rattle.vr_globalcosts.specs.GlobalCosts.{AreOf, IsReach, Pays}
+use Rattle.std.proofs.Common.{◌≡◌, take}
+use Rattle.std.specs.Prelude.{fold, IfSome}
+use Rattle.vr_timings.specs.Extents.{IsExtentInRange}
+use Rattle.vr_orders.specs.Lists.{beside, extent_but}
+use Rattle.vr_globalcosts.specs.GlobalCosts.{told_in}
 use Rattle.vr_globalcosts.proofs.reaches.reach.Given as goal
 
--- the lists so far reach so far
-abbrev pub invariant-loop-v : goal.invariant-loop-v
-invariant-loop-v l = (model : Model) (lists : List (List ℕ)) → AreOf model lists l.rows l.vehicles l.next
-    → l.d < length model.dimensions → Pays model l.d → IsReach model lists l.d l.v l.extent
+-- the rows so far are told
+abbrev pub invariant-loop-k : goal.invariant-loop-k
+invariant-loop-k l = record {
+  value : l.extent ≡ fold (λ extent row. beside extent (told_in l.d row)) (extent_but l.vehicles l.orders) (take l.k l.next);
+  range : IfSome l.extent IsExtentInRange;
+}

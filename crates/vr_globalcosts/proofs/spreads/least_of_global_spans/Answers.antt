@@ -11,8 +11,8 @@ loop-d-preserved c =
     let i = c.loop-d.invariant in
     let is = c.loop-d.cost-is in
     let e = c.least_of_global_span-cost.ensures in
-    let few = c.requires.before.well_formed.number_of_dimensions in
-    let many = c.len-d-end.ensures in
+    let few = c.requires.well_formed.number_of_dimensions in
+    let many = c.requires.orders.many in
     let low = c.loop-d-test.true in
     record {
       sum = omega (arith, ints, next, i.sum, e.value, is, i.range.low, i.range.high, e.range.low, e.range.high, few, many, low);
@@ -22,7 +22,7 @@ loop-d-preserved c =
 pub returns-clause-value : goal.returns-clause-value
 returns-clause-value c =
     let model = c.args.model.now in
-    let many = c.len-d-end.ensures in
+    let many = c.requires.orders.many in
     let high = c.loop-d-test.false in
     let end = c.loop-d.auto.d-end in
     let all : c.loop-d.d ≡ length model.dimensions = omega (arith, many, high, end) in

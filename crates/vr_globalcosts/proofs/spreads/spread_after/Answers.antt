@@ -1,10 +1,29 @@
-use Rattle.std.proofs.Common.{◌∙◌, ◌<◌, ℕ, List, ap, length, subst, sym, arith}
+use Rattle.std.proofs.Common.{◌≡◌, ◌∙◌, ◌<◌, ℕ, List, ap, length, subst, sym, arith}
 use Rattle.std.specs.Prelude.{fold}
 use Rattle.std.proofs.lemmas.List.{take_all}
 use Rattle.std.proofs.lemmas.List.Sums.{fold_more}
 use Rattle.vr_routes.specs.Pieces.{no_part, part_at}
-use Rattle.vr_globalcosts.specs.Spreads.{spread_of_kept, with_changed}
+use Rattle.vr_orders.specs.Lists.{extent_but}
+use Rattle.vr_orders.proofs.ReachLemmas.{extent-but-is}
+use Rattle.vr_globalcosts.specs.GlobalCosts.{vehicles_of}
+use Rattle.vr_globalcosts.specs.Spreads.{spread_of, spread_of_kept, with_changed, IsSpreadInRange}
+use Rattle.vr_globalcosts.proofs.KeptLemmas.{spread-told}
 use Rattle.vr_globalcosts.proofs.spreads.spread_after.Goals as goal
+
+pub loop-k-init : goal.loop-k-init
+loop-k-init c =
+    let model = c.args.model.now in
+    let d = c.args.d in
+    let lists : List (List ℕ) = c.args.routes.now.lists in
+    let parts = c.args.change.now in
+    let e = c.spread_of_kept-spread.ensures in
+    let vehicles = c.deref.ensures.0 ∙ c.vehicles_of-vehicles.ensures in
+    let extent = extent_but (vehicles_of parts) c.args.orders.now in
+    let value : c.spread_of_kept-spread.result ≡ spread_of extent = e.value ∙ ap (λ us. spread_of (extent_but us c.args.orders.now)) vehicles in
+    record {
+      value = value ∙ spread-told model lists parts d extent (extent-but-is model d lists c.args.orders.now c.requires.orders (vehicles_of parts)) (subst IsSpreadInRange value e.range);
+      range = e.range;
+    }
 
 pub loop-k-preserved : goal.loop-k-preserved
 loop-k-preserved c =

@@ -10,7 +10,7 @@ use Rattle.vr_globalcosts.proofs.spreads.with_changed.Goals as goal
 
 pub at-early-requires-clause-dimension : goal.at-early-requires-clause-dimension
 at-early-requires-clause-dimension c =
-    let few = c.requires.before.well_formed.number_of_dimensions in
+    let few = c.requires.dimensions in
     let low = c.requires.dimension in
     omega (arith, few, low)
 

@@ -1,13 +1,13 @@
-use Rattle.std.proofs.Common.{◌∙◌, ℕ, List, Option, ap, sym, subst, arith}
+use Rattle.std.proofs.Common.{◌∙◌, ℕ, List, length, ap, sym, subst, arith}
 use Rattle.std.proofs.lemmas.Int.{ints}
 use Rattle.vr_model.specs.declared.records.Model.{Model}
-use Rattle.vr_timings.specs.declared.timings.Timing.{Timing}
 use Rattle.vr_routes.specs.Pieces.{changed}
 use Rattle.vr_earliest.specs.Earlies.{AreEarlies}
-use Rattle.vr_globalcosts.specs.GlobalCosts.{NonePays}
-use Rattle.vr_globalcosts.specs.Spreads.{global_least, AreRowsBefore}
+use Rattle.vr_orders.specs.declared.lists.Orders.{Orders}
+use Rattle.vr_globalcosts.specs.GlobalCosts.{AreAllOrders, NonePays}
+use Rattle.vr_globalcosts.specs.Spreads.{global_least}
 use Rattle.vr_globalcosts.proofs.GlobalLemmas.{none-costs}
-use Rattle.vr_globalcosts.proofs.SpreadLemmas.{least-holds, none-least, rows-before}
+use Rattle.vr_globalcosts.proofs.SpreadLemmas.{least-holds, none-least}
 use Rattle.vr_globalcosts.proofs.globals.GlobalSpan.least.Goals as goal
 
 pub returns-then-is_idle-clause-least : goal.returns-then-is_idle-clause-least
@@ -23,12 +23,14 @@ pub least-requires-clause-earlies : goal.least-requires-clause-earlies
 least-requires-clause-earlies c =
     subst (λ (m : Model). AreEarlies m c.args.routes.now.lists c.args.change.now c.args.earlies.now) (sym (ap (λ s. s.model) c.self.view_is)) c.requires.earlies
 
-pub least-requires-clause-before : goal.least-requires-clause-before
-least-requires-clause-before c =
+pub least-requires-clause-as_many : goal.least-requires-clause-as_many
+least-requires-clause-as_many c = c.requires.stands.as_many ∙ ap (λ (m : Model). length m.vehicles) (sym (ap (λ s. s.model) c.self.view_is))
+
+pub least-requires-clause-orders : goal.least-requires-clause-orders
+least-requires-clause-orders c =
     let lists : List (List ℕ) = c.args.routes.now.lists in
-    let before = rows-before c.args.self.now c.args.routes.now c.requires.stands c.args.change.now c.requires.made in
-    subst (λ (m : Model). AreRowsBefore m lists c.deref.result.now c.args.change.now) (sym (ap (λ s. s.model) c.self.view_is))
-    (subst (λ (rows : List (List (Option Timing))). AreRowsBefore c.args.self.now.model lists rows c.args.change.now) (sym (c.deref.ensures.value ∙ ap (λ s. s.rows) c.self.view_is)) before)
+    subst (λ (m : Model). AreAllOrders m lists c.deref.result.now) (sym (ap (λ s. s.model) c.self.view_is))
+    (subst (λ (os : List Orders). AreAllOrders c.args.self.now.model lists os) (sym (c.deref.ensures.value ∙ ap (λ s. s.orders) c.self.view_is)) c.requires.stands.orders)
 
 pub returns-then-is_idle-clause-value : goal.returns-then-is_idle-clause-value
 returns-then-is_idle-clause-value c =

@@ -1,45 +1,32 @@
-use Rattle.std.proofs.Common.{◌∙◌, ◌*◌, [], ℕ, List, length, refl, ap, sym, subst, arith}
-use Rattle.std.specs.Prelude.{slice_index_or}
+use Rattle.std.proofs.Common.{◌≡◌, ◌∙◌, ◌*◌, ℕ, List, length, refl, ap, sym, subst, arith}
+use Rattle.vr_model.specs.declared.records.Model.{Model}
 use Rattle.vr_timings.specs.Bounds.{cumul_cost}
 use Rattle.vr_timings.proofs.BoundLemmas.{read-around}
-use Rattle.vr_routes.specs.Pieces.{changed, joined, part_at}
-use Rattle.vr_globalcosts.specs.GlobalCosts.{AreKept, IsGlobalCost}
-use Rattle.vr_globalcosts.proofs.GlobalLemmas.{changed-rows, of-same}
+use Rattle.vr_routes.specs.Pieces.{changed}
+use Rattle.vr_earliest.proofs.KeptLemmas.{written}
+use Rattle.vr_orders.specs.declared.lists.Orders.{Orders}
+use Rattle.vr_globalcosts.specs.GlobalCosts.{global_cost_of, AreAllOrders, IsGlobalCost, KeptSpans}
+use Rattle.vr_globalcosts.proofs.GlobalLemmas.{stands-like}
 use Rattle.vr_globalcosts.proofs.globals.GlobalSpan.make_ready.Goals as goal
 
-pub cost-self-inside-requires-clause-known : goal.cost-self-inside-requires-clause-known
-cost-self-inside-requires-clause-known c =
-    let later = c.write_next.new.self in
-    let lists : List (List ℕ) = changed c.args.routes.now.lists c.args.change.now in
-    let e = c.in_ok-write_next.ensures in
-    let are = changed-rows c.args.self.now later c.args.routes.now c.requires.stands e.like c.args.change.now c.requires.made.makes.parts_are e.next in
-    record {
-      lists = lists;
-      of_these = of-same later.model c.self.inside.rules lists later.rows c.deref.result.now later.next c.deref-3.result.now later.vehicles c.deref-2.result.now
-          (ap (λ s. s.model) c.self.view_is) (c.deref.ensures.value ∙ ap (λ s. s.rows) c.self.view_is)
-          (c.deref-2.ensures.0 ∙ ap (λ s. s.vehicles) c.self.view_is) (c.deref-3.ensures.0 ∙ ap (λ s. s.next) c.self.view_is) are;
-    }
+pub cost_after-self-inside-requires-clause-stands : goal.cost_after-self-inside-requires-clause-stands
+cost_after-self-inside-requires-clause-stands c = stands-like c.args.self.now c.write_next.new.self c.args.routes.now c.requires.stands c.in_ok-write_next.ensures.like
 
 pub returns-clause-ready : goal.returns-clause-ready
 returns-clause-ready c =
-    let later = c.write_next.new.self in
     let lists : List (List ℕ) = changed c.args.routes.now.lists c.args.change.now in
-    let parts = c.args.change.now in
-    let e = c.in_ok-write_next.ensures in
-    let r = c.cost-self-inside.ensures in
-    let are = changed-rows c.args.self.now later c.args.routes.now c.requires.stands e.like parts c.requires.made.makes.parts_are e.next in
-    let here = of-same later.model c.self.inside.rules lists later.rows c.deref.result.now later.next c.deref-3.result.now later.vehicles c.deref-2.result.now
-    (ap (λ s. s.model) c.self.view_is) (c.deref.ensures.value ∙ ap (λ s. s.rows) c.self.view_is)
-    (c.deref-2.ensures.0 ∙ ap (λ s. s.vehicles) c.self.view_is) (c.deref-3.ensures.0 ∙ ap (λ s. s.next) c.self.view_is) are in
-    let read = read-around c.cost-self-inside.result (cumul_cost * 4) r.range (omega arith) in
+    let like = c.in_ok-write_next.ensures.like in
+    let h = c.requires.stands in
+    let r = c.cost_after-self-inside.ensures in
+    let read = read-around c.cost_after-self-inside.result (cumul_cost * 4) r.range (omega arith) in
+    let old : List Orders = c.self.inside.next_orders.items in
+    let new : List Orders = c.write_orders.new.out in
+    let rules : Model = c.self.inside.rules in
+    let model : rules ≡ c.args.self.now.model = ap (λ s. s.model) c.self.view_is ∙ like.model in
+    let room : length old ≡ length rules.dimensions = ap (λ (s : KeptSpans). length s.next_orders) c.self.view_is ∙ like.room ∙ h.room ∙ ap (λ (m : Model). length m.dimensions) (sym model) in
     record {
       prepared = refl;
-      timed = record {
-        vehicles = ap (λ s. s.vehicles) c.self.view_is ∙ e.next.vehicles;
-        many = ap (λ s. length s.next) c.self.view_is ∙ e.next.many;
-        rows = λ k low.
-            subst (λ s. AreKept s.model (part_at parts k).vehicle (joined c.args.routes.now.lists (part_at parts k).pieces) (slice_index_or s.next k [])) (sym c.self.view_is) (e.next.rows k low);
-      };
-      cost = read ∙ r.value lists here;
+      orders = subst (AreAllOrders rules lists) (sym (written old new c.self.inside.next_orders.len (c.write_orders.ensures.many ∙ sym room) (sym c.deref_mut.ensures.len ∙ ap length c.deref_mut.ensures.value))) c.write_orders.ensures;
+      cost = read ∙ r.value ∙ ap (λ (s : KeptSpans). global_cost_of s.model lists) (sym c.self.view_is);
       range = subst IsGlobalCost (sym read) r.range;
     }

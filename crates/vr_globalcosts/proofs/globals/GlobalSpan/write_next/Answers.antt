@@ -1,17 +1,17 @@
-use Rattle.std.proofs.Common.{◌≡◌, ◌∙◌, ◌+◌, ◌++◌, ◌∷◌, [], ◌<◌, ℕ, List, Option, length, length-append, take, ap, sym, subst}
+use Rattle.std.proofs.Common.{◌≡◌, ◌∙◌, ◌+◌, ◌∷◌, [], ◌<◌, ℕ, List, Option, length, length-append, ap, sym, subst}
 use Rattle.std.specs.Prelude.{slice_index_or}
 use Rattle.vr_model.specs.declared.records.Model.{Model}
 use Rattle.vr_timings.specs.declared.timings.Timing.{Timing}
 use Rattle.vr_routes.specs.Pieces.{joined, part_at}
-use Rattle.vr_globalcosts.specs.GlobalCosts.{vehicles_of, AreKept}
-use Rattle.vr_globalcosts.proofs.GlobalLemmas.{stands-like, vehicles-more}
+use Rattle.vr_globalcosts.specs.GlobalCosts.{AreKept}
+use Rattle.vr_globalcosts.proofs.GlobalLemmas.{stands-like}
 use Rattle.vr_parts.proofs.RowLemmas.{rows-push}
 use Rattle.vr_globalcosts.proofs.globals.GlobalSpan.write_next.Goals as goal
 
 pub row_after-requires-clause-stands : goal.row_after-requires-clause-stands
 row_after-requires-clause-stands c =
     let i = c.loop-k.invariant in
-    stands-like c.args.self.now c.loop-k.self c.args.routes.now c.requires.stands (record { model = i.model; rows = i.rows; cost = i.cost; cumuls = i.cumuls })
+    stands-like c.args.self.now c.loop-k.self c.args.routes.now c.requires.stands (record { model = i.model; orders = i.orders; room = i.room; cost = i.cost; cumuls = i.cumuls })
 
 pub loop-k-preserved : goal.loop-k-preserved
 loop-k-preserved c =
@@ -26,18 +26,17 @@ loop-k-preserved c =
     let same = c.self-in-loop-k.view_is ∙ e.stays in
     let next : old ≡ c.loop-k.self.next = ap (λ s. s.next) same in
     let low = subst (λ n. k < n) c.parts-k-end.ensures.value c.loop-k-test.true in
-    let new = c.push-in-loop-k.ensures.items in
+    let new = c.push.ensures.items in
     let many : length old ≡ k = ap length next ∙ i.many in
     record {
       model = ap (λ s. s.model) same ∙ i.model;
-      rows = ap (λ s. s.rows) same ∙ i.rows;
+      orders = ap (λ s. s.orders) same ∙ i.orders;
+      room = ap (λ s. length s.next_orders) same ∙ i.room;
       cost = ap (λ s. s.cost) same ∙ i.cost;
       cumuls = ap (λ s. s.cumuls) same ∙ i.cumuls;
       unprepared = ap (λ s. s.is_prepared) same ∙ i.unprepared;
-      vehicles = c.push.ensures.items ∙ ap (λ us. us ++ c.vehicle.result ∷ []) (ap (λ s. s.vehicles) same ∙ i.vehicles)
-          ∙ ap (λ v. vehicles_of (take k parts) ++ v ∷ []) c.vehicle.ensures ∙ sym (vehicles-more parts k low);
       many = ap length new ∙ length-append old (row ∷ []) ∙ ap (λ n. n + 1) many;
-      kept = rows-push (λ j x. AreKept model (part_at parts j).vehicle (joined lists (part_at parts j).pieces) x) [] old c.push-in-loop-k.new.self.items row k many
+      kept = rows-push (λ j x. AreKept model (part_at parts j).vehicle (joined lists (part_at parts j).pieces) x) [] old c.push.new.self.items row k many
           (λ j less. subst (λ xs. AreKept model (part_at parts j).vehicle (joined lists (part_at parts j).pieces) (slice_index_or xs j [])) (sym next) (i.kept j less))
           (subst (λ (m : Model). AreKept m (part_at parts k).vehicle (joined lists (part_at parts k).pieces) row) i.model e.kept) new;
     }

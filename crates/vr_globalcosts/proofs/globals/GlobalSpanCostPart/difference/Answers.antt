@@ -15,30 +15,31 @@ returns-then-is_idle-clause-exact c =
     let b = none-costs model none (changed lists c.args.change.now) in
     omega (arith, ints, a, b)
 
-pub returns-in_err-make_ready-clause-stands : goal.returns-in_err-make_ready-clause-stands
-returns-in_err-make_ready-clause-stands c = stands-like c.args.self.now c.make_ready.new.self c.args.routes.now c.requires.stands c.make_ready.ensures.like
+pub returns-in_err-write_next-clause-stands : goal.returns-in_err-write_next-clause-stands
+returns-in_err-write_next-clause-stands c = stands-like c.args.self.now c.write_next.new.self c.args.routes.now c.requires.stands c.write_next.ensures.like
+
+pub cost_after-requires-clause-stands : goal.cost_after-requires-clause-stands
+cost_after-requires-clause-stands c = stands-like c.args.self.now c.write_next.new.self c.args.routes.now c.requires.stands c.in_ok-write_next.ensures.like
 
 pub returns-clause-exact : goal.returns-clause-exact
 returns-clause-exact c =
     let lists : List (List ℕ) = changed c.args.routes.now.lists c.args.change.now in
-    let ready = c.in_ok-make_ready.ensures.ready in
-    let like = c.in_ok-make_ready.ensures.like in
+    let like = c.in_ok-write_next.ensures.like in
     let view = c.self-2.view_is in
-    let after = ap (λ s. s.next_cost) view ∙ ready.cost ∙ ap (λ (m : Model). global_cost_of m lists) like.model in
+    let after = c.cost_after.ensures.value ∙ ap (λ (m : Model). global_cost_of m lists) like.model in
     let before = ap (λ s. s.cost) view ∙ like.cost ∙ c.requires.stands.cost in
-    let a = subst IsGlobalCost (sym (ap (λ s. s.next_cost) view)) ready.range in
+    let a = c.cost_after.ensures.range in
     let b = subst IsGlobalCost (sym (ap (λ s. s.cost) view ∙ like.cost)) c.requires.stands.range in
     omega (arith, ints, after, before, a.low, a.high, b.low, b.high)
 
 pub returns-clause-stands : goal.returns-clause-stands
 returns-clause-stands c =
-    stands-like c.args.self.now c.make_ready.new.self c.args.routes.now c.requires.stands c.make_ready.ensures.like
+    stands-like c.args.self.now c.write_next.new.self c.args.routes.now c.requires.stands c.write_next.ensures.like
 
 pub returns-clause-range : goal.returns-clause-range
 returns-clause-range c =
-    let ready = c.in_ok-make_ready.ensures.ready in
-    let like = c.in_ok-make_ready.ensures.like in
+    let like = c.in_ok-write_next.ensures.like in
     let view = c.self-2.view_is in
-    let a = subst IsGlobalCost (sym (ap (λ s. s.next_cost) view)) ready.range in
+    let a = c.cost_after.ensures.range in
     let b = subst IsGlobalCost (sym (ap (λ s. s.cost) view ∙ like.cost)) c.requires.stands.range in
     record { low = omega (arith, ints, a.low, a.high, b.low, b.high); high = omega (arith, ints, a.low, a.high, b.low, b.high) }
