@@ -1,4 +1,1 @@
-pub mod RuleLemmas
-pub mod VerdictLemmas
-pub mod DimensionLemmas
-pub mod SumLemmas
+mod VerdictLemmas

@@ -7,13 +7,15 @@ ghost use Rattle.vr_model.specs.routes.Rules.{is_valid};
 ghost use Rattle.vr_model.specs.tables.Tables.{visits};
 ghost use Rattle.vr_model.specs.tables.WellFormed.{IsWellFormed};
 ghost use Rattle.vr_routes.specs.Judging.{HoldSame, cost_change, moved, verdict_of};
-ghost use Rattle.vr_judge.specs.Rules.{total_weight};
+ghost use Rattle.vr_allfilters.specs.Rules.{total_weight};
 
-use crate::filters::{Filters, filters_of};
 use crate::judging::Judging;
 use std::alloc::Global;
 use std::marker::Model;
 use std::sync::ledger::Ledger;
+use vr_allcosts::Costs;
+use vr_allfilters::{Filters, filters_of};
+use vr_both::both;
 use vr_model::{Model as RoutingModel, Move, NoMemory, Steps};
 use vr_routes::{Change, Judge, Routes, Verdict};
 
@@ -50,8 +52,13 @@ impl<'m> FilterJudge<'m> {
         ensures model { IfOk result (λ judge. judge.model ≡ model.now) }
         ensures holds { IfOk result (λ judge. HoldSame model.now judge.lists routes.now) }
     {
-        let filters = filters_of(alloc, model, routes)?;
-        let judging = Judging::open(alloc, model, filters, routes)?;
+        let filters = filters_of(alloc, model, routes);
+        let costs = Costs::open(alloc, model, routes);
+        let held = routes.copy(alloc);
+        let kept = both(costs, held);
+        let (filters, kept) = both(filters, kept)?;
+        let (costs, held) = kept;
+        let judging = Judging::new(model, routes, held, filters, costs);
         Ok(FilterJudge {
             judging: Box::new(alloc, judging)?,
         })

@@ -6,13 +6,13 @@ ghost use Rattle.vr_model.specs.moves.MoveTests.{is_move};
 ghost use Rattle.vr_model.specs.routes.Rules.{is_valid};
 ghost use Rattle.vr_model.specs.tables.Tables.{visits};
 ghost use Rattle.vr_model.specs.tables.WellFormed.{IsWellFormed};
+ghost use Rattle.vr_allcosts.specs.Standing.{StandsCosts};
 ghost use Rattle.vr_routes.specs.Judging.{HoldSame, cost_change, moved, verdict_of};
-ghost use Rattle.vr_judge.specs.Rules.{keeps_rules, total_weight};
+ghost use Rattle.vr_allfilters.specs.Rules.{keeps_rules, total_weight};
 
-use crate::costs::Costs;
-use std::alloc::Global;
 use std::marker::Model;
 use std::sync::ledger::Ledger;
+use vr_allcosts::Costs;
 use vr_filter::PathFilter;
 use vr_model::{Model as RoutingModel, Move, NoMemory, Steps};
 use vr_routes::{Change, Judge, Routes, Verdict};
@@ -41,33 +41,34 @@ impl<'m, F: PathFilter + Drop> Model for Judging<'m, F> {
 }
 
 impl<'m, F: PathFilter + Drop> Judging<'m, F> {
-    /// A judge that has committed the lists of these routes, which are valid, by a filter that stands at them. The only
-    /// refusal is want of memory.
-    pub(crate) fn open(
-        alloc: Global,
+    /// A judge that has committed the lists of these routes, which are valid: `held` is a copy of them, and the filter
+    /// and the costs stand at them.
+    pub(crate) fn new(
         model: &'m RoutingModel,
-        filter: F,
         routes: &Routes,
-    ) -> Result<Judging<'m, F>, NoMemory>
-        requires well_formed { IsWellFormed model.now }
+        held: Routes,
+        filter: F,
+        costs: Costs<'m>,
+    ) -> Judging<'m, F>
         requires of_model { routes.now.visits ≡ visits model.now }
         requires valid { IsTrue (is_valid model.now routes.now.lists) }
+        requires copied { held ≡ routes.now }
         requires rules { (lists : List (List ℕ)) → F.holds filter lists ≡ keeps_rules model.now lists }
         requires weights { (before later : List (List ℕ))
             → F.weight filter before later ≡ total_weight model.now before later }
         requires stands { F.stands_at filter routes.now }
-        ensures model { IfOk result (λ judging. judging.model ≡ model.now) }
-        ensures holds { IfOk result (λ judging. HoldSame model.now judging.lists routes.now) }
+        requires costs_model { costs.model ≡ model.now }
+        requires costs_stand { StandsCosts costs routes.now }
+        ensures model { result.model ≡ model.now }
+        ensures holds { HoldSame model.now result.lists routes.now }
     {
-        let held = routes.copy(alloc)?;
-        let costs = Costs::open(alloc, model, routes)?;
-        Ok(Judging {
+        Judging {
             model,
             held,
             filter,
             costs,
             change: Change::blank(),
-        })
+        }
     }
 }
 

@@ -6,7 +6,7 @@ use Rattle.vr_walks.specs.Lists.{is_feasible_list}
 use Rattle.vr_pathfilters.specs.Groups.{keeps_groups}
 use Rattle.vr_pathfilters.specs.Lists.{holds_of_each}
 use Rattle.vr_pathfilters.specs.Vehicles.{is_allowed_list}
-use Rattle.vr_judge.proofs.RuleLemmas.{kept_where_valid}
+use Rattle.vr_allfilters.proofs.RuleLemmas.{kept_where_valid}
 use Rattle.vr_bench.proofs.passes.ask.Goals as goal
 
 pub open-requires-clause-many : goal.open-requires-clause-many

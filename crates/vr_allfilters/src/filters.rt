@@ -5,23 +5,24 @@ ghost use Rattle.std.specs.List.{list_all};
 ghost use Rattle.vr_model.specs.routes.Rules.{is_valid};
 ghost use Rattle.vr_model.specs.tables.Tables.{visits};
 ghost use Rattle.vr_model.specs.tables.WellFormed.{IsWellFormed};
-ghost use Rattle.vr_judge.specs.Rules.{are_feasible, keeps_rules, total_weight};
+ghost use Rattle.vr_allfilters.specs.Rules.{are_feasible, keeps_rules, total_weight};
 
 use crate::ranks::ranked_dimensions;
 use std::alloc::Global;
+use vr_both::both;
 use vr_filter::{Both, Each, PathFilter};
 use vr_model::{Model, NoMemory};
 use vr_pathfilters::{DimensionFilter, GroupFilter, PairFilter, VehicleFilter};
 use vr_routes::Routes;
 
 /// The filters of a model: those that ask least come first.
-pub(crate) type Filters<'m> = Both<
+pub type Filters<'m> = Both<
     GroupFilter<'m>,
     Both<VehicleFilter<'m>, Both<PairFilter<'m>, Each<DimensionFilter<'m>>>>,
 >;
 
 /// The filters of a model, which stand at these routes. The only refusal is want of memory.
-pub(crate) fn filters_of<'m>(
+pub fn filters_of<'m>(
     alloc: Global,
     model: &'m Model,
     routes: &Routes,
@@ -35,10 +36,15 @@ pub(crate) fn filters_of<'m>(
         → ⟦<Filters<'static> as PathFilter>⟧.weight filters before later ≡ total_weight model.now before later) }
     ensures stands { IfOk result (λ filters. ⟦<Filters<'static> as PathFilter>⟧.stands_at filters routes.now) }
 {
-    let groups = GroupFilter::open(alloc, model, routes)?;
-    let vehicles = VehicleFilter::open(alloc, model, routes)?;
-    let pairs = PairFilter::open(alloc, model, routes)?;
-    let dimensions = filters_of_dimensions(alloc, model, routes)?;
+    let groups = GroupFilter::open(alloc, model, routes);
+    let vehicles = VehicleFilter::open(alloc, model, routes);
+    let pairs = PairFilter::open(alloc, model, routes);
+    let dimensions = filters_of_dimensions(alloc, model, routes);
+    let front = both(groups, vehicles);
+    let end = both(pairs, dimensions);
+    let (front, end) = both(front, end)?;
+    let (groups, vehicles) = front;
+    let (pairs, dimensions) = end;
     Ok(Both {
         a: groups,
         b: Both {

@@ -9,9 +9,9 @@ use Rattle.vr_walks.specs.Lists.{is_feasible_list}
 use Rattle.vr_pathfilters.specs.Known.{StandsAt}
 use Rattle.vr_pathfilters.specs.Lists.{holds_of_each}
 use Rattle.vr_pathfilters.specs.declared.dimensions.DimensionFilter.{DimensionFilter}
-use Rattle.vr_judge.specs.Ranks.{by_rank}
-use Rattle.vr_judge.proofs.DimensionLemmas.{AreOf, one_more, at_rank, dimension_at_rank, rules_by_rank, weights_by_rank}
-use Rattle.vr_judge.proofs.filters.filters_of_dimensions.Goals as goal
+use Rattle.vr_allfilters.specs.Ranks.{by_rank}
+use Rattle.vr_allfilters.proofs.DimensionLemmas.{AreOf, one_more, at_rank, dimension_at_rank, rules_by_rank, weights_by_rank}
+use Rattle.vr_allfilters.proofs.filters.filters_of_dimensions.Goals as goal
 
 pub open-requires-clause-dimension : goal.open-requires-clause-dimension
 open-requires-clause-dimension c =

@@ -7,8 +7,8 @@ use Rattle.vr_routes.specs.Pieces.{changed}
 use Rattle.vr_globalcosts.specs.GlobalCosts.{global_cost_of}
 use Rattle.vr_plancosts.specs.PlanCosts.{soft_and_span}
 use Rattle.vr_earliest.specs.Kept.{StandsEarliest}
-use Rattle.vr_judge.proofs.SumLemmas.{AreBounded, adds_whole, are_read, cost_of_parts}
-use Rattle.vr_judge.proofs.costs.Costs.difference.Goals as goal
+use Rattle.vr_allcosts.proofs.SumLemmas.{AreBounded, adds_whole, are_read, cost_of_parts}
+use Rattle.vr_allcosts.proofs.costs.Costs.difference.Goals as goal
 
 pub overflow_add-result : goal.overflow_add-result
 overflow_add-result c =

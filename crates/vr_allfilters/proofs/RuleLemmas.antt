@@ -19,7 +19,7 @@ use Rattle.vr_pathfilters.proofs.PartTours.{rule_at, rule_of_all}
 use Rattle.vr_pathfilters.specs.Vehicles.{is_allowed_list}
 use Rattle.vr_pathfilters.specs.Groups.{keeps_groups}
 use Rattle.vr_lists.specs.Pairs.{keeps_pairs}
-use Rattle.vr_judge.specs.Rules.{keeps_rules}
+use Rattle.vr_allfilters.specs.Rules.{keeps_rules}
 
 no_pairs_in : (pairs : List Pair) → filter (λ pair. holds [] pair.pickup) pairs ≡ []
 no_pairs_in [] = refl

@@ -10,8 +10,8 @@ use Rattle.vr_routes.specs.Pieces.{changed, joined, part_at}
 use Rattle.vr_globalcosts.specs.GlobalCosts.{global_cost_of}
 use Rattle.vr_plancosts.specs.PlanCosts.{soft_and_span}
 use Rattle.vr_parts.proofs.PartLemmas.{below-after}
-use Rattle.vr_judge.proofs.SumLemmas.{AreBounded, adds_least, are_read, cost_of_parts}
-use Rattle.vr_judge.proofs.costs.Costs.least.Goals as goal
+use Rattle.vr_allcosts.proofs.SumLemmas.{AreBounded, adds_least, are_read, cost_of_parts}
+use Rattle.vr_allcosts.proofs.costs.Costs.least.Goals as goal
 
 pub added_by_move-arcs-requires-clause-is_one : goal.added_by_move-arcs-requires-clause-is_one
 added_by_move-arcs-requires-clause-is_one c =

@@ -3,8 +3,8 @@ use Rattle.vr_model.specs.schedules.Weights.{weight}
 use Rattle.vr_walks.specs.Lists.{is_feasible_list}
 use Rattle.vr_pathfilters.specs.Known.{StandsAt}
 use Rattle.vr_pathfilters.specs.Lists.{holds_of_each}
-use Rattle.vr_judge.proofs.DimensionLemmas.{AreOf}
-use Rattle.vr_judge.proofs.filters.filters_of_dimensions.Given as goal
+use Rattle.vr_allfilters.proofs.DimensionLemmas.{AreOf}
+use Rattle.vr_allfilters.proofs.filters.filters_of_dimensions.Given as goal
 
 abbrev pub invariant-loop-k : goal.invariant-loop-k
 invariant-loop-k l = AreOf

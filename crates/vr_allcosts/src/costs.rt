@@ -9,10 +9,11 @@ ghost use Rattle.vr_model.specs.tables.WellFormed.{IsWellFormed};
 ghost use Rattle.vr_routes.specs.Changes.{IsChange, IsMadeOn};
 ghost use Rattle.vr_routes.specs.Pieces.{changed};
 ghost use Rattle.vr_parts.specs.Parts.{after};
-ghost use Rattle.vr_judge.specs.Standing.{StandsCosts};
+ghost use Rattle.vr_allcosts.specs.Standing.{StandsCosts};
 
 use std::alloc::Global;
 use std::marker::Model;
+use vr_both::both;
 use vr_costfilter::{ArcCost, CostPart, FixedCost, GlobalSpan, GroupCost, PlanCost};
 use vr_earliest::{Earlies, Earliest};
 use vr_model::{Model as RoutingModel, Move, NoMemory};
@@ -20,7 +21,7 @@ use vr_routes::{Change, Routes};
 
 /// What routes cost, part by part.
 #[derive(Drop)]
-pub(crate) struct Costs<'m> {
+pub struct Costs<'m> {
     model: &'m RoutingModel,
     arcs: ArcCost<'m>,
     fixed: FixedCost<'m>,
@@ -34,7 +35,7 @@ pub(crate) struct Costs<'m> {
 }
 
 impl<'m> Model for Costs<'m> {
-    ghost use Rattle.vr_judge.specs.Standing.{KeptCosts};
+    ghost use Rattle.vr_allcosts.specs.Standing.{KeptCosts};
 
     ghost Value = { KeptCosts };
 
@@ -51,7 +52,7 @@ impl<'m> Model for Costs<'m> {
 
 impl<'m> Costs<'m> {
     /// What valid routes of a model cost. The only refusal is want of memory.
-    pub(crate) fn open(
+    pub fn open(
         alloc: Global,
         model: &'m RoutingModel,
         routes: &Routes,
@@ -62,20 +63,33 @@ impl<'m> Costs<'m> {
         ensures model { IfOk result (λ costs. costs.model ≡ model.now) }
         ensures stands { IfOk result (λ costs. StandsCosts costs routes.now) }
     {
+        let arcs = ArcCost::open(alloc, model, routes);
+        let fixed = FixedCost::open(model, routes);
+        let groups = GroupCost::open(alloc, model, routes);
+        let plans = PlanCost::open(alloc, model, routes);
+        let spans = GlobalSpan::open(alloc, model, routes);
+        let earliest = Earliest::open(alloc, model, routes);
+        let used = both(fixed, groups);
+        let driven = both(arcs, earliest);
+        let scheduled = both(plans, spans);
+        let (first, (second, third)) = both(used, both(driven, scheduled))?;
+        let (fixed, groups) = first;
+        let (arcs, earliest) = second;
+        let (plans, spans) = third;
         Ok(Costs {
             model,
-            arcs: ArcCost::open(alloc, model, routes)?,
-            fixed: FixedCost::open(model, routes)?,
-            groups: GroupCost::open(alloc, model, routes)?,
-            plans: PlanCost::open(alloc, model, routes)?,
-            spans: GlobalSpan::open(alloc, model, routes)?,
-            earliest: Earliest::open(alloc, model, routes)?,
+            arcs,
+            fixed,
+            groups,
+            plans,
+            spans,
+            earliest,
             earlies: Earlies::new(),
         })
     }
 
     /// What a change of the committed lists adds to their cost.
-    pub(crate) fn difference(&mut self, routes: &Routes, change: &Change) -> Result<i64, NoMemory>
+    pub fn difference(&mut self, routes: &Routes, change: &Change) -> Result<i64, NoMemory>
         requires stands { StandsCosts self.old routes.now }
         requires made { IsMadeOn routes.now change.now }
         requires valid { IsTrue (is_valid self.old.model (changed routes.now.lists change.now)) }
@@ -95,7 +109,7 @@ impl<'m> Costs<'m> {
     /// What a move of the committed lists adds to their cost at least, where the lists after it are valid: what arcs
     /// and fixed costs add, and what groups, soft upper bounds, spans and global spans add at least. The caller hands
     /// in the change that the move makes.
-    pub(crate) fn least(&mut self, routes: &Routes, mv: Move, change: &Change) -> i64
+    pub fn least(&mut self, routes: &Routes, mv: Move, change: &Change) -> i64
         requires stands { StandsCosts self.old routes.now }
         requires made { IsMadeOn routes.now change.now }
         requires is_one { is_move self.old.model routes.now.lists mv ≡ true }
@@ -115,7 +129,7 @@ impl<'m> Costs<'m> {
     }
 
     /// Commits the lists after a change. Each part is made ready first, so all stay as before where memory is wanting.
-    pub(crate) fn commit(&mut self, routes: &Routes, change: &Change) -> Result<(), NoMemory>
+    pub fn commit(&mut self, routes: &Routes, change: &Change) -> Result<(), NoMemory>
         requires stands { StandsCosts self.old routes.now }
         requires made { IsMadeOn routes.now change.now }
         requires valid { IsTrue (is_valid self.old.model (changed routes.now.lists change.now)) }
