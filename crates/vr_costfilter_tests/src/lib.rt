@@ -5,6 +5,8 @@
 #[cfg(test)]
 mod kept;
 #[cfg(test)]
+mod late;
+#[cfg(test)]
 mod least;
 #[cfg(test)]
 mod tests;

@@ -1,5 +1,5 @@
-//! What kept cumuls tell: what a change makes of a list is told by them where all slacks may be as long as it takes, so
-//! that no list is written and no schedule is looked for.
+//! What kept cumuls tell: what a change makes of a list is told by them, whatever slacks may be, so that no list is
+//! written and no schedule is looked for.
 
 ghost use Rattle.std.specs.Prelude.{◌≡◌, IsTrue};
 ghost use Rattle.vr_model.specs.routes.Rules.{is_valid};
@@ -8,7 +8,7 @@ ghost use Rattle.vr_routes.specs.Changes.{IsMadeOn};
 ghost use Rattle.vr_routes.specs.Pieces.{changed};
 
 use std::alloc::Global;
-use vr_cumuls::{AllCumuls, Paid};
+use vr_cumuls::{AllCumuls, Paid, Trail};
 use vr_model::{Model, NoMemory};
 use vr_routes::{Change, Piece, Routes};
 use vr_timings::tables_of;
@@ -36,8 +36,9 @@ pub(crate) fn tells_first(
         return Ok(true);
     }
     let kept = AllCumuls::open(alloc, model, &tables, Paid::Alone, routes)?;
+    let mut trail = Trail::new();
     Ok(
-        kept.timing_after(model, &tables[0], 0, routes, change, 0)
+        kept.timing_after(model, &tables[0], 0, routes, change, 0, &mut trail)
             .is_some(),
     )
 }

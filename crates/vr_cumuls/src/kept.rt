@@ -186,11 +186,11 @@ impl Kept {
     }
 
     // The stage at the start at a cumul, the kept one where it is the same.
-    fn start_stage(&self, guide: &Guide, list: &[u32], cumul: i64) -> Stage
+    fn start_stage(&self, guide: &Guide, _list: &[u32], cumul: i64) -> Stage
         requires guide { IsGuide guide.now }
-        requires kept { IsKept guide.now.model.now guide.now.d guide.now.v list.now self.now }
-        requires told { length self.now.stages.items ≡ length list.now + 2 }
-        requires few { length list.now ≤ 1000 }
+        requires kept { IsKept guide.now.model.now guide.now.d guide.now.v _list.now self.now }
+        requires told { length self.now.stages.items ≡ length _list.now + 2 }
+        requires few { length _list.now ≤ 1000 }
         requires cumul { IsIn (pos 0) horizon cumul }
         ensures value { result ≡ standing guide.now.model.now guide.now.d guide.now.v cumul }
         ensures range { IsStageOf guide.now.model.now 1002 result }

@@ -14,8 +14,8 @@ returns-then-nodes_in-eq0 c pays =
     let many = c.nodes_in.ensures ∙ ap (λ ps. length (joined c.args.routes.now.lists ps)) c.pieces.ensures.value in
     empty_where (joined c.args.routes.now.lists (part_at c.args.change.now c.args.k).pieces) (omega (arith, many, c.if-nodes_in-eq0.true))
 
-pub timing_after-requires-clause-some : goal.timing_after-requires-clause-some
-timing_after-requires-clause-some c =
+pub timing_after-told-requires-clause-some : goal.timing_after-told-requires-clause-some
+timing_after-told-requires-clause-some c =
     let many = c.nodes_in.ensures ∙ ap (λ ps. length (joined c.args.routes.now.lists ps)) c.pieces.ensures.value in
     not_empty (joined c.args.routes.now.lists (part_at c.args.change.now c.args.k).pieces) (omega (arith, many, c.if-nodes_in-eq0.false))
 

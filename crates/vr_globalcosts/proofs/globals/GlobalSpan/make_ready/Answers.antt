@@ -3,7 +3,7 @@ use Rattle.vr_model.specs.declared.records.Model.{Model}
 use Rattle.vr_timings.specs.Bounds.{cumul_cost}
 use Rattle.vr_timings.proofs.BoundLemmas.{read-around}
 use Rattle.vr_routes.specs.Pieces.{changed}
-use Rattle.vr_earliest.proofs.KeptLemmas.{written}
+use Rattle.vr_parts.proofs.RowLemmas.{written}
 use Rattle.vr_orders.specs.declared.lists.Orders.{Orders}
 use Rattle.vr_globalcosts.specs.GlobalCosts.{global_cost_of, AreAllOrders, IsGlobalCost, KeptSpans}
 use Rattle.vr_globalcosts.proofs.GlobalLemmas.{stands-like}
