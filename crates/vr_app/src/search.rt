@@ -61,8 +61,9 @@ fn improve_judged<L: Ledger>(
     let mut steps = Steps::<L>::new(blank);
     let best = improve(
         alloc, model, &mut judge, first, first_cost, watch, &mut steps,
-    )?;
-    Ok(best)
+    );
+    judge.close();
+    best
 }
 
 /// What the search that the model names makes of its first solution, which costs so much. The watchers are told of each
