@@ -9,6 +9,8 @@ mod late;
 #[cfg(test)]
 mod least;
 #[cfg(test)]
+mod many;
+#[cfg(test)]
 mod tests;
 #[cfg(test)]
 mod timed;
