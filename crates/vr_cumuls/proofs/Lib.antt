@@ -1,4 +1,5 @@
 pub mod PartLemmas
+pub mod ReadLemmas
 pub mod FloorLemmas
 pub mod StageLemmas
 pub mod RunLemmas

@@ -1,4 +1,4 @@
--- The floors of stops: the least cumuls from which a vehicle can go on to its end with no slack above the greatest one.
+-- The floors of stops: the least cumuls from which that of the next stop can be met with no slack above the greatest.
 use Rattle.std.specs.Prelude.{◌≡◌, ◌<◌, ◌++◌, ℕ, suc, All, IsTrue, List, cond, int_le, length, map, option_map}
 use Rattle.std.specs.Prelude.{reverse, slice_index_or, Option, Some, None, ℤ, pos, ◌-ℤ◌}
 use Rattle.std.specs.Int.{int_max}

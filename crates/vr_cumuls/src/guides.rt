@@ -1,5 +1,5 @@
-//! A vehicle goes back along its stops, to each by its floor, and then along them, at each the least cumul that the one
-//! before it and its floor leave.
+//! Floors are found from the end backwards; then a vehicle goes along its stops, at each at the least cumul that the
+//! one before it and the floor leave.
 //!
 //! Clauses bound what soft upper bounds cost by the number of stops that a stage has paid for: at most 1002 of a
 //! committed list, with at most 1000 steps of a trail behind its front 2002, and then at most 1001 more to the end.

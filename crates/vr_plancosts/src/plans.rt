@@ -23,9 +23,9 @@ use vr_routes::{Change, Routes};
 use vr_timedparts::Room;
 
 /// What soft upper bounds and spans cost (`SetCumulVarSoftUpperBound` and `SetSpanCostCoefficientForVehicle` in
-/// OR-Tools). A change is told by the cumuls that are kept of the committed lists, along what it puts in and behind
-/// that until a cumul is as it was; only where they do not tell it are the schedules of the changed lists built, in the
-/// dimensions where they may cost anything.
+/// OR-Tools). A change is told by the floors and cumuls that are kept of the committed lists: along what it puts in, in
+/// front of that until a floor is as it was, and behind it until a cumul is; only where they do not tell it are the
+/// schedules of the changed lists built, in the dimensions where they may cost anything.
 #[derive(Drop)]
 pub struct PlanCost<'m> {
     rules: PlanRules<'m>,
