@@ -23,7 +23,7 @@ use Rattle.vr_orders.specs.Lists.{beside, extent_but, IsInRange, IsReach, IsTold
 use Rattle.vr_orders.specs.Orders.{names}
 use Rattle.vr_orders.specs.declared.lists.Orders.{Orders}
 use Rattle.vr_orders.proofs.ReachLemmas.{extent-but-is, reach-all, reach-more, reach-same}
-use Rattle.vr_globalcosts.specs.GlobalCosts.{extent_after, global_cost_of, orders_at, span_cost_after, spans_cost_after, told_in, vehicles_of, AreAllOrders, AreKept, AreLike, AreRanged, AreRows, IsGlobalCost, KeptSpans, NonePays, Pays, StandsSpans}
+use Rattle.vr_globalcosts.specs.GlobalCosts.{extent_after, global_cost_of, orders_at, span_cost_after, spans_cost_after, told_in, vehicles_of, AreAllOrders, IsRow, AreLike, AreRanged, AreRows, IsGlobalCost, KeptSpans, NonePays, Pays, StandsSpans}
 use Rattle.vr_parts.proofs.SumLemmas.{part-list, route-kept}
 
 -- ---- tests of vehicles
@@ -149,7 +149,7 @@ pub none-costs : (model : Model) → NonePays model → (lists : List (List ℕ)
 none-costs model none lists = sum_nothing (global_in model lists) 0 (length model.dimensions) (λ d _ low. times-none (dimension_at model d).global_span_cost (global_span (assigned model lists) d) (none d (omega (arith, low))))
 
 -- a list of which nothing is told, where no global span pays
-pub none-kept : (model : Model) → NonePays model → (v : ℕ) (list : List ℕ) → AreKept model v list (None ∷ None ∷ None ∷ None ∷ [])
+pub none-kept : (model : Model) → NonePays model → (v : ℕ) (list : List ℕ) → IsRow model v list (None ∷ None ∷ None ∷ None ∷ [])
 none-kept model none v list = record { many = refl; each = λ d low pays. absurd (pays (none d low)) }
 
 -- ---- what is kept

@@ -33,13 +33,13 @@ abbrev pub NonePays : Model → Type 0
 NonePays model = (d : ℕ) → d < length model.dimensions → (dimension_at model d).global_span_cost ≡ pos 0
 
 -- what the chosen schedule of a list comes to is told where the dimension pays, and none is of the empty list
-abbrev pub IsKept : Model → ℕ → ℕ → List ℕ → Option Timing → Type 0
-IsKept model d v list timing = Pays model d → IsTold model d v list timing
+abbrev pub IsToldIfPaid : Model → ℕ → ℕ → List ℕ → Option Timing → Type 0
+IsToldIfPaid model d v list timing = Pays model d → IsTold model d v list timing
 
 -- the same of each dimension
-pub record AreKept (model : Model) (v : ℕ) (list : List ℕ) (row : List (Option Timing)) : Type 0 where
+pub record IsRow (model : Model) (v : ℕ) (list : List ℕ) (row : List (Option Timing)) : Type 0 where
   pub many : length row ≡ 4
-  pub each : (d : ℕ) → d < length model.dimensions → IsKept model d v list (slice_index_or row d None)
+  pub each : (d : ℕ) → d < length model.dimensions → IsToldIfPaid model d v list (slice_index_or row d None)
 
 -- the orders that are read where there are none
 abbrev pub no_orders : Orders
@@ -132,7 +132,7 @@ pub record AreRows (model : Model) (lists : List (List ℕ)) (parts : List ListA
     (next : List (List (Option Timing))) : Type 0 where
   pub many : length next ≡ length parts
   pub rows : (k : ℕ) → k < length parts
-      → AreKept model (part_at parts k).vehicle (joined lists (part_at parts k).pieces) (slice_index_or next k [])
+      → IsRow model (part_at parts k).vehicle (joined lists (part_at parts k).pieces) (slice_index_or next k [])
 
 -- what they tell in dimension d is what the chosen schedules of these lists come to
 abbrev pub AreToldOf : Model → ℕ → List (List ℕ) → List ListAfter → List (List (Option Timing)) → Type 0

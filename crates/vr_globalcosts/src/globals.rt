@@ -9,7 +9,7 @@ ghost use Rattle.vr_routes.specs.Pieces.{changed, joined, part_at};
 ghost use Rattle.vr_routes.specs.Changes.{IsMadeOn};
 ghost use Rattle.vr_timings.specs.Bounds.{cumul_cost, IsAround};
 ghost use Rattle.vr_earliest.specs.Earlies.{AreEarlies};
-ghost use Rattle.vr_globalcosts.specs.GlobalCosts.{global_cost_of, AreKept, AreLike, AreRows};
+ghost use Rattle.vr_globalcosts.specs.GlobalCosts.{global_cost_of, IsRow, AreLike, AreRows};
 ghost use Rattle.vr_globalcosts.specs.GlobalCosts.{AreSpansReady, IsGlobalCost, StandsSpans};
 ghost use Rattle.vr_parts.specs.Parts.{NothingReady};
 ghost use Rattle.vr_globalcosts.specs.Spreads.{global_least};
@@ -130,7 +130,7 @@ impl<'m> GlobalSpan<'m> {
         requires made { IsMadeOn routes.now change.now }
         requires valid { IsTrue (is_valid self.old.model (changed routes.now.lists change.now)) }
         requires part { k < length change.now }
-        ensures kept { IfOk result (AreKept self.old.model (part_at change.now k).vehicle
+        ensures kept { IfOk result (IsRow self.old.model (part_at change.now k).vehicle
             (joined routes.now.lists (part_at change.now k).pieces)) }
         ensures stays { self.new ≡ self.old }
     {

@@ -15,8 +15,8 @@ ghost use Rattle.vr_earliest.specs.Earlies.{AreEarlies};
 ghost use Rattle.vr_cumuls.specs.Kept.{AreAllKept};
 ghost use Rattle.vr_orders.specs.Lists.{AreInRange, AreOrders};
 ghost use Rattle.vr_globalcosts.specs.GlobalCosts as reaches;
-ghost use Rattle.vr_globalcosts.specs.GlobalCosts.{extent_after, spans_cost_after, AreAllOrders, AreBlank, AreKept};
-ghost use Rattle.vr_globalcosts.specs.GlobalCosts.{AreRanged, AreRows, AreTold, AreToldOf, IsGlobalCost, IsKept};
+ghost use Rattle.vr_globalcosts.specs.GlobalCosts.{extent_after, spans_cost_after, AreAllOrders, AreBlank, IsRow};
+ghost use Rattle.vr_globalcosts.specs.GlobalCosts.{AreRanged, AreRows, AreTold, AreToldOf, IsGlobalCost, IsToldIfPaid};
 ghost use Rattle.vr_globalcosts.specs.GlobalCosts.{NonePays, Pays};
 ghost use Rattle.vr_globalcosts.specs.Spreads.{global_least};
 
@@ -142,7 +142,7 @@ impl<'m> SpanRules<'m> {
         requires made { IsMadeOn routes.now change.now }
         requires valid { IsTrue (is_valid self.now (changed routes.now.lists change.now)) }
         requires part { k < length change.now }
-        ensures { IfOk result (AreKept self.now (part_at change.now k).vehicle
+        ensures { IfOk result (IsRow self.now (part_at change.now k).vehicle
             (joined routes.now.lists (part_at change.now k).pieces)) }
     {
         let timings = row_of_part(self.model, &self.tables, cumuls, routes, change, k, room)?;
@@ -233,7 +233,7 @@ fn row_of_list(
     requires visits { IsTrue (list_all (is_visit model.now) list.now) }
     requires distinct { IsTrue (is_distinct list.now) }
     requires few { length list.now ≤ 1000 }
-    ensures { IfOk result (AreKept model.now v list.now) }
+    ensures { IfOk result (IsRow model.now v list.now) }
 {
     let mut row: ListTimings = [None; 4];
     for d in 0..tables.len() {
@@ -258,7 +258,7 @@ fn kept_in(
     requires distinct { IsTrue (is_distinct list.now) }
     requires few { length list.now ≤ 1000 }
     requires table { IsTable model.now d table.now }
-    ensures { IfOk result (IsKept model.now d v list.now) }
+    ensures { IfOk result (IsToldIfPaid model.now d v list.now) }
 {
     if list.is_empty() {
         return Ok(None);
@@ -287,7 +287,7 @@ fn row_of_part(
     requires made { IsMadeOn routes.now change.now }
     requires valid { IsTrue (is_valid model.now (changed routes.now.lists change.now)) }
     requires part { k < length change.now }
-    ensures { IfOk result (AreKept model.now (part_at change.now k).vehicle
+    ensures { IfOk result (IsRow model.now (part_at change.now k).vehicle
         (joined routes.now.lists (part_at change.now k).pieces)) }
 {
     let mut timings: ListTimings = [None; 4];
@@ -316,7 +316,7 @@ fn kept_after(
     requires made { IsMadeOn routes.now change.now }
     requires valid { IsTrue (is_valid model.now (changed routes.now.lists change.now)) }
     requires part { k < length change.now }
-    ensures { IfOk result (IsKept model.now d (part_at change.now k).vehicle
+    ensures { IfOk result (IsToldIfPaid model.now d (part_at change.now k).vehicle
         (joined routes.now.lists (part_at change.now k).pieces)) }
 {
     if model.dimensions.get(d as usize).global_span_cost == 0 {
@@ -410,7 +410,7 @@ fn set_list(
     requires few { length _routes.now.lists ≤ 100 }
     requires dimensions { length model.now.dimensions ≤ 4 }
     requires vehicle { v < length _routes.now.lists }
-    requires row { AreKept model.now v (route _routes.now.lists v) row.now }
+    requires row { IsRow model.now v (route _routes.now.lists v) row.now }
     ensures { AreAllOrders model.now (take (v + 1) _routes.now.lists) orders.new }
 {
     for d in 0..orders.len() {

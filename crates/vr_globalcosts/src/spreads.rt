@@ -96,7 +96,7 @@ fn spread_after(
     ensures range { IsSpreadInRange result }
 {
     let vehicles = vehicles_of(change);
-    let mut spread = spread_of_kept(orders, &vehicles);
+    let mut spread = spread_but(orders, &vehicles);
     for k in 0..change.parts() {
         spread = with_changed(model, earlies, routes, change, d, k, spread);
     }
@@ -104,7 +104,7 @@ fn spread_after(
 }
 
 // How far the lists reach of the used vehicles that are none of these.
-fn spread_of_kept(orders: &Orders, vehicles: &[u32]) -> Spread
+fn spread_but(orders: &Orders, vehicles: &[u32]) -> Spread
     requires range { AreInRange orders.now }
     ensures value { result ≡ spread_of (extent_but vehicles.now orders.now) }
     ensures range { IsSpreadInRange result }

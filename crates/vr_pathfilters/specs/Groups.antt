@@ -27,7 +27,7 @@ one_of numbers g node = cond (number_of numbers node == g) 1 0
 abbrev pub many_of : List ℕ → List (List ℕ) → List Piece → ℕ → ℕ
 many_of numbers lists pieces g = over_pieces (one_of numbers g) lists pieces
 
--- no more than 18 pieces of 1000 nodes have
+-- a number of nodes, no more than stand in 18 pieces of 1000 nodes
 abbrev pub IsInPieces : ℕ → Type 0
 IsInPieces many = many ≤ 18000
 

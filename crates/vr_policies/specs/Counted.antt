@@ -18,7 +18,7 @@ counts model nodes = record { pickups = pickups_in model nodes; deliveries = del
 abbrev pub no_counts : Counts
 no_counts = record { pickups = 0; deliveries = 0 }
 
--- no more than three lists of 1000 nodes have
+-- a number of nodes, no more than stand in three lists of 1000 nodes
 abbrev pub IsOfThreeLists : ℕ → Type 0
 IsOfThreeLists many = many ≤ 3000
 

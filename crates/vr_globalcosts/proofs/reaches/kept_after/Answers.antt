@@ -5,7 +5,7 @@ use Rattle.vr_model.specs.tables.Tables.{is_visit}
 use Rattle.vr_model.specs.routes.Routes.{is_distinct}
 use Rattle.vr_model.proofs.routes.Lists.{empty_where, not_empty}
 use Rattle.vr_routes.specs.Pieces.{joined, part_at}
-use Rattle.vr_globalcosts.specs.GlobalCosts.{IsKept}
+use Rattle.vr_globalcosts.specs.GlobalCosts.{IsToldIfPaid}
 use Rattle.vr_parts.proofs.PartLemmas.{is-part, known-vehicle}
 use Rattle.vr_globalcosts.proofs.reaches.kept_after.Goals as goal
 
@@ -47,5 +47,5 @@ returns c =
     let m = c.args.model.now in
     let part = part_at c.args.change.now c.args.k in
     let timing = c.in_ok-timing.timing in
-    subst (λ v. IsKept m c.args.d v (joined c.args.routes.now.lists part.pieces) timing) c.vehicle.ensures
-    (subst (λ l. IsKept m c.args.d c.vehicle.result l timing) (c.as_slice.ensures.value ∙ c.write_after.ensures) c.in_ok-timing.ensures)
+    subst (λ v. IsToldIfPaid m c.args.d v (joined c.args.routes.now.lists part.pieces) timing) c.vehicle.ensures
+    (subst (λ l. IsToldIfPaid m c.args.d c.vehicle.result l timing) (c.as_slice.ensures.value ∙ c.write_after.ensures) c.in_ok-timing.ensures)

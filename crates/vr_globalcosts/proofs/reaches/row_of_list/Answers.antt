@@ -4,7 +4,7 @@ use Rattle.std.proofs.lemmas.List.{get_or-set_other, get_or-set_same, length-set
 use Rattle.std.specs.Prelude.{slice_index_or, slice_set}
 use Rattle.vr_timings.specs.declared.timings.Timing.{Timing}
 use Rattle.vr_timings.proofs.TableLemmas.{table_at}
-use Rattle.vr_globalcosts.specs.GlobalCosts.{IsKept}
+use Rattle.vr_globalcosts.specs.GlobalCosts.{IsToldIfPaid}
 use Rattle.vr_globalcosts.proofs.reaches.row_of_list.Goals as goal
 
 pub kept_in-requires-clause-table : goal.kept_in-requires-clause-table
@@ -26,11 +26,11 @@ loop-d-preserved c =
     record {
       many = length-set row d new ∙ i.many;
       each = λ e under. elim (cases_lt e d) [
-        | inl before ↦ subst (IsKept c.args.model.now e c.args.v c.args.list.now) (sym (get_or-set_other row d e new None (omega (arith, before)))) (i.each e before)
+        | inl before ↦ subst (IsToldIfPaid c.args.model.now e c.args.v c.args.list.now) (sym (get_or-set_other row d e new None (omega (arith, before)))) (i.each e before)
         | inr past ↦ (
             let here : d ≡ e = omega (arith, under, past) in
-            subst (λ k. IsKept c.args.model.now k c.args.v c.args.list.now (slice_index_or (slice_set row d new) k None)) here
-            (subst (IsKept c.args.model.now d c.args.v c.args.list.now) (sym (get_or-set_same row d new None (omega (arith, n, few, low, many)))) c.in_ok-row.ensures))
+            subst (λ k. IsToldIfPaid c.args.model.now k c.args.v c.args.list.now (slice_index_or (slice_set row d new) k None)) here
+            (subst (IsToldIfPaid c.args.model.now d c.args.v c.args.list.now) (sym (get_or-set_same row d new None (omega (arith, n, few, low, many)))) c.in_ok-row.ensures))
       ];
     }
 

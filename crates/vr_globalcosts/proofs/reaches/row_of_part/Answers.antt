@@ -5,7 +5,7 @@ use Rattle.std.specs.Prelude.{slice_index_or, slice_set}
 use Rattle.vr_routes.specs.Pieces.{joined, part_at}
 use Rattle.vr_timings.specs.declared.timings.Timing.{Timing}
 use Rattle.vr_timings.proofs.TableLemmas.{table_at}
-use Rattle.vr_globalcosts.specs.GlobalCosts.{IsKept}
+use Rattle.vr_globalcosts.specs.GlobalCosts.{IsToldIfPaid}
 use Rattle.vr_globalcosts.proofs.reaches.row_of_part.Goals as goal
 
 pub kept_after-requires-clause-table : goal.kept_after-requires-clause-table
@@ -27,11 +27,11 @@ loop-d-preserved c =
     record {
       many = length-set row d new ∙ i.many;
       each = λ e under. elim (cases_lt e d) [
-        | inl before ↦ subst (IsKept c.args.model.now e (part_at c.args.change.now c.args.k).vehicle (joined c.args.routes.now.lists (part_at c.args.change.now c.args.k).pieces)) (sym (get_or-set_other row d e new None (omega (arith, before)))) (i.each e before)
+        | inl before ↦ subst (IsToldIfPaid c.args.model.now e (part_at c.args.change.now c.args.k).vehicle (joined c.args.routes.now.lists (part_at c.args.change.now c.args.k).pieces)) (sym (get_or-set_other row d e new None (omega (arith, before)))) (i.each e before)
         | inr past ↦ (
             let here : d ≡ e = omega (arith, under, past) in
-            subst (λ k. IsKept c.args.model.now k (part_at c.args.change.now c.args.k).vehicle (joined c.args.routes.now.lists (part_at c.args.change.now c.args.k).pieces) (slice_index_or (slice_set row d new) k None)) here
-            (subst (IsKept c.args.model.now d (part_at c.args.change.now c.args.k).vehicle (joined c.args.routes.now.lists (part_at c.args.change.now c.args.k).pieces)) (sym (get_or-set_same row d new None (omega (arith, n, few, low, many)))) c.in_ok-timings.ensures))
+            subst (λ k. IsToldIfPaid c.args.model.now k (part_at c.args.change.now c.args.k).vehicle (joined c.args.routes.now.lists (part_at c.args.change.now c.args.k).pieces) (slice_index_or (slice_set row d new) k None)) here
+            (subst (IsToldIfPaid c.args.model.now d (part_at c.args.change.now c.args.k).vehicle (joined c.args.routes.now.lists (part_at c.args.change.now c.args.k).pieces)) (sym (get_or-set_same row d new None (omega (arith, n, few, low, many)))) c.in_ok-timings.ensures))
       ];
     }
 

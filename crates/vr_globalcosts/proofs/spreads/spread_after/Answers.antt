@@ -16,10 +16,10 @@ loop-k-init c =
     let d = c.args.d in
     let lists : List (List ℕ) = c.args.routes.now.lists in
     let parts = c.args.change.now in
-    let e = c.spread_of_kept-spread.ensures in
+    let e = c.spread_but-spread.ensures in
     let vehicles = c.deref.ensures.0 ∙ c.vehicles_of-vehicles.ensures in
     let extent = extent_but (vehicles_of parts) c.args.orders.now in
-    let value : c.spread_of_kept-spread.result ≡ spread_of extent = e.value ∙ ap (λ us. spread_of (extent_but us c.args.orders.now)) vehicles in
+    let value : c.spread_but-spread.result ≡ spread_of extent = e.value ∙ ap (λ us. spread_of (extent_but us c.args.orders.now)) vehicles in
     record {
       value = value ∙ spread-told model lists parts d extent (extent-but-is model d lists c.args.orders.now c.requires.orders (vehicles_of parts)) (subst IsSpreadInRange value e.range);
       range = e.range;

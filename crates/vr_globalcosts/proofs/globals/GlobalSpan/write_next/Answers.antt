@@ -3,7 +3,7 @@ use Rattle.std.specs.Prelude.{slice_index_or}
 use Rattle.vr_model.specs.declared.records.Model.{Model}
 use Rattle.vr_timings.specs.declared.timings.Timing.{Timing}
 use Rattle.vr_routes.specs.Pieces.{joined, part_at}
-use Rattle.vr_globalcosts.specs.GlobalCosts.{AreKept}
+use Rattle.vr_globalcosts.specs.GlobalCosts.{IsRow}
 use Rattle.vr_globalcosts.proofs.GlobalLemmas.{stands-like}
 use Rattle.vr_parts.proofs.RowLemmas.{rows-push}
 use Rattle.vr_globalcosts.proofs.globals.GlobalSpan.write_next.Goals as goal
@@ -36,7 +36,7 @@ loop-k-preserved c =
       cumuls = ap (λ s. s.cumuls) same ∙ i.cumuls;
       unprepared = ap (λ s. s.is_prepared) same ∙ i.unprepared;
       many = ap length new ∙ length-append old (row ∷ []) ∙ ap (λ n. n + 1) many;
-      kept = rows-push (λ j x. AreKept model (part_at parts j).vehicle (joined lists (part_at parts j).pieces) x) [] old c.push.new.self.items row k many
-          (λ j less. subst (λ xs. AreKept model (part_at parts j).vehicle (joined lists (part_at parts j).pieces) (slice_index_or xs j [])) (sym next) (i.kept j less))
-          (subst (λ (m : Model). AreKept m (part_at parts k).vehicle (joined lists (part_at parts k).pieces) row) i.model e.kept) new;
+      kept = rows-push (λ j x. IsRow model (part_at parts j).vehicle (joined lists (part_at parts j).pieces) x) [] old c.push.new.self.items row k many
+          (λ j less. subst (λ xs. IsRow model (part_at parts j).vehicle (joined lists (part_at parts j).pieces) (slice_index_or xs j [])) (sym next) (i.kept j less))
+          (subst (λ (m : Model). IsRow m (part_at parts k).vehicle (joined lists (part_at parts k).pieces) row) i.model e.kept) new;
     }

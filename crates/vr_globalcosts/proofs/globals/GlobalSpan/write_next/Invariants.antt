@@ -1,7 +1,7 @@
 use Rattle.std.proofs.Common.{◌≡◌, ◌<◌, ℕ, false, [], length}
 use Rattle.std.specs.Prelude.{slice_index_or}
 use Rattle.vr_routes.specs.Pieces.{joined, part_at}
-use Rattle.vr_globalcosts.specs.GlobalCosts.{AreKept}
+use Rattle.vr_globalcosts.specs.GlobalCosts.{IsRow}
 use Rattle.vr_globalcosts.proofs.globals.GlobalSpan.write_next.Given as goal
 
 -- the parts so far are told
@@ -14,5 +14,5 @@ invariant-loop-k l = record {
   cumuls : l.self.cumuls ≡ l.fn.self.cumuls;
   unprepared : l.self.is_prepared ≡ false;
   many : length l.self.next ≡ l.k;
-  kept : (j : ℕ) → j < l.k → AreKept l.fn.self.model (part_at l.change j).vehicle (joined l.routes.lists (part_at l.change j).pieces) (slice_index_or l.self.next j []);
+  kept : (j : ℕ) → j < l.k → IsRow l.fn.self.model (part_at l.change j).vehicle (joined l.routes.lists (part_at l.change j).pieces) (slice_index_or l.self.next j []);
 }
