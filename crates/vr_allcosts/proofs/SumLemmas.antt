@@ -7,7 +7,9 @@ use Rattle.vr_model.specs.declared.records.Model.{Model}
 use Rattle.vr_timings.specs.Bounds.{IsAround, cumul_cost}
 use Rattle.vr_parts.specs.Bounds.{IsAddedByChange}
 use Rattle.vr_globalcosts.specs.GlobalCosts.{global_cost_of}
+use Rattle.vr_parts.specs.Parts.{CostAlike}
 use Rattle.vr_plancosts.specs.PlanCosts.{soft_and_span, IsPlanChange}
+use Rattle.vr_allcosts.specs.Standing.{PaysArcsAlone}
 
 -- a number as code reads it
 abbrev pub read : ℤ → ℤ
@@ -73,3 +75,14 @@ pub adds_least : (a f g p s a0 f0 g0 p0 s0 a1 f1 g1 p1 s1 old new : ℤ) → a �
     → old ≡ a0 +ℤ f0 +ℤ g0 +ℤ p0 +ℤ s0 → new ≡ a1 +ℤ f1 +ℤ g1 +ℤ p1 +ℤ s1 → (a +ℤ f +ℤ g +ℤ p +ℤ s) ≤ℤ (new -ℤ old)
 adds_least a f g p s a0 f0 g0 p0 s0 a1 f1 g1 p1 s1 old new arcs fixed groups plans spans before behind =
     omega (arith, ints, arcs, fixed, groups, plans, spans, before, behind)
+
+-- where no other part tells two lists apart, they differ in cost by their arcs
+pub arcs-alone : (model : Model) → CostAlike fixed_part model → CostAlike penalty_part model → CostAlike soft_and_span model → CostAlike global_cost_of model → PaysArcsAlone model
+arcs-alone model fixed groups plans spans lists later valid valid_later =
+    let f = fixed lists later valid valid_later in
+    let g = groups lists later valid valid_later in
+    let p = plans lists later valid valid_later in
+    let s = spans lists later valid valid_later in
+    let before = cost_of_parts model lists in
+    let after = cost_of_parts model later in
+    omega (arith, ints, f, g, p, s, before, after)

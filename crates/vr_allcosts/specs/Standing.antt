@@ -1,5 +1,7 @@
 -- Where the parts of the cost stand.
-use Rattle.std.specs.Prelude.{◌≡◌}
+use Rattle.std.specs.Prelude.{◌≡◌, ℕ, Bool, IsTrue, List, ◌-ℤ◌}
+use Rattle.vr_model.specs.routes.Costs.{arcs_part, cost}
+use Rattle.vr_model.specs.routes.Rules.{is_valid}
 use Rattle.vr_model.specs.declared.records.Model.{Model}
 use Rattle.vr_routes.specs.Tours.{Tours}
 use Rattle.vr_arccosts.specs.Along.{KeptAlong, StandsAlong}
@@ -9,7 +11,12 @@ use Rattle.vr_usecosts.specs.Groups.{KeptGroups, StandsGroups}
 use Rattle.vr_plancosts.specs.PlanCosts.{KeptPlans, StandsPlans}
 use Rattle.vr_earliest.specs.Kept.{KeptEarly, StandsEarliest}
 
--- what contracts see of the parts of the cost
+-- what valid lists of the model differ by in cost is what their arcs differ by
+abbrev pub PaysArcsAlone : Model → Type 0
+PaysArcsAlone model = (lists later : List (List ℕ)) → IsTrue (is_valid model lists) → IsTrue (is_valid model later)
+    → cost model later -ℤ cost model lists ≡ arcs_part model later -ℤ arcs_part model lists
+
+-- what contracts see of the parts of the cost, and whether it is said that arcs alone are paid
 pub record KeptCosts : Type 0 where
   pub model : Model
   pub arcs : KeptAlong
@@ -18,8 +25,10 @@ pub record KeptCosts : Type 0 where
   pub plans : KeptPlans
   pub spans : KeptSpans
   pub earliest : KeptEarly
+  pub arcs_alone : Bool
 
--- each part and what is kept of early ends is of the model, and has committed these lists
+-- each part and what is kept of early ends is of the model, and has committed these lists; where it is said that arcs
+-- alone are paid, they are
 pub record StandsCosts (kept : KeptCosts) (tours : Tours) : Type 0 where
   pub arcs_model : kept.arcs.model ≡ kept.model
   pub fixed_model : kept.fixed.model ≡ kept.model
@@ -33,3 +42,4 @@ pub record StandsCosts (kept : KeptCosts) (tours : Tours) : Type 0 where
   pub plans : StandsPlans kept.plans tours
   pub spans : StandsSpans kept.spans tours
   pub earliest : StandsEarliest kept.earliest tours.lists
+  pub arcs_alone : IsTrue kept.arcs_alone → PaysArcsAlone kept.model

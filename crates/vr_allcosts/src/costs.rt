@@ -1,6 +1,6 @@
 //! The parts of the cost together.
 
-ghost use Rattle.std.specs.Prelude.{◌≡◌, ◌-ℤ◌, ◌≤ℤ◌, true, IsTrue, IfOk, OnOk, OnErr};
+ghost use Rattle.std.specs.Prelude.{◌≡◌, ◌-ℤ◌, ◌≤ℤ◌, true, IsTrue, IfOk, IfSome, OnOk, OnErr};
 ghost use Rattle.vr_model.specs.moves.MoveTests.{is_move};
 ghost use Rattle.vr_model.specs.routes.Costs.{cost};
 ghost use Rattle.vr_model.specs.routes.Rules.{is_valid};
@@ -9,7 +9,11 @@ ghost use Rattle.vr_model.specs.tables.WellFormed.{IsWellFormed};
 ghost use Rattle.vr_routes.specs.Changes.{IsChange, IsMadeOn};
 ghost use Rattle.vr_routes.specs.Pieces.{changed};
 ghost use Rattle.vr_parts.specs.Parts.{after};
-ghost use Rattle.vr_allcosts.specs.Standing.{StandsCosts};
+ghost use Rattle.vr_routes.specs.Judging.{IsLeast};
+ghost use Rattle.vr_arccosts.specs.ArcMoves.{arcs_added};
+ghost use Rattle.vr_usecosts.specs.Fixed.{StandsFixed};
+ghost use Rattle.vr_usecosts.specs.Groups.{StandsGroups};
+ghost use Rattle.vr_allcosts.specs.Standing.{PaysArcsAlone, StandsCosts};
 
 use std::alloc::Global;
 use std::marker::Model;
@@ -32,6 +36,8 @@ pub struct Costs<'m> {
     earliest: Earliest<'m>,
     // room for that of the lists after a change
     earlies: Earlies,
+    // whether arcs alone are paid, so that the numbers of a move tell what it makes
+    arcs_alone: bool,
 }
 
 impl<'m> Model for Costs<'m> {
@@ -47,7 +53,26 @@ impl<'m> Model for Costs<'m> {
       plans = costs.plans;
       spans = costs.spans;
       earliest = costs.earliest;
+      arcs_alone = costs.arcs_alone;
     } };
+}
+
+// Whether neither fixed costs nor groups nor plans nor global spans tell two lists apart.
+fn are_idle(
+    routes: &Routes,
+    fixed: &FixedCost,
+    groups: &GroupCost,
+    plans: &PlanCost,
+    spans: &GlobalSpan,
+) -> bool
+    requires fixed { StandsFixed fixed.now routes.now }
+    requires groups { StandsGroups groups.now routes.now }
+    requires groups_model { groups.now.model ≡ fixed.now.model }
+    requires plans_model { plans.now.model ≡ fixed.now.model }
+    requires spans_model { spans.now.model ≡ fixed.now.model }
+    ensures { IsTrue result → PaysArcsAlone fixed.now.model }
+{
+    fixed.is_idle(routes) && groups.is_idle(routes) && plans.is_idle() && spans.is_idle()
 }
 
 impl<'m> Costs<'m> {
@@ -76,6 +101,7 @@ impl<'m> Costs<'m> {
         let (fixed, groups) = first;
         let (arcs, earliest) = second;
         let (plans, spans) = third;
+        let arcs_alone = are_idle(routes, &fixed, &groups, &plans, &spans);
         Ok(Costs {
             model,
             arcs,
@@ -85,7 +111,23 @@ impl<'m> Costs<'m> {
             spans,
             earliest,
             earlies: Earlies::new(),
+            arcs_alone,
         })
+    }
+
+    /// What a move of the committed lists adds to the cost of arcs, told by the numbers of the move alone: `None` where
+    /// more than arcs may be paid, and for a move of pairs. Where the lists after it are valid, their cost is so much more.
+    #[inline(always)]
+    pub fn least_by_numbers(&self, routes: &Routes, mv: Move) -> Option<i64>
+        requires stands { StandsCosts self.now routes.now }
+        requires is_one { is_move self.now.model routes.now.lists mv ≡ true }
+        ensures exact { IfSome result (λ least. least ≡ arcs_added self.now.model routes.now.lists mv) }
+        ensures least { IfSome result (IsLeast self.now.model routes.now.lists mv) }
+    {
+        if !self.arcs_alone {
+            return None;
+        }
+        self.arcs.added_by_numbers(routes, mv)
     }
 
     /// What a change of the committed lists adds to their cost.

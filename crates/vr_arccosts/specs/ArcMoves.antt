@@ -1,10 +1,13 @@
 -- What moves add to arc costs.
-use Rattle.std.specs.Prelude.{ℕ, List, ℤ, ◌-ℤ◌, drop, take, ◌++◌}
+use Rattle.std.specs.Prelude.{ℕ, Bool, true, false, List, ℤ, ◌-ℤ◌, drop, take, ◌++◌}
 use Rattle.vr_model.specs.moves.Moves.{apply}
 use Rattle.vr_model.specs.routes.Costs.{arcs_part}
 use Rattle.vr_model.specs.routes.Routes.{route, route_cost}
 use Rattle.vr_model.specs.declared.records.Model.{Model}
 use Rattle.vr_model.specs.declared.neighbours.Move.{Move}
+use Rattle.vr_model.specs.declared.neighbours.Move.TheVariants.{TwoOpt, OrOpt, Relocate, Exchange, Cross, RelocatePair}
+use Rattle.vr_model.specs.declared.neighbours.Move.TheVariants.{PairActive, PairInactive, MakeActive, MakeInactive}
+use Rattle.vr_model.specs.declared.neighbours.Move.TheVariants.{SwapActive}
 
 -- how much more a list costs vehicle v than the one that it has
 abbrev pub costs_more : Model → List (List ℕ) → ℕ → List ℕ → ℤ
@@ -17,3 +20,17 @@ with_between list f b nodes = take f list ++ (nodes ++ drop b list)
 -- what the arc costs come to after a move, less what they come to before it
 abbrev pub arcs_added : Model → List (List ℕ) → Move → ℤ
 arcs_added model lists mv = arcs_part model (apply model lists mv) -ℤ arcs_part model lists
+
+-- a move is one of a pickup with its delivery
+abbrev pub is_of_pair : Move → Bool
+is_of_pair (TwoOpt v a b) = false
+is_of_pair (OrOpt v a k t) = false
+is_of_pair (Relocate v a w t) = false
+is_of_pair (Exchange v a w b) = false
+is_of_pair (Cross v a w b) = false
+is_of_pair (MakeActive u w t) = false
+is_of_pair (MakeInactive v a) = false
+is_of_pair (SwapActive v a u) = false
+is_of_pair (RelocatePair p w s t) = true
+is_of_pair (PairActive p w s t) = true
+is_of_pair (PairInactive p) = true

@@ -1,6 +1,6 @@
 //! What moves add to arc costs.
 
-ghost use Rattle.std.specs.Prelude.{◌≡◌, ◌-ℤ◌, false, true};
+ghost use Rattle.std.specs.Prelude.{◌≡◌, ◌-ℤ◌, IfSome, MatchOption, false, true};
 ghost use Rattle.vr_model.specs.moves.MoveTests.{is_move};
 ghost use Rattle.vr_model.specs.routes.Costs.{arcs_part};
 ghost use Rattle.vr_model.specs.declared.neighbours.Move.TheVariants.{TwoOpt, OrOpt, Relocate, Exchange, Cross};
@@ -9,7 +9,7 @@ ghost use Rattle.vr_routes.specs.declared.pieces.Piece.TheVariants.{Chain};
 ghost use Rattle.vr_routes.specs.Changes.{IsChange};
 ghost use Rattle.vr_routes.specs.Pieces.{changed};
 ghost use Rattle.vr_arccosts.specs.Along.{StandsAlong};
-ghost use Rattle.vr_arccosts.specs.ArcMoves.{arcs_added};
+ghost use Rattle.vr_arccosts.specs.ArcMoves.{arcs_added, is_of_pair};
 ghost use Rattle.vr_parts.specs.Bounds.{IsAddedByChange, IsAddedByList};
 
 use crate::ArcCost;
@@ -27,21 +27,38 @@ impl<'m> ArcCost<'m> {
             -ℤ arcs_part self.now.model routes.now.lists }
         ensures range { IsAddedByChange result }
     {
+        match self.added_by_numbers(routes, mv) {
+            Some(added) => added,
+            None => self.added(routes, change),
+        }
+    }
+
+    /// What a move of visits or of chains of the committed lists adds, told by its numbers alone, also where the lists
+    /// after it are not valid; none for a move of pairs.
+    // Inlined, so that a move stays in registers.
+    #[inline(always)]
+    pub fn added_by_numbers(&self, routes: &Routes, mv: Move) -> Option<i64>
+        requires stands { StandsAlong self.now routes.now }
+        requires is_one { is_move self.now.model routes.now.lists mv ≡ true }
+        ensures exact { MatchOption result (is_of_pair mv ≡ true)
+            (λ added. added ≡ arcs_added self.now.model routes.now.lists mv) }
+        ensures range { IfSome result IsAddedByChange }
+    {
         match mv {
-            Move::TwoOpt { v, a, b } => self.turned(routes, v, a, b),
-            Move::OrOpt { v, a, k, t } => self.shifted(routes, v, a, k, t),
-            Move::Relocate { v, a, w, t } => self.relocated(routes, v, a, w, t),
-            Move::Exchange { v, a, w, b } => self.exchanged(routes, v, a, w, b),
-            Move::Cross { v, a, w, b } => self.crossed(routes, v, a, w, b),
-            Move::MakeActive { u, w, t } => self.made_active(routes, u, w, t),
-            Move::MakeInactive { v, a } => self.made_inactive(routes, v, a),
-            Move::SwapActive { v, a, u } => self.swapped(routes, v, a, u),
-            _ => self.added(routes, change),
+            Move::TwoOpt { v, a, b } => Some(self.turned(routes, v, a, b)),
+            Move::OrOpt { v, a, k, t } => Some(self.shifted(routes, v, a, k, t)),
+            Move::Relocate { v, a, w, t } => Some(self.relocated(routes, v, a, w, t)),
+            Move::Exchange { v, a, w, b } => Some(self.exchanged(routes, v, a, w, b)),
+            Move::Cross { v, a, w, b } => Some(self.crossed(routes, v, a, w, b)),
+            Move::MakeActive { u, w, t } => Some(self.made_active(routes, u, w, t)),
+            Move::MakeInactive { v, a } => Some(self.made_inactive(routes, v, a)),
+            Move::SwapActive { v, a, u } => Some(self.swapped(routes, v, a, u)),
+            Move::RelocatePair { .. } | Move::PairActive { .. } | Move::PairInactive { .. } => None,
         }
     }
 
     // What a stretch of a list that is turned adds.
-    #[inline]
+    #[inline(always)]
     fn turned(&self, routes: &Routes, v: u32, a: u32, b: u32) -> i64
         requires stands { StandsAlong self.now routes.now }
         requires is_one { is_move self.now.model routes.now.lists (TwoOpt v a b) ≡ true }
@@ -58,7 +75,7 @@ impl<'m> ArcCost<'m> {
     }
 
     // What a chain adds that is put before another place of its list.
-    #[inline]
+    #[inline(always)]
     fn shifted(&self, routes: &Routes, v: u32, a: u32, k: u32, t: u32) -> i64
         requires stands { StandsAlong self.now routes.now }
         requires is_one { is_move self.now.model routes.now.lists (OrOpt v a k t) ≡ true }
@@ -74,7 +91,7 @@ impl<'m> ArcCost<'m> {
     }
 
     // What a visit adds that is put into the list of another vehicle.
-    #[inline]
+    #[inline(always)]
     fn relocated(&self, routes: &Routes, v: u32, a: u32, w: u32, t: u32) -> i64
         requires stands { StandsAlong self.now routes.now }
         requires is_one { is_move self.now.model routes.now.lists (Relocate v a w t) ≡ true }
@@ -90,7 +107,7 @@ impl<'m> ArcCost<'m> {
     }
 
     // What two visits add that take each other's place.
-    #[inline]
+    #[inline(always)]
     fn exchanged(&self, routes: &Routes, v: u32, a: u32, w: u32, b: u32) -> i64
         requires stands { StandsAlong self.now routes.now }
         requires is_one { is_move self.now.model routes.now.lists (Exchange v a w b) ≡ true }
@@ -113,7 +130,7 @@ impl<'m> ArcCost<'m> {
     }
 
     // What the fronts of two lists add that change vehicles.
-    #[inline]
+    #[inline(always)]
     fn crossed(&self, routes: &Routes, v: u32, a: u32, w: u32, b: u32) -> i64
         requires stands { StandsAlong self.now routes.now }
         requires is_one { is_move self.now.model routes.now.lists (Cross v a w b) ≡ true }
@@ -126,7 +143,7 @@ impl<'m> ArcCost<'m> {
     }
 
     // What a visit adds that is put into a list.
-    #[inline]
+    #[inline(always)]
     fn made_active(&self, routes: &Routes, u: u32, w: u32, t: u32) -> i64
         requires stands { StandsAlong self.now routes.now }
         requires is_one { is_move self.now.model routes.now.lists (MakeActive u w t) ≡ true }
@@ -137,7 +154,7 @@ impl<'m> ArcCost<'m> {
     }
 
     // What a visit adds that is left out of its list.
-    #[inline]
+    #[inline(always)]
     fn made_inactive(&self, routes: &Routes, v: u32, a: u32) -> i64
         requires stands { StandsAlong self.now routes.now }
         requires is_one { is_move self.now.model routes.now.lists (MakeInactive v a) ≡ true }
@@ -148,7 +165,7 @@ impl<'m> ArcCost<'m> {
     }
 
     // What a visit adds that takes the place of another one.
-    #[inline]
+    #[inline(always)]
     fn swapped(&self, routes: &Routes, v: u32, a: u32, u: u32) -> i64
         requires stands { StandsAlong self.now routes.now }
         requires is_one { is_move self.now.model routes.now.lists (SwapActive v a u) ≡ true }

@@ -1,7 +1,7 @@
 //! The trait of what a search accepts.
 
 ghost use Rattle.std.specs.Prelude.{◌≡◌, ℕ, ℤ, Bool, false, List, IsTrue};
-ghost use Rattle.vr_descent.specs.Scanned.{IsPassedOver};
+ghost use Rattle.vr_descent.specs.Scanned.{is_acceptable, IsPassedOver};
 ghost use Rattle.vr_model.specs.moves.Moves.{apply};
 ghost use Rattle.vr_model.specs.moves.MoveTests.{is_move};
 ghost use Rattle.vr_model.specs.routes.Rules.{is_valid};
@@ -10,10 +10,10 @@ ghost use Rattle.vr_model.specs.tables.WellFormed.{IsWellFormed};
 ghost use Rattle.vr_model.specs.declared.neighbours.Move.{Move as Step};
 ghost use Rattle.vr_model.specs.declared.records.Model.{Model as RoutingModel};
 ghost use Rattle.vr_routes.specs.Changes.{IsChange};
-ghost use Rattle.vr_routes.specs.Judging.{cost_change};
+ghost use Rattle.vr_routes.specs.Judging.{HoldSame, cost_change};
 
 use vr_model::Move;
-use vr_routes::{Change, Routes};
+use vr_routes::{Change, Judge, Routes};
 
 /// Says which moves a search takes. It means a model, and a test on lists, a move of theirs and the difference that the
 /// move makes in cost. It is asked only about lists that it is ready for.
@@ -36,6 +36,20 @@ pub trait Accept {
         requires after { IsTrue (is_valid (model self.now) (apply (model self.now) routes.now.lists mv)) }
         requires difference { difference ≡ cost_change (model self.now) routes.now.lists mv }
         ensures { result ≡ takes self.now routes.now.lists mv difference };
+
+    /// Whether what the judge tells of a move by its numbers alone rules out that it is acceptable: true only where it is
+    /// not. A search asks this first, before it makes the change of the move. Takes no memory.
+    #[inline]
+    fn passes_over<J: Judge>(&self, judge: &J, routes: &Routes, mv: Move) -> bool
+        requires well_formed { IsWellFormed (model self.now) }
+        requires judge_model { J.model judge.now ≡ model self.now }
+        requires stands { stands_at self.now routes.now.lists }
+        requires holds { HoldSame (model self.now) (J.committed judge.now) routes.now }
+        requires mv { IsTrue (is_move (model self.now) routes.now.lists mv) }
+        ensures { IsTrue result → is_acceptable (model self.now) (takes self.now) routes.now.lists mv ≡ false }
+    {
+        false
+    }
 
     /// Whether the move may be taken where it makes a difference of `least` or more: false only where it is not. A
     /// search asks this before it has a move judged, and hands in the change that the move makes. Takes no memory.

@@ -31,6 +31,14 @@ impl<'m> Accept for Cheaper<'m> {
         difference < 0
     }
 
+    #[inline(always)]
+    fn passes_over<J: Judge>(&self, judge: &J, routes: &Routes, mv: Move) -> bool {
+        match judge.least_by_numbers(routes, mv) {
+            Some(least) => least >= 0,
+            None => false,
+        }
+    }
+
     #[inline]
     fn may_accept(&self, _routes: &Routes, _mv: Move, _change: &Change, least: i64) -> bool {
         least < 0

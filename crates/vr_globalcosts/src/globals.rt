@@ -11,7 +11,7 @@ ghost use Rattle.vr_timings.specs.Bounds.{cumul_cost, IsAround};
 ghost use Rattle.vr_earliest.specs.Earlies.{AreEarlies};
 ghost use Rattle.vr_globalcosts.specs.GlobalCosts.{global_cost_of, IsRow, AreLike, AreRows};
 ghost use Rattle.vr_globalcosts.specs.GlobalCosts.{AreSpansReady, IsGlobalCost, StandsSpans};
-ghost use Rattle.vr_parts.specs.Parts.{NothingReady};
+ghost use Rattle.vr_parts.specs.Parts.{CostAlike, NothingReady};
 ghost use Rattle.vr_globalcosts.specs.Spreads.{global_least};
 
 use crate::reaches::{ListTimings, SpanRules, vehicles_of};
@@ -97,6 +97,13 @@ impl<'m> GlobalSpan<'m> {
             cumuls,
             room,
         })
+    }
+
+    /// Whether no global span has a coefficient: all lists cost the same then.
+    pub fn is_idle(&self) -> bool
+        ensures { IsTrue result → CostAlike global_cost_of self.now.model }
+    {
+        self.rules.is_idle()
     }
 
     /// What a change adds at least, where the lists after it are valid: how far its lists and those that stay reach at

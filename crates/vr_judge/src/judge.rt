@@ -1,12 +1,12 @@
 //! The judge that looks only at what a move changes.
 
-ghost use Rattle.std.specs.Prelude.{◌≡◌, ◌+◌, ◌≤◌, ◌≤ℤ◌, IfOk, IsTrue, OnOk, OnErr};
+ghost use Rattle.std.specs.Prelude.{◌≡◌, ◌+◌, ◌≤◌, IfOk, IsTrue, OnOk, OnErr};
 ghost use Rattle.vr_model.specs.moves.Moves.{apply};
 ghost use Rattle.vr_model.specs.moves.MoveTests.{is_move};
 ghost use Rattle.vr_model.specs.routes.Rules.{is_valid};
 ghost use Rattle.vr_model.specs.tables.Tables.{visits};
 ghost use Rattle.vr_model.specs.tables.WellFormed.{IsWellFormed};
-ghost use Rattle.vr_routes.specs.Judging.{HoldSame, cost_change, moved, verdict_of};
+ghost use Rattle.vr_routes.specs.Judging.{HoldSame, moved, verdict_of};
 ghost use Rattle.vr_allfilters.specs.Rules.{total_weight};
 
 use crate::judging::Judging;
@@ -90,6 +90,11 @@ impl<'m> Judge for FilterJudge<'m> {
     #[inline]
     fn least_difference(&mut self, routes: &Routes, mv: Move, change: &Change) -> i64 {
         self.judging.least_difference(routes, mv, change)
+    }
+
+    #[inline(always)]
+    fn least_by_numbers(&self, routes: &Routes, mv: Move) -> Option<i64> {
+        self.judging.least_by_numbers(routes, mv)
     }
 
     fn commit(&mut self, routes: &mut Routes, mv: Move) -> Result<(), NoMemory> {

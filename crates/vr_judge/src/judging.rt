@@ -1,13 +1,13 @@
 //! Judging a move by a filter of what it changes, and by the parts of the cost.
 
-ghost use Rattle.std.specs.Prelude.{◌≡◌, ◌+◌, ◌≤◌, ◌≤ℤ◌, ℕ, List, IfOk, IsTrue, OnOk, OnErr, length};
+ghost use Rattle.std.specs.Prelude.{◌≡◌, ◌+◌, ◌≤◌, ℕ, List, IfOk, IsTrue, OnOk, OnErr, length};
 ghost use Rattle.vr_model.specs.moves.Moves.{apply};
 ghost use Rattle.vr_model.specs.moves.MoveTests.{is_move};
 ghost use Rattle.vr_model.specs.routes.Rules.{is_valid};
 ghost use Rattle.vr_model.specs.tables.Tables.{visits};
 ghost use Rattle.vr_model.specs.tables.WellFormed.{IsWellFormed};
 ghost use Rattle.vr_allcosts.specs.Standing.{StandsCosts};
-ghost use Rattle.vr_routes.specs.Judging.{HoldSame, cost_change, moved, verdict_of};
+ghost use Rattle.vr_routes.specs.Judging.{HoldSame, moved, verdict_of};
 ghost use Rattle.vr_allfilters.specs.Rules.{keeps_rules, total_weight};
 
 use std::marker::Model;
@@ -98,6 +98,11 @@ impl<'m, F: PathFilter + Drop> Judge for Judging<'m, F> {
     #[inline]
     fn least_difference(&mut self, routes: &Routes, mv: Move, change: &Change) -> i64 {
         self.costs.least(routes, mv, change)
+    }
+
+    #[inline(always)]
+    fn least_by_numbers(&self, routes: &Routes, mv: Move) -> Option<i64> {
+        self.costs.least_by_numbers(routes, mv)
     }
 
     /// Filters and parts of the cost are made ready first; then all are changed, which takes no memory.

@@ -7,7 +7,7 @@ ghost use Rattle.vr_model.specs.routes.Rules.{is_valid};
 ghost use Rattle.vr_routes.specs.Pieces.{changed, part_at};
 ghost use Rattle.vr_routes.specs.Changes.{IsMadeOn};
 ghost use Rattle.vr_earliest.specs.Earlies.{AreEarlies};
-ghost use Rattle.vr_parts.specs.Parts.{NothingReady};
+ghost use Rattle.vr_parts.specs.Parts.{CostAlike, NothingReady};
 ghost use Rattle.vr_plancosts.specs.PlanCosts.{cost_after, soft_and_span, AreNextCosts, ArePlansReady, IsPlanCost};
 ghost use Rattle.vr_plancosts.specs.PlanCosts.{plans_least, IsPlanChange, StandsPlans};
 
@@ -84,6 +84,13 @@ impl<'m> PlanCost<'m> {
             cumuls,
             room,
         })
+    }
+
+    /// Whether no stop has a soft upper bound that costs and no span does: all lists cost the same then.
+    pub fn is_idle(&self) -> bool
+        ensures { IsTrue result → CostAlike soft_and_span self.now.model }
+    {
+        self.rules.is_idle()
     }
 
     /// What a change adds at least, where the lists after it are valid: what the spans of the changed lists cost at

@@ -1,5 +1,5 @@
 -- What a judge has to answer, and what it holds.
-use Rattle.std.specs.Prelude.{◌≡◌, ℕ, cond, List, IsTrue, ℤ, ◌-ℤ◌}
+use Rattle.std.specs.Prelude.{◌≡◌, ℕ, cond, List, IsTrue, ℤ, ◌-ℤ◌, ◌≤ℤ◌}
 use Rattle.vr_model.specs.tables.Tables.{visits}
 use Rattle.vr_model.specs.moves.Moves.{apply}
 use Rattle.vr_model.specs.routes.Rules.{is_valid}
@@ -19,6 +19,10 @@ pub record HoldSame (model : Model) (committed : List (List ℕ)) (routes : Tour
 -- what a move makes of the cost of lists
 abbrev pub cost_change : Model → List (List ℕ) → Move → ℤ
 cost_change model lists mv = cost model (apply model lists mv) -ℤ cost model lists
+
+-- a number that the difference of a move is never below, where the lists after it are valid
+abbrev pub IsLeast : Model → List (List ℕ) → Move → ℤ → Type 0
+IsLeast model lists mv least = IsTrue (is_valid model (apply model lists mv)) → least ≤ℤ cost_change model lists mv
 
 -- a move is refused where the lists after it are not valid; else it makes this difference in cost
 abbrev pub verdict_of : Model → List (List ℕ) → Move → Verdict

@@ -1,6 +1,6 @@
 //! The trait of what judges moves.
 
-ghost use Rattle.std.specs.Prelude.{◌≡◌, ◌+◌, ◌≤◌, ◌≤ℤ◌, ℕ, List, IsTrue, IfOk, OnOk, OnErr};
+ghost use Rattle.std.specs.Prelude.{◌≡◌, ◌+◌, ◌≤◌, ℕ, List, IsTrue, IfOk, IfSome, OnOk, OnErr};
 ghost use Rattle.vr_model.specs.moves.Moves.{apply};
 ghost use Rattle.vr_model.specs.moves.MoveTests.{is_move};
 ghost use Rattle.vr_model.specs.routes.Rules.{is_valid};
@@ -8,7 +8,7 @@ ghost use Rattle.vr_model.specs.tables.WellFormed.{IsWellFormed};
 ghost use Rattle.vr_model.specs.declared.neighbours.Move.{Move as Step};
 ghost use Rattle.vr_model.specs.declared.records.Model.{Model as RoutingModel};
 ghost use Rattle.vr_routes.specs.Changes.{IsChange};
-ghost use Rattle.vr_routes.specs.Judging.{HoldSame, cost_change, moved, verdict_of};
+ghost use Rattle.vr_routes.specs.Judging.{HoldSame, IsLeast, moved, verdict_of};
 
 use crate::{Change, Routes};
 use std::sync::ledger::Ledger;
@@ -54,22 +54,34 @@ pub trait Judge {
         ensures steps { steps.new ≤ steps.old + weight self.old mv };
 
     /// A number that the difference of a move is never below, where the lists after it are valid; of other moves it
-    /// says nothing. A search asks it first, since it takes few moves and most can be passed over by what they cost at
-    /// least. The caller hands in the change that the move makes. It does not judge the move, takes no memory and
-    /// counts no steps. A judge that knows no better number says the least of all.
+    /// says nothing. A search asks it before it has a move judged, since it takes few moves and most can be passed
+    /// over by what they cost at least. The caller hands in the change that the move makes. It does not judge the move,
+    /// takes no memory and counts no steps. A judge that knows no better number says the least of all.
     fn least_difference(&mut self, routes: &Routes, mv: Move, change: &Change) -> i64
         requires well_formed { IsWellFormed (model self.old) }
         requires holds { HoldSame (model self.old) (committed self.old) routes.now }
         requires mv { IsTrue (is_move (model self.old) routes.now.lists mv) }
         requires change { IsChange (model self.old) routes.now.lists mv change.now }
-        ensures least { IsTrue (is_valid (model self.old) (apply (model self.old) routes.now.lists mv))
-            → result ≤ℤ cost_change (model self.old) routes.now.lists mv }
+        ensures least { IsLeast (model self.old) routes.now.lists mv result }
         ensures model { model self.new ≡ model self.old }
         ensures committed { committed self.new ≡ committed self.old }
         ensures asked { asked self.new ≡ asked self.old }
     {
         laws::costs_are_bounded();
         i64::MIN
+    }
+
+    /// A number that the difference of a move is never below, where the lists after it are valid, told by the numbers
+    /// of the move itself (vehicles, places, nodes), so that a search can ask it before it makes the change. `None`
+    /// where the judge cannot tell it so. Takes no memory and counts no steps.
+    #[inline]
+    fn least_by_numbers(&self, routes: &Routes, mv: Move) -> Option<i64>
+        requires well_formed { IsWellFormed (model self.now) }
+        requires holds { HoldSame (model self.now) (committed self.now) routes.now }
+        requires mv { IsTrue (is_move (model self.now) routes.now.lists mv) }
+        ensures { IfSome result (IsLeast (model self.now) routes.now.lists mv) }
+    {
+        None
     }
 
     /// Makes a move after which the lists are valid: routes and judge then both hold the lists after it. Where memory

@@ -9,7 +9,7 @@ ghost use Rattle.vr_model.specs.routes.Rules.{is_valid};
 ghost use Rattle.vr_model.specs.tables.WellFormed.{IsWellFormed};
 ghost use Rattle.vr_routes.specs.Pieces.{changed, joined, nodes_of, IsWithin};
 ghost use Rattle.vr_routes.specs.Changes.{IsMadeOn};
-ghost use Rattle.vr_parts.specs.Parts.{NothingReady};
+ghost use Rattle.vr_parts.specs.Parts.{CostAlike, NothingReady};
 ghost use Rattle.vr_usecosts.specs.Fixed.{fixed_with, StandsFixed};
 ghost use Rattle.vr_parts.specs.Bounds.{IsAddedByChange};
 ghost use Rattle.vr_sums.specs.Sums.{IsUpTo};
@@ -88,6 +88,14 @@ impl<'m> FixedCost<'m> {
             return 0;
         }
         added_by(self, routes, change)
+    }
+
+    /// Whether no vehicle has a fixed cost: all lists cost the same then.
+    pub fn is_idle(&self, _routes: &Routes) -> bool
+        requires stands { StandsFixed self.now _routes.now }
+        ensures { IsTrue result → CostAlike fixed_part self.now.model }
+    {
+        !self.pays
     }
 
     // What a vehicle costs, where it is used and where it is not.

@@ -11,7 +11,7 @@ ghost use Rattle.vr_model.specs.routes.Rules.{active_in as active_in_of, fits_gr
 ghost use Rattle.vr_routes.specs.Changes.{IsMadeOn};
 ghost use Rattle.vr_routes.specs.Pieces.{changed, nodes_of, IsWithin};
 ghost use Rattle.vr_parts.specs.Bounds.{IsAddedByChange};
-ghost use Rattle.vr_parts.specs.Parts.{NothingReady};
+ghost use Rattle.vr_parts.specs.Parts.{CostAlike, NothingReady};
 ghost use Rattle.vr_sums.specs.Sums.{IsUpTo};
 ghost use Rattle.vr_usecosts.specs.Groups.{pay, saved_by, saved_in as saved_in_of, AreSaved, AreFew};
 ghost use Rattle.vr_usecosts.specs.Groups.{IsForNodes, IsForPieces, StandsGroups};
@@ -230,6 +230,14 @@ impl<'m> GroupCost<'m> {
             total,
             balance: Balance::new(),
         })
+    }
+
+    /// Whether no group has a penalty: all lists cost the same then.
+    pub fn is_idle(&self, _routes: &Routes) -> bool
+        requires stands { StandsGroups self.now _routes.now }
+        ensures { IsTrue result → CostAlike penalty_part self.now.model }
+    {
+        !self.pays
     }
 
     /// What a change of the committed lists adds, also where the lists after it are not valid.

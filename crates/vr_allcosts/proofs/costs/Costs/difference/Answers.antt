@@ -1,4 +1,4 @@
-use Rattle.std.proofs.Common.{◌≡◌, ◌∙◌, arith, sym, ap, subst}
+use Rattle.std.proofs.Common.{◌≡◌, ◌∙◌, arith, refl, sym, ap, subst}
 use Rattle.std.specs.Prelude.{◌-ℤ◌}
 use Rattle.std.proofs.lemmas.Int.{ints}
 use Rattle.vr_model.specs.routes.Costs.{arcs_part, cost, fixed_part, penalty_part}
@@ -6,7 +6,8 @@ use Rattle.vr_model.specs.declared.records.Model.{Model}
 use Rattle.vr_routes.specs.Pieces.{changed}
 use Rattle.vr_globalcosts.specs.GlobalCosts.{global_cost_of}
 use Rattle.vr_plancosts.specs.PlanCosts.{soft_and_span}
-use Rattle.vr_earliest.specs.Kept.{StandsEarliest}
+use Rattle.vr_allcosts.specs.Standing.{KeptCosts, StandsCosts}
+use Rattle.vr_allcosts.proofs.StandLemmas.{stands-like}
 use Rattle.vr_allcosts.proofs.SumLemmas.{AreBounded, adds_whole, are_read, cost_of_parts}
 use Rattle.vr_allcosts.proofs.costs.Costs.difference.Goals as goal
 
@@ -64,33 +65,31 @@ returns-clause-exact c =
     arcs fixed groups plans spans before behind)
 
 pub returns-clause-stands : goal.returns-clause-stands
-returns-clause-stands c = record {
-  arcs_model = c.in_ok-arcs.ensures.model ∙ (ap (λ k. k.arcs.model) c.self.view_is ∙ (c.requires.stands.arcs_model ∙ ap (λ k. k.model) (sym c.self.view_is)));
-  fixed_model = c.in_ok-fixed.ensures.model ∙ (ap (λ k. k.fixed.model) c.self.view_is ∙ (c.requires.stands.fixed_model ∙ ap (λ k. k.model) (sym c.self.view_is)));
-  groups_model = c.in_ok-groups.ensures.model ∙ (ap (λ k. k.groups.model) c.self.view_is ∙ (c.requires.stands.groups_model ∙ ap (λ k. k.model) (sym c.self.view_is)));
-  plans_model = c.in_ok-plans.ensures.model ∙ (ap (λ k. k.plans.model) c.self.view_is ∙ (c.requires.stands.plans_model ∙ ap (λ k. k.model) (sym c.self.view_is)));
-  spans_model = c.in_ok-spans.ensures.model ∙ (ap (λ k. k.spans.model) c.self.view_is ∙ (c.requires.stands.spans_model ∙ ap (λ k. k.model) (sym c.self.view_is)));
-  arcs = c.in_ok-arcs.ensures.stands;
-  fixed = c.in_ok-fixed.ensures.stands;
-  groups = c.in_ok-groups.ensures.stands;
-  plans = c.in_ok-plans.ensures.stands;
-  spans = c.in_ok-spans.ensures.stands;
-  earliest_model = ap (λ k. k.earliest.model) c.self.view_is ∙ (c.requires.stands.earliest_model ∙ ap (λ k. k.model) (sym c.self.view_is));
-  earliest = subst (λ e. StandsEarliest e c.args.routes.now.lists) (sym (ap (λ k. k.earliest) c.self.view_is)) c.requires.stands.earliest;
-}
+returns-clause-stands c =
+    let old = subst (λ (k : KeptCosts). StandsCosts k c.args.routes.now) (sym c.self.view_is) c.requires.stands in
+    let arcs = c.in_ok-arcs.ensures in
+    let fixed = c.in_ok-fixed.ensures in
+    let groups = c.in_ok-groups.ensures in
+    let plans = c.in_ok-plans.ensures in
+    let spans = c.in_ok-spans.ensures in
+    stands-like _ c.args.routes.now old _ _ _ _ _ arcs.model fixed.model groups.model plans.model spans.model arcs.stands fixed.stands groups.stands plans.stands spans.stands
 
 pub returns-in_err-spans-clause-stands : goal.returns-in_err-spans-clause-stands
-returns-in_err-spans-clause-stands c = record {
-  arcs_model = c.in_ok-arcs.ensures.model ∙ (ap (λ k. k.arcs.model) c.self.view_is ∙ (c.requires.stands.arcs_model ∙ ap (λ k. k.model) (sym c.self.view_is)));
-  fixed_model = c.in_ok-fixed.ensures.model ∙ (ap (λ k. k.fixed.model) c.self.view_is ∙ (c.requires.stands.fixed_model ∙ ap (λ k. k.model) (sym c.self.view_is)));
-  groups_model = c.in_ok-groups.ensures.model ∙ (ap (λ k. k.groups.model) c.self.view_is ∙ (c.requires.stands.groups_model ∙ ap (λ k. k.model) (sym c.self.view_is)));
-  plans_model = c.in_ok-plans.ensures.model ∙ (ap (λ k. k.plans.model) c.self.view_is ∙ (c.requires.stands.plans_model ∙ ap (λ k. k.model) (sym c.self.view_is)));
-  spans_model = c.in_err-spans.ensures.model ∙ (ap (λ k. k.spans.model) c.self.view_is ∙ (c.requires.stands.spans_model ∙ ap (λ k. k.model) (sym c.self.view_is)));
-  arcs = c.in_ok-arcs.ensures.stands;
-  fixed = c.in_ok-fixed.ensures.stands;
-  groups = c.in_ok-groups.ensures.stands;
-  plans = c.in_ok-plans.ensures.stands;
-  spans = c.in_err-spans.ensures.stands;
-  earliest_model = ap (λ k. k.earliest.model) c.self.view_is ∙ (c.requires.stands.earliest_model ∙ ap (λ k. k.model) (sym c.self.view_is));
-  earliest = subst (λ e. StandsEarliest e c.args.routes.now.lists) (sym (ap (λ k. k.earliest) c.self.view_is)) c.requires.stands.earliest;
-}
+returns-in_err-spans-clause-stands c =
+    let old = subst (λ (k : KeptCosts). StandsCosts k c.args.routes.now) (sym c.self.view_is) c.requires.stands in
+    let arcs = c.in_ok-arcs.ensures in
+    let fixed = c.in_ok-fixed.ensures in
+    let groups = c.in_ok-groups.ensures in
+    let plans = c.in_ok-plans.ensures in
+    let spans = c.in_err-spans.ensures in
+    stands-like _ c.args.routes.now old _ _ _ _ _ arcs.model fixed.model groups.model plans.model spans.model arcs.stands fixed.stands groups.stands plans.stands spans.stands
+
+-- spans were not asked
+pub returns-in_err-plans-clause-stands : goal.returns-in_err-plans-clause-stands
+returns-in_err-plans-clause-stands c =
+    let old = subst (λ (k : KeptCosts). StandsCosts k c.args.routes.now) (sym c.self.view_is) c.requires.stands in
+    let arcs = c.in_ok-arcs.ensures in
+    let fixed = c.in_ok-fixed.ensures in
+    let groups = c.in_ok-groups.ensures in
+    let plans = c.in_err-plans.ensures in
+    stands-like _ c.args.routes.now old _ _ _ _ _ arcs.model fixed.model groups.model plans.model refl arcs.stands fixed.stands groups.stands plans.stands old.spans

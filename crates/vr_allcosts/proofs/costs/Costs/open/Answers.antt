@@ -1,4 +1,4 @@
-use Rattle.std.proofs.Common.{◌≡◌, Ok}
+use Rattle.std.proofs.Common.{◌≡◌, Ok, subst}
 use Rattle.vr_model.specs.declared.records.Model.{Model}
 use Rattle.vr_both.proofs.BothLemmas.{of_value}
 use Rattle.vr_arccosts.specs.Along.{StandsAlong}
@@ -7,6 +7,7 @@ use Rattle.vr_globalcosts.specs.GlobalCosts.{StandsSpans}
 use Rattle.vr_usecosts.specs.Groups.{StandsGroups}
 use Rattle.vr_plancosts.specs.PlanCosts.{StandsPlans}
 use Rattle.vr_earliest.specs.Kept.{StandsEarliest}
+use Rattle.vr_allcosts.specs.Standing.{PaysArcsAlone}
 use Rattle.vr_allcosts.proofs.costs.Costs.open.Goals as goal
 
 pub returns-clause-stands : goal.returns-clause-stands
@@ -35,4 +36,5 @@ returns-clause-stands c =
       plans = of_value (λ k. StandsPlans k tours) _ _ plans c.open-plans.ensures.stands;
       spans = of_value (λ k. StandsSpans k tours) _ _ spans c.open-spans.ensures.stands;
       earliest = of_value (λ k. StandsEarliest k tours.lists) _ _ earliest c.open-earliest.ensures.stands;
+      arcs_alone = λ idle. subst PaysArcsAlone (of_value (λ k. k.model ≡ model) _ _ fixed c.open-fixed.ensures.model) (c.are_idle-arcs_alone.ensures idle);
     }
