@@ -10,8 +10,7 @@ use vr_improve::Best;
 use vr_model::{End, Model, NoMemory, Report};
 use vr_replies::{Answer, summarised};
 use vr_routes::Routes;
-use vr_routes::samples::routes_of;
-use vr_rules::valid;
+use vr_sample_routes::valid_routes;
 use vr_samples::read_model_text;
 
 // Node 2 may be dropped, at a penalty of 3.
@@ -42,12 +41,9 @@ fn told(alloc: Global, model: &Model, routes: Routes) -> Result<Answer, NoMemory
 fn told_of(alloc: Global, model: &Model, list: &[u32]) -> Result<Option<Answer>, NoMemory>
     requires { IsWellFormed model.now }
 {
-    let Some(routes) = routes_of(alloc, model, &[list])? else {
+    let Some(routes) = valid_routes(alloc, model, &[list])? else {
         return Ok(None);
     };
-    if !valid(alloc, model, &routes)? {
-        return Ok(None);
-    }
     let answer = told(alloc, model, routes)?;
     Ok(Some(answer))
 }

@@ -9,7 +9,6 @@ ghost use Rattle.vr_model.specs.tables.WellFormed.{IsWellFormed};
 ghost use Rattle.vr_routes.specs.Changes.{IsMadeOn};
 ghost use Rattle.vr_routes.specs.Pieces.{changed};
 
-use crate::tests::valid_routes;
 use std::alloc::Global;
 use std::test::Fail;
 use vr_costfilter::{GlobalSpan, PlanCost};
@@ -17,6 +16,7 @@ use vr_earliest::{Earlies, Earliest};
 use vr_model::{Model, Move, NoMemory};
 use vr_routes::{Change, Routes};
 use vr_rules::valid;
+use vr_sample_routes::valid_routes;
 use vr_samples::read_model_text;
 
 // Nine visits, of which two open late and one may stay away, starts that open late, and spans that cost 2 a unit by

@@ -1,18 +1,10 @@
-//! Tests of parts of the cost, through what they make public. They stand in a crate of their own, so that the crate
-//! that they test is proved once.
+//! Tests of parts of the cost, through what they make public. They stand in a crate of their own, so that the crates
+//! that they test are proved once.
 #![tactic(auto)]
 
-#[cfg(test)]
-mod kept;
-#[cfg(test)]
-mod late;
 #[cfg(test)]
 mod least;
 #[cfg(test)]
 mod many;
 #[cfg(test)]
 mod tests;
-#[cfg(test)]
-mod timed;
-#[cfg(test)]
-mod told;

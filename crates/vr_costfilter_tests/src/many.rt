@@ -10,13 +10,13 @@ ghost use Rattle.vr_parts.specs.Parts.{after};
 ghost use Rattle.vr_routes.specs.Changes.{IsMadeOn};
 ghost use Rattle.vr_routes.specs.Pieces.{changed};
 
-use crate::tests::valid_routes;
 use std::alloc::Global;
 use std::test::Fail;
 use vr_costfilter::{CostPart, GlobalSpan};
 use vr_model::{Model, Move, NoMemory};
 use vr_routes::{Change, Routes};
 use vr_rules::{cost, valid};
+use vr_sample_routes::valid_routes;
 use vr_samples::read_model_text;
 
 // Eight visits, each 5 from all others, of which two open at 30 and two may stay away; a vehicle may wait before it

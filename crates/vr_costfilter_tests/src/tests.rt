@@ -1,6 +1,6 @@
 //! What parts of the cost answer for a change is the difference of the costs of the whole lists.
 
-ghost use Rattle.std.specs.Prelude.{◌≡◌, true, IfOk, IfSome, IsTrue};
+ghost use Rattle.std.specs.Prelude.{◌≡◌, true, IsTrue};
 ghost use Rattle.vr_model.specs.moves.MoveTests.{is_move};
 ghost use Rattle.vr_model.specs.routes.Rules.{is_valid};
 ghost use Rattle.vr_model.specs.tables.Tables.{visits};
@@ -12,9 +12,9 @@ use std::alloc::Global;
 use std::test::Fail;
 use vr_costfilter::{ArcCost, CostPart, FixedCost, GroupCost};
 use vr_model::{Model, Move, NoMemory, Parts};
-use vr_routes::samples::routes_of;
 use vr_routes::{Change, Routes};
 use vr_rules::{cost, valid};
+use vr_sample_routes::valid_routes;
 use vr_samples::read_model_text;
 
 // Five optional visits, costs that differ by direction and by vehicle, and fixed costs.
@@ -24,26 +24,6 @@ const VANS: &str = r#"{"format":1,"nodes":6,"matrices":[
 "vehicles":[{"start":0,"end":0,"fixed":10},{"start":0,"end":0,"costs":0,"fixed":20},
 {"start":0,"end":0,"costs":1,"fixed":40}],
 "groups":[{"nodes":[1,2,3,4,5],"penalty":1,"max":5}]}"#;
-
-// Valid routes with these lists, where there are such.
-pub(crate) fn valid_routes(
-    alloc: Global,
-    model: &Model,
-    lists: &[&[u32]],
-) -> Result<Option<Routes>, NoMemory>
-    requires well_formed { IsWellFormed model.now }
-    ensures of_model { IfOk result (λ routes. IfSome routes (λ found. found.visits ≡ visits model.now)) }
-    ensures valid { IfOk result (λ routes. IfSome routes (λ found. IsTrue (is_valid model.now found.lists))) }
-{
-    let Some(routes) = routes_of(alloc, model, lists)? else {
-        return Ok(None);
-    };
-    if valid(alloc, model, &routes)? {
-        Ok(Some(routes))
-    } else {
-        Ok(None)
-    }
-}
 
 // Whether costs are those before and what was added.
 fn are_sums(before: Parts, after: Parts, arcs: i64, fixed: i64, penalty: i64) -> bool {

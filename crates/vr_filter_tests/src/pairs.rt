@@ -7,13 +7,14 @@ ghost use Rattle.vr_model.specs.tables.Tables.{visits};
 ghost use Rattle.vr_model.specs.tables.WellFormed.{IsWellFormed};
 
 use crate::samples::{Sample, model_of};
-use crate::tests::{follows, valid_routes};
+use crate::tests::follows;
 use std::alloc::Global;
 use std::test::Fail;
 use vr_lists::{PairPlaces, keeps_pairs};
 use vr_model::{Model, Move, NoMemory, Seq};
 use vr_pathfilters::PairFilter;
 use vr_routes::Routes;
+use vr_sample_routes::valid_routes;
 
 // Two visits and no pairs.
 const NO_PAIRS: Sample = Sample {

@@ -1,6 +1,6 @@
 //! Filters that follow moves: a move is committed where the filter lets it pass.
 
-ghost use Rattle.std.specs.Prelude.{◌≡◌, ◌<◌, IfOk, IfSome, IsTrue, OnOk, length};
+ghost use Rattle.std.specs.Prelude.{◌≡◌, ◌<◌, IfOk, IsTrue, OnOk, length};
 ghost use Rattle.vr_model.specs.routes.Rules.{is_valid};
 ghost use Rattle.vr_model.specs.tables.Tables.{visits};
 ghost use Rattle.vr_model.specs.tables.WellFormed.{IsWellFormed};
@@ -13,9 +13,8 @@ use std::test::Fail;
 use vr_filter::{Both, PathFilter};
 use vr_model::{Model, Move, NoMemory, Steps};
 use vr_pathfilters::{DimensionFilter, GroupFilter, VehicleFilter};
-use vr_routes::samples::routes_of;
 use vr_routes::{Change, Routes};
-use vr_rules::valid;
+use vr_sample_routes::valid_routes;
 use vr_samples::read_model_text;
 
 // Four visits, each 10 from the others. Node 1 has a window, node 2 a later one, node 3 five forbidden intervals, so
@@ -354,27 +353,6 @@ fn filters_are_joined(rt: HostRuntime) -> Result<(), Fail> {
     ];
     assert!(rt; both_follow(alloc, &model, moves)?);
     Ok(())
-}
-
-// Valid routes with these lists, where there are such.
-pub(crate) fn valid_routes(
-    alloc: Global,
-    model: &Model,
-    lists: &[&[u32]],
-) -> Result<Option<Routes>, NoMemory>
-    requires well_formed { IsWellFormed model.now }
-    ensures of_model { IfOk result (λ routes. IfSome routes (λ found. found.visits ≡ visits model.now)) }
-    ensures many { IfOk result (λ routes. IfSome routes (λ found. length found.lists ≡ length model.now.vehicles)) }
-    ensures valid { IfOk result (λ routes. IfSome routes (λ found. IsTrue (is_valid model.now found.lists))) }
-{
-    let Some(routes) = routes_of(alloc, model, lists)? else {
-        return Ok(None);
-    };
-    if valid(alloc, model, &routes)? {
-        Ok(Some(routes))
-    } else {
-        Ok(None)
-    }
 }
 
 // Whether the filter of groups of a model answers moves from valid lists as expected.

@@ -1,6 +1,6 @@
 //! That there are a tree and a line of a solution with ample memory, and their bytes.
 
-ghost use Rattle.std.specs.Prelude.{IfOk, IfSome, IsTrue};
+ghost use Rattle.std.specs.Prelude.{IsTrue};
 ghost use Rattle.vr_model.specs.routes.Rules.{is_valid};
 ghost use Rattle.vr_model.specs.tables.WellFormed.{IsWellFormed};
 
@@ -10,8 +10,7 @@ use vr_json::to_line;
 use vr_model::{End, Model, NoMemory, Report};
 use vr_print::{solution_line, solution_tree};
 use vr_routes::Routes;
-use vr_routes::samples::routes_of;
-use vr_rules::valid;
+use vr_sample_routes::valid_routes;
 use vr_samples::read_model_text;
 
 // Two visits, two vehicles and two dimensions, one of them with a break; the line is of one used vehicle.
@@ -33,21 +32,6 @@ const REPORT: Report = Report {
     solutions: 3,
     end: End::Tries,
 };
-
-// Routes in which vehicle 0 visits node 1 alone, none where they are not valid.
-fn one_visit(alloc: Global, model: &Model) -> Result<Option<Routes>, NoMemory>
-    requires { IsWellFormed model.now }
-    ensures { IfOk result (λ found. IfSome found (λ routes. IsTrue (is_valid model.now routes.lists))) }
-{
-    let Some(routes) = routes_of(alloc, model, &[&[1], &[]])? else {
-        return Ok(None);
-    };
-    if valid(alloc, model, &routes)? {
-        Ok(Some(routes))
-    } else {
-        Ok(None)
-    }
-}
 
 // Whether the line of routes is the one above.
 fn has_line(alloc: Global, model: &Model, routes: &Routes) -> Result<bool, NoMemory>
@@ -72,7 +56,7 @@ fn has_tree(alloc: Global, model: &Model, routes: &Routes) -> Result<bool, NoMem
 fn prints(alloc: Global, model: &Model) -> Result<Option<(bool, bool)>, NoMemory>
     requires { IsWellFormed model.now }
 {
-    let Some(routes) = one_visit(alloc, model)? else {
+    let Some(routes) = valid_routes(alloc, model, &[&[1], &[]])? else {
         return Ok(None);
     };
     let line = has_line(alloc, model, &routes)?;

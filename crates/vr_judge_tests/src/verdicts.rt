@@ -6,7 +6,7 @@ ghost use Rattle.vr_model.specs.tables.Tables.{visits};
 ghost use Rattle.vr_model.specs.tables.WellFormed.{IsWellFormed};
 ghost use Rattle.vr_routes.specs.Judging.{HoldSame};
 
-use crate::samples::{By, THREE, TWO_VANS, one_list, routes_of};
+use crate::samples::{By, THREE, TWO_VANS, lists_of};
 use std::alloc::Global;
 use std::fmt::Write;
 use std::marker::Brand;
@@ -17,6 +17,7 @@ use vr_judge::FilterJudge;
 use vr_model::{Model, Move, NoMemory, Steps};
 use vr_plain::PlainJudge;
 use vr_routes::{Change, Judge, Routes, Verdict};
+use vr_sample_routes::valid_routes;
 use vr_samples::read_model_text;
 
 // What a judge says of a move, `None` where it is none. A move that is not refused is made, where that is asked.
@@ -104,12 +105,11 @@ fn filters_say(
     Ok(says)
 }
 
-// Whether a judge says what is wanted of moves from a list of all nodes but 0.
+// Whether a judge says what is wanted of moves from a list of nodes 1 and 2.
 fn says(alloc: Global, model: &Model, by: By, moves: &[(Move, bool, Verdict)]) -> Result<bool, Fail>
     requires well_formed { IsWellFormed model.now }
 {
-    let lists = one_list(alloc, model)?;
-    let mut routes = routes_of(alloc, model, &lists)?.ok_or("valid routes")?;
+    let mut routes = valid_routes(alloc, model, lists_of(model))?.ok_or("valid routes")?;
     let says = match by {
         By::Rebuilding => plain_says(alloc, model, &mut routes, moves)?,
         By::Filters => filters_say(alloc, model, &mut routes, moves)?,
@@ -133,21 +133,20 @@ fn assert_said(
     Ok(())
 }
 
-// Whether a judge says of each move of some lists what it makes at least.
-fn says_least<J: Judge>(
-    model: &Model,
-    judge: &mut J,
-    routes: &Routes,
-    moves: &[(Move, i64)],
-) -> bool
+// A move, what it makes at least, and what is told of that by its numbers alone.
+type Told = (Move, i64, Option<i64>);
+
+// Whether a judge says this of each move of some lists.
+fn says_least<J: Judge>(model: &Model, judge: &mut J, routes: &Routes, moves: &[Told]) -> bool
     requires well_formed { IsWellFormed model.now }
     requires judge_model { J.model judge.old ≡ model.now }
     requires holds { HoldSame model.now (J.committed judge.old) routes.now }
 {
     let mut change = Change::blank();
-    for &(mv, want) in moves {
+    for &(mv, want, by_numbers) in moves {
         if !Change::of_into(model, routes, mv, &mut change)
             || judge.least_difference(routes, mv, &change) != want
+            || judge.least_by_numbers(routes, mv) != by_numbers
         {
             return false;
         }
@@ -160,7 +159,7 @@ fn filters_say_least(
     alloc: Global,
     model: &Model,
     routes: &Routes,
-    moves: &[(Move, i64)],
+    moves: &[Told],
 ) -> Result<bool, NoMemory>
     requires well_formed { IsWellFormed model.now }
     requires of_model { routes.now.visits ≡ visits model.now }
@@ -171,12 +170,11 @@ fn filters_say_least(
     Ok(says)
 }
 
-// Whether it says so of moves from a list of all nodes but 0.
-fn least_is(alloc: Global, model: &Model, moves: &[(Move, i64)]) -> Result<bool, Fail>
+// Whether it says so of moves from a list of nodes 1 and 2.
+fn least_is(alloc: Global, model: &Model, moves: &[Told]) -> Result<bool, Fail>
     requires well_formed { IsWellFormed model.now }
 {
-    let lists = one_list(alloc, model)?;
-    let routes = routes_of(alloc, model, &lists)?.ok_or("valid routes")?;
+    let routes = valid_routes(alloc, model, lists_of(model))?.ok_or("valid routes")?;
     let says = filters_say_least(alloc, model, &routes, moves)?;
     Ok(says)
 }
@@ -187,7 +185,7 @@ fn assert_least(
     alloc: Global,
     start: &str,
     rest: &str,
-    moves: &[(Move, i64)],
+    moves: &[Told],
 ) -> Result<(), Fail> {
     let mut text = String::new(alloc);
     write!(text, "{start}{rest}}}")?;
@@ -230,22 +228,38 @@ fn differences_have_all_parts(rt: HostRuntime) -> Result<(), Fail> {
     )
 }
 
-// It is the difference, as of a move that is refused, but of groups, of which it is 0 where no penalty is to pay.
+// It is the difference, as of a move that is refused, but of groups, of which it is 0 where no penalty is to pay. The
+// numbers of a move tell it where arcs alone are paid.
 #[test]
 fn the_least_is_told_of_any_move(rt: HostRuntime) -> Result<(), Fail> {
     let alloc = rt.alloc();
-    let vans = [(two_opt(0, 0, 1), 0), (relocate(0, 0, 1, 0), -45)];
+    let vans = [
+        (two_opt(0, 0, 1), 0, None),
+        (relocate(0, 0, 1, 0), -45, None),
+    ];
     assert_least(&rt, alloc, TWO_VANS, "", &vans)?;
+    let arcs = [
+        (two_opt(0, 0, 1), 0, Some(0)),
+        (make_inactive(0, 1), -8, Some(-8)),
+    ];
+    assert_least(&rt, alloc, THREE, "", &arcs)?;
+    let nothing_else_paid =
+        ",\"groups\":[{\"nodes\":[2],\"penalty\":0}],\"dimensions\":[{\"name\":\"load\",\
+        \"evaluators\":[{\"values\":[0,1,1]}],\"capacity\":9,\"slack_max\":0}]";
+    assert_least(&rt, alloc, THREE, nothing_else_paid, &arcs)?;
     let optional = [
-        (two_opt(0, 0, 1), 0),
-        (make_inactive(0, 0), 0),
-        (make_inactive(0, 1), -8),
+        (two_opt(0, 0, 1), 0, None),
+        (make_inactive(0, 0), 0, None),
+        (make_inactive(0, 1), -8, None),
     ];
     let groups = ",\"groups\":[{\"nodes\":[2],\"penalty\":3}]";
     assert_least(&rt, alloc, THREE, groups, &optional)?;
     let spans =
         ",\"dimensions\":[{\"name\":\"time\",\"evaluators\":[{\"matrix\":0}],\"capacity\":100,\
         \"slack_max\":0,\"span_cost\":2}]";
-    let moves = [(two_opt(0, 0, 1), 0), (make_inactive(0, 1), -24)];
+    let moves = [
+        (two_opt(0, 0, 1), 0, None),
+        (make_inactive(0, 1), -24, None),
+    ];
     assert_least(&rt, alloc, THREE, spans, &moves)
 }

@@ -20,9 +20,9 @@ use vr_guided::guide;
 use vr_judge::FilterJudge;
 use vr_model::{Lambda, Limit, Model, Move, NoMemory, Steps};
 use vr_plain::PlainJudge;
-use vr_routes::samples::routes_of;
 use vr_routes::{Change, Judge, Routes, Verdict};
-use vr_rules::{total, valid};
+use vr_rules::total;
+use vr_sample_routes::valid_routes;
 use vr_samples::read_model_text;
 use vr_watch::Watch;
 
@@ -55,6 +55,10 @@ impl<J: Judge + Drop> Judge for Counting<J> {
 
     fn least_difference(&mut self, routes: &Routes, mv: Move, change: &Change) -> i64 {
         self.judge.least_difference(routes, mv, change)
+    }
+
+    fn least_by_numbers(&self, routes: &Routes, mv: Move) -> Option<i64> {
+        self.judge.least_by_numbers(routes, mv)
     }
 
     fn commit(&mut self, routes: &mut Routes, mv: Move) -> Result<(), NoMemory> {
@@ -188,28 +192,12 @@ fn filter_count(
     })
 }
 
-// One list of nodes 1, 2 and 3, where it is valid.
-fn one_list(alloc: Global, model: &Model) -> Result<Option<Routes>, NoMemory>
-    requires well_formed { IsWellFormed model.now }
-    ensures of_model { IfOk result (λ routes. IfSome routes (λ found. found.visits ≡ visits model.now)) }
-    ensures valid { IfOk result (λ routes. IfSome routes (λ found. IsTrue (is_valid model.now found.lists))) }
-{
-    let Some(routes) = routes_of(alloc, model, &[&[1, 2, 3]])? else {
-        return Ok(None);
-    };
-    if valid(alloc, model, &routes)? {
-        Ok(Some(routes))
-    } else {
-        Ok(None)
-    }
-}
-
-// The same from that list.
+// The same from a list of nodes 1, 2 and 3.
 fn counted(alloc: Global, model: &Model, by: By, search: Search) -> Result<Count, Fail>
     requires { IsWellFormed model.now }
     ensures { IfOk result (λ count. count.asked ≤ count.tries) }
 {
-    let mut routes = one_list(alloc, model)?.ok_or("valid routes")?;
+    let mut routes = valid_routes(alloc, model, &[&[1, 2, 3]])?.ok_or("valid routes")?;
     let first_cost = total(alloc, model, &routes)?;
     let count = match by {
         By::Rebuilding => plain_count(alloc, model, &mut routes, first_cost, search)?,
@@ -222,10 +210,15 @@ fn counted(alloc: Global, model: &Model, by: By, search: Search) -> Result<Count
 const SQUARE: &str = "{\"format\":1,\"nodes\":4,\
     \"matrices\":[[[0,7,5,5],[7,0,5,5],[5,5,0,7],[5,5,7,0]]],\"vehicles\":[{\"start\":0,\"end\":0}]}";
 
-fn count_in_square(alloc: Global, by: By, search: Search) -> Result<Count, Fail>
+// The same square, where the vehicle costs something, so that the numbers of a move tell nothing.
+const PAID_SQUARE: &str = "{\"format\":1,\"nodes\":4,\
+    \"matrices\":[[[0,7,5,5],[7,0,5,5],[5,5,0,7],[5,5,7,0]]],\
+    \"vehicles\":[{\"start\":0,\"end\":0,\"fixed\":1}]}";
+
+fn count_in(alloc: Global, text: &str, by: By, search: Search) -> Result<Count, Fail>
     ensures { IfOk result (λ count. count.asked ≤ count.tries) }
 {
-    let model = read_model_text(alloc, SQUARE).ok_or("a model")?;
+    let model = read_model_text(alloc, text).ok_or("a model")?;
     let count = counted(alloc, &model, by, search)?;
     Ok(count)
 }
@@ -233,9 +226,9 @@ fn count_in_square(alloc: Global, by: By, search: Search) -> Result<Count, Fail>
 #[test]
 fn a_judge_is_asked_no_more_often_than_moves_are_tried(rt: HostRuntime) -> Result<(), Fail> {
     let alloc = rt.alloc();
-    let descent = count_in_square(alloc, By::Rebuilding, Search::Descent)?;
+    let descent = count_in(alloc, SQUARE, By::Rebuilding, Search::Descent)?;
     assert!(rt; descent.asked > 0 && descent.asked == descent.tries);
-    let guided = count_in_square(alloc, By::Rebuilding, Search::Guided)?;
+    let guided = count_in(alloc, SQUARE, By::Rebuilding, Search::Guided)?;
     assert!(rt; guided.asked > 0 && guided.asked <= guided.tries);
     Ok(())
 }
@@ -243,9 +236,11 @@ fn a_judge_is_asked_no_more_often_than_moves_are_tried(rt: HostRuntime) -> Resul
 #[test]
 fn moves_that_cost_too_much_at_least_are_not_judged(rt: HostRuntime) -> Result<(), Fail> {
     let alloc = rt.alloc();
-    let descent = count_in_square(alloc, By::Filters, Search::Descent)?;
+    let descent = count_in(alloc, SQUARE, By::Filters, Search::Descent)?;
     assert!(rt; descent.asked > 0 && descent.asked < descent.tries);
-    let guided = count_in_square(alloc, By::Filters, Search::Guided)?;
+    let paid = count_in(alloc, PAID_SQUARE, By::Filters, Search::Descent)?;
+    assert!(rt; paid.asked > 0 && paid.asked < paid.tries);
+    let guided = count_in(alloc, SQUARE, By::Filters, Search::Guided)?;
     assert!(rt; guided.asked > 0 && guided.asked < guided.tries);
     Ok(())
 }

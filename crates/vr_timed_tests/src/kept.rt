@@ -144,7 +144,8 @@ fn text_of(alloc: Global, slack: u32) -> Result<String, Fail> {
     Ok(text)
 }
 
-// Whether parts answer what the costs of the whole lists differ by, and kept cumuls tell of the first changed list.
+// Whether parts answer what the costs of the whole lists differ by, and kept cumuls tell of the first changed list, and
+// of a turn of it then.
 fn is_told(alloc: Global, text: &str, mv: Move) -> bool {
     match answer_of(alloc, text, &LISTS, mv) {
         Some(added) => added.is_told,

@@ -8,14 +8,14 @@ ghost use Rattle.vr_model.specs.tables.WellFormed.{IsWellFormed};
 ghost use Rattle.vr_routes.specs.Changes.{IsMadeOn};
 ghost use Rattle.vr_routes.specs.Pieces.{changed};
 
-use crate::tests::valid_routes;
-use crate::told::tells_first;
+use crate::told::tells_for_each;
 use std::alloc::Global;
 use std::test::Fail;
 use vr_costfilter::{CostPart, GlobalSpan, PlanCost};
 use vr_model::{Model, Move, NoMemory, Parts};
 use vr_routes::{Change, Routes};
 use vr_rules::{cost, valid};
+use vr_sample_routes::valid_routes;
 use vr_samples::read_model_text;
 
 // Two visits, each 5 from all others, and a global span that costs 10 a unit.
@@ -36,7 +36,7 @@ const SOFT: &str = r#"{"format":1,"nodes":2,"matrices":[[[0,10],[10,0]]],
 pub(crate) struct Added {
     plans: i64,
     spans: i64,
-    // whether kept cumuls tell what its first list comes to
+    // whether kept cumuls tell of its first list, and of a turn of it then
     pub(crate) is_told: bool,
 }
 
@@ -114,7 +114,7 @@ fn answer(
     }
     let plans = plans_added(alloc, model, &routes, &change, &after)?;
     let spans = spans_added(alloc, model, &routes, &change, &after)?;
-    let is_told = tells_first(alloc, model, &routes, &change, &after)?;
+    let is_told = tells_for_each(alloc, model, &routes, &change, &after)?;
     let before = cost(alloc, model, &routes)?;
     let after = cost(alloc, model, &after)?;
     Ok(told(

@@ -77,7 +77,8 @@ const MOVES: [Move; 13] = [
     Move::MakeInactive { v: 1, a: 0 },
 ];
 
-// Whether parts answer what the costs of the whole lists differ by, and kept cumuls tell of the first changed list.
+// Whether parts answer what the costs of the whole lists differ by, and kept cumuls tell of the first changed list, and
+// of a turn of it then.
 fn is_told(alloc: Global, mv: Move) -> bool {
     match answer_of(alloc, LATE, &LISTS, mv) {
         Some(added) => added.is_told,

@@ -7,7 +7,7 @@ use Rattle.vr_model.proofs.moves.KeptLists.{moves_keep_lists}
 use Rattle.vr_model.proofs.routes.Lists.{are-lists}
 use Rattle.vr_routes.specs.Pieces.{changed}
 use Rattle.vr_routes.specs.Tours.{Tours}
-use Rattle.vr_costfilter_tests.proofs.timed.answer.Goals as goal
+use Rattle.vr_timed_tests.proofs.timed.answer.Goals as goal
 
 pub valid-requires-clause-lists : goal.valid-requires-clause-lists
 valid-requires-clause-lists c =

@@ -1,0 +1,37 @@
+//! Valid routes that tests give as lists. The program does not stand on it.
+#![tactic(auto)]
+
+ghost use Rattle.std.specs.Prelude.{◌≡◌, IfOk, IfSome, IsTrue, MatchOption, false, length, map, true};
+ghost use Rattle.vr_model.specs.routes.Rules.{is_valid};
+ghost use Rattle.vr_model.specs.tables.Tables.{visits};
+ghost use Rattle.vr_model.specs.tables.WellFormed.{IsWellFormed};
+
+use std::alloc::Global;
+use vr_model::{Model, NoMemory};
+use vr_routes::Routes;
+use vr_routes::samples::routes_of;
+use vr_rules::valid;
+
+/// Routes of a model with these lists; `None` exactly where they are not valid. The only refusal is want of memory.
+pub fn valid_routes(
+    alloc: Global,
+    model: &Model,
+    lists: &[&[u32]],
+) -> Result<Option<Routes>, NoMemory>
+    requires well_formed { IsWellFormed model.now }
+    ensures answer { let are = is_valid model.now (map (λ list. list.now) lists.now) in
+        IfOk result (λ answer. MatchOption answer (are ≡ false) (λ routes. are ≡ true)) }
+    ensures of_model { IfOk result (λ routes. IfSome routes (λ found. found.visits ≡ visits model.now)) }
+    ensures lists { IfOk result (λ routes. IfSome routes (λ found. found.lists ≡ map (λ list. list.now) lists.now)) }
+    ensures many { IfOk result (λ routes. IfSome routes (λ found. length found.lists ≡ length model.now.vehicles)) }
+    ensures valid { IfOk result (λ routes. IfSome routes (λ found. IsTrue (is_valid model.now found.lists))) }
+{
+    let Some(routes) = routes_of(alloc, model, lists)? else {
+        return Ok(None);
+    };
+    if valid(alloc, model, &routes)? {
+        Ok(Some(routes))
+    } else {
+        Ok(None)
+    }
+}
