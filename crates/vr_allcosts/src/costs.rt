@@ -116,7 +116,8 @@ impl<'m> Costs<'m> {
     }
 
     /// What a move of the committed lists adds to the cost of arcs, told by the numbers of the move alone: `None` where
-    /// more than arcs may be paid, and for a move of pairs. Where the lists after it are valid, their cost is so much more.
+    /// more than arcs may be paid, and for a move of a pair. Where the lists after it are valid, so much is added to
+    /// their cost.
     #[inline(always)]
     pub fn least_by_numbers(&self, routes: &Routes, mv: Move) -> Option<i64>
         requires stands { StandsCosts self.now routes.now }

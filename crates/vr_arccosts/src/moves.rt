@@ -34,8 +34,8 @@ impl<'m> ArcCost<'m> {
     }
 
     /// What a move of visits or of chains of the committed lists adds, told by its numbers alone, also where the lists
-    /// after it are not valid; none for a move of pairs.
-    // Inlined, so that a move stays in registers.
+    /// after it are not valid; `None` for a move of a pair.
+    // Each kind is inlined here, so that its pieces stay in registers.
     #[inline(always)]
     pub fn added_by_numbers(&self, routes: &Routes, mv: Move) -> Option<i64>
         requires stands { StandsAlong self.now routes.now }

@@ -1,7 +1,7 @@
 //! How often searches ask a judge: no more often than they try moves, and less often where what a move makes at least
 //! rules it out.
 
-ghost use Rattle.std.specs.Prelude.{◌≡◌, ◌+◌, ◌<◌, ◌≤◌, ◌≤ℤ◌, IfOk, IfSome, IsTrue, OnErr, OnOk};
+ghost use Rattle.std.specs.Prelude.{◌≡◌, ◌+◌, ◌<◌, ◌≤◌, IfOk, IsTrue, OnErr, OnOk};
 ghost use Rattle.vr_model.specs.moves.Moves.{apply};
 ghost use Rattle.vr_model.specs.moves.MoveTests.{is_move};
 ghost use Rattle.vr_model.specs.routes.Costs.{cost};
@@ -9,7 +9,7 @@ ghost use Rattle.vr_model.specs.routes.Rules.{is_valid};
 ghost use Rattle.vr_model.specs.tables.Tables.{visits};
 ghost use Rattle.vr_model.specs.tables.WellFormed.{IsWellFormed};
 ghost use Rattle.vr_routes.specs.Changes.{IsChange};
-ghost use Rattle.vr_routes.specs.Judging.{HoldSame, cost_change, moved, verdict_of};
+ghost use Rattle.vr_routes.specs.Judging.{HoldSame, moved, verdict_of};
 
 use std::alloc::Global;
 use std::marker::Brand;

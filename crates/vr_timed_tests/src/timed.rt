@@ -8,10 +8,11 @@ ghost use Rattle.vr_model.specs.tables.WellFormed.{IsWellFormed};
 ghost use Rattle.vr_routes.specs.Changes.{IsMadeOn};
 ghost use Rattle.vr_routes.specs.Pieces.{changed};
 
-use crate::told::tells_for_each;
+use crate::told::tells_twice;
 use std::alloc::Global;
 use std::test::Fail;
 use vr_costfilter::{CostPart, GlobalSpan, PlanCost};
+use vr_cumuls::Paid;
 use vr_model::{Model, Move, NoMemory, Parts};
 use vr_routes::{Change, Routes};
 use vr_rules::{cost, valid};
@@ -36,7 +37,7 @@ const SOFT: &str = r#"{"format":1,"nodes":2,"matrices":[[[0,10],[10,0]]],
 pub(crate) struct Added {
     plans: i64,
     spans: i64,
-    // whether kept cumuls tell of its first list, and of a turn of it then
+    // whether the cumuls that are kept for each kind of costs tell of its first list, and of a turn of it then
     pub(crate) is_told: bool,
 }
 
@@ -114,7 +115,8 @@ fn answer(
     }
     let plans = plans_added(alloc, model, &routes, &change, &after)?;
     let spans = spans_added(alloc, model, &routes, &change, &after)?;
-    let is_told = tells_for_each(alloc, model, &routes, &change, &after)?;
+    let alone = tells_twice(alloc, model, Paid::Alone, &routes, &change, &after)?;
+    let together = tells_twice(alloc, model, Paid::Together, &routes, &change, &after)?;
     let before = cost(alloc, model, &routes)?;
     let after = cost(alloc, model, &after)?;
     Ok(told(
@@ -123,7 +125,7 @@ fn answer(
         Added {
             plans,
             spans,
-            is_told,
+            is_told: alone && together,
         },
     ))
 }

@@ -73,8 +73,9 @@ fn tells_turned(
     Ok(tells(model, tables, kept, routes, &change, &after))
 }
 
-// Whether what is kept for such costs tells of a change, and, once that is committed, of a turn of its first list.
-fn tells_twice(
+// Whether what is kept of valid routes for such costs tells of a change, and, once that is committed, of a turn of its
+// first list.
+pub(crate) fn tells_twice(
     alloc: Global,
     model: &Model,
     paid: Paid,
@@ -96,25 +97,4 @@ fn tells_twice(
     }
     kept.commit(model, &tables, routes, change);
     tells_turned(alloc, model, &tables, &kept, after, change.vehicle(0))
-}
-
-// Whether what is kept of valid routes for the costs of each list by itself tells of both, and so does what is kept for
-// global spans.
-pub(crate) fn tells_for_each(
-    alloc: Global,
-    model: &Model,
-    routes: &Routes,
-    change: &Change,
-    after: &Routes,
-) -> Result<bool, NoMemory>
-    requires well_formed { IsWellFormed model.now }
-    requires of_model { after.now.visits ≡ visits model.now }
-    requires valid { IsTrue (is_valid model.now routes.now.lists) }
-    requires made { IsMadeOn routes.now change.now }
-    requires after { after.now.lists ≡ changed routes.now.lists change.now }
-    requires valid_after { IsTrue (is_valid model.now after.now.lists) }
-{
-    let alone = tells_twice(alloc, model, Paid::Alone, routes, change, after)?;
-    let together = tells_twice(alloc, model, Paid::Together, routes, change, after)?;
-    Ok(alone && together)
 }
