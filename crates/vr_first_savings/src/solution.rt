@@ -7,6 +7,7 @@ ghost use Rattle.vr_model.specs.first.SavingsJoins.{savings};
 ghost use Rattle.vr_model.specs.tables.Tables.{visits};
 ghost use Rattle.vr_model.specs.tables.WellFormed.{IsWellFormed};
 ghost use Rattle.vr_rules.specs.Placing.{lists_in};
+ghost use Rattle.vr_timings.specs.Tables.{AreTables};
 
 use crate::merge::merged;
 use crate::ranks::{lists_of, ranked};
@@ -16,7 +17,61 @@ use vr_lists::NodeTables;
 use vr_model::{Model, NoMemory, Seq};
 use vr_routes::Routes;
 use vr_rules::{Driving, valid};
-use vr_timings::tables_of;
+use vr_timings::{Table, tables_of};
+
+// The lists at which the construction ends, over what was looked up. Nothing large is owned where it ends early.
+fn lists_joined(
+    alloc: Global,
+    model: &Model,
+    tables: &[Table],
+    lookups: &NodeTables<'_>,
+    driving: &mut Driving,
+) -> Result<Vec<Seq<u32>>, NoMemory>
+    requires well_formed { IsWellFormed model.now }
+    requires tables { AreTables model.now tables.now }
+    requires lookups { lookups.now ≡ model.now }
+    ensures savings { IfOk result (λ lists. lists.items ≡ savings model.now) }
+    ensures lists { IfOk result (λ lists. IsTrue (are_lists model.now lists.items)) }
+{
+    let singles = single_routes(alloc, model, tables, lookups, driving)?;
+    let routes = merged(alloc, model, tables, lookups, singles, driving)?;
+    let lists = lists_of(alloc, model, ranked(alloc, lookups, &routes)?)?;
+    Ok(lists)
+}
+
+// The same, with room of its own for the walks.
+fn lists_over(
+    alloc: Global,
+    model: &Model,
+    tables: &[Table],
+    lookups: &NodeTables<'_>,
+) -> Result<Vec<Seq<u32>>, NoMemory>
+    requires well_formed { IsWellFormed model.now }
+    requires tables { AreTables model.now tables.now }
+    requires lookups { lookups.now ≡ model.now }
+    ensures savings { IfOk result (λ lists. lists.items ≡ savings model.now) }
+    ensures lists { IfOk result (λ lists. IsTrue (are_lists model.now lists.items)) }
+{
+    let mut driving = Driving::new(alloc);
+    let lists = lists_joined(alloc, model, tables, lookups, &mut driving)?;
+    Ok(lists)
+}
+
+// The same, with look-ups of its own.
+fn lists_from_tables(
+    alloc: Global,
+    model: &Model,
+    tables: &[Table],
+) -> Result<Vec<Seq<u32>>, NoMemory>
+    requires well_formed { IsWellFormed model.now }
+    requires tables { AreTables model.now tables.now }
+    ensures savings { IfOk result (λ lists. lists.items ≡ savings model.now) }
+    ensures lists { IfOk result (λ lists. IsTrue (are_lists model.now lists.items)) }
+{
+    let lookups = NodeTables::open(alloc, model)?;
+    let lists = lists_over(alloc, model, tables, &lookups)?;
+    Ok(lists)
+}
 
 // The lists at which the construction ends.
 fn lists_by_savings(alloc: Global, model: &Model) -> Result<Vec<Seq<u32>>, NoMemory>
@@ -25,11 +80,7 @@ fn lists_by_savings(alloc: Global, model: &Model) -> Result<Vec<Seq<u32>>, NoMem
     ensures lists { IfOk result (λ lists. IsTrue (are_lists model.now lists.items)) }
 {
     let tables = tables_of(alloc, model)?;
-    let lookups = NodeTables::open(alloc, model)?;
-    let mut driving = Driving::new(alloc);
-    let singles = single_routes(alloc, model, &tables, &lookups, &mut driving)?;
-    let routes = merged(alloc, model, &tables, &lookups, singles, &mut driving)?;
-    let lists = lists_of(alloc, model, ranked(alloc, &lookups, &routes)?)?;
+    let lists = lists_from_tables(alloc, model, &tables)?;
     Ok(lists)
 }
 

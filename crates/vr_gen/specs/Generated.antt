@@ -62,14 +62,16 @@ window customers k =
 abbrev pub services : List ℕ
 services = replicate 60 30
 
+-- how long it takes from node to node: the distance and the visits
+abbrev pub transit : List ℕ → Data
+transit services = object (member (codes "matrix") (count 0) (member (codes "values") (values services) no_members))
+
 -- the dimension of times
 unfoldable pub times : List Customer → Data
 times customers = object
     (member (codes "breaks") (listed rest (below 6))
     (member (codes "capacity") (count 20000)
-    (member (codes "evaluators") (one (object
-    (member (codes "matrix") (count 0)
-    (member (codes "values") (values services) no_members))))
+    (member (codes "evaluators") (one (transit services))
     (member (codes "name") (string (codes "time"))
     (member (codes "nodes") (listed (window customers) (below (length customers)))
     (member (codes "slack_max") (count 20000)

@@ -187,6 +187,14 @@ fn text(alloc: Global, text: &str) -> Result<Value, NoMemory>
     Ok(Value::String(String::from_str(alloc, text)?))
 }
 
+// How long it takes from node to node: the distance and the visits.
+fn transit(alloc: Global, services: &[u32]) -> Result<Value, NoMemory>
+    ensures { IfOk result (λ tree. view tree ≡ trees.transit services.now) }
+{
+    let added = values(alloc, services)?;
+    Ok(json!(in alloc; {"matrix": 0, "values": added})?)
+}
+
 // The dimension of times.
 #[tactic(auto, unfolding(crate::specs::Generated::times))]
 fn times(alloc: Global, customers: &[Customer]) -> Result<Value, NoMemory>
@@ -194,17 +202,14 @@ fn times(alloc: Global, customers: &[Customer]) -> Result<Value, NoMemory>
     ensures { IfOk result (λ tree. view tree ≡ trees.times customers.now) }
 {
     let services = [30u32; 60];
-    let visit = values(alloc, &services)?;
-    let added = values(alloc, &services)?;
-    let evaluator = json!(in alloc; {"matrix": 0, "values": added})?;
     let mut tree = Tree::new(alloc);
     tree.put("breaks", rests(alloc)?)?;
     tree.put("capacity", Value::from(20000u32))?;
-    tree.put("evaluators", one(alloc, evaluator)?)?;
+    tree.put("evaluators", one(alloc, transit(alloc, &services)?)?)?;
     tree.put("name", text(alloc, "time")?)?;
     tree.put("nodes", windows(alloc, customers)?)?;
     tree.put("slack_max", Value::from(20000u32))?;
-    tree.put("visit", visit)?;
+    tree.put("visit", values(alloc, &services)?)?;
     Ok(tree.finish())
 }
 
