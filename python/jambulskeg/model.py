@@ -1,0 +1,166 @@
+"""The model file and what is asked of it: `solve`, `first`, `check`. The records are those of `records` and `solution`.
+
+Each answer that is handed out was found to meet its model by the program's proved check; `checked=False` leaves that
+out. Whoever adds a mode of the program adds a function here, beside `solve`.
+"""
+
+from __future__ import annotations
+
+import json
+from dataclasses import dataclass
+from typing import Optional, Sequence, Tuple
+
+from .errors import NotMet, ProgramFailed, Refused
+from .program import ProgramLike, lines_of, program_of, tree_of
+from .records import (
+    Allowed, Break, Dimension, Evaluator, First, Group, Improve, Model, Neighbourhood, NodeRow, Pair, Policy, Search,
+    Soft, StopRow, Vehicle, VehicleBreaks, VehicleRow,
+)
+from .solution import Parts, Plan, Route, Solution, Status, Stop
+
+__all__ = [
+    "Allowed", "Break", "Dimension", "Evaluator", "Event", "Finding", "First", "Group", "Improve", "Model",
+    "Neighbourhood", "NodeRow", "Pair", "Parts", "Plan", "Policy", "Route", "Search", "SearchLog", "Soft", "Solution",
+    "Status", "Stop", "StopRow", "Vehicle", "VehicleBreaks", "VehicleRow", "check", "first", "generate", "meets",
+    "read_model", "read_solution", "solve", "solve_with_log",
+]
+
+
+@dataclass(frozen=True)
+class Finding:
+    """What `check` found: the cost of a solution that meets its model, else the first rule that it breaks, and where.
+
+    `vehicle` and `place` are -1 where they do not apply; docs/FORMAT.md says what they count for each rule.
+    """
+
+    cost: Optional[int] = None
+    rule: Optional[str] = None
+    vehicle: int = -1
+    place: int = -1
+
+    @property
+    def meets(self) -> bool:
+        """Whether the solution keeps all rules."""
+        return self.rule is None
+
+
+@dataclass(frozen=True)
+class Event:
+    """An event of a search: how many moves had been tried, `first`, `move` or `round`, and the cost then."""
+
+    tries: int
+    word: str
+    cost: int
+
+
+@dataclass(frozen=True)
+class SearchLog:
+    """What a search did: moves made, rounds in which no move helped, the least cost, and each event in order."""
+
+    moves: int
+    rounds: int
+    best: int
+    events: Tuple[Event, ...]
+
+
+def solve(
+    model: Model, program: ProgramLike = None, *, checked: bool = True, seconds: Optional[float] = None
+) -> Solution:
+    """The solution of the whole search that the model asks for; the same model always gives the same one.
+
+    `seconds` is the most that each run of the program may take. Raises `Refused` where the model has a fault,
+    `NoFirstSolution` where the construction finds none (see `jambulskeg.rescue`), and what `Program.run` raises.
+    """
+    return answered(model, "solve", program, checked, seconds)
+
+
+def first(
+    model: Model, program: ProgramLike = None, *, checked: bool = True, seconds: Optional[float] = None
+) -> Solution:
+    """The first solution, by the construction that the model asks for. Raises as `solve` does."""
+    return answered(model, "first", program, checked, seconds)
+
+
+def answered(model: Model, word: str, program: ProgramLike, checked: bool, seconds: Optional[float]) -> Solution:
+    """The solution that a mode of the program writes, found to meet the model where that is asked for."""
+    found = program_of(program)
+    solution = solution_of(found.ask([word], model.text(), seconds))
+    if checked:
+        meets(model, solution, found, seconds=seconds)
+    return solution
+
+
+def solve_with_log(
+    model: Model, program: ProgramLike = None, *, checked: bool = True, seconds: Optional[float] = None
+) -> Tuple[Solution, SearchLog]:
+    """The solution as `solve` has it, and what the search did. Raises as `solve` does."""
+    found = program_of(program)
+    lines = lines_of(found.run(["solve", "--log"], model.text(), seconds))
+    solution, log = solution_of(tree_of(lines[0] if lines else "")), log_of(lines[1:])
+    if checked:
+        meets(model, solution, found, seconds=seconds)
+    return solution, log
+
+
+def log_of(lines: Sequence[str]) -> SearchLog:
+    """The reports of a search. Raises `ProgramFailed` where they are none."""
+    try:
+        moves, rounds, best = (int(word) for word in lines[0].split()[1::2])
+        events = [line.split() for line in lines[1:]]
+        return SearchLog(moves, rounds, best, tuple(Event(int(t), word, int(cost)) for t, word, cost in events))
+    except (ValueError, IndexError):
+        raise ProgramFailed("the program wrote reports of a search that cannot be read") from None
+
+
+def solution_of(tree: object) -> Solution:
+    """The solution that the program wrote. Raises `ProgramFailed` where it has another form."""
+    try:
+        return Solution.of(tree)
+    except Refused as fault:
+        raise ProgramFailed(f"the program wrote a solution of another form: {fault}") from fault
+
+
+def check(
+    model: Model, solution: Solution, program: ProgramLike = None, *, seconds: Optional[float] = None
+) -> Finding:
+    """Whether a solution, from wherever it comes, keeps all rules of the model and costs what it says.
+
+    Raises `Refused` where the model has a fault, at a path that begins with `/model`.
+    """
+    text = f'{{"model":{model.text()},"solution":{solution.text()}}}'
+    try:
+        return Finding(cost=int(program_of(program).ask(["check"], text, seconds)["cost"]))
+    except NotMet as broken:
+        return Finding(None, broken.rule, broken.vehicle, broken.place)
+    except (KeyError, TypeError, ValueError) as problem:
+        if isinstance(problem, Refused):
+            raise
+        raise ProgramFailed("the program wrote a finding that cannot be read") from None
+
+
+def meets(
+    model: Model, solution: Solution, program: ProgramLike = None, *, seconds: Optional[float] = None
+) -> Solution:
+    """The solution itself. Raises `NotMet` where it breaks a rule of the model."""
+    finding = check(model, solution, program, seconds=seconds)
+    if finding.rule is not None:
+        raise NotMet(finding.rule, finding.vehicle, finding.place)
+    return solution
+
+
+def generate(number: int, program: ProgramLike = None) -> Model:
+    """A model to try things with, of a number up to 2^64 - 1: sixty visits, six vehicles."""
+    return Model.of(program_of(program).ask(["generate", str(number)]))
+
+
+def read_model(path: str) -> Model:
+    """The model of a file. Raises `OSError`, `Refused`, and `ValueError` where the file is no JSON."""
+    with open(path, encoding="utf-8") as file:
+        return Model.of(json.load(file))
+
+
+def read_solution(path: str) -> Solution:
+    """The solution in the first line of a file. Raises as `read_model` does."""
+    with open(path, encoding="utf-8") as file:
+        text = file.read()
+    return Solution.of(json.JSONDecoder().raw_decode(text.lstrip())[0])

@@ -1,0 +1,147 @@
+"""Finding the program vr_cli, running it, and telling its statuses apart as exceptions."""
+
+from __future__ import annotations
+
+import json
+import os
+import shutil
+import subprocess
+from dataclasses import dataclass
+from typing import Any, Dict, List, Optional, Sequence, Union
+
+from .errors import (
+    DeviceFailed, Fault, JambulskegError, NoFirstSolution, NoMemory, NotJson, NotMet, ProgramFailed, ProgramKilled,
+    ProgramMissing, ProgramSlow, Refused, TooLong,
+)
+
+NAME = "vr_cli"
+VARIABLE = "VR_CLI"
+REPOSITORY = os.path.dirname(os.path.dirname(os.path.dirname(os.path.abspath(__file__))))
+BESIDE = os.path.join(REPOSITORY, "release", "x86_64-linux", NAME)
+"""Where the built program lies in the repository that this package belongs to."""
+
+PLAIN = {
+    1: ProgramFailed("the program does not know the words that it was called with; it is another version"),
+    2: DeviceFailed("the program could not read its input"),
+    3: DeviceFailed("the program could not write its answer"),
+    4: NotJson("the input is no JSON text in UTF-8, or has a number that no reader takes"),
+    6: NoFirstSolution(
+        "the construction found no first solution, which does not say that there is none; "
+        "jambulskeg.rescue.rescue tries other constructions, and then penalties"
+    ),
+    7: NoMemory("the program was refused memory"),
+    8: TooLong("the input has more than 67108864 bytes"),
+    10: ProgramFailed("the operating system did not hand the program its words"),
+}
+"""What the statuses mean that need no look at the text."""
+
+
+def find(path: Optional[str] = None) -> str:
+    """The path of the program: `path`, else VR_CLI, else beside this package in its repository, else on the path.
+
+    Raises `ProgramMissing` with the places that were looked at, also where `path` or VR_CLI names no program.
+    """
+    named = path or os.environ.get(VARIABLE)
+    if named:
+        found = shutil.which(named)
+        if found is None:
+            whose = "the path that was handed in" if path else f"the variable {VARIABLE}"
+            raise ProgramMissing(f"{whose} names no program that can be run: {named}")
+        return found
+    found = shutil.which(BESIDE) or shutil.which(NAME)
+    if found is None:
+        raise ProgramMissing(
+            f"the program {NAME} is not at {BESIDE} and not on the path; build it by './vr --build' in the "
+            f"repository, or let the variable {VARIABLE} name it"
+        )
+    return found
+
+
+@dataclass(frozen=True)
+class Program:
+    """The built program at a path. It keeps no state: calls may be made side by side, from threads too."""
+
+    path: str
+
+    @classmethod
+    def found(cls, path: Optional[str] = None) -> "Program":
+        """The program that `find` finds."""
+        return cls(find(path))
+
+    def run(self, words: Sequence[str], text: str = "", seconds: Optional[float] = None) -> str:
+        """What the program writes when called with these words on this input.
+
+        `seconds` is how long it may take. Raises `ProgramSlow` after that, `ProgramKilled` where a signal ended it,
+        `ProgramFailed` where it could not be run, and else the exception of its status.
+        """
+        command = [self.path, *words]
+        try:
+            process = subprocess.Popen(
+                command, stdin=subprocess.PIPE, stdout=subprocess.PIPE, stderr=subprocess.PIPE
+            )
+        except OSError as problem:
+            raise ProgramFailed(f"the program {self.path} could not be started: {problem.strerror}") from problem
+        with process:
+            try:
+                out, told = process.communicate(text.encode("utf-8", "surrogatepass"), seconds)
+            except subprocess.TimeoutExpired:
+                process.kill()
+                raise ProgramSlow(seconds or 0) from None
+            except BaseException:
+                process.kill()
+                raise
+        return answer(process.returncode, out, told)
+
+    def ask(self, words: Sequence[str], text: str = "", seconds: Optional[float] = None) -> Any:
+        """The JSON object in the first line of what the program writes. Raises as `run` does."""
+        return tree_of(self.run(words, text, seconds).split("\n", 1)[0])
+
+
+ProgramLike = Union[Program, str, None]
+
+
+def program_of(given: ProgramLike) -> Program:
+    """The program at hand: the one handed in, the one at a path, or the one that is found."""
+    return given if isinstance(given, Program) else Program.found(given)
+
+
+def tree_of(text: str) -> Any:
+    """The value of a JSON text of the program. Raises `ProgramFailed` where it is none."""
+    try:
+        return json.loads(text)
+    except ValueError:
+        raise ProgramFailed(f"the program wrote no JSON: {text[:80]!r}") from None
+
+
+def answer(status: int, out: bytes, told: bytes) -> str:
+    """The text of a run that went well. Raises the exception of its status."""
+    if status < 0:
+        raise ProgramKilled(-status)
+    if status == 0:
+        try:
+            return out.decode("utf-8")
+        except UnicodeDecodeError:
+            raise ProgramFailed("the program wrote bytes that are no text in UTF-8") from None
+    if status in PLAIN:
+        known = PLAIN[status]
+        raise type(known)(*known.args)
+    raise told_by(status, out, told)
+
+
+def told_by(status: int, out: bytes, told: bytes) -> JambulskegError:
+    """The exception of a status whose text says more: 5 a refusal, 9 a broken rule; else the run failed."""
+    try:
+        tree: Dict[str, Any] = json.loads(out)
+        if status == 5:
+            return Refused(Fault(int(tree["code"]), str(tree["path"])))
+        if status == 9:
+            return NotMet(str(tree["rule"]), int(tree["vehicle"]), int(tree["place"]))
+    except (ValueError, KeyError, TypeError):
+        pass
+    last = told.decode("utf-8", "replace").strip().splitlines()[-1:] or ["nothing on standard error"]
+    return ProgramFailed(f"the program ended with status {status}, which it does not have; it said: {last[0]}")
+
+
+def lines_of(text: str) -> List[str]:
+    """The lines of what the program wrote."""
+    return text.splitlines()
