@@ -89,13 +89,16 @@ class Fault:
     def sentence(self) -> str:
         """What is wrong, with the place."""
         what = self.detail or CAUSES.get(self.code, "the program refuses it")
-        return f"{self.path or 'the whole input'}: {what} (code {self.code})"
+        return f"{self.path}: {what} (code {self.code})"
 
 
 class Refused(JambulskegError, ValueError):
-    """Status 5, or a field that was found faulty before the program was asked: `code`, `path`, `sentence`."""
+    """Status 5, or a field that was found faulty before the program was asked: `code`, `path`, `sentence`.
 
-    def __init__(self, fault: Fault, owner: str = "") -> None:
+    The path begins at the record that was made, or at the whole input of the program.
+    """
+
+    def __init__(self, fault: Fault, owner: str = "the input") -> None:
         self.fault = fault
         self.code, self.path = fault.code, fault.path
         self.sentence = owner + fault.sentence

@@ -34,6 +34,11 @@ class Kind:
         return value
 
 
+def between(least: int, most: int) -> str:
+    """A range in words."""
+    return str(least) if least == most else f"{least} to {most}"
+
+
 def is_list(value: Any) -> bool:
     """Whether a value is a sequence and not a text."""
     return isinstance(value, Sequence) and not isinstance(value, (str, bytes))
@@ -60,7 +65,7 @@ class Whole(Kind):
         if code:
             yield Fault(code, path, f"{value!r} is no whole number")
         elif not self.low <= operator.index(value) <= self.high:
-            yield Fault(14, path, f"{value} is not in {self.low} to {self.high}")
+            yield Fault(14, path, f"{value} is not in {between(self.low, self.high)}")
 
     def taken(self, value: Any) -> int:
         return operator.index(value)
@@ -85,7 +90,7 @@ class Text(Kind):
         if not isinstance(value, str):
             yield Fault(11, path, f"{value!r} is no text")
         elif not self.least <= len(value.encode("utf-8", "surrogatepass")) <= self.most:
-            yield Fault(15, path, f"the text has not {self.least} to {self.most} bytes")
+            yield Fault(15, path, f"the text has not {between(self.least, self.most)} bytes")
 
 
 @dataclasses.dataclass(frozen=True)
@@ -122,7 +127,7 @@ class Row(Kind):
             yield Fault(11, path, "the value is no list")
             return
         if not self.least <= len(value) <= self.most:
-            yield Fault(15, path, f"the list has {len(value)} entries, and not {self.least} to {self.most}")
+            yield Fault(15, path, f"there are {len(value)} entries, and not {between(self.least, self.most)}")
         for place, entry in enumerate(value):
             yield from self.kind.faults(entry, f"{path}/{place}")
 
@@ -147,7 +152,7 @@ class Square(Kind):
             return
         size = len(value)
         if not 1 <= size <= self.most:
-            yield Fault(15, path, f"the matrix has {size} rows, and not 1 to {self.most}")
+            yield Fault(15, path, f"there are {size} rows, and not {between(1, self.most)}")
         row_kind = Row(Whole(self.low, self.high), size, size)
         for place, row in enumerate(value):
             if not (is_list(row) and len(row) == size and self.is_plain(row)):
@@ -260,10 +265,10 @@ class Record:
         for name, kind in kinds_of(type(self)).items():
             value = getattr(self, name)
             for fault in kind.faults(value, "/" + key_of(name)):
-                raise Refused(fault, f"{type(self).__name__}: ")
+                raise Refused(fault, type(self).__name__)
             object.__setattr__(self, name, kind.taken(value))
         for fault in self.own_faults():
-            raise Refused(fault, f"{type(self).__name__}: ")
+            raise Refused(fault, type(self).__name__)
 
     def own_faults(self) -> Iterator[Fault]:
         """What is wrong between fields that are right by themselves."""
@@ -293,7 +298,7 @@ class Record:
     def of(cls: Type[R], tree: Any) -> R:
         """The record of a JSON object. Raises `Refused` with the first fault."""
         for fault in cls.faults_of(tree):
-            raise Refused(fault, f"{cls.__name__}: ")
+            raise Refused(fault, cls.__name__)
         return cls.made_of(tree)
 
     @classmethod
