@@ -258,3 +258,14 @@ def tight(line: Line) -> Optional[Plan]:
     reach = reach_of(line)
     start = max(piece[1] for level in levels for piece in reach.both(0, level))
     return earliest(replace(line, allowed=[[(start, start)], *line.allowed[1:]]))
+
+
+def ranges(line: Line, plan: Plan) -> List[Interval]:
+    """For each stop the least and the greatest cumul of the schedules that start and end when this one does."""
+    ends = [[(cumul, cumul)] for cumul in (plan.cumuls[0], plan.cumuls[-1])]
+    reach = reach_of(replace(line, allowed=[ends[0], *line.allowed[1:-1], ends[1]]))
+    found = []
+    for stop in range(len(plan.cumuls)):
+        pieces = [piece for level in range(len(line.breaks) + 1) for piece in reach.both(stop, level)]
+        found.append((min(low for low, _ in pieces), max(high for _, high in pieces)))
+    return found

@@ -1,0 +1,180 @@
+"""An answer where the construction finds none.
+
+All constructions may end without a first solution on models that have solutions. `rescue` tries the one that the model
+asks for, then the others, then the model with every required visit made optional at a penalty above what any day
+costs. It tells which way it went, and an answer that leaves out a required visit is never passed off as one of the
+model.
+"""
+
+from __future__ import annotations
+
+from dataclasses import dataclass, replace
+from enum import Enum
+from typing import Callable, List, Optional, Sequence, Tuple
+
+from .errors import NoFirstSolution, Refused
+from .model import meets, solve
+from .program import ProgramLike, program_of
+from .records import GREATEST_ENTRY, First, Group, Improve, Model, StopRow
+from .rounds import FIRST_TRIES, Progress, Round, Solved, solve_for, with_search
+from .solution import Solution, Stop
+
+__all__ = [
+    "FIRST_TRIES", "RESCUE_TRIES", "Progress", "Rescue", "Round", "Solved", "Solver", "Way", "constructions",
+    "missing", "relax", "rescue", "solve_for", "with_search",
+]
+
+RESCUE_TRIES = 1000000
+"""The least tries of a search that is to bring in visits that were left out."""
+
+
+class Way(Enum):
+    """How an answer was found."""
+
+    AS_ASKED = "the construction that the model asks for"
+    OTHER_CONSTRUCTION = "another construction"
+    PENALTIES = "penalties for required visits"
+
+
+@dataclass(frozen=True)
+class Rescue:
+    """What was found, and how.
+
+    `solution` is one of the model, or None where the required visits `left_out` stay out. `solved` is what the program
+    found, with the model that it was asked: by penalties, that is the relaxed one, in which leaving out costs
+    `penalty` a visit.
+    """
+
+    way: Way
+    solved: Solved
+    solution: Optional[Solution]
+    left_out: Tuple[int, ...] = ()
+    penalty: int = 0
+
+    @property
+    def construction(self) -> First:
+        """The construction that led there."""
+        return self.solved.model.search.first
+
+    @property
+    def sentence(self) -> str:
+        """Which way it went, and who is left out."""
+        said = f"by {self.way.value} ({self.construction.value})"
+        if not self.left_out:
+            return said
+        nodes = ", ".join(map(str, self.left_out))
+        return f"no solution was found; {said}, these required visits stay out: {nodes}"
+
+
+Solver = Callable[[Model], Solved]
+"""How a model is solved; raises `NoFirstSolution` where the construction finds nothing."""
+
+
+def rescue(
+    model: Model, program: ProgramLike = None, *, checked: bool = True, seconds: Optional[float] = None,
+    solver: Optional[Solver] = None,
+) -> Rescue:
+    """An answer of the model, by other constructions or by penalties where its own finds none.
+
+    `seconds` is the most that each run may take. `solver` solves a model in place of the program's `solve`, for
+    instance by `solve_for`. Raises what `solve` raises; `NoFirstSolution` only where penalties do not help either.
+    """
+    found = program_of(program)
+    solver = solver or (lambda asked: Solved(asked, solve(asked, found, checked=checked, seconds=seconds)))
+    for construction in constructions(model):
+        solved = tried(solver, with_search(model, first=construction))
+        if solved is not None:
+            way = Way.AS_ASKED if construction is model.search.first else Way.OTHER_CONSTRUCTION
+            return Rescue(way, solved, solved.solution)
+    best = by_penalties(model, solver)
+    if not best.left_out:
+        own = as_own(best.solved.solution)
+        best = replace(best, solution=meets(model, own, found) if checked else own)
+    return best
+
+
+def constructions(model: Model) -> Sequence[First]:
+    """The constructions, the model's own first."""
+    asked = model.search.first
+    return [asked, *(word for word in First if word is not asked)]
+
+
+def tried(solver: Solver, model: Model) -> Optional[Solved]:
+    """What a model gives, None where its construction finds none or cannot be asked for with such vehicles."""
+    try:
+        return solver(model)
+    except NoFirstSolution:
+        return None
+    except Refused as refused:
+        if refused.code != 23:
+            raise
+        return None
+
+
+def greatest_cost(model: Model) -> int:
+    """A bound of what any day of the model costs: every stop at its dearest arc, and all spans over all cumuls."""
+    vehicles = range(len(model.vehicles))
+    dearest = max(entry for matrix in model.matrices for row in matrix for entry in row)
+    cost = (model.nodes + len(vehicles)) * max(0, dearest) + sum(vehicle.fixed for vehicle in model.vehicles)
+    cost += sum(group.max * (group.penalty or 0) for group in model.groups)
+    for dimension in model.dimensions:
+        most = max(map(dimension.capacity_of, vehicles))
+        cost += most * (dimension.global_span_cost + sum(map(dimension.span_cost_of, vehicles)))
+        rows: List[StopRow] = [*dimension.nodes, *dimension.starts, *dimension.ends]
+        cost += most * sum(row.soft.coefficient for row in rows if row.soft is not None)
+    return cost
+
+
+def required_visits(model: Model) -> List[int]:
+    """The visits that stand in no group."""
+    grouped = {node for group in model.groups for node in group.nodes}
+    return [node for node in model.visits() if node not in grouped]
+
+
+def relax(model: Model) -> Tuple[Model, int]:
+    """The model with a penalty in place of each duty, and that penalty: above what any day costs, as far as the file
+    can say it (2^40)."""
+    penalty = min(greatest_cost(model) + 1, GREATEST_ENTRY)
+    groups = [replace(group, penalty=penalty) if group.penalty is None else group for group in model.groups]
+    groups += [Group([node], penalty) for node in required_visits(model)]
+    return replace(model, groups=groups), penalty
+
+
+def missing(model: Model, solution: Solution) -> List[int]:
+    """The required visits that a solution of the relaxed model leaves out; of a group that makes fewer than it must,
+    those that it leaves out."""
+    dropped = set(solution.dropped)
+    left = dropped.intersection(required_visits(model))
+    for group in model.groups:
+        outside = dropped.intersection(group.nodes)
+        if group.penalty is None and len(group.nodes) - len(outside) < group.max:
+            left |= outside
+    return sorted(left)
+
+
+def by_penalties(model: Model, solver: Solver) -> Rescue:
+    """The best answer of the relaxed model: the first that leaves nobody out, else that with fewest, then the cheapest.
+
+    Raises `NoFirstSolution` where no construction finds one.
+    """
+    relaxed, penalty = relax(model)
+    relaxed = with_search(
+        relaxed, improve=Improve.GUIDED_LOCAL_SEARCH, tries=max(model.search.tries, RESCUE_TRIES)
+    )
+    found: List[Rescue] = []
+    for construction in constructions(model):
+        solved = tried(solver, with_search(relaxed, first=construction))
+        if solved is not None:
+            left = tuple(missing(model, solved.solution))
+            found.append(Rescue(Way.PENALTIES, solved, None, left, penalty))
+            if not left:
+                return found[-1]
+    if not found:
+        raise NoFirstSolution("no construction finds a first solution, even where every visit may be left out")
+    return min(found, key=lambda entry: (len(entry.left_out), entry.solved.solution.cost))
+
+
+def as_own(solution: Solution) -> Solution:
+    """A solution of the relaxed model that leaves no required visit out, as a plan of the model itself, which no search
+    of it has found: it costs the same."""
+    return replace(solution, first_cost=solution.cost, solutions=1, stop=Stop.FIRST, tries=0)

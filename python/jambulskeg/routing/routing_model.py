@@ -1,0 +1,432 @@
+"""`RoutingModel`: a script says its model here call by call, and has it solved by the program."""
+
+from __future__ import annotations
+
+import time
+from typing import Any, Callable, Dict, List, Optional, Sequence, Tuple
+
+from ..complete import CannotBeDriven, complete
+from ..errors import Fault, NoFirstSolution, NotMet, Refused
+from ..model import meets, solve
+from ..program import ProgramLike, program_of
+from ..records import Allowed, Group, Model, Pair, Policy, Vehicle
+from ..rescue import Rescue, Solver as ModelSolver, rescue
+from ..rounds import Round, Solved, solve_for, to_terminal
+from .assignment import Assignment, as_assignment
+from .dimension import MatrixPool, RoutingDimension
+from .manager import RoutingIndexManager
+from .parameters import DefaultRoutingSearchParameters, RoutingSearchParameters
+from .refused import Named, refuse
+from .routing_enums_pb2 import RoutingSearchStatus
+from .solver import Solver
+from .transits import Transits, as_whole, checked_table, checked_values, table_of, values_of
+from .variables import CumulVar, IntVar, VarKind, VehicleVar, VisitRules
+
+NO_PENALTY = -1
+
+
+class RoutingModel(Named):
+    """A model of routes, with OR-Tools' calls. Indices are those of the manager.
+
+    What the program cannot do is refused by name (`jambulskeg.errors.Unsupported`), what it refuses raises `Refused`.
+    `program` is the program or its path, None to have it found; `checked` says whether each answer is put to the
+    proved check; `rescued` tells after a search which way it went.
+    """
+
+    PICKUP_AND_DELIVERY_NO_ORDER = 0
+    PICKUP_AND_DELIVERY_LIFO = 1
+    PICKUP_AND_DELIVERY_FIFO = 2
+    PENALIZE_ONCE = 0
+    PENALIZE_PER_INACTIVE = 1
+    ROUTING_NOT_SOLVED = RoutingSearchStatus.ROUTING_NOT_SOLVED
+    ROUTING_SUCCESS = RoutingSearchStatus.ROUTING_SUCCESS
+    ROUTING_FAIL = RoutingSearchStatus.ROUTING_FAIL
+    POLICIES = (Policy.ANY, Policy.LIFO, Policy.FIFO)
+
+    def __init__(self, index_manager: RoutingIndexManager, parameters: Any = None) -> None:
+        if parameters is not None:
+            raise refuse("RoutingModel(manager, parameters)", "a model has no parameters")
+        self.program: ProgramLike = None
+        self.checked = True
+        self.rescued: Optional[Rescue] = None
+        self._manager, vehicles = index_manager, index_manager.GetNumberOfVehicles()
+        self._transits, self._solver = Transits(index_manager), Solver()
+        self._costs: List[Optional[int]] = [None] * vehicles
+        self._fixed = [0] * vehicles
+        self._policies = [Policy.ANY] * vehicles
+        self._dimensions: Dict[str, RoutingDimension] = {}
+        self._groups: List[Tuple[List[int], int, int]] = []
+        self._pairs: List[Tuple[int, int]] = []
+        self._visits: Dict[int, VisitRules] = {}
+        self._status = RoutingSearchStatus.ROUTING_NOT_SOLVED
+
+    # The shape of the model
+
+    def Start(self, vehicle: int) -> int:
+        """The index of the start of a vehicle."""
+        return self._manager.GetStartIndex(vehicle)
+
+    def End(self, vehicle: int) -> int:
+        """The index of the end of a vehicle."""
+        return self._manager.GetEndIndex(vehicle)
+
+    def IsStart(self, index: int) -> bool:
+        """Whether an index is the start of a vehicle."""
+        return index < self.Size() and not self._manager.is_visit(index)
+
+    def IsEnd(self, index: int) -> bool:
+        """Whether an index is the end of a vehicle."""
+        return index >= self.Size()
+
+    def Size(self) -> int:
+        """How many indices have a next one: visits and starts."""
+        return len(self._manager.tails())
+
+    def nodes(self) -> int:
+        """How many nodes there are."""
+        return self._manager.GetNumberOfNodes()
+
+    def vehicles(self) -> int:
+        """How many vehicles there are."""
+        return self._manager.GetNumberOfVehicles()
+
+    def solver(self) -> Solver:
+        """What takes constraints and makes breaks."""
+        return self._solver
+
+    # Callbacks and costs
+
+    def RegisterTransitCallback(self, callback: Callable[[int, int], int]) -> int:
+        """A callback of two indices; its number. It is asked once for each pair that an arc can join, when a model is
+        built. Its value must be whole and depend on the two nodes alone."""
+        return self._transits.add(lambda: table_of(self._manager, callback), False)
+
+    def RegisterUnaryTransitCallback(self, callback: Callable[[int], int]) -> int:
+        """A callback of the index that is left; its number."""
+        return self._transits.add(lambda: values_of(self._manager, callback), True)
+
+    def RegisterTransitMatrix(self, matrix: Sequence[Sequence[int]]) -> int:
+        """A matrix by nodes; its number."""
+        table = checked_table(self._manager, matrix)
+        return self._transits.add(lambda: table, False)
+
+    def RegisterUnaryTransitVector(self, values: Sequence[int]) -> int:
+        """Values by node; their number."""
+        found = checked_values(self._manager, values)
+        return self._transits.add(lambda: found, True)
+
+    def SetArcCostEvaluatorOfAllVehicles(self, evaluator: int) -> None:
+        """What arcs cost, by the number of a callback; without one they cost nothing."""
+        number = self._transits.known(evaluator, "RoutingModel.SetArcCostEvaluatorOfAllVehicles")
+        self._costs = [number] * len(self._costs)
+
+    def SetArcCostEvaluatorOfVehicle(self, evaluator: int, vehicle: int) -> None:
+        """The same for one vehicle."""
+        self._costs[vehicle] = self._transits.known(evaluator, "RoutingModel.SetArcCostEvaluatorOfVehicle")
+
+    def SetFixedCostOfAllVehicles(self, cost: int) -> None:
+        """What it costs to use a vehicle at all, 0 to 2^40."""
+        self._fixed = [cost] * len(self._fixed)
+
+    def SetFixedCostOfVehicle(self, cost: int, vehicle: int) -> None:
+        """The same for one vehicle."""
+        self._fixed[vehicle] = cost
+
+    def GetFixedCostOfVehicle(self, vehicle: int) -> int:
+        """The fixed cost of a vehicle."""
+        return self._fixed[vehicle]
+
+    def GetArcCostForVehicle(self, from_index: int, to_index: int, vehicle: int) -> int:
+        """What the arc between two indices costs: by the callback, with the fixed cost on the arc from the start, and
+        the span cost of its transits. 0 from a start to an end, and from an index to itself."""
+        if from_index == to_index or (self.IsStart(from_index) and self.IsEnd(to_index)):
+            return 0
+        number = self._costs[vehicle]
+        cost = 0 if number is None else self._between(number, from_index, to_index)
+        for dimension in self._dimensions.values():
+            if dimension.span_cost(vehicle):
+                way = self._between(dimension.evaluators[vehicle], from_index, to_index)
+                cost += dimension.span_cost(vehicle) * way
+        return cost + (self._fixed[vehicle] if self.IsStart(from_index) else 0)
+
+    def _between(self, number: int, from_index: int, to_index: int) -> int:
+        """The value of a callback between two indices."""
+        tail, head = self._manager.IndexToNode(from_index), self._manager.IndexToNode(to_index)
+        values = self._transits.values(number)
+        return self._transits.matrix(number)[tail][head] if values is None else values[tail]
+
+    # Dimensions
+
+    def AddDimension(
+        self, evaluator: int, slack_max: int, capacity: int, fix_start_cumul_to_zero: bool, name: str
+    ) -> bool:
+        """A dimension of one callback and one capacity; False where there is one of this name already."""
+        return self._add("AddDimension", [evaluator], slack_max, [capacity], fix_start_cumul_to_zero, name)
+
+    def AddDimensionWithVehicleCapacity(
+        self, evaluator: int, slack_max: int, vehicle_capacities: Sequence[int], fix_start_cumul_to_zero: bool,
+        name: str,
+    ) -> bool:
+        """A dimension with a capacity for each vehicle."""
+        return self._add(
+            "AddDimensionWithVehicleCapacity", [evaluator], slack_max, vehicle_capacities, fix_start_cumul_to_zero, name
+        )
+
+    def AddDimensionWithVehicleTransits(
+        self, evaluators: Sequence[int], slack_max: int, capacity: int, fix_start_cumul_to_zero: bool, name: str
+    ) -> bool:
+        """A dimension with a callback for each vehicle, at most 8 different ones."""
+        return self._add(
+            "AddDimensionWithVehicleTransits", evaluators, slack_max, [capacity], fix_start_cumul_to_zero, name
+        )
+
+    def AddDimensionWithVehicleTransitAndCapacity(
+        self, evaluators: Sequence[int], slack_max: int, vehicle_capacities: Sequence[int],
+        fix_start_cumul_to_zero: bool, name: str,
+    ) -> bool:
+        """A dimension with a callback and a capacity for each vehicle."""
+        return self._add(
+            "AddDimensionWithVehicleTransitAndCapacity", evaluators, slack_max, vehicle_capacities,
+            fix_start_cumul_to_zero, name,
+        )
+
+    def _add(
+        self, call: str, evaluators: Sequence[int], slack_max: int, capacities: Sequence[int], fix_start: bool,
+        name: str,
+    ) -> bool:
+        """Adds a dimension; lists of one value stand for all vehicles."""
+        title, vehicles = f"RoutingModel.{call}", self.vehicles()
+        if name in self._dimensions:
+            return False
+        each = [list(values) * vehicles if len(values) == 1 else list(values) for values in (evaluators, capacities)]
+        if any(len(values) != vehicles for values in each):
+            raise refuse(title, f"it takes a value for each of {vehicles} vehicles")
+        numbers = [self._transits.known(number, title) for number in each[0]]
+        limits = [as_whole(value, title) for value in (slack_max, *each[1])]
+        if min(limits) < 0:
+            raise refuse(title, "slack_max and capacities are 0 or more")
+        self._dimensions[name] = RoutingDimension(self._manager, numbers, limits[0], limits[1:], bool(fix_start), name)
+        return True
+
+    def GetDimensionOrDie(self, name: str) -> RoutingDimension:
+        """The dimension of a name. Raises `KeyError` where there is none."""
+        return self._dimensions[name]
+
+    def GetMutableDimension(self, name: str) -> RoutingDimension:
+        """The same."""
+        return self._dimensions[name]
+
+    def HasDimension(self, name: str) -> bool:
+        """Whether there is a dimension of a name."""
+        return name in self._dimensions
+
+    # Groups, pairs, vehicles of visits
+
+    def AddDisjunction(
+        self, indices: Sequence[int], penalty: int = NO_PENALTY, max_cardinality: int = 1,
+        penalty_cost_behavior: Optional[int] = None,
+    ) -> int:
+        """Visits of which at most `max_cardinality` are made, each fewer at the penalty; without one (or below 0)
+        exactly as many. The number of the disjunction."""
+        title = "RoutingModel.AddDisjunction"
+        if penalty_cost_behavior == self.PENALIZE_ONCE and max_cardinality > 1 and penalty > 0:
+            raise refuse(f"{title} (PENALIZE_ONCE)", "a penalty is paid for each visit fewer")
+        nodes = [self._visit(index, title) for index in indices]
+        self._groups.append((nodes, as_whole(penalty, title), as_whole(max_cardinality, title)))
+        return len(self._groups) - 1
+
+    def AddPickupAndDelivery(self, pickup: int, delivery: int) -> None:
+        """A pickup and its delivery: by one vehicle, the pickup first, or neither."""
+        title = "RoutingModel.AddPickupAndDelivery"
+        self._pairs.append((self._visit(pickup, title), self._visit(delivery, title)))
+
+    def SetPickupAndDeliveryPolicyOfAllVehicles(self, policy: int) -> None:
+        """The order of deliveries on each vehicle."""
+        for vehicle in range(self.vehicles()):
+            self.SetPickupAndDeliveryPolicyOfVehicle(policy, vehicle)
+
+    def SetPickupAndDeliveryPolicyOfVehicle(self, policy: int, vehicle: int) -> None:
+        """The order of deliveries on one vehicle: any, last in first out, or first in first out."""
+        if policy not in range(len(self.POLICIES)):
+            raise refuse(f"pickup and delivery policy {policy!r}", "there are NO_ORDER, LIFO and FIFO")
+        self._policies[vehicle] = self.POLICIES[policy]
+
+    def SetAllowedVehiclesForIndex(self, vehicles: Sequence[int], index: int) -> None:
+        """The vehicles that may make a visit, where it is made; an empty list allows all."""
+        self._visit(index, "RoutingModel.SetAllowedVehiclesForIndex")
+        if len(vehicles):
+            self._rules(index).keep(vehicles, f"the vehicles of index {index}")
+
+    def _visit(self, index: int, title: str) -> int:
+        """The node of an index that is a visit."""
+        if not self._manager.is_visit(index):
+            raise Refused(Fault(18, "", f"index {index} is a start, an end, or none"), title)
+        return self._manager.IndexToNode(index)
+
+    def _rules(self, index: int) -> VisitRules:
+        return self._visits.setdefault(self._manager.IndexToNode(index), VisitRules(self.vehicles()))
+
+    # Variables
+
+    def NextVar(self, index: int) -> IntVar:
+        """Where a solution goes from an index; the index itself where it is left out."""
+        return IntVar(VarKind.NEXT, self._known(index))
+
+    def VehicleVar(self, index: int) -> VehicleVar:
+        """The vehicle of an index, which says which vehicles may make a visit."""
+        return VehicleVar(self._known(index), self._rules(index) if self._manager.is_visit(index) else None)
+
+    def ActiveVar(self, index: int) -> IntVar:
+        """1 where a visit is made, else 0."""
+        return IntVar(VarKind.ACTIVE, self._known(index))
+
+    def _known(self, index: int) -> int:
+        self._manager.IndexToNode(index)
+        return index
+
+    def AddVariableMinimizedByFinalizer(self, variable: IntVar) -> None:
+        """Takes a cumul, since the schedule has the least cumuls from the start on."""
+        if not isinstance(variable, CumulVar):
+            raise refuse("RoutingModel.AddVariableMinimizedByFinalizer", "it is had for cumuls alone")
+
+    def AddToAssignment(self, variable: IntVar) -> None:
+        """Takes a variable of the model, since an assignment has them all."""
+        if not isinstance(variable, IntVar):
+            raise refuse("RoutingModel.AddToAssignment", "it is had for variables of the model alone")
+
+    # The model and its answers
+
+    def CloseModel(self) -> None:
+        """Builds the model, so that what cannot be had is told."""
+        self.to_model(DefaultRoutingSearchParameters())
+
+    def CloseModelWithParameters(self, parameters: RoutingSearchParameters) -> None:
+        """The same with the parameters of a search."""
+        self.to_model(parameters)
+
+    def to_model(self, parameters: Optional[RoutingSearchParameters] = None) -> Model:
+        """The model that was said, for `jambulskeg.model`. Raises `Unsupported` at a constraint that it cannot say."""
+        self._pairs_say()
+        pool = MatrixPool()
+        size = range(self._manager.GetNumberOfNodes())
+        zero = tuple((0,) * len(size) for _ in size)
+        costs = [pool.number(zero if cost is None else self._transits.matrix(cost)) for cost in self._costs]
+        ends = zip(self._manager.starts(), self._manager.ends(), costs, self._fixed, self._policies)
+        return Model(
+            nodes=len(size),
+            vehicles=[Vehicle(*entry) for entry in ends],
+            dimensions=[dimension.to_record(self._transits, pool) for dimension in self._dimensions.values()],
+            matrices=pool.matrices,
+            groups=[
+                Group(nodes, None if penalty < 0 else penalty, most) for nodes, penalty, most in self._groups
+            ],
+            pairs=[Pair(*pair) for pair in self._pairs],
+            allowed=[
+                Allowed(node, sorted(rules.vehicles)) for node, rules in sorted(self._visits.items())
+                if len(rules.vehicles) < self.vehicles()
+            ],
+            search=(parameters or DefaultRoutingSearchParameters()).search(),
+        )
+
+    def _pairs_say(self) -> None:
+        """Raises `Unsupported` at a constraint that no pair says, and at a visit that must be made and may be left."""
+        node = self._manager.IndexToNode
+        for relation, (one, other) in self._solver.same:
+            if not {(node(one), node(other)), (node(other), node(one))}.intersection(self._pairs):
+                raise refuse(f"Solver.Add({relation.told()})", "it is had for a pickup and its delivery alone")
+        for relation, (name, one, other) in self._solver.ordered:
+            numbers = self._dimensions[name].evaluators
+            if (node(one), node(other)) not in self._pairs or min(map(self._transits.least, numbers)) < 0:
+                raise refuse(
+                    f"Solver.Add({relation.told()})",
+                    "it is had for a pickup and its delivery alone, in a dimension without negative transits",
+                )
+        optional = {
+            at for nodes, penalty, most in self._groups if penalty >= 0 or most < len(nodes) for at in nodes
+        }
+        for at in sorted(optional):
+            if at in self._visits and self._visits[at].must_be_made:
+                raise refuse(f"VehicleVar without -1 for node {at}", "the visit stands in a group that may leave it out")
+
+    def status(self) -> int:
+        """What the last search came to: `ROUTING_NOT_SOLVED`, `ROUTING_SUCCESS`, or `ROUTING_FAIL`."""
+        return self._status
+
+    def Solve(self, assignment: Optional[Assignment] = None) -> Optional[Assignment]:
+        """The answer with default parameters, beginning from an assignment where there is one."""
+        parameters = DefaultRoutingSearchParameters()
+        if assignment is None:
+            return self.SolveWithParameters(parameters)
+        return self.SolveFromAssignmentWithParameters(assignment, parameters)
+
+    def SolveWithParameters(self, parameters: RoutingSearchParameters) -> Optional[Assignment]:
+        """The answer, or None where no solution was found; `rescued` tells which way it went.
+
+        Where the construction finds none, the others are tried, and then penalties for required visits. An answer that
+        leaves out a required visit is not handed out. Raises `Refused` where the program refuses the model.
+        """
+        model = self.to_model(parameters)
+        try:
+            self.rescued = rescue(model, self.program, checked=self.checked, solver=self._solver_for(parameters))
+        except NoFirstSolution:
+            self.rescued = None
+        solution = self.rescued.solution if self.rescued else None
+        if solution is None or self.rescued is None:
+            self._status = RoutingSearchStatus.ROUTING_FAIL
+            return None
+        self._status = RoutingSearchStatus.ROUTING_SUCCESS
+        return Assignment(self._manager, model, solution, self._breaks())
+
+    def _solver_for(self, parameters: RoutingSearchParameters) -> ModelSolver:
+        """How models are solved: once, or in rounds until the time limit of the whole search."""
+        found, limit, began = program_of(self.program), parameters.time_limit.total(), time.monotonic()
+        progress: Optional[Callable[[Round], None]] = to_terminal if parameters.log_search else None
+        if limit is None:
+            return lambda model: Solved(model, solve(model, found, checked=self.checked))
+        return lambda model: solve_for(
+            model, limit - (time.monotonic() - began), found, checked=self.checked, progress=progress
+        )
+
+    def SolveFromAssignmentWithParameters(
+        self, assignment: Assignment, parameters: RoutingSearchParameters
+    ) -> Optional[Assignment]:
+        """The cheaper of the assignment and of what a search finds, which begins with a first solution of its own."""
+        known = as_assignment(assignment, "RoutingModel.SolveFromAssignmentWithParameters")
+        found = self.SolveWithParameters(parameters)
+        if found is not None and found.ObjectiveValue() <= known.ObjectiveValue():
+            return found
+        again = self._completed(known.solution.lists(), found.model if found else self.to_model(parameters))
+        if again is None or (found is not None and found.ObjectiveValue() <= again.ObjectiveValue()):
+            return found
+        self._status = RoutingSearchStatus.ROUTING_SUCCESS
+        return again
+
+    def ReadAssignmentFromRoutes(
+        self, routes: Sequence[Sequence[int]], ignore_inactive_indices: bool
+    ) -> Optional[Assignment]:
+        """The assignment of routes, which are lists of indices without starts and ends; None where they cannot be
+        driven or break a rule. No index of a visit is inactive, so the last argument changes nothing."""
+        lists = [[self._visit(index, "RoutingModel.ReadAssignmentFromRoutes") for index in route] for route in routes]
+        lists += [[] for _ in range(self.vehicles() - len(lists))]
+        return self._completed(lists, self.to_model())
+
+    def _completed(self, lists: Sequence[Sequence[int]], model: Model) -> Optional[Assignment]:
+        """The assignment of lists of visits; None where they cannot be driven or break a rule."""
+        try:
+            solution = complete(model, lists, self.program, checked=False)
+            meets(model, solution, self.program)
+        except (CannotBeDriven, NotMet):
+            return None
+        return Assignment(self._manager, model, solution, self._breaks())
+
+    def _breaks(self) -> List[Tuple[int, int, Any]]:
+        """Each break with the number of its dimension and its vehicle."""
+        return [
+            (number, vehicle, entry)
+            for number, dimension in enumerate(self._dimensions.values())
+            for vehicle, entries in sorted(dimension.breaks.items()) for entry in entries
+        ]
+
+    def IsVehicleUsed(self, assignment: Assignment, vehicle: int) -> bool:
+        """Whether a vehicle leaves."""
+        return not self.IsEnd(assignment.Value(self.NextVar(self.Start(vehicle))))

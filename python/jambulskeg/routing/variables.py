@@ -1,0 +1,213 @@
+"""The variables of OR-Tools, as far as a model says something of them or a solution has their value."""
+
+from __future__ import annotations
+
+from enum import Enum
+from typing import Any, Iterable, List, Optional, Set, Tuple
+
+from ..errors import Fault, Refused
+from ..intervals import Interval
+from ..records import HORIZON, Soft
+from .refused import Named, refuse
+from .transits import as_whole
+
+
+class VarKind(Enum):
+    """What a variable is."""
+
+    NEXT = "NextVar"
+    VEHICLE = "VehicleVar"
+    ACTIVE = "ActiveVar"
+    CUMUL = "CumulVar"
+    SLACK = "SlackVar"
+
+
+class Relation:
+    """A relation between a variable and another one or a number, for `Solver.Add`."""
+
+    def __init__(self, left: "IntVar", sign: str, right: Any) -> None:
+        self.left, self.sign, self.right = left, sign, right
+
+    def told(self) -> str:
+        """The relation in words."""
+        right = self.right.told() if isinstance(self.right, IntVar) else repr(self.right)
+        return f"{self.left.told()} {self.sign} {right}"
+
+
+class IntVar(Named):
+    """A variable of an index: its kind, and for cumuls and slacks the name of the dimension."""
+
+    TITLE = "IntVar"
+
+    def __init__(self, kind: VarKind, index: int, dimension: str = "") -> None:
+        self.kind, self.index, self.dimension = kind, index, dimension
+
+    def told(self) -> str:
+        """The variable in words."""
+        return f"{self.kind.value}({self.index})"
+
+    def Name(self) -> str:
+        """The variable in words."""
+        return self.told()
+
+    def __hash__(self) -> int:
+        return hash((self.kind, self.index, self.dimension))
+
+    def __eq__(self, other: object) -> Any:
+        return Relation(self, "==", other)
+
+    def __ne__(self, other: object) -> Any:
+        return Relation(self, "!=", other)
+
+    def __le__(self, other: object) -> Relation:
+        return Relation(self, "<=", other)
+
+    def __ge__(self, other: object) -> Relation:
+        return Relation(self, ">=", other)
+
+    def __lt__(self, other: object) -> Relation:
+        return Relation(self, "<", other)
+
+    def __gt__(self, other: object) -> Relation:
+        return Relation(self, ">", other)
+
+    def __add__(self, other: object) -> Relation:
+        raise refuse(f"{self.told()} + ..", "a model has no sums of variables")
+
+    def __radd__(self, other: object) -> Relation:
+        raise refuse(f".. + {self.told()}", "a model has no sums of variables")
+
+    def __sub__(self, other: object) -> Relation:
+        raise refuse(f"{self.told()} - ..", "a model has no differences of variables")
+
+    def __rsub__(self, other: object) -> Relation:
+        raise refuse(f".. - {self.told()}", "a model has no differences of variables")
+
+    def __mul__(self, other: object) -> Relation:
+        raise refuse(f"{self.told()} * ..", "a model has no products of variables")
+
+    def __rmul__(self, other: object) -> Relation:
+        raise refuse(f".. * {self.told()}", "a model has no products of variables")
+
+
+class StopRules:
+    """What a model asks of the cumul of a stop: the window, the forbidden intervals, the soft upper bound."""
+
+    def __init__(self) -> None:
+        self.low, self.high = 0, HORIZON
+        self.forbidden: List[Interval] = []
+        self.soft: Optional[Soft] = None
+
+    def window(self) -> Optional[Tuple[int, int]]:
+        """The window, None where every cumul lies in it."""
+        return None if (self.low, self.high) == (0, HORIZON) else (self.low, self.high)
+
+    def narrow(self, low: int, high: int, name: str) -> None:
+        """Takes the numbers outside the interval out. Raises `Refused` where none is left."""
+        low, high = max(self.low, low), min(self.high, high)
+        if low > high:
+            raise Refused(Fault(19, "", f"no cumul from {low} to {high} is left"), name)
+        self.low, self.high = low, high
+
+    def is_asked(self) -> bool:
+        """Whether anything is asked."""
+        return self.window() is not None or bool(self.forbidden) or self.soft is not None
+
+
+class CumulVar(IntVar):
+    """The cumul of an index in a dimension."""
+
+    def __init__(self, index: int, dimension: str, rules: StopRules) -> None:
+        super().__init__(VarKind.CUMUL, index, dimension)
+        self._rules = rules
+
+    def SetRange(self, low: int, high: int) -> None:
+        """The cumul lies in `low` to `high`. Raises `Refused` where no number is left."""
+        self._rules.narrow(as_whole(low, "CumulVar.SetRange"), as_whole(high, "CumulVar.SetRange"), self.told())
+
+    def SetMin(self, low: int) -> None:
+        """The cumul is at least `low`."""
+        self._rules.narrow(as_whole(low, "CumulVar.SetMin"), HORIZON, self.told())
+
+    def SetMax(self, high: int) -> None:
+        """The cumul is at most `high`."""
+        self._rules.narrow(0, as_whole(high, "CumulVar.SetMax"), self.told())
+
+    def SetValue(self, value: int) -> None:
+        """The cumul is `value`."""
+        self.SetRange(value, value)
+
+    def RemoveInterval(self, low: int, high: int) -> None:
+        """The cumul lies not in `low` to `high`, both among them; at most 16 such intervals a stop."""
+        piece = (
+            max(0, as_whole(low, "CumulVar.RemoveInterval")), min(HORIZON, as_whole(high, "CumulVar.RemoveInterval"))
+        )
+        if piece[0] <= piece[1]:
+            self._rules.forbidden.append(piece)
+
+    def RemoveValue(self, value: int) -> None:
+        """The cumul is not `value`."""
+        self.RemoveInterval(value, value)
+
+
+class VisitRules:
+    """Which vehicles may make a visit, and whether it was said that it must be made."""
+
+    def __init__(self, vehicles: int) -> None:
+        self.vehicles: Set[int] = set(range(vehicles))
+        self.must_be_made = False
+
+    def keep(self, vehicles: Iterable[int], name: str) -> None:
+        """Takes the other vehicles out. Raises `Refused` where none is left."""
+        self.vehicles.intersection_update(vehicles)
+        if not self.vehicles:
+            raise Refused(Fault(15, "", "no vehicle is left that may make the visit"), name)
+
+
+class VehicleVar(IntVar):
+    """The vehicle of an index, -1 where it is left out, as far as it says which vehicles may make a visit."""
+
+    def __init__(self, index: int, rules: Optional[VisitRules]) -> None:
+        super().__init__(VarKind.VEHICLE, index)
+        self._of_visit = rules
+
+    @property
+    def _rules(self) -> VisitRules:
+        if self._of_visit is None:
+            raise refuse(self.told(), "starts and ends have the vehicle that they have")
+        return self._of_visit
+
+    def SetValues(self, values: Iterable[int]) -> None:
+        """The vehicle is among these; where -1 is not, the visit must be made."""
+        found = {as_whole(value, "VehicleVar.SetValues") for value in values}
+        self._rules.must_be_made |= -1 not in found
+        self._rules.keep(found, self.told())
+
+    def SetValue(self, value: int) -> None:
+        """The vehicle is this one, and the visit must be made."""
+        self.SetValues([value])
+
+    def SetRange(self, low: int, high: int) -> None:
+        """The vehicle is among `low` to `high`; where that leaves -1 out, the visit must be made."""
+        self.SetValues(range(max(-1, as_whole(low, "VehicleVar.SetRange")), as_whole(high, "VehicleVar.SetRange") + 1))
+
+    def RemoveValue(self, value: int) -> None:
+        """The vehicle is not this one; without -1 the visit must be made."""
+        self.RemoveValues([value])
+
+    def RemoveValues(self, values: Iterable[int]) -> None:
+        """The vehicle is none of these; without -1 the visit must be made."""
+        found = {as_whole(value, "VehicleVar.RemoveValue") for value in values}
+        self._rules.must_be_made |= -1 in found
+        self._rules.keep(self._rules.vehicles - found, self.told())
+
+
+class IntervalVar(Named):
+    """A break as `Solver.FixedDurationIntervalVar` makes it: the range of its start, and how long it lasts."""
+
+    def __init__(self, start_min: int, start_max: int, duration: int, name: str) -> None:
+        self.start_min, self.start_max, self.duration, self.name = start_min, start_max, duration, name
+
+    def Name(self) -> str:
+        """The name of the break."""
+        return self.name
