@@ -3,8 +3,8 @@
 Distances in the city are metres along its streets, each block being 114 by 80 metres; drives are minutes.
 """
 
-BLOCKS = [(4, 4), (2, 0), (8, 0), (0, 1), (1, 1), (5, 2), (7, 2), (3, 3), (6, 3), (5, 5), (8, 5), (1, 6), (2, 6), (3, 7),
-          (6, 7), (0, 8), (7, 8)]
+BLOCKS = [(4, 4), (2, 0), (8, 0), (0, 1), (1, 1), (5, 2), (7, 2), (3, 3), (6, 3), (5, 5), (8, 5), (1, 6), (2, 6),
+          (3, 7), (6, 7), (0, 8), (7, 8)]
 DISTANCES = [[114 * abs(a - c) + 80 * abs(b - d) for c, d in BLOCKS] for a, b in BLOCKS]
 DEMANDS = [0, 1, 1, 2, 4, 2, 4, 8, 8, 1, 2, 1, 2, 4, 4, 8, 8]
 GREATER_DEMANDS = [0, 1, 1, 3, 6, 3, 6, 8, 8, 1, 2, 1, 2, 6, 6, 8, 8]

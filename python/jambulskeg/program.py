@@ -17,8 +17,11 @@ from .errors import (
 NAME = "vr_cli"
 VARIABLE = "VR_CLI"
 REPOSITORY = os.path.dirname(os.path.dirname(os.path.dirname(os.path.abspath(__file__))))
-BESIDE = os.path.join(REPOSITORY, "release", "x86_64-linux", NAME)
-"""Where the built program lies in the repository that this package belongs to."""
+BESIDE = (
+    os.path.join(REPOSITORY, "release", "x86_64-linux", NAME),
+    os.path.join(REPOSITORY, "crates", NAME, "out", NAME),
+)
+"""Where the program lies in the repository that this package belongs to: as it is handed out, and as ./vr builds it."""
 
 PLAIN = {
     1: ProgramFailed("the program does not know the words that it was called with; it is another version"),
@@ -37,7 +40,7 @@ PLAIN = {
 
 
 def find(path: Optional[str] = None) -> str:
-    """The path of the program: `path`, else VR_CLI, else beside this package in its repository, else on the path.
+    """The path of the program: `path`, else that of VR_CLI, else in the repository of this package, else on the path.
 
     Raises `ProgramMissing` with the places that were looked at, also where `path` or VR_CLI names no program.
     """
@@ -48,13 +51,14 @@ def find(path: Optional[str] = None) -> str:
             whose = "the path that was handed in" if path else f"the variable {VARIABLE}"
             raise ProgramMissing(f"{whose} names no program that can be run: {named}")
         return found
-    found = shutil.which(BESIDE) or shutil.which(NAME)
-    if found is None:
-        raise ProgramMissing(
-            f"the program {NAME} is not at {BESIDE} and not on the path; build it by './vr --build' in the "
-            f"repository, or let the variable {VARIABLE} name it"
-        )
-    return found
+    for place in (*BESIDE, NAME):
+        found = shutil.which(place)
+        if found is not None:
+            return found
+    raise ProgramMissing(
+        f"the program {NAME} is neither in the repository of this package, at {' or '.join(BESIDE)}, nor on the path; "
+        f"build it by ./vr in the repository, or let the variable {VARIABLE} name it"
+    )
 
 
 @dataclass(frozen=True)

@@ -37,7 +37,7 @@ WHY: Dict[str, str] = {
     "RoutingModel.AddSoftSameVehicleConstraint": NOT_SAID,
     "RoutingModel.AddTemporalTypeIncompatibility": NOT_SAID,
     "RoutingModel.AddHardTypeIncompatibility": NOT_SAID,
-    "RoutingModel.AddVariableMaximizedByFinalizer": "the schedule is the earliest one; see jambulskeg.complete.leave_later",
+    "RoutingModel.AddVariableMaximizedByFinalizer": "the schedule is the earliest one; see complete.leave_later",
     "RoutingModel.AddWeightedVariableMinimizedByFinalizer": "the schedule is the earliest one, with no weights",
     "RoutingModel.AddWeightedVariableMaximizedByFinalizer": "the schedule is the earliest one, with no weights",
     "RoutingModel.ApplyLocks": "a search begins with a first solution of its own",

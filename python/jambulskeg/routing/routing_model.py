@@ -3,24 +3,25 @@
 from __future__ import annotations
 
 import time
-from typing import Any, Callable, Dict, List, Optional, Sequence, Tuple
+from typing import Any, Callable, Optional, Sequence
 
 from ..complete import CannotBeDriven, complete
 from ..errors import Fault, NoFirstSolution, NotMet, Refused
 from ..model import meets, solve
 from ..program import ProgramLike, program_of
-from ..records import Allowed, Group, Model, Pair, Policy, Vehicle
+from ..records import Model, Policy
 from ..rescue import Rescue, Solver as ModelSolver, rescue
 from ..rounds import Round, Solved, solve_for, to_terminal
 from .assignment import Assignment, as_assignment
-from .dimension import MatrixPool, RoutingDimension
+from .building import Said
+from .dimension import RoutingDimension
 from .manager import RoutingIndexManager
 from .parameters import DefaultRoutingSearchParameters, RoutingSearchParameters
 from .refused import Named, refuse
 from .routing_enums_pb2 import RoutingSearchStatus
 from .solver import Solver
-from .transits import Transits, as_whole, checked_table, checked_values, table_of, values_of
-from .variables import CumulVar, IntVar, VarKind, VehicleVar, VisitRules
+from .transits import as_whole, checked_table, checked_values, table_of, values_of
+from .variables import CumulVar, IntVar, VarKind, VehicleVar
 
 NO_PENALTY = -1
 
@@ -49,15 +50,8 @@ class RoutingModel(Named):
         self.program: ProgramLike = None
         self.checked = True
         self.rescued: Optional[Rescue] = None
-        self._manager, vehicles = index_manager, index_manager.GetNumberOfVehicles()
-        self._transits, self._solver = Transits(index_manager), Solver()
-        self._costs: List[Optional[int]] = [None] * vehicles
-        self._fixed = [0] * vehicles
-        self._policies = [Policy.ANY] * vehicles
-        self._dimensions: Dict[str, RoutingDimension] = {}
-        self._groups: List[Tuple[List[int], int, int]] = []
-        self._pairs: List[Tuple[int, int]] = []
-        self._visits: Dict[int, VisitRules] = {}
+        self._manager = index_manager
+        self._said = Said(index_manager)
         self._status = RoutingSearchStatus.ROUTING_NOT_SOLVED
 
     # The shape of the model
@@ -92,68 +86,68 @@ class RoutingModel(Named):
 
     def solver(self) -> Solver:
         """What takes constraints and makes breaks."""
-        return self._solver
+        return self._said.solver
 
     # Callbacks and costs
 
     def RegisterTransitCallback(self, callback: Callable[[int, int], int]) -> int:
         """A callback of two indices; its number. It is asked once for each pair that an arc can join, when a model is
         built. Its value must be whole and depend on the two nodes alone."""
-        return self._transits.add(lambda: table_of(self._manager, callback), False)
+        return self._said.transits.add(lambda: table_of(self._manager, callback), False)
 
     def RegisterUnaryTransitCallback(self, callback: Callable[[int], int]) -> int:
         """A callback of the index that is left; its number."""
-        return self._transits.add(lambda: values_of(self._manager, callback), True)
+        return self._said.transits.add(lambda: values_of(self._manager, callback), True)
 
     def RegisterTransitMatrix(self, matrix: Sequence[Sequence[int]]) -> int:
         """A matrix by nodes; its number."""
         table = checked_table(self._manager, matrix)
-        return self._transits.add(lambda: table, False)
+        return self._said.transits.add(lambda: table, False)
 
     def RegisterUnaryTransitVector(self, values: Sequence[int]) -> int:
         """Values by node; their number."""
         found = checked_values(self._manager, values)
-        return self._transits.add(lambda: found, True)
+        return self._said.transits.add(lambda: found, True)
 
     def SetArcCostEvaluatorOfAllVehicles(self, evaluator: int) -> None:
         """What arcs cost, by the number of a callback; without one they cost nothing."""
-        number = self._transits.known(evaluator, "RoutingModel.SetArcCostEvaluatorOfAllVehicles")
-        self._costs = [number] * len(self._costs)
+        number = self._said.transits.known(evaluator, "RoutingModel.SetArcCostEvaluatorOfAllVehicles")
+        self._said.costs = [number] * len(self._said.costs)
 
     def SetArcCostEvaluatorOfVehicle(self, evaluator: int, vehicle: int) -> None:
         """The same for one vehicle."""
-        self._costs[vehicle] = self._transits.known(evaluator, "RoutingModel.SetArcCostEvaluatorOfVehicle")
+        self._said.costs[vehicle] = self._said.transits.known(evaluator, "RoutingModel.SetArcCostEvaluatorOfVehicle")
 
     def SetFixedCostOfAllVehicles(self, cost: int) -> None:
         """What it costs to use a vehicle at all, 0 to 2^40."""
-        self._fixed = [cost] * len(self._fixed)
+        self._said.fixed = [cost] * len(self._said.fixed)
 
     def SetFixedCostOfVehicle(self, cost: int, vehicle: int) -> None:
         """The same for one vehicle."""
-        self._fixed[vehicle] = cost
+        self._said.fixed[vehicle] = cost
 
     def GetFixedCostOfVehicle(self, vehicle: int) -> int:
         """The fixed cost of a vehicle."""
-        return self._fixed[vehicle]
+        return self._said.fixed[vehicle]
 
     def GetArcCostForVehicle(self, from_index: int, to_index: int, vehicle: int) -> int:
         """What the arc between two indices costs: by the callback, with the fixed cost on the arc from the start, and
         the span cost of its transits. 0 from a start to an end, and from an index to itself."""
         if from_index == to_index or (self.IsStart(from_index) and self.IsEnd(to_index)):
             return 0
-        number = self._costs[vehicle]
+        number = self._said.costs[vehicle]
         cost = 0 if number is None else self._between(number, from_index, to_index)
-        for dimension in self._dimensions.values():
+        for dimension in self._said.dimensions.values():
             if dimension.span_cost(vehicle):
                 way = self._between(dimension.evaluators[vehicle], from_index, to_index)
                 cost += dimension.span_cost(vehicle) * way
-        return cost + (self._fixed[vehicle] if self.IsStart(from_index) else 0)
+        return cost + (self._said.fixed[vehicle] if self.IsStart(from_index) else 0)
 
     def _between(self, number: int, from_index: int, to_index: int) -> int:
         """The value of a callback between two indices."""
         tail, head = self._manager.IndexToNode(from_index), self._manager.IndexToNode(to_index)
-        values = self._transits.values(number)
-        return self._transits.matrix(number)[tail][head] if values is None else values[tail]
+        values = self._said.transits.values(number)
+        return self._said.transits.matrix(number)[tail][head] if values is None else values[tail]
 
     # Dimensions
 
@@ -196,29 +190,31 @@ class RoutingModel(Named):
     ) -> bool:
         """Adds a dimension; lists of one value stand for all vehicles."""
         title, vehicles = f"RoutingModel.{call}", self.vehicles()
-        if name in self._dimensions:
+        if name in self._said.dimensions:
             return False
         each = [list(values) * vehicles if len(values) == 1 else list(values) for values in (evaluators, capacities)]
         if any(len(values) != vehicles for values in each):
             raise refuse(title, f"it takes a value for each of {vehicles} vehicles")
-        numbers = [self._transits.known(number, title) for number in each[0]]
+        numbers = [self._said.transits.known(number, title) for number in each[0]]
         limits = [as_whole(value, title) for value in (slack_max, *each[1])]
         if min(limits) < 0:
             raise refuse(title, "slack_max and capacities are 0 or more")
-        self._dimensions[name] = RoutingDimension(self._manager, numbers, limits[0], limits[1:], bool(fix_start), name)
+        self._said.dimensions[name] = RoutingDimension(
+            self._manager, numbers, limits[0], limits[1:], bool(fix_start), name
+        )
         return True
 
     def GetDimensionOrDie(self, name: str) -> RoutingDimension:
         """The dimension of a name. Raises `KeyError` where there is none."""
-        return self._dimensions[name]
+        return self._said.dimensions[name]
 
     def GetMutableDimension(self, name: str) -> RoutingDimension:
         """The same."""
-        return self._dimensions[name]
+        return self._said.dimensions[name]
 
     def HasDimension(self, name: str) -> bool:
         """Whether there is a dimension of a name."""
-        return name in self._dimensions
+        return name in self._said.dimensions
 
     # Groups, pairs, vehicles of visits
 
@@ -232,13 +228,13 @@ class RoutingModel(Named):
         if penalty_cost_behavior == self.PENALIZE_ONCE and max_cardinality > 1 and penalty > 0:
             raise refuse(f"{title} (PENALIZE_ONCE)", "a penalty is paid for each visit fewer")
         nodes = [self._visit(index, title) for index in indices]
-        self._groups.append((nodes, as_whole(penalty, title), as_whole(max_cardinality, title)))
-        return len(self._groups) - 1
+        self._said.groups.append((nodes, as_whole(penalty, title), as_whole(max_cardinality, title)))
+        return len(self._said.groups) - 1
 
     def AddPickupAndDelivery(self, pickup: int, delivery: int) -> None:
         """A pickup and its delivery: by one vehicle, the pickup first, or neither."""
         title = "RoutingModel.AddPickupAndDelivery"
-        self._pairs.append((self._visit(pickup, title), self._visit(delivery, title)))
+        self._said.pairs.append((self._visit(pickup, title), self._visit(delivery, title)))
 
     def SetPickupAndDeliveryPolicyOfAllVehicles(self, policy: int) -> None:
         """The order of deliveries on each vehicle."""
@@ -249,22 +245,19 @@ class RoutingModel(Named):
         """The order of deliveries on one vehicle: any, last in first out, or first in first out."""
         if policy not in range(len(self.POLICIES)):
             raise refuse(f"pickup and delivery policy {policy!r}", "there are NO_ORDER, LIFO and FIFO")
-        self._policies[vehicle] = self.POLICIES[policy]
+        self._said.policies[vehicle] = self.POLICIES[policy]
 
     def SetAllowedVehiclesForIndex(self, vehicles: Sequence[int], index: int) -> None:
         """The vehicles that may make a visit, where it is made; an empty list allows all."""
         self._visit(index, "RoutingModel.SetAllowedVehiclesForIndex")
         if len(vehicles):
-            self._rules(index).keep(vehicles, f"the vehicles of index {index}")
+            self._said.rules(index).keep(vehicles, f"the vehicles of index {index}")
 
     def _visit(self, index: int, title: str) -> int:
         """The node of an index that is a visit."""
         if not self._manager.is_visit(index):
             raise Refused(Fault(18, "", f"index {index} is a start, an end, or none"), title)
         return self._manager.IndexToNode(index)
-
-    def _rules(self, index: int) -> VisitRules:
-        return self._visits.setdefault(self._manager.IndexToNode(index), VisitRules(self.vehicles()))
 
     # Variables
 
@@ -274,7 +267,7 @@ class RoutingModel(Named):
 
     def VehicleVar(self, index: int) -> VehicleVar:
         """The vehicle of an index, which says which vehicles may make a visit."""
-        return VehicleVar(self._known(index), self._rules(index) if self._manager.is_visit(index) else None)
+        return VehicleVar(self._known(index), self._said.rules(index) if self._manager.is_visit(index) else None)
 
     def ActiveVar(self, index: int) -> IntVar:
         """1 where a visit is made, else 0."""
@@ -306,47 +299,7 @@ class RoutingModel(Named):
 
     def to_model(self, parameters: Optional[RoutingSearchParameters] = None) -> Model:
         """The model that was said, for `jambulskeg.model`. Raises `Unsupported` at a constraint that it cannot say."""
-        self._pairs_say()
-        pool = MatrixPool()
-        size = range(self._manager.GetNumberOfNodes())
-        zero = tuple((0,) * len(size) for _ in size)
-        costs = [pool.number(zero if cost is None else self._transits.matrix(cost)) for cost in self._costs]
-        ends = zip(self._manager.starts(), self._manager.ends(), costs, self._fixed, self._policies)
-        return Model(
-            nodes=len(size),
-            vehicles=[Vehicle(*entry) for entry in ends],
-            dimensions=[dimension.to_record(self._transits, pool) for dimension in self._dimensions.values()],
-            matrices=pool.matrices,
-            groups=[
-                Group(nodes, None if penalty < 0 else penalty, most) for nodes, penalty, most in self._groups
-            ],
-            pairs=[Pair(*pair) for pair in self._pairs],
-            allowed=[
-                Allowed(node, sorted(rules.vehicles)) for node, rules in sorted(self._visits.items())
-                if len(rules.vehicles) < self.vehicles()
-            ],
-            search=(parameters or DefaultRoutingSearchParameters()).search(),
-        )
-
-    def _pairs_say(self) -> None:
-        """Raises `Unsupported` at a constraint that no pair says, and at a visit that must be made and may be left."""
-        node = self._manager.IndexToNode
-        for relation, (one, other) in self._solver.same:
-            if not {(node(one), node(other)), (node(other), node(one))}.intersection(self._pairs):
-                raise refuse(f"Solver.Add({relation.told()})", "it is had for a pickup and its delivery alone")
-        for relation, (name, one, other) in self._solver.ordered:
-            numbers = self._dimensions[name].evaluators
-            if (node(one), node(other)) not in self._pairs or min(map(self._transits.least, numbers)) < 0:
-                raise refuse(
-                    f"Solver.Add({relation.told()})",
-                    "it is had for a pickup and its delivery alone, in a dimension without negative transits",
-                )
-        optional = {
-            at for nodes, penalty, most in self._groups if penalty >= 0 or most < len(nodes) for at in nodes
-        }
-        for at in sorted(optional):
-            if at in self._visits and self._visits[at].must_be_made:
-                raise refuse(f"VehicleVar without -1 for node {at}", "the visit stands in a group that may leave it out")
+        return self._said.to_model((parameters or DefaultRoutingSearchParameters()).search())
 
     def status(self) -> int:
         """What the last search came to: `ROUTING_NOT_SOLVED`, `ROUTING_SUCCESS`, or `ROUTING_FAIL`."""
@@ -375,7 +328,7 @@ class RoutingModel(Named):
             self._status = RoutingSearchStatus.ROUTING_FAIL
             return None
         self._status = RoutingSearchStatus.ROUTING_SUCCESS
-        return Assignment(self._manager, model, solution, self._breaks())
+        return Assignment(self._manager, model, solution, self._said.breaks())
 
     def _solver_for(self, parameters: RoutingSearchParameters) -> ModelSolver:
         """How models are solved: once, or in rounds until the time limit of the whole search."""
@@ -417,15 +370,7 @@ class RoutingModel(Named):
             meets(model, solution, self.program)
         except (CannotBeDriven, NotMet):
             return None
-        return Assignment(self._manager, model, solution, self._breaks())
-
-    def _breaks(self) -> List[Tuple[int, int, Any]]:
-        """Each break with the number of its dimension and its vehicle."""
-        return [
-            (number, vehicle, entry)
-            for number, dimension in enumerate(self._dimensions.values())
-            for vehicle, entries in sorted(dimension.breaks.items()) for entry in entries
-        ]
+        return Assignment(self._manager, model, solution, self._said.breaks())
 
     def IsVehicleUsed(self, assignment: Assignment, vehicle: int) -> bool:
         """Whether a vehicle leaves."""
