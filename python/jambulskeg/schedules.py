@@ -229,15 +229,16 @@ def break_starts(line: Line, cumuls: Sequence[int], slacks: Sequence[int]) -> Li
     """The earliest starts of the breaks at these cumuls, which have room for them: each in the first place where it
     fits, since one that is taken earlier leaves no less room for those behind it."""
     starts: List[int] = []
-    place, free, room = -1, EARLY, LATE
+    place, room, done = -1, LATE, EARLY
     for entry in line.breaks:
-        while not fits(line, cumuls, place, max(free, entry.from_), entry, room):
+        start = max(done, entry.from_)
+        while not fits(line, cumuls, place, start, entry, room):
             place += 1
             is_arc = place < len(slacks)
-            free = max(free, cumuls[place] + (line.visits[place] if is_arc else 0))
-            room = slacks[place] if is_arc else LATE
-        starts.append(max(free, entry.from_))
-        free, room = starts[-1] + entry.duration, room - entry.duration
+            free = cumuls[place] + (line.visits[place] if is_arc else 0)
+            room, start = slacks[place] if is_arc else LATE, max(done, entry.from_, free)
+        starts.append(start)
+        done, room = start + entry.duration, room - entry.duration
     return starts
 
 

@@ -1,0 +1,184 @@
+"""An answer where the construction finds none, and rounds of growing tries."""
+
+from __future__ import annotations
+
+import io
+import os
+import unittest
+from dataclasses import replace
+from typing import Any, List
+from unittest import mock
+
+from jambulskeg.errors import NoFirstSolution, NotMet, ProgramSlow, Refused
+from jambulskeg.model import First, Group, Improve, Model, Solution, check, read_model, solve
+from jambulskeg.records import GREATEST_ENTRY
+from jambulskeg.rescue import (
+    FIRST_TRIES, RESCUE_TRIES, Rescue, Round, Solved, Way, as_own, by_penalties, constructions, greatest_cost, missing,
+    relax, required_visits, rescue, solve_for, tried, with_search,
+)
+from jambulskeg.rounds import to_terminal
+
+from .support import EXAMPLES, THREE, Fake, example
+
+DAY = read_model(os.path.join(EXAMPLES, "service-day.json"))
+
+
+def impossible() -> Model:
+    """A model of which one visit alone can be made."""
+    time = {"name": "time", "evaluators": [{"matrix": 0}], "slack_max": 0, "capacity": 17, "fix_start": True}
+    return Model.of({**THREE, "dimensions": [time]})
+
+
+class RescueTests(unittest.TestCase):
+    def test_as_asked(self) -> None:
+        found = rescue(DAY)
+        self.assertEqual((found.way, found.construction), (Way.AS_ASKED, First.PARALLEL_CHEAPEST_INSERTION))
+        self.assertEqual(found.solution, solve(DAY))
+        self.assertEqual(found.solved.model, DAY)
+        self.assertEqual(found.sentence, "by the construction that the model asks for (PARALLEL_CHEAPEST_INSERTION)")
+
+    def test_another_construction(self) -> None:
+        city = example("city")
+        load = {"name": "load", "evaluators": [{"values": city.DEMANDS}], "slack_max": 0, "capacity": 15}
+        model = Model.of({
+            "nodes": 17, "matrices": [city.DISTANCES], "vehicles": [{"start": 0, "end": 0}] * 4, "dimensions": [load],
+            "search": {"first": "PARALLEL_CHEAPEST_INSERTION"},
+        })
+        self.assertRaises(NoFirstSolution, lambda: solve(model))
+        found = rescue(model)
+        self.assertIs(found.way, Way.OTHER_CONSTRUCTION)
+        self.assertEqual(found.solution, solve(found.solved.model))
+        self.assertIs(found.construction, First.PATH_CHEAPEST_ARC)
+        self.assertTrue(found.solution and check(model, found.solution).meets)
+
+    def test_penalties(self) -> None:
+        model = read_model(os.path.join(EXAMPLES, "service-day.json"))
+        required = replace(model, groups=[])
+        with mock.patch("jambulskeg.rescue.tried", side_effect=self.only_relaxed):
+            found = rescue(required)
+        self.assertIs(found.way, Way.PENALTIES)
+        self.assertEqual(found.left_out, ())
+        self.assertEqual(found.penalty, greatest_cost(required) + 1)
+        solution = found.solution
+        assert solution is not None
+        self.assertTrue(check(required, solution).meets)
+        self.assertEqual((solution.dropped, solution.parts.penalty, solution.tries), ((), 0, 0))
+        self.assertEqual(solution.cost, found.solved.solution.cost)
+
+    @staticmethod
+    def only_relaxed(solver: Any, model: Model) -> Any:
+        return tried(solver, model) if model.groups else None
+
+    def test_what_stays_out_is_told(self) -> None:
+        model = impossible()
+        found = rescue(model)
+        self.assertIsNone(found.solution)
+        self.assertEqual(found.left_out, (2,))
+        self.assertEqual(found.solved.solution.dropped, (2,))
+        self.assertIn("no solution was found", found.sentence)
+        self.assertIn("stay out: 2", found.sentence)
+        self.assertGreaterEqual(found.solved.solution.parts.penalty, found.penalty)
+        self.assertFalse(check(model, found.solved.solution).meets)
+        self.assertTrue(check(found.solved.model, found.solved.solution).meets)
+
+    def test_groups_without_a_penalty(self) -> None:
+        model = replace(impossible(), groups=[Group([1, 2], max=2)])
+        found = rescue(model)
+        self.assertEqual((found.solution, found.left_out), (None, (2,)))
+        one = replace(impossible(), groups=[Group([1, 2], max=1)])
+        solution = rescue(one).solution
+        self.assertTrue(solution and solution.dropped == (2,) and check(one, solution).meets)
+
+    def test_the_parts_of_it(self) -> None:
+        model = replace(DAY, groups=[Group([1, 2], max=1), Group([3], 7)])
+        relaxed, penalty = relax(model)
+        self.assertEqual(required_visits(model), list(range(4, 17)))
+        self.assertEqual([group.penalty for group in relaxed.groups], [penalty, 7] + [penalty] * 13)
+        self.assertGreater(penalty, solve(DAY).cost)
+        dear = replace(DAY, vehicles=[replace(vehicle, fixed=GREATEST_ENTRY) for vehicle in DAY.vehicles])
+        self.assertEqual(relax(dear)[1], GREATEST_ENTRY)
+        solution = solve(DAY)
+        self.assertEqual(missing(model, replace(solution, dropped=[1, 2, 3, 4])), [1, 2, 4])
+        self.assertEqual(missing(model, replace(solution, dropped=[1, 3])), [])
+        self.assertEqual(constructions(with_search(DAY, first=First.SAVINGS))[0], First.SAVINGS)
+        own = as_own(solution)
+        self.assertEqual((own.first_cost, own.tries, own.solutions), (solution.cost, 0, 1))
+        self.assertGreaterEqual(RESCUE_TRIES, FIRST_TRIES)
+
+    def test_savings_with_other_vehicles_is_passed_over(self) -> None:
+        def asked(model: Model) -> Solved:
+            return Solved(model, solve(model))
+
+        unlike = replace(impossible(), vehicles=[{"start": 0, "end": 0}, {"start": 0, "end": 0, "fixed": 1}])
+        self.assertIsNone(tried(asked, with_search(unlike, first=First.SAVINGS)))
+        self.assertRaises(Refused, lambda: tried(asked, replace(DAY, nodes=3)))
+
+    def test_no_way_at_all(self) -> None:
+        def none(model: Model) -> Solved:
+            raise NoFirstSolution("none")
+
+        self.assertRaises(NoFirstSolution, lambda: rescue(DAY, solver=none))
+        self.assertRaises(NoFirstSolution, lambda: by_penalties(DAY, none))
+
+    def test_an_answer_is_checked(self) -> None:
+        def wrong(model: Model) -> Solved:
+            if not model.groups:
+                raise NoFirstSolution("none")
+            solution = solve(model)
+            return Solved(model, replace(solution, parts=replace(solution.parts, arcs=1)))
+
+        model = Model.of(THREE)
+        self.assertRaises(NotMet, lambda: rescue(model, solver=wrong))
+        self.assertIsInstance(rescue(model, solver=wrong, checked=False), Rescue)
+
+
+class RoundTests(unittest.TestCase):
+    def test_rounds(self) -> None:
+        told: List[Round] = []
+        found = solve_for(with_search(DAY, tries=1), 0.2, progress=told.append, tries=1000)
+        self.assertEqual([entry.tries for entry in told], [1000 * 2**at for at in range(len(told))])
+        self.assertEqual(list(found.rounds), told)
+        self.assertGreater(len(told), 2)
+        self.assertEqual(found.solution.cost, min(entry.cost for entry in told))
+        self.assertEqual(solve(found.model), found.solution)
+        self.assertEqual([entry.best for entry in told], [min(e.cost for e in told[:at + 1]) for at in range(len(told))])
+
+    def test_no_time_gives_one_round(self) -> None:
+        found = solve_for(DAY, 0, tries=500)
+        self.assertEqual([entry.tries for entry in found.rounds], [500])
+        self.assertEqual(found.solution, solve(with_search(DAY, tries=500)))
+
+    def test_a_descent_ends_early(self) -> None:
+        model = with_search(DAY, improve=Improve.GREEDY_DESCENT)
+        self.assertEqual(len(solve_for(model, 60).rounds), 1)
+
+    def test_a_round_that_the_limit_ends_gives_nothing(self) -> None:
+        body = (
+            "if b'\"tries\":2000' in text.encode(): time.sleep(60)\n"
+            "ran = subprocess.run([REAL, *sys.argv[1:]], input=text, stdout=subprocess.PIPE, text=True)\n"
+            "sys.stdout.write(ran.stdout); sys.exit(ran.returncode)"
+        )
+        with Fake(body) as path:
+            found = solve_for(DAY, 1.0, path, tries=1000)
+            self.assertEqual(len(found.rounds), 1)
+            self.assertRaises(ProgramSlow, lambda: rescue(with_search(DAY, tries=2000), path, seconds=0.3))
+
+    def test_progress_on_a_terminal(self) -> None:
+        with mock.patch("sys.stderr", new=io.StringIO()) as stderr:
+            to_terminal(Round(1, 1000, 7, 6, 0.25))
+            self.assertEqual(stderr.getvalue(), "round 1: 1000 tries, cost 7, best 6, 0.2 s\n")
+            solve_for(DAY, 0, tries=10)
+            self.assertEqual(len(stderr.getvalue().splitlines()), 1)
+            with mock.patch.object(stderr, "isatty", return_value=True):
+                solve_for(DAY, 0, tries=10)
+            self.assertRegex(stderr.getvalue(), "round 1: 10 tries, cost")
+
+    def test_unchecked(self) -> None:
+        with Fake("sys.stdout.write(subprocess.run([REAL, 'first'], input=text, stdout=subprocess.PIPE, text=True)"
+                  ".stdout); sys.exit(9 if 'check' in sys.argv else 0)") as path:
+            solution: Solution = solve_for(DAY, 0, path, checked=False).solution
+        self.assertEqual(solution.cost, 1726)
+
+
+if __name__ == "__main__":
+    unittest.main()
