@@ -50,8 +50,8 @@ class Said:
             groups=[Group(nodes, None if penalty < 0 else penalty, most) for nodes, penalty, most in self.groups],
             pairs=[Pair(*pair) for pair in self.pairs],
             allowed=[
-                Allowed(node, sorted(rules.vehicles)) for node, rules in sorted(self.visits.items())
-                if len(rules.vehicles) < len(vehicles)
+                Allowed(node, rules.vehicles()) for node, rules in sorted(self.visits.items())
+                if len(rules.vehicles()) < len(vehicles)
             ],
             search=search,
         )

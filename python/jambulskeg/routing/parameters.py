@@ -108,7 +108,7 @@ def checked(name: str, title: str, value: Any) -> Any:
         if not 0 < weight.numerator <= 1000 or abs(weight - Fraction(value)) > Fraction(1, 10**9):
             raise refuse(f"{title} = {value}", "it is a fraction p/q with p and q from 1 to 1000")
         return value
-    return as_whole(value, title)
+    return None if name == "tries" and value is None else as_whole(value, title)
 
 
 def known(words: Any, table: Any, title: str, value: Any) -> Any:

@@ -250,8 +250,8 @@ class RoutingModel(Named):
     def SetAllowedVehiclesForIndex(self, vehicles: Sequence[int], index: int) -> None:
         """The vehicles that may make a visit, where it is made; an empty list allows all."""
         self._visit(index, "RoutingModel.SetAllowedVehiclesForIndex")
-        if len(vehicles):
-            self._said.rules(index).keep(vehicles, f"the vehicles of index {index}")
+        everyone = range(self.vehicles())
+        self._said.rules(index).allowed = set(vehicles).intersection(everyone) if len(vehicles) else set(everyone)
 
     def _visit(self, index: int, title: str) -> int:
         """The node of an index that is a visit."""

@@ -151,17 +151,23 @@ class CumulVar(IntVar):
 
 
 class VisitRules:
-    """Which vehicles may make a visit, and whether it was said that it must be made."""
+    """Which vehicles may make a visit: those that its variable leaves, among those that the model allows; and whether it
+    was said that it must be made."""
 
     def __init__(self, vehicles: int) -> None:
-        self.vehicles: Set[int] = set(range(vehicles))
+        self.left: Set[int] = set(range(vehicles))
+        self.allowed: Set[int] = set(range(vehicles))
         self.must_be_made = False
 
     def keep(self, vehicles: Iterable[int], name: str) -> None:
         """Takes the other vehicles out. Raises `Refused` where none is left."""
-        self.vehicles.intersection_update(vehicles)
-        if not self.vehicles:
+        self.left.intersection_update(vehicles)
+        if not self.left:
             raise Refused(Fault(15, "", "no vehicle is left that may make the visit"), name)
+
+    def vehicles(self) -> List[int]:
+        """The vehicles that may make the visit, ascending."""
+        return sorted(self.left & self.allowed)
 
 
 class VehicleVar(IntVar):
@@ -199,7 +205,7 @@ class VehicleVar(IntVar):
         """The vehicle is none of these; without -1 the visit must be made."""
         found = {as_whole(value, "VehicleVar.RemoveValue") for value in values}
         self._rules.must_be_made |= -1 in found
-        self._rules.keep(self._rules.vehicles - found, self.told())
+        self._rules.keep(self._rules.left - found, self.told())
 
 
 class IntervalVar(Named):

@@ -1,0 +1,565 @@
+"""OR-Tools' names: the numbering, callbacks, variables, constraints, dimensions, groups, searches, assignments."""
+
+from __future__ import annotations
+
+import io
+import os
+import re
+import unittest
+from typing import Any, Callable, List
+from unittest import mock
+
+from jambulskeg.errors import NotMet, Refused, Unsupported
+from jambulskeg.model import First, Improve, Model, Policy, solve
+from jambulskeg.rescue import Way
+from jambulskeg.routing import pywrapcp, routing_enums_pb2
+from jambulskeg.routing.refused import WHY, UnknownName, refuse
+
+from .support import Fake
+
+MATRIX = [[0, 5, 9, 3], [5, 0, 4, 8], [9, 4, 0, 6], [3, 8, 6, 0]]
+
+
+def made(vehicles: int = 2, *ends: Any, matrix: Any = None) -> Any:
+    """A manager, a model, and the number of a callback that its arcs cost."""
+    table = MATRIX if matrix is None else matrix
+    manager = pywrapcp.RoutingIndexManager(len(table), vehicles, *(ends or (0,)))
+    routing = pywrapcp.RoutingModel(manager)
+    number = routing.RegisterTransitCallback(
+        lambda tail, head: table[manager.IndexToNode(tail)][manager.IndexToNode(head)]
+    )
+    routing.SetArcCostEvaluatorOfAllVehicles(number)
+    return manager, routing, number
+
+
+def guided(**fields: Any) -> Any:
+    parameters = pywrapcp.DefaultRoutingSearchParameters()
+    parameters.local_search_metaheuristic = routing_enums_pb2.LocalSearchMetaheuristic.GUIDED_LOCAL_SEARCH
+    for name, value in {"tries": 5000, **fields}.items():
+        setattr(parameters, name, value)
+    return parameters
+
+
+class RoutingTest(unittest.TestCase):
+    def unsupported(self, name: str, call: Callable[[], Any]) -> None:
+        with self.assertRaises(Unsupported) as caught:
+            call()
+        self.assertIn(name, caught.exception.name)
+        self.assertIn(name, str(caught.exception))
+
+    def refused(self, code: int, call: Callable[[], Any]) -> None:
+        with self.assertRaises(Refused) as caught:
+            call()
+        self.assertEqual(caught.exception.code, code, str(caught.exception))
+
+
+class ManagerTests(RoutingTest):
+    def test_the_numbering_is_that_of_or_tools(self) -> None:
+        manager = pywrapcp.RoutingIndexManager(6, 3, [0, 2, 2], [5, 0, 5])
+        self.assertEqual([manager.IndexToNode(index) for index in range(manager.GetNumberOfIndices())],
+                         [0, 1, 2, 3, 4, 2, 5, 0, 5])
+        self.assertEqual([manager.GetStartIndex(vehicle) for vehicle in range(3)], [0, 2, 5])
+        self.assertEqual([manager.GetEndIndex(vehicle) for vehicle in range(3)], [6, 7, 8])
+        self.assertEqual([manager.NodeToIndex(node) for node in range(6)], [0, 1, 2, 3, 4, -1])
+        self.assertEqual((manager.GetNumberOfNodes(), manager.GetNumberOfVehicles()), (6, 3))
+        self.assertEqual((manager.NodesToIndices([1, 2]), manager.IndicesToNodes([5, 6])), ([1, 2], [2, 5]))
+        self.assertEqual((manager.tails(), manager.heads()), ([0, 1, 2, 3, 4, 5], [1, 3, 4, 6, 7, 8]))
+        self.assertEqual([manager.is_visit(index) for index in (0, 1, 2, 6)], [False, True, False, False])
+        self.assertEqual((manager.starts(), manager.ends()), ([0, 2, 2], [5, 0, 5]))
+        routing = pywrapcp.RoutingModel(manager)
+        self.assertEqual((routing.Size(), routing.nodes(), routing.vehicles()), (6, 6, 3))
+        self.assertEqual([routing.IsStart(index) for index in (0, 1, 2, 5, 6)], [True, False, True, True, False])
+        self.assertEqual([routing.IsEnd(index) for index in (0, 5, 6, 8)], [False, False, True, True])
+        self.assertEqual((routing.Start(2), routing.End(0)), (5, 6))
+
+    def test_refused(self) -> None:
+        self.refused(14, lambda: pywrapcp.RoutingIndexManager(3, 1, 3))
+        self.refused(15, lambda: pywrapcp.RoutingIndexManager(3, 2, [0], [0]))
+        self.refused(15, lambda: pywrapcp.RoutingIndexManager(3, 2, [0, 0], [0]))
+        manager = pywrapcp.RoutingIndexManager(3, 1, 0)
+        for call in (manager.IndexToNode, manager.NodeToIndex):
+            self.assertRaises(IndexError, lambda: call(9))
+            self.assertRaises(IndexError, lambda: call(-1))
+        self.unsupported("RoutingIndexManager.num_unique_depots", lambda: manager.num_unique_depots)
+
+
+class CallbackTests(RoutingTest):
+    def test_a_callback_is_asked_once_for_each_arc(self) -> None:
+        manager = pywrapcp.RoutingIndexManager(4, 2, 0)
+        routing, asked = pywrapcp.RoutingModel(manager), []
+        number = routing.RegisterTransitCallback(lambda tail, head: asked.append((tail, head)) or 1)
+        routing.SetArcCostEvaluatorOfAllVehicles(number)
+        routing.AddDimension(number, 0, 10, True, "d")
+        model = routing.to_model()
+        self.assertEqual(routing.to_model(), model)
+        self.assertEqual(len(asked), len(set(asked)))
+        self.assertEqual(len(asked), 3 * 2 + 2 * 3 + 3 * 2)
+        self.assertEqual(model.matrices, (((0, 1, 1, 1), (1, 0, 1, 1), (1, 1, 0, 1), (1, 1, 1, 0)),))
+
+    def test_equal_matrices_are_shared(self) -> None:
+        _, routing, number = made()
+        twin = routing.RegisterTransitMatrix(MATRIX)
+        other = routing.RegisterTransitMatrix([[9] * 4] * 4)
+        routing.SetArcCostEvaluatorOfVehicle(twin, 1)
+        routing.AddDimensionWithVehicleTransits([number, other], 0, 100, True, "d")
+        model = routing.to_model()
+        self.assertEqual(len(model.matrices), 2)
+        self.assertEqual([vehicle.costs for vehicle in model.vehicles], [0, 0])
+        self.assertEqual([entry.matrix for entry in model.dimensions[0].evaluators], [0, 1])
+        self.assertEqual(model.dimensions[0].vehicle_evaluators, (0, 1))
+        self.assertEqual(model.matrices[1][0], (0, 9, 9, 9))
+
+    def test_unary_callbacks_are_values(self) -> None:
+        manager, routing, _ = made()
+        unary = routing.RegisterUnaryTransitCallback(lambda index: 10 * manager.IndexToNode(index))
+        vector = routing.RegisterUnaryTransitVector([0, 1, 2, 3])
+        routing.AddDimension(unary, 0, 100, True, "tens")
+        routing.AddDimension(vector, 0, 100, True, "ones")
+        routing.SetArcCostEvaluatorOfVehicle(vector, 1)
+        model = routing.to_model()
+        self.assertEqual([dimension.evaluators[0].values for dimension in model.dimensions],
+                         [(0, 10, 20, 30), (0, 1, 2, 3)])
+        self.assertEqual(model.matrices[1], ((0, 0, 0, 0), (1, 0, 1, 1), (2, 2, 0, 2), (3, 3, 3, 0)))
+        self.assertEqual(routing.GetArcCostForVehicle(2, 1, 1), 2)
+
+    def test_refused(self) -> None:
+        manager, routing, _ = made()
+        half = routing.RegisterTransitCallback(lambda tail, head: 0.5)
+        routing.SetArcCostEvaluatorOfAllVehicles(half)
+        self.unsupported("RegisterTransitCallback", routing.CloseModel)
+        index = routing.RegisterTransitCallback(lambda tail, head: tail)
+        routing.SetArcCostEvaluatorOfAllVehicles(index)
+        with self.assertRaisesRegex(Unsupported, "depends on more than its two nodes"):
+            routing.CloseModel()
+        unary = routing.RegisterUnaryTransitCallback(lambda index: index)
+        routing.SetArcCostEvaluatorOfAllVehicles(unary)
+        self.unsupported("RegisterUnaryTransitCallback", routing.CloseModel)
+        self.unsupported("RegisterTransitMatrix", lambda: routing.RegisterTransitMatrix([[1]]))
+        self.unsupported("RegisterTransitMatrix", lambda: routing.RegisterTransitMatrix([[1.5] * 4] * 4))
+        self.unsupported("RegisterUnaryTransitVector", lambda: routing.RegisterUnaryTransitVector([1]))
+        self.unsupported("SetArcCostEvaluator", lambda: routing.SetArcCostEvaluatorOfAllVehicles(99))
+        broken = routing.RegisterTransitCallback(lambda tail, head: {}["no"])
+        routing.SetArcCostEvaluatorOfAllVehicles(broken)
+        self.assertRaises(KeyError, routing.CloseModel)
+
+    def test_costs(self) -> None:
+        _, routing, number = made()
+        routing.SetFixedCostOfAllVehicles(7)
+        routing.SetFixedCostOfVehicle(9, 1)
+        routing.AddDimension(number, 5, 100, True, "time")
+        routing.GetDimensionOrDie("time").SetSpanCostCoefficientForVehicle(2, 1)
+        self.assertEqual([routing.GetFixedCostOfVehicle(vehicle) for vehicle in (0, 1)], [7, 9])
+        self.assertEqual([vehicle.fixed for vehicle in routing.to_model().vehicles], [7, 9])
+        start, end = routing.Start(1), routing.End(1)
+        self.assertEqual([routing.GetArcCostForVehicle(*arc, 1) for arc in ((start, 1), (1, 2), (1, end), (start, end),
+                                                                            (1, 1))], [24, 12, 15, 0, 0])
+        self.assertEqual(routing.GetArcCostForVehicle(1, 2, 0), 4)
+
+
+class DimensionTests(RoutingTest):
+    def test_what_a_dimension_says(self) -> None:
+        manager, routing, number = made()
+        self.assertTrue(routing.AddDimensionWithVehicleTransitAndCapacity([number] * 2, 4, [50, 60], False, "time"))
+        self.assertFalse(routing.AddDimension(number, 4, 50, False, "time"))
+        self.assertTrue(routing.HasDimension("time"))
+        time = routing.GetMutableDimension("time")
+        self.assertEqual(time.name(), "time")
+        visit = time.CumulVar(1)
+        visit.SetRange(3, 40)
+        visit.SetMin(5)
+        visit.SetMax(2**62)
+        visit.RemoveInterval(-5, 7)
+        visit.RemoveInterval(9, 8)
+        visit.RemoveValue(20)
+        time.CumulVar(2).SetValue(30)
+        time.CumulVar(routing.Start(1)).SetMin(1)
+        time.CumulVar(routing.End(0)).SetMax(45)
+        time.SetCumulVarSoftUpperBound(1, 10, 3)
+        self.assertEqual([time.HasCumulVarSoftUpperBound(index) for index in (1, 2)], [True, False])
+        time.SetSpanCostCoefficientForAllVehicles(2)
+        time.SetGlobalSpanCostCoefficient(3)
+        pause = routing.solver().FixedDurationIntervalVar(5, 15, 2, False, "pause")
+        self.assertEqual(pause.Name(), "pause")
+        time.SetBreakIntervalsOfVehicle([pause], 1, [0, 1, 2, 3, 0])
+        self.assertEqual(routing.to_model().dimensions[0].tree(), {
+            "name": "time", "evaluators": [{"matrix": 0}], "slack_max": 4, "capacity": [50, 60],
+            "visit": [0, 1, 2, 3],
+            "nodes": [{"node": 1, "window": [5, 40], "forbidden": [[0, 7], [20, 20]],
+                       "soft": {"bound": 10, "coefficient": 3}}, {"node": 2, "window": [30, 30]}],
+            "starts": [{"vehicle": 1, "window": [1, 2**36]}], "ends": [{"vehicle": 0, "window": [0, 45]}],
+            "breaks": [{"vehicle": 1, "breaks": [{"from": 5, "to": 15, "duration": 2}]}],
+            "span_cost": 2, "global_span_cost": 3,
+        })
+
+    def test_a_span_bound_where_starts_are_fixed(self) -> None:
+        _, routing, number = made()
+        routing.AddDimension(number, 0, 100, True, "fixed")
+        routing.AddDimension(number, 0, 100, False, "free")
+        routing.GetDimensionOrDie("fixed").SetSpanUpperBoundForVehicle(30, 1)
+        self.assertEqual(routing.to_model().dimensions[0].tree()["ends"], [{"vehicle": 1, "window": [0, 30]}])
+        self.unsupported("SetSpanUpperBoundForVehicle",
+                         lambda: routing.GetDimensionOrDie("free").SetSpanUpperBoundForVehicle(30, 1))
+
+    def test_refused(self) -> None:
+        manager, routing, number = made()
+        self.unsupported("AddDimensionWithVehicleTransits",
+                         lambda: routing.AddDimensionWithVehicleTransits([number] * 3, 0, 9, True, "x"))
+        self.unsupported("AddDimension", lambda: routing.AddDimension(number, -1, 9, True, "x"))
+        self.unsupported("AddDimension", lambda: routing.AddDimension(number, 0, 9.5, True, "x"))
+        routing.AddDimension(number, 9, 90, True, "time")
+        time = routing.GetDimensionOrDie("time")
+        self.assertRaises(KeyError, lambda: routing.GetDimensionOrDie("none"))
+        self.assertRaises(IndexError, lambda: time.CumulVar(77))
+        self.assertRaises(IndexError, lambda: time.SlackVar(77))
+        self.refused(19, lambda: time.CumulVar(1).SetRange(5, 4))
+        self.refused(19, lambda: time.CumulVar(1).SetMax(-1))
+        self.refused(14, lambda: time.SetCumulVarSoftUpperBound(1, 5, 10001))
+        self.unsupported("SlackVar", lambda: time.SlackVar(1) + 1)
+        self.unsupported("IntVar.SetMax", lambda: time.SlackVar(1).SetMax(3))
+        self.unsupported("SetCumulVarSoftLowerBound", lambda: time.SetCumulVarSoftLowerBound(1, 2, 3))
+        pause = routing.solver().FixedDurationIntervalVar(5, 15, 2, False, "pause")
+        times = [0] * routing.Size()
+        self.unsupported("SetBreakIntervalsOfVehicle", lambda: time.SetBreakIntervalsOfVehicle([pause], 0, times, 1))
+        self.unsupported("SetBreakIntervalsOfVehicle", lambda: time.SetBreakIntervalsOfVehicle([pause], 0, 3))
+        self.unsupported("SetBreakIntervalsOfVehicle", lambda: time.SetBreakIntervalsOfVehicle([5], 0, times))
+        self.unsupported("SetBreakIntervalsOfVehicle",
+                         lambda: time.SetBreakIntervalsOfVehicle([pause], 0, [1, 0, 0, 0, 2]))
+        time.SetBreakIntervalsOfVehicle([pause], 0, times)
+        self.unsupported("SetBreakIntervalsOfVehicle",
+                         lambda: time.SetBreakIntervalsOfVehicle([pause], 1, [1] * routing.Size()))
+        backwards = routing.solver().FixedDurationIntervalVar(15, 5, 2, False, "pause")
+        time.SetBreakIntervalsOfVehicle([backwards], 0, times)
+        self.refused(19, routing.CloseModel)
+
+
+class ConstraintTests(RoutingTest):
+    def test_what_a_pair_says(self) -> None:
+        _, routing, number = made()
+        routing.AddDimension(number, 0, 100, True, "way")
+        way, solver = routing.GetDimensionOrDie("way"), routing.solver()
+        solver.Add(routing.VehicleVar(1) == routing.VehicleVar(2))
+        self.unsupported("VehicleVar(1) == VehicleVar(2)", routing.CloseModel)
+        routing.AddPickupAndDelivery(1, 2)
+        solver.Add(routing.VehicleVar(2) == routing.VehicleVar(1))
+        solver.Add(routing.ActiveVar(1) == routing.ActiveVar(2))
+        solver.Add(way.CumulVar(1) <= way.CumulVar(2))
+        solver.Add(way.CumulVar(2) >= way.CumulVar(1))
+        routing.CloseModelWithParameters(guided())
+        self.assertEqual([pair.tree() for pair in routing.to_model().pairs], [{"pickup": 1, "delivery": 2}])
+        solver.Add(way.CumulVar(2) <= way.CumulVar(1))
+        self.unsupported("CumulVar(2) <= CumulVar(1)", routing.CloseModel)
+
+    def test_an_order_needs_transits_of_one_sign(self) -> None:
+        _, routing, _ = made()
+        routing.AddPickupAndDelivery(1, 2)
+        routing.AddDimension(routing.RegisterUnaryTransitVector([0, 1, -1, 0]), 0, 9, True, "load")
+        load = routing.GetDimensionOrDie("load")
+        routing.solver().Add(load.CumulVar(1) <= load.CumulVar(2))
+        self.unsupported("CumulVar(1) <= CumulVar(2)", routing.CloseModel)
+
+    def test_a_variable_beside_a_number(self) -> None:
+        _, routing, number = made()
+        routing.AddDimension(number, 9, 100, False, "way")
+        way, solver = routing.GetDimensionOrDie("way"), routing.solver()
+        solver.Add(way.CumulVar(1) <= 30)
+        solver.Add(way.CumulVar(1) >= 10)
+        solver.Add(way.CumulVar(1) != 20)
+        solver.Add(way.CumulVar(2) == 15)
+        solver.Add(routing.VehicleVar(3) == 1)
+        solver.Add(routing.VehicleVar(2) != 1)
+        model = routing.to_model()
+        self.assertEqual([row.tree() for row in model.dimensions[0].nodes], [
+            {"node": 1, "window": [10, 30], "forbidden": [[20, 20]]}, {"node": 2, "window": [15, 15]}])
+        self.assertEqual([row.tree() for row in model.allowed], [
+            {"node": 2, "vehicles": [0]}, {"node": 3, "vehicles": [1]}])
+
+    def test_refused(self) -> None:
+        _, routing, number = made()
+        routing.AddDimension(number, 9, 100, False, "way")
+        routing.AddDimension(number, 9, 100, False, "other")
+        way, other, solver = routing.GetDimensionOrDie("way"), routing.GetDimensionOrDie("other"), routing.solver()
+        one, two = way.CumulVar(1), way.CumulVar(2)
+        for relation in (one < two, one > two, one != two, one == two, one <= other.CumulVar(2), one < 5, one > 5,
+                         routing.NextVar(1) == 2, routing.NextVar(1) == routing.NextVar(2), routing.ActiveVar(1) == 1,
+                         routing.VehicleVar(1) <= 1, routing.VehicleVar(1) != routing.VehicleVar(2)):
+            self.unsupported("Solver.Add", lambda: solver.Add(relation))
+        self.unsupported("Solver.Add", lambda: solver.Add(True))
+        self.unsupported("Solver.Add", lambda: solver.Add(one <= 2.5))
+        for call in (lambda: one + two, lambda: 1 + one, lambda: one - two, lambda: 1 - one, lambda: one * 2,
+                     lambda: 2 * one):
+            self.unsupported("CumulVar(1)", call)
+        self.unsupported("Solver.Sum", lambda: solver.Sum([one, two]))
+        self.unsupported("FixedDurationIntervalVar", lambda: solver.FixedDurationIntervalVar(5, 15, 2, True, "maybe"))
+        self.unsupported("FixedDurationIntervalVar", lambda: solver.FixedDurationIntervalVar(one, 5, "moving"))
+        self.unsupported("FixedDurationIntervalVar", lambda: solver.FixedDurationIntervalVar(1, 5, "short"))
+        self.assertEqual(one.Name(), "CumulVar(1)")
+        self.assertIn(one, {one: 1})
+        self.assertGreaterEqual(solver.WallTime(), 0)
+
+
+class VisitTests(RoutingTest):
+    def test_groups(self) -> None:
+        _, routing, _ = made()
+        self.assertEqual(routing.AddDisjunction([1], 50), 0)
+        self.assertEqual(routing.AddDisjunction([2, 3], 20, 2), 1)
+        self.assertEqual([group.tree() for group in routing.to_model().groups], [
+            {"nodes": [1], "penalty": 50}, {"nodes": [2, 3], "penalty": 20, "max": 2}])
+        _, required, _ = made()
+        required.AddDisjunction([1, 2])
+        self.assertEqual([group.tree() for group in required.to_model().groups], [{"nodes": [1, 2]}])
+        self.unsupported("PENALIZE_ONCE", lambda: routing.AddDisjunction([1, 2], 9, 2, routing.PENALIZE_ONCE))
+        routing.AddDisjunction([1], 9, 1, routing.PENALIZE_PER_INACTIVE)
+        self.refused(16, lambda: solve(routing.to_model()))
+        self.refused(18, lambda: routing.AddDisjunction([0], 9))
+        self.unsupported("AddDisjunction", lambda: routing.AddDisjunction([1], 0.5))
+
+    def test_policies(self) -> None:
+        _, routing, _ = made()
+        routing.SetPickupAndDeliveryPolicyOfAllVehicles(pywrapcp.RoutingModel.PICKUP_AND_DELIVERY_LIFO)
+        routing.SetPickupAndDeliveryPolicyOfVehicle(routing.PICKUP_AND_DELIVERY_FIFO, 1)
+        self.assertEqual([entry.policy for entry in routing.to_model().vehicles], [Policy.LIFO, Policy.FIFO])
+        self.unsupported("policy 7", lambda: routing.SetPickupAndDeliveryPolicyOfAllVehicles(7))
+        self.refused(18, lambda: routing.AddPickupAndDelivery(0, 1))
+
+    def test_vehicles_of_a_visit(self) -> None:
+        _, routing, _ = made(4)
+        routing.SetAllowedVehiclesForIndex([0, 1, 2], 1)
+        routing.SetAllowedVehiclesForIndex([3], 2)
+        routing.SetAllowedVehiclesForIndex([], 2)
+        routing.SetAllowedVehiclesForIndex([3], 1)
+        routing.SetAllowedVehiclesForIndex([0, 1, 2], 1)
+        routing.VehicleVar(1).RemoveValue(2)
+        routing.VehicleVar(2).SetValues([-1, 3, 1])
+        routing.VehicleVar(3).SetRange(1, 2)
+        routing.VehicleVar(3).RemoveValues([1])
+        self.assertEqual([row.tree() for row in routing.to_model().allowed], [
+            {"node": 1, "vehicles": [0, 1]}, {"node": 2, "vehicles": [1, 3]}, {"node": 3, "vehicles": [2]}])
+        routing.AddDisjunction([2], 9)
+        routing.CloseModel()
+        routing.AddDisjunction([3], 9)
+        self.unsupported("VehicleVar without -1 for node 3", routing.CloseModel)
+        self.refused(15, lambda: routing.VehicleVar(3).SetValue(0))
+        _, other, _ = made()
+        other.VehicleVar(1).RemoveValue(0)
+        other.SetAllowedVehiclesForIndex([0], 1)
+        self.refused(15, other.CloseModel)
+        self.refused(18, lambda: routing.SetAllowedVehiclesForIndex([0], 0))
+        self.unsupported("VehicleVar(0)", lambda: routing.VehicleVar(0).RemoveValue(0))
+        self.unsupported("SetValues", lambda: routing.VehicleVar(1).SetValues([0.5]))
+        for call in (routing.NextVar, routing.VehicleVar, routing.ActiveVar):
+            self.assertRaises(IndexError, lambda: call(99))
+
+    def test_the_finalizer(self) -> None:
+        _, routing, number = made()
+        routing.AddDimension(number, 9, 100, False, "way")
+        way = routing.GetDimensionOrDie("way")
+        routing.AddVariableMinimizedByFinalizer(way.CumulVar(routing.End(0)))
+        routing.AddToAssignment(way.SlackVar(1))
+        self.unsupported("MinimizedByFinalizer", lambda: routing.AddVariableMinimizedByFinalizer(way.SlackVar(1)))
+        self.unsupported("AddToAssignment", lambda: routing.AddToAssignment(7))
+        self.unsupported("MaximizedByFinalizer", lambda: routing.AddVariableMaximizedByFinalizer(way.CumulVar(1)))
+
+
+class ParameterTests(RoutingTest):
+    def test_parameters(self) -> None:
+        parameters = pywrapcp.DefaultRoutingSearchParameters()
+        self.assertEqual(parameters.search().tree(), {"tries": 10**9})
+        strategies = routing_enums_pb2.FirstSolutionStrategy
+        parameters.first_solution_strategy = strategies.SAVINGS
+        parameters.local_search_metaheuristic = 2
+        parameters.solution_limit = 5
+        parameters.guided_local_search_lambda_coefficient = 0.25
+        parameters.log_search = 1
+        search = parameters.search()
+        self.assertEqual((search.first, search.improve, search.tries, search.solutions, search.lambda_),
+                         (First.SAVINGS, Improve.GUIDED_LOCAL_SEARCH, 10**6, 5, (1, 4)))
+        self.assertIs(parameters.log_search, True)
+        parameters.time_limit.seconds = 3
+        parameters.time_limit.nanos = 500000000
+        self.assertEqual(parameters.time_limit.total(), 3.5)
+        parameters.time_limit.FromMilliseconds(1250)
+        self.assertEqual(parameters.time_limit.total(), 1.25)
+        parameters.time_limit.FromSeconds(0)
+        self.assertIsNone(parameters.time_limit.total())
+        self.assertEqual((strategies.Value("SAVINGS"), strategies.Name(10)), (10, "SAVINGS"))
+        self.assertIn("AUTOMATIC", strategies.keys())
+        self.assertEqual(routing_enums_pb2.RoutingSearchStatus.ROUTING_SUCCESS, 1)
+
+    def test_refused(self) -> None:
+        parameters = pywrapcp.DefaultRoutingSearchParameters()
+
+        def setting(name: str, value: Any) -> Callable[[], None]:
+            return lambda: setattr(parameters, name, value)
+
+        strategies, heuristics = routing_enums_pb2.FirstSolutionStrategy, routing_enums_pb2.LocalSearchMetaheuristic
+        self.unsupported("CHRISTOFIDES", setting("first_solution_strategy", strategies.CHRISTOFIDES))
+        self.unsupported("first_solution_strategy", setting("first_solution_strategy", 99))
+        self.unsupported("SIMULATED_ANNEALING", setting("local_search_metaheuristic", heuristics.SIMULATED_ANNEALING))
+        self.unsupported("lns_time_limit", setting("lns_time_limit", 1))
+        self.unsupported("local_search_operators", lambda: parameters.local_search_operators)
+        self.unsupported("use_cp_sat", setting("use_cp_sat", True))
+        self.unsupported("time_limit", setting("time_limit", 3))
+        self.unsupported("solution_limit", setting("solution_limit", 1.5))
+        self.unsupported("lambda", setting("guided_local_search_lambda_coefficient", 0.1234567))
+        self.unsupported("lambda", setting("guided_local_search_lambda_coefficient", 0))
+        self.unsupported("Duration", lambda: setattr(parameters.time_limit, "minutes", 3))
+        self.unsupported("Duration", lambda: setattr(parameters.time_limit, "seconds", 0.5))
+        parameters.tries = 10
+        parameters.time_limit.seconds = 1
+        self.unsupported("tries", parameters.search)
+
+
+class SolvingTests(RoutingTest):
+    def test_what_is_read_of_a_solution(self) -> None:
+        manager, routing, number = made()
+        routing.AddDimension(number, 9, 100, False, "way")
+        way = routing.GetDimensionOrDie("way")
+        way.CumulVar(1).SetMin(12)
+        way.CumulVar(3).SetMin(70)
+        pause = routing.solver().FixedDurationIntervalVar(6, 7, 2, False, "pause")
+        for vehicle in (0, 1):
+            way.CumulVar(routing.Start(vehicle)).SetMax(9)
+            way.SetBreakIntervalsOfVehicle([pause], vehicle, [0] * routing.Size())
+        routing.AddDisjunction([3], 1)
+        self.assertEqual(routing.status(), routing.ROUTING_NOT_SOLVED)
+        solution = routing.SolveWithParameters(guided())
+        self.assertEqual(routing.status(), pywrapcp.RoutingModel.ROUTING_SUCCESS)
+        self.assertEqual((solution.ObjectiveValue(), routing.rescued.way), (19, Way.AS_ASKED))
+        used = 0 if routing.IsVehicleUsed(solution, 0) else 1
+        unused = 1 - used
+        self.assertFalse(routing.IsVehicleUsed(solution, unused))
+        start, end = routing.Start(used), routing.End(used)
+        first = solution.Value(routing.NextVar(start))
+        second = solution.Value(routing.NextVar(first))
+        self.assertEqual({first, second}, {1, 2})
+        self.assertEqual(solution.Value(routing.NextVar(second)), end)
+        self.assertEqual(solution.Value(routing.NextVar(3)), 3)
+        self.assertEqual(solution.Value(routing.NextVar(routing.Start(unused))), routing.End(unused))
+        self.assertEqual([solution.Value(routing.VehicleVar(index)) for index in (1, 3, end)], [used, -1, used])
+        self.assertEqual([solution.Value(routing.ActiveVar(index)) for index in (1, 3)], [1, 0])
+        plan = solution.solution.routes[used].dimensions[0]
+        self.assertEqual([solution.Value(way.CumulVar(index)) for index in (start, first, second, end)],
+                         list(plan.cumuls))
+        self.assertEqual([solution.Value(way.SlackVar(index)) for index in (start, first, second)], list(plan.slacks))
+        for index in (start, first, second, end):
+            cumul = way.CumulVar(index)
+            self.assertLessEqual(solution.Min(cumul), solution.Value(cumul))
+            self.assertGreaterEqual(solution.Max(cumul), solution.Value(cumul))
+        self.assertEqual(solution.Min(routing.NextVar(start)), first)
+        self.assertEqual([solution.Value(way.CumulVar(3)), solution.Max(way.CumulVar(3)),
+                          solution.Value(way.SlackVar(3))], [70, 70, 0])
+        self.assertEqual(solution.Value(way.CumulVar(routing.End(unused))), 0)
+        self.read_breaks(solution, used, plan.breaks[0])
+        self.unsupported("Assignment.Value", lambda: solution.Value(3))
+        self.unsupported("Assignment.Save", lambda: solution.Save("x"))
+
+    def read_breaks(self, solution: Any, used: int, start: int) -> None:
+        breaks = solution.IntervalVarContainer()
+        self.assertEqual(breaks.Size(), 2)
+        taken, left = breaks.Element(used), breaks.Element(1 - used)
+        self.assertEqual((taken.PerformedValue(), taken.StartValue(), taken.EndValue()), (1, start, start + 2))
+        self.assertEqual((left.PerformedValue(), left.StartValue(), left.DurationValue()), (0, 6, 2))
+        self.assertEqual(taken.Var().Name(), "pause")
+
+    def test_nothing_found(self) -> None:
+        _, routing, number = made()
+        routing.AddDimension(number, 0, 9, True, "way")
+        self.assertIsNone(routing.SolveWithParameters(guided()))
+        self.assertEqual(routing.status(), routing.ROUTING_FAIL)
+        self.assertEqual(routing.rescued.left_out, (1, 2))
+        self.assertIsNone(routing.Solve())
+
+    def test_a_model_that_is_refused(self) -> None:
+        _, routing, _ = made(matrix=[[0, -1], [1, 0]])
+        self.refused(20, routing.Solve)
+
+    def test_time_limits_and_progress(self) -> None:
+        _, routing, _ = made()
+        parameters = guided(tries=None, log_search=True)
+        parameters.time_limit.FromMilliseconds(100)
+        with mock.patch("sys.stderr", new=io.StringIO()) as stderr:
+            solution = routing.SolveWithParameters(parameters)
+        self.assertEqual(solution.ObjectiveValue(), 18)
+        self.assertRegex(stderr.getvalue(), "^round 1: 50000 tries, cost 18, best 18")
+
+    def test_assignments_of_routes(self) -> None:
+        _, routing, number = made()
+        routing.AddDimension(number, 0, 40, True, "way")
+        known = routing.ReadAssignmentFromRoutes([[1, 3], [2]], True)
+        self.assertEqual((known.ObjectiveValue(), known.solution.lists()), (34, [[1, 3], [2]]))
+        self.assertIsNone(routing.ReadAssignmentFromRoutes([[1]], True))
+        self.assertIsNone(routing.ReadAssignmentFromRoutes([[1, 3, 2]] * 2, True))
+        self.refused(18, lambda: routing.ReadAssignmentFromRoutes([[0]], True))
+        self.assertEqual(routing.Solve(known).ObjectiveValue(), 18)
+        best = routing.Solve()
+        none = pywrapcp.DefaultRoutingSearchParameters()
+        none.tries = 0
+        again = routing.SolveFromAssignmentWithParameters(best, none)
+        self.assertLessEqual(again.ObjectiveValue(), best.ObjectiveValue())
+        self.unsupported("SolveFromAssignment", lambda: routing.SolveFromAssignmentWithParameters([[1]], none))
+
+    def test_an_assignment_is_kept_where_the_search_finds_nothing_cheaper(self) -> None:
+        _, routing, number = made()
+        best = routing.Solve()
+        with mock.patch.object(type(routing), "SolveWithParameters", return_value=None):
+            self.assertEqual(routing.Solve(best).solution.lists(), best.solution.lists())
+        dear = routing.ReadAssignmentFromRoutes([[2, 1], [3]], False)
+        with mock.patch.object(type(routing), "SolveWithParameters", return_value=dear):
+            self.assertEqual(routing.Solve(best).ObjectiveValue(), best.ObjectiveValue())
+        routing.AddDisjunction([3], 0)
+        with mock.patch.object(type(routing), "SolveWithParameters", return_value=None):
+            routing.AddDimension(number, 0, 3, True, "short")
+            self.assertIsNone(routing.Solve(best))
+
+    def test_the_program_and_the_check_can_be_chosen(self) -> None:
+        body = (
+            "ran = subprocess.run([REAL, *sys.argv[1:]], input=text, stdout=subprocess.PIPE, text=True)\n"
+            "sys.stdout.write(ran.stdout.replace('\"cost\":18', '\"cost\":17')); sys.exit(ran.returncode)"
+        )
+        _, routing, _ = made()
+        with Fake(body) as path:
+            routing.program = path
+            self.assertRaises(NotMet, routing.Solve)
+            routing.checked = False
+            self.assertEqual(routing.Solve().ObjectiveValue(), 17)
+
+    def test_a_model_without_costs(self) -> None:
+        routing = pywrapcp.RoutingModel(pywrapcp.RoutingIndexManager(3, 1, 0))
+        self.assertEqual(routing.Solve().ObjectiveValue(), 0)
+        self.assertIsInstance(routing.to_model(), Model)
+
+
+class RefusalTests(RoutingTest):
+    def test_names_are_refused_one_by_one(self) -> None:
+        manager, routing, number = made()
+        routing.AddDimension(number, 0, 100, True, "way")
+        owners = {
+            "Assignment": routing.Solve(), "IntVar": routing.NextVar(1), "RoutingModel": routing,
+            "RoutingDimension": routing.GetDimensionOrDie("way"), "pywrapcp": pywrapcp, "Solver": routing.solver(),
+            "RoutingSearchParameters": pywrapcp.DefaultRoutingSearchParameters(),
+        }
+        for full in WHY:
+            owner, _, name = full.partition(".")
+            with self.assertRaises(UnknownName) as caught:
+                getattr(owners[owner], name)
+            self.assertEqual(caught.exception.name, full)
+        self.assertFalse(hasattr(routing, "AddEverything"))
+        self.unsupported("RoutingModel.AddEverything", lambda: routing.AddEverything())
+        self.assertRaises(AttributeError, lambda: routing.__nothing__)
+        self.unsupported("RoutingModel(manager, parameters)", lambda: pywrapcp.RoutingModel(manager, object()))
+        self.assertIn("it is not among the calls", str(refuse("X.y")))
+
+    def test_the_page_names_every_call(self) -> None:
+        page = os.path.join(os.path.dirname(os.path.dirname(os.path.abspath(__file__))), "OR-TOOLS.md")
+        with open(page, encoding="utf-8") as file:
+            text = file.read()
+        owners = (pywrapcp.RoutingIndexManager, pywrapcp.RoutingModel, pywrapcp.RoutingDimension, pywrapcp.Assignment)
+        names: List[str] = [name for owner in owners for name, value in vars(owner).items()
+                            if name[0].isupper() and callable(value)]
+        names += [full.partition(".")[2] for full in WHY]
+        absent = [name for name in names if not re.search(rf"`([A-Za-z]+\.)?{name}[`(]", text)]
+        self.assertEqual(absent, [])
+
+
+if __name__ == "__main__":
+    unittest.main()
