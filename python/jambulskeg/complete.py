@@ -20,6 +20,8 @@ from .records import MOST_NODES, NODE, Model
 from .schedules import Line, earliest, line_of, reach_of, rows_of, tight
 from .solution import Plan, Route, Solution, Status, Stop
 
+__all__ = ["CannotBeDriven", "complete", "leave_later", "shape_faults"]
+
 
 class CannotBeDriven(JambulskegError, ValueError):
     """No schedule keeps the rules: the `vehicle`, the name of the `dimension`, and the first `stop` of the list that

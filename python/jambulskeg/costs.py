@@ -8,6 +8,8 @@ from .records import Model
 from .schedules import rows_of
 from .solution import Parts, Plan, Route
 
+__all__ = ["parts_of"]
+
 
 def parts_of(model: Model, routes: Sequence[Route]) -> Parts:
     """The parts of the cost of routes at their cumuls; each vehicle's route once, in order."""

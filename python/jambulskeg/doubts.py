@@ -15,6 +15,8 @@ from .intervals import Numbers, common
 from .records import Dimension, Model, NodeRow
 from .schedules import chain_of, numbers_of
 
+__all__ = ["Doubt", "Kind", "doubts"]
+
 SECONDS = 60
 """How many of the smaller unit the larger one may have, where units are doubted."""
 

@@ -6,6 +6,11 @@ import signal
 from dataclasses import dataclass
 from typing import Optional
 
+__all__ = [
+    "CAUSES", "DeviceFailed", "Fault", "JambulskegError", "NoFirstSolution", "NoMemory", "NotJson", "NotMet",
+    "ProgramFailed", "ProgramKilled", "ProgramMissing", "ProgramSlow", "Refused", "TooLong", "Unsupported",
+]
+
 CAUSES = {
     10: "a required field is absent",
     11: "the value is of another kind",

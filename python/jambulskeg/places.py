@@ -15,6 +15,11 @@ from typing import Callable, Dict, Iterator, List, Mapping, Optional, Sequence, 
 from .errors import JambulskegError
 from .records import Dimension, Evaluator, Group, Model, NodeRow, Search, Vehicle, VehicleRow
 
+__all__ = [
+    "BadTable", "Measure", "Place", "Roads", "Rounding", "Van", "from_places", "great_circle", "model_from_csv",
+    "model_of", "read_places", "read_vans", "rounded",
+]
+
 EARTH = 6371008.8
 """The mean radius of the Earth in metres."""
 T = TypeVar("T")

@@ -14,6 +14,8 @@ from .errors import (
     ProgramMissing, ProgramSlow, Refused, TooLong,
 )
 
+__all__ = ["BESIDE", "Program", "ProgramLike", "find", "program_of"]
+
 NAME = "vr_cli"
 VARIABLE = "VR_CLI"
 REPOSITORY = os.path.dirname(os.path.dirname(os.path.dirname(os.path.abspath(__file__))))

@@ -20,8 +20,8 @@ from .rounds import FIRST_TRIES, Progress, Round, Solved, solve_for, with_search
 from .solution import Solution, Stop
 
 __all__ = [
-    "FIRST_TRIES", "RESCUE_TRIES", "Progress", "Rescue", "Round", "Solved", "Solver", "Way", "constructions",
-    "missing", "relax", "rescue", "solve_for", "with_search",
+    "FIRST_TRIES", "RESCUE_TRIES", "Progress", "Rescue", "Round", "Solved", "Solver", "Way", "relax", "rescue",
+    "solve_for", "with_search",
 ]
 
 RESCUE_TRIES = 1000000

@@ -16,6 +16,10 @@ from .program import Program, ProgramLike, program_of
 from .records import MOST_TRIES, Model
 from .solution import Solution, Stop
 
+__all__ = [
+    "FIRST_TRIES", "Progress", "Round", "Solved", "solve_for", "to_terminal", "with_search",
+]
+
 FIRST_TRIES = 50000
 """The tries of the first round; each further one has twice as many."""
 

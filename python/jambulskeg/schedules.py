@@ -15,6 +15,8 @@ from .intervals import Interval, Numbers, common, united, without
 from .records import HORIZON, Break, Dimension, Model, StopRow
 from .solution import Plan
 
+__all__ = ["Line", "earliest", "line_of", "ranges", "tight"]
+
 Levels = List[Numbers]
 """For each number of breaks a set of cumuls."""
 EARLY, LATE = -(2**62), 2**62

@@ -8,7 +8,7 @@ import os
 import unittest
 from typing import Any, Dict, List
 
-from jambulskeg.doubts import Kind, doubts
+from jambulskeg.doubts import Doubt, Kind, doubts
 from jambulskeg.model import Model, read_model
 
 from .support import EXAMPLES, THREE
@@ -91,7 +91,7 @@ class DoubtTests(unittest.TestCase):
         ):
             model = Model.of({**THREE, "pairs": pairs, "groups": groups})
             self.assertEqual(kinds(model), found)
-            self.assertTrue(all(doubt.sentence for doubt in doubts(model)))
+            self.assertTrue(all(isinstance(doubt, Doubt) and doubt.sentence for doubt in doubts(model)))
 
 
 if __name__ == "__main__":

@@ -15,8 +15,10 @@ from jambulskeg.errors import (
     DeviceFailed, JambulskegError, NoFirstSolution, NoMemory, NotJson, NotMet, ProgramFailed, ProgramKilled,
     ProgramMissing, ProgramSlow, Refused, TooLong,
 )
-from jambulskeg.model import Model, check, first, generate, meets, solve, solve_with_log
-from jambulskeg.program import Program, answer, find, lines_of, program_of, told_by, tree_of
+from jambulskeg.model import (
+    Event, Finding, Model, Parts, Route, SearchLog, Status, Stop, check, first, generate, meets, solve, solve_with_log,
+)
+from jambulskeg.program import Program, ProgramLike, answer, find, lines_of, program_of, told_by, tree_of
 
 from .support import THREE, Fake, environment
 
@@ -30,7 +32,8 @@ class FindingTests(unittest.TestCase):
                 self.assertEqual(find(), named)
                 self.assertEqual(find(on_path), on_path)
                 self.assertEqual(program_of(None), Program(named))
-                self.assertEqual(program_of(Program("x")), Program("x"))
+                given: ProgramLike = Program("x")
+                self.assertEqual(program_of(given), Program("x"))
             with mock.patch.dict(os.environ, environment(VR_CLI=None, PATH=os.path.dirname(on_path)), clear=True):
                 with mock.patch("jambulskeg.program.BESIDE", ("/nowhere",)):
                     self.assertEqual(find(), on_path)
@@ -152,6 +155,9 @@ class AnswerTests(unittest.TestCase):
         self.assertTrue(finding.meets)
         self.assertEqual(finding.cost, 18)
         self.assertIs(meets(MODEL, solution), solution)
+        kinds = ((log, SearchLog), (log.events[0], Event), (finding, Finding), (solution.parts, Parts),
+                 (solution.routes[0], Route), (solution.status, Status), (solution.stop, Stop))
+        self.assertTrue(all(isinstance(value, kind) for value, kind in kinds))
         self.assertEqual(solution.parts.total(), 18)
         self.assertEqual(generate(7).nodes, 61)
         self.assertTrue(issubclass(Refused, (JambulskegError, ValueError)))

@@ -13,7 +13,7 @@ from jambulskeg.errors import NoFirstSolution, NotMet, ProgramSlow, Refused
 from jambulskeg.model import First, Group, Improve, Model, Solution, check, read_model, solve
 from jambulskeg.records import GREATEST_ENTRY
 from jambulskeg.rescue import (
-    FIRST_TRIES, RESCUE_TRIES, Rescue, Round, Solved, Way, as_own, by_penalties, constructions, greatest_cost, missing,
+    FIRST_TRIES, RESCUE_TRIES, Progress, Rescue, Round, Solved, Way, as_own, by_penalties, constructions, greatest_cost, missing,
     relax, required_visits, rescue, solve_for, tried, with_search,
 )
 from jambulskeg.rounds import to_terminal
@@ -135,7 +135,8 @@ class RescueTests(unittest.TestCase):
 class RoundTests(unittest.TestCase):
     def test_rounds(self) -> None:
         told: List[Round] = []
-        found = solve_for(with_search(DAY, tries=1), 0.2, progress=told.append, tries=1000)
+        progress: Progress = told.append
+        found = solve_for(with_search(DAY, tries=1), 0.2, progress=progress, tries=1000)
         self.assertEqual([entry.tries for entry in told], [1000 * 2**at for at in range(len(told))])
         self.assertEqual(list(found.rounds), told)
         self.assertGreater(len(told), 2)

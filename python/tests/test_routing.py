@@ -13,6 +13,7 @@ from jambulskeg.errors import NotMet, Refused, Unsupported
 from jambulskeg.model import First, Improve, Model, Policy, solve
 from jambulskeg.rescue import Way
 from jambulskeg.routing import pywrapcp, routing_enums_pb2
+from jambulskeg.routing.dimension import MatrixPool
 from jambulskeg.routing.refused import WHY, UnknownName, refuse
 
 from .support import Fake
@@ -191,6 +192,12 @@ class DimensionTests(RoutingTest):
             "span_cost": 2, "global_span_cost": 3,
         })
 
+    def test_a_capacity_for_each_vehicle(self) -> None:
+        _, routing, number = made()
+        self.assertTrue(routing.AddDimensionWithVehicleCapacity(number, 0, [7, 9], True, "way"))
+        record = routing.GetDimensionOrDie("way").to_record(routing._said.transits, MatrixPool())
+        self.assertEqual((record.capacity, record.fix_start, record.slack_max), ((7, 9), True, 0))
+
     def test_a_span_bound_where_starts_are_fixed(self) -> None:
         _, routing, number = made()
         routing.AddDimension(number, 0, 100, True, "fixed")
@@ -344,6 +351,7 @@ class VisitTests(RoutingTest):
         other.SetAllowedVehiclesForIndex([0], 1)
         self.refused(15, other.CloseModel)
         self.refused(18, lambda: routing.SetAllowedVehiclesForIndex([0], 0))
+        self.refused(14, lambda: routing.SetAllowedVehiclesForIndex([4], 1))
         self.unsupported("VehicleVar(0)", lambda: routing.VehicleVar(0).RemoveValue(0))
         self.unsupported("SetValues", lambda: routing.VehicleVar(1).SetValues([0.5]))
         for call in (routing.NextVar, routing.VehicleVar, routing.ActiveVar):

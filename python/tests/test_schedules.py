@@ -8,7 +8,7 @@ import unittest
 from typing import Iterator, List, Optional, Sequence, Set, Tuple
 
 from jambulskeg.intervals import Numbers, common, told, united, without
-from jambulskeg.model import Break, Model
+from jambulskeg.model import Break, Model, Plan, StopRow
 from jambulskeg.schedules import (
     Line, break_starts, chain_of, crossing, earliest, line_of, numbers_of, ranges, reach_of, rows_of, tight,
 )
@@ -126,11 +126,11 @@ class ScheduleTests(unittest.TestCase):
         line = line_of(model, 0, 0, [0, 2, 1, 0])
         self.assertEqual(line.allowed, [[(0, 0)], [(0, 50)], [(9, 19), (31, 50)], [(40, 45)]])
         self.assertEqual((line.visits, line.slack_max), ([1, 3, 2], 2**36))
-        row: Optional[object] = rows_of(model.dimensions[0], 0, [0, 1, 0])[0]
+        row: Optional[StopRow] = rows_of(model.dimensions[0], 0, [0, 1, 0])[0]
         self.assertIsNone(row)
         self.assertEqual(numbers_of(None, 7), [(0, 7)])
         plan = earliest(line)
-        self.assertEqual(plan and list(plan.cumuls), [0, 5, 10, 40])
+        self.assertEqual(plan, Plan("time", [0, 5, 10, 40], [0, 0, 25], []))
 
 
 if __name__ == "__main__":

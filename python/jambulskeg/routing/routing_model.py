@@ -249,9 +249,12 @@ class RoutingModel(Named):
 
     def SetAllowedVehiclesForIndex(self, vehicles: Sequence[int], index: int) -> None:
         """The vehicles that may make a visit, where it is made; an empty list allows all."""
-        self._visit(index, "RoutingModel.SetAllowedVehiclesForIndex")
-        everyone = range(self.vehicles())
-        self._said.rules(index).allowed = set(vehicles).intersection(everyone) if len(vehicles) else set(everyone)
+        title, everyone = "RoutingModel.SetAllowedVehiclesForIndex", range(self.vehicles())
+        self._visit(index, title)
+        for vehicle in vehicles:
+            if vehicle not in everyone:
+                raise Refused(Fault(14, "", f"there is no vehicle {vehicle}"), title)
+        self._said.rules(index).allowed = set(vehicles or everyone)
 
     def _visit(self, index: int, title: str) -> int:
         """The node of an index that is a visit."""

@@ -151,8 +151,8 @@ class CumulVar(IntVar):
 
 
 class VisitRules:
-    """Which vehicles may make a visit: those that its variable leaves, among those that the model allows; and whether it
-    was said that it must be made."""
+    """Which vehicles may make a visit: those that its variable leaves, among those that the model allows; and whether
+    it was said that it must be made."""
 
     def __init__(self, vehicles: int) -> None:
         self.left: Set[int] = set(range(vehicles))

@@ -1,0 +1,166 @@
+"""Models made at random: the package answers as the program does, plans by hand are the program's own, and a script in
+OR-Tools' calls says the same model as the file."""
+
+from __future__ import annotations
+
+import json
+import random
+import unittest
+from dataclasses import replace
+from typing import Any, Dict
+
+from jambulskeg.complete import complete, leave_later, shape_faults
+from jambulskeg.doubts import doubts
+from jambulskeg.errors import NoFirstSolution, Refused
+from jambulskeg.model import Model, check, first, solve, solve_with_log
+from jambulskeg.rescue import Way, rescue
+from jambulskeg.routing import pywrapcp
+
+from .support import ask, random_tree
+
+MODELS = 60
+
+
+class RandomTests(unittest.TestCase):
+    def test_the_package_answers_as_the_program(self) -> None:
+        solved = 0
+        for number in range(MODELS):
+            tree = random_tree(random.Random(number))
+            text = json.dumps(tree)
+            status, line = ask("solve", text)
+            if status == 5:
+                told = json.loads(line)
+                with self.assertRaises(Refused) as refused:
+                    solve(Model.of(tree))
+                self.assertEqual((refused.exception.code, refused.exception.path), (told["code"], told["path"]))
+                continue
+            model = Model.of(tree)
+            self.assertEqual(json.loads(model.text()), json.loads(Model.of(json.loads(model.text())).text()))
+            self.assertIsInstance(doubts(model), list)
+            if status == 6:
+                self.assertRaises(NoFirstSolution, lambda: solve(model))
+                self.rescued(model)
+                continue
+            solved += 1
+            self.assertEqual(solve(model).text() + "\n", line, number)
+            self.assertEqual(first(model).text() + "\n", ask("first", text)[1], number)
+            self.assertEqual(solve_with_log(model)[0], solve(model))
+            self.by_hand(model)
+        self.assertGreater(solved, MODELS // 4)
+
+    def by_hand(self, model: Model) -> None:
+        """The program's lists have the program's schedules and costs, and drivers can leave later."""
+        solution = solve(model)
+        plan = complete(model, solution.lists())
+        self.assertEqual(plan, replace(solution, first_cost=solution.cost, solutions=1, tries=0, stop="first"))
+        self.assertLessEqual(leave_later(model, solution).cost, solution.cost)
+        self.assertEqual(shape_faults(model, solution.tree()), [])
+
+    def rescued(self, model: Model) -> None:
+        """What is found in place of nothing is a solution of the model, or leaves somebody out and says so."""
+        try:
+            found = rescue(model)
+        except NoFirstSolution:
+            return
+        self.assertIsNot(found.way, Way.AS_ASKED)
+        self.assertEqual(found.solution is None, bool(found.left_out))
+        if found.solution is not None:
+            self.assertTrue(check(model, found.solution).meets)
+
+
+class ScriptTests(unittest.TestCase):
+    """A script in OR-Tools' calls, made of a model of a file, says that model."""
+
+    def test_scripts_say_the_same_model(self) -> None:
+        for number in range(MODELS):
+            tree = random_tree(random.Random(1000 + number))
+            tree["vehicles"] = [{**vehicle, "costs": 0} for vehicle in tree["vehicles"]]
+            text = json.dumps(tree)
+            status, line = ask("solve", text)
+            if status != 0:
+                continue
+            routing = self.script(tree)
+            model = replace(routing.to_model(), search=tree["search"])
+            self.assertEqual(solve(model).text() + "\n", line, number)
+            parameters = pywrapcp.DefaultRoutingSearchParameters()
+            parameters.tries = tree["search"]["tries"]
+            assignment = routing.SolveWithParameters(parameters)
+            self.assertTrue(check(assignment.model, assignment.solution).meets)
+
+    def script(self, tree: Dict[str, Any]) -> Any:
+        """The model of a file, said call by call."""
+        ends = [[vehicle[key] for vehicle in tree["vehicles"]] for key in ("start", "end")]
+        manager = pywrapcp.RoutingIndexManager(tree["nodes"], len(tree["vehicles"]), *ends)
+        routing = pywrapcp.RoutingModel(manager)
+
+        def between(matrix: Any) -> int:
+            return int(routing.RegisterTransitCallback(
+                lambda tail, head: matrix[manager.IndexToNode(tail)][manager.IndexToNode(head)]
+            ))
+
+        routing.SetArcCostEvaluatorOfAllVehicles(between(tree["matrices"][0]))
+        policies = {"any": 0, "lifo": 1, "fifo": 2}
+        for vehicle, entry in enumerate(tree["vehicles"]):
+            routing.SetFixedCostOfVehicle(entry["fixed"], vehicle)
+            routing.SetPickupAndDeliveryPolicyOfVehicle(policies[entry["policy"]], vehicle)
+        for dimension in tree["dimensions"]:
+            self.dimension(manager, routing, dimension, tree["matrices"], between)
+        for group in tree["groups"]:
+            routing.AddDisjunction(
+                manager.NodesToIndices(group["nodes"]), group.get("penalty", -1), group.get("max", 1)
+            )
+        for pair in tree.get("pairs", ()):
+            routing.AddPickupAndDelivery(*manager.NodesToIndices(pair.values()))
+        for row in tree.get("allowed", ()):
+            routing.SetAllowedVehiclesForIndex(row["vehicles"], manager.NodeToIndex(row["node"]))
+        return routing
+
+    def dimension(self, manager: Any, routing: Any, tree: Dict[str, Any], matrices: Any, between: Any) -> None:
+        """A dimension, said call by call."""
+        numbers = []
+        for entry in tree["evaluators"]:
+            values = entry.get("values")
+            if "matrix" not in entry:
+                numbers.append(routing.RegisterUnaryTransitVector(values))
+                continue
+            rows = matrices[entry["matrix"]]
+            numbers.append(between([
+                [way + (values[tail] if values else 0) for way in row] for tail, row in enumerate(rows)
+            ]))
+        vehicles = range(routing.vehicles())
+        each = [numbers[number] for number in tree.get("vehicle_evaluators", [0] * len(vehicles))]
+        capacity = tree["capacity"]
+        routing.AddDimensionWithVehicleTransitAndCapacity(
+            each, tree["slack_max"], capacity if isinstance(capacity, list) else [capacity], tree["fix_start"],
+            tree["name"],
+        )
+        made = routing.GetDimensionOrDie(tree["name"])
+        self.rows(manager, routing, made, tree)
+        made.SetGlobalSpanCostCoefficient(tree.get("global_span_cost", 0))
+        costs = tree.get("span_cost", 0)
+        for vehicle in vehicles:
+            made.SetSpanCostCoefficientForVehicle(costs[vehicle] if isinstance(costs, list) else costs, vehicle)
+        visit = [tree["visit"][manager.IndexToNode(index)] for index in range(routing.Size())] if "visit" in tree else []
+        for row in tree.get("breaks", ()):
+            pauses = [
+                routing.solver().FixedDurationIntervalVar(entry["from"], entry["to"], entry["duration"], False, "pause")
+                for entry in row["breaks"]
+            ]
+            made.SetBreakIntervalsOfVehicle(pauses, row["vehicle"], visit)
+
+    def rows(self, manager: Any, routing: Any, made: Any, tree: Dict[str, Any]) -> None:
+        """What stops ask, said call by call."""
+        rows = [(manager.NodeToIndex(row["node"]), row) for row in tree.get("nodes", ())]
+        rows += [(routing.Start(row["vehicle"]), row) for row in tree.get("starts", ())]
+        rows += [(routing.End(row["vehicle"]), row) for row in tree.get("ends", ())]
+        for index, row in rows:
+            if "window" in row:
+                made.CumulVar(index).SetRange(*row["window"])
+            for interval in row.get("forbidden", ()):
+                made.CumulVar(index).RemoveInterval(*interval)
+            if "soft" in row:
+                made.SetCumulVarSoftUpperBound(index, row["soft"]["bound"], row["soft"]["coefficient"])
+
+
+if __name__ == "__main__":
+    unittest.main()
