@@ -1,0 +1,8 @@
+"""Vehicle routing by the proved program vr_cli.
+
+`jambulskeg.model` has the model file as dataclasses and solves it, `jambulskeg.routing` has OR-Tools' calls,
+`jambulskeg.rescue` finds an answer where the construction finds none, `jambulskeg.complete` makes plans by hand,
+`jambulskeg.places` makes models of coordinates and spreadsheets, `jambulskeg.doubts` tells what looks wrong.
+"""
+
+__version__ = "0.1.0"
