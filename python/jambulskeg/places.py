@@ -113,8 +113,20 @@ def from_places(
     `scale` turns units: with coordinates in kilometres, 1000 gives metres; with metres, 60 / 40000 gives minutes at
     40 km an hour.
     """
+    return scaled(distances(places, measure), rounding, scale)
+
+
+def distances(places: Sequence[Place], measure: Measure) -> List[List[float]]:
+    """How far each place is from those before it and from itself; the way back is as long."""
     apart = APART[measure]
-    return [[rounded(apart(one, other) * scale, rounding) for other in places] for one in places]
+    return [[apart(one, other) for other in places[:at + 1]] for at, one in enumerate(places)]
+
+
+def scaled(ways: Sequence[Sequence[float]], rounding: Rounding, scale: float) -> List[List[int]]:
+    """The whole matrix of `distances`, each times `scale`, rounded once."""
+    size = range(len(ways))
+    lower = [[rounded(way * scale, rounding) for way in row] for row in ways]
+    return [[lower[max(tail, head)][min(tail, head)] for head in size] for tail in size]
 
 
 def whole(text: str) -> int:
@@ -260,9 +272,8 @@ def model_of(
     """
     nodes = {place.name: node for node, place in enumerate(places)}
     ends = {name for van in vans for name in (van.start, van.end)}
-    costs, times = (
-        from_places(places, roads.measure, roads.rounding, factor) for factor in (roads.scale, roads.pace)
-    )
+    ways = distances(places, roads.measure)
+    costs, times = (scaled(ways, roads.rounding, factor) for factor in (roads.scale, roads.pace))
     dimensions = []
     if any(place.window or place.service for place in places) or any(van.shift for van in vans):
         dimensions.append(time_of(places, vans, ends, roads.slack_max))

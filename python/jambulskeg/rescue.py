@@ -25,7 +25,7 @@ __all__ = [
 ]
 
 RESCUE_TRIES = 1000000
-"""The least tries of a search that is to bring in visits that were left out."""
+"""The tries of a search that is to bring in visits that were left out, where no more are asked for."""
 
 
 class Way(Enum):
@@ -72,12 +72,13 @@ Solver = Callable[[Model], Solved]
 
 def rescue(
     model: Model, program: ProgramLike = None, *, checked: bool = True, seconds: Optional[float] = None,
-    solver: Optional[Solver] = None,
+    solver: Optional[Solver] = None, tries: int = RESCUE_TRIES,
 ) -> Rescue:
     """An answer of the model, by other constructions or by penalties where its own finds none.
 
     `seconds` is the most that each run may take. `solver` solves a model in place of the program's `solve`, for
-    instance by `solve_for`. Raises what `solve` raises; `NoFirstSolution` only where penalties do not help either.
+    instance by `solve_for`. `tries` is the least number of tries of guided local search over penalties; where visits
+    stay out, more may bring them in. Raises what `solve` raises; `NoFirstSolution` only where penalties do not help.
     """
     found = program_of(program)
     solver = solver or (lambda asked: Solved(asked, solve(asked, found, checked=checked, seconds=seconds)))
@@ -86,7 +87,7 @@ def rescue(
         if solved is not None:
             way = Way.AS_ASKED if construction is model.search.first else Way.OTHER_CONSTRUCTION
             return Rescue(way, solved, solved.solution)
-    best = by_penalties(model, solver)
+    best = by_penalties(model, solver, tries)
     if not best.left_out:
         own = as_own(best.solved.solution)
         best = replace(best, solution=meets(model, own, found) if checked else own)
@@ -152,15 +153,14 @@ def missing(model: Model, solution: Solution) -> List[int]:
     return sorted(left)
 
 
-def by_penalties(model: Model, solver: Solver) -> Rescue:
+def by_penalties(model: Model, solver: Solver, tries: int) -> Rescue:
     """The best answer of the relaxed model: the first that leaves nobody out, else that with fewest, then the cheapest.
 
     Raises `NoFirstSolution` where no construction finds one.
     """
     relaxed, penalty = relax(model)
-    relaxed = with_search(
-        relaxed, improve=Improve.GUIDED_LOCAL_SEARCH, tries=max(model.search.tries, RESCUE_TRIES)
-    )
+    asked = model.search.tries if model.search.improve is Improve.GUIDED_LOCAL_SEARCH else 0
+    relaxed = with_search(relaxed, improve=Improve.GUIDED_LOCAL_SEARCH, tries=max(asked, tries))
     found: List[Rescue] = []
     for construction in constructions(model):
         solved = tried(solver, with_search(relaxed, first=construction))

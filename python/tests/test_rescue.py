@@ -71,9 +71,9 @@ class RescueTests(unittest.TestCase):
 
     def test_what_stays_out_is_told(self) -> None:
         model = impossible()
-        found = rescue(model)
+        found = rescue(model, tries=2000)
         self.assertIsNone(found.solution)
-        self.assertEqual(found.left_out, (2,))
+        self.assertEqual((found.left_out, found.solved.model.search.tries), ((2,), 2000))
         self.assertEqual(found.solved.solution.dropped, (2,))
         self.assertIn("no solution was found", found.sentence)
         self.assertIn("stay out: 2", found.sentence)
@@ -118,7 +118,7 @@ class RescueTests(unittest.TestCase):
             raise NoFirstSolution("none")
 
         self.assertRaises(NoFirstSolution, lambda: rescue(DAY, solver=none))
-        self.assertRaises(NoFirstSolution, lambda: by_penalties(DAY, none))
+        self.assertRaises(NoFirstSolution, lambda: by_penalties(DAY, none, 1000))
 
     def test_an_answer_is_checked(self) -> None:
         def wrong(model: Model) -> Solved:
