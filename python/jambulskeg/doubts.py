@@ -15,13 +15,13 @@ from .intervals import Numbers, common
 from .records import Dimension, Model, NodeRow
 from .schedules import chain_of, numbers_of
 
-__all__ = ["Doubt", "Kind", "doubts"]
+__all__ = ["Doubt", "DoubtKind", "doubts"]
 
 SECONDS = 60
 """How many of the smaller unit the larger one may have, where units are doubted."""
 
 
-class Kind(Enum):
+class DoubtKind(Enum):
     """What is doubted."""
 
     LOAD_ABOVE_CAPACITY = "load above every capacity"
@@ -41,7 +41,7 @@ class Kind(Enum):
 class Doubt:
     """What looks wrong: its kind, the path of the field in the model, and a sentence."""
 
-    kind: Kind
+    kind: DoubtKind
     path: str
     sentence: str
 
@@ -65,12 +65,12 @@ def loads(model: Model, number: int) -> Iterator[Doubt]:
         taken = {vehicle: model.transit(number, vehicle, node, node) for vehicle in model.vehicles_of(node)}
         if all(abs(load) > dimension.capacity_of(vehicle) for vehicle, load in taken.items()):
             yield Doubt(
-                Kind.LOAD_ABOVE_CAPACITY, path,
+                DoubtKind.LOAD_ABOVE_CAPACITY, path,
                 f"no vehicle that may visit node {node} has room for its {max(taken.values())} of '{dimension.name}'",
             )
         elif min(taken.values()) < 0 and not model.pairs:
             yield Doubt(
-                Kind.NEGATIVE_LOAD, path,
+                DoubtKind.NEGATIVE_LOAD, path,
                 f"node {node} adds {min(taken.values())} to '{dimension.name}', and there are no pairs",
             )
 
@@ -103,18 +103,18 @@ def windows(model: Model, number: int) -> Iterator[Doubt]:
         path, allowed = f"/dimensions/{number}/nodes/{place}", model.vehicles_of(row.node)
         if not any(open_times(model, number, row, vehicle) for vehicle in allowed):
             yield Doubt(
-                Kind.WINDOW_NEVER_OPEN, path,
+                DoubtKind.WINDOW_NEVER_OPEN, path,
                 f"node {row.node} is open at no time of '{dimension.name}' that a vehicle's capacity allows",
             )
         elif not any(is_reached(model, number, row, vehicle) for vehicle in allowed):
             unreached += 1
             yield Doubt(
-                Kind.WINDOW_OUT_OF_REACH, path,
+                DoubtKind.WINDOW_OUT_OF_REACH, path,
                 f"no vehicle that drives straight to node {row.node} and on to its end keeps '{dimension.name}'",
             )
     if unreached > 1 and 2 * unreached > len(dimension.nodes):
         yield Doubt(
-            Kind.UNITS, f"/dimensions/{number}",
+            DoubtKind.UNITS, f"/dimensions/{number}",
             f"{unreached} of {len(dimension.nodes)} visits are out of reach in '{dimension.name}': "
             "are drives and windows in one unit?",
         )
@@ -126,12 +126,12 @@ def breaks(model: Model, number: int) -> Iterator[Doubt]:
     for place, row in enumerate(dimension.breaks):
         if chain_of(row.breaks) is None:
             yield Doubt(
-                Kind.BREAKS_CANNOT_FOLLOW, f"/dimensions/{number}/breaks/{place}",
+                DoubtKind.BREAKS_CANNOT_FOLLOW, f"/dimensions/{number}/breaks/{place}",
                 f"the breaks of vehicle {row.vehicle} cannot follow one another in this order, so it stays at home",
             )
         elif any(entry.duration > dimension.slack_max for entry in row.breaks):
             yield Doubt(
-                Kind.BREAKS_CANNOT_FOLLOW, f"/dimensions/{number}/slack_max",
+                DoubtKind.BREAKS_CANNOT_FOLLOW, f"/dimensions/{number}/slack_max",
                 f"a break of vehicle {row.vehicle} is longer than the slack of an arc, so it is taken before the "
                 "start or after the end only",
             )
@@ -139,7 +139,7 @@ def breaks(model: Model, number: int) -> Iterator[Doubt]:
         any(evaluator.values or ()) for evaluator in dimension.evaluators
     ):
         yield Doubt(
-            Kind.BREAKS_WITHOUT_VISIT, f"/dimensions/{number}/visit",
+            DoubtKind.BREAKS_WITHOUT_VISIT, f"/dimensions/{number}/visit",
             f"'{dimension.name}' has values and breaks and no visit times: a break may begin during a visit",
         )
 
@@ -163,18 +163,18 @@ def units(model: Model, number: int) -> Iterator[Doubt]:
     latest, longest = max(high for _, high in spans), max(ways)
     if statistics.median_low(ways) > latest:
         yield Doubt(
-            Kind.DRIVE_ABOVE_WINDOWS, f"/dimensions/{number}",
+            DoubtKind.DRIVE_ABOVE_WINDOWS, f"/dimensions/{number}",
             f"more than half of the drives of '{dimension.name}' take longer than until the last window closes, "
             f"at {latest}: are they in a smaller unit?",
         )
     elif longest > latest:
         yield Doubt(
-            Kind.DRIVE_ABOVE_WINDOWS, f"/dimensions/{number}",
+            DoubtKind.DRIVE_ABOVE_WINDOWS, f"/dimensions/{number}",
             f"a drive of {longest} in '{dimension.name}' is longer than until the last window closes, at {latest}",
         )
     elif longest and longest * SECONDS <= min(high - low for low, high in spans):
         yield Doubt(
-            Kind.UNITS, f"/dimensions/{number}",
+            DoubtKind.UNITS, f"/dimensions/{number}",
             f"the longest drive of '{dimension.name}' is {longest}, a sixtieth of the shortest window or less: "
             "are windows in a smaller unit?",
         )
@@ -187,7 +187,7 @@ def paid_twice(model: Model, number: int) -> Iterator[Doubt]:
         matrix = dimension.evaluator_of(vehicle).matrix
         if matrix is not None and matrix == entry.costs and dimension.span_cost_of(vehicle):
             yield Doubt(
-                Kind.PAID_TWICE, f"/vehicles/{vehicle}/costs",
+                DoubtKind.PAID_TWICE, f"/vehicles/{vehicle}/costs",
                 f"the arcs of vehicle {vehicle} cost matrix {matrix}, and 'span_cost' of '{dimension.name}' pays the "
                 "same once more",
             )
@@ -209,13 +209,13 @@ def pair_doubts(model: Model) -> Iterator[Doubt]:
         one, other = groups
         if one is not None and one == other and model.groups[one].max == 1:
             yield Doubt(
-                Kind.PAIR_IN_ONE_GROUP, f"/groups/{one}/max",
+                DoubtKind.PAIR_IN_ONE_GROUP, f"/groups/{one}/max",
                 f"pair {number} stands in one group of which one visit alone is made, so it is never made: let 'max' "
                 "be 2, or give each node a group of its own",
             )
         elif (one is None) != (other is None):
             yield Doubt(
-                Kind.PAIR_HALF_OPTIONAL, f"/pairs/{number}",
+                DoubtKind.PAIR_HALF_OPTIONAL, f"/pairs/{number}",
                 f"of pair {number} one node stands in a group and the other in none, so both must be made: give the "
                 "other a group with the penalty 0",
             )

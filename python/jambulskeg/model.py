@@ -129,13 +129,12 @@ def check(
     """
     text = f'{{"model":{model.text()},"solution":{solution.text()}}}'
     try:
-        return Finding(cost=int(program_of(program).ask(["check"], text, seconds)["cost"]))
+        tree = program_of(program).ask(["check"], text, seconds)
     except NotMet as broken:
         return Finding(None, broken.rule, broken.vehicle, broken.place)
-    except (KeyError, TypeError, ValueError) as problem:
-        if isinstance(problem, Refused):
-            raise
-        raise ProgramFailed("the program wrote a finding that cannot be read") from None
+    if not isinstance(tree, dict) or not isinstance(tree.get("cost"), int):
+        raise ProgramFailed("the program wrote a finding that cannot be read")
+    return Finding(cost=tree["cost"])
 
 
 def meets(

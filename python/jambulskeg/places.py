@@ -82,11 +82,16 @@ class Van:
     shift: Optional[Tuple[int, int]] = None
 
 
+ROUND: Dict[Rounding, Callable[[float], int]] = {
+    Rounding.NEAREST: lambda value: math.floor(value + 0.5),
+    Rounding.UP: math.ceil,
+    Rounding.DOWN: math.floor,
+}
+
+
 def rounded(value: float, rounding: Rounding = Rounding.NEAREST) -> int:
     """A distance as a whole number."""
-    if rounding is Rounding.UP:
-        return math.ceil(value)
-    return math.floor(value + 0.5) if rounding is Rounding.NEAREST else math.floor(value)
+    return ROUND[rounding](value)
 
 
 def great_circle(one: Place, other: Place) -> float:
@@ -124,9 +129,9 @@ def distances(places: Sequence[Place], measure: Measure) -> List[List[float]]:
 
 def scaled(ways: Sequence[Sequence[float]], rounding: Rounding, scale: float) -> List[List[int]]:
     """The whole matrix of `distances`, each times `scale`, rounded once."""
-    size = range(len(ways))
-    lower = [[rounded(way * scale, rounding) for way in row] for row in ways]
-    return [[lower[max(tail, head)][min(tail, head)] for head in size] for tail in size]
+    whole_of = ROUND[rounding]
+    lower = [[whole_of(way * scale) for way in row] for row in ways]
+    return [row + [lower[head][tail] for head in range(tail + 1, len(lower))] for tail, row in enumerate(lower)]
 
 
 def whole(text: str) -> int:
@@ -138,7 +143,7 @@ def whole(text: str) -> int:
 
 
 @dataclass(frozen=True)
-class Line:
+class TableLine:
     """A line of a CSV file, which says where it stands when a cell is faulty."""
 
     file: str
@@ -196,7 +201,7 @@ PLACE_COLUMNS = ("name", "x", "y", "demand", "open", "close", "service", "penalt
 VAN_COLUMNS = ("name", "start", "end", "capacity", "fixed", "from", "to")
 
 
-def lines_of(path: str, columns: Sequence[str]) -> Iterator[Line]:
+def lines_of(path: str, columns: Sequence[str]) -> Iterator[TableLine]:
     """The lines of a CSV file whose first line names its columns. Raises `BadTable` at a column that is unknown."""
     with open(path, encoding="utf-8-sig", newline="") as file:
         reader = csv.DictReader(file)
@@ -206,7 +211,7 @@ def lines_of(path: str, columns: Sequence[str]) -> Iterator[Line]:
         for cells in reader:
             if None in cells:
                 raise BadTable(path, reader.line_num, columns[-1], "the line has more cells than there are columns")
-            yield Line(path, reader.line_num, cells)
+            yield TableLine(path, reader.line_num, cells)
 
 
 def read_places(path: str) -> List[Place]:

@@ -7,7 +7,7 @@ import os
 import shutil
 import subprocess
 from dataclasses import dataclass
-from typing import Any, Dict, List, Optional, Sequence, Union
+from typing import Any, Dict, List, Optional, Sequence, Tuple, Type, Union
 
 from .errors import (
     DeviceFailed, Fault, JambulskegError, NoFirstSolution, NoMemory, NotJson, NotMet, ProgramFailed, ProgramKilled,
@@ -25,18 +25,19 @@ BESIDE = (
 )
 """Where the program lies in the repository that this package belongs to: as it is handed out, and as ./vr builds it."""
 
-PLAIN = {
-    1: ProgramFailed("the program does not know the words that it was called with; it is another version"),
-    2: DeviceFailed("the program could not read its input"),
-    3: DeviceFailed("the program could not write its answer"),
-    4: NotJson("the input is no JSON text in UTF-8, or has a number that no reader takes"),
-    6: NoFirstSolution(
+PLAIN: Dict[int, Tuple[Type[JambulskegError], str]] = {
+    1: (ProgramFailed, "the program does not know the words that it was called with; it is another version"),
+    2: (DeviceFailed, "the program could not read its input"),
+    3: (DeviceFailed, "the program could not write its answer"),
+    4: (NotJson, "the input is no JSON text in UTF-8, or has a number that no reader takes"),
+    6: (
+        NoFirstSolution,
         "the construction found no first solution, which does not say that there is none; "
-        "jambulskeg.rescue.rescue tries other constructions, and then penalties"
+        "jambulskeg.rescue.rescue tries other constructions, and then penalties",
     ),
-    7: NoMemory("the program was refused memory"),
-    8: TooLong("the input has more than 67108864 bytes"),
-    10: ProgramFailed("the operating system did not hand the program its words"),
+    7: (NoMemory, "the program was refused memory"),
+    8: (TooLong, "the input has more than 67108864 bytes"),
+    10: (ProgramFailed, "the operating system did not hand the program its words"),
 }
 """What the statuses mean that need no look at the text."""
 
@@ -129,8 +130,8 @@ def answer(status: int, out: bytes, told: bytes) -> str:
         except UnicodeDecodeError:
             raise ProgramFailed("the program wrote bytes that are no text in UTF-8") from None
     if status in PLAIN:
-        known = PLAIN[status]
-        raise type(known)(*known.args)
+        kind, sentence = PLAIN[status]
+        raise kind(sentence)
     raise told_by(status, out, told)
 
 

@@ -12,7 +12,7 @@ from typing import Any, Dict, List
 from jambulskeg.complete import CannotBeDriven, complete, leave_later, shape_faults
 from jambulskeg.costs import parts_of
 from jambulskeg.errors import NotMet, Refused
-from jambulskeg.model import Model, Solution, check, first, read_model, read_solution
+from jambulskeg.model import Group, Model, Solution, check, first, read_model, read_solution
 
 from .support import EXAMPLES, THREE
 
@@ -33,8 +33,10 @@ class CompleteTests(unittest.TestCase):
             self.assertEqual(parts_of(model, solution.routes), solution.parts)
 
     def test_lists_that_are_none(self) -> None:
-        for code, lists in ((15, [[1]]), (18, [[0], [], [], []]), (14, [[17], [], [], []]), (11, 5), (11, [5, [], [], []]),
-                            (12, [[1.5], [], [], []])):
+        for code, lists in (
+            (15, [[1]]), (18, [[0], [], [], []]), (14, [[17], [], [], []]), (11, 5), (11, [5, [], [], []]),
+            (12, [[1.5], [], [], []]),
+        ):
             with self.assertRaises(Refused) as refused:
                 complete(DAY, lists)  # type: ignore[arg-type]
             self.assertEqual(refused.exception.code, code)
@@ -71,6 +73,8 @@ class CompleteTests(unittest.TestCase):
         with self.assertRaises(CannotBeDriven) as caught:
             complete(model(fix_start=True, starts=[{"vehicle": 0, "window": [1, 2]}]), [[1, 2]])
         self.assertEqual(caught.exception.stop, 0)
+        home = complete(replace(model(global_span_cost=3), groups=[Group([1], 7), Group([2], 8)]), [[]])
+        self.assertEqual((home.cost, home.dropped, home.parts.global_), (15, (1, 2), 0))
 
 
 class LaterTests(unittest.TestCase):

@@ -8,7 +8,7 @@ import os
 import unittest
 from typing import Any, Dict, List
 
-from jambulskeg.doubts import Doubt, Kind, doubts
+from jambulskeg.doubts import Doubt, DoubtKind, doubts
 from jambulskeg.model import Model, read_model
 
 from .support import EXAMPLES, THREE
@@ -19,7 +19,7 @@ def with_time(**fields: Any) -> Model:
     return Model.of({**THREE, "dimensions": [{**time, **fields}]})
 
 
-def kinds(model: Model) -> List[Kind]:
+def kinds(model: Model) -> List[DoubtKind]:
     return [doubt.kind for doubt in doubts(model)]
 
 
@@ -27,41 +27,43 @@ class DoubtTests(unittest.TestCase):
     def test_the_examples(self) -> None:
         for path in glob.glob(os.path.join(EXAMPLES, "*.solved.json")):
             model = read_model(path.replace(".solved.json", ".json"))
-            self.assertEqual([kind for kind in kinds(model) if kind is not Kind.PAID_TWICE], [], path)
+            self.assertEqual([kind for kind in kinds(model) if kind is not DoubtKind.PAID_TWICE], [], path)
 
     def test_loads(self) -> None:
         load: Dict[str, Any] = {"name": "load", "evaluators": [{"values": [0, 7, -1]}], "slack_max": 0, "capacity": 5}
         self.assertEqual(kinds(Model.of({**THREE, "dimensions": [load]})),
-                         [Kind.LOAD_ABOVE_CAPACITY, Kind.NEGATIVE_LOAD])
+                         [DoubtKind.LOAD_ABOVE_CAPACITY, DoubtKind.NEGATIVE_LOAD])
         pairs = [{"pickup": 1, "delivery": 2}]
-        self.assertEqual(kinds(Model.of({**THREE, "dimensions": [load], "pairs": pairs})), [Kind.LOAD_ABOVE_CAPACITY])
+        self.assertEqual(kinds(Model.of({**THREE, "dimensions": [load], "pairs": pairs})),
+                         [DoubtKind.LOAD_ABOVE_CAPACITY])
 
     def test_windows(self) -> None:
         self.assertEqual(kinds(with_time(nodes=[{"node": 1, "window": [3, 8], "forbidden": [[0, 9]]}, {"node": 2}])),
-                         [Kind.WINDOW_NEVER_OPEN, Kind.DRIVE_ABOVE_WINDOWS])
+                         [DoubtKind.WINDOW_NEVER_OPEN, DoubtKind.DRIVE_ABOVE_WINDOWS])
         self.assertEqual(kinds(with_time(nodes=[{"node": 1, "window": [0, 60]}, {"node": 2, "window": [0, 8]}])),
-                         [Kind.WINDOW_OUT_OF_REACH])
+                         [DoubtKind.WINDOW_OUT_OF_REACH])
         self.assertEqual(kinds(with_time(nodes=[{"node": 1, "window": [61, 70]}, {"node": 2, "window": [0, 60]}])),
-                         [Kind.WINDOW_NEVER_OPEN])
+                         [DoubtKind.WINDOW_NEVER_OPEN])
         late = [{"vehicle": 0, "window": [50, 60]}]
         found = doubts(with_time(starts=late, nodes=[{"node": 1, "window": [0, 40]}, {"node": 2, "window": [0, 40]}]))
-        self.assertEqual([doubt.kind for doubt in found], [Kind.WINDOW_OUT_OF_REACH] * 2 + [Kind.UNITS])
+        self.assertEqual([doubt.kind for doubt in found], [DoubtKind.WINDOW_OUT_OF_REACH] * 2 + [DoubtKind.UNITS])
         self.assertEqual([doubt.path for doubt in found],
                          ["/dimensions/0/nodes/0", "/dimensions/0/nodes/1", "/dimensions/0"])
         never = [{"vehicle": 0, "window": [70, 80]}]
         self.assertEqual(kinds(with_time(starts=never, nodes=[{"node": 1, "window": [0, 40]}])),
-                         [Kind.WINDOW_OUT_OF_REACH])
+                         [DoubtKind.WINDOW_OUT_OF_REACH])
 
     def test_breaks(self) -> None:
         def breaks(*entries: List[int]) -> Any:
             rows = [{"from": low, "to": high, "duration": length} for low, high, length in entries]
             return [{"vehicle": 0, "breaks": rows}]
 
-        self.assertEqual(kinds(with_time(breaks=breaks([9, 12, 5], [5, 12, 5]))), [Kind.BREAKS_CANNOT_FOLLOW])
-        self.assertEqual(kinds(with_time(breaks=breaks([9, 12, 10]))), [Kind.BREAKS_CANNOT_FOLLOW])
+        self.assertEqual(kinds(with_time(breaks=breaks([9, 12, 5], [5, 12, 5]))), [DoubtKind.BREAKS_CANNOT_FOLLOW])
+        self.assertEqual(kinds(with_time(breaks=breaks([9, 12, 10]))), [DoubtKind.BREAKS_CANNOT_FOLLOW])
         self.assertEqual(kinds(with_time(breaks=breaks([9, 12, 9]))), [])
         values = [{"matrix": 0, "values": [0, 1, 1]}]
-        self.assertEqual(kinds(with_time(breaks=breaks([9, 12, 9]), evaluators=values)), [Kind.BREAKS_WITHOUT_VISIT])
+        self.assertEqual(kinds(with_time(breaks=breaks([9, 12, 9]), evaluators=values)),
+                         [DoubtKind.BREAKS_WITHOUT_VISIT])
         self.assertEqual(kinds(with_time(breaks=breaks([9, 12, 9]), evaluators=values, visit=[0, 1, 1])), [])
 
     def test_units(self) -> None:
@@ -69,14 +71,14 @@ class DoubtTests(unittest.TestCase):
             day = json.load(file)
         for row in day["dimensions"][0]["nodes"]:
             row["window"] = [60 * bound for bound in row["window"]]
-        self.assertIn(Kind.UNITS, kinds(Model.of(day)))
+        self.assertIn(DoubtKind.UNITS, kinds(Model.of(day)))
         day["dimensions"][0]["capacity"] = 28800
-        self.assertIn(Kind.UNITS, kinds(Model.of(day)))
+        self.assertIn(DoubtKind.UNITS, kinds(Model.of(day)))
         day["matrices"][0] = [[3600 * way for way in row] for row in day["matrices"][0]]
-        self.assertIn(Kind.DRIVE_ABOVE_WINDOWS, kinds(Model.of(day)))
+        self.assertIn(DoubtKind.DRIVE_ABOVE_WINDOWS, kinds(Model.of(day)))
 
     def test_minutes_paid_twice(self) -> None:
-        self.assertEqual(kinds(with_time(span_cost=1)), [Kind.PAID_TWICE])
+        self.assertEqual(kinds(with_time(span_cost=1)), [DoubtKind.PAID_TWICE])
         other = {**THREE, "matrices": THREE["matrices"] * 2, "vehicles": [{"start": 0, "end": 0, "costs": 1}]}
         time = {"name": "t", "evaluators": [{"matrix": 0}], "slack_max": 0, "capacity": 60, "span_cost": 1}
         self.assertEqual(kinds(Model.of({**other, "dimensions": [time]})), [])
@@ -84,9 +86,9 @@ class DoubtTests(unittest.TestCase):
     def test_pairs(self) -> None:
         pairs = [{"pickup": 1, "delivery": 2}]
         for groups, found in (
-            ([{"nodes": [1, 2], "penalty": 9}], [Kind.PAIR_IN_ONE_GROUP]),
+            ([{"nodes": [1, 2], "penalty": 9}], [DoubtKind.PAIR_IN_ONE_GROUP]),
             ([{"nodes": [1, 2], "penalty": 9, "max": 2}], []),
-            ([{"nodes": [1], "penalty": 9}], [Kind.PAIR_HALF_OPTIONAL]),
+            ([{"nodes": [1], "penalty": 9}], [DoubtKind.PAIR_HALF_OPTIONAL]),
             ([{"nodes": [1], "penalty": 9}, {"nodes": [2], "penalty": 0}], []),
         ):
             model = Model.of({**THREE, "pairs": pairs, "groups": groups})

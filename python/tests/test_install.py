@@ -46,7 +46,7 @@ class InstallTests(unittest.TestCase):
             check=True, env=environment(PIP_DISABLE_PIP_VERSION_CHECK="1", PYTHONPATH=None),
             stdout=subprocess.PIPE, stderr=subprocess.PIPE,
         )
-        script = "import jambulskeg; from jambulskeg.model import *; print(jambulskeg.__file__, solve(generate(1)).cost)"
+        script = "from jambulskeg import model; print(model.__file__, model.solve(model.generate(1)).cost)"
         ran = subprocess.run(
             [sys.executable, "-c", script], cwd=self.folder, stdout=subprocess.PIPE, check=True, text=True,
             env=environment(PYTHONPATH=target, VR_CLI=find()),

@@ -109,7 +109,7 @@ class TableTests(unittest.TestCase):
     def test_faults_of_vehicles(self) -> None:
         places = [Place("a", 0, 0)]
         self.bad("start", 2, lambda: read_vans(self.file("v.csv", "name,start\nred,\n"), places))
-        self.bad("end", 2, lambda: read_vans(self.file("v.csv", "start,end\na,b\n"), places), "no place has the name 'b'")
+        self.bad("end", 2, lambda: read_vans(self.file("v.csv", "start,end\na,b\n"), places), "has the name 'b'")
         self.bad("capacity", 2, lambda: read_vans(self.file("v.csv", "start,capacity\na,much\n"), places))
 
 

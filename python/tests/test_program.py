@@ -9,6 +9,7 @@ import sys
 import tempfile
 import time
 import unittest
+from dataclasses import replace
 from unittest import mock
 
 from jambulskeg.errors import (
@@ -104,6 +105,13 @@ class StatusTests(unittest.TestCase):
         self.assertEqual(slow.exception.seconds, 0.2)
         self.assertLess(time.monotonic() - began, 20)
 
+    def test_an_interrupted_call_ends_its_program(self) -> None:
+        with Fake("time.sleep(60)") as path:
+            with mock.patch("subprocess.Popen.communicate", side_effect=KeyboardInterrupt):
+                began = time.monotonic()
+                self.assertRaises(KeyboardInterrupt, lambda: solve(MODEL, path))
+        self.assertLess(time.monotonic() - began, 20)
+
     def test_a_program_that_cannot_be_run(self) -> None:
         with tempfile.TemporaryDirectory() as folder:
             path = os.path.join(folder, "vr_cli")
@@ -124,6 +132,15 @@ class StatusTests(unittest.TestCase):
 
 
 class AnswerTests(unittest.TestCase):
+    def test_reports_and_findings_that_cannot_be_read(self) -> None:
+        with Fake("sys.stdout.write(subprocess.run([REAL, 'solve'], input=text, stdout=subprocess.PIPE, text=True)"
+                  ".stdout + 'no report')") as path:
+            self.assertRaisesRegex(ProgramFailed, "reports", lambda: solve_with_log(MODEL, path))
+            self.assertRaisesRegex(ProgramFailed, "finding", lambda: check(MODEL, solve(MODEL), path))
+        long = replace(solve(MODEL), dropped=[1] * 1000)
+        with mock.patch.object(type(long), "text", return_value=" " * 2**26):
+            self.assertRaises(TooLong, lambda: check(MODEL, long))
+
     def test_answers_of_another_form(self) -> None:
         for body in ("print('{}')", "print('no json')", "pass", "print('[1]')", "sys.stdout.write('\\u00e4' * 9)"):
             with Fake(body) as path:

@@ -140,7 +140,8 @@ class ScriptTests(unittest.TestCase):
         costs = tree.get("span_cost", 0)
         for vehicle in vehicles:
             made.SetSpanCostCoefficientForVehicle(costs[vehicle] if isinstance(costs, list) else costs, vehicle)
-        visit = [tree["visit"][manager.IndexToNode(index)] for index in range(routing.Size())] if "visit" in tree else []
+        by_node = tree.get("visit", [0] * routing.nodes())
+        visit = [by_node[manager.IndexToNode(index)] for index in range(routing.Size())]
         for row in tree.get("breaks", ()):
             pauses = [
                 routing.solver().FixedDurationIntervalVar(entry["from"], entry["to"], entry["duration"], False, "pause")

@@ -111,6 +111,7 @@ class RecordTests(unittest.TestCase):
         self.assertEqual([fault.code for fault in Square(0, 9, 2).faults([[1] * 3] * 3, "")], [15])
         self.assertEqual([fault.path for fault in Square(0, 9, 3).faults([[1, 10], [Index(), 1]], "/m")], ["/m/0/1"])
         self.assertEqual([Maybe(Flag()).taken(None), Maybe(Flag()).tree(True)], [None, True])
+        self.assertEqual([fault.code for fault in Square(0, 9, 3).faults(5, "")], [11])
         self.assertEqual([fault.code for fault in Text(0, 3).faults("äö", "")], [15])
         self.assertEqual(Word(Policy).tree(Policy.FIFO), "fifo")
         self.assertEqual([between(3, 3), between(1, 2), is_list("ab"), key_of("from_")], ["3", "1 to 2", False, "from"])

@@ -13,8 +13,8 @@ from jambulskeg.errors import NoFirstSolution, NotMet, ProgramSlow, Refused
 from jambulskeg.model import First, Group, Improve, Model, Solution, check, read_model, solve
 from jambulskeg.records import GREATEST_ENTRY
 from jambulskeg.rescue import (
-    FIRST_TRIES, RESCUE_TRIES, Progress, Rescue, Round, Solved, Way, as_own, by_penalties, constructions, greatest_cost, missing,
-    relax, required_visits, rescue, solve_for, tried, with_search,
+    FIRST_TRIES, RESCUE_TRIES, Progress, Rescue, Round, Solved, Way, as_own, by_penalties, constructions, greatest_cost,
+    missing, relax, required_visits, rescue, solve_for, tried, with_search,
 )
 from jambulskeg.rounds import to_terminal
 
@@ -142,7 +142,8 @@ class RoundTests(unittest.TestCase):
         self.assertGreater(len(told), 2)
         self.assertEqual(found.solution.cost, min(entry.cost for entry in told))
         self.assertEqual(solve(found.model), found.solution)
-        self.assertEqual([entry.best for entry in told], [min(e.cost for e in told[:at + 1]) for at in range(len(told))])
+        costs = [entry.cost for entry in told]
+        self.assertEqual([entry.best for entry in told], [min(costs[:at + 1]) for at in range(len(told))])
 
     def test_no_time_gives_one_round(self) -> None:
         found = solve_for(DAY, 0, tries=500)

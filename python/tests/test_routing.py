@@ -9,7 +9,7 @@ import unittest
 from typing import Any, Callable, List
 from unittest import mock
 
-from jambulskeg.errors import NotMet, Refused, Unsupported
+from jambulskeg.errors import NoFirstSolution, NotMet, Refused, Unsupported
 from jambulskeg.model import First, Improve, Model, Policy, solve
 from jambulskeg.rescue import Way
 from jambulskeg.routing import pywrapcp, routing_enums_pb2
@@ -197,6 +197,18 @@ class DimensionTests(RoutingTest):
         self.assertTrue(routing.AddDimensionWithVehicleCapacity(number, 0, [7, 9], True, "way"))
         record = routing.GetDimensionOrDie("way").to_record(routing._said.transits, MatrixPool())
         self.assertEqual((record.capacity, record.fix_start, record.slack_max), ((7, 9), True, 0))
+
+    def test_dimensions_of_values(self) -> None:
+        _, routing, _ = made()
+        self.assertEqual(routing.AddConstantDimension(1, 3, True, "stops"), (1, True))
+        self.assertEqual(routing.AddConstantDimension(1, 3, True, "stops"), (2, False))
+        self.assertEqual(routing.AddConstantDimensionWithSlack(2, 9, 4, False, "twos"), (3, True))
+        self.assertEqual(routing.AddVectorDimension([0, 1, 2, 3], 9, True, "load"), (4, True))
+        self.assertEqual(routing.AddMatrixDimension(MATRIX, 99, True, "way"), (5, True))
+        stops, twos, load, way = routing.to_model().dimensions
+        self.assertEqual((stops.evaluators[0].values, stops.capacity, twos.slack_max), ((1,) * 4, 3, 4))
+        self.assertEqual((load.evaluators[0].values, way.evaluators[0].matrix), ((0, 1, 2, 3), 0))
+        self.assertTrue(all(len(visits) <= 2 for visits in routing.Solve().solution.lists()))
 
     def test_a_span_bound_where_starts_are_fixed(self) -> None:
         _, routing, number = made()
@@ -476,6 +488,9 @@ class SolvingTests(RoutingTest):
         self.assertEqual(routing.status(), routing.ROUTING_FAIL)
         self.assertEqual(routing.rescued.left_out, (1, 2))
         self.assertIsNone(routing.Solve())
+        with mock.patch("jambulskeg.routing.routing_model.rescue", side_effect=NoFirstSolution("none")):
+            self.assertIsNone(routing.Solve())
+        self.assertIsNone(routing.rescued)
 
     def test_a_model_that_is_refused(self) -> None:
         _, routing, _ = made(matrix=[[0, -1], [1, 0]])

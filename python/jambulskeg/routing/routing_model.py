@@ -3,7 +3,7 @@
 from __future__ import annotations
 
 import time
-from typing import Any, Callable, Optional, Sequence
+from typing import Any, Callable, Optional, Sequence, Tuple
 
 from ..complete import CannotBeDriven, complete
 from ..errors import Fault, NoFirstSolution, NotMet, Refused
@@ -183,6 +183,34 @@ class RoutingModel(Named):
             "AddDimensionWithVehicleTransitAndCapacity", evaluators, slack_max, vehicle_capacities,
             fix_start_cumul_to_zero, name,
         )
+
+    def AddConstantDimension(
+        self, value: int, capacity: int, fix_start_cumul_to_zero: bool, name: str
+    ) -> Tuple[int, bool]:
+        """A dimension in which each arc adds the value, without slack; the number of its callback, and whether it was
+        added."""
+        return self.AddConstantDimensionWithSlack(value, capacity, 0, fix_start_cumul_to_zero, name)
+
+    def AddConstantDimensionWithSlack(
+        self, value: int, capacity: int, slack_max: int, fix_start_cumul_to_zero: bool, name: str
+    ) -> Tuple[int, bool]:
+        """The same with slack."""
+        number = self.RegisterUnaryTransitVector([value] * self.nodes())
+        return number, self.AddDimension(number, slack_max, capacity, fix_start_cumul_to_zero, name)
+
+    def AddVectorDimension(
+        self, values: Sequence[int], capacity: int, fix_start_cumul_to_zero: bool, name: str
+    ) -> Tuple[int, bool]:
+        """A dimension of values by nodes, without slack; the number of its callback, and whether it was added."""
+        number = self.RegisterUnaryTransitVector(values)
+        return number, self.AddDimension(number, 0, capacity, fix_start_cumul_to_zero, name)
+
+    def AddMatrixDimension(
+        self, values: Sequence[Sequence[int]], capacity: int, fix_start_cumul_to_zero: bool, name: str
+    ) -> Tuple[int, bool]:
+        """A dimension of a matrix by nodes, without slack; the number of its callback, and whether it was added."""
+        number = self.RegisterTransitMatrix(values)
+        return number, self.AddDimension(number, 0, capacity, fix_start_cumul_to_zero, name)
 
     def _add(
         self, call: str, evaluators: Sequence[int], slack_max: int, capacities: Sequence[int], fix_start: bool,
