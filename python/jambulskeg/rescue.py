@@ -27,6 +27,9 @@ __all__ = [
 RESCUE_TRIES = 1000000
 """The tries of a search that is to bring in visits that were left out, where no more are asked for."""
 
+ALIKE = 23
+"""The code of a construction that asks for vehicles that are alike."""
+
 
 class Way(Enum):
     """How an answer was found."""
@@ -83,7 +86,7 @@ def rescue(
     found = program_of(program)
     solver = solver or (lambda asked: Solved(asked, solve(asked, found, checked=checked, seconds=seconds)))
     for construction in constructions(model):
-        solved = tried(solver, with_search(model, first=construction))
+        solved = tried(solver, with_search(model, first=construction), construction is model.search.first)
         if solved is not None:
             way = Way.AS_ASKED if construction is model.search.first else Way.OTHER_CONSTRUCTION
             return Rescue(way, solved, solved.solution)
@@ -100,14 +103,15 @@ def constructions(model: Model) -> Sequence[First]:
     return [asked, *(word for word in First if word is not asked)]
 
 
-def tried(solver: Solver, model: Model) -> Optional[Solved]:
-    """What a model gives, None where its construction finds none or cannot be asked for with such vehicles."""
+def tried(solver: Solver, model: Model, is_asked: bool) -> Optional[Solved]:
+    """What a model gives, None where its construction finds none, or where it is not the one that was asked for and
+    asks for other vehicles (SAVINGS)."""
     try:
         return solver(model)
     except NoFirstSolution:
         return None
     except Refused as refused:
-        if refused.code != 23:
+        if refused.code != ALIKE or is_asked:
             raise
         return None
 
@@ -163,7 +167,7 @@ def by_penalties(model: Model, solver: Solver, tries: int) -> Rescue:
     relaxed = with_search(relaxed, improve=Improve.GUIDED_LOCAL_SEARCH, tries=max(asked, tries))
     found: List[Rescue] = []
     for construction in constructions(model):
-        solved = tried(solver, with_search(relaxed, first=construction))
+        solved = tried(solver, with_search(relaxed, first=construction), False)
         if solved is not None:
             left = tuple(missing(model, solved.solution))
             found.append(Rescue(Way.PENALTIES, solved, None, left, penalty))

@@ -3,6 +3,7 @@
 from __future__ import annotations
 
 import importlib
+import json
 import os
 import random
 import stat
@@ -10,12 +11,12 @@ import subprocess
 import sys
 import tempfile
 from types import ModuleType
-from typing import Any, Dict, List, Optional, Tuple
+from typing import Any, Dict, Iterator, List, Optional, Tuple
 
 from jambulskeg.program import find
 
 EXAMPLES = os.path.join(os.path.dirname(os.path.dirname(os.path.dirname(os.path.abspath(__file__)))), "examples")
-THREE = {"nodes": 3, "matrices": [[[0, 5, 9], [5, 0, 4], [9, 4, 0]]], "vehicles": [{"start": 0, "end": 0}]}
+THREE: Dict[str, Any] = {"nodes": 3, "matrices": [[[0, 5, 9], [5, 0, 4], [9, 4, 0]]], "vehicles": [{"start": 0, "end": 0}]}
 
 
 def ask(word: str, text: str) -> Tuple[int, str]:
@@ -132,6 +133,35 @@ def add_rules(rng: random.Random, tree: Dict[str, Any], visits: List[int]) -> No
         tree["groups"].append({"nodes": rest, "max": rng.randint(1, len(rest))})
     if rng.random() < 0.3:
         tree["allowed"] = [{"node": visits[-1], "vehicles": [len(tree["vehicles"]) - 1]}]
+
+
+def paths_of(tree: Any, path: Tuple[Any, ...] = ()) -> Iterator[Tuple[Any, ...]]:
+    """The path of each value in a JSON tree but the tree itself."""
+    entries = tree.items() if isinstance(tree, dict) else enumerate(tree) if isinstance(tree, list) else ()
+    for key, value in entries:
+        yield (*path, key)
+        yield from paths_of(value, (*path, key))
+
+
+def mutated(rng: random.Random, tree: Any) -> Any:
+    """The tree with one change of its form or its values, at a place taken at random."""
+    tree = json.loads(json.dumps(tree))
+    *way, last = rng.choice(list(paths_of(tree)))
+    at = tree
+    for key in way:
+        at = at[key]
+    change = rng.randrange(5)
+    if change == 0:
+        del at[last]
+    elif change == 1:
+        at[last] = rng.choice([None, True, 1.5, "x", [], {}, -1, 7, 2**63, -2**63 - 1, "first", [0, 1], [1, 2, 3]])
+    elif change == 2 and isinstance(at, list):
+        at.insert(last, at[last])
+    elif change == 3 and isinstance(at, dict):
+        at["more"] = 1
+    elif type(at[last]) is int:
+        at[last] += rng.choice([-1, 1, 3])
+    return tree
 
 
 def tree_with(**fields: Any) -> Dict[str, Any]:

@@ -136,7 +136,7 @@ class ShapeTests(unittest.TestCase):
 
     def test_what_has_no_fault_of_form_is_not_found_so(self) -> None:
         for key, value in (("tries", -1), ("cost", 0), ("dropped", [3, 2]), ("first_cost", 1)):
-            tree = {**json.loads(SOLVED.text()), key: value}
+            tree: Any = {**json.loads(SOLVED.text()), key: value}
             self.assertEqual(self.paths(tree), [])
             self.assertNotIn(check(DAY, Solution.of(tree)).rule, ("shape", None))
         tree = json.loads(SOLVED.text())

@@ -6,6 +6,7 @@ import contextlib
 import io
 import re
 import unittest
+from typing import Any
 
 from jambulskeg.complete import complete
 from jambulskeg.routing import pywrapcp
@@ -46,7 +47,7 @@ class ExampleTests(unittest.TestCase):
         manager = pywrapcp.RoutingIndexManager(len(city.MILES), 1, 0)
         routing = pywrapcp.RoutingModel(manager)
         routing.SetArcCostEvaluatorOfAllVehicles(routing.RegisterTransitCallback(city.between(manager, city.MILES)))
-        solution = routing.Solve()
+        solution: Any = routing.Solve()
         self.assertGreaterEqual(solution.ObjectiveValue(), 7293)
         self.assertEqual(complete(solution.model, solution.solution.lists()).cost, solution.ObjectiveValue())
 

@@ -10,6 +10,7 @@ import tempfile
 import time
 import unittest
 from dataclasses import replace
+from typing import Any
 from unittest import mock
 
 from jambulskeg.errors import (
@@ -70,7 +71,7 @@ class StatusTests(unittest.TestCase):
             program.run(["solve"], json.dumps({"format": 1, "nodes": 1001}))
         self.assertEqual((refused.exception.code, refused.exception.path), (14, "/nodes"))
         self.assertIn("the number is out of its range", refused.exception.sentence)
-        far = {**MODEL.tree(), "dimensions": [
+        far: Any = {**THREE, "dimensions": [
             {"name": "t", "evaluators": [{"matrix": 0}], "slack_max": 0, "capacity": 3}
         ]}
         self.assertRaises(NoFirstSolution, lambda: first(Model.of(far)))

@@ -16,7 +16,7 @@ from jambulskeg.model import Model, check, first, solve, solve_with_log
 from jambulskeg.rescue import Way, rescue
 from jambulskeg.routing import pywrapcp
 
-from .support import ask, random_tree
+from .support import ask, mutated, random_tree
 
 MODELS = 60
 
@@ -66,6 +66,22 @@ class RandomTests(unittest.TestCase):
         self.assertEqual(found.solution is None, bool(found.left_out))
         if found.solution is not None:
             self.assertTrue(check(model, found.solution).meets)
+
+
+class FormTests(unittest.TestCase):
+    def test_faults_of_a_form_are_those_of_the_program(self) -> None:
+        found, asked = 0, 0
+        for number in range(MODELS):
+            rng = random.Random(2000 + number)
+            tree = random_tree(rng)
+            status, line = ask("solve", json.dumps(tree))
+            for _ in range(10 if status == 0 else 0):
+                changed = mutated(rng, json.loads(line))
+                told = json.loads(ask("check", json.dumps({"model": tree, "solution": changed}))[1])
+                faults = shape_faults(Model.of(tree), changed)
+                self.assertEqual(bool(faults), told.get("rule") == "shape", (number, faults, told))
+                found, asked = found + bool(faults), asked + 1
+        self.assertLess(asked // 4, found)
 
 
 class ScriptTests(unittest.TestCase):

@@ -66,8 +66,8 @@ class RescueTests(unittest.TestCase):
         self.assertEqual(solution.cost, found.solved.solution.cost)
 
     @staticmethod
-    def only_relaxed(solver: Any, model: Model) -> Any:
-        return tried(solver, model) if model.groups else None
+    def only_relaxed(solver: Any, model: Model, is_asked: bool) -> Any:
+        return tried(solver, model, is_asked) if model.groups else None
 
     def test_what_stays_out_is_told(self) -> None:
         model = impossible()
@@ -110,8 +110,10 @@ class RescueTests(unittest.TestCase):
             return Solved(model, solve(model))
 
         unlike = replace(impossible(), vehicles=[{"start": 0, "end": 0}, {"start": 0, "end": 0, "fixed": 1}])
-        self.assertIsNone(tried(asked, with_search(unlike, first=First.SAVINGS)))
-        self.assertRaises(Refused, lambda: tried(asked, replace(DAY, nodes=3)))
+        savings = with_search(unlike, first=First.SAVINGS)
+        self.assertIsNone(tried(asked, savings, False))
+        self.assertRaises(Refused, lambda: rescue(savings))
+        self.assertRaises(Refused, lambda: tried(asked, replace(DAY, nodes=3), False))
 
     def test_no_way_at_all(self) -> None:
         def none(model: Model) -> Solved:

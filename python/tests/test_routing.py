@@ -6,7 +6,7 @@ import io
 import os
 import re
 import unittest
-from typing import Any, Callable, List
+from typing import Any, Callable, List, Tuple
 from unittest import mock
 
 from jambulskeg.errors import NoFirstSolution, NotMet, Refused, Unsupported
@@ -87,8 +87,14 @@ class ManagerTests(RoutingTest):
 class CallbackTests(RoutingTest):
     def test_a_callback_is_asked_once_for_each_arc(self) -> None:
         manager = pywrapcp.RoutingIndexManager(4, 2, 0)
-        routing, asked = pywrapcp.RoutingModel(manager), []
-        number = routing.RegisterTransitCallback(lambda tail, head: asked.append((tail, head)) or 1)
+        routing = pywrapcp.RoutingModel(manager)
+        asked: List[Tuple[int, int]] = []
+
+        def one(tail: int, head: int) -> int:
+            asked.append((tail, head))
+            return 1
+
+        number = routing.RegisterTransitCallback(one)
         routing.SetArcCostEvaluatorOfAllVehicles(number)
         routing.AddDimension(number, 0, 10, True, "d")
         model = routing.to_model()
@@ -139,9 +145,9 @@ class CallbackTests(RoutingTest):
         self.unsupported("RegisterTransitMatrix", lambda: routing.RegisterTransitMatrix([[1.5] * 4] * 4))
         self.unsupported("RegisterUnaryTransitVector", lambda: routing.RegisterUnaryTransitVector([1]))
         self.unsupported("SetArcCostEvaluator", lambda: routing.SetArcCostEvaluatorOfAllVehicles(99))
-        broken = routing.RegisterTransitCallback(lambda tail, head: {}["no"])
+        broken = routing.RegisterTransitCallback(lambda tail, head: [][tail])
         routing.SetArcCostEvaluatorOfAllVehicles(broken)
-        self.assertRaises(KeyError, routing.CloseModel)
+        self.assertRaises(IndexError, routing.CloseModel)
 
     def test_costs(self) -> None:
         _, routing, number = made()
@@ -548,7 +554,8 @@ class SolvingTests(RoutingTest):
 
     def test_a_model_without_costs(self) -> None:
         routing = pywrapcp.RoutingModel(pywrapcp.RoutingIndexManager(3, 1, 0))
-        self.assertEqual(routing.Solve().ObjectiveValue(), 0)
+        solution: Any = routing.Solve()
+        self.assertEqual(solution.ObjectiveValue(), 0)
         self.assertIsInstance(routing.to_model(), Model)
 
 
@@ -567,6 +574,7 @@ class RefusalTests(RoutingTest):
                 getattr(owners[owner], name)
             self.assertEqual(caught.exception.name, full)
         self.assertFalse(hasattr(routing, "AddEverything"))
+        self.unsupported("RoutingModel.ROUTING_MAYBE", lambda: pywrapcp.RoutingModel.ROUTING_MAYBE)
         self.unsupported("RoutingModel.AddEverything", lambda: routing.AddEverything())
         self.assertRaises(AttributeError, lambda: routing.__nothing__)
         self.unsupported("RoutingModel(manager, parameters)", lambda: pywrapcp.RoutingModel(manager, object()))

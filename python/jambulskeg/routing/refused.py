@@ -93,7 +93,14 @@ def unknown(owner: str, name: str) -> AttributeError:
     return UnknownName(full, WHY.get(full, ELSE))
 
 
-class Named:
+class NamedType(type):
+    """The type of such classes, which refuses what is asked of the class itself, such as a constant."""
+
+    def __getattr__(cls, name: str) -> Any:
+        raise unknown(cls.__name__, name)
+
+
+class Named(metaclass=NamedType):
     """A class with OR-Tools' name: a name that it does not have is refused by name."""
 
     TITLE = ""

@@ -42,6 +42,10 @@ class RoutingModel(Named):
     ROUTING_NOT_SOLVED = RoutingSearchStatus.ROUTING_NOT_SOLVED
     ROUTING_SUCCESS = RoutingSearchStatus.ROUTING_SUCCESS
     ROUTING_FAIL = RoutingSearchStatus.ROUTING_FAIL
+    ROUTING_FAIL_TIMEOUT = RoutingSearchStatus.ROUTING_FAIL_TIMEOUT
+    ROUTING_INVALID = RoutingSearchStatus.ROUTING_INVALID
+    ROUTING_INFEASIBLE = RoutingSearchStatus.ROUTING_INFEASIBLE
+    ROUTING_OPTIMAL = RoutingSearchStatus.ROUTING_OPTIMAL
     POLICIES = (Policy.ANY, Policy.LIFO, Policy.FIFO)
 
     def __init__(self, index_manager: RoutingIndexManager, parameters: Any = None) -> None:
