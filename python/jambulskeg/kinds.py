@@ -45,12 +45,10 @@ def is_list(value: Any) -> bool:
 
 
 def whole_fault(value: Any) -> int:
-    """0 where a value is a whole number, also one of another library; else the code of its fault."""
-    if isinstance(value, bool):
+    """0 where a value is a whole number of 64 bits, also one of another library; else the code of its fault."""
+    if isinstance(value, bool) or not isinstance(value, float) and not hasattr(value, "__index__"):
         return 11
-    if isinstance(value, float):
-        return 12
-    return 0 if hasattr(value, "__index__") else 11
+    return 12 if isinstance(value, float) or not -(2**63) <= operator.index(value) < 2**63 else 0
 
 
 @dataclasses.dataclass(frozen=True)
@@ -63,7 +61,7 @@ class Whole(Kind):
     def faults(self, value: Any, path: str) -> Iterator[Fault]:
         code = whole_fault(value)
         if code:
-            yield Fault(code, path, f"{value!r} is no whole number")
+            yield Fault(code, path, f"{value!r} is no whole number of 64 bits")
         elif not self.low <= operator.index(value) <= self.high:
             yield Fault(14, path, f"{value} is not in {between(self.low, self.high)}")
 
@@ -138,6 +136,12 @@ class Row(Kind):
         return [self.kind.tree(entry) for entry in value]
 
 
+class Matrix(Tuple[Tuple[int, ...], ...]):
+    """A matrix that was found to have no fault, which is not looked for again when a model is made of another."""
+
+    kind: "Square"
+
+
 @dataclasses.dataclass(frozen=True)
 class Square(Kind):
     """A matrix: as many rows as columns, of whole numbers from `low` to `high`; as many as a million of them."""
@@ -147,12 +151,18 @@ class Square(Kind):
     most: int
 
     def faults(self, value: Any, path: str) -> Iterator[Fault]:
+        if isinstance(value, Matrix) and value.kind == self:
+            return
         if not is_list(value):
             yield Fault(11, path, "the value is no list of rows")
             return
         size = len(value)
+        lengths = {len(row) if is_list(row) else size for row in value}
         if not 1 <= size <= self.most:
             yield Fault(15, path, f"there are {size} rows, and not {between(1, self.most)}")
+        elif len(lengths) == 1 and lengths != {size}:
+            yield Fault(15, path, f"there are {size} rows of {lengths.pop()} entries")
+            return
         row_kind = Row(Whole(self.low, self.high), size, size)
         for place, row in enumerate(value):
             if not (is_list(row) and len(row) == size and self.is_plain(row)):
@@ -162,8 +172,12 @@ class Square(Kind):
         """Whether all entries are numbers of Python in the range, found without a look at each by name."""
         return set(map(type, row)) == {int} and min(row) >= self.low and max(row) <= self.high
 
-    def taken(self, value: Any) -> Tuple[Tuple[int, ...], ...]:
-        return tuple(tuple(map(operator.index, row)) for row in value)
+    def taken(self, value: Any) -> Matrix:
+        if isinstance(value, Matrix) and value.kind == self:
+            return value
+        matrix = Matrix(tuple(map(operator.index, row)) for row in value)
+        matrix.kind = self
+        return matrix
 
 
 @dataclasses.dataclass(frozen=True)

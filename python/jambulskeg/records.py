@@ -1,7 +1,7 @@
 """The model file as dataclasses: each field is checked where it is written, with the code that the program would tell.
 
-What one record can tell by itself (kinds, ranges, lengths) is found here; what takes the whole model (whether a node
-is a visit, whether a matrix has as many rows as there are nodes) is left to the program, which tells code and path.
+What one record can tell by itself (kinds, ranges, lengths) is found here, and by `whole` what takes the whole model
+(whether a node is a visit, whether a list has an entry for each vehicle); rules on values are left to the program.
 Numbers are whole; units are the planner's own. Field names are those of docs/FORMAT.md, but for `from_` and `lambda_`.
 """
 
@@ -14,6 +14,7 @@ from typing import Annotated, Iterator, List, Optional, Sequence, Set, Tuple, Un
 
 from .errors import Fault
 from .kinds import Either, Flag, Inner, Maybe, Record, Row, Span, Square, Text, Whole, Word
+from .whole import model_faults
 
 MOST_NODES = 1000
 MOST_VEHICLES = 100
@@ -280,7 +281,7 @@ class Model(Record):
     """A model: nodes, matrices, vehicles, and what is asked of routes. `Model.of(tree)` reads one, `tree` writes it.
 
     A node where some vehicle starts or ends is no visit; every other node is one, and must be made unless it stands in
-    a group. Raises `Refused` at a field that is faulty by itself.
+    a group. Raises `Refused` at the first faulty field; negative costs and transits are left to the program.
     """
 
     nodes: Annotated[int, Whole(1, MOST_NODES)]
@@ -295,6 +296,9 @@ class Model(Record):
     allowed: Annotated[Sequence[Allowed], Row(Inner(Allowed), 0, 1000)] = ()
     search: Annotated[Search, Inner(Search)] = Search()
     format: Annotated[int, Whole(1, 1)] = 1
+
+    def own_faults(self) -> Iterator[Fault]:
+        yield from model_faults(self)
 
     def tree(self) -> "dict[str, object]":
         return {"format": self.format, **super().tree()}

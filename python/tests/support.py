@@ -16,7 +16,9 @@ from typing import Any, Dict, Iterator, List, Optional, Tuple
 from jambulskeg.program import find
 
 EXAMPLES = os.path.join(os.path.dirname(os.path.dirname(os.path.dirname(os.path.abspath(__file__)))), "examples")
-THREE: Dict[str, Any] = {"nodes": 3, "matrices": [[[0, 5, 9], [5, 0, 4], [9, 4, 0]]], "vehicles": [{"start": 0, "end": 0}]}
+THREE: Dict[str, Any] = {
+    "nodes": 3, "matrices": [[[0, 5, 9], [5, 0, 4], [9, 4, 0]]], "vehicles": [{"start": 0, "end": 0}]
+}
 
 
 def ask(word: str, text: str) -> Tuple[int, str]:

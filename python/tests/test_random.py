@@ -7,7 +7,7 @@ import json
 import random
 import unittest
 from dataclasses import replace
-from typing import Any, Dict
+from typing import Any, Dict, Tuple
 
 from jambulskeg.complete import complete, leave_later, shape_faults
 from jambulskeg.doubts import doubts
@@ -19,6 +19,17 @@ from jambulskeg.routing import pywrapcp
 from .support import ask, mutated, random_tree
 
 MODELS = 60
+LEFT_TO_THE_PROGRAM = (20, 21, 22, 23)
+"""The codes of rules on values, which the package does not look for."""
+
+
+def refusal(tree: Any) -> Tuple[int, str]:
+    """The code and the path of the first fault of a model, as the package finds it without the program."""
+    try:
+        Model.of(tree)
+    except Refused as refused:
+        return refused.code, refused.path
+    return 0, ""
 
 
 class RandomTests(unittest.TestCase):
@@ -47,6 +58,24 @@ class RandomTests(unittest.TestCase):
             self.assertEqual(solve_with_log(model)[0], solve(model))
             self.by_hand(model)
         self.assertGreater(solved, MODELS // 4)
+
+    def test_a_faulty_model_is_refused_as_by_the_program(self) -> None:
+        refused = 0
+        for number in range(MODELS):
+            rng = random.Random(3000 + number)
+            tree = random_tree(rng)
+            tree["search"] = {"tries": 0}
+            if ask("first", json.dumps(tree))[0] == 5:
+                continue
+            for _ in range(10):
+                changed = mutated(rng, tree)
+                status, line = ask("first", json.dumps(changed))
+                told = json.loads(line)
+                fault = (told["code"], told["path"]) if status == 5 else (0, "")
+                if fault[0] not in LEFT_TO_THE_PROGRAM and changed.get("format") == 1:
+                    self.assertEqual(refusal(changed), fault, number)
+                    refused += bool(fault[0])
+        self.assertGreater(refused, MODELS)
 
     def by_hand(self, model: Model) -> None:
         """The program's lists have the program's schedules and costs, and drivers can leave later."""
