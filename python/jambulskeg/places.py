@@ -198,13 +198,19 @@ def finite(text: str) -> float:
 
 
 PLACE_COLUMNS = ("name", "x", "y", "demand", "open", "close", "service", "penalty")
+DELIMITERS = ",;\t"
 VAN_COLUMNS = ("name", "start", "end", "capacity", "fixed", "from", "to")
 
 
 def lines_of(path: str, columns: Sequence[str]) -> Iterator[TableLine]:
-    """The lines of a CSV file whose first line names its columns. Raises `BadTable` at a column that is unknown."""
+    """The lines of a CSV file whose first line names its columns, with commas, semicolons or tabs between cells.
+
+    Raises `BadTable` at a column that is unknown, and at a line with too many cells.
+    """
     with open(path, encoding="utf-8-sig", newline="") as file:
-        reader = csv.DictReader(file)
+        head = file.readline()
+        file.seek(0)
+        reader = csv.DictReader(file, delimiter=max(DELIMITERS, key=head.count))
         for column in reader.fieldnames or ():
             if column not in columns:
                 raise BadTable(path, 1, column, f"there is no such column; there are {', '.join(columns)}")

@@ -276,7 +276,7 @@ class Search(Record):
         yield from repeated([words.index(word) for word in self.neighbourhoods or ()], "/neighbourhoods")
 
 
-@dataclass(frozen=True)
+@dataclass(frozen=True, repr=False)
 class Model(Record):
     """A model: nodes, matrices, vehicles, and what is asked of routes. `Model.of(tree)` reads one, `tree` writes it.
 
@@ -296,6 +296,9 @@ class Model(Record):
     allowed: Annotated[Sequence[Allowed], Row(Inner(Allowed), 0, 1000)] = ()
     search: Annotated[Search, Inner(Search)] = Search()
     format: Annotated[int, Whole(1, 1)] = 1
+
+    def __repr__(self) -> str:
+        return f"Model({self.nodes} nodes, {len(self.vehicles)} vehicles, {len(self.dimensions)} dimensions)"
 
     def own_faults(self) -> Iterator[Fault]:
         yield from model_faults(self)

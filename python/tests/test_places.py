@@ -79,6 +79,7 @@ class TableTests(unittest.TestCase):
     def test_an_optional_file(self) -> None:
         path = self.file("places.csv", "name,x,y\nyard,1.5,-2e1\n")
         self.assertEqual(read_places(path), [Place("yard", 1.5, -20.0)])
+        self.assertEqual(read_places(self.file("other.csv", "\ufeffname;x;y\r\nyard;1.5;-2e1\r\n")), read_places(path))
         self.assertEqual(read_vans(self.file("v.csv", "start\nyard\n"), read_places(path)),
                          [Van("vehicle 0", "yard", "yard")])
 

@@ -101,6 +101,7 @@ class RecordTests(unittest.TestCase):
         self.assertEqual((model.visits(), model.arc_cost(0, 1, 2), model.transit(0, 0, 2, 0)), ([1, 2], 4, 1))
         self.assertEqual((list(model.vehicles_of(1)), list(model.vehicles_of(2))), ([0], [0]))
         self.assertEqual(model.tree()["format"], 1)
+        self.assertEqual(repr(model), "Model(3 nodes, 1 vehicles, 1 dimensions)")
         self.assertNotIn("search", model.tree())
         self.assertEqual(Search(First.SAVINGS, Improve.NONE).tree(), {"first": "SAVINGS", "improve": "NONE"})
         self.assertEqual(Vehicle(0, 0, policy="lifo").policy, Policy.LIFO)  # type: ignore[arg-type]
