@@ -85,7 +85,9 @@ def table_of(manager: RoutingIndexManager, callback: Callable[[int, int], Any]) 
         for head, head_node, leads_to_visit in heads:
             if tail_node == head_node or not (is_visit or leads_to_visit):
                 continue
-            value = as_whole(callback(tail, head), name)
+            value = callback(tail, head)
+            if type(value) is not int:
+                value = as_whole(value, name)
             if row[head_node] not in (None, value):
                 raise refuse(name, f"the transit from node {tail_node} to node {head_node} is {row[head_node]} at one "
                              f"index and {value} at another: it depends on more than its two nodes")
