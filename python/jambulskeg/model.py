@@ -11,6 +11,7 @@ from dataclasses import dataclass
 from typing import Optional, Sequence, Tuple
 
 from .errors import NotMet, ProgramFailed, Refused
+from .findings import Finding, explain
 from .program import ProgramLike, lines_of, program_of, tree_of
 from .records import (
     Allowed, Break, Dimension, Evaluator, First, Group, Improve, Model, Neighbourhood, NodeRow, Pair, Policy, Search,
@@ -21,27 +22,9 @@ from .solution import Parts, Plan, Route, Solution, Status, Stop
 __all__ = [
     "Allowed", "Break", "Dimension", "Evaluator", "Event", "Finding", "First", "Group", "Improve", "Model",
     "Neighbourhood", "NodeRow", "Pair", "Parts", "Plan", "Policy", "Route", "Search", "SearchLog", "Soft", "Solution",
-    "Status", "Stop", "StopRow", "Vehicle", "VehicleBreaks", "VehicleRow", "check", "first", "generate", "meets",
-    "read_model", "read_solution", "solve", "solve_with_log",
+    "Status", "Stop", "StopRow", "Vehicle", "VehicleBreaks", "VehicleRow", "check", "explain", "first", "generate",
+    "meets", "read_model", "read_solution", "solve", "solve_with_log",
 ]
-
-
-@dataclass(frozen=True)
-class Finding:
-    """What `check` found: the cost of a solution that meets its model, else the first rule that it breaks, and where.
-
-    `vehicle` and `place` are -1 where they do not apply; docs/FORMAT.md says what they count for each rule.
-    """
-
-    cost: Optional[int] = None
-    rule: Optional[str] = None
-    vehicle: int = -1
-    place: int = -1
-
-    @property
-    def meets(self) -> bool:
-        """Whether the solution keeps all rules."""
-        return self.rule is None
 
 
 @dataclass(frozen=True)
@@ -143,7 +126,7 @@ def meets(
     """The solution itself. Raises `NotMet` where it breaks a rule of the model."""
     finding = check(model, solution, program, seconds=seconds)
     if finding.rule is not None:
-        raise NotMet(finding.rule, finding.vehicle, finding.place)
+        raise NotMet(finding.rule, finding.vehicle, finding.place, explain(finding, solution))
     return solution
 
 
