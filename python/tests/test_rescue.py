@@ -3,6 +3,7 @@
 from __future__ import annotations
 
 import io
+import itertools
 import os
 import unittest
 from dataclasses import replace
@@ -138,10 +139,11 @@ class RoundTests(unittest.TestCase):
     def test_rounds(self) -> None:
         told: List[Round] = []
         progress: Progress = told.append
-        found = solve_for(with_search(DAY, tries=1), 0.2, progress=progress, tries=1000)
+        with mock.patch("jambulskeg.rounds.time.monotonic", side_effect=itertools.count(0, 100)):
+            found = solve_for(with_search(DAY, tries=1), 450, progress=progress, tries=1000)
         self.assertEqual([entry.tries for entry in told], [1000 * 2**at for at in range(len(told))])
         self.assertEqual(list(found.rounds), told)
-        self.assertGreater(len(told), 2)
+        self.assertEqual([entry.seconds for entry in told], [100, 200, 300, 400, 500])
         self.assertEqual(found.solution.cost, min(entry.cost for entry in told))
         self.assertEqual(solve(found.model), found.solution)
         costs = [entry.cost for entry in told]
