@@ -43,12 +43,13 @@ class Way(Enum):
 class Rescue:
     """What was found, and how.
 
-    `solution` is one of the model, or None where the required visits `left_out` stay out. `solved` is what the program
-    found, with the model that it was asked: by penalties, that is the relaxed one, in which leaving out costs
-    `penalty` a visit.
+    `solution` is one of the model, or None where the required visits `left_out` stay out; `model` is the model with the
+    search that was run, which the solution meets. `solved` is what the program found, with the model that it was
+    asked: by penalties, that is the relaxed one, in which leaving out costs `penalty` a visit.
     """
 
     way: Way
+    model: Model
     solved: Solved
     solution: Optional[Solution]
     left_out: Tuple[int, ...] = ()
@@ -89,7 +90,7 @@ def rescue(
         solved = tried(solver, with_search(model, first=construction), construction is model.search.first)
         if solved is not None:
             way = Way.AS_ASKED if construction is model.search.first else Way.OTHER_CONSTRUCTION
-            return Rescue(way, solved, solved.solution)
+            return Rescue(way, solved.model, solved, solved.solution)
     best = by_penalties(model, solver, tries)
     if not best.left_out:
         own = as_own(best.solved.solution)
@@ -170,7 +171,7 @@ def by_penalties(model: Model, solver: Solver, tries: int) -> Rescue:
         solved = tried(solver, with_search(relaxed, first=construction), False)
         if solved is not None:
             left = tuple(missing(model, solved.solution))
-            found.append(Rescue(Way.PENALTIES, solved, None, left, penalty))
+            found.append(Rescue(Way.PENALTIES, model, solved, None, left, penalty))
             if not left:
                 return found[-1]
     if not found:

@@ -51,6 +51,8 @@ class RescueTests(unittest.TestCase):
         self.assertEqual(found.solution, solve(found.solved.model))
         self.assertIs(found.construction, First.PATH_CHEAPEST_ARC)
         self.assertTrue(found.solution and check(model, found.solution).meets)
+        rounds = rescue(model, solver=lambda asked: solve_for(asked, 0, tries=200000))
+        self.assertTrue(rounds.solution and check(rounds.model, rounds.solution).meets)
 
     def test_penalties(self) -> None:
         model = read_model(os.path.join(EXAMPLES, "service-day.json"))

@@ -10,7 +10,7 @@ from typing import Any, Callable, List, Tuple
 from unittest import mock
 
 from jambulskeg.errors import NoFirstSolution, NotMet, Refused, Unsupported
-from jambulskeg.model import First, Improve, Model, Policy, solve
+from jambulskeg.model import First, Improve, Model, Policy, check, solve
 from jambulskeg.rescue import Way
 from jambulskeg.routing import pywrapcp, routing_enums_pb2
 from jambulskeg.routing.dimension import MatrixPool
@@ -509,6 +509,7 @@ class SolvingTests(RoutingTest):
         with mock.patch("sys.stderr", new=io.StringIO()) as stderr:
             solution = routing.SolveWithParameters(parameters)
         self.assertEqual(solution.ObjectiveValue(), 18)
+        self.assertTrue(check(solution.model, solution.solution).meets)
         self.assertRegex(stderr.getvalue(), "^round 1: 50000 tries, cost 18, best 18")
 
     def test_assignments_of_routes(self) -> None:

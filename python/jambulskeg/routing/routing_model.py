@@ -363,7 +363,7 @@ class RoutingModel(Named):
             self._status = RoutingSearchStatus.ROUTING_FAIL
             return None
         self._status = RoutingSearchStatus.ROUTING_SUCCESS
-        return Assignment(self._manager, model, solution, self._said.breaks())
+        return Assignment(self._manager, self.rescued.model, solution, self._said.breaks())
 
     def _solver_for(self, parameters: RoutingSearchParameters) -> ModelSolver:
         """How models are solved: once, or in rounds until the time limit of the whole search."""
