@@ -8,6 +8,7 @@ model.
 
 from __future__ import annotations
 
+import time
 from dataclasses import dataclass, replace
 from enum import Enum
 from typing import Callable, List, Optional, Sequence, Tuple
@@ -21,7 +22,7 @@ from .solution import Solution, Stop
 
 __all__ = [
     "FIRST_TRIES", "RESCUE_TRIES", "Progress", "Rescue", "Round", "Solved", "Solver", "Way", "relax", "rescue",
-    "solve_for", "with_search",
+    "solve_for", "timed_solver", "with_search",
 ]
 
 RESCUE_TRIES = 1000000
@@ -81,8 +82,9 @@ def rescue(
     """An answer of the model, by other constructions or by penalties where its own finds none.
 
     `seconds` is the most that each run may take. `solver` solves a model in place of the program's `solve`, for
-    instance by `solve_for`. `tries` is the least number of tries of guided local search over penalties; where visits
-    stay out, more may bring them in. Raises what `solve` raises; `NoFirstSolution` only where penalties do not help.
+    instance `timed_solver(10)`. `tries` is the least number of tries of guided local search over penalties; where
+    visits stay out, more may bring them in. Raises what `solve` raises; `NoFirstSolution` only where penalties do not
+    help.
     """
     found = program_of(program)
     solver = solver or (lambda asked: Solved(asked, solve(asked, found, checked=checked, seconds=seconds)))
@@ -96,6 +98,22 @@ def rescue(
         own = as_own(best.solved.solution)
         best = replace(best, solution=meets(model, own, found) if checked else own)
     return best
+
+
+def timed_solver(
+    time_limit: float, program: ProgramLike = None, *, checked: bool = True, progress: Optional[Progress] = None
+) -> Solver:
+    """A solver for `rescue` by rounds of growing tries, all of whose models together have `time_limit` seconds.
+
+    Each model gets one round at least, also where nothing is left of them.
+    """
+    found, began = program_of(program), time.monotonic()
+
+    def solver(model: Model) -> Solved:
+        left = time_limit - (time.monotonic() - began)
+        return solve_for(model, left, found, checked=checked, progress=progress)
+
+    return solver
 
 
 def constructions(model: Model) -> Sequence[First]:

@@ -15,7 +15,7 @@ from jambulskeg.model import First, Group, Improve, Model, Solution, check, read
 from jambulskeg.records import GREATEST_ENTRY
 from jambulskeg.rescue import (
     FIRST_TRIES, RESCUE_TRIES, Progress, Rescue, Round, Solved, Way, as_own, by_penalties, constructions, greatest_cost,
-    missing, relax, required_visits, rescue, solve_for, tried, with_search,
+    missing, relax, required_visits, rescue, solve_for, timed_solver, tried, with_search,
 )
 from jambulskeg.rounds import to_terminal
 
@@ -51,7 +51,7 @@ class RescueTests(unittest.TestCase):
         self.assertEqual(found.solution, solve(found.solved.model))
         self.assertIs(found.construction, First.PATH_CHEAPEST_ARC)
         self.assertTrue(found.solution and check(model, found.solution).meets)
-        rounds = rescue(model, solver=lambda asked: solve_for(asked, 0, tries=200000))
+        rounds = rescue(model, solver=timed_solver(0))
         self.assertTrue(rounds.solution and check(rounds.model, rounds.solution).meets)
 
     def test_penalties(self) -> None:

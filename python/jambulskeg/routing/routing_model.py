@@ -2,7 +2,6 @@
 
 from __future__ import annotations
 
-import time
 from typing import Any, Callable, Optional, Sequence, Tuple
 
 from ..complete import CannotBeDriven, complete
@@ -10,8 +9,8 @@ from ..errors import Fault, NoFirstSolution, NotMet, Refused
 from ..model import meets, solve
 from ..program import ProgramLike, program_of
 from ..records import Model, Policy
-from ..rescue import Rescue, Solver as ModelSolver, rescue
-from ..rounds import Round, Solved, solve_for, to_terminal
+from ..rescue import Rescue, Solver as ModelSolver, rescue, timed_solver
+from ..rounds import Solved, to_terminal
 from .assignment import Assignment, as_assignment
 from .building import Said
 from .dimension import RoutingDimension
@@ -367,13 +366,11 @@ class RoutingModel(Named):
 
     def _solver_for(self, parameters: RoutingSearchParameters) -> ModelSolver:
         """How models are solved: once, or in rounds until the time limit of the whole search."""
-        found, limit, began = program_of(self.program), parameters.time_limit.total(), time.monotonic()
-        progress: Optional[Callable[[Round], None]] = to_terminal if parameters.log_search else None
+        found, limit = program_of(self.program), parameters.time_limit.total()
         if limit is None:
             return lambda model: Solved(model, solve(model, found, checked=self.checked))
-        return lambda model: solve_for(
-            model, limit - (time.monotonic() - began), found, checked=self.checked, progress=progress
-        )
+        progress = to_terminal if parameters.log_search else None
+        return timed_solver(limit, found, checked=self.checked, progress=progress)
 
     def SolveFromAssignmentWithParameters(
         self, assignment: Assignment, parameters: RoutingSearchParameters
