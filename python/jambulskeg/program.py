@@ -59,8 +59,8 @@ def find(path: Optional[str] = None) -> str:
         if found is not None:
             return found
     raise ProgramMissing(
-        f"the program {NAME} is neither in the repository of this package, at {' or '.join(BESIDE)}, nor on the path; "
-        f"build it by ./vr in the repository, or let the variable {VARIABLE} name it"
+        f"the program {NAME} was not found at {' or '.join(BESIDE)}, and not on the path; build it by ./vr in its "
+        f"repository, or let the variable {VARIABLE} name it"
     )
 
 

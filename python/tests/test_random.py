@@ -18,7 +18,7 @@ from jambulskeg.routing import pywrapcp
 
 from .support import ask, mutated, random_tree
 
-MODELS = 60
+MODELS = 40
 LEFT_TO_THE_PROGRAM = (20, 21, 22, 23)
 """The codes of rules on values, which the package does not look for."""
 
