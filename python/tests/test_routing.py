@@ -352,7 +352,7 @@ class VisitTests(RoutingTest):
         routing.SetAllowedVehiclesForIndex([3], 2)
         routing.SetAllowedVehiclesForIndex([], 2)
         routing.SetAllowedVehiclesForIndex([3], 1)
-        routing.SetAllowedVehiclesForIndex([0, 1, 2], 1)
+        routing.SetAllowedVehiclesForIndex([-1, 0, 1, 2], 1)
         routing.VehicleVar(1).RemoveValue(2)
         routing.VehicleVar(2).SetValues([-1, 3, 1])
         routing.VehicleVar(3).SetRange(1, 2)

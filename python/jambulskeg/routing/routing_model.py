@@ -279,11 +279,11 @@ class RoutingModel(Named):
         self._said.policies[vehicle] = self.POLICIES[policy]
 
     def SetAllowedVehiclesForIndex(self, vehicles: Sequence[int], index: int) -> None:
-        """The vehicles that may make a visit, where it is made; an empty list allows all."""
+        """The vehicles that may make a visit, where it is made; an empty list allows all, and -1 changes nothing."""
         title, everyone = "RoutingModel.SetAllowedVehiclesForIndex", range(self.vehicles())
         self._visit(index, title)
         for vehicle in vehicles:
-            if vehicle not in everyone:
+            if vehicle not in everyone and vehicle != -1:
                 raise Refused(Fault(14, "", f"there is no vehicle {vehicle}"), title)
         self._said.rules(index).allowed = set(vehicles or everyone)
 
