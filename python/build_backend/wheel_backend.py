@@ -40,7 +40,7 @@ def metadata():
 def sources():
     """The files of the package, by their paths in the wheel."""
     for folder, names, files in os.walk(os.path.join(TOP, PACKAGE)):
-        names[:] = sorted(name for name in names if name != "__pycache__")
+        names[:] = sorted(name for name in names if name[0] not in "._")
         for file in sorted(files):
             yield os.path.relpath(os.path.join(folder, file), TOP).replace(os.sep, "/")
 
