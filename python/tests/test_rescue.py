@@ -185,7 +185,7 @@ class RoundTests(unittest.TestCase):
         with Fake("sys.stdout.write(subprocess.run([REAL, 'first'], input=text, stdout=subprocess.PIPE, text=True)"
                   ".stdout); sys.exit(9 if 'check' in sys.argv else 0)") as path:
             solution: Solution = solve_for(DAY, 0, path, checked=False).solution
-        self.assertEqual(solution.cost, 1726)
+        self.assertEqual(solution.cost, 1658)
 
 
 if __name__ == "__main__":
