@@ -2,8 +2,8 @@
 
 use arrayvec::ArrayVec;
 
-/// A stop that a vehicle heads for: its node, and its floor, the least cumul there from which the floor of the next stop
-/// can be met with no slack above the greatest one. Floors are in `0..=2^36`.
+/// A stop that a vehicle heads for: its node, and its floor, the least cumul there from which the floor of the next
+/// stop can be met with no slack above the greatest one. Floors are in `0..=2^36`.
 #[derive(Clone, Copy, Default)]
 pub struct Step {
     pub node: u32,

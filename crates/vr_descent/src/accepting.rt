@@ -37,8 +37,8 @@ pub trait Accept {
         requires difference { difference ≡ cost_change (model self.now) routes.now.lists mv }
         ensures { result ≡ takes self.now routes.now.lists mv difference };
 
-    /// Whether what the judge tells of a move by its numbers alone rules out that it is acceptable: true only where it is
-    /// not. A search asks this first, before it makes the change of the move. Takes no memory.
+    /// Whether what the judge tells of a move by its numbers alone rules out that it is acceptable: true only where it
+    /// is not. A search asks this first, before it makes the change of the move. Takes no memory.
     #[inline]
     fn passes_over<J: Judge>(&self, judge: &J, routes: &Routes, mv: Move) -> bool
         requires well_formed { IsWellFormed (model self.now) }

@@ -33,8 +33,8 @@ pub enum ScanEnd {
 /// Tries the moves of the model's neighbourhoods in order, at most `rest` of them, up to the first that is acceptable:
 /// the lists after it are valid, and `accept` takes it. Each try is one step of the list of moves and at most one
 /// question to the judge: a move that `accept` does not take with the least difference that it may make is not judged,
-/// and where its numbers tell this, what it changes is not written. Else that is written once, for what it makes at least
-/// and for what `accept` says of that.
+/// and where its numbers tell this, what it changes is not written. Else that is written once, for what it makes at
+/// least and for what `accept` says of that.
 ///
 /// The only refusal is want of memory, which is taken by the judge alone; the judge still holds the same lists then.
 #[inline(never)]

@@ -27,9 +27,9 @@ use vr_parts::CostPart;
 use vr_routes::{Change, Routes};
 use vr_timedparts::Room;
 
-/// What global spans cost (`SetGlobalSpanCostCoefficient` in OR-Tools). A change is told, in the dimensions whose global
-/// span has a coefficient, by the floors and cumuls that are kept of the committed lists: along what it puts in, in
-/// front of that until a floor is as it was, and behind it until a cumul is; only where they do not tell it are the
+/// What global spans cost (`SetGlobalSpanCostCoefficient` in OR-Tools). A change is told, in the dimensions whose
+/// global span has a coefficient, by the floors and cumuls that are kept of the committed lists: along what it puts in,
+/// in front of that until a floor is as it was, and behind it until a cumul is; only where they do not tell it are the
 /// schedules of the changed lists built. Where the other lists start and end is told by the first entries of the orders
 /// of the used vehicles.
 #[derive(Drop)]

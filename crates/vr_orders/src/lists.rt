@@ -32,8 +32,8 @@ impl Orders {
         }
     }
 
-    /// By the first entries, from where to where the used vehicles reach that are none of these; nothing where there are
-    /// no others.
+    /// By the first entries, from where to where the used vehicles reach that are none of these; nothing where there
+    /// are no others.
     pub fn extent_but(&self, vehicles: &[u32]) -> Option<Extent>
         requires range { AreInRange self.now }
         ensures value { result ≡ lists.extent_but vehicles.now self.now }

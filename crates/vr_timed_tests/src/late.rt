@@ -24,8 +24,8 @@ const LATE: &str =
 const LISTS: [&[u32]; 3] = [&[1, 2, 3, 4, 5], &[6], &[]];
 
 // Moves of these lists: a stretch turned, with the late visit at its end and with it in front; chains within a list,
-// and one to the front; the late end, and visits before it, in a list of their own; visits that change places; a tail; and
-// late visits that are left out, the only one of a list too.
+// and one to the front; the late end, and visits before it, in a list of their own; visits that change places; a tail;
+// and late visits that are left out, the only one of a list too.
 const MOVES: [Move; 13] = [
     Move::TwoOpt { v: 0, a: 1, b: 3 },
     Move::TwoOpt { v: 0, a: 0, b: 4 },
