@@ -4,8 +4,8 @@ use Rattle.vr_routes.specs.Tours.{Tours}
 use Rattle.vr_arccosts.specs.Along.{KeptAlong, StandsAlong}
 use Rattle.vr_usecosts.specs.Fixed.{KeptFixed, StandsFixed}
 use Rattle.vr_usecosts.specs.Groups.{KeptGroups, StandsGroups}
-use Rattle.vr_plancosts.specs.PlanCosts.{KeptPlans, StandsPlans}
-use Rattle.vr_globalcosts.specs.GlobalCosts.{KeptSpans, StandsSpans}
+use Rattle.vr_costfilter.specs.PlanCosts.{KeptPlans, StandsPlans}
+use Rattle.vr_costfilter.specs.GlobalCosts.{KeptSpans, StandsSpans}
 use Rattle.vr_allcosts.specs.Standing.{KeptCosts, StandsCosts}
 
 pub stands-like : (kept : KeptCosts) (tours : Tours) → StandsCosts kept tours

@@ -6,9 +6,9 @@ use Rattle.vr_model.specs.routes.Costs.{arcs_part, assigned, cost, fixed_part, g
 use Rattle.vr_model.specs.declared.records.Model.{Model}
 use Rattle.vr_timings.specs.Bounds.{IsAround, cumul_cost}
 use Rattle.vr_parts.specs.Bounds.{IsAddedByChange}
-use Rattle.vr_globalcosts.specs.GlobalCosts.{global_cost_of}
+use Rattle.vr_costfilter.specs.GlobalCosts.{global_cost_of}
 use Rattle.vr_parts.specs.Parts.{CostAlike}
-use Rattle.vr_plancosts.specs.PlanCosts.{soft_and_span, IsPlanChange}
+use Rattle.vr_costfilter.specs.PlanCosts.{soft_and_span, IsPlanChange}
 use Rattle.vr_allcosts.specs.Standing.{PaysArcsAlone}
 
 -- a number as code reads it

@@ -6,9 +6,9 @@ use Rattle.vr_model.specs.declared.records.Model.{Model}
 use Rattle.vr_routes.specs.Tours.{Tours}
 use Rattle.vr_arccosts.specs.Along.{KeptAlong, StandsAlong}
 use Rattle.vr_usecosts.specs.Fixed.{KeptFixed, StandsFixed}
-use Rattle.vr_globalcosts.specs.GlobalCosts.{KeptSpans, StandsSpans}
+use Rattle.vr_costfilter.specs.GlobalCosts.{KeptSpans, StandsSpans}
 use Rattle.vr_usecosts.specs.Groups.{KeptGroups, StandsGroups}
-use Rattle.vr_plancosts.specs.PlanCosts.{KeptPlans, StandsPlans}
+use Rattle.vr_costfilter.specs.PlanCosts.{KeptPlans, StandsPlans}
 use Rattle.vr_earliest.specs.Kept.{KeptEarly, StandsEarliest}
 
 -- what valid lists of the model differ by in cost is what their arcs differ by

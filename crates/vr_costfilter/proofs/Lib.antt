@@ -1,0 +1,11 @@
+pub mod ChosenLemmas
+pub mod PlanLemmas
+pub mod ScheduleLemmas
+pub mod LeastSpanLemmas
+pub mod OrderLemmas
+pub mod OrdersLemmas
+pub mod ReachLemmas
+pub mod GlobalLemmas
+pub mod AllOrdersLemmas
+pub mod SpreadLemmas
+pub mod KeptLemmas

@@ -1,0 +1,5 @@
+pub mod PlanCosts
+pub mod Order
+pub mod Orders
+pub mod GlobalCosts
+pub mod Spreads

@@ -1,8 +1,8 @@
 use Rattle.std.proofs.Common.{◌≡◌, ◌∙◌, Bool, true, false, subst}
 use Rattle.vr_model.specs.routes.Costs.{fixed_part, penalty_part}
 use Rattle.vr_parts.specs.Parts.{CostAlike}
-use Rattle.vr_plancosts.specs.PlanCosts.{soft_and_span}
-use Rattle.vr_globalcosts.specs.GlobalCosts.{global_cost_of}
+use Rattle.vr_costfilter.specs.PlanCosts.{soft_and_span}
+use Rattle.vr_costfilter.specs.GlobalCosts.{global_cost_of}
 use Rattle.vr_allcosts.proofs.SumLemmas.{arcs-alone}
 use Rattle.vr_allcosts.proofs.costs.are_idle.Goals as goal
 use Rattle.vr_allcosts.proofs.costs.are_idle.Goals.{then-is_idle, else-is_idle, then-is_idle-2, else-is_idle-2}

@@ -4,8 +4,8 @@ use Rattle.std.proofs.lemmas.Int.{ints}
 use Rattle.vr_model.specs.routes.Costs.{arcs_part, cost, fixed_part, penalty_part}
 use Rattle.vr_model.specs.declared.records.Model.{Model}
 use Rattle.vr_routes.specs.Pieces.{changed}
-use Rattle.vr_globalcosts.specs.GlobalCosts.{global_cost_of}
-use Rattle.vr_plancosts.specs.PlanCosts.{soft_and_span}
+use Rattle.vr_costfilter.specs.GlobalCosts.{global_cost_of}
+use Rattle.vr_costfilter.specs.PlanCosts.{soft_and_span}
 use Rattle.vr_allcosts.specs.Standing.{KeptCosts, StandsCosts}
 use Rattle.vr_allcosts.proofs.StandLemmas.{stands-like}
 use Rattle.vr_allcosts.proofs.SumLemmas.{AreBounded, adds_whole, are_read, cost_of_parts}

@@ -7,8 +7,8 @@ use Rattle.vr_model.specs.declared.records.Model.{Model}
 use Rattle.vr_model.specs.moves.MoveTests.{is_move}
 use Rattle.vr_routes.specs.Changes.{IsChange}
 use Rattle.vr_routes.specs.Pieces.{changed, joined, part_at}
-use Rattle.vr_globalcosts.specs.GlobalCosts.{global_cost_of}
-use Rattle.vr_plancosts.specs.PlanCosts.{soft_and_span}
+use Rattle.vr_costfilter.specs.GlobalCosts.{global_cost_of}
+use Rattle.vr_costfilter.specs.PlanCosts.{soft_and_span}
 use Rattle.vr_parts.proofs.PartLemmas.{below-after}
 use Rattle.vr_allcosts.proofs.SumLemmas.{AreBounded, adds_least, are_read, cost_of_parts}
 use Rattle.vr_allcosts.proofs.costs.Costs.least.Goals as goal

@@ -3,9 +3,9 @@ use Rattle.vr_model.specs.declared.records.Model.{Model}
 use Rattle.vr_both.proofs.BothLemmas.{of_value}
 use Rattle.vr_arccosts.specs.Along.{StandsAlong}
 use Rattle.vr_usecosts.specs.Fixed.{StandsFixed}
-use Rattle.vr_globalcosts.specs.GlobalCosts.{StandsSpans}
+use Rattle.vr_costfilter.specs.GlobalCosts.{StandsSpans}
 use Rattle.vr_usecosts.specs.Groups.{StandsGroups}
-use Rattle.vr_plancosts.specs.PlanCosts.{StandsPlans}
+use Rattle.vr_costfilter.specs.PlanCosts.{StandsPlans}
 use Rattle.vr_earliest.specs.Kept.{StandsEarliest}
 use Rattle.vr_allcosts.specs.Standing.{PaysArcsAlone}
 use Rattle.vr_allcosts.proofs.costs.Costs.open.Goals as goal

@@ -1,0 +1,117 @@
+-- Soft bounds and spans as a sum over the lists of vehicles.
+use Rattle.std.proofs.Common.{◌≡◌, ◌∙◌, ℕ, suc, ◌<◌, Bool, true, false, cond, List, length, refl, ap, sym, subst, arith, to_z, of_z, w64}
+use Rattle.std.specs.Prelude.{IsTrue, ℤ, pos, ◌+ℤ◌, ◌-ℤ◌, ◌*ℤ◌}
+use Rattle.std.specs.List.{range_with_len}
+use Rattle.std.proofs.lemmas.Int.{ints}
+use Rattle.vr_model.specs.tables.Numbers.{number_at, total_by, below}
+use Rattle.vr_model.specs.tables.Tables.{dimension_at, visits}
+use Rattle.vr_model.specs.tables.WellFormed.{IsWellFormed}
+use Rattle.vr_model.specs.routes.Rules.{is_valid}
+use Rattle.vr_routes.specs.Tours.{Tours}
+use Rattle.vr_cumuls.specs.Kept.{AreAllKept}
+use Rattle.vr_model.specs.routes.Routes.{route, is_empty}
+use Rattle.vr_model.specs.schedules.Schedules.{Plan, cumul}
+use Rattle.vr_model.specs.routes.Costs.{plan_at, assigned, over_plans, soft_part, span_part}
+use Rattle.vr_model.specs.declared.records.Model.{Model}
+use Rattle.vr_model.proofs.tables.Totals.{sum_range, sum_nothing, sum_same, total_by-failing, total_by-plus}
+use Rattle.vr_timings.specs.Paying.{PaysNothing}
+use Rattle.vr_timings.specs.Timings.{plan_of, soft_of, soft_with, span_with, start_with, last_with}
+use Rattle.vr_timings.proofs.ExtentLemmas.{times-none}
+use Rattle.vr_timings.proofs.PlanLemmas.{plan-at}
+use Rattle.vr_parts.specs.Sums.{over_routes}
+use Rattle.vr_earliest.specs.Ways.{least_span}
+use Rattle.vr_costfilter.specs.PlanCosts.{plans_cost, spans_least, IsIdle, IsPlanCost, KeptPlans, StandsPlans}
+
+-- ---- a sum over the lists
+
+module _ (model : Model) (lists : List (List ℕ)) where
+  -- a sum over used vehicles and dimensions is one over lists
+  over-lists : (f : ℕ → ℕ → Plan → ℤ) → over_plans model (assigned model lists) (λ d v. f d v (plan_at (assigned model lists) d v))
+      ≡ sum_range (λ v. cond (is_empty (route lists v)) (pos 0) (total_by (λ d. f d v (plan_of model d v (route lists v))) (below (length model.dimensions)))) 0 (length lists)
+  over-lists f =
+      total_by-failing (λ v. total_by (λ d. f d v (plan_at (assigned model lists) d v)) (below (length model.dimensions))) (λ v. is_empty (route lists v)) (below (length lists))
+      ∙ sum_same _ _ 0 (length lists) (λ v low known. at v (omega (arith, known)) (is_empty (route lists v)) refl)
+    where
+      at : (v : ℕ) → v < length lists → (b : Bool) → is_empty (route lists v) ≡ b
+          → cond (is_empty (route lists v)) (pos 0) (total_by (λ d. f d v (plan_at (assigned model lists) d v)) (below (length model.dimensions)))
+          ≡ cond (is_empty (route lists v)) (pos 0) (total_by (λ d. f d v (plan_of model d v (route lists v))) (below (length model.dimensions)))
+      at v known true e = ap (λ b. cond b (pos 0) (total_by (λ d. f d v (plan_at (assigned model lists) d v)) (below (length model.dimensions)))) e
+          ∙ ap (λ b. cond b (pos 0) (total_by (λ d. f d v (plan_of model d v (route lists v))) (below (length model.dimensions)))) (sym e)
+      at v known false e = ap (λ s. cond (is_empty (route lists v)) (pos 0) s)
+          (sum_same (λ d. f d v (plan_at (assigned model lists) d v)) (λ d. f d v (plan_of model d v (route lists v))) 0 (length model.dimensions) (λ d low under. ap (f d v) (plan-at model lists d v (omega (arith, under)) known e)))
+
+  -- what soft bounds and spans cost is a sum over the lists
+  pub plans-over : soft_part model (assigned model lists) +ℤ span_part model (assigned model lists) ≡ over_routes (plans_cost model) lists
+  plans-over =
+      let dims : List ℕ = below (length model.dimensions) in
+      let f : ℕ → ℤ = λ v. total_by (λ d. soft_with model d v (route lists v)) dims in
+      let g : ℕ → ℤ = λ v. total_by (λ d. span_with model d v (route lists v)) dims in
+      let a : soft_part model (assigned model lists) ≡ sum_range (λ v. cond (is_empty (route lists v)) (pos 0) (f v)) 0 (length lists) = over-lists (λ d v plan. soft_of (dimension_at model d) v (route lists v) plan.cumuls) in
+      let b : span_part model (assigned model lists) ≡ sum_range (λ v. cond (is_empty (route lists v)) (pos 0) (g v)) 0 (length lists) = over-lists (λ d v plan. number_at (dimension_at model d).span_costs v *ℤ (cumul plan (suc (length (route lists v))) -ℤ cumul plan 0)) in
+      let s = both f g 0 (length lists) in
+      let t : sum_range (λ v. cond (is_empty (route lists v)) (pos 0) (f v +ℤ g v)) 0 (length lists) ≡ over_routes (plans_cost model) lists = sum_same (λ v. cond (is_empty (route lists v)) (pos 0) (f v +ℤ g v)) (λ v. plans_cost model v (route lists v)) 0 (length lists)
+      (λ v _ _. ap (λ z. cond (is_empty (route lists v)) (pos 0) z) (sym (total_by-plus (λ d. soft_with model d v (route lists v)) (λ d. span_with model d v (route lists v)) dims))) in
+      omega (arith, ints, a, b, s, t)
+    where
+      each : (b : Bool) (x y : ℤ) → cond b (pos 0) x +ℤ cond b (pos 0) y ≡ cond b (pos 0) (x +ℤ y)
+      each true x y = omega (arith, ints)
+      each false x y = refl
+
+      both : (f g : ℕ → ℤ) (a n : ℕ) → sum_range (λ v. cond (is_empty (route lists v)) (pos 0) (f v)) a n +ℤ sum_range (λ v. cond (is_empty (route lists v)) (pos 0) (g v)) a n
+          ≡ sum_range (λ v. cond (is_empty (route lists v)) (pos 0) (f v +ℤ g v)) a n
+      both f g a n = sym (total_by-plus (λ v. cond (is_empty (route lists v)) (pos 0) (f v)) (λ v. cond (is_empty (route lists v)) (pos 0) (g v)) (range_with_len a n)) ∙ sum_same _ _ a n (λ v _ _. each (is_empty (route lists v)) (f v) (g v))
+
+-- ---- where nothing is paid
+
+-- where a list pays nothing in any dimension, it costs nothing
+pub idle-all : (model : Model) (v : ℕ) (list : List ℕ) → ((d : ℕ) → d < length model.dimensions → PaysNothing (dimension_at model d) v list) → plans_cost model v list ≡ pos 0
+idle-all model v list nothing = by (is_empty list)
+  where
+    none : total_by (λ d. soft_with model d v list +ℤ span_with model d v list) (below (length model.dimensions)) ≡ pos 0
+    none = sum_nothing (λ d. soft_with model d v list +ℤ span_with model d v list) 0 (length model.dimensions) (λ d _ low.
+        let here = nothing d (omega (arith, low)) in
+        let soft = here.soft (plan_of model d v list).cumuls in
+        let span = times-none (number_at (dimension_at model d).span_costs v) (last_with model d v list -ℤ start_with model d v list) here.span in
+        omega (arith, ints, soft, span))
+
+    by : (b : Bool) → cond b (pos 0) (total_by (λ d. soft_with model d v list +ℤ span_with model d v list) (below (length model.dimensions))) ≡ pos 0
+    by true = refl
+    by false = none
+
+-- where it pays nothing in any dimension, its spans cost nothing
+pub idle-spans : (model : Model) (v : ℕ) (list : List ℕ) → ((d : ℕ) → d < length model.dimensions → PaysNothing (dimension_at model d) v list) → spans_least model v list ≡ pos 0
+idle-spans model v list nothing = by (is_empty list)
+  where
+    none : total_by (λ d. number_at (dimension_at model d).span_costs v *ℤ least_span model d v list) (below (length model.dimensions)) ≡ pos 0
+    none = sum_nothing (λ d. number_at (dimension_at model d).span_costs v *ℤ least_span model d v list) 0 (length model.dimensions) (λ d _ low.
+        times-none (number_at (dimension_at model d).span_costs v) (least_span model d v list) (nothing d (omega (arith, low))).span)
+
+    by : (b : Bool) → cond b (pos 0) (total_by (λ d. number_at (dimension_at model d).span_costs v *ℤ least_span model d v list) (below (length model.dimensions))) ≡ pos 0
+    by true = refl
+    by false = none
+
+pub idle-sum : (model : Model) → IsIdle model → (lists : List (List ℕ)) → over_routes (plans_cost model) lists ≡ pos 0
+idle-sum model idle lists = sum_nothing (λ v. plans_cost model v (route lists v)) 0 (length lists) (λ v _ _. idle.plans v (route lists v))
+
+-- a cost is read as it is
+pub read-cost : (x : ℤ) → IsPlanCost x → to_z w64 (of_z w64 x) ≡ x
+read-cost x h = omega (arith, ints, h.low, h.high)
+
+-- nothing is a cost that a list may have
+pub nothing-is-cost : IsPlanCost (pos 0)
+nothing-is-cost = record { low = omega (arith, ints); high = omega (arith, ints) }
+
+-- ---- what is kept
+
+-- what is like what stands, stands
+pub plans-like : (before later : KeptPlans) (tours : Tours) → StandsPlans before tours → later.model ≡ before.model → later.costs ≡ before.costs → later.cumuls ≡ before.cumuls → StandsPlans later tours
+plans-like before later tours stands model costs cumuls = record {
+  well_formed = subst IsWellFormed (sym model) stands.well_formed;
+  of_model = stands.of_model ∙ ap visits (sym model);
+  valid = subst (λ m. IsTrue (is_valid m tours.lists)) (sym model) stands.valid;
+  as_many = stands.as_many ∙ ap (λ (m : Model). length m.vehicles) (sym model);
+  many = ap (λ (l : List ℤ). length l) costs ∙ stands.many ∙ ap (λ (m : Model). length m.vehicles) (sym model);
+  costs = λ v known. ap (λ l. number_at l v) costs ∙ stands.costs v known ∙ ap (λ (m : Model). plans_cost m v (route tours.lists v)) (sym model);
+  range = λ v known. subst (λ l. IsPlanCost (number_at l v)) (sym costs) (stands.range v known);
+  cumuls = subst (λ (m : Model). AreAllKept m tours.lists later.cumuls) (sym model) (subst (λ ks. AreAllKept before.model tours.lists ks) (sym cumuls) stands.cumuls);
+}

@@ -1,0 +1,32 @@
+use Rattle.std.proofs.Common.{◌≡◌, ◌∙◌, ◌*◌, ℕ, List, length, refl, ap, sym, subst, arith}
+use Rattle.vr_model.specs.declared.records.Model.{Model}
+use Rattle.vr_timings.specs.Bounds.{cumul_cost}
+use Rattle.vr_timings.proofs.BoundLemmas.{read-around}
+use Rattle.vr_routes.specs.Pieces.{changed}
+use Rattle.vr_parts.proofs.RowLemmas.{written}
+use Rattle.vr_costfilter.specs.declared.orders.Orders.{Orders}
+use Rattle.vr_costfilter.specs.GlobalCosts.{global_cost_of, AreAllOrders, IsGlobalCost, KeptSpans}
+use Rattle.vr_costfilter.proofs.GlobalLemmas.{stands-like}
+use Rattle.vr_costfilter.proofs.global_span.GlobalSpan.make_ready.Goals as goal
+
+pub cost_after-self-inside-requires-clause-stands : goal.cost_after-self-inside-requires-clause-stands
+cost_after-self-inside-requires-clause-stands c = stands-like c.args.self.now c.write_next.new.self c.args.routes.now c.requires.stands c.in_ok-write_next.ensures.like
+
+pub returns-clause-ready : goal.returns-clause-ready
+returns-clause-ready c =
+    let lists : List (List ℕ) = changed c.args.routes.now.lists c.args.change.now in
+    let like = c.in_ok-write_next.ensures.like in
+    let h = c.requires.stands in
+    let r = c.cost_after-self-inside.ensures in
+    let read = read-around c.cost_after-self-inside.result (cumul_cost * 4) r.range (omega arith) in
+    let old : List Orders = c.self.inside.next_orders.items in
+    let new : List Orders = c.write_orders.new.out in
+    let rules : Model = c.self.inside.rules in
+    let model : rules ≡ c.args.self.now.model = ap (λ s. s.model) c.self.view_is ∙ like.model in
+    let room : length old ≡ length rules.dimensions = ap (λ (s : KeptSpans). length s.next_orders) c.self.view_is ∙ like.room ∙ h.room ∙ ap (λ (m : Model). length m.dimensions) (sym model) in
+    record {
+      prepared = refl;
+      orders = subst (AreAllOrders rules lists) (sym (written old new c.self.inside.next_orders.len (c.write_orders.ensures.many ∙ sym room) (sym c.deref_mut.ensures.len ∙ ap length c.deref_mut.ensures.value))) c.write_orders.ensures;
+      cost = read ∙ r.value ∙ ap (λ (s : KeptSpans). global_cost_of s.model lists) (sym c.self.view_is);
+      range = subst IsGlobalCost (sym read) r.range;
+    }

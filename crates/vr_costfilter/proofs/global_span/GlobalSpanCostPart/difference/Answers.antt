@@ -1,0 +1,45 @@
+use Rattle.std.proofs.Common.{◌∙◌, ℕ, List, ap, sym, subst, arith}
+use Rattle.std.proofs.lemmas.Int.{ints}
+use Rattle.vr_routes.specs.Pieces.{changed}
+use Rattle.vr_model.specs.declared.records.Model.{Model}
+use Rattle.vr_costfilter.specs.GlobalCosts.{global_cost_of, IsGlobalCost, NonePays}
+use Rattle.vr_costfilter.proofs.GlobalLemmas.{none-costs, stands-like}
+use Rattle.vr_costfilter.proofs.global_span.GlobalSpanCostPart.difference.Goals as goal
+
+pub returns-then-is_idle-clause-exact : goal.returns-then-is_idle-clause-exact
+returns-then-is_idle-clause-exact c =
+    let model = c.args.self.now.model in
+    let lists : List (List ℕ) = c.args.routes.now.lists in
+    let none = subst NonePays (ap (λ s. s.model) c.self.view_is) (c.is_idle.ensures c.if-is_idle.true) in
+    let a = none-costs model none lists in
+    let b = none-costs model none (changed lists c.args.change.now) in
+    omega (arith, ints, a, b)
+
+pub returns-in_err-write_next-clause-stands : goal.returns-in_err-write_next-clause-stands
+returns-in_err-write_next-clause-stands c = stands-like c.args.self.now c.write_next.new.self c.args.routes.now c.requires.stands c.write_next.ensures.like
+
+pub cost_after-requires-clause-stands : goal.cost_after-requires-clause-stands
+cost_after-requires-clause-stands c = stands-like c.args.self.now c.write_next.new.self c.args.routes.now c.requires.stands c.in_ok-write_next.ensures.like
+
+pub returns-clause-exact : goal.returns-clause-exact
+returns-clause-exact c =
+    let lists : List (List ℕ) = changed c.args.routes.now.lists c.args.change.now in
+    let like = c.in_ok-write_next.ensures.like in
+    let view = c.self-2.view_is in
+    let after = c.cost_after.ensures.value ∙ ap (λ (m : Model). global_cost_of m lists) like.model in
+    let before = ap (λ s. s.cost) view ∙ like.cost ∙ c.requires.stands.cost in
+    let a = c.cost_after.ensures.range in
+    let b = subst IsGlobalCost (sym (ap (λ s. s.cost) view ∙ like.cost)) c.requires.stands.range in
+    omega (arith, ints, after, before, a.low, a.high, b.low, b.high)
+
+pub returns-clause-stands : goal.returns-clause-stands
+returns-clause-stands c =
+    stands-like c.args.self.now c.write_next.new.self c.args.routes.now c.requires.stands c.write_next.ensures.like
+
+pub returns-clause-range : goal.returns-clause-range
+returns-clause-range c =
+    let like = c.in_ok-write_next.ensures.like in
+    let view = c.self-2.view_is in
+    let a = c.cost_after.ensures.range in
+    let b = subst IsGlobalCost (sym (ap (λ s. s.cost) view ∙ like.cost)) c.requires.stands.range in
+    record { low = omega (arith, ints, a.low, a.high, b.low, b.high); high = omega (arith, ints, a.low, a.high, b.low, b.high) }

@@ -1,0 +1,45 @@
+use Rattle.std.proofs.Common.{◌∙◌, ap, ap₂, sym, subst, arith}
+use Rattle.std.proofs.lemmas.Int.{ints}
+use Rattle.std.specs.Prelude.{pos, ◌*ℤ◌}
+use Rattle.vr_model.specs.tables.Tables.{dimension_at, no_dimension}
+use Rattle.vr_model.specs.tables.WellFormed.{IsIn}
+use Rattle.vr_timings.specs.Bounds.{cumul_cost}
+use Rattle.vr_timings.specs.Extents.{length_of}
+use Rattle.vr_timings.proofs.BoundLemmas.{read-around}
+use Rattle.vr_timings.proofs.ExtentLemmas.{times-none}
+use Rattle.vr_costfilter.specs.GlobalCosts.{extent_after}
+use Rattle.vr_costfilter.proofs.reaches.cost_of_span.Goals as goal
+
+pub global_cost-requires-clause-coefficient : goal.global_cost-requires-clause-coefficient
+global_cost-requires-clause-coefficient c =
+    subst (λ x. IsIn (pos 0) (pos 10000) x.global_span_cost) (c.get-dimension.ensures.value no_dimension)
+    (c.requires.well_formed.each_dimension c.args.d no_dimension c.requires.dimension).global_span_cost_in_range
+
+pub reach-requires-clause-dimension : goal.reach-requires-clause-dimension
+reach-requires-clause-dimension c =
+    let few = c.requires.well_formed.number_of_dimensions in
+    let low = c.requires.dimension in
+    omega (arith, few, low)
+
+pub reach-requires-clause-orders : goal.reach-requires-clause-orders
+reach-requires-clause-orders c =
+    let some = c.if-dimension-eq0.false in
+    let same = ap (λ x. x.global_span_cost) (c.get-dimension.ensures.value no_dimension) in
+    c.requires.orders (λ none. absurd (omega (arith, ints, some, same, none)))
+
+pub reach-requires-clause-next : goal.reach-requires-clause-next
+reach-requires-clause-next c =
+    let some = c.if-dimension-eq0.false in
+    let same = ap (λ x. x.global_span_cost) (c.get-dimension.ensures.value no_dimension) in
+    c.requires.next (λ none. absurd (omega (arith, ints, some, same, none)))
+
+pub returns-clause-value : goal.returns-clause-value
+returns-clause-value c =
+    read-around c.global_cost.result cumul_cost c.global_cost.ensures.range (omega arith) ∙ c.global_cost.ensures.value
+    ∙ ap₂ (λ x extent. x *ℤ length_of extent) (ap (λ x. x.global_span_cost) (sym (c.get-dimension.ensures.value no_dimension))) c.reach.ensures.value
+
+pub returns-then-dimension-eq0-clause-value : goal.returns-then-dimension-eq0-clause-value
+returns-then-dimension-eq0-clause-value c =
+    let same = ap (λ x. x.global_span_cost) (c.get-dimension.ensures.value no_dimension) in
+    let none = c.if-dimension-eq0.true in
+    sym (times-none (dimension_at c.args.model.now c.args.d).global_span_cost (length_of (extent_after c.args.d c.args.vehicles.now c.args.next.now c.args.orders.now)) (omega (arith, ints, same, none)))

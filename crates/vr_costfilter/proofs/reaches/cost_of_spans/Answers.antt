@@ -1,0 +1,33 @@
+use Rattle.std.proofs.Common.{◌≡◌, ◌∙◌, ap, arith}
+use Rattle.std.proofs.lemmas.Int.{ints}
+use Rattle.std.proofs.lemmas.List.{get_or_default}
+use Rattle.std.specs.Prelude.{◌*ℤ◌}
+use Rattle.vr_model.specs.tables.Tables.{dimension_at}
+use Rattle.vr_model.proofs.tables.Totals.{total_by-more}
+use Rattle.vr_timings.specs.Extents.{length_of}
+use Rattle.vr_costfilter.specs.declared.orders.Orders.{Orders}
+use Rattle.vr_costfilter.specs.GlobalCosts.{extent_after, no_orders, span_cost_after}
+use Rattle.vr_costfilter.proofs.reaches.cost_of_spans.Goals as goal
+
+pub loop-d-preserved : goal.loop-d-preserved
+loop-d-preserved c =
+    let i = c.loop-d.invariant in
+    let d = c.loop-d.d in
+    let m = c.args.model.now in
+    let is = c.loop-d.cost-is in
+    let e = c.cost_of_span-cost.ensures in
+    let low = c.loop-d-test.true in
+    let many = c.requires.ranged.many in
+    let few = c.requires.well_formed.number_of_dimensions in
+    let value : c.cost_of_span-cost.result ≡ span_cost_after m c.args.orders.now c.args.vehicles.now c.args.next.now d = e.value
+    ∙ ap (λ (o : Orders). (dimension_at m d).global_span_cost *ℤ length_of (extent_after d c.args.vehicles.now c.args.next.now o)) (c.index-orders-d.is ∙ get_or_default c.args.orders.now d c.index-orders-d.result no_orders low) in
+    let next = total_by-more (span_cost_after m c.args.orders.now c.args.vehicles.now c.args.next.now) d in
+    let so_far = i.sum in
+    let a = i.range.low in
+    let b = i.range.high in
+    let p = e.range.low in
+    let q = e.range.high in
+    record {
+      sum = omega (arith, ints, next, so_far, value, is, a, b, p, q, few, many, low);
+      range = record { low = omega (arith, ints, is, a, b, p, q, few, many, low); high = omega (arith, ints, is, a, b, p, q, few, many, low) };
+    }

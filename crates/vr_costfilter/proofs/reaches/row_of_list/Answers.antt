@@ -1,0 +1,42 @@
+use Rattle.std.proofs.Common.{◌≡◌, ◌∙◌, List, Option, None, sym, subst, arith, inl, inr}
+use Rattle.std.proofs.lemmas.Bool.{cases_lt}
+use Rattle.std.proofs.lemmas.List.{get_or-set_other, get_or-set_same, length-set}
+use Rattle.std.specs.Prelude.{slice_index_or, slice_set}
+use Rattle.vr_timings.specs.declared.timings.Timing.{Timing}
+use Rattle.vr_timings.proofs.TableLemmas.{table_at}
+use Rattle.vr_costfilter.specs.GlobalCosts.{IsToldIfPaid}
+use Rattle.vr_costfilter.proofs.reaches.row_of_list.Goals as goal
+
+pub kept_in-requires-clause-table : goal.kept_in-requires-clause-table
+kept_in-requires-clause-table c =
+    let n = c.requires.tables.one_of_each in
+    let low = c.loop-d-test.true in
+    table_at c.args.model.now c.args.tables.now c.requires.tables c.loop-d.d c.index-tables-d.result c.index-tables-d.is (omega (arith, n, low))
+
+pub loop-d-preserved : goal.loop-d-preserved
+loop-d-preserved c =
+    let i = c.loop-d.invariant in
+    let d = c.loop-d.d in
+    let row : List (Option Timing) = c.loop-d.row in
+    let new : Option Timing = c.in_ok-row.field-0 in
+    let n = c.requires.tables.one_of_each in
+    let few = c.requires.well_formed.number_of_dimensions in
+    let low = c.loop-d-test.true in
+    let many = i.many in
+    record {
+      many = length-set row d new ∙ i.many;
+      each = λ e under. elim (cases_lt e d) [
+        | inl before ↦ subst (IsToldIfPaid c.args.model.now e c.args.v c.args.list.now) (sym (get_or-set_other row d e new None (omega (arith, before)))) (i.each e before)
+        | inr past ↦ (
+            let here : d ≡ e = omega (arith, under, past) in
+            subst (λ k. IsToldIfPaid c.args.model.now k c.args.v c.args.list.now (slice_index_or (slice_set row d new) k None)) here
+            (subst (IsToldIfPaid c.args.model.now d c.args.v c.args.list.now) (sym (get_or-set_same row d new None (omega (arith, n, few, low, many)))) c.in_ok-row.ensures))
+      ];
+    }
+
+pub returns : goal.returns
+returns c =
+    let i = c.loop-d.invariant in
+    let n = c.requires.tables.one_of_each in
+    let end = c.loop-d-test.false in
+    record { many = i.many; each = λ d low. i.each d (omega (arith, n, end, low)) }

@@ -1,0 +1,12 @@
+use Rattle.std.proofs.Common.{◌≡◌, ◌<◌, ◌≤◌, ◌+◌, ℕ, length, take}
+use Rattle.vr_costfilter.specs.Orders.{AreOrders}
+use Rattle.vr_costfilter.specs.GlobalCosts.{orders_at, Pays}
+use Rattle.vr_costfilter.proofs.reaches.set_list.Given as goal
+
+-- the vehicle has its list in the dimensions so far
+abbrev pub invariant-loop-d : goal.invariant-loop-d
+invariant-loop-d l = record {
+  many : length l.orders ≡ length l.model.dimensions;
+  done : (d : ℕ) → d < l.d → d < length l.model.dimensions → Pays l.model d → AreOrders l.model d (take (l.v + 1) l._routes.lists) (orders_at l.orders d);
+  left : (d : ℕ) → l.d ≤ d → d < length l.model.dimensions → Pays l.model d → AreOrders l.model d (take l.v l._routes.lists) (orders_at l.orders d);
+}

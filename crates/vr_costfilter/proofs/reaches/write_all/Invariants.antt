@@ -1,0 +1,12 @@
+use Rattle.std.proofs.Common.{◌≡◌, ◌<◌, ℕ, length}
+use Rattle.vr_routes.specs.Pieces.{changed}
+use Rattle.vr_costfilter.specs.Orders.{AreOrders}
+use Rattle.vr_costfilter.specs.GlobalCosts.{orders_at, Pays}
+use Rattle.vr_costfilter.proofs.reaches.write_all.Given as goal
+
+-- the dimensions so far are written
+abbrev pub invariant-loop-d : goal.invariant-loop-d
+invariant-loop-d l = record {
+  many : length l.out ≡ length l.model.dimensions;
+  done : (d : ℕ) → d < l.d → d < length l.model.dimensions → Pays l.model d → AreOrders l.model d (changed l.routes.lists l.change) (orders_at l.out d);
+}

@@ -1,0 +1,68 @@
+use Rattle.std.proofs.Common.{◌≡◌, ◌∙◌, ◌<◌, ◌+◌, ℕ, List, [], length, add-one, ap, sym, subst, arith}
+use Rattle.std.specs.Prelude.{slice_index_or}
+use Rattle.vr_model.specs.moves.Moves.{with_route}
+use Rattle.vr_model.specs.routes.Routes.{route}
+use Rattle.vr_model.proofs.routes.Lists.{route_set_other, route_set_same}
+use Rattle.vr_routes.specs.Pieces.{joined, no_part, part_at}
+use Rattle.vr_costfilter.specs.Orders.{AreOrders, IsTold}
+use Rattle.vr_costfilter.proofs.OrdersLemmas.{orders-room, orders-set, used-known}
+use Rattle.vr_parts.proofs.SumLemmas.{upto, upto-many, upto-next}
+use Rattle.vr_costfilter.specs.GlobalCosts.{told_in}
+use Rattle.vr_costfilter.proofs.reaches.write_in.Goals as goal
+
+pub set-requires-clause-starts : goal.set-requires-clause-starts
+set-requires-clause-starts c =
+    let m = c.args._model.now in
+    let d = c.args.d in
+    let lists : List (List ℕ) = c.args._routes.now.lists in
+    let parts = c.args.change.now in
+    let k = c.loop-k.k in
+    let base : List (List ℕ) = upto lists parts k in
+    let less = c.loop-k-test.true in
+    let many = c.parts-k-end.ensures.value in
+    let low : k < length parts = omega (arith, less, many) in
+    let vehicle = c.vehicle.ensures in
+    let known : (part_at parts k).vehicle < length lists = c.requires.parts.each_vehicle k no_part low in
+    let all = upto-many lists parts k in
+    let few = c.requires.few in
+    (orders-room m d base c.loop-k.out c.loop-k.invariant c.vehicle.result (length base) (λ u used. used-known base u used) (omega (arith, vehicle, known, all)) (omega (arith, few, all))).0
+
+pub set-requires-clause-ends : goal.set-requires-clause-ends
+set-requires-clause-ends c =
+    let m = c.args._model.now in
+    let d = c.args.d in
+    let lists : List (List ℕ) = c.args._routes.now.lists in
+    let parts = c.args.change.now in
+    let k = c.loop-k.k in
+    let base : List (List ℕ) = upto lists parts k in
+    let less = c.loop-k-test.true in
+    let many = c.parts-k-end.ensures.value in
+    let low : k < length parts = omega (arith, less, many) in
+    let vehicle = c.vehicle.ensures in
+    let known : (part_at parts k).vehicle < length lists = c.requires.parts.each_vehicle k no_part low in
+    let all = upto-many lists parts k in
+    let few = c.requires.few in
+    (orders-room m d base c.loop-k.out c.loop-k.invariant c.vehicle.result (length base) (λ u used. used-known base u used) (omega (arith, vehicle, known, all)) (omega (arith, few, all))).1
+
+pub loop-k-preserved : goal.loop-k-preserved
+loop-k-preserved c =
+    let m = c.args._model.now in
+    let d = c.args.d in
+    let lists : List (List ℕ) = c.args._routes.now.lists in
+    let parts = c.args.change.now in
+    let k = c.loop-k.k in
+    let base : List (List ℕ) = upto lists parts k in
+    let less = c.loop-k-test.true in
+    let many = c.parts-k-end.ensures.value in
+    let low : k < length parts = omega (arith, less, many) in
+    let vehicle = c.vehicle.ensures in
+    let known : (part_at parts k).vehicle < length lists = c.requires.parts.each_vehicle k no_part low in
+    let all = upto-many lists parts k in
+    let v = c.vehicle.result in
+    let list : List ℕ = joined lists (part_at parts k).pieces in
+    let row = told_in d (slice_index_or c.args.next.now k []) in
+    let next : upto lists parts (k + 1) ≡ with_route base v list = ap (upto lists parts) (add-one k) ∙ upto-next lists parts k low ∙ ap (λ w. with_route base w list) (sym vehicle) in
+    let told : IsTold m d v (route (with_route base v list) v) row =
+    subst (λ l. IsTold m d v l row) (sym (route_set_same base v list (omega (arith, vehicle, known, all)))) (subst (λ w. IsTold m d w list row) (sym vehicle) (c.requires.told k low)) in
+    let set = orders-set m d base c.loop-k.out c.loop-k.invariant v (with_route base v list) (λ u apart. route_set_other base v u list apart) row told in
+    subst (λ ls. AreOrders m d ls c.set.new.self) (sym next) (subst (AreOrders m d (with_route base v list)) (sym c.set.ensures) set)

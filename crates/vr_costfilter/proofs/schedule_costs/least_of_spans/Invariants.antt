@@ -1,0 +1,15 @@
+use Rattle.std.proofs.Common.{◌≡◌, ◌*◌}
+use Rattle.std.specs.Prelude.{◌*ℤ◌}
+use Rattle.vr_model.specs.tables.Numbers.{total_by, below, number_at}
+use Rattle.vr_model.specs.tables.Tables.{dimension_at}
+use Rattle.vr_timings.specs.Bounds.{cumul_cost, IsAround}
+use Rattle.vr_routes.specs.Pieces.{joined, part_at}
+use Rattle.vr_earliest.specs.Ways.{least_span}
+use Rattle.vr_costfilter.proofs.schedule_costs.least_of_spans.Given as goal
+
+-- what spans cost at least in the dimensions so far
+abbrev pub invariant-loop-d : goal.invariant-loop-d
+invariant-loop-d l = record {
+  sum : l.cost ≡ total_by (λ d. number_at (dimension_at l.model d).span_costs (part_at l.change l.k).vehicle *ℤ least_span l.model d (part_at l.change l.k).vehicle (joined l.routes.lists (part_at l.change l.k).pieces)) (below l.d);
+  range : IsAround (cumul_cost * l.d) l.cost;
+}

@@ -1,0 +1,12 @@
+use Rattle.std.proofs.Common.{◌≡◌, ◌*◌}
+use Rattle.vr_model.specs.tables.Numbers.{below, total_by}
+use Rattle.vr_timings.specs.Bounds.{cumul_cost, IsAround}
+use Rattle.vr_costfilter.specs.Spreads.{global_least_in}
+use Rattle.vr_costfilter.proofs.spreads.least_of_global_spans.Given as goal
+
+-- what the global spans cost at least in the dimensions so far
+abbrev pub invariant-loop-d : goal.invariant-loop-d
+invariant-loop-d l = record {
+  sum : l.cost ≡ total_by (global_least_in l.model l.routes.lists l.change) (below l.d);
+  range : IsAround (cumul_cost * l.d) l.cost;
+}

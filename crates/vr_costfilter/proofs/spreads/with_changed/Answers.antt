@@ -1,0 +1,72 @@
+use Rattle.std.proofs.Common.{◌≡◌, ◌∙◌, ℕ, List, cond, ap, ap₂, sym, subst, arith, length, to_z, of_z, w64}
+use Rattle.std.proofs.lemmas.Int.{ints}
+use Rattle.std.specs.Int.{int_max}
+use Rattle.vr_model.proofs.routes.Lists.{empty_where, not_empty}
+use Rattle.vr_timings.proofs.BoundLemmas.{read-cumul}
+use Rattle.vr_routes.specs.Pieces.{joined, part_at}
+use Rattle.vr_earliest.specs.Earlies.{IsEarly}
+use Rattle.vr_costfilter.proofs.SpreadLemmas.{range-early, reached-early, read-span, same-spread}
+use Rattle.vr_costfilter.proofs.spreads.with_changed.Goals as goal
+
+pub at-early-requires-clause-dimension : goal.at-early-requires-clause-dimension
+at-early-requires-clause-dimension c =
+    let few = c.requires.dimensions in
+    let low = c.requires.dimension in
+    omega (arith, few, low)
+
+pub at-early-requires-clause-part : goal.at-early-requires-clause-part
+at-early-requires-clause-part c =
+    let few = c.requires.earlies.few in
+    let low = c.requires.part in
+    omega (arith, few, low)
+
+pub returns-then-nodes_in-eq0-clause-value : goal.returns-then-nodes_in-eq0-clause-value
+returns-then-nodes_in-eq0-clause-value c =
+    let lists : List (List ℕ) = c.args.routes.now.lists in
+    let part = part_at c.args.change.now c.args.k in
+    let is : joined lists c.pieces.result.now ≡ joined lists part.pieces = ap (joined lists) c.pieces.ensures.value in
+    let none = c.nodes_in.ensures ∙ ap length is in
+    sym (ap (λ b. cond b c.args.spread (reached-early c.args._model.now c.args.d part.vehicle (joined lists part.pieces) c.args.spread)) (empty_where (joined lists part.pieces) (omega (arith, none, c.if-nodes_in-eq0.true))))
+
+pub returns-clause-value : goal.returns-clause-value
+returns-clause-value c =
+    let lists : List (List ℕ) = c.args.routes.now.lists in
+    let model = c.args._model.now in
+    let d = c.args.d in
+    let part = part_at c.args.change.now c.args.k in
+    let list : List ℕ = joined lists part.pieces in
+    let early = c.at-early.result in
+    let e : IsEarly model d part.vehicle list early = subst (IsEarly model d part.vehicle list) (sym c.at-early.ensures)
+    (c.requires.earlies.each d c.requires.dimension (λ unpaid. c.requires.pays unpaid.global) c.args.k c.requires.part) in
+    let r = c.requires.range in
+    let s = c.args.spread in
+    let is : joined lists c.pieces.result.now ≡ list = ap (joined lists) c.pieces.ensures.value in
+    let some = c.nodes_in.ensures ∙ ap length is in
+    let fits = c.max.type_inv in
+    let fits_span = c.max-2.type_inv in
+    let last : to_z w64 (of_z w64 c.max.result) ≡ c.max.result = omega (arith, ints, fits) in
+    let span : to_z w64 (of_z w64 c.max-2.result) ≡ c.max-2.result = omega (arith, ints, fits_span) in
+    same-spread _ (reached-early model d part.vehicle list s)
+    (last ∙ c.max.ensures.value ∙ ap₂ (λ x y. int_max x y) (read-cumul s.last r.last) (read-cumul early.last e.last_range ∙ e.last))
+    (read-cumul s.start r.start)
+    (span ∙ c.max-2.ensures.value ∙ ap₂ (λ x y. int_max x y) (read-span s.span r.span) (read-span early.span e.span_range ∙ e.span))
+    ∙ sym (ap (λ b. cond b s (reached-early model d part.vehicle list s)) (not_empty list (omega (arith, some, c.if-nodes_in-eq0.false))))
+
+pub returns-clause-range : goal.returns-clause-range
+returns-clause-range c =
+    let model = c.args._model.now in
+    let d = c.args.d in
+    let part = part_at c.args.change.now c.args.k in
+    let list : List ℕ = joined c.args.routes.now.lists part.pieces in
+    let early = c.at-early.result in
+    let e : IsEarly model d part.vehicle list early = subst (IsEarly model d part.vehicle list) (sym c.at-early.ensures)
+    (c.requires.earlies.each d c.requires.dimension (λ unpaid. c.requires.pays unpaid.global) c.args.k c.requires.part) in
+    let r = c.requires.range in
+    let fits = c.max.type_inv in
+    let fits_span = c.max-2.type_inv in
+    let last : to_z w64 (of_z w64 c.max.result) ≡ c.max.result = omega (arith, ints, fits) in
+    let span : to_z w64 (of_z w64 c.max-2.result) ≡ c.max-2.result = omega (arith, ints, fits_span) in
+    range-early early e.last_range e.span_range c.args.spread _ r
+    (last ∙ c.max.ensures.value ∙ ap₂ (λ x y. int_max x y) (read-cumul c.args.spread.last r.last) (read-cumul early.last e.last_range))
+    (read-cumul c.args.spread.start r.start)
+    (span ∙ c.max-2.ensures.value ∙ ap₂ (λ x y. int_max x y) (read-span c.args.spread.span r.span) (read-span early.span e.span_range))

@@ -1,0 +1,155 @@
+-- What the global spans cost, by the orders of the used vehicles and what is told of the lists after a change.
+use Rattle.std.specs.Prelude.{◌≡◌, ◌<◌, ◌*◌, Bool, IsTrue, IfSome, ℕ, true, fold}
+use Rattle.std.specs.Prelude.{List, [], length, map, slice_index_or, ℤ, pos, ◌*ℤ◌, Option, None}
+use Rattle.vr_model.specs.tables.Numbers.{below, total_by}
+use Rattle.vr_model.specs.tables.Tables.{dimension_at, visits}
+use Rattle.vr_model.specs.tables.WellFormed.{IsWellFormed}
+use Rattle.vr_model.specs.routes.Costs.{assigned, global_part}
+use Rattle.vr_model.specs.routes.Rules.{is_valid}
+use Rattle.vr_model.specs.declared.records.Model.{Model}
+use Rattle.vr_timings.specs.Bounds.{cumul_cost, IsAround}
+use Rattle.vr_timings.specs.Extents.{length_of}
+use Rattle.vr_timings.specs.Tables.{AreTables}
+use Rattle.vr_timings.specs.declared.extents.Extent.{Extent}
+use Rattle.vr_timings.specs.declared.tables.Table.{Table}
+use Rattle.vr_timings.specs.declared.timings.Timing.{Timing}
+use Rattle.vr_cumuls.specs.Kept.{AreAllKept}
+use Rattle.vr_cumuls.specs.declared.kept.Kept.{Kept}
+use Rattle.vr_routes.specs.Tours.{Tours}
+use Rattle.vr_routes.specs.Pieces.{ListAfter, changed, joined, part_at}
+use Rattle.vr_costfilter.specs.Orders.{beside, extent_but, AreInRange, AreOrders, IsInRange, IsTold}
+use Rattle.vr_costfilter.specs.declared.orders.Orders.{Orders}
+
+-- what the global spans cost at the chosen schedules of lists
+abbrev pub global_cost_of : Model → List (List ℕ) → ℤ
+global_cost_of model lists = global_part model (assigned model lists)
+
+-- the global span of a dimension has a coefficient
+abbrev pub Pays : Model → ℕ → Type 0
+Pays model d = (dimension_at model d).global_span_cost ≡ pos 0 → ⊥
+
+-- no global span has one
+abbrev pub NonePays : Model → Type 0
+NonePays model = (d : ℕ) → d < length model.dimensions → (dimension_at model d).global_span_cost ≡ pos 0
+
+-- what the chosen schedule of a list comes to is told where the dimension pays, and none is of the empty list
+abbrev pub IsToldIfPaid : Model → ℕ → ℕ → List ℕ → Option Timing → Type 0
+IsToldIfPaid model d v list timing = Pays model d → IsTold model d v list timing
+
+-- the same of each dimension
+pub record IsRow (model : Model) (v : ℕ) (list : List ℕ) (row : List (Option Timing)) : Type 0 where
+  pub many : length row ≡ 4
+  pub each : (d : ℕ) → d < length model.dimensions → IsToldIfPaid model d v list (slice_index_or row d None)
+
+-- the orders that are read where there are none
+abbrev pub no_orders : Orders
+no_orders = record { starts = []; ends = [] }
+
+-- the orders of dimension d
+abbrev pub orders_at : List Orders → ℕ → Orders
+orders_at orders d = slice_index_or orders d no_orders
+
+-- in each dimension that pays, the used vehicles of lists stand in the orders of their starts and ends
+pub record AreAllOrders (model : Model) (lists : List (List ℕ)) (orders : List Orders) : Type 0 where
+  pub many : length orders ≡ length model.dimensions
+  pub each : (d : ℕ) → d < length model.dimensions → Pays model d → AreOrders model d lists (orders_at orders d)
+
+-- what a row tells in dimension d
+abbrev pub told_in : ℕ → List (Option Timing) → Option Timing
+told_in d row = slice_index_or row d None
+
+-- from where to where lists reach where these vehicles get lists of which these rows tell
+abbrev pub extent_after : ℕ → List ℕ → List (List (Option Timing)) → Orders → Option Extent
+extent_after d vehicles next orders =
+    fold (λ extent row. beside extent (told_in d row)) (extent_but vehicles orders) next
+
+-- what the global span of dimension d costs then
+abbrev pub span_cost_after : Model → List Orders → List ℕ → List (List (Option Timing)) → ℕ → ℤ
+span_cost_after model orders vehicles next d =
+    (dimension_at model d).global_span_cost *ℤ length_of (extent_after d vehicles next (orders_at orders d))
+
+-- what all of them cost then
+abbrev pub spans_cost_after : Model → List Orders → List ℕ → List (List (Option Timing)) → ℤ
+spans_cost_after model orders vehicles next =
+    total_by (span_cost_after model orders vehicles next) (below (length model.dimensions))
+
+-- the cumuls that rows tell in dimension d are in their range
+abbrev pub AreTold : ℕ → List (List (Option Timing)) → Type 0
+AreTold d next = (k : ℕ) → k < length next → IfSome (told_in d (slice_index_or next k [])) IsInRange
+
+-- where a dimension pays, all cumuls that the orders and the rows tell are in their range
+pub record AreRanged (model : Model) (orders : List Orders) (next : List (List (Option Timing))) : Type 0 where
+  pub many : length orders ≡ length model.dimensions
+  pub in_orders : (d : ℕ) → d < length model.dimensions → Pays model d → AreInRange (orders_at orders d)
+  pub in_rows : (d : ℕ) → d < length model.dimensions → Pays model d → AreTold d next
+
+-- there are orders for each dimension, and no vehicle stands in them
+pub record AreBlank (model : Model) (orders : List Orders) : Type 0 where
+  pub many : length orders ≡ length model.dimensions
+  pub starts : (d : ℕ) → (orders_at orders d).starts ≡ []
+  pub ends : (d : ℕ) → (orders_at orders d).ends ≡ []
+
+-- the model is well formed, the tables are those of its dimensions, and where it is called idle no global span pays
+pub record AreSpanRules (model : Model) (tables : List Table) (idle : Bool) : Type 0 where
+  pub well_formed : IsWellFormed model
+  pub of_dimensions : AreTables model tables
+  pub none_pays : IsTrue idle → NonePays model
+
+-- what the global spans of a model may cost
+abbrev pub IsGlobalCost : ℤ → Type 0
+IsGlobalCost = IsAround (cumul_cost * 4)
+
+-- what contracts see of what is kept: the orders and what all costs, the rows, the orders and the cost of a change that
+-- is ready, and cumuls of the chosen schedules
+pub record KeptSpans : Type 0 where
+  pub model : Model
+  pub orders : List Orders
+  pub cost : ℤ
+  pub next : List (List (Option Timing))
+  pub next_orders : List Orders
+  pub next_cost : ℤ
+  pub is_prepared : Bool
+  pub cumuls : List (List Kept)
+
+-- it is of these lists of a model
+pub record StandsSpans (kept : KeptSpans) (tours : Tours) : Type 0 where
+  pub well_formed : IsWellFormed kept.model
+  pub of_model : tours.visits ≡ visits kept.model
+  pub valid : IsTrue (is_valid kept.model tours.lists)
+  pub as_many : length tours.lists ≡ length kept.model.vehicles
+  pub orders : AreAllOrders kept.model tours.lists kept.orders
+  pub room : length kept.next_orders ≡ length kept.model.dimensions
+  pub cost : kept.cost ≡ global_cost_of kept.model tours.lists
+  pub range : IsGlobalCost kept.cost
+  pub cumuls : AreAllKept kept.model tours.lists kept.cumuls
+
+-- the vehicles of parts
+abbrev pub vehicles_of : List ListAfter → List ℕ
+vehicles_of parts = map (λ part. part.vehicle) parts
+
+-- these are the rows of the lists after a change
+pub record AreRows (model : Model) (lists : List (List ℕ)) (parts : List ListAfter)
+    (next : List (List (Option Timing))) : Type 0 where
+  pub many : length next ≡ length parts
+  pub rows : (k : ℕ) → k < length parts
+      → IsRow model (part_at parts k).vehicle (joined lists (part_at parts k).pieces) (slice_index_or next k [])
+
+-- what they tell in dimension d is what the chosen schedules of these lists come to
+abbrev pub AreToldOf : Model → ℕ → List (List ℕ) → List ListAfter → List (List (Option Timing)) → Type 0
+AreToldOf model d lists parts next = (k : ℕ) → k < length parts → IsTold model d (part_at parts k).vehicle
+    (joined lists (part_at parts k).pieces) (told_in d (slice_index_or next k []))
+
+-- the model is the same, and what is kept of the lists too
+pub record AreLike (before later : KeptSpans) : Type 0 where
+  pub model : later.model ≡ before.model
+  pub orders : later.orders ≡ before.orders
+  pub room : length later.next_orders ≡ length before.next_orders
+  pub cost : later.cost ≡ before.cost
+  pub cumuls : later.cumuls ≡ before.cumuls
+
+-- the orders of the lists after a change are there, and what all cost then
+pub record AreSpansReady (kept : KeptSpans) (tours : Tours) (parts : List ListAfter) : Type 0 where
+  pub prepared : kept.is_prepared ≡ true
+  pub orders : AreAllOrders kept.model (changed tours.lists parts) kept.next_orders
+  pub cost : kept.next_cost ≡ global_cost_of kept.model (changed tours.lists parts)
+  pub range : IsGlobalCost kept.next_cost

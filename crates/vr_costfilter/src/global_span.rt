@@ -1,0 +1,245 @@
+//! Global spans.
+
+ghost use Rattle.std.specs.Prelude.{◌≡◌, ◌-ℤ◌, ◌≤ℤ◌, ◌<◌, ◌*◌, false, IsTrue};
+ghost use Rattle.std.specs.Prelude.{IfOk, OnOk, OnErr, length};
+ghost use Rattle.vr_model.specs.tables.Tables.{visits};
+ghost use Rattle.vr_model.specs.tables.WellFormed.{IsWellFormed};
+ghost use Rattle.vr_model.specs.routes.Rules.{is_valid};
+ghost use Rattle.vr_routes.specs.Pieces.{changed, joined, part_at};
+ghost use Rattle.vr_routes.specs.Changes.{IsMadeOn};
+ghost use Rattle.vr_timings.specs.Bounds.{cumul_cost, IsAround};
+ghost use Rattle.vr_earliest.specs.Earlies.{AreEarlies};
+ghost use Rattle.vr_costfilter.specs.GlobalCosts.{global_cost_of, IsRow, AreLike, AreRows};
+ghost use Rattle.vr_costfilter.specs.GlobalCosts.{AreSpansReady, IsGlobalCost, StandsSpans};
+ghost use Rattle.vr_parts.specs.Parts.{CostAlike, NothingReady};
+ghost use Rattle.vr_costfilter.specs.Spreads.{global_least};
+
+use crate::orders::Orders;
+use crate::reaches::{ListTimings, SpanRules, vehicles_of};
+use crate::room::Room;
+use arrayvec::ArrayVec;
+use std::alloc::Global;
+use std::marker::Model;
+use std::mem;
+use vr_cumuls::AllCumuls;
+use vr_earliest::Earlies;
+use vr_model::{Model as RoutingModel, NoMemory};
+use vr_parts::CostPart;
+use vr_routes::{Change, Routes};
+
+/// What global spans cost (`SetGlobalSpanCostCoefficient` in OR-Tools). A change is told, in the dimensions whose
+/// global span has a coefficient, by the floors and cumuls that are kept of the committed lists: along what it puts in,
+/// in front of that until a floor is as it was, and behind it until a cumul is; only where they do not tell it are the
+/// schedules of the changed lists built. Where the other lists start and end is told by the first entries of the
+/// orders of the used vehicles.
+#[derive(Drop)]
+pub struct GlobalSpan<'m> {
+    rules: SpanRules<'m>,
+    // the used vehicles by starts and by ends, in each dimension
+    orders: Vec<Orders>,
+    // what the global spans cost
+    cost: i64,
+    // what the lists of a change that is ready come to, the orders after it, and what the global spans cost then
+    next: ArrayVec<ListTimings, 2>,
+    next_orders: Vec<Orders>,
+    next_cost: i64,
+    is_prepared: bool,
+    // the cumuls of the committed lists
+    cumuls: AllCumuls,
+    // room for a list that a change makes
+    room: Room,
+}
+
+impl<'m> Model for GlobalSpan<'m> {
+    ghost use Rattle.vr_costfilter.specs.GlobalCosts.{KeptSpans};
+
+    ghost Value = { KeptSpans };
+
+    ghost view = { λ part. record {
+      model = part.rules;
+      orders = part.orders.items;
+      cost = part.cost;
+      next = part.next.items;
+      next_orders = part.next_orders.items;
+      next_cost = part.next_cost;
+      is_prepared = part.is_prepared;
+      cumuls = part.cumuls;
+    } };
+}
+
+impl<'m> GlobalSpan<'m> {
+    /// What the global spans cost with the lists of routes. The only refusal is want of memory, as of each other call.
+    pub fn open(
+        alloc: Global,
+        model: &'m RoutingModel,
+        routes: &Routes,
+    ) -> Result<GlobalSpan<'m>, NoMemory>
+        requires well_formed { IsWellFormed model.now }
+        requires of_model { routes.now.visits ≡ visits model.now }
+        requires valid { IsTrue (is_valid model.now routes.now.lists) }
+        ensures model { IfOk result (λ part. part.model ≡ model.now) }
+        ensures stands { IfOk result (λ part. StandsSpans part routes.now) }
+    {
+        let rules = SpanRules::open(alloc, model)?;
+        let mut room = Room::new(alloc);
+        let (orders, next_orders, cumuls) = rules.kept(alloc, routes, &mut room.timer)?;
+        let cost = rules.cost(&orders, &[], &[]);
+        Ok(GlobalSpan {
+            rules,
+            orders,
+            cost,
+            next: ArrayVec::new(),
+            next_orders,
+            next_cost: 0,
+            is_prepared: false,
+            cumuls,
+            room,
+        })
+    }
+
+    /// Whether no global span has a coefficient: all lists cost the same then.
+    pub fn is_idle(&self) -> bool
+        ensures { IsTrue result → CostAlike global_cost_of self.now.model }
+    {
+        self.rules.is_idle()
+    }
+
+    /// What a change adds at least, where the lists after it are valid: how far its lists and those that stay reach at
+    /// least, less what the global spans cost now. The caller hands in what the chosen schedules of the changed lists
+    /// come to at least. No schedule is built.
+    pub fn least(&self, earlies: &Earlies, routes: &Routes, change: &Change) -> i64
+        requires stands { StandsSpans self.now routes.now }
+        requires earlies { AreEarlies self.now.model routes.now.lists change.now earlies.now }
+        requires made { IsMadeOn routes.now change.now }
+        ensures value { result ≡ global_least self.now.model routes.now.lists change.now
+            -ℤ global_cost_of self.now.model routes.now.lists }
+        ensures least { IsTrue (is_valid self.now.model (changed routes.now.lists change.now))
+            → result ≤ℤ (global_cost_of self.now.model (changed routes.now.lists change.now)
+            -ℤ global_cost_of self.now.model routes.now.lists) }
+        ensures range { IsAround (cumul_cost * 8) result }
+    {
+        if self.rules.is_idle() {
+            return 0;
+        }
+        self.rules.least(earlies, &self.orders, routes, change) - self.cost
+    }
+
+    // What the schedules come to of the list that part `k` of a change gives its vehicle.
+    fn row_after(
+        &mut self,
+        routes: &Routes,
+        change: &Change,
+        k: usize,
+    ) -> Result<ListTimings, NoMemory>
+        requires stands { StandsSpans self.old routes.now }
+        requires made { IsMadeOn routes.now change.now }
+        requires valid { IsTrue (is_valid self.old.model (changed routes.now.lists change.now)) }
+        requires part { k < length change.now }
+        ensures kept { IfOk result (IsRow self.old.model (part_at change.now k).vehicle
+            (joined routes.now.lists (part_at change.now k).pieces)) }
+        ensures stays { self.new ≡ self.old }
+    {
+        if self.rules.is_idle() {
+            return Ok([None; 4]);
+        }
+        let row = self
+            .rules
+            .row_after(&self.cumuls, routes, change, k, &mut self.room)?;
+        Ok(row)
+    }
+
+    // Writes the rows of the lists after a change, and makes none ready.
+    fn write_next(&mut self, routes: &Routes, change: &Change) -> Result<(), NoMemory>
+        requires stands { StandsSpans self.old routes.now }
+        requires made { IsMadeOn routes.now change.now }
+        requires valid { IsTrue (is_valid self.old.model (changed routes.now.lists change.now)) }
+        ensures next { OnOk result (AreRows self.new.model routes.now.lists change.now self.new.next) }
+        ensures unprepared { self.new.is_prepared ≡ false }
+        ensures like { AreLike self.old self.new }
+    {
+        self.is_prepared = false;
+        self.next.clear();
+        for k in 0..change.parts() {
+            let row = self.row_after(routes, change, k)?;
+            self.next.push(row);
+        }
+        Ok(())
+    }
+
+    // What the global spans cost after a change whose rows are written.
+    fn cost_after(&self, routes: &Routes, change: &Change) -> i64
+        requires stands { StandsSpans self.now routes.now }
+        requires made { IsMadeOn routes.now change.now }
+        requires rows { AreRows self.now.model routes.now.lists change.now self.now.next }
+        ensures value { result ≡ global_cost_of self.now.model (changed routes.now.lists change.now) }
+        ensures range { IsGlobalCost result }
+    {
+        // the lists are those of the clauses alone
+        let _routes = routes;
+        let vehicles = vehicles_of(change);
+        self.rules.cost(&self.orders, &vehicles, &self.next)
+    }
+
+    // Makes what is kept of the lists after a change ready.
+    fn make_ready(&mut self, routes: &Routes, change: &Change) -> Result<(), NoMemory>
+        requires stands { StandsSpans self.old routes.now }
+        requires made { IsMadeOn routes.now change.now }
+        requires valid { IsTrue (is_valid self.old.model (changed routes.now.lists change.now)) }
+        ensures ready { OnOk result (AreSpansReady self.new routes.now change.now) }
+        ensures unready { OnErr result (NothingReady (AreSpansReady self.new)) }
+        ensures like { AreLike self.old self.new }
+    {
+        self.write_next(routes, change)?;
+        self.next_cost = self.cost_after(routes, change);
+        self.rules.write_orders(
+            &self.orders,
+            routes,
+            change,
+            &self.next,
+            &mut self.next_orders,
+        );
+        self.is_prepared = true;
+        Ok(())
+    }
+}
+
+impl<'m> CostPart for GlobalSpan<'m> {
+    ghost use Rattle.std.specs.Prelude.{List};
+
+    ghost model = { λ part. part.model };
+
+    ghost value = { global_cost_of };
+
+    ghost stands_at = { StandsSpans };
+
+    ghost ready = { AreSpansReady };
+
+    fn difference(&mut self, routes: &Routes, change: &Change) -> Result<i64, NoMemory>
+        requires stands { StandsSpans self.old routes.now }
+        requires made { IsMadeOn routes.now change.now }
+        requires valid { IsTrue (is_valid self.old.model (changed routes.now.lists change.now)) }
+        ensures exact { IfOk result (λ difference. difference
+            ≡ global_cost_of self.old.model (changed routes.now.lists change.now)
+            -ℤ global_cost_of self.old.model routes.now.lists) }
+        ensures stands { StandsSpans self.new routes.now }
+        ensures model { self.new.model ≡ self.old.model }
+        ensures range { IfOk result (IsAround (cumul_cost * 8)) }
+    {
+        if self.rules.is_idle() {
+            return Ok(0);
+        }
+        self.write_next(routes, change)?;
+        Ok(self.cost_after(routes, change) - self.cost)
+    }
+
+    fn prepare(&mut self, routes: &Routes, change: &Change) -> Result<(), NoMemory> {
+        let made = self.make_ready(routes, change)?;
+        Ok(made)
+    }
+
+    fn commit(&mut self, routes: &Routes, change: &Change) {
+        self.rules.commit(&mut self.cumuls, routes, change);
+        mem::swap(&mut self.orders, &mut self.next_orders);
+        self.cost = self.next_cost;
+    }
+}

@@ -1,0 +1,89 @@
+//! The used vehicles of lists by the starts and by the ends of their chosen schedules.
+
+ghost use Rattle.std.specs.Prelude.{◌≡◌, ◌<◌, [], IfSome, length};
+ghost use Rattle.vr_timings.specs.Extents.{IsExtentInRange};
+ghost use Rattle.vr_costfilter.specs.Orders as orders;
+ghost use Rattle.vr_costfilter.specs.Orders.{with_timing, AreInRange, IsInRange};
+ghost use Rattle.vr_costfilter.specs.Order.{without};
+
+use crate::order::Order;
+use vr_model::limits::HORIZON;
+use vr_timings::{Extent, Timing, wider};
+
+/// The used vehicles of lists in one dimension: in the order of their starts, the least first, and in the order of
+/// their ends, the greatest first.
+#[derive(Drop)]
+pub struct Orders {
+    /// By the cumul at the start.
+    pub starts: Order,
+    /// By what is left of the horizon behind the cumul at the end.
+    pub ends: Order,
+}
+
+impl Orders {
+    /// Of no used vehicle.
+    pub fn new() -> Orders
+        ensures starts { result.starts ≡ [] }
+        ensures ends { result.ends ≡ [] }
+    {
+        Orders {
+            starts: Order::new(),
+            ends: Order::new(),
+        }
+    }
+
+    /// By the first entries, from where to where the used vehicles reach that are none of these; nothing where there
+    /// are no others.
+    pub fn extent_but(&self, vehicles: &[u32]) -> Option<Extent>
+        requires range { AreInRange self.now }
+        ensures value { result ≡ orders.extent_but vehicles.now self.now }
+        ensures range { IfSome result IsExtentInRange }
+    {
+        let start = self.starts.first_but(vehicles)?;
+        let left = self.ends.first_but(vehicles)?;
+        Some(Extent {
+            start,
+            last: HORIZON - left,
+        })
+    }
+
+    /// Becomes a copy of others.
+    pub fn copy_from(&mut self, other: &Orders)
+        ensures { self.new ≡ other.now }
+    {
+        self.starts.copy_from(&other.starts);
+        self.ends.copy_from(&other.ends);
+    }
+
+    /// Vehicle `v` gets a list with another chosen schedule, or an empty list.
+    pub fn set(&mut self, v: u32, timing: Option<Timing>)
+        requires range { IfSome timing IsInRange }
+        requires starts { length (without v self.old.starts) < 100 }
+        requires ends { length (without v self.old.ends) < 100 }
+        ensures { self.new ≡ with_timing v timing self.old }
+    {
+        match timing {
+            None => {
+                self.starts.set(v, None);
+                self.ends.set(v, None);
+            }
+            Some(timing) => {
+                self.starts.set(v, Some(timing.start));
+                self.ends.set(v, Some(HORIZON - timing.last));
+            }
+        }
+    }
+}
+
+/// An extent with the chosen schedule of one list more, where there is one.
+pub fn beside(extent: Option<Extent>, timing: Option<Timing>) -> Option<Extent>
+    requires extent { IfSome extent IsExtentInRange }
+    requires timing { IfSome timing IsInRange }
+    ensures value { result ≡ orders.beside extent timing }
+    ensures range { IfSome result IsExtentInRange }
+{
+    match timing {
+        None => extent,
+        Some(timing) => Some(wider(extent, timing)),
+    }
+}

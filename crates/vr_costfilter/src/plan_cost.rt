@@ -1,0 +1,216 @@
+//! Soft upper bounds and spans.
+
+ghost use Rattle.std.specs.Prelude.{◌≡◌, ◌-ℤ◌, ◌≤ℤ◌, ◌<◌, false, IsTrue, IfOk, OnOk, OnErr, length};
+ghost use Rattle.vr_model.specs.tables.Tables.{visits};
+ghost use Rattle.vr_model.specs.tables.WellFormed.{IsWellFormed};
+ghost use Rattle.vr_model.specs.routes.Rules.{is_valid};
+ghost use Rattle.vr_routes.specs.Pieces.{changed, part_at};
+ghost use Rattle.vr_routes.specs.Changes.{IsMadeOn};
+ghost use Rattle.vr_earliest.specs.Earlies.{AreEarlies};
+ghost use Rattle.vr_parts.specs.Parts.{CostAlike, NothingReady};
+ghost use Rattle.vr_costfilter.specs.PlanCosts.{cost_after, soft_and_span, AreNextCosts, ArePlansReady, IsPlanCost};
+ghost use Rattle.vr_costfilter.specs.PlanCosts.{plans_least, IsPlanChange, StandsPlans};
+
+use crate::room::Room;
+use crate::schedule_costs::PlanRules;
+use arrayvec::ArrayVec;
+use std::alloc::Global;
+use std::marker::Model;
+use vr_cumuls::AllCumuls;
+use vr_earliest::Earlies;
+use vr_model::{Model as RoutingModel, NoMemory};
+use vr_parts::CostPart;
+use vr_routes::{Change, Routes};
+
+/// What soft upper bounds and spans cost (`SetCumulVarSoftUpperBound` and `SetSpanCostCoefficientForVehicle` in
+/// OR-Tools). A change is told by the floors and cumuls that are kept of the committed lists: along what it puts in, in
+/// front of that until a floor is as it was, and behind it until a cumul is; only where they do not tell it are the
+/// schedules of the changed lists built, in the dimensions where they may cost anything.
+#[derive(Drop)]
+pub struct PlanCost<'m> {
+    rules: PlanRules<'m>,
+    // what each list costs
+    costs: Vec<i64>,
+    // what the lists of a change that is ready cost
+    next: ArrayVec<i64, 2>,
+    is_prepared: bool,
+    // the cumuls of the committed lists
+    cumuls: AllCumuls,
+    // room for a list that a change makes
+    room: Room,
+}
+
+impl<'m> Model for PlanCost<'m> {
+    ghost use Rattle.vr_costfilter.specs.PlanCosts.{KeptPlans};
+
+    ghost Value = { KeptPlans };
+
+    ghost view = { λ part. record {
+      model = part.rules;
+      costs = part.costs.items;
+      next = part.next.items;
+      is_prepared = part.is_prepared;
+      cumuls = part.cumuls;
+    } };
+}
+
+impl<'m> PlanCost<'m> {
+    /// What soft upper bounds and spans cost with the lists of routes. The only refusal is want of memory, as of each
+    /// other call.
+    pub fn open(
+        alloc: Global,
+        model: &'m RoutingModel,
+        routes: &Routes,
+    ) -> Result<PlanCost<'m>, NoMemory>
+        requires well_formed { IsWellFormed model.now }
+        requires of_model { routes.now.visits ≡ visits model.now }
+        requires valid { IsTrue (is_valid model.now routes.now.lists) }
+        ensures model { IfOk result (λ part. part.model ≡ model.now) }
+        ensures stands { IfOk result (λ part. StandsPlans part routes.now) }
+    {
+        let rules = PlanRules::open(alloc, model)?;
+        let mut room = Room::new(alloc);
+        let (costs, cumuls) = rules.kept(alloc, routes, &mut room.timer)?;
+        Ok(PlanCost {
+            rules,
+            costs,
+            next: ArrayVec::new(),
+            is_prepared: false,
+            cumuls,
+            room,
+        })
+    }
+
+    /// Whether no stop has a soft upper bound that costs and no span does: all lists cost the same then.
+    pub fn is_idle(&self) -> bool
+        ensures { IsTrue result → CostAlike soft_and_span self.now.model }
+    {
+        self.rules.is_idle()
+    }
+
+    /// What a change adds at least, where the lists after it are valid: what the spans of the changed lists cost at
+    /// least, less what the lists of these vehicles cost now. The caller hands in what the chosen schedules of the
+    /// changed lists come to at least. No schedule is built.
+    pub fn least(&self, earlies: &Earlies, routes: &Routes, change: &Change) -> i64
+        requires stands { StandsPlans self.now routes.now }
+        requires earlies { AreEarlies self.now.model routes.now.lists change.now earlies.now }
+        requires made { IsMadeOn routes.now change.now }
+        ensures value { result ≡ plans_least self.now.model routes.now.lists change.now }
+        ensures least { IsTrue (is_valid self.now.model (changed routes.now.lists change.now))
+            → result ≤ℤ (soft_and_span self.now.model (changed routes.now.lists change.now)
+            -ℤ soft_and_span self.now.model routes.now.lists) }
+        ensures range { IsPlanChange result }
+    {
+        if self.rules.is_idle() {
+            return 0;
+        }
+        let mut least = 0;
+        for k in 0..change.parts() {
+            let v = change.vehicle(k);
+            least += self.rules.least(earlies, routes, change, k) - self.costs[v as usize];
+        }
+        least
+    }
+
+    // What the list costs that part `k` of a change gives its vehicle.
+    fn cost_after(&mut self, routes: &Routes, change: &Change, k: usize) -> Result<i64, NoMemory>
+        requires stands { StandsPlans self.old routes.now }
+        requires made { IsMadeOn routes.now change.now }
+        requires valid { IsTrue (is_valid self.old.model (changed routes.now.lists change.now)) }
+        requires part { k < length change.now }
+        ensures value { IfOk result (λ cost. cost
+            ≡ cost_after self.old.model routes.now.lists (part_at change.now k)) }
+        ensures range { IfOk result IsPlanCost }
+        ensures stays { self.new ≡ self.old }
+    {
+        if self.rules.is_idle() {
+            return Ok(0);
+        }
+        let cost = self
+            .rules
+            .cost_after(&self.cumuls, routes, change, k, &mut self.room)?;
+        Ok(cost)
+    }
+
+    // Writes the costs of the lists after a change, and makes none ready.
+    fn write_next(&mut self, routes: &Routes, change: &Change) -> Result<(), NoMemory>
+        requires stands { StandsPlans self.old routes.now }
+        requires made { IsMadeOn routes.now change.now }
+        requires valid { IsTrue (is_valid self.old.model (changed routes.now.lists change.now)) }
+        ensures next { OnOk result (AreNextCosts self.new routes.now change.now) }
+        ensures unprepared { self.new.is_prepared ≡ false }
+        ensures model { self.new.model ≡ self.old.model }
+        ensures costs { self.new.costs ≡ self.old.costs }
+        ensures cumuls { self.new.cumuls ≡ self.old.cumuls }
+    {
+        self.is_prepared = false;
+        self.next.clear();
+        for k in 0..change.parts() {
+            let cost = self.cost_after(routes, change, k)?;
+            self.next.push(cost);
+        }
+        Ok(())
+    }
+
+    // Makes the costs of the lists after a change ready.
+    fn make_ready(&mut self, routes: &Routes, change: &Change) -> Result<(), NoMemory>
+        requires stands { StandsPlans self.old routes.now }
+        requires made { IsMadeOn routes.now change.now }
+        requires valid { IsTrue (is_valid self.old.model (changed routes.now.lists change.now)) }
+        ensures ready { OnOk result (ArePlansReady self.new routes.now change.now) }
+        ensures unready { OnErr result (NothingReady (ArePlansReady self.new)) }
+        ensures model { self.new.model ≡ self.old.model }
+        ensures costs { self.new.costs ≡ self.old.costs }
+        ensures cumuls { self.new.cumuls ≡ self.old.cumuls }
+    {
+        self.write_next(routes, change)?;
+        self.is_prepared = true;
+        Ok(())
+    }
+}
+
+impl<'m> CostPart for PlanCost<'m> {
+    ghost use Rattle.std.specs.Prelude.{List};
+
+    ghost model = { λ part. part.model };
+
+    ghost value = { soft_and_span };
+
+    ghost stands_at = { StandsPlans };
+
+    ghost ready = { ArePlansReady };
+
+    fn difference(&mut self, routes: &Routes, change: &Change) -> Result<i64, NoMemory>
+        requires stands { StandsPlans self.old routes.now }
+        requires made { IsMadeOn routes.now change.now }
+        requires valid { IsTrue (is_valid self.old.model (changed routes.now.lists change.now)) }
+        ensures exact { IfOk result (λ difference. difference
+            ≡ soft_and_span self.old.model (changed routes.now.lists change.now)
+            -ℤ soft_and_span self.old.model routes.now.lists) }
+        ensures stands { StandsPlans self.new routes.now }
+        ensures model { self.new.model ≡ self.old.model }
+        ensures range { IfOk result IsPlanChange }
+    {
+        if self.rules.is_idle() {
+            return Ok(0);
+        }
+        self.make_ready(routes, change)?;
+        let mut total = 0;
+        for k in 0..change.parts() {
+            total += self.next[k] - self.costs[change.vehicle(k) as usize];
+        }
+        Ok(total)
+    }
+
+    fn prepare(&mut self, routes: &Routes, change: &Change) -> Result<(), NoMemory> {
+        let made = self.make_ready(routes, change)?;
+        Ok(made)
+    }
+
+    fn commit(&mut self, routes: &Routes, change: &Change) {
+        self.rules.commit(&mut self.cumuls, routes, change);
+        for k in 0..change.parts() {
+            self.costs[change.vehicle(k) as usize] = self.next[k];
+        }
+    }
+}

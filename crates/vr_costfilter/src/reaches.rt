@@ -1,0 +1,487 @@
+//! From where to where the chosen schedules of lists reach, and what that costs.
+
+ghost use Rattle.std.specs.Prelude.{◌≡◌, ◌<◌, ◌≤◌, ◌+◌, ◌*ℤ◌, IsTrue, IfOk, IfSome, length, take};
+ghost use Rattle.std.specs.List.{list_all};
+ghost use Rattle.vr_model.specs.tables.Tables.{dimension_at, is_visit};
+ghost use Rattle.vr_model.specs.tables.WellFormed.{IsWellFormed};
+ghost use Rattle.vr_model.specs.routes.Routes.{is_distinct, route};
+ghost use Rattle.vr_model.specs.routes.Rules.{is_valid};
+ghost use Rattle.vr_routes.specs.Changes.{AreParts, IsMadeOn};
+ghost use Rattle.vr_routes.specs.Pieces.{changed, joined, part_at};
+ghost use Rattle.vr_timings.specs.Bounds.{cumul_cost, IsAround};
+ghost use Rattle.vr_timings.specs.Extents.{length_of, IsExtentInRange};
+ghost use Rattle.vr_timings.specs.Tables.{AreTables, IsTable};
+ghost use Rattle.vr_earliest.specs.Earlies.{AreEarlies};
+ghost use Rattle.vr_cumuls.specs.Kept.{AreAllKept};
+ghost use Rattle.vr_costfilter.specs.Orders.{AreInRange, AreOrders};
+ghost use Rattle.vr_costfilter.specs.GlobalCosts as reaches;
+ghost use Rattle.vr_costfilter.specs.GlobalCosts.{extent_after, spans_cost_after, AreAllOrders, AreBlank, IsRow};
+ghost use Rattle.vr_costfilter.specs.GlobalCosts.{AreRanged, AreRows, AreTold, AreToldOf, IsGlobalCost, IsToldIfPaid};
+ghost use Rattle.vr_costfilter.specs.GlobalCosts.{NonePays, Pays};
+ghost use Rattle.vr_costfilter.specs.Spreads.{global_least};
+
+use crate::orders::{Orders, beside};
+use crate::room::Room;
+use crate::spreads::least_of_global_spans;
+use arrayvec::ArrayVec;
+use std::alloc::Global;
+use std::marker::Model;
+use vr_cumuls::{AllCumuls, Paid};
+use vr_earliest::Earlies;
+use vr_model::{Model as RoutingModel, NoMemory};
+use vr_routes::{Change, Piece, Routes};
+use vr_timings::{Extent, Table, Timer, Timing, global_cost, tables_of, timing_of};
+
+/// What the schedule of one list comes to in each dimension whose global span has a coefficient, none where the list is
+/// empty.
+pub type ListTimings = [Option<Timing>; 4];
+
+/// What is looked up of a model once. Contracts see the model.
+#[derive(Drop)]
+pub struct SpanRules<'m> {
+    model: &'m RoutingModel,
+    // what is looked up of each dimension
+    tables: Vec<Table>,
+    // whether no global span has a coefficient
+    idle: bool,
+}
+
+impl<'m> Model for SpanRules<'m> {
+    ghost use Rattle.vr_model.specs.declared.records.Model.{Model as Defined};
+    ghost use Rattle.vr_costfilter.specs.GlobalCosts.{AreSpanRules};
+
+    ghost Value = { Defined };
+
+    ghost view = { λ rules. rules.model.now };
+
+    ghost invariant = { λ rules. AreSpanRules rules.model.now rules.tables.items rules.idle };
+}
+
+impl<'m> SpanRules<'m> {
+    /// What is looked up of a model.
+    pub fn open(alloc: Global, model: &'m RoutingModel) -> Result<SpanRules<'m>, NoMemory>
+        requires { IsWellFormed model.now }
+        ensures { IfOk result (λ rules. rules ≡ model.now) }
+    {
+        let tables = tables_of(alloc, model)?;
+        Ok(SpanRules {
+            model,
+            tables,
+            idle: none_pays(model),
+        })
+    }
+
+    /// Whether no global span has a coefficient.
+    pub fn is_idle(&self) -> bool
+        ensures { IsTrue result → NonePays self.now }
+    {
+        self.idle
+    }
+
+    /// What is kept of the lists of routes: the orders of the used vehicles in each dimension that pays, orders for
+    /// those after a change, and the cumuls of their schedules.
+    pub fn kept(
+        &self,
+        alloc: Global,
+        routes: &Routes,
+        timer: &mut Timer,
+    ) -> Result<(Vec<Orders>, Vec<Orders>, AllCumuls), NoMemory>
+        requires { IsTrue (is_valid self.now routes.now.lists) }
+        ensures orders { IfOk result (λ kept. AreAllOrders self.now routes.now.lists kept.0.items) }
+        ensures room { IfOk result (λ kept. length kept.1.items ≡ length self.now.dimensions) }
+        ensures cumuls { IfOk result (λ kept. AreAllKept self.now routes.now.lists kept.2) }
+    {
+        let orders = self.orders(alloc, routes, timer)?;
+        let next_orders = self.no_orders(alloc)?;
+        let cumuls = AllCumuls::open(alloc, self.model, &self.tables, Paid::Together, routes)?;
+        Ok((orders, next_orders, cumuls))
+    }
+
+    // The orders of no used vehicle, in each dimension.
+    fn no_orders(&self, alloc: Global) -> Result<Vec<Orders>, NoMemory>
+        ensures { IfOk result (λ orders. AreBlank self.now orders.items) }
+    {
+        let mut orders = Vec::with_capacity(alloc, self.model.dimensions.len())?;
+        for _d in 0..self.model.dimensions.len() {
+            orders.push(Orders::new())?;
+        }
+        Ok(orders)
+    }
+
+    // The orders of the used vehicles of routes, in each dimension that pays.
+    fn orders(
+        &self,
+        alloc: Global,
+        routes: &Routes,
+        timer: &mut Timer,
+    ) -> Result<Vec<Orders>, NoMemory>
+        requires valid { IsTrue (is_valid self.now routes.now.lists) }
+        ensures { IfOk result (λ orders. AreAllOrders self.now routes.now.lists orders.items) }
+    {
+        let mut orders = self.no_orders(alloc)?;
+        for v in 0..routes.vehicles() {
+            let row = row_of_list(self.model, &self.tables, v, routes.list(v), timer)?;
+            set_list(self.model, &mut orders, routes, v, &row);
+        }
+        Ok(orders)
+    }
+
+    /// What is kept becomes that of the lists after a change.
+    pub fn commit(&self, cumuls: &mut AllCumuls, routes: &Routes, change: &Change)
+        requires kept { AreAllKept self.now routes.now.lists cumuls.old }
+        requires before { IsTrue (is_valid self.now routes.now.lists) }
+        requires made { IsMadeOn routes.now change.now }
+        requires valid { IsTrue (is_valid self.now (changed routes.now.lists change.now)) }
+        ensures { AreAllKept self.now (changed routes.now.lists change.now) cumuls.new }
+    {
+        cumuls.commit(self.model, &self.tables, routes, change);
+    }
+
+    /// What the chosen schedules of the list come to that part `k` of a change gives its vehicle. The list is written
+    /// out only where what is kept does not tell its schedule.
+    pub fn row_after(
+        &self,
+        cumuls: &AllCumuls,
+        routes: &Routes,
+        change: &Change,
+        k: usize,
+        room: &mut Room,
+    ) -> Result<ListTimings, NoMemory>
+        requires kept { AreAllKept self.now routes.now.lists cumuls.now }
+        requires before { IsTrue (is_valid self.now routes.now.lists) }
+        requires made { IsMadeOn routes.now change.now }
+        requires valid { IsTrue (is_valid self.now (changed routes.now.lists change.now)) }
+        requires part { k < length change.now }
+        ensures { IfOk result (IsRow self.now (part_at change.now k).vehicle
+            (joined routes.now.lists (part_at change.now k).pieces)) }
+    {
+        let timings = row_of_part(self.model, &self.tables, cumuls, routes, change, k, room)?;
+        Ok(timings)
+    }
+
+    /// What the global spans cost, where these vehicles get lists of which these rows tell.
+    pub fn cost(&self, orders: &[Orders], vehicles: &[u32], next: &[ListTimings]) -> i64
+        requires ranged { AreRanged self.now orders.now next.now }
+        ensures value { result ≡ spans_cost_after self.now orders.now vehicles.now next.now }
+        ensures range { IsGlobalCost result }
+    {
+        cost_of_spans(self.model, orders, vehicles, next)
+    }
+
+    /// Writes the orders of the lists after a change. It takes no memory.
+    pub fn write_orders(
+        &self,
+        orders: &[Orders],
+        routes: &Routes,
+        change: &Change,
+        next: &[ListTimings],
+        out: &mut [Orders],
+    )
+        requires orders { AreAllOrders self.now routes.now.lists orders.now }
+        requires as_many { length routes.now.lists ≡ length self.now.vehicles }
+        requires parts { AreParts routes.now.lists change.now }
+        requires rows { AreRows self.now routes.now.lists change.now next.now }
+        requires room { length out.old ≡ length self.now.dimensions }
+        ensures { AreAllOrders self.now (changed routes.now.lists change.now) out.new }
+    {
+        write_all(self.model, orders, routes, change, next, out);
+    }
+
+    /// What the global spans cost at least after a change. No schedule is built.
+    pub fn least(
+        &self,
+        earlies: &Earlies,
+        orders: &[Orders],
+        routes: &Routes,
+        change: &Change,
+    ) -> i64
+        requires earlies { AreEarlies self.now routes.now.lists change.now earlies.now }
+        requires as_many { length routes.now.lists ≡ length self.now.vehicles }
+        requires orders { AreAllOrders self.now routes.now.lists orders.now }
+        requires parts { AreParts routes.now.lists change.now }
+        ensures value { result ≡ global_least self.now routes.now.lists change.now }
+        ensures range { IsGlobalCost result }
+    {
+        least_of_global_spans(self.model, earlies, orders, routes, change)
+    }
+}
+
+/// The vehicles to which a change gives lists.
+pub fn vehicles_of(change: &Change) -> ArrayVec<u32, 2>
+    ensures { result.items ≡ reaches.vehicles_of change.now }
+{
+    let mut vehicles = ArrayVec::new();
+    for k in 0..change.parts() {
+        vehicles.push(change.vehicle(k));
+    }
+    vehicles
+}
+
+// Whether no global span of a model has a coefficient.
+fn none_pays(model: &RoutingModel) -> bool
+    ensures { IsTrue result → NonePays model.now }
+{
+    for d in 0..model.dimensions.len() {
+        if model.dimensions.get(d).global_span_cost != 0 {
+            return false;
+        }
+    }
+    true
+}
+
+// What the chosen schedules of a list come to.
+fn row_of_list(
+    model: &RoutingModel,
+    tables: &[Table],
+    v: u32,
+    list: &[u32],
+    timer: &mut Timer,
+) -> Result<ListTimings, NoMemory>
+    requires well_formed { IsWellFormed model.now }
+    requires tables { AreTables model.now tables.now }
+    requires vehicle { v < length model.now.vehicles }
+    requires visits { IsTrue (list_all (is_visit model.now) list.now) }
+    requires distinct { IsTrue (is_distinct list.now) }
+    requires few { length list.now ≤ 1000 }
+    ensures { IfOk result (IsRow model.now v list.now) }
+{
+    let mut row: ListTimings = [None; 4];
+    for d in 0..tables.len() {
+        row[d] = kept_in(model, &tables[d], d as u32, v, list, timer)?;
+    }
+    Ok(row)
+}
+
+// What is kept of a list in one dimension.
+fn kept_in(
+    model: &RoutingModel,
+    table: &Table,
+    d: u32,
+    v: u32,
+    list: &[u32],
+    timer: &mut Timer,
+) -> Result<Option<Timing>, NoMemory>
+    requires well_formed { IsWellFormed model.now }
+    requires dimension { d < length model.now.dimensions }
+    requires vehicle { v < length model.now.vehicles }
+    requires visits { IsTrue (list_all (is_visit model.now) list.now) }
+    requires distinct { IsTrue (is_distinct list.now) }
+    requires few { length list.now ≤ 1000 }
+    requires table { IsTable model.now d table.now }
+    ensures { IfOk result (IsToldIfPaid model.now d v list.now) }
+{
+    if list.is_empty() {
+        return Ok(None);
+    }
+    if model.dimensions.get(d as usize).global_span_cost == 0 {
+        return Ok(None);
+    }
+    let timing = timing_of(model, table, d, v, list, timer)?;
+    Ok(Some(timing))
+}
+
+// What the chosen schedules of the list come to that part `k` of a change gives its vehicle.
+fn row_of_part(
+    model: &RoutingModel,
+    tables: &[Table],
+    cumuls: &AllCumuls,
+    routes: &Routes,
+    change: &Change,
+    k: usize,
+    room: &mut Room,
+) -> Result<ListTimings, NoMemory>
+    requires well_formed { IsWellFormed model.now }
+    requires tables { AreTables model.now tables.now }
+    requires kept { AreAllKept model.now routes.now.lists cumuls.now }
+    requires before { IsTrue (is_valid model.now routes.now.lists) }
+    requires made { IsMadeOn routes.now change.now }
+    requires valid { IsTrue (is_valid model.now (changed routes.now.lists change.now)) }
+    requires part { k < length change.now }
+    ensures { IfOk result (IsRow model.now (part_at change.now k).vehicle
+        (joined routes.now.lists (part_at change.now k).pieces)) }
+{
+    let mut timings: ListTimings = [None; 4];
+    for d in 0..tables.len() {
+        timings[d] = kept_after(model, &tables[d], d as u32, cumuls, routes, change, k, room)?;
+    }
+    Ok(timings)
+}
+
+// The same in one dimension.
+fn kept_after(
+    model: &RoutingModel,
+    table: &Table,
+    d: u32,
+    cumuls: &AllCumuls,
+    routes: &Routes,
+    change: &Change,
+    k: usize,
+    room: &mut Room,
+) -> Result<Option<Timing>, NoMemory>
+    requires well_formed { IsWellFormed model.now }
+    requires dimension { d < length model.now.dimensions }
+    requires table { IsTable model.now d table.now }
+    requires kept { AreAllKept model.now routes.now.lists cumuls.now }
+    requires before { IsTrue (is_valid model.now routes.now.lists) }
+    requires made { IsMadeOn routes.now change.now }
+    requires valid { IsTrue (is_valid model.now (changed routes.now.lists change.now)) }
+    requires part { k < length change.now }
+    ensures { IfOk result (IsToldIfPaid model.now d (part_at change.now k).vehicle
+        (joined routes.now.lists (part_at change.now k).pieces)) }
+{
+    if model.dimensions.get(d as usize).global_span_cost == 0 {
+        return Ok(None);
+    }
+    if Piece::nodes_in(routes, change.pieces(k)) == 0 {
+        return Ok(None);
+    }
+    let told = cumuls.timing_after(model, table, d, routes, change, k, &mut room.trail);
+    if let Some(timing) = told {
+        return Ok(Some(timing));
+    }
+    routes.write_after(change, k, &mut room.row);
+    let timing = kept_in(
+        model,
+        table,
+        d,
+        change.vehicle(k),
+        room.row.as_slice(),
+        &mut room.timer,
+    )?;
+    Ok(timing)
+}
+
+// What the global spans cost in all dimensions.
+fn cost_of_spans(
+    model: &RoutingModel,
+    orders: &[Orders],
+    vehicles: &[u32],
+    next: &[ListTimings],
+) -> i64
+    requires well_formed { IsWellFormed model.now }
+    requires ranged { AreRanged model.now orders.now next.now }
+    ensures value { result ≡ spans_cost_after model.now orders.now vehicles.now next.now }
+    ensures range { IsGlobalCost result }
+{
+    let mut cost = 0;
+    for d in 0..orders.len() {
+        cost += cost_of_span(model, &orders[d], vehicles, next, d as u32);
+    }
+    cost
+}
+
+// What the global span costs in dimension `d`.
+fn cost_of_span(
+    model: &RoutingModel,
+    orders: &Orders,
+    vehicles: &[u32],
+    next: &[ListTimings],
+    d: u32,
+) -> i64
+    requires well_formed { IsWellFormed model.now }
+    requires dimension { d < length model.now.dimensions }
+    requires orders { Pays model.now d → AreInRange orders.now }
+    requires next { Pays model.now d → AreTold d next.now }
+    ensures value { result ≡ ((dimension_at model.now d).global_span_cost
+        *ℤ length_of (extent_after d vehicles.now next.now orders.now)) }
+    ensures range { IsAround cumul_cost result }
+{
+    let dimension = model.dimensions.get(d as usize);
+    if dimension.global_span_cost == 0 {
+        return 0;
+    }
+    global_cost(dimension, reach(orders, vehicles, next, d))
+}
+
+// From where to where all lists reach in dimension `d`, `None` where none is used.
+fn reach(orders: &Orders, vehicles: &[u32], next: &[ListTimings], d: u32) -> Option<Extent>
+    requires dimension { d < 4 }
+    requires orders { AreInRange orders.now }
+    requires next { AreTold d next.now }
+    ensures value { result ≡ extent_after d vehicles.now next.now orders.now }
+    ensures range { IfSome result IsExtentInRange }
+{
+    let mut extent = orders.extent_but(vehicles);
+    for k in 0..next.len() {
+        extent = beside(extent, next[k][d as usize]);
+    }
+    extent
+}
+
+// Vehicle `v` gets its list, where those before it have theirs, in the dimensions that pay.
+fn set_list(
+    model: &RoutingModel,
+    orders: &mut [Orders],
+    _routes: &Routes,
+    v: u32,
+    row: &ListTimings,
+)
+    requires before { AreAllOrders model.now (take v _routes.now.lists) orders.old }
+    requires few { length _routes.now.lists ≤ 100 }
+    requires dimensions { length model.now.dimensions ≤ 4 }
+    requires vehicle { v < length _routes.now.lists }
+    requires row { IsRow model.now v (route _routes.now.lists v) row.now }
+    ensures { AreAllOrders model.now (take (v + 1) _routes.now.lists) orders.new }
+{
+    for d in 0..orders.len() {
+        if model.dimensions.get(d).global_span_cost != 0 {
+            orders[d].set(v, row[d]);
+        }
+    }
+}
+
+// Writes the orders of the lists after a change in the dimensions that pay.
+fn write_all(
+    model: &RoutingModel,
+    orders: &[Orders],
+    routes: &Routes,
+    change: &Change,
+    next: &[ListTimings],
+    out: &mut [Orders],
+)
+    requires well_formed { IsWellFormed model.now }
+    requires orders { AreAllOrders model.now routes.now.lists orders.now }
+    requires as_many { length routes.now.lists ≡ length model.now.vehicles }
+    requires parts { AreParts routes.now.lists change.now }
+    requires rows { AreRows model.now routes.now.lists change.now next.now }
+    requires room { length out.old ≡ length model.now.dimensions }
+    ensures { AreAllOrders model.now (changed routes.now.lists change.now) out.new }
+{
+    for d in 0..orders.len() {
+        if model.dimensions.get(d).global_span_cost != 0 {
+            write_in(
+                model,
+                &orders[d],
+                routes,
+                change,
+                next,
+                d as u32,
+                &mut out[d],
+            );
+        }
+    }
+}
+
+// The same in one dimension.
+fn write_in(
+    _model: &RoutingModel,
+    orders: &Orders,
+    _routes: &Routes,
+    change: &Change,
+    next: &[ListTimings],
+    d: u32,
+    out: &mut Orders,
+)
+    requires orders { AreOrders _model.now d _routes.now.lists orders.now }
+    requires few { length _routes.now.lists ≤ 100 }
+    requires parts { AreParts _routes.now.lists change.now }
+    requires dimension { d < 4 }
+    requires many { length next.now ≡ length change.now }
+    requires told { AreToldOf _model.now d _routes.now.lists change.now next.now }
+    ensures { AreOrders _model.now d (changed _routes.now.lists change.now) out.new }
+{
+    out.copy_from(orders);
+    for k in 0..change.parts() {
+        out.set(change.vehicle(k), next[k][d as usize]);
+    }
+}

@@ -1,0 +1,356 @@
+//! What a list costs by soft upper bounds and spans, at its chosen schedules.
+
+ghost use Rattle.std.specs.Prelude.{◌≡◌, ◌<◌, ◌≤◌, ◌*◌, ◌+ℤ◌, ◌-ℤ◌, ◌*ℤ◌, IsTrue, IfOk, false, length};
+ghost use Rattle.std.specs.List.{list_all};
+ghost use Rattle.vr_model.specs.tables.Numbers.{below, number_at, total_by};
+ghost use Rattle.vr_model.specs.tables.Tables.{dimension_at, is_visit};
+ghost use Rattle.vr_model.specs.tables.WellFormed.{IsWellFormed};
+ghost use Rattle.vr_model.specs.routes.Routes.{is_distinct, is_empty};
+ghost use Rattle.vr_model.specs.routes.Rules.{is_valid};
+ghost use Rattle.vr_timings.specs.Tables.{AreTables, IsTable};
+ghost use Rattle.vr_timings.specs.Timings.{soft_with, span_with, IsTimingOf};
+ghost use Rattle.vr_timings.specs.Bounds.{cumul_cost, IsAround};
+ghost use Rattle.vr_routes.specs.Changes.{AreParts, IsMadeOn};
+ghost use Rattle.vr_routes.specs.Pieces.{changed, joined, part_at};
+ghost use Rattle.vr_cumuls.specs.Kept.{AreAllKept};
+ghost use Rattle.vr_earliest.specs.Earlies.{AreEarlies};
+ghost use Rattle.vr_earliest.specs.Ways.{least_span};
+ghost use Rattle.vr_costfilter.specs.PlanCosts.{cost_after, plans_cost, spans_least, AreCosts, IsIdle, IsPlanCost};
+ghost use Rattle.vr_costfilter.specs.PlanCosts.{IsPlanCostIn};
+
+use crate::room::Room;
+use std::alloc::Global;
+use std::marker::Model;
+use vr_cumuls::{AllCumuls, Paid};
+use vr_earliest::Earlies;
+use vr_model::{Model as RoutingModel, NoMemory};
+use vr_routes::{Change, Piece, Routes};
+use vr_timings::{Table, Timer, Timing, may_pay_alone, span_cost, tables_of, times, timing_of};
+
+/// What is looked up of a model once. Contracts see the model.
+#[derive(Drop)]
+pub struct PlanRules<'m> {
+    model: &'m RoutingModel,
+    // what is looked up of each dimension
+    tables: Vec<Table>,
+    // whether no list may cost anything
+    idle: bool,
+}
+
+impl<'m> Model for PlanRules<'m> {
+    ghost use Rattle.vr_model.specs.declared.records.Model.{Model as Defined};
+    ghost use Rattle.vr_costfilter.specs.PlanCosts.{ArePlanRules};
+
+    ghost Value = { Defined };
+
+    ghost view = { λ rules. rules.model.now };
+
+    ghost invariant = { λ rules. ArePlanRules rules.model.now rules.tables.items rules.idle };
+}
+
+impl<'m> PlanRules<'m> {
+    /// What is looked up of a model.
+    pub fn open(alloc: Global, model: &'m RoutingModel) -> Result<PlanRules<'m>, NoMemory>
+        requires { IsWellFormed model.now }
+        ensures { IfOk result (λ rules. rules ≡ model.now) }
+    {
+        let tables = tables_of(alloc, model)?;
+        let idle = are_idle(model, &tables);
+        Ok(PlanRules {
+            model,
+            tables,
+            idle,
+        })
+    }
+
+    /// Whether no list may cost anything.
+    pub fn is_idle(&self) -> bool
+        ensures { IsTrue result → IsIdle self.now }
+    {
+        self.idle
+    }
+
+    /// What is kept of the lists of routes: what each costs, and the cumuls of its schedules.
+    pub fn kept(
+        &self,
+        alloc: Global,
+        routes: &Routes,
+        timer: &mut Timer,
+    ) -> Result<(Vec<i64>, AllCumuls), NoMemory>
+        requires { IsTrue (is_valid self.now routes.now.lists) }
+        ensures costs { IfOk result (λ kept.
+            AreCosts self.now routes.now.lists (length routes.now.lists) kept.0.items) }
+        ensures cumuls { IfOk result (λ kept. AreAllKept self.now routes.now.lists kept.1) }
+    {
+        let costs = self.costs(alloc, routes, timer)?;
+        let cumuls = AllCumuls::open(alloc, self.model, &self.tables, Paid::Alone, routes)?;
+        Ok((costs, cumuls))
+    }
+
+    // What each list costs by the soft upper bounds of its stops and by its spans, in all dimensions.
+    fn costs(&self, alloc: Global, routes: &Routes, timer: &mut Timer) -> Result<Vec<i64>, NoMemory>
+        requires { IsTrue (is_valid self.now routes.now.lists) }
+        ensures { IfOk result (λ costs.
+            AreCosts self.now routes.now.lists (length routes.now.lists) costs.items) }
+    {
+        let mut costs = Vec::new(alloc);
+        for v in 0..routes.vehicles() {
+            let cost = cost_of_plans(self.model, &self.tables, v, routes.list(v), timer)?;
+            costs.push(cost)?;
+        }
+        Ok(costs)
+    }
+
+    /// What is kept becomes that of the lists after a change.
+    pub fn commit(&self, cumuls: &mut AllCumuls, routes: &Routes, change: &Change)
+        requires kept { AreAllKept self.now routes.now.lists cumuls.old }
+        requires before { IsTrue (is_valid self.now routes.now.lists) }
+        requires made { IsMadeOn routes.now change.now }
+        requires valid { IsTrue (is_valid self.now (changed routes.now.lists change.now)) }
+        ensures { AreAllKept self.now (changed routes.now.lists change.now) cumuls.new }
+    {
+        cumuls.commit(self.model, &self.tables, routes, change);
+    }
+
+    /// What the list costs that part `k` of a change gives its vehicle. The list is written out only where what is kept
+    /// does not tell its schedule.
+    pub fn cost_after(
+        &self,
+        cumuls: &AllCumuls,
+        routes: &Routes,
+        change: &Change,
+        k: usize,
+        room: &mut Room,
+    ) -> Result<i64, NoMemory>
+        requires kept { AreAllKept self.now routes.now.lists cumuls.now }
+        requires before { IsTrue (is_valid self.now routes.now.lists) }
+        requires made { IsMadeOn routes.now change.now }
+        requires valid { IsTrue (is_valid self.now (changed routes.now.lists change.now)) }
+        requires part { k < length change.now }
+        ensures value { IfOk result (λ cost. cost ≡ cost_after self.now routes.now.lists (part_at change.now k)) }
+        ensures range { IfOk result IsPlanCost }
+    {
+        if Piece::nodes_in(routes, change.pieces(k)) == 0 {
+            return Ok(0);
+        }
+        let cost = cost_of_part(self.model, &self.tables, cumuls, routes, change, k, room)?;
+        Ok(cost)
+    }
+
+    /// What the spans of the list cost at least that part `k` of a change gives its vehicle. No schedule is built.
+    pub fn least(&self, earlies: &Earlies, routes: &Routes, change: &Change, k: usize) -> i64
+        requires earlies { AreEarlies self.now routes.now.lists change.now earlies.now }
+        requires parts { AreParts routes.now.lists change.now }
+        requires part { k < length change.now }
+        requires vehicle { (part_at change.now k).vehicle < length self.now.vehicles }
+        ensures value { result ≡ spans_least self.now (part_at change.now k).vehicle
+            (joined routes.now.lists (part_at change.now k).pieces) }
+        ensures range { IsAround (cumul_cost * 4) result }
+    {
+        if Piece::nodes_in(routes, change.pieces(k)) == 0 {
+            return 0;
+        }
+        least_of_spans(self.model, earlies, routes, change, k)
+    }
+}
+
+// What the list of a vehicle costs by the soft upper bounds of its stops and by its spans, in all dimensions.
+fn cost_of_plans(
+    model: &RoutingModel,
+    tables: &[Table],
+    v: u32,
+    list: &[u32],
+    timer: &mut Timer,
+) -> Result<i64, NoMemory>
+    requires well_formed { IsWellFormed model.now }
+    requires tables { AreTables model.now tables.now }
+    requires vehicle { v < length model.now.vehicles }
+    requires visits { IsTrue (list_all (is_visit model.now) list.now) }
+    requires distinct { IsTrue (is_distinct list.now) }
+    requires few { length list.now ≤ 1000 }
+    ensures value { IfOk result (λ cost. cost ≡ plans_cost model.now v list.now) }
+    ensures range { IfOk result IsPlanCost }
+{
+    if list.is_empty() {
+        return Ok(0);
+    }
+    let mut cost = 0;
+    for d in 0..tables.len() {
+        cost += cost_of_plan(model, &tables[d], d as u32, v, list, timer)?;
+    }
+    Ok(cost)
+}
+
+// What the list costs that part `k` of a change gives its vehicle, where it has nodes.
+fn cost_of_part(
+    model: &RoutingModel,
+    tables: &[Table],
+    cumuls: &AllCumuls,
+    routes: &Routes,
+    change: &Change,
+    k: usize,
+    room: &mut Room,
+) -> Result<i64, NoMemory>
+    requires well_formed { IsWellFormed model.now }
+    requires tables { AreTables model.now tables.now }
+    requires kept { AreAllKept model.now routes.now.lists cumuls.now }
+    requires before { IsTrue (is_valid model.now routes.now.lists) }
+    requires made { IsMadeOn routes.now change.now }
+    requires valid { IsTrue (is_valid model.now (changed routes.now.lists change.now)) }
+    requires part { k < length change.now }
+    requires some { is_empty (joined routes.now.lists (part_at change.now k).pieces) ≡ false }
+    ensures value { IfOk result (λ cost. cost ≡ cost_after model.now routes.now.lists (part_at change.now k)) }
+    ensures range { IfOk result IsPlanCost }
+{
+    let mut cost = 0;
+    for d in 0..tables.len() {
+        cost += cost_of_plan_after(model, &tables[d], d as u32, cumuls, routes, change, k, room)?;
+    }
+    Ok(cost)
+}
+
+// The same in one dimension.
+fn cost_of_plan_after(
+    model: &RoutingModel,
+    table: &Table,
+    d: u32,
+    cumuls: &AllCumuls,
+    routes: &Routes,
+    change: &Change,
+    k: usize,
+    room: &mut Room,
+) -> Result<i64, NoMemory>
+    requires well_formed { IsWellFormed model.now }
+    requires dimension { d < length model.now.dimensions }
+    requires table { IsTable model.now d table.now }
+    requires kept { AreAllKept model.now routes.now.lists cumuls.now }
+    requires before { IsTrue (is_valid model.now routes.now.lists) }
+    requires made { IsMadeOn routes.now change.now }
+    requires valid { IsTrue (is_valid model.now (changed routes.now.lists change.now)) }
+    requires part { k < length change.now }
+    requires some { is_empty (joined routes.now.lists (part_at change.now k).pieces) ≡ false }
+    ensures value { let part = part_at change.now k in
+        let list = joined routes.now.lists part.pieces in
+        IfOk result (λ cost. cost
+        ≡ soft_with model.now d part.vehicle list +ℤ span_with model.now d part.vehicle list) }
+    ensures range { IfOk result IsPlanCostIn }
+{
+    if table.is_free {
+        return Ok(0);
+    }
+    let v = change.vehicle(k);
+    let told = cumuls.timing_after(model, table, d, routes, change, k, &mut room.trail);
+    if let Some(timing) = told {
+        return Ok(cost_of_timing(model, d, v, timing));
+    }
+    routes.write_after(change, k, &mut room.row);
+    let cost = cost_of_plan(model, table, d, v, room.row.as_slice(), &mut room.timer)?;
+    Ok(cost)
+}
+
+// What the spans of a list that has nodes cost at least.
+fn least_of_spans(
+    model: &RoutingModel,
+    earlies: &Earlies,
+    routes: &Routes,
+    change: &Change,
+    k: usize,
+) -> i64
+    requires well_formed { IsWellFormed model.now }
+    requires earlies { AreEarlies model.now routes.now.lists change.now earlies.now }
+    requires part { k < length change.now }
+    requires vehicle { (part_at change.now k).vehicle < length model.now.vehicles }
+    ensures value { result ≡ total_by (λ d. number_at (dimension_at model.now d).span_costs
+        (part_at change.now k).vehicle *ℤ least_span model.now d (part_at change.now k).vehicle
+        (joined routes.now.lists (part_at change.now k).pieces)) (below (length model.now.dimensions)) }
+    ensures range { IsAround (cumul_cost * 4) result }
+{
+    let mut cost = 0;
+    for d in 0..model.dimensions.len() {
+        cost += least_of_span(model, earlies, routes, change, k, d as u32);
+    }
+    cost
+}
+
+// The same in one dimension.
+fn least_of_span(
+    model: &RoutingModel,
+    earlies: &Earlies,
+    _routes: &Routes,
+    change: &Change,
+    k: usize,
+    d: u32,
+) -> i64
+    requires well_formed { IsWellFormed model.now }
+    requires earlies { AreEarlies model.now _routes.now.lists change.now earlies.now }
+    requires part { k < length change.now }
+    requires dimension { d < length model.now.dimensions }
+    requires vehicle { (part_at change.now k).vehicle < length model.now.vehicles }
+    ensures value { result ≡ (number_at (dimension_at model.now d).span_costs (part_at change.now k).vehicle
+        *ℤ least_span model.now d (part_at change.now k).vehicle
+        (joined _routes.now.lists (part_at change.now k).pieces)) }
+    ensures range { IsAround cumul_cost result }
+{
+    let v = change.vehicle(k);
+    let coefficient = *model.dimensions.get(d as usize).span_costs.get(v as usize);
+    if coefficient == 0 {
+        return 0;
+    }
+    times(coefficient, earlies.at(d, k).span)
+}
+
+// What the list of a vehicle costs by soft upper bounds and by its span in one dimension.
+fn cost_of_plan(
+    model: &RoutingModel,
+    table: &Table,
+    d: u32,
+    v: u32,
+    list: &[u32],
+    timer: &mut Timer,
+) -> Result<i64, NoMemory>
+    requires well_formed { IsWellFormed model.now }
+    requires dimension { d < length model.now.dimensions }
+    requires vehicle { v < length model.now.vehicles }
+    requires some { 0 < length list.now }
+    requires visits { IsTrue (list_all (is_visit model.now) list.now) }
+    requires distinct { IsTrue (is_distinct list.now) }
+    requires few { length list.now ≤ 1000 }
+    requires table { IsTable model.now d table.now }
+    ensures value { IfOk result (λ cost. cost ≡ soft_with model.now d v list.now +ℤ span_with model.now d v list.now) }
+    ensures range { IfOk result IsPlanCostIn }
+{
+    if !may_pay_alone(model, table, d, v, list) {
+        return Ok(0);
+    }
+    let timing = timing_of(model, table, d, v, list, timer)?;
+    Ok(cost_of_timing(model, d, v, timing))
+}
+
+// What a schedule of a list of vehicle `v` costs by soft upper bounds and by its span.
+fn cost_of_timing(model: &RoutingModel, d: u32, v: u32, timing: Timing) -> i64
+    requires well_formed { IsWellFormed model.now }
+    requires dimension { d < length model.now.dimensions }
+    requires vehicle { v < length model.now.vehicles }
+    requires timing { IsTimingOf 1002 timing }
+    ensures value { result
+        ≡ timing.soft +ℤ (number_at (dimension_at model.now d).span_costs v *ℤ (timing.last -ℤ timing.start)) }
+    ensures range { IsPlanCostIn result }
+{
+    let dimension = model.dimensions.get(d as usize);
+    timing.soft + span_cost(dimension, v, timing)
+}
+
+// Whether no list of a model may cost anything by soft upper bounds and spans.
+fn are_idle(model: &RoutingModel, tables: &[Table]) -> bool
+    requires { AreTables model.now tables.now }
+    ensures { IsTrue result → IsIdle model.now }
+{
+    // the model is that of the clauses alone
+    let _model = model;
+    for d in 0..tables.len() {
+        if !tables[d].is_free {
+            return false;
+        }
+    }
+    true
+}

@@ -1,4 +1,0 @@
-pub mod GlobalLemmas
-pub mod OrdersLemmas
-pub mod SpreadLemmas
-pub mod KeptLemmas

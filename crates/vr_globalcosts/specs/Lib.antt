@@ -1,2 +1,0 @@
-pub mod GlobalCosts
-pub mod Spreads

@@ -1,3 +1,0 @@
-pub mod ScheduleLemmas
-pub mod PlanLemmas
-pub mod LeastLemmas

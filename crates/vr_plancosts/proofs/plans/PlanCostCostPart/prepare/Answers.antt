@@ -1,8 +1,0 @@
-use Rattle.vr_plancosts.proofs.PlanLemmas.{plans-like}
-use Rattle.vr_plancosts.proofs.plans.PlanCostCostPart.prepare.Goals as goal
-
-pub returns-in_err-made-clause-stands : goal.returns-in_err-made-clause-stands
-returns-in_err-made-clause-stands c = let e = c.make_ready.ensures in plans-like c.args.self.now c.make_ready.new.self c.args.routes.now c.requires.stands e.model e.costs e.cumuls
-
-pub returns-clause-stands : goal.returns-clause-stands
-returns-clause-stands c = let e = c.make_ready.ensures in plans-like c.args.self.now c.make_ready.new.self c.args.routes.now c.requires.stands e.model e.costs e.cumuls
