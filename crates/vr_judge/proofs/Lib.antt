@@ -1,1 +1,6 @@
-mod VerdictLemmas
+pub mod BothLemmas
+pub mod RuleLemmas
+pub mod DimensionLemmas
+pub mod SumLemmas
+pub mod StandLemmas
+pub mod VerdictLemmas

@@ -13,8 +13,8 @@ use Rattle.vr_model.proofs.moves.KeptLists.{moves_keep_lists}
 use Rattle.vr_model.proofs.routes.Lists.{are-lists}
 use Rattle.vr_routes.specs.Judging.{verdict_of}
 use Rattle.vr_routes.specs.declared.judging.Verdict.TheVariants.{Refused, Difference}
-use Rattle.vr_allfilters.specs.Rules.{keeps_rules}
-use Rattle.vr_allfilters.proofs.RuleLemmas.{kept_as_valid}
+use Rattle.vr_judge.specs.Rules.{keeps_rules}
+use Rattle.vr_judge.proofs.RuleLemmas.{kept_as_valid}
 
 module _ (model : Model) (lists after : List (List ℕ)) (mv : Move) (makes : after ≡ apply model lists mv) where
   -- after a move of valid lists the rules of all filters hold exactly where the lists are valid

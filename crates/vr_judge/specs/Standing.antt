@@ -3,8 +3,8 @@ use Rattle.std.specs.Prelude.{◌≡◌, ℕ, Bool, List}
 use Rattle.vr_model.specs.tables.Tables.{visits}
 use Rattle.vr_model.specs.declared.records.Model.{Model}
 use Rattle.vr_routes.specs.Tours.{Tours}
-use Rattle.vr_allfilters.specs.Rules.{keeps_rules, total_weight}
-use Rattle.vr_allcosts.specs.Standing.{KeptCosts, StandsCosts}
+use Rattle.vr_judge.specs.Rules.{keeps_rules, total_weight}
+use Rattle.vr_judge.specs.Costs.{KeptCosts, StandsCosts}
 
 -- what contracts see of a judge: its model, and the lists that it has committed
 pub record Held : Type 0 where

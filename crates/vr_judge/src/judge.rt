@@ -7,15 +7,15 @@ ghost use Rattle.vr_model.specs.routes.Rules.{is_valid};
 ghost use Rattle.vr_model.specs.tables.Tables.{visits};
 ghost use Rattle.vr_model.specs.tables.WellFormed.{IsWellFormed};
 ghost use Rattle.vr_routes.specs.Judging.{HoldSame, moved, verdict_of};
-ghost use Rattle.vr_allfilters.specs.Rules.{total_weight};
+ghost use Rattle.vr_judge.specs.Rules.{total_weight};
 
+use crate::both::both;
+use crate::costs::Costs;
+use crate::filters::{Filters, filters_of};
 use crate::judging::Judging;
 use std::alloc::Global;
 use std::marker::Model;
 use std::sync::ledger::Ledger;
-use vr_allcosts::Costs;
-use vr_allfilters::{Filters, filters_of};
-use vr_both::both;
 use vr_model::{Model as RoutingModel, Move, NoMemory, Steps};
 use vr_routes::{Change, Judge, Routes, Verdict};
 

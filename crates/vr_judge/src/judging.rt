@@ -6,13 +6,13 @@ ghost use Rattle.vr_model.specs.moves.MoveTests.{is_move};
 ghost use Rattle.vr_model.specs.routes.Rules.{is_valid};
 ghost use Rattle.vr_model.specs.tables.Tables.{visits};
 ghost use Rattle.vr_model.specs.tables.WellFormed.{IsWellFormed};
-ghost use Rattle.vr_allcosts.specs.Standing.{StandsCosts};
+ghost use Rattle.vr_judge.specs.Costs.{StandsCosts};
 ghost use Rattle.vr_routes.specs.Judging.{HoldSame, moved, verdict_of};
-ghost use Rattle.vr_allfilters.specs.Rules.{keeps_rules, total_weight};
+ghost use Rattle.vr_judge.specs.Rules.{keeps_rules, total_weight};
 
+use crate::costs::Costs;
 use std::marker::Model;
 use std::sync::ledger::Ledger;
-use vr_allcosts::Costs;
 use vr_filter::PathFilter;
 use vr_model::{Model as RoutingModel, Move, NoMemory, Steps};
 use vr_routes::{Change, Judge, Routes, Verdict};

@@ -12,7 +12,7 @@ use Rattle.vr_routes.specs.Judging.{verdict_of}
 use Rattle.vr_routes.specs.Pieces.{changed}
 use Rattle.vr_routes.specs.Tours.{Tours}
 use Rattle.vr_routes.specs.declared.judging.Verdict.TheVariants.{Refused, Difference}
-use Rattle.vr_allcosts.specs.Standing.{StandsCosts}
+use Rattle.vr_judge.specs.Costs.{StandsCosts}
 use Rattle.vr_judge.proofs.VerdictLemmas.{tested_as_valid, refused, differs}
 use Rattle.vr_judge.proofs.judging.JudgingJudge.judge.Goals as goal
 

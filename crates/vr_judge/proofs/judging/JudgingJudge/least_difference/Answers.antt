@@ -1,7 +1,7 @@
 use Rattle.std.proofs.Common.{◌≡◌, ◌∙◌, sym, ap, ap₂, subst}
 use Rattle.vr_model.specs.tables.Tables.{visits}
 use Rattle.vr_routes.specs.Tours.{Tours}
-use Rattle.vr_allcosts.specs.Standing.{StandsCosts}
+use Rattle.vr_judge.specs.Costs.{StandsCosts}
 use Rattle.vr_judge.proofs.judging.JudgingJudge.least_difference.Goals as goal
 
 pub least-requires-clause-stands : goal.least-requires-clause-stands

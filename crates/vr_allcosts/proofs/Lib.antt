@@ -1,2 +1,0 @@
-mod StandLemmas
-mod SumLemmas

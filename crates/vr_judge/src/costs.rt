@@ -1,0 +1,196 @@
+//! The parts of the cost together.
+
+ghost use Rattle.std.specs.Prelude.{◌≡◌, ◌-ℤ◌, ◌≤ℤ◌, true, IsTrue, IfOk, IfSome, OnOk, OnErr};
+ghost use Rattle.vr_model.specs.moves.MoveTests.{is_move};
+ghost use Rattle.vr_model.specs.routes.Costs.{cost};
+ghost use Rattle.vr_model.specs.routes.Rules.{is_valid};
+ghost use Rattle.vr_model.specs.tables.Tables.{visits};
+ghost use Rattle.vr_model.specs.tables.WellFormed.{IsWellFormed};
+ghost use Rattle.vr_routes.specs.Changes.{IsChange, IsMadeOn};
+ghost use Rattle.vr_routes.specs.Pieces.{changed};
+ghost use Rattle.vr_parts.specs.Parts.{after};
+ghost use Rattle.vr_routes.specs.Judging.{IsLeast};
+ghost use Rattle.vr_arccosts.specs.ArcMoves.{arcs_added};
+ghost use Rattle.vr_usecosts.specs.Fixed.{StandsFixed};
+ghost use Rattle.vr_usecosts.specs.Groups.{StandsGroups};
+ghost use Rattle.vr_judge.specs.Costs.{PaysArcsAlone, StandsCosts};
+
+use crate::both::both;
+use std::alloc::Global;
+use std::marker::Model;
+use vr_costfilter::{ArcCost, CostPart, FixedCost, GlobalSpan, GroupCost, PlanCost};
+use vr_earliest::{Earlies, Earliest};
+use vr_model::{Model as RoutingModel, Move, NoMemory};
+use vr_routes::{Change, Routes};
+
+/// What routes cost, part by part.
+#[derive(Drop)]
+pub(crate) struct Costs<'m> {
+    model: &'m RoutingModel,
+    arcs: ArcCost<'m>,
+    fixed: FixedCost<'m>,
+    groups: GroupCost<'m>,
+    plans: PlanCost<'m>,
+    spans: GlobalSpan<'m>,
+    // how early vehicles can end lists, for what plans and spans add at least
+    earliest: Earliest<'m>,
+    // room for that of the lists after a change
+    earlies: Earlies,
+    // whether arcs alone are paid, so that the numbers of a move tell what it makes
+    arcs_alone: bool,
+}
+
+impl<'m> Model for Costs<'m> {
+    ghost use Rattle.vr_judge.specs.Costs.{KeptCosts};
+
+    ghost Value = { KeptCosts };
+
+    ghost view = { λ costs. record {
+      model = costs.model.now;
+      arcs = costs.arcs;
+      fixed = costs.fixed;
+      groups = costs.groups;
+      plans = costs.plans;
+      spans = costs.spans;
+      earliest = costs.earliest;
+      arcs_alone = costs.arcs_alone;
+    } };
+}
+
+// Whether neither fixed costs nor groups nor plans nor global spans tell two lists apart.
+fn are_idle(
+    routes: &Routes,
+    fixed: &FixedCost,
+    groups: &GroupCost,
+    plans: &PlanCost,
+    spans: &GlobalSpan,
+) -> bool
+    requires fixed { StandsFixed fixed.now routes.now }
+    requires groups { StandsGroups groups.now routes.now }
+    requires groups_model { groups.now.model ≡ fixed.now.model }
+    requires plans_model { plans.now.model ≡ fixed.now.model }
+    requires spans_model { spans.now.model ≡ fixed.now.model }
+    ensures { IsTrue result → PaysArcsAlone fixed.now.model }
+{
+    fixed.is_idle(routes) && groups.is_idle(routes) && plans.is_idle() && spans.is_idle()
+}
+
+impl<'m> Costs<'m> {
+    /// What valid routes of a model cost. The only refusal is want of memory.
+    pub fn open(
+        alloc: Global,
+        model: &'m RoutingModel,
+        routes: &Routes,
+    ) -> Result<Costs<'m>, NoMemory>
+        requires well_formed { IsWellFormed model.now }
+        requires of_model { routes.now.visits ≡ visits model.now }
+        requires valid { IsTrue (is_valid model.now routes.now.lists) }
+        ensures model { IfOk result (λ costs. costs.model ≡ model.now) }
+        ensures stands { IfOk result (λ costs. StandsCosts costs routes.now) }
+    {
+        let arcs = ArcCost::open(alloc, model, routes);
+        let fixed = FixedCost::open(model, routes);
+        let groups = GroupCost::open(alloc, model, routes);
+        let plans = PlanCost::open(alloc, model, routes);
+        let spans = GlobalSpan::open(alloc, model, routes);
+        let earliest = Earliest::open(alloc, model, routes);
+        let used = both(fixed, groups);
+        let driven = both(arcs, earliest);
+        let scheduled = both(plans, spans);
+        let (first, (second, third)) = both(used, both(driven, scheduled))?;
+        let (fixed, groups) = first;
+        let (arcs, earliest) = second;
+        let (plans, spans) = third;
+        let arcs_alone = are_idle(routes, &fixed, &groups, &plans, &spans);
+        Ok(Costs {
+            model,
+            arcs,
+            fixed,
+            groups,
+            plans,
+            spans,
+            earliest,
+            earlies: Earlies::new(),
+            arcs_alone,
+        })
+    }
+
+    /// What a move of the committed lists adds to the cost of arcs, told by the numbers of the move alone: `None` where
+    /// more than arcs may be paid, and for a move of a pair. Where the lists after it are valid, so much is added to
+    /// their cost.
+    #[inline(always)]
+    pub fn least_by_numbers(&self, routes: &Routes, mv: Move) -> Option<i64>
+        requires stands { StandsCosts self.now routes.now }
+        requires is_one { is_move self.now.model routes.now.lists mv ≡ true }
+        ensures exact { IfSome result (λ least. least ≡ arcs_added self.now.model routes.now.lists mv) }
+        ensures least { IfSome result (IsLeast self.now.model routes.now.lists mv) }
+    {
+        if !self.arcs_alone {
+            return None;
+        }
+        self.arcs.added_by_numbers(routes, mv)
+    }
+
+    /// What a change of the committed lists adds to their cost.
+    pub fn difference(&mut self, routes: &Routes, change: &Change) -> Result<i64, NoMemory>
+        requires stands { StandsCosts self.old routes.now }
+        requires made { IsMadeOn routes.now change.now }
+        requires valid { IsTrue (is_valid self.old.model (changed routes.now.lists change.now)) }
+        ensures exact { IfOk result (λ difference. difference
+            ≡ cost self.old.model (changed routes.now.lists change.now) -ℤ cost self.old.model routes.now.lists) }
+        ensures stands { StandsCosts self.new routes.now }
+        ensures model { self.new.model ≡ self.old.model }
+    {
+        let arcs = self.arcs.difference(routes, change)?;
+        let fixed = self.fixed.difference(routes, change)?;
+        let groups = self.groups.difference(routes, change)?;
+        let plans = self.plans.difference(routes, change)?;
+        let spans = self.spans.difference(routes, change)?;
+        Ok(arcs + fixed + groups + plans + spans)
+    }
+
+    /// What a move of the committed lists adds to their cost at least, where the lists after it are valid: what arcs
+    /// and fixed costs add, and what groups, soft upper bounds, spans and global spans add at least. The caller hands
+    /// in the change that the move makes.
+    pub fn least(&mut self, routes: &Routes, mv: Move, change: &Change) -> i64
+        requires stands { StandsCosts self.old routes.now }
+        requires made { IsMadeOn routes.now change.now }
+        requires is_one { is_move self.old.model routes.now.lists mv ≡ true }
+        requires change { IsChange self.old.model routes.now.lists mv change.now }
+        ensures least { IsTrue (is_valid self.old.model (changed routes.now.lists change.now))
+            → result ≤ℤ (cost self.old.model (changed routes.now.lists change.now)
+            -ℤ cost self.old.model routes.now.lists) }
+        ensures stays { self.new ≡ self.old }
+    {
+        let arcs = self.arcs.added_by_move(routes, mv, change);
+        let fixed = self.fixed.added(routes, change);
+        let groups = self.groups.least(routes, change);
+        self.earliest.write_after(routes, change, &mut self.earlies);
+        let plans = self.plans.least(&self.earlies, routes, change);
+        let spans = self.spans.least(&self.earlies, routes, change);
+        arcs + fixed + groups + plans + spans
+    }
+
+    /// Commits the lists after a change. Each part is made ready first, so all stay as before where memory is wanting.
+    pub fn commit(&mut self, routes: &Routes, change: &Change) -> Result<(), NoMemory>
+        requires stands { StandsCosts self.old routes.now }
+        requires made { IsMadeOn routes.now change.now }
+        requires valid { IsTrue (is_valid self.old.model (changed routes.now.lists change.now)) }
+        ensures stands { OnOk result (StandsCosts self.new (after routes.now change.now)) }
+        ensures stays { OnErr result (StandsCosts self.new routes.now) }
+        ensures model { self.new.model ≡ self.old.model }
+    {
+        self.arcs.prepare(routes, change)?;
+        self.fixed.prepare(routes, change)?;
+        self.groups.prepare(routes, change)?;
+        self.plans.prepare(routes, change)?;
+        self.spans.prepare(routes, change)?;
+        self.arcs.commit(routes, change);
+        self.fixed.commit(routes, change);
+        self.groups.commit(routes, change);
+        self.plans.commit(routes, change);
+        self.spans.commit(routes, change);
+        self.earliest.commit(routes, change);
+        Ok(())
+    }
+}

@@ -1,0 +1,84 @@
+//! All filters of a model as one.
+
+ghost use Rattle.std.specs.Prelude.{◌≡◌, ◌+◌, ◌≤◌, ℕ, Bool, false, List, IsTrue, IfOk, OnOk, OnErr, length, sum_by};
+ghost use Rattle.std.specs.List.{list_all};
+ghost use Rattle.vr_model.specs.routes.Rules.{is_valid};
+ghost use Rattle.vr_model.specs.tables.Tables.{visits};
+ghost use Rattle.vr_model.specs.tables.WellFormed.{IsWellFormed};
+ghost use Rattle.vr_judge.specs.Rules.{are_feasible, keeps_rules, total_weight};
+
+use crate::both::both;
+use crate::ranks::ranked_dimensions;
+use std::alloc::Global;
+use vr_filter::{Both, Each, PathFilter};
+use vr_model::{Model, NoMemory};
+use vr_pathfilters::{DimensionFilter, GroupFilter, PairFilter, VehicleFilter};
+use vr_routes::Routes;
+
+/// The filters of a model: those that ask least come first.
+pub type Filters<'m> = Both<
+    GroupFilter<'m>,
+    Both<VehicleFilter<'m>, Both<PairFilter<'m>, Each<DimensionFilter<'m>>>>,
+>;
+
+/// The filters of a model, which stand at these routes. The only refusal is want of memory.
+pub fn filters_of<'m>(
+    alloc: Global,
+    model: &'m Model,
+    routes: &Routes,
+) -> Result<Filters<'m>, NoMemory>
+    requires well_formed { IsWellFormed model.now }
+    requires of_model { routes.now.visits ≡ visits model.now }
+    requires valid { IsTrue (is_valid model.now routes.now.lists) }
+    ensures rules { IfOk result (λ filters. (lists : List (List ℕ))
+        → ⟦<Filters<'static> as PathFilter>⟧.holds filters lists ≡ keeps_rules model.now lists) }
+    ensures weights { IfOk result (λ filters. (before later : List (List ℕ))
+        → ⟦<Filters<'static> as PathFilter>⟧.weight filters before later ≡ total_weight model.now before later) }
+    ensures stands { IfOk result (λ filters. ⟦<Filters<'static> as PathFilter>⟧.stands_at filters routes.now) }
+{
+    let groups = GroupFilter::open(alloc, model, routes);
+    let vehicles = VehicleFilter::open(alloc, model, routes);
+    let pairs = PairFilter::open(alloc, model, routes);
+    let dimensions = filters_of_dimensions(alloc, model, routes);
+    let front = both(groups, vehicles);
+    let end = both(pairs, dimensions);
+    let (front, end) = both(front, end)?;
+    let (groups, vehicles) = front;
+    let (pairs, dimensions) = end;
+    Ok(Both {
+        a: groups,
+        b: Both {
+            a: vehicles,
+            b: Both {
+                a: pairs,
+                b: dimensions,
+            },
+        },
+    })
+}
+
+// The filters of all dimensions, those that ask least first.
+fn filters_of_dimensions<'m>(
+    alloc: Global,
+    model: &'m Model,
+    routes: &Routes,
+) -> Result<Each<DimensionFilter<'m>>, NoMemory>
+    requires well_formed { IsWellFormed model.now }
+    requires of_model { routes.now.visits ≡ visits model.now }
+    requires many { length routes.now.lists ≡ length model.now.vehicles }
+    requires feasible { IsTrue (are_feasible model.now routes.now.lists) }
+    ensures holds { IfOk result (λ each. (lists : List (List ℕ))
+        → ⟦<Each<DimensionFilter<'static>> as PathFilter>⟧.holds each lists ≡ are_feasible model.now lists) }
+    ensures weight { IfOk result (λ each. (before later : List (List ℕ))
+        → ⟦<Each<DimensionFilter<'static>> as PathFilter>⟧.weight each before later
+        ≡ total_weight model.now before later) }
+    ensures stands { IfOk result (λ each.
+        ⟦<Each<DimensionFilter<'static>> as PathFilter>⟧.stands_at each routes.now) }
+{
+    let order = ranked_dimensions(alloc, model)?;
+    let mut filters = Vec::with_capacity(alloc, order.len())?;
+    for k in 0..order.len() {
+        filters.push(DimensionFilter::open(alloc, model, order[k], routes)?)?;
+    }
+    Ok(Each { filters })
+}
