@@ -4,3 +4,4 @@ pub mod GoingOn
 pub mod DescentLemmas
 pub mod ListingLemmas
 pub mod AnswerLemmas
+pub mod TakenLemmas

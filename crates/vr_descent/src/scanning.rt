@@ -8,7 +8,7 @@ ghost use Rattle.vr_model.specs.search.Scans.{scan};
 ghost use Rattle.vr_model.specs.tables.WellFormed.{IsWellFormed};
 ghost use Rattle.vr_routes.specs.Judging.{HoldSame};
 
-use crate::{Accept, moves};
+use crate::{Accept, MoveList, moves};
 use std::sync::ledger::Ledger;
 use vr_model::{Model, Move, NoMemory, Steps};
 use vr_routes::{Change, Judge, Routes, Verdict};
@@ -60,6 +60,35 @@ pub fn scan<J: Judge, A: Accept, L: Ledger>(
     ensures asked_at_most { OnErr result (J.asked judge.new ≤ J.asked judge.old + rest) }
 {
     let mut list = moves(model, routes);
+    scan_list(model, judge, routes, accept, rest, &mut list, steps)
+}
+
+// The scan of a list of all moves, at most `rest` of them. The list is lent, so that where the scan ends there is less to
+// let go.
+#[inline(always)]
+fn scan_list<J: Judge, A: Accept, L: Ledger>(
+    model: &Model,
+    judge: &mut J,
+    routes: &Routes,
+    accept: &A,
+    rest: u64,
+    list: &mut MoveList<'_>,
+    steps: &mut Steps<L>,
+) -> Result<ScanEnd, NoMemory>
+    requires well_formed { IsWellFormed model.now }
+    requires judge_model { J.model judge.old ≡ model.now }
+    requires accept_model { A.model accept.now ≡ model.now }
+    requires accept_stands { A.stands_at accept.now routes.now.lists }
+    requires holds { HoldSame model.now (J.committed judge.old) routes.now }
+    requires list { list.old ≡ moves model.now routes.now.lists }
+    ensures ends { IfOk result (λ ended. ended ≡ scan_end model.now routes.now.lists
+        (scan (moves model.now routes.now.lists)
+        (is_acceptable model.now (A.takes accept.now) routes.now.lists) rest)) }
+    ensures model { J.model judge.new ≡ J.model judge.old }
+    ensures committed { J.committed judge.new ≡ J.committed judge.old }
+    ensures asked { IfOk result (λ ended. J.asked judge.new ≤ J.asked judge.old + tries_of rest ended) }
+    ensures asked_at_most { OnErr result (J.asked judge.new ≤ J.asked judge.old + rest) }
+{
     let mut change = Change::blank();
     let mut place = 0;
     while let Some(mv) = list.next() {

@@ -4,7 +4,7 @@ use Rattle.vr_model.specs.moves.MoveTests.{is_move}
 use Rattle.vr_model.specs.search.Scans.{scan_from}
 use Rattle.vr_descent.specs.Scanned.{is_acceptable, scan_end}
 use Rattle.vr_descent.proofs.ScanLemmas.{all_moves, cut_here}
-use Rattle.vr_descent.proofs.scanning.scan.Goals as goal
+use Rattle.vr_descent.proofs.scanning.scan_list.Goals as goal
 
 pub returns-then-place-rest-clause-ends : goal.returns-then-place-rest-clause-ends
 returns-then-place-rest-clause-ends g c =
@@ -13,7 +13,7 @@ returns-then-place-rest-clause-ends g c =
     ∙ (ap (scan_from c.loop-mv.place acceptable c.args.rest) (sym c.in-Some.ensures.steps) ∙ c.loop-mv.invariant.ends))
 
 pub loop-mv-init : goal.loop-mv-init
-loop-mv-init g c = let list = c.moves-list.ensures in record {
+loop-mv-init g c = let list = c.requires.list in record {
   model = refl;
   committed = refl;
   asked = omega arith;
