@@ -1,6 +1,6 @@
 //! The answers to the input.
 
-ghost use Rattle.std.specs.Prelude.{◌≡◌, ◌≤◌, Some, IfOk, OnOk, length, option_map};
+ghost use Rattle.std.specs.Prelude.{◌≡◌, ◌≤◌, Ok, Some, IfOk, OnOk, length, option_map};
 ghost use Rattle.serde_json.specs.View.{view};
 ghost use Rattle.vr_model.specs.first.FirstSolutions.{first_lists};
 ghost use Rattle.vr_model.specs.tables.Tables.{visits};
@@ -16,7 +16,7 @@ use crate::first::first_routes;
 use crate::search::search;
 use serde_json::Value;
 use std::alloc::Global;
-use vr_improve::Watchers;
+use vr_guided::Watchers;
 use vr_json::ReadFail;
 use vr_model::{Model, NoMemory, Seq};
 use vr_print::solution_line;
@@ -69,6 +69,27 @@ fn line_found(
     }
 }
 
+// The answer of a mode to a model.
+fn answer_model(
+    alloc: Global,
+    mode: Mode,
+    model: &Model,
+    watch: &mut Watchers,
+) -> Result<Answer, NoMemory>
+    requires { IsWellFormed model.now }
+    ensures reply { let reports = joined (λ w later. after w later) watch.old.items in
+        IfOk result (AnswersReply (replies.reply_to_model mode reports (Ok model.now))) }
+    ensures status { IfOk result (λ a. IsOfSolving a.status) }
+{
+    match line_found(alloc, mode, model, watch)? {
+        Some(line) => {
+            let answer = done(mode, line, watch)?;
+            Ok(answer)
+        }
+        None => none_found(alloc),
+    }
+}
+
 // The answer of a mode to a value.
 fn answer_solved(
     alloc: Global,
@@ -81,13 +102,7 @@ fn answer_solved(
     ensures status { IfOk result (λ a. IsOfSolving a.status) }
 {
     match read_owned(alloc, value) {
-        Ok(model) => match line_found(alloc, mode, &model, watch)? {
-            Some(line) => {
-                let answer = done(mode, line, watch)?;
-                Ok(answer)
-            }
-            None => none_found(alloc),
-        },
+        Ok(model) => answer_model(alloc, mode, &model, watch),
         Err(ReadFail::Refused(fault)) => refused(alloc, &fault),
         Err(ReadFail::NoMemory) => Err(NoMemory),
     }

@@ -7,14 +7,14 @@ ghost use Rattle.vr_model.specs.tables.Tables.{visits};
 ghost use Rattle.vr_model.specs.tables.WellFormed.{IsWellFormed};
 ghost use Rattle.vr_routes.specs.Judging.{HoldSame};
 ghost use Rattle.vr_watch.specs.Told.{Told};
-ghost use Rattle.vr_improve.specs.Endings.{EndsAs};
-ghost use Rattle.vr_improve.specs.Improved as how;
+ghost use Rattle.vr_guided.specs.Endings.{EndsAs};
+ghost use Rattle.vr_guided.specs.Improved as how;
 ghost use Rattle.vr_replies.specs.Found as found;
 
 use std::alloc::Global;
 use std::marker::Brand;
 use std::sync::ledger::{Blank, Ledger};
-use vr_improve::{Best, Watchers, improve, untried};
+use vr_guided::{Best, Watchers, improve, untried};
 use vr_judge::FilterJudge;
 use vr_model::{Model, NoMemory, Steps};
 use vr_replies::Mode;

@@ -1,34 +1,19 @@
 //! What no test through [`crate::run`] can see.
 
-ghost use Rattle.std.specs.Prelude.{◌≡◌, IfOk, IfSome, IsTrue};
+ghost use Rattle.std.specs.Prelude.{◌≡◌, IsTrue};
 ghost use Rattle.vr_model.specs.routes.Rules.{is_valid};
 ghost use Rattle.vr_model.specs.tables.Tables.{visits};
 ghost use Rattle.vr_model.specs.tables.WellFormed.{IsWellFormed};
 
+use crate::first::first_routes;
 use crate::search::judge_of;
-use serde_json::Value;
 use std::alloc::Global;
 use std::test::Fail;
-use vr_json::Path;
+use vr_gen::generate;
 use vr_judge::FilterJudge;
-use vr_model::{Model, NoMemory, Seq};
-use vr_read::read_model;
+use vr_model::{Model, NoMemory};
+use vr_replies::read_owned;
 use vr_routes::Routes;
-use vr_rules::{empty_lists, valid};
-
-const ONE_NODE: &str =
-    "{\"format\":1,\"nodes\":1,\"matrices\":[[[0]]],\"vehicles\":[{\"start\":0,\"end\":0}]}";
-
-// The model of a text, where there is one.
-fn read(alloc: Global, text: &str) -> Result<Option<Model>, NoMemory>
-    ensures { IfOk result (λ model. IfSome model IsWellFormed) }
-{
-    let path = Path::root(alloc);
-    match Value::from_str(alloc, text) {
-        Ok(value) => Ok(read_model(alloc, &value, &path).ok()),
-        Err(_) => Ok(None),
-    }
-}
 
 // Opens the judge of a search from routes: it is the one of filters.
 fn open_judge(alloc: Global, model: &Model, routes: &Routes) -> Result<(), NoMemory>
@@ -36,29 +21,35 @@ fn open_judge(alloc: Global, model: &Model, routes: &Routes) -> Result<(), NoMem
     requires of_model { routes.now.visits ≡ visits model.now }
     requires valid { IsTrue (is_valid model.now routes.now.lists) }
 {
-    let _judge: FilterJudge<'_> = judge_of(alloc, model, routes)?;
+    let judge: FilterJudge<'_> = judge_of(alloc, model, routes)?;
+    judge.close();
     Ok(())
 }
 
-// Whether the empty lists of a model are valid; then the judge of a search from them is opened.
-fn is_judged_by_filters(alloc: Global, model: &Model, lists: &[Seq<u32>]) -> Result<bool, NoMemory>
+// Whether a model has a first solution; then the judge of a search from there is opened.
+fn is_judged(alloc: Global, model: &Model) -> Result<bool, NoMemory>
     requires { IsWellFormed model.now }
 {
-    let Some(routes) = Routes::from_lists(alloc, model, lists)? else {
-        return Ok(false);
-    };
-    if !valid(alloc, model, &routes)? {
-        return Ok(false);
+    match first_routes(alloc, model)? {
+        Some(first) => {
+            open_judge(alloc, model, &first)?;
+            Ok(true)
+        }
+        None => Ok(false),
     }
-    open_judge(alloc, model, &routes)?;
-    Ok(true)
+}
+
+// The same of the model of a number.
+fn is_numbered_judged(alloc: Global, number: u64) -> Result<bool, NoMemory> {
+    let tree = generate(alloc, number)?;
+    match read_owned(alloc, tree) {
+        Ok(model) => is_judged(alloc, &model),
+        Err(_) => Ok(false),
+    }
 }
 
 #[test]
 fn searches_are_judged_by_filters(rt: HostRuntime) -> Result<(), Fail> {
-    let alloc = rt.alloc();
-    let model = read(alloc, ONE_NODE)?.ok_or("a model")?;
-    let lists = empty_lists(alloc, &model)?;
-    assert!(rt; is_judged_by_filters(alloc, &model, &lists)?);
+    assert!(rt; is_numbered_judged(rt.alloc(), 0)?);
     Ok(())
 }

@@ -1,20 +1,13 @@
-//! Tests of the whole of what the program does, through [`vr_app::run`], and of what is told of a search in short. They
-//! stand in a crate of their own, so that the crates that they test are proved once.
+//! What no contract of [`vr_app::run`] says, and no case of the built program: that with ample memory each kind of reply
+//! is given, what is left where a device fails, what cut input is answered, and what a watcher that refuses ends.
+//!
+//! A function owns one large value and lends it on; a row that fails is named. The tests stand in a crate of their own,
+//! so that what they test is proved once.
 #![tactic(auto)]
 
 #[cfg(test)]
-mod answers;
+mod devices;
 #[cfg(test)]
-mod checked;
+mod replies;
 #[cfg(test)]
-mod constructed;
-#[cfg(test)]
-mod hostile;
-#[cfg(test)]
-mod logged;
-#[cfg(test)]
-mod numbered;
-#[cfg(test)]
-mod solved;
-#[cfg(test)]
-mod summarised;
+mod watched;

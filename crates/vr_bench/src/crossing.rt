@@ -11,7 +11,6 @@ use crate::stop::Stop;
 use arrayvec::ArrayVec;
 use std::alloc::Global;
 use std::marker::Brand;
-use std::rt::Runtime;
 use std::sync::ledger::{Blank, Ledger};
 use std::time::Instant;
 use vr_model::{BreakRow, NoMemory, Steps};
@@ -75,14 +74,15 @@ fn cross_all<L: Ledger>(
     Ok(())
 }
 
-// The time of crossing into a set, from that set, with these breaks.
-fn time_cross<R: Runtime, L: Ledger>(
-    rt: &R,
-    alloc: Global,
+// The time of crossing a chain of arcs between two sets of levels, so many rounds.
+fn time_rounds<L: Ledger>(
+    rt: &HostRuntime,
     next: &Spans,
     slack: i64,
     breaks: &Breaks,
     rounds: u32,
+    a: &mut Levels,
+    b: &mut Levels,
     blank: Blank,
 ) -> Result<Timed, Stop>
     requires named { blank.name ≡ L.name }
@@ -92,21 +92,13 @@ fn time_cross<R: Runtime, L: Ledger>(
     requires breaks { All IsBreak breaks.now }
     requires few { length breaks.now ≤ 8 }
     requires next { IsCumuls next.now }
+    requires begun { AreLevels breaks.now a.old }
 {
     let mut steps = Steps::<L>::new(blank);
-    let mut a = start_levels(alloc, next, breaks)?;
-    let mut b = Levels::new(alloc);
     let mut sum: i64 = 0;
     let start = Instant::now(rt)?;
     for round in 0..rounds {
-        cross_all(
-            next,
-            hop_of(round, slack),
-            breaks,
-            &mut steps,
-            &mut a,
-            &mut b,
-        )?;
+        cross_all(next, hop_of(round, slack), breaks, &mut steps, a, b)?;
         sum = sum.wrapping_add(a.level(0).greatest().unwrap_or(0));
     }
     let nanos = start.elapsed(rt)?.as_nanos();
@@ -115,6 +107,34 @@ fn time_cross<R: Runtime, L: Ledger>(
         sum,
         nanos,
     })
+}
+
+// The time of crossing into a set, from that set, with these breaks.
+fn time_cross(
+    rt: &HostRuntime,
+    alloc: Global,
+    next: &Spans,
+    slack: i64,
+    breaks: &Breaks,
+    rounds: u32,
+) -> Result<Timed, Stop>
+    requires slack { (pos 0 ≤ℤ slack) × (slack ≤ℤ pos 100) }
+    requires breaks { All IsBreak breaks.now }
+    requires few { length breaks.now ≤ 8 }
+    requires next { IsCumuls next.now }
+{
+    let mut a = start_levels(alloc, next, breaks)?;
+    let mut b = Levels::new(alloc);
+    time_rounds::<Brand>(
+        rt,
+        next,
+        slack,
+        breaks,
+        rounds,
+        &mut a,
+        &mut b,
+        Blank::new(1),
+    )
 }
 
 #[inline(never)]
@@ -126,14 +146,18 @@ fn meet_all(next: &Spans, a: &mut Spans, b: &mut Spans) -> Result<(), vr_spans::
     Ok(())
 }
 
-fn time_meet<R: Runtime>(rt: &R, alloc: Global, count: u32, rounds: u32) -> Result<Timed, Stop> {
-    let next = cumuls(alloc, count)?;
-    let mut a = cumuls(alloc, count)?;
-    let mut b = Spans::new(alloc);
+// The time of meeting a set with two others in turn, so many rounds.
+fn time_meeting(
+    rt: &HostRuntime,
+    next: &Spans,
+    a: &mut Spans,
+    b: &mut Spans,
+    rounds: u32,
+) -> Result<Timed, Stop> {
     let mut sum: i64 = 0;
     let start = Instant::now(rt)?;
     for _ in 0..rounds {
-        meet_all(&next, &mut a, &mut b)?;
+        meet_all(next, a, b)?;
         sum = sum.wrapping_add(a.greatest().unwrap_or(0));
     }
     let nanos = start.elapsed(rt)?.as_nanos();
@@ -144,8 +168,16 @@ fn time_meet<R: Runtime>(rt: &R, alloc: Global, count: u32, rounds: u32) -> Resu
     })
 }
 
+// The time of the meet of two sets of so many runs.
+fn time_meet(rt: &HostRuntime, alloc: Global, count: u32, rounds: u32) -> Result<Timed, Stop> {
+    let next = cumuls(alloc, count)?;
+    let mut a = cumuls(alloc, count)?;
+    let mut b = Spans::new(alloc);
+    time_meeting(rt, &next, &mut a, &mut b, rounds)
+}
+
 /// The times of the meet of two sets of 1, 2 and 4 runs.
-pub(crate) fn time_meets<R: Runtime>(rt: &R, alloc: Global, rounds: u32) -> Result<(), Stop> {
+pub(crate) fn time_meets(rt: &HostRuntime, alloc: Global, rounds: u32) -> Result<(), Stop> {
     for _ in 0..TIMES {
         report(rt, "meet, 1 run", time_meet(rt, alloc, 1, rounds)?)?;
         report(rt, "meet, 2 runs", time_meet(rt, alloc, 2, rounds)?)?;
@@ -180,21 +212,21 @@ fn two_breaks() -> Breaks
 }
 
 // The time of crossing without breaks, with so many runs in each set.
-fn time_plain<R: Runtime>(rt: &R, alloc: Global, count: u32, rounds: u32) -> Result<Timed, Stop> {
+fn time_plain(rt: &HostRuntime, alloc: Global, count: u32, rounds: u32) -> Result<Timed, Stop> {
     let next = cumuls(alloc, count)?;
     let breaks = no_breaks();
-    time_cross::<R, Brand>(rt, alloc, &next, 0, &breaks, rounds, Blank::new(1))
+    time_cross(rt, alloc, &next, 0, &breaks, rounds)
 }
 
 // The time of crossing with two breaks, one run in each set.
-fn time_breaks<R: Runtime>(rt: &R, alloc: Global, rounds: u32) -> Result<Timed, Stop> {
+fn time_breaks(rt: &HostRuntime, alloc: Global, rounds: u32) -> Result<Timed, Stop> {
     let next = set_of(alloc, &[Run { lo: 0, hi: 1000 }])?;
     let breaks = two_breaks();
-    time_cross::<R, Brand>(rt, alloc, &next, 99, &breaks, rounds, Blank::new(1))
+    time_cross(rt, alloc, &next, 99, &breaks, rounds)
 }
 
 /// The times of crossing with 1, 2 and 4 runs in each set, and with two breaks and one run in each.
-pub(crate) fn time_crossings<R: Runtime>(rt: &R, alloc: Global, rounds: u32) -> Result<(), Stop> {
+pub(crate) fn time_crossings(rt: &HostRuntime, alloc: Global, rounds: u32) -> Result<(), Stop> {
     for _ in 0..TIMES {
         report(rt, "cross, 1 run", time_plain(rt, alloc, 1, rounds)?)?;
         report(rt, "cross, 2 runs", time_plain(rt, alloc, 2, rounds)?)?;

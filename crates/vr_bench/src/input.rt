@@ -1,62 +1,103 @@
-//! What the works are run on: models, and routes of them.
+//! Works on the model at standard input and its first solution.
 
 ghost use Rattle.std.specs.Prelude.{◌≡◌, IfOk, IfSome, IsTrue};
-ghost use Rattle.vr_model.specs.routes.Routes.{are_lists};
+ghost use Rattle.vr_model.specs.routes.Rules.{is_valid};
 ghost use Rattle.vr_model.specs.tables.Tables.{visits};
 ghost use Rattle.vr_model.specs.tables.WellFormed.{IsWellFormed};
 
+use crate::asked::print_verdict;
+use crate::judged::time_judge;
+use crate::listed::time_moves;
+use crate::schedules::time_schedules;
 use crate::stop::Stop;
 use serde_json::Value;
 use std::alloc::Global;
 use vr_io::{StdSource, read_all};
 use vr_json::Path;
 use vr_model::limits::MOST_INPUT_BYTES;
-use vr_model::{Model, NoMemory, Seq};
+use vr_model::{Model, NoMemory};
 use vr_read::read_model;
 use vr_routes::Routes;
 
-/// The model of a text.
-pub(crate) fn read(alloc: Global, bytes: &[u8]) -> Result<Model, Stop>
-    ensures { IfOk result IsWellFormed }
-{
-    match Value::from_slice(alloc, bytes) {
-        Ok(value) => {
-            let model = read_model(alloc, &value, &Path::root(alloc))?;
-            Ok(model)
-        }
-        Err(error) if error.is_memory() => Err(Stop::NoMemory),
-        Err(_) => Err(Stop::NoRoute),
-    }
+/// Does a work on the model at standard input.
+pub(crate) fn work_on_input(
+    rt: &HostRuntime,
+    alloc: Global,
+    what: &str,
+    number: u32,
+) -> Result<(), Stop> {
+    let value = value_of_input(rt, alloc)?;
+    work_on_value(rt, alloc, &value, what, number)
 }
 
-/// The model at standard input.
-pub(crate) fn read_input(rt: &HostRuntime, alloc: Global) -> Result<Model, Stop>
-    ensures { IfOk result IsWellFormed }
-{
+// The JSON at standard input.
+fn value_of_input(rt: &HostRuntime, alloc: Global) -> Result<Value, Stop> {
     let mut source = StdSource::new(rt.stdin());
     let Ok(bytes) = read_all(alloc, &mut source, MOST_INPUT_BYTES) else {
         return Err(Stop::NoRoute);
     };
-    read(alloc, &bytes)
+    match Value::from_slice(alloc, &bytes) {
+        Ok(value) => Ok(value),
+        Err(_) => Err(Stop::NoRoute),
+    }
 }
 
-/// Routes in which vehicle 0 makes all visits, in ascending order.
-pub(crate) fn all_by_the_first(alloc: Global, model: &Model) -> Result<Option<Routes>, NoMemory>
+// Does a work on the model of a value.
+fn work_on_value(
+    rt: &HostRuntime,
+    alloc: Global,
+    value: &Value,
+    what: &str,
+    number: u32,
+) -> Result<(), Stop> {
+    let model = read_model(alloc, value, &Path::root(alloc))?;
+    work_on_model(rt, alloc, &model, what, number)
+}
+
+// Does a work on a model and its first solution.
+fn work_on_model(
+    rt: &HostRuntime,
+    alloc: Global,
+    model: &Model,
+    what: &str,
+    number: u32,
+) -> Result<(), Stop>
     requires { IsWellFormed model.now }
-    ensures lists { IfOk result (λ found. IfSome found (λ routes. IsTrue (are_lists model.now routes.lists))) }
-    ensures visits { IfOk result (λ found. IfSome found (λ routes. routes.visits ≡ visits model.now)) }
 {
-    let mut list = Seq::new(alloc);
-    for node in 0..model.nodes {
-        if model.is_visit(node) {
-            list.push(node)?;
-        }
+    match first(alloc, model)? {
+        Some(routes) => work_on_routes(rt, alloc, model, &routes, what, number),
+        None => Err(Stop::NoRoute),
     }
-    let mut lists = Vec::new(alloc);
-    lists.push(list)?;
-    for _ in 1..model.vehicles.len() {
-        lists.push(Seq::new(alloc))?;
-    }
-    let routes = Routes::from_lists(alloc, model, &lists)?;
+}
+
+// The first solution of a model, by the cheapest arcs.
+fn first(alloc: Global, model: &Model) -> Result<Option<Routes>, NoMemory>
+    requires { IsWellFormed model.now }
+    ensures of_model { IfOk result (λ found. IfSome found (λ routes. routes.visits ≡ visits model.now)) }
+    ensures valid { IfOk result (λ found. IfSome found (λ routes. IsTrue (is_valid model.now routes.lists))) }
+{
+    let routes = vr_first_arc::first(alloc, model)?;
     Ok(routes)
+}
+
+// Does a work on routes of a model.
+fn work_on_routes(
+    rt: &HostRuntime,
+    alloc: Global,
+    model: &Model,
+    routes: &Routes,
+    what: &str,
+    number: u32,
+) -> Result<(), Stop>
+    requires well_formed { IsWellFormed model.now }
+    requires of_model { routes.now.visits ≡ visits model.now }
+    requires valid { IsTrue (is_valid model.now routes.now.lists) }
+{
+    match what {
+        "moves" => time_moves(rt, model, routes, number),
+        "judge" => time_judge(rt, alloc, model, routes, number),
+        "schedule" => time_schedules(rt, alloc, model, routes, number),
+        "ask" => print_verdict(rt, alloc, model, routes, number),
+        _ => Err(Stop::NoSuchWork),
+    }
 }

@@ -1,29 +1,28 @@
 //! Nanoseconds of hot paths: crossing an arc, the meet of two sets, listing a move and making its change, judging a
-//! move, the chosen schedule of a route.
+//! move, the chosen schedule of a list.
 //!
-//! `vr_bench WORK ROUNDS` with the works `crossing`, `meet` and `moves` makes what it needs itself; with `schedule` it
-//! reads a model from standard input, whose first dimension and first vehicle are asked, with all visits in ascending
-//! order; with `judge` it judges moves of the first solution of the model at standard input. `bench/run` runs it beside
-//! plain Rust.
+//! `vr_bench WORK ROUNDS`. The works `crossing` and `meet` make what they need themselves. The others read a model from
+//! standard input and begin with its first solution by the cheapest arcs: `moves` lists the moves of the model's
+//! neighbourhoods and makes their changes, `judge` judges the first of them, and `schedule` asks for the chosen schedule
+//! of the first list in the first dimension. `bench/run` runs them beside plain Rust.
 //!
-//! `vr_bench passes VISITS` takes no time: it prints what the filter of a dimension answers of one change of a route of
-//! so many visits, or where memory was wanting. `bench/refuse` runs it. Without words nothing is printed.
+//! `vr_bench ask PLACE` takes no time: it prints what the judge says of one move of that solution, or that memory was
+//! wanting where it was asked. `bench/refuse` runs it. Without words nothing is printed.
+//!
+//! A function owns one large value at most, and lends it on.
 #![tactic(auto)]
 
+mod asked;
 mod crossing;
 mod input;
 mod judged;
-mod moves;
-mod passes;
+mod listed;
 mod report;
 mod schedules;
 mod stop;
 
 use crate::crossing::{time_crossings, time_meets};
-use crate::judged::time_judge;
-use crate::moves::time_moves;
-use crate::passes::print_passes;
-use crate::schedules::time_schedules;
+use crate::input::work_on_input;
 use crate::stop::Stop;
 use std::env;
 
@@ -39,10 +38,6 @@ fn main(rt: HostRuntime) -> Result<(), Stop> {
     match what.as_str() {
         "crossing" => time_crossings(&rt, alloc, number),
         "meet" => time_meets(&rt, alloc, number),
-        "moves" => time_moves(&rt, alloc, number),
-        "judge" => time_judge(&rt, alloc, number),
-        "passes" => print_passes(&rt, alloc, number),
-        "schedule" => time_schedules(&rt, alloc, number),
-        _ => Err(Stop::NoSuchWork),
+        other => work_on_input(&rt, alloc, other, number),
     }
 }

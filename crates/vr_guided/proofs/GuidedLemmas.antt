@@ -6,7 +6,7 @@ use Rattle.vr_model.specs.routes.Costs.{cost}
 use Rattle.vr_model.specs.routes.Rules.{is_valid}
 use Rattle.vr_routes.specs.Tours.{Tours}
 use Rattle.vr_guided.specs.Kept.{kept}
-use Rattle.vr_guided.specs.declared.best.Best.{Best}
+use Rattle.vr_guided.specs.declared.incumbent.Incumbent.{Incumbent}
 use Rattle.vr_model.specs.declared.records.End.{End}
 use Rattle.vr_model.specs.moves.Moves.{apply}
 use Rattle.vr_model.specs.search.Scans.{Scan}
@@ -115,12 +115,12 @@ module _ (model : Model) (limit : Limit) (lambda : Lambda) where
         go cut h = scanned e cut h
 
 -- the better of two
-pub better : (model : Model) (visits : List ℕ) (best new : Best) (b : Bool) → IsBest model visits best → IsBest model visits new → IsBest model visits (cond b new best)
+pub better : (model : Model) (visits : List ℕ) (best new : Incumbent) (b : Bool) → IsBest model visits best → IsBest model visits new → IsBest model visits (cond b new best)
 better model visits best new true h n = n
 better model visits best new false h n = h
 
 -- the lists of the better of two are the cheaper ones
-pub kept_lists : (model : Model) (best : Best) (routes : Tours) (now : ℤ) → best.cost ≡ cost model best.routes.lists → now ≡ cost model routes.lists → (kept best routes now).routes.lists ≡ cheaper model best.routes.lists routes.lists
+pub kept_lists : (model : Model) (best : Incumbent) (routes : Tours) (now : ℤ) → best.cost ≡ cost model best.routes.lists → now ≡ cost model routes.lists → (kept best routes now).routes.lists ≡ cheaper model best.routes.lists routes.lists
 kept_lists model best routes now e h = go (int_lt now best.cost) (int_lt (cost model routes.lists) (cost model best.routes.lists)) (ap₂ (λ x y. int_lt x y) h e)
   where
     go : (a b : Bool) → a ≡ b → (cond a (record { routes = routes; cost = now }) best).routes.lists ≡ cond b routes.lists best.routes.lists
@@ -136,7 +136,7 @@ kept_lists model best routes now e h = go (int_lt now best.cost) (int_lt (cost m
         no e = Prim.cc
 
 -- the best is no dearer than before
-pub kept_no_dearer : (best : Best) (routes : Tours) (now most : ℤ) → best.cost ≤ℤ most → (kept best routes now).cost ≤ℤ most
+pub kept_no_dearer : (best : Incumbent) (routes : Tours) (now most : ℤ) → best.cost ≤ℤ most → (kept best routes now).cost ≤ℤ most
 kept_no_dearer best routes now most h = go (int_lt now best.cost) refl
   where
     go : (b : Bool) → int_lt now best.cost ≡ b → (cond b (record { routes = routes; cost = now }) best).cost ≤ℤ most

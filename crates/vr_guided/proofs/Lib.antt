@@ -14,5 +14,6 @@ pub mod ArcLemmas
 pub mod CountLemmas
 pub mod GuideLemmas
 pub mod GuidedLemmas
+pub mod StartLemmas
 pub mod AnswerLemmas
 pub mod BoundLemmas

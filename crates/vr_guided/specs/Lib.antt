@@ -11,3 +11,5 @@ pub mod Walks
 pub mod Nexts
 pub mod Answering
 pub mod Bounding
+pub mod Improved
+pub mod Endings

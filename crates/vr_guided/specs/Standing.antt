@@ -3,17 +3,18 @@ use Rattle.std.specs.Prelude.{◌≡◌, ℕ, suc, ◌-◌, ◌≤◌, List, len
 use Rattle.vr_model.specs.routes.Costs.{cost}
 use Rattle.vr_model.specs.routes.Rules.{is_valid}
 use Rattle.vr_model.specs.search.Outcomes.{SearchState, Outcome}
-use Rattle.vr_model.specs.search.GuidedSearches.{Penalties, guided_from}
+use Rattle.vr_model.specs.search.GuidedSearches.{Penalties, guided_from, no_penalties}
 use Rattle.vr_model.specs.declared.records.Model.{Model}
 use Rattle.vr_model.specs.declared.records.End.{End}
 use Rattle.vr_model.specs.declared.search.Event.{Event}
 use Rattle.vr_model.specs.declared.search.Limit.{Limit}
 use Rattle.vr_model.specs.declared.search.Lambda.{Lambda}
+use Rattle.vr_descent.specs.declared.progress.Progress.{Progress}
 use Rattle.vr_routes.specs.Tours.{Tours}
 use Rattle.vr_routes.specs.Judging.{HoldSame}
 use Rattle.vr_guided.specs.Counts.{AtMost, counted}
 use Rattle.vr_guided.specs.declared.searching.State.{State}
-use Rattle.vr_guided.specs.declared.best.Best.{Best}
+use Rattle.vr_guided.specs.declared.incumbent.Incumbent.{Incumbent}
 
 -- the limits of a search are in their ranges
 pub record AreLimits (limit : Limit) (lambda : Lambda) : Type 0 where
@@ -24,8 +25,16 @@ pub record AreLimits (limit : Limit) (lambda : Lambda) : Type 0 where
   pub q_from_one : pos 1 ≤ℤ lambda.q
   pub q_to_1000 : lambda.q ≤ℤ pos 1000
 
+-- what guided search begins with: these routes are the best, they cost what is known there, and no arc was penalised
+pub record IsBegun (model : Model) (routes : Tours) (at : Progress) (state : State) : Type 0 where
+  pub at_is : state.at ≡ at
+  pub best_is : state.best ≡ record { routes = routes; cost = at.cost }
+  pub none : counted state.penalties ≡ no_penalties
+  pub covers : state.penalties.nodes ≡ model.nodes
+  pub route_sums : length state.route_sums ≡ length model.vehicles
+
 -- the best routes are valid, and their cost is known
-pub record IsBest (model : Model) (visits : List ℕ) (best : Best) : Type 0 where
+pub record IsBest (model : Model) (visits : List ℕ) (best : Incumbent) : Type 0 where
   pub costs : best.cost ≡ cost model best.routes.lists
   pub valid : IsTrue (is_valid model best.routes.lists)
   pub same_visits : best.routes.visits ≡ visits

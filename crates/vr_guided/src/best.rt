@@ -1,28 +1,31 @@
-//! The best lists of a search.
+//! What a search gives.
 
-ghost use Rattle.std.specs.Prelude.{◌≡◌, length};
-ghost use Rattle.vr_guided.specs.Kept.{kept};
+ghost use Rattle.vr_guided.specs.Endings.{EndsAs};
+ghost use Rattle.vr_guided.specs.Improved as improved;
 
-use vr_descent::Progress;
+use vr_model::{End, Report};
 use vr_routes::Routes;
 
-/// The first routes of the least cost so far.
+/// The best routes of a search, and how it went.
 #[derive(Drop)]
 pub struct Best {
+    /// Routes of the best lists that it committed.
     pub routes: Routes,
-    pub cost: i64,
+    /// How many moves it tried, how many solutions it found and why it ended.
+    pub report: Report,
 }
 
-impl Best {
-    /// Keeps the routes of a search if they cost less. Takes no memory.
-    pub fn offer(&mut self, routes: &Routes, at: &Progress)
-        requires visits { self.old.routes.visits ≡ routes.now.visits }
-        requires many { length self.old.routes.lists ≡ length routes.now.lists }
-        ensures { self.new ≡ kept self.old routes.now at.now.cost }
-    {
-        if at.cost < self.cost {
-            self.routes.assign(routes);
-            self.cost = at.cost;
-        }
+/// What a search gives that tries no move: the first solution is the best.
+pub fn untried(first: Routes) -> Best
+    ensures { EndsAs first.visits (improved.untried first.lists) result }
+{
+    let report = Report {
+        tries: 0,
+        solutions: 1,
+        end: End::First,
+    };
+    Best {
+        routes: first,
+        report,
     }
 }

@@ -1,10 +1,23 @@
-//! Guided local search: a descent by the cost with penalties, which rise at each local optimum.
+//! Guided local search, and the improvement of a first solution by whichever search a model names: nothing, greedy
+//! descent or guided local search.
+//!
+//! [`improve`] is the entry of all searches, over any judge of moves. [`guide`] scans as a descent does, by the cost with
+//! penalties: at each local optimum a penalty rises on those used arcs whose cost is greatest beside what they were
+//! penalised already, which leads the search away. What a move makes of the penalised arc costs is told by the stretches
+//! that its change touches (`changing`), with sums along the lists of vehicles (`route_sums`).
+//!
+//! Between scans the sums are those of the lists and the penalties, no arc was penalised more often than a move was
+//! tried, and the best lists so far are valid and of known cost; routes and judge stand as in `vr_descent`.
+//!
+//! `vr_app` calls [`improve`]; `vr_replies` defines its replies by `specs/Improved`.
 #![tactic(auto)]
 
 mod best;
 mod changing;
 mod costly;
 mod guiding;
+mod improving;
+mod incumbent;
 mod laws;
 mod penalties;
 mod raising;
@@ -15,6 +28,8 @@ mod two_vehicles;
 mod walks;
 mod worths;
 
+pub use best::{Best, untried};
+pub use improving::{Watchers, improve};
 pub use laws::{augmented_costs_are_bounded, guided_is_sound};
 pub use searching::{Guided, guide};
 pub use vr_model::Lambda;

@@ -1,7 +1,7 @@
 //! Guided local search.
 
 ghost use Rattle.std.specs.Prelude.{◌≡◌, ◌+◌, ◌≤◌, ◌==◌, ◌||◌, not, ◌≤ℤ◌, pos, IsTrue, IfOk, OnOk, OnErr};
-ghost use Rattle.vr_guided.specs.Standing.{AreLimits, Stands, from_state, outcome_of};
+ghost use Rattle.vr_guided.specs.Standing.{AreLimits, IsBegun, Stands, from_state, outcome_of};
 ghost use Rattle.vr_model.specs.routes.Costs.{cost};
 ghost use Rattle.vr_model.specs.search.GuidedSearches.{guided, has_costly_arc};
 ghost use Rattle.vr_model.specs.routes.Rules.{is_valid};
@@ -9,9 +9,9 @@ ghost use Rattle.vr_model.specs.tables.WellFormed.{IsWellFormed};
 ghost use Rattle.vr_routes.specs.Judging.{HoldSame};
 ghost use Rattle.vr_watch.specs.Told.{Told, ToldInPart};
 
-use crate::best::Best;
 use crate::costly::has_costly_arc;
 use crate::guiding::Guiding;
+use crate::incumbent::Incumbent;
 use crate::penalties::Penalties;
 use crate::route_sums::AllRouteSums;
 use std::alloc::Global;
@@ -82,20 +82,13 @@ pub fn guide<J: Judge, L: Ledger>(
         (guided model.now routes.old.lists limit lambda).events) }
     ensures asked_at_most { OnErr result (J.asked judge.new ≤ J.asked judge.old + limit.tries) }
 {
-    let mut state = State {
-        at: Progress {
-            used: 0,
-            found: 1,
-            cost: first_cost,
-        },
-        best: Best {
-            routes: routes.copy(alloc)?,
-            cost: first_cost,
-        },
-        penalties: Penalties::new(alloc, model.nodes)?,
-        route_sums: AllRouteSums::new(alloc, model)?,
+    let at = Progress {
+        used: 0,
+        found: 1,
+        cost: first_cost,
     };
-    note_all(watch, state.at.event(Kind::First))?;
+    note_all(watch, at.event(Kind::First))?;
+    let mut state = State::open(alloc, model, routes, at)?;
     let end = improve(
         model, judge, routes, limit, lambda, &mut state, watch, steps,
     )?;
@@ -109,9 +102,31 @@ pub fn guide<J: Judge, L: Ledger>(
 #[derive(Drop)]
 struct State {
     at: Progress,
-    best: Best,
+    best: Incumbent,
     penalties: Penalties,
     route_sums: AllRouteSums,
+}
+
+impl State {
+    // At the beginning these routes are the best, and no arc was penalised. The routes are copied last, so that where
+    // memory is wanting they are not to be let go.
+    fn open(alloc: Global, model: &Model, routes: &Routes, at: Progress) -> Result<State, NoMemory>
+        requires { IsWellFormed model.now }
+        ensures { IfOk result (IsBegun model.now routes.now at) }
+    {
+        let penalties = Penalties::new(alloc, model.nodes)?;
+        let route_sums = AllRouteSums::new(alloc, model)?;
+        let best = Incumbent {
+            routes: routes.copy(alloc)?,
+            cost: at.cost,
+        };
+        Ok(State {
+            at,
+            best,
+            penalties,
+            route_sums,
+        })
+    }
 }
 
 // Searches on from where it stands, and says why it ended.

@@ -1,3 +1,4 @@
+pub mod printing
 pub mod InputLemmas
 pub mod CauseLemmas
 pub mod MetLemmas

@@ -22,8 +22,8 @@ use Rattle.vr_descent.specs.Answering.{IsSoundAnswer}
 use Rattle.vr_descent.proofs.AnswerLemmas.{descent_is_sound}
 use Rattle.vr_guided.proofs.AnswerLemmas.{guided_is_sound}
 use Rattle.vr_print.proofs.TreeLemmas.{plan-at}
-use Rattle.vr_laws.proofs.AllMet.{printed_meets}
-use Rattle.vr_improve.specs.Improved.{improved, lambda_of, limit_of, untried}
+use Rattle.vr_replies.proofs.printing.AllMet.{printed_meets}
+use Rattle.vr_guided.specs.Improved.{improved, lambda_of, limit_of, untried}
 use Rattle.vr_replies.specs.Found.{Found, found_from, line_of_found, searched}
 use Rattle.vr_replies.specs.Solutions.{HasChosenPlans, IsInLimits, IsSolution, PrintsSolution}
 use Rattle.vr_replies.specs.Texts.{summary_of, used}

@@ -13,3 +13,4 @@ pub mod Met
 pub mod Answers
 pub mod Runs
 pub mod Ended
+pub mod Printing

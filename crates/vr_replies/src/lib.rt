@@ -3,12 +3,17 @@
 //!
 //! `words` says what is asked for, `input` reads bytes and the model in them, `answer` has the answers that tell a
 //! status alone and those of refusals, `checked` answers what is checked, `numbered` what has a number, `logs` puts the
-//! reports of watchers behind the line of a solution, and `texts` makes the trees that tell no solution.
+//! reports of watchers behind the line of a solution, `texts` makes the trees that tell no solution, and `laws` has the
+//! law that what is printed meets a check.
+//!
+//! Each call that answers says which reply of the definition it gives, or that memory was wanting; no value is kept
+//! between calls. `vr_app` calls them, and ties them to searches, source and sink.
 #![tactic(auto)]
 
 mod answer;
 mod checked;
 mod input;
+mod laws;
 mod logs;
 mod numbered;
 mod status;
@@ -18,6 +23,7 @@ mod words;
 pub use answer::{Answer, none_found, not_json, refused, too_long, usage};
 pub use checked::answer_checked;
 pub use input::{parse_owned, read_owned};
+pub use laws::printed_meets;
 pub use logs::done;
 pub use numbered::{generated, summarised};
 pub use status::Status;

@@ -1,7 +1,9 @@
 //! The trees of the texts that tell no solution.
 
-ghost use Rattle.std.specs.Prelude.{◌≡◌, IfOk};
+ghost use Rattle.std.specs.Prelude.{◌≡◌, IfOk, OnOk};
+ghost use Rattle.serde_json.specs.Data.{no_members, object};
 ghost use Rattle.serde_json.specs.View.{view};
+ghost use Rattle.vr_json.specs.Trees.{members_put};
 ghost use Rattle.vr_replies.specs.Texts as texts;
 
 use serde_json::{Value, json};
@@ -63,18 +65,25 @@ pub(crate) struct Summary {
 }
 
 /// The tree of a summary.
-#[tactic(auto, unfolding(crate::specs::Texts::summary_tree))]
 pub(crate) fn summary_tree(alloc: Global, summary: &Summary) -> Result<Value, NoMemory>
     ensures { IfOk result (λ v. view v ≡ texts.summary_tree summary.now) }
 {
-    let word = Value::String(String::from_str(alloc, "DEMO")?);
     let mut tree = Tree::new(alloc);
+    put_summary(alloc, &mut tree, summary)?;
+    Ok(tree.finish())
+}
+
+// Puts the keys of a summary into a tree that has none.
+#[tactic(auto, unfolding(crate::specs::Texts::summary_tree))]
+fn put_summary(alloc: Global, tree: &mut Tree, summary: &Summary) -> Result<(), NoMemory>
+    requires { members_put tree.old ≡ no_members }
+    ensures { OnOk result (object (members_put tree.new) ≡ texts.summary_tree summary.now) }
+{
     tree.put("cost", Value::from(summary.cost))?;
     tree.put("dropped", Value::from(summary.dropped))?;
     tree.put("first_cost", Value::from(summary.first_cost))?;
     tree.put("number", Value::from(summary.number))?;
-    tree.put("status", word)?;
+    tree.put("status", Value::String(String::from_str(alloc, "DEMO")?))?;
     tree.put("tries", Value::from(summary.tries))?;
-    tree.put("used", Value::from(summary.used))?;
-    Ok(tree.finish())
+    tree.put("used", Value::from(summary.used))
 }

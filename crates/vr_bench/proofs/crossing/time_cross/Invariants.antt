@@ -1,5 +1,4 @@
-use Rattle.vr_steps.specs.Levels.{AreLevels}
 use Rattle.vr_bench.proofs.crossing.time_cross.Given as goal
 
-abbrev pub invariant-loop-round : goal.invariant-loop-round
-invariant-loop-round g l = AreLevels l.breaks l.a
+abbrev pub ghosts-time_rounds : goal.ghosts-time_rounds
+ghosts-time_rounds a = record { name = a.blank.name; parts = a.blank.parts }

@@ -1,4 +1,8 @@
+use Rattle.std.proofs.Common.{◌≡◌}
 use Rattle.vr_bench.proofs.judged.report_judge.Given as goal
 
-abbrev pub ghosts-report_kinds : goal.ghosts-report_kinds
-ghosts-report_kinds g a = record { name = a.blank.name; parts = a.blank.parts }
+abbrev pub invariant-loop : goal.invariant-loop
+invariant-loop g l = record {
+  model : g.J.Judge.model l.judge ≡ g.J.Judge.model l.initial.judge;
+  committed : g.J.Judge.committed l.judge ≡ g.J.Judge.committed l.initial.judge;
+}

@@ -1,43 +1,31 @@
 use Rattle.std.proofs.Common.{◌≡◌, ◌∙◌, [], ◌∷◌, sym, ap, subst, arith, w64, to_z, of_z}
-use Rattle.std.specs.Prelude.{IsTrue}
 use Rattle.std.proofs.lemmas.Int.{ints}
 use Rattle.vr_model.specs.routes.Costs.{cost}
-use Rattle.vr_model.specs.routes.Rules.{is_valid}
-use Rattle.vr_model.specs.search.GuidedSearches.{guided, no_penalties}
-use Rattle.vr_model.specs.search.Outcomes.{begun, event_at}
+use Rattle.vr_model.specs.search.GuidedSearches.{guided}
 use Rattle.vr_model.specs.declared.search.Kind.TheVariants as kind
 use Rattle.vr_watch.specs.Told.{Told, ToldInPart}
 use Rattle.vr_model.proofs.routes.CostFits.{costs_are_bounded}
 use Rattle.vr_model.proofs.tables.Refusals.{on_err}
-use Rattle.vr_watch.proofs.ToldLemmas.{told_nothing}
-use Rattle.vr_descent.proofs.GoingOn.{Goes, behind, breaks_off, breaks_within, ends_within, goes_more, goes_nowhere}
-use Rattle.vr_guided.specs.Counts.{AtMost, counted}
-use Rattle.vr_guided.specs.Standing.{from_here}
-use Rattle.vr_guided.proofs.GuidedLemmas.{at_start, none_at_first}
+use Rattle.vr_descent.proofs.GoingOn.{breaks_within, ends_within, goes_nowhere}
+use Rattle.vr_guided.specs.Standing.{IsBegun}
+use Rattle.vr_guided.proofs.GuidedLemmas.{at_start}
+use Rattle.vr_guided.proofs.StartLemmas.{begun_stands, first, first_in_part, first_told, rest, rest_is}
 use Rattle.vr_guided.proofs.searching.guide.Goals as goal
-
-pub returns-in_err-copy-clause-told_in_part : goal.returns-in_err-copy-clause-told_in_part
-returns-in_err-copy-clause-told_in_part g c =
-    let start : Goes (λ w. (goal.Watch-dyn g (w.vtable, w.value)).after w.value) (guided c.args.model.now c.args.routes.now.lists c.args.limit c.args.lambda) (behind ((event_at c.args.model.now (begun c.args.routes.now.lists) kind.First) ∷ []) (from_here c.args.model.now c.args.limit c.args.lambda no_penalties c.args.routes.now.lists c.args.routes.now.lists 0 1)) c.args.watch.now.items c.args.watch.now.items = record { told = []; outcome = at_start c.args.model.now c.args.limit c.args.lambda c.args.routes.now.lists; heard = told_nothing (λ w. (goal.Watch-dyn g (w.vtable, w.value)).after w.value) _ } in
-    on_err c.from_residual.result (goes_nowhere (λ w. (goal.Watch-dyn g (w.vtable, w.value)).after w.value) (guided c.args.model.now c.args.routes.now.lists c.args.limit c.args.lambda) _ _ _ start)
-
-pub returns-in_err-new-clause-told_in_part : goal.returns-in_err-new-clause-told_in_part
-returns-in_err-new-clause-told_in_part g c =
-    let start : Goes (λ w. (goal.Watch-dyn g (w.vtable, w.value)).after w.value) (guided c.args.model.now c.args.routes.now.lists c.args.limit c.args.lambda) (behind ((event_at c.args.model.now (begun c.args.routes.now.lists) kind.First) ∷ []) (from_here c.args.model.now c.args.limit c.args.lambda no_penalties c.args.routes.now.lists c.args.routes.now.lists 0 1)) c.args.watch.now.items c.args.watch.now.items = record { told = []; outcome = at_start c.args.model.now c.args.limit c.args.lambda c.args.routes.now.lists; heard = told_nothing (λ w. (goal.Watch-dyn g (w.vtable, w.value)).after w.value) _ } in
-    on_err c.from_residual-in_err-new.result (goes_nowhere (λ w. (goal.Watch-dyn g (w.vtable, w.value)).after w.value) (guided c.args.model.now c.args.routes.now.lists c.args.limit c.args.lambda) _ _ _ start)
-
-pub returns-in_err-new-2-clause-told_in_part : goal.returns-in_err-new-2-clause-told_in_part
-returns-in_err-new-2-clause-told_in_part g c =
-    let start : Goes (λ w. (goal.Watch-dyn g (w.vtable, w.value)).after w.value) (guided c.args.model.now c.args.routes.now.lists c.args.limit c.args.lambda) (behind ((event_at c.args.model.now (begun c.args.routes.now.lists) kind.First) ∷ []) (from_here c.args.model.now c.args.limit c.args.lambda no_penalties c.args.routes.now.lists c.args.routes.now.lists 0 1)) c.args.watch.now.items c.args.watch.now.items = record { told = []; outcome = at_start c.args.model.now c.args.limit c.args.lambda c.args.routes.now.lists; heard = told_nothing (λ w. (goal.Watch-dyn g (w.vtable, w.value)).after w.value) _ } in
-    on_err c.from_residual-in_err-new-2.result (goes_nowhere (λ w. (goal.Watch-dyn g (w.vtable, w.value)).after w.value) (guided c.args.model.now c.args.routes.now.lists c.args.limit c.args.lambda) _ _ _ start)
 
 pub returns-in_err-note_all-clause-told_in_part : goal.returns-in_err-note_all-clause-told_in_part
 returns-in_err-note_all-clause-told_in_part g c =
     let fits = costs_are_bounded c.args.model.now c.requires.well_formed c.args.routes.now.lists c.requires.holds.valid in
     let costs : to_z w64 (of_z w64 c.args.first_cost) ≡ cost c.args.model.now c.args.routes.now.lists = omega (arith, ints, c.requires.first_cost, fits.least, fits.greatest) in
-    let first : c.event.result ≡ (event_at c.args.model.now (begun c.args.routes.now.lists) kind.First) = c.event.ensures ∙ ap (λ k. record { tries = 0; kind = kind.First; cost = k }) costs in
-    let start : Goes (λ w. (goal.Watch-dyn g (w.vtable, w.value)).after w.value) (guided c.args.model.now c.args.routes.now.lists c.args.limit c.args.lambda) (behind ((event_at c.args.model.now (begun c.args.routes.now.lists) kind.First) ∷ []) (from_here c.args.model.now c.args.limit c.args.lambda no_penalties c.args.routes.now.lists c.args.routes.now.lists 0 1)) c.args.watch.now.items c.args.watch.now.items = record { told = []; outcome = at_start c.args.model.now c.args.limit c.args.lambda c.args.routes.now.lists; heard = told_nothing (λ w. (goal.Watch-dyn g (w.vtable, w.value)).after w.value) _ } in
-    on_err c.from_residual-in_err-note_all.result (breaks_off (λ w. (goal.Watch-dyn g (w.vtable, w.value)).after w.value) (guided c.args.model.now c.args.routes.now.lists c.args.limit c.args.lambda) (from_here c.args.model.now c.args.limit c.args.lambda no_penalties c.args.routes.now.lists c.args.routes.now.lists 0 1) ((event_at c.args.model.now (begun c.args.routes.now.lists) kind.First) ∷ []) _ _ _ start (subst (λ event. ToldInPart (λ w. (goal.Watch-dyn g (w.vtable, w.value)).after w.value) c.args.watch.now.items c.note_all.new.watch.items (event ∷ [])) first c.in_err-note_all.ensures.told_in_part))
+    let told : c.event.result ≡ first c.args.model.now c.args.limit c.args.lambda c.args.routes.now.lists = c.event.ensures ∙ ap (λ k. record { tries = 0; kind = kind.First; cost = k }) costs in
+    on_err c.from_residual.result (first_in_part c.args.model.now c.args.limit c.args.lambda c.args.routes.now.lists (λ w. (goal.Watch-dyn g (w.vtable, w.value)).after w.value) _ _ (subst (λ event. ToldInPart (λ w. (goal.Watch-dyn g (w.vtable, w.value)).after w.value) c.args.watch.now.items c.note_all.new.watch.items (event ∷ [])) told c.in_err-note_all.ensures.told_in_part))
+
+pub returns-in_err-state-clause-told_in_part : goal.returns-in_err-state-clause-told_in_part
+returns-in_err-state-clause-told_in_part g c =
+    let fits = costs_are_bounded c.args.model.now c.requires.well_formed c.args.routes.now.lists c.requires.holds.valid in
+    let costs : to_z w64 (of_z w64 c.args.first_cost) ≡ cost c.args.model.now c.args.routes.now.lists = omega (arith, ints, c.requires.first_cost, fits.least, fits.greatest) in
+    let told : c.event.result ≡ first c.args.model.now c.args.limit c.args.lambda c.args.routes.now.lists = c.event.ensures ∙ ap (λ k. record { tries = 0; kind = kind.First; cost = k }) costs in
+    let noted = first_told c.args.model.now c.args.limit c.args.lambda c.args.routes.now.lists (λ w. (goal.Watch-dyn g (w.vtable, w.value)).after w.value) _ _ (subst (λ event. Told (λ w. (goal.Watch-dyn g (w.vtable, w.value)).after w.value) c.args.watch.now.items c.note_all.new.watch.items (event ∷ [])) told c.in_ok-note_all.ensures.told) in
+    on_err c.from_residual-in_err-state.result (goes_nowhere (λ w. (goal.Watch-dyn g (w.vtable, w.value)).after w.value) (guided c.args.model.now c.args.routes.now.lists c.args.limit c.args.lambda) (rest c.args.model.now c.args.limit c.args.lambda c.args.routes.now.lists) _ _ noted)
 
 pub improve-requires-clause-limits : goal.improve-requires-clause-limits
 improve-requires-clause-limits g c =
@@ -54,75 +42,71 @@ pub improve-requires-clause-stands : goal.improve-requires-clause-stands
 improve-requires-clause-stands g c =
     let fits = costs_are_bounded c.args.model.now c.requires.well_formed c.args.routes.now.lists c.requires.holds.valid in
     let costs : to_z w64 (of_z w64 c.args.first_cost) ≡ cost c.args.model.now c.args.routes.now.lists = omega (arith, ints, c.requires.first_cost, fits.least, fits.greatest) in
-    record {
-      holds = c.requires.holds;
-      costs = costs;
-      used = omega arith;
-      some = omega arith;
-      found = c.requires.one_solution;
-      best = record {
-        costs = costs ∙ sym (ap (λ r. cost c.args.model.now r.lists) c.in_ok-copy.ensures);
-        valid = subst (λ r. IsTrue (is_valid c.args.model.now r.lists)) (sym c.in_ok-copy.ensures) c.requires.holds.valid;
-        same_visits = ap (λ r. r.visits) c.in_ok-copy.ensures;
-      };
-      few = subst (λ p. AtMost 0 p) (sym c.in_ok-new.ensures.none) none_at_first;
-      covers = c.in_ok-new.ensures.nodes;
-      route_sums = c.in_ok-new-2.ensures;
-    }
-
-pub returns-in_err-end-clause-judge_model : goal.returns-in_err-end-clause-judge_model
-returns-in_err-end-clause-judge_model g c =
-    c.in_err-end.ensures.judge_model
-
-pub returns-in_err-end-clause-holds : goal.returns-in_err-end-clause-holds
-returns-in_err-end-clause-holds g c =
-    c.in_err-end.ensures.holds
+    let begins = subst (λ k. IsBegun c.args.model.now c.args.routes.now (record { used = 0; found = 1; cost = k }) c.in_ok-state.state) costs c.in_ok-state.ensures in
+    begun_stands c.args.model.now c.args.limit c.args.routes.now c.in_ok-state.state begins _ c.requires.holds c.requires.one_solution
 
 pub returns-in_err-end-clause-told_in_part : goal.returns-in_err-end-clause-told_in_part
 returns-in_err-end-clause-told_in_part g c =
     let fits = costs_are_bounded c.args.model.now c.requires.well_formed c.args.routes.now.lists c.requires.holds.valid in
     let costs : to_z w64 (of_z w64 c.args.first_cost) ≡ cost c.args.model.now c.args.routes.now.lists = omega (arith, ints, c.requires.first_cost, fits.least, fits.greatest) in
-    let first : c.event.result ≡ (event_at c.args.model.now (begun c.args.routes.now.lists) kind.First) = c.event.ensures ∙ ap (λ k. record { tries = 0; kind = kind.First; cost = k }) costs in
-    let start : Goes (λ w. (goal.Watch-dyn g (w.vtable, w.value)).after w.value) (guided c.args.model.now c.args.routes.now.lists c.args.limit c.args.lambda) (behind ((event_at c.args.model.now (begun c.args.routes.now.lists) kind.First) ∷ []) (from_here c.args.model.now c.args.limit c.args.lambda no_penalties c.args.routes.now.lists c.args.routes.now.lists 0 1)) c.args.watch.now.items c.args.watch.now.items = record { told = []; outcome = at_start c.args.model.now c.args.limit c.args.lambda c.args.routes.now.lists; heard = told_nothing (λ w. (goal.Watch-dyn g (w.vtable, w.value)).after w.value) _ } in
-    let noted = goes_more (λ w. (goal.Watch-dyn g (w.vtable, w.value)).after w.value) (guided c.args.model.now c.args.routes.now.lists c.args.limit c.args.lambda) (from_here c.args.model.now c.args.limit c.args.lambda no_penalties c.args.routes.now.lists c.args.routes.now.lists 0 1) ((event_at c.args.model.now (begun c.args.routes.now.lists) kind.First) ∷ []) _ _ _ start (subst (λ event. Told (λ w. (goal.Watch-dyn g (w.vtable, w.value)).after w.value) c.args.watch.now.items c.note_all.new.watch.items (event ∷ [])) first c.in_ok-note_all.ensures.told) in
-    let same : from_here c.args.model.now c.args.limit c.args.lambda (counted c.in_ok-new.field-0) c.args.routes.now.lists c.in_ok-copy.field-0.lists 0 1 ≡ (from_here c.args.model.now c.args.limit c.args.lambda no_penalties c.args.routes.now.lists c.args.routes.now.lists 0 1) = ap (λ q. from_here c.args.model.now c.args.limit c.args.lambda q c.args.routes.now.lists c.in_ok-copy.field-0.lists 0 1) c.in_ok-new.ensures.none ∙ ap (λ r. from_here c.args.model.now c.args.limit c.args.lambda no_penalties c.args.routes.now.lists r.lists 0 1) c.in_ok-copy.ensures in
-    on_err c.from_residual-in_err-end.result (breaks_within (λ w. (goal.Watch-dyn g (w.vtable, w.value)).after w.value) (guided c.args.model.now c.args.routes.now.lists c.args.limit c.args.lambda) (from_here c.args.model.now c.args.limit c.args.lambda no_penalties c.args.routes.now.lists c.args.routes.now.lists 0 1) _ _ _ noted (subst (λ o. ToldInPart (λ w. (goal.Watch-dyn g (w.vtable, w.value)).after w.value) c.note_all.new.watch.items c.improve.new.watch.items o.events) same c.in_err-end.ensures.told_in_part))
+    let told : c.event.result ≡ first c.args.model.now c.args.limit c.args.lambda c.args.routes.now.lists = c.event.ensures ∙ ap (λ k. record { tries = 0; kind = kind.First; cost = k }) costs in
+    let noted = first_told c.args.model.now c.args.limit c.args.lambda c.args.routes.now.lists (λ w. (goal.Watch-dyn g (w.vtable, w.value)).after w.value) _ _ (subst (λ event. Told (λ w. (goal.Watch-dyn g (w.vtable, w.value)).after w.value) c.args.watch.now.items c.note_all.new.watch.items (event ∷ [])) told c.in_ok-note_all.ensures.told) in
+    let begins = subst (λ k. IsBegun c.args.model.now c.args.routes.now (record { used = 0; found = 1; cost = k }) c.in_ok-state.state) costs c.in_ok-state.ensures in
+    let same = rest_is c.args.model.now c.args.limit c.args.routes.now c.in_ok-state.state begins c.args.lambda in
+    on_err c.from_residual-in_err-end.result (breaks_within (λ w. (goal.Watch-dyn g (w.vtable, w.value)).after w.value) (guided c.args.model.now c.args.routes.now.lists c.args.limit c.args.lambda) (rest c.args.model.now c.args.limit c.args.lambda c.args.routes.now.lists) _ _ _ noted (subst (λ o. ToldInPart (λ w. (goal.Watch-dyn g (w.vtable, w.value)).after w.value) c.note_all.new.watch.items c.improve.new.watch.items o.events) same c.in_err-end.ensures.told_in_part))
 
 pub returns-in_err-end-clause-asked_at_most : goal.returns-in_err-end-clause-asked_at_most
 returns-in_err-end-clause-asked_at_most g c =
-    on_err c.from_residual-in_err-end.result (omega (arith, c.in_err-end.ensures.asked_at_most))
+    let fits = costs_are_bounded c.args.model.now c.requires.well_formed c.args.routes.now.lists c.requires.holds.valid in
+    let costs : to_z w64 (of_z w64 c.args.first_cost) ≡ cost c.args.model.now c.args.routes.now.lists = omega (arith, ints, c.requires.first_cost, fits.least, fits.greatest) in
+    let begins = subst (λ k. IsBegun c.args.model.now c.args.routes.now (record { used = 0; found = 1; cost = k }) c.in_ok-state.state) costs c.in_ok-state.ensures in
+    let used = ap (λ p. p.used) begins.at_is in
+    on_err c.from_residual-in_err-end.result (omega (arith, used, c.in_err-end.ensures.asked_at_most))
 
 pub returns-clause-report : goal.returns-clause-report
 returns-clause-report g c =
+    let fits = costs_are_bounded c.args.model.now c.requires.well_formed c.args.routes.now.lists c.requires.holds.valid in
+    let costs : to_z w64 (of_z w64 c.args.first_cost) ≡ cost c.args.model.now c.args.routes.now.lists = omega (arith, ints, c.requires.first_cost, fits.least, fits.greatest) in
+    let begins = subst (λ k. IsBegun c.args.model.now c.args.routes.now (record { used = 0; found = 1; cost = k }) c.in_ok-state.state) costs c.in_ok-state.ensures in
+    let same = rest_is c.args.model.now c.args.limit c.args.routes.now c.in_ok-state.state begins c.args.lambda in
     let start = at_start c.args.model.now c.args.limit c.args.lambda c.args.routes.now.lists in
-    let same : from_here c.args.model.now c.args.limit c.args.lambda (counted c.in_ok-new.field-0) c.args.routes.now.lists c.in_ok-copy.field-0.lists 0 1 ≡ (from_here c.args.model.now c.args.limit c.args.lambda no_penalties c.args.routes.now.lists c.args.routes.now.lists 0 1) = ap (λ q. from_here c.args.model.now c.args.limit c.args.lambda q c.args.routes.now.lists c.in_ok-copy.field-0.lists 0 1) c.in_ok-new.ensures.none ∙ ap (λ r. from_here c.args.model.now c.args.limit c.args.lambda no_penalties c.args.routes.now.lists r.lists 0 1) c.in_ok-copy.ensures in
     c.report.ensures ∙ (ap (λ o. o.report) (c.in_ok-end.ensures.outcome ∙ same) ∙ sym (ap (λ o. o.report) start))
 
 pub returns-clause-last : goal.returns-clause-last
 returns-clause-last g c =
+    let fits = costs_are_bounded c.args.model.now c.requires.well_formed c.args.routes.now.lists c.requires.holds.valid in
+    let costs : to_z w64 (of_z w64 c.args.first_cost) ≡ cost c.args.model.now c.args.routes.now.lists = omega (arith, ints, c.requires.first_cost, fits.least, fits.greatest) in
+    let begins = subst (λ k. IsBegun c.args.model.now c.args.routes.now (record { used = 0; found = 1; cost = k }) c.in_ok-state.state) costs c.in_ok-state.ensures in
+    let same = rest_is c.args.model.now c.args.limit c.args.routes.now c.in_ok-state.state begins c.args.lambda in
     let start = at_start c.args.model.now c.args.limit c.args.lambda c.args.routes.now.lists in
-    let same : from_here c.args.model.now c.args.limit c.args.lambda (counted c.in_ok-new.field-0) c.args.routes.now.lists c.in_ok-copy.field-0.lists 0 1 ≡ (from_here c.args.model.now c.args.limit c.args.lambda no_penalties c.args.routes.now.lists c.args.routes.now.lists 0 1) = ap (λ q. from_here c.args.model.now c.args.limit c.args.lambda q c.args.routes.now.lists c.in_ok-copy.field-0.lists 0 1) c.in_ok-new.ensures.none ∙ ap (λ r. from_here c.args.model.now c.args.limit c.args.lambda no_penalties c.args.routes.now.lists r.lists 0 1) c.in_ok-copy.ensures in
-    (ap (λ o. o.last) (c.in_ok-end.ensures.outcome ∙ same) ∙ sym (ap (λ o. o.last) start))
+    ap (λ o. o.last) (c.in_ok-end.ensures.outcome ∙ same) ∙ sym (ap (λ o. o.last) start)
 
 pub returns-clause-best : goal.returns-clause-best
 returns-clause-best g c =
+    let fits = costs_are_bounded c.args.model.now c.requires.well_formed c.args.routes.now.lists c.requires.holds.valid in
+    let costs : to_z w64 (of_z w64 c.args.first_cost) ≡ cost c.args.model.now c.args.routes.now.lists = omega (arith, ints, c.requires.first_cost, fits.least, fits.greatest) in
+    let begins = subst (λ k. IsBegun c.args.model.now c.args.routes.now (record { used = 0; found = 1; cost = k }) c.in_ok-state.state) costs c.in_ok-state.ensures in
+    let same = rest_is c.args.model.now c.args.limit c.args.routes.now c.in_ok-state.state begins c.args.lambda in
     let start = at_start c.args.model.now c.args.limit c.args.lambda c.args.routes.now.lists in
-    let same : from_here c.args.model.now c.args.limit c.args.lambda (counted c.in_ok-new.field-0) c.args.routes.now.lists c.in_ok-copy.field-0.lists 0 1 ≡ (from_here c.args.model.now c.args.limit c.args.lambda no_penalties c.args.routes.now.lists c.args.routes.now.lists 0 1) = ap (λ q. from_here c.args.model.now c.args.limit c.args.lambda q c.args.routes.now.lists c.in_ok-copy.field-0.lists 0 1) c.in_ok-new.ensures.none ∙ ap (λ r. from_here c.args.model.now c.args.limit c.args.lambda no_penalties c.args.routes.now.lists r.lists 0 1) c.in_ok-copy.ensures in
-    (ap (λ o. o.best) (c.in_ok-end.ensures.outcome ∙ same) ∙ sym (ap (λ o. o.best) start))
+    ap (λ o. o.best) (c.in_ok-end.ensures.outcome ∙ same) ∙ sym (ap (λ o. o.best) start)
 
 pub returns-clause-told : goal.returns-clause-told
 returns-clause-told g c =
     let fits = costs_are_bounded c.args.model.now c.requires.well_formed c.args.routes.now.lists c.requires.holds.valid in
     let costs : to_z w64 (of_z w64 c.args.first_cost) ≡ cost c.args.model.now c.args.routes.now.lists = omega (arith, ints, c.requires.first_cost, fits.least, fits.greatest) in
-    let first : c.event.result ≡ (event_at c.args.model.now (begun c.args.routes.now.lists) kind.First) = c.event.ensures ∙ ap (λ k. record { tries = 0; kind = kind.First; cost = k }) costs in
-    let start : Goes (λ w. (goal.Watch-dyn g (w.vtable, w.value)).after w.value) (guided c.args.model.now c.args.routes.now.lists c.args.limit c.args.lambda) (behind ((event_at c.args.model.now (begun c.args.routes.now.lists) kind.First) ∷ []) (from_here c.args.model.now c.args.limit c.args.lambda no_penalties c.args.routes.now.lists c.args.routes.now.lists 0 1)) c.args.watch.now.items c.args.watch.now.items = record { told = []; outcome = at_start c.args.model.now c.args.limit c.args.lambda c.args.routes.now.lists; heard = told_nothing (λ w. (goal.Watch-dyn g (w.vtable, w.value)).after w.value) _ } in
-    let noted = goes_more (λ w. (goal.Watch-dyn g (w.vtable, w.value)).after w.value) (guided c.args.model.now c.args.routes.now.lists c.args.limit c.args.lambda) (from_here c.args.model.now c.args.limit c.args.lambda no_penalties c.args.routes.now.lists c.args.routes.now.lists 0 1) ((event_at c.args.model.now (begun c.args.routes.now.lists) kind.First) ∷ []) _ _ _ start (subst (λ event. Told (λ w. (goal.Watch-dyn g (w.vtable, w.value)).after w.value) c.args.watch.now.items c.note_all.new.watch.items (event ∷ [])) first c.in_ok-note_all.ensures.told) in
-    let same : from_here c.args.model.now c.args.limit c.args.lambda (counted c.in_ok-new.field-0) c.args.routes.now.lists c.in_ok-copy.field-0.lists 0 1 ≡ (from_here c.args.model.now c.args.limit c.args.lambda no_penalties c.args.routes.now.lists c.args.routes.now.lists 0 1) = ap (λ q. from_here c.args.model.now c.args.limit c.args.lambda q c.args.routes.now.lists c.in_ok-copy.field-0.lists 0 1) c.in_ok-new.ensures.none ∙ ap (λ r. from_here c.args.model.now c.args.limit c.args.lambda no_penalties c.args.routes.now.lists r.lists 0 1) c.in_ok-copy.ensures in
-    ends_within (λ w. (goal.Watch-dyn g (w.vtable, w.value)).after w.value) (guided c.args.model.now c.args.routes.now.lists c.args.limit c.args.lambda) (from_here c.args.model.now c.args.limit c.args.lambda no_penalties c.args.routes.now.lists c.args.routes.now.lists 0 1) _ _ _ noted (subst (λ o. Told (λ w. (goal.Watch-dyn g (w.vtable, w.value)).after w.value) c.note_all.new.watch.items c.improve.new.watch.items o.events) same c.in_ok-end.ensures.told)
+    let told : c.event.result ≡ first c.args.model.now c.args.limit c.args.lambda c.args.routes.now.lists = c.event.ensures ∙ ap (λ k. record { tries = 0; kind = kind.First; cost = k }) costs in
+    let noted = first_told c.args.model.now c.args.limit c.args.lambda c.args.routes.now.lists (λ w. (goal.Watch-dyn g (w.vtable, w.value)).after w.value) _ _ (subst (λ event. Told (λ w. (goal.Watch-dyn g (w.vtable, w.value)).after w.value) c.args.watch.now.items c.note_all.new.watch.items (event ∷ [])) told c.in_ok-note_all.ensures.told) in
+    let begins = subst (λ k. IsBegun c.args.model.now c.args.routes.now (record { used = 0; found = 1; cost = k }) c.in_ok-state.state) costs c.in_ok-state.ensures in
+    let same = rest_is c.args.model.now c.args.limit c.args.routes.now c.in_ok-state.state begins c.args.lambda in
+    ends_within (λ w. (goal.Watch-dyn g (w.vtable, w.value)).after w.value) (guided c.args.model.now c.args.routes.now.lists c.args.limit c.args.lambda) (rest c.args.model.now c.args.limit c.args.lambda c.args.routes.now.lists) _ _ _ noted (subst (λ o. Told (λ w. (goal.Watch-dyn g (w.vtable, w.value)).after w.value) c.note_all.new.watch.items c.improve.new.watch.items o.events) same c.in_ok-end.ensures.told)
 
 pub returns-clause-asked : goal.returns-clause-asked
 returns-clause-asked g c =
-    omega (arith, ap (λ r. r.tries) c.report.ensures, c.in_ok-end.ensures.asked)
+    let fits = costs_are_bounded c.args.model.now c.requires.well_formed c.args.routes.now.lists c.requires.holds.valid in
+    let costs : to_z w64 (of_z w64 c.args.first_cost) ≡ cost c.args.model.now c.args.routes.now.lists = omega (arith, ints, c.requires.first_cost, fits.least, fits.greatest) in
+    let begins = subst (λ k. IsBegun c.args.model.now c.args.routes.now (record { used = 0; found = 1; cost = k }) c.in_ok-state.state) costs c.in_ok-state.ensures in
+    let used = ap (λ p. p.used) begins.at_is in
+    omega (arith, used, ap (λ r. r.tries) c.report.ensures, c.in_ok-end.ensures.asked)
 
 pub returns-clause-no_more_tries : goal.returns-clause-no_more_tries
 returns-clause-no_more_tries g c =
@@ -148,9 +132,11 @@ pub returns-clause-no_dearer : goal.returns-clause-no_dearer
 returns-clause-no_dearer g c =
     let fits = costs_are_bounded c.args.model.now c.requires.well_formed c.args.routes.now.lists c.requires.holds.valid in
     let costs : to_z w64 (of_z w64 c.args.first_cost) ≡ cost c.args.model.now c.args.routes.now.lists = omega (arith, ints, c.requires.first_cost, fits.least, fits.greatest) in
+    let begins = subst (λ k. IsBegun c.args.model.now c.args.routes.now (record { used = 0; found = 1; cost = k }) c.in_ok-state.state) costs c.in_ok-state.ensures in
+    let first_cost = ap (λ b. b.cost) begins.best_is in
     let kept = c.in_ok-end.ensures.stands.best.costs in
     let less = c.in_ok-end.ensures.no_dearer in
-    omega (arith, ints, kept, less, costs)
+    omega (arith, ints, kept, less, first_cost)
 
 pub returns-clause-judge_model : goal.returns-clause-judge_model
 returns-clause-judge_model g c =

@@ -1,0 +1,8 @@
+use Rattle.std.proofs.Common.{◌∙◌, ap, sym}
+use Rattle.vr_rules.specs.Placing.{lists_in}
+use Rattle.vr_replies.proofs.SolutionLemmas.{first_lists-valid}
+use Rattle.vr_app.proofs.tests.is_judged.Goals as goal
+
+pub open_judge-requires-clause-valid : goal.open_judge-requires-clause-valid
+open_judge-requires-clause-valid c =
+    first_lists-valid c.args.model.now c.in-Some.first.lists (sym c.in_ok-first_routes.ensures.lists ∙ ap lists_in c.in-Some.is)

@@ -1,8 +1,0 @@
-use Rattle.std.proofs.Common.{◌≡◌}
-use Rattle.vr_bench.proofs.judged.report_kind.Given as goal
-
-abbrev pub invariant-loop : goal.invariant-loop
-invariant-loop g l = record {
-  model : g.J.Judge.model l.judge ≡ g.J.Judge.model l.initial.judge;
-  committed : g.J.Judge.committed l.judge ≡ g.J.Judge.committed l.initial.judge;
-}

@@ -1,7 +1,0 @@
-use Rattle.std.proofs.Common.{All}
-use Rattle.std.specs.Prelude.{IsTrue}
-use Rattle.vr_model.specs.moves.MoveTests.{is_move}
-use Rattle.vr_bench.proofs.judged.stored.Given as goal
-
-abbrev pub invariant-loop-mv : goal.invariant-loop-mv
-invariant-loop-mv g l = All (λ mv. IsTrue (is_move l.model l.routes.lists mv)) l.kept.items

@@ -1,0 +1,77 @@
+//! What the judge says of one move, and where memory is wanting.
+
+ghost use Rattle.std.specs.Prelude.{◌≡◌, ◌<◌, IsTrue};
+ghost use Rattle.vr_model.specs.moves.MoveTests.{is_move};
+ghost use Rattle.vr_model.specs.routes.Rules.{is_valid};
+ghost use Rattle.vr_model.specs.tables.Tables.{visits};
+ghost use Rattle.vr_model.specs.tables.WellFormed.{IsWellFormed};
+ghost use Rattle.vr_routes.specs.Judging.{HoldSame};
+
+use crate::stop::Stop;
+use std::alloc::Global;
+use std::marker::Brand;
+use std::sync::ledger::{Blank, Ledger};
+use vr_judge::FilterJudge;
+use vr_model::{Model, Move, NoMemory, Steps};
+use vr_routes::{Change, Judge, Routes, Verdict};
+
+// What a judge says of a move.
+fn verdict<J: Judge, L: Ledger>(
+    judge: &mut J,
+    routes: &Routes,
+    mv: Move,
+    blank: Blank,
+) -> Result<Verdict, NoMemory>
+    requires well_formed { IsWellFormed (J.model judge.old) }
+    requires holds { HoldSame (J.model judge.old) (J.committed judge.old) routes.now }
+    requires mv { IsTrue (is_move (J.model judge.old) routes.now.lists mv) }
+    requires name { blank.name ≡ L.name }
+    requires parts { blank.parts ≡ L.parts }
+    requires some { 0 < blank.parts }
+{
+    let mut steps = Steps::<L>::new(blank);
+    judge.judge(routes, mv, &mut steps)
+}
+
+// The word for what the judge of a model says of a move of routes.
+fn word_of(alloc: Global, model: &Model, routes: &Routes, mv: Move) -> Result<&'static str, Stop>
+    requires well_formed { IsWellFormed model.now }
+    requires of_model { routes.now.visits ≡ visits model.now }
+    requires valid { IsTrue (is_valid model.now routes.now.lists) }
+    requires mv { IsTrue (is_move model.now routes.now.lists mv) }
+{
+    let mut judge = FilterJudge::open(alloc, model, routes)?;
+    let said = verdict::<FilterJudge<'_>, Brand>(&mut judge, routes, mv, Blank::new(1));
+    judge.close();
+    match said {
+        Ok(Verdict::Difference(_)) => Ok("passes"),
+        Ok(Verdict::Refused) => Ok("refused"),
+        Err(NoMemory) => Ok("no memory in judge"),
+    }
+}
+
+/// Prints what the judge says of the move that turns two visits of the first list, from this place on, or that memory
+/// was wanting where it was asked. Before that, want of memory ends the run.
+pub(crate) fn print_verdict(
+    rt: &HostRuntime,
+    alloc: Global,
+    model: &Model,
+    routes: &Routes,
+    place: u32,
+) -> Result<(), Stop>
+    requires well_formed { IsWellFormed model.now }
+    requires of_model { routes.now.visits ≡ visits model.now }
+    requires valid { IsTrue (is_valid model.now routes.now.lists) }
+{
+    let mv = Move::TwoOpt {
+        v: 0,
+        a: place,
+        b: place.saturating_add(1),
+    };
+    if !Change::of_into(model, routes, mv, &mut Change::blank()) {
+        return Err(Stop::NoRoute);
+    }
+    let word = word_of(alloc, model, routes, mv)?;
+    println!(rt; "{word}")?;
+    Ok(())
+}

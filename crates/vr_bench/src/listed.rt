@@ -1,0 +1,93 @@
+//! Listing moves and making their changes.
+
+ghost use Rattle.std.specs.Prelude.{◌≡◌, All, IfOk, IsTrue};
+ghost use Rattle.vr_model.specs.moves.MoveTests.{is_move};
+ghost use Rattle.vr_model.specs.tables.Tables.{visits};
+ghost use Rattle.vr_model.specs.tables.WellFormed.{IsWellFormed};
+
+use crate::report::{TIMES, Timed, report};
+use crate::stop::Stop;
+use std::alloc::Global;
+use std::time::Instant;
+use vr_descent::moves;
+use vr_model::{Model, Move, NoMemory};
+use vr_routes::{Change, Routes};
+
+// How many moves are judged at most.
+const MOST: usize = 5000;
+
+/// The first moves of the model's neighbourhoods, at most 5000. They are tested to be moves, where no time is taken.
+pub(crate) fn first_moves(
+    alloc: Global,
+    model: &Model,
+    routes: &Routes,
+) -> Result<Vec<Move>, NoMemory>
+    requires well_formed { IsWellFormed model.now }
+    requires of_model { routes.now.visits ≡ visits model.now }
+    ensures { IfOk result (λ kept. All (λ mv. IsTrue (is_move model.now routes.now.lists mv)) kept.items) }
+{
+    let mut kept = Vec::new(alloc);
+    let mut change = Change::blank();
+    for mv in moves(model, routes) {
+        if kept.len() < MOST && Change::of_into(model, routes, mv, &mut change) {
+            kept.push(mv)?;
+        }
+    }
+    Ok(kept)
+}
+
+// Lists all moves of the model's neighbourhoods and makes their changes; how many.
+#[inline(never)]
+fn changes_of_all(model: &Model, routes: &Routes, change: &mut Change) -> u64
+    requires well_formed { IsWellFormed model.now }
+    requires of_model { routes.now.visits ≡ visits model.now }
+{
+    let mut count: u64 = 0;
+    for mv in moves(model, routes) {
+        if Change::of_into(model, routes, mv, change) {
+            count = count.wrapping_add(1);
+        }
+    }
+    count
+}
+
+// The time of so many rounds through all moves.
+fn time_rounds(
+    rt: &HostRuntime,
+    model: &Model,
+    routes: &Routes,
+    rounds: u32,
+    change: &mut Change,
+) -> Result<Timed, Stop>
+    requires well_formed { IsWellFormed model.now }
+    requires of_model { routes.now.visits ≡ visits model.now }
+{
+    let mut count: u64 = 0;
+    let start = Instant::now(rt)?;
+    for _ in 0..rounds {
+        count = count.wrapping_add(changes_of_all(model, routes, change));
+    }
+    let nanos = start.elapsed(rt)?.as_nanos();
+    Ok(Timed {
+        calls: u128::from(count),
+        sum: 0,
+        nanos,
+    })
+}
+
+/// Prints the times of listing a move and making its change.
+pub(crate) fn time_moves(
+    rt: &HostRuntime,
+    model: &Model,
+    routes: &Routes,
+    rounds: u32,
+) -> Result<(), Stop>
+    requires well_formed { IsWellFormed model.now }
+    requires of_model { routes.now.visits ≡ visits model.now }
+{
+    for _ in 0..TIMES {
+        let timed = time_rounds(rt, model, routes, rounds, &mut Change::blank())?;
+        report(rt, "moves", timed)?;
+    }
+    Ok(())
+}
