@@ -1,6 +1,5 @@
 -- How guided local search begins: it tells of the first solution, and what is left is the search from there.
-use Rattle.std.proofs.Common.{◌≡◌, ◌∙◌, ℕ, ◌≤◌, List, [], ◌∷◌, length, sym, ap, subst, arith}
-use Rattle.std.specs.Prelude.{IsTrue}
+use Rattle.std.proofs.Common.{◌≡◌, ◌∙◌, ℕ, ◌≤◌, List, [], ◌∷◌, sym, ap, subst, arith}
 use Rattle.vr_model.specs.routes.Costs.{cost}
 use Rattle.vr_model.specs.routes.Rules.{is_valid}
 use Rattle.vr_model.specs.search.GuidedSearches.{guided, no_penalties}
@@ -16,7 +15,7 @@ use Rattle.vr_watch.specs.Told.{Told, ToldInPart}
 use Rattle.vr_watch.proofs.ToldLemmas.{told_nothing}
 use Rattle.vr_descent.proofs.GoingOn.{Goes, behind, breaks_off, goes_more}
 use Rattle.vr_descent.specs.declared.progress.Progress.{Progress}
-use Rattle.vr_guided.specs.Counts.{AtMost, counted}
+use Rattle.vr_guided.specs.Counts.{AtMost}
 use Rattle.vr_guided.specs.Standing.{IsBegun, Stands, from_here, from_state}
 use Rattle.vr_guided.specs.declared.searching.State.{State}
 use Rattle.vr_guided.proofs.GuidedLemmas.{at_start, none_at_first}
