@@ -46,7 +46,7 @@ fn word_of(alloc: Global, model: &Model, routes: &Routes, mv: Move) -> Result<&'
     match said {
         Ok(Verdict::Difference(_)) => Ok("passes"),
         Ok(Verdict::Refused) => Ok("refused"),
-        Err(NoMemory) => Ok("no memory in judge"),
+        Err(_) => Ok("no memory in judge"),
     }
 }
 
@@ -68,7 +68,8 @@ pub(crate) fn print_verdict(
         a: place,
         b: place.saturating_add(1),
     };
-    if !Change::of_into(model, routes, mv, &mut Change::blank()) {
+    let mut change = Change::blank();
+    if !Change::of_into(model, routes, mv, &mut change) {
         return Err(Stop::NoRoute);
     }
     let word = word_of(alloc, model, routes, mv)?;

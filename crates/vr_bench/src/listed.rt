@@ -85,8 +85,9 @@ pub(crate) fn time_moves(
     requires well_formed { IsWellFormed model.now }
     requires of_model { routes.now.visits ≡ visits model.now }
 {
+    let mut change = Change::blank();
     for _ in 0..TIMES {
-        let timed = time_rounds(rt, model, routes, rounds, &mut Change::blank())?;
+        let timed = time_rounds(rt, model, routes, rounds, &mut change)?;
         report(rt, "moves", timed)?;
     }
     Ok(())

@@ -1,6 +1,7 @@
 //! The chosen schedule of a list.
 
 ghost use Rattle.std.specs.Prelude.{IfOk, IsTrue};
+ghost use Rattle.vr_model.specs.routes.Routes.{are_lists};
 ghost use Rattle.vr_model.specs.routes.Rules.{is_valid};
 ghost use Rattle.vr_model.specs.tables.WellFormed.{IsWellFormed};
 ghost use Rattle.vr_steps.specs.Lines.{IsSoundLine};
@@ -17,7 +18,7 @@ use vr_steps::Line;
 // The line of the list of vehicle 0 in dimension 0.
 fn first_line(alloc: Global, model: &Model, routes: &Routes) -> Result<Line, Stop>
     requires well_formed { IsWellFormed model.now }
-    requires valid { IsTrue (is_valid model.now routes.now.lists) }
+    requires lists { IsTrue (are_lists model.now routes.now.lists) }
     ensures { IfOk result IsSoundLine }
 {
     if model.dimensions.len() == 0 || routes.len(0) == 0 {
