@@ -22,14 +22,18 @@ any_tree path d = Ok d
 abbrev pub checked_fields : List (List ℕ)
 checked_fields = codes "model" ∷ codes "solution" ∷ []
 
--- what is checked, or the first fault: those of the model at its place, then that there is no solution, then an unknown
--- field
-unfoldable pub checked_at : ReaderOf Checked
-checked_at path d = do
-  model ← required (codes "model") read_model path d
+-- what is checked of a model that was read, or the first fault: that there is no solution, then an unknown field
+abbrev pub checked_with : Model → ReaderOf Checked
+checked_with model path d = do
   solution ← required (codes "solution") any_tree path d
   others ← known checked_fields path d
   Ok (record { model = model; solution = solution })
+
+-- what is checked, or the first fault: those of the model at its place, then those behind it
+unfoldable pub checked_at : ReaderOf Checked
+checked_at path d = do
+  model ← required (codes "model") read_model path d
+  checked_with model path d
 
 -- the same of a whole input
 abbrev pub checked_of : Data → Result Checked Fault

@@ -6,7 +6,7 @@ ghost use Rattle.vr_json.specs.Reading.{Answers, required as field_of, seen};
 ghost use Rattle.vr_model.specs.tables.WellFormed.{IsWellFormed};
 ghost use Rattle.vr_read.specs.Models.{read_model as model_at};
 ghost use Rattle.vr_replies.specs.Answers.{AnswersReply, IsOfChecking};
-ghost use Rattle.vr_replies.specs.Checked.{any_tree, checked_at, checked_of, found_in};
+ghost use Rattle.vr_replies.specs.Checked.{any_tree, checked_at, checked_of, checked_with, found_in};
 ghost use Rattle.vr_replies.specs.Reply as replies;
 
 use crate::answer::{Answer, line, refused};
@@ -63,15 +63,28 @@ fn solution_in<'a>(alloc: Global, value: &'a Value, path: &Path) -> Result<&'a V
     }
 }
 
+// What the check of a model finds of the solution beside it, in an object of these two.
+fn finding_with(
+    alloc: Global,
+    model: &Model,
+    value: &Value,
+    path: &Path,
+) -> Result<Finding, ReadFail>
+    requires { IsWellFormed model.now }
+    ensures { Answers result (seen found_in (checked_with model.now path.now (view value.now))) }
+{
+    let solution = solution_in(alloc, value, path)?;
+    known(alloc, value, &["model", "solution"], path)?;
+    let found = check(alloc, model, solution)?;
+    Ok(found)
+}
+
 // What the check of a model and a solution finds, in an object of these two.
 fn finding_in(alloc: Global, value: &Value, path: &Path) -> Result<Finding, ReadFail>
     ensures { Answers result (seen found_in (checked_at path.now (view value.now))) }
 {
     let model = model_in(alloc, value, path)?;
-    let solution = solution_in(alloc, value, path)?;
-    known(alloc, value, &["model", "solution"], path)?;
-    let found = check(alloc, &model, solution)?;
-    Ok(found)
+    finding_with(alloc, &model, value, path)
 }
 
 // The same, where that object is the whole input.

@@ -1,9 +1,10 @@
 //! The trees of the texts that tell no solution.
 
 ghost use Rattle.std.specs.Prelude.{◌≡◌, IfOk, OnOk};
-ghost use Rattle.serde_json.specs.Data.{no_members, object};
+ghost use Rattle.serde_json.specs.Data.{no_members, object, put, string};
 ghost use Rattle.serde_json.specs.View.{view};
 ghost use Rattle.vr_json.specs.Trees.{members_put};
+ghost use Rattle.vr_print.specs.Numbers.{count, whole};
 ghost use Rattle.vr_replies.specs.Texts as texts;
 
 use serde_json::{Value, json};
@@ -20,13 +21,45 @@ pub(crate) fn status_tree(alloc: Global, status: &str) -> Result<Value, NoMemory
     Ok(json!(in alloc; {"status": status})?)
 }
 
+// Puts a text.
+fn put_text(alloc: Global, tree: &mut Tree, key: &str, text: &str) -> Result<(), NoMemory>
+    ensures { OnOk result (members_put tree.new ≡ put key.now (string text.now) (members_put tree.old)) }
+{
+    tree.put(key, Value::String(String::from_str(alloc, text)?))
+}
+
+// Puts a number that counts something.
+fn put_count(tree: &mut Tree, key: &str, number: u64) -> Result<(), NoMemory>
+    ensures { OnOk result (members_put tree.new ≡ put key.now (count number) (members_put tree.old)) }
+{
+    tree.put(key, Value::from(number))
+}
+
+// Puts a whole number.
+fn put_whole(tree: &mut Tree, key: &str, number: i64) -> Result<(), NoMemory>
+    ensures { OnOk result (members_put tree.new ≡ put key.now (whole number) (members_put tree.old)) }
+{
+    tree.put(key, Value::from(number))
+}
+
 /// The tree of a refusal.
-#[tactic(auto, unfolding(crate::specs::Texts::refused_tree))]
 pub(crate) fn refused_tree(alloc: Global, fault: &Fault) -> Result<Value, NoMemory>
     ensures { IfOk result (λ v. view v ≡ texts.refused_tree fault.now) }
 {
-    let path = fault.path.as_str();
-    Ok(json!(in alloc; {"code": fault.code as u64, "path": path, "status": "ROUTING_INVALID"})?)
+    let mut tree = Tree::new(alloc);
+    put_refusal(alloc, &mut tree, fault)?;
+    Ok(tree.finish())
+}
+
+// Puts the keys of a refusal into a tree that has none.
+#[tactic(auto, unfolding(crate::specs::Texts::refused_tree))]
+fn put_refusal(alloc: Global, tree: &mut Tree, fault: &Fault) -> Result<(), NoMemory>
+    requires { members_put tree.old ≡ no_members }
+    ensures { OnOk result (object (members_put tree.new) ≡ texts.refused_tree fault.now) }
+{
+    put_count(tree, "code", fault.code as u64)?;
+    put_text(alloc, tree, "path", fault.path.as_str())?;
+    put_text(alloc, tree, "status", "ROUTING_INVALID")
 }
 
 /// The tree of a solution that meets the rules of its model, and costs so much.
@@ -38,7 +71,6 @@ pub(crate) fn met_tree(alloc: Global, cost: i64) -> Result<Value, NoMemory>
 }
 
 /// The tree of the first rule that a solution breaks, with its vehicle and place.
-#[tactic(auto, unfolding(crate::specs::Texts::not_met_tree))]
 pub(crate) fn not_met_tree(
     alloc: Global,
     rule: Rule,
@@ -47,8 +79,27 @@ pub(crate) fn not_met_tree(
 ) -> Result<Value, NoMemory>
     ensures { IfOk result (λ v. view v ≡ texts.not_met_tree rule vehicle place) }
 {
-    let word = rule.word();
-    Ok(json!(in alloc; {"place": place, "rule": word, "status": "NOT_MET", "vehicle": vehicle})?)
+    let mut tree = Tree::new(alloc);
+    put_broken(alloc, &mut tree, rule, vehicle, place)?;
+    Ok(tree.finish())
+}
+
+// Puts the keys of a broken rule into a tree that has none.
+#[tactic(auto, unfolding(crate::specs::Texts::not_met_tree))]
+fn put_broken(
+    alloc: Global,
+    tree: &mut Tree,
+    rule: Rule,
+    vehicle: i64,
+    place: i64,
+) -> Result<(), NoMemory>
+    requires { members_put tree.old ≡ no_members }
+    ensures { OnOk result (object (members_put tree.new) ≡ texts.not_met_tree rule vehicle place) }
+{
+    put_whole(tree, "place", place)?;
+    put_text(alloc, tree, "rule", rule.word())?;
+    put_text(alloc, tree, "status", "NOT_MET")?;
+    put_whole(tree, "vehicle", vehicle)
 }
 
 /// What the search of the model of a number gave, in short.
@@ -79,11 +130,11 @@ fn put_summary(alloc: Global, tree: &mut Tree, summary: &Summary) -> Result<(), 
     requires { members_put tree.old ≡ no_members }
     ensures { OnOk result (object (members_put tree.new) ≡ texts.summary_tree summary.now) }
 {
-    tree.put("cost", Value::from(summary.cost))?;
-    tree.put("dropped", Value::from(summary.dropped))?;
-    tree.put("first_cost", Value::from(summary.first_cost))?;
-    tree.put("number", Value::from(summary.number))?;
-    tree.put("status", Value::String(String::from_str(alloc, "DEMO")?))?;
-    tree.put("tries", Value::from(summary.tries))?;
-    tree.put("used", Value::from(summary.used))
+    put_whole(tree, "cost", summary.cost)?;
+    put_count(tree, "dropped", summary.dropped)?;
+    put_whole(tree, "first_cost", summary.first_cost)?;
+    put_count(tree, "number", summary.number)?;
+    put_text(alloc, tree, "status", "DEMO")?;
+    put_count(tree, "tries", summary.tries)?;
+    put_count(tree, "used", summary.used)
 }
