@@ -1,8 +1,8 @@
 //! Searches that go from lists to neighbouring lists: the scan of a list of moves, and greedy descent.
 //!
-//! A search is scan after scan. A scan ([`scan`]) tries the moves of all neighbourhoods, in the one order of [`moves`], up
-//! to the first that is acceptable: the lists after it are valid, and [`Accept`] takes it. [`Progress`] makes that move,
-//! counts tries and solutions, and tells the watchers. [`descend`] takes each move that makes the cost less.
+//! A search is scan after scan. A scan ([`scan`]) tries the moves of all neighbourhoods, in the one order of [`moves`],
+//! up to the first that is acceptable: the lists after it are valid, and [`Accept`] takes it. [`Progress`] makes that
+//! move, counts tries and solutions, and tells the watchers. [`descend`] takes each move that makes the cost less.
 //!
 //! Between scans routes and judge hold the same valid lists, whose cost is known, and what the definition tells of the
 //! whole search is what was told already, and behind that what it tells of the search from here.

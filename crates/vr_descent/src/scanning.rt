@@ -63,8 +63,8 @@ pub fn scan<J: Judge, A: Accept, L: Ledger>(
     scan_list(model, judge, routes, accept, rest, &mut list, steps)
 }
 
-// The scan of a list of all moves, at most `rest` of them. The list is lent, so that where the scan ends there is less to
-// let go.
+// The scan of a list of all moves, at most `rest` of them. The list is lent, so that where the scan ends there is less
+// to let go.
 #[inline(always)]
 fn scan_list<J: Judge, A: Accept, L: Ledger>(
     model: &Model,

@@ -24,7 +24,8 @@ use Rattle.vr_model.proofs.routes.Lists.{are-lists, are_lists-count}
 use Rattle.vr_model.proofs.searches.SearchBounds.{guided_bound_unmet}
 use Rattle.vr_descent.specs.Searching.{events_after, move_event, scan_of}
 use Rattle.vr_descent.proofs.EndLemmas.{accepted_where, completed_where}
-use Rattle.vr_descent.proofs.GoingOn.{behind}
+use Rattle.vr_descent.proofs.GoingOn.{Goes, behind, breaks_off, goes_as, goes_more}
+use Rattle.vr_watch.specs.Told.{Told, ToldInPart}
 use Rattle.vr_guided.specs.Counts.{AtMost}
 use Rattle.vr_guided.specs.Guides.{makes_less}
 use Rattle.vr_guided.specs.Standing.{IsBest, standing, from_here}
@@ -113,6 +114,25 @@ module _ (model : Model) (limit : Limit) (lambda : Lambda) where
             scanned e (accepted_as n mv) h ∙ ap (with_event (move_event model lists mv (used + n))) (goes_on n mv at.from_one at.within)
         go (complete n) h = scanned e (complete n) h ∙ stuck n (completed_where model (makes_less model lambda penalties) lists (limit.tries - used) n h) (is_at_end model (standing lists best used found) n) refl
         go cut h = scanned e cut h
+
+-- a scan goes on with the search: its events are told, whole or in part
+module _ (model : Model) (limit : Limit) (lambda : Lambda) (penalties : Penalties) (lists best : List (List ℕ)) (used found : ℕ) where
+  abbrev scan : Scan
+  scan = scan_of model (makes_less model lambda penalties) limit lists used
+
+  abbrev told_by : List Event
+  told_by = events_after model lists used scan
+
+  module _ {W : Type 0} (after : W → List Event → List ℕ) (whole : Outcome) (a b c : List W) (more : (found == limit.solutions) ≡ false)
+      (goes : Goes after whole (from_here model limit lambda penalties lists best used found) a b) where
+    on : Goes after whole (behind told_by (left_after model limit lambda penalties lists best used found scan)) a b
+    on = goes_as after whole _ _ a b (on_scan model limit lambda penalties lists best used found more) goes
+
+    pub after_scan : Told after b c told_by → Goes after whole (left_after model limit lambda penalties lists best used found scan) a c
+    after_scan told = goes_more after whole _ told_by a b c on told
+
+    pub scan_in_part : ToldInPart after b c told_by → ToldInPart after a c whole.events
+    scan_in_part told = breaks_off after whole _ told_by a b c on told
 
 -- the better of two
 pub better : (model : Model) (visits : List ℕ) (best new : Incumbent) (b : Bool) → IsBest model visits best → IsBest model visits new → IsBest model visits (cond b new best)

@@ -1,10 +1,10 @@
 //! Guided local search, and the improvement of a first solution by whichever search a model names: nothing, greedy
 //! descent or guided local search.
 //!
-//! [`improve`] is the entry of all searches, over any judge of moves. [`guide`] scans as a descent does, by the cost with
-//! penalties: at each local optimum a penalty rises on those used arcs whose cost is greatest beside what they were
-//! penalised already, which leads the search away. What a move makes of the penalised arc costs is told by the stretches
-//! that its change touches (`changing`), with sums along the lists of vehicles (`route_sums`).
+//! [`improve`] is the entry of all searches, over any judge of moves. [`guide`] scans as a descent does, by the cost
+//! with penalties: at each local optimum a penalty rises on those used arcs whose cost is greatest beside what they
+//! were penalised already, which leads the search away. What a move makes of the penalised arc costs is told by the
+//! stretches that its change touches (`changing`), with sums along the lists of vehicles (`route_sums`).
 //!
 //! Between scans the sums are those of the lists and the penalties, no arc was penalised more often than a move was
 //! tried, and the best lists so far are valid and of known cost; routes and judge stand as in `vr_descent`.

@@ -11,7 +11,7 @@ use Rattle.vr_routes.specs.Judging.{moved}
 use Rattle.vr_watch.specs.Told.{Told, ToldInPart}
 use Rattle.vr_model.proofs.tables.Refusals.{on_err}
 use Rattle.vr_watch.proofs.ToldLemmas.{told_nothing}
-use Rattle.vr_descent.specs.Searching.{after_move, event_of, events_after, progress_after, routes_after, scan_of}
+use Rattle.vr_descent.specs.Searching.{after_move, event_of, progress_after, routes_after}
 use Rattle.vr_descent.proofs.EndLemmas.{accepted_at, completed, was_cut}
 use Rattle.vr_descent.proofs.GoingOn.{Goes, breaks_off, goes_as, goes_more, goes_to_end}
 use Rattle.vr_descent.proofs.DescentLemmas.{same_count}
@@ -20,7 +20,7 @@ use Rattle.vr_guided.specs.Counts.{AtMost, counted}
 use Rattle.vr_guided.specs.Guides.{makes_less}
 use Rattle.vr_guided.specs.RouteSums.{AreAllRouteSums}
 use Rattle.vr_guided.specs.Standing.{IsBest, from_here, from_state, standing}
-use Rattle.vr_guided.proofs.GuidedLemmas.{as_many, at_end, at_round, better, costly_of, ends_so, enough, few_more, few_raised, kept_lists, kept_no_dearer, left_after, on_scan, some_moves}
+use Rattle.vr_guided.proofs.GuidedLemmas.{after_scan, as_many, at_end, at_round, better, costly_of, ends_so, enough, few_more, few_raised, kept_lists, kept_no_dearer, left_after, scan_in_part, some_moves}
 use Rattle.vr_guided.proofs.searching.improve.Goals as goal
 
 pub invariant_of-guiding : goal.invariant_of-guiding
@@ -89,7 +89,7 @@ advance-requires-clause-found g c =
 pub returns-in_err-ended-clause-told_in_part : goal.returns-in_err-ended-clause-told_in_part
 returns-in_err-ended-clause-told_in_part g c =
     let more = apart c.scans.state.at.found c.args.limit.solutions c.scans-test.true in
-    on_err c.from_residual.result (breaks_off (λ w. (goal.Watch-dyn g (w.vtable, w.value)).after w.value) (from_state c.args.model.now c.args.limit c.args.lambda c.args.routes.now.lists c.args.state.now) (left_after c.args.model.now c.args.limit c.args.lambda (counted c.scans.state.penalties) c.scans.routes.lists c.scans.state.best.routes.lists c.scans.state.at.used c.scans.state.at.found (scan_of c.args.model.now (makes_less c.args.model.now c.args.lambda (counted c.scans.state.penalties)) c.args.limit c.scans.routes.lists c.scans.state.at.used)) (events_after c.args.model.now c.scans.routes.lists c.scans.state.at.used (scan_of c.args.model.now (makes_less c.args.model.now c.args.lambda (counted c.scans.state.penalties)) c.args.limit c.scans.routes.lists c.scans.state.at.used)) _ _ _ (goes_as (λ w. (goal.Watch-dyn g (w.vtable, w.value)).after w.value) (from_state c.args.model.now c.args.limit c.args.lambda c.args.routes.now.lists c.args.state.now) _ _ _ _ (on_scan c.args.model.now c.args.limit c.args.lambda (counted c.scans.state.penalties) c.scans.routes.lists c.scans.state.best.routes.lists c.scans.state.at.used c.scans.state.at.found more) c.scans.invariant.goes) c.in_err-ended.ensures.told_in_part)
+    on_err c.from_residual.result (scan_in_part c.args.model.now c.args.limit c.args.lambda (counted c.scans.state.penalties) c.scans.routes.lists c.scans.state.best.routes.lists c.scans.state.at.used c.scans.state.at.found (λ w. (goal.Watch-dyn g (w.vtable, w.value)).after w.value) (from_state c.args.model.now c.args.limit c.args.lambda c.args.routes.now.lists c.args.state.now) _ _ _ more c.scans.invariant.goes c.in_err-ended.ensures.told_in_part)
 
 pub returns-in_err-ended-clause-asked_at_most : goal.returns-in_err-ended-clause-asked_at_most
 returns-in_err-ended-clause-asked_at_most g c =
@@ -117,7 +117,7 @@ scans-smaller-in-Accepted g c =
 pub scans-preserved-in-Accepted : goal.scans-preserved-in-Accepted
 scans-preserved-in-Accepted g c =
     let more = apart c.scans.state.at.found c.args.limit.solutions c.scans-test.true in
-    let after = goes_more (λ w. (goal.Watch-dyn g (w.vtable, w.value)).after w.value) (from_state c.args.model.now c.args.limit c.args.lambda c.args.routes.now.lists c.args.state.now) (left_after c.args.model.now c.args.limit c.args.lambda (counted c.scans.state.penalties) c.scans.routes.lists c.scans.state.best.routes.lists c.scans.state.at.used c.scans.state.at.found (scan_of c.args.model.now (makes_less c.args.model.now c.args.lambda (counted c.scans.state.penalties)) c.args.limit c.scans.routes.lists c.scans.state.at.used)) (events_after c.args.model.now c.scans.routes.lists c.scans.state.at.used (scan_of c.args.model.now (makes_less c.args.model.now c.args.lambda (counted c.scans.state.penalties)) c.args.limit c.scans.routes.lists c.scans.state.at.used)) _ _ _ (goes_as (λ w. (goal.Watch-dyn g (w.vtable, w.value)).after w.value) (from_state c.args.model.now c.args.limit c.args.lambda c.args.routes.now.lists c.args.state.now) _ _ _ _ (on_scan c.args.model.now c.args.limit c.args.lambda (counted c.scans.state.penalties) c.scans.routes.lists c.scans.state.best.routes.lists c.scans.state.at.used c.scans.state.at.found more) c.scans.invariant.goes) c.in_ok-ended.ensures.told in
+    let after = after_scan c.args.model.now c.args.limit c.args.lambda (counted c.scans.state.penalties) c.scans.routes.lists c.scans.state.best.routes.lists c.scans.state.at.used c.scans.state.at.found (λ w. (goal.Watch-dyn g (w.vtable, w.value)).after w.value) (from_state c.args.model.now c.args.limit c.args.lambda c.args.routes.now.lists c.args.state.now) _ _ _ more c.scans.invariant.goes c.in_ok-ended.ensures.told in
     let at = accepted_at c.args.model.now (makes_less c.args.model.now c.args.lambda (counted c.scans.state.penalties)) c.scans.routes.lists (c.args.limit.tries - c.scans.state.at.used) c.in-Accepted.place c.in-Accepted.mv c.in-Accepted.difference (sym c.in-Accepted.is ∙ c.in_ok-ended.ensures.ends) in
     let at_new : c.advance.new.self ≡ after_move c.args.model.now c.scans.routes.lists c.in-Accepted.mv c.in-Accepted.place c.scans.state.at = c.in_ok-ended.ensures.progress ∙ ap (progress_after c.args.model.now c.args.limit c.scans.routes.lists c.scans.state.at) at.scanned in
     let routes_new : c.advance.new.routes ≡ moved c.args.model.now c.scans.routes c.in-Accepted.mv = c.in_ok-ended.ensures.routes ∙ ap (routes_after c.args.model.now c.scans.routes) at.scanned in
@@ -211,7 +211,7 @@ returns-in_err-note_all-in-Complete-clause-holds g c =
 pub returns-in_err-note_all-in-Complete-clause-told_in_part : goal.returns-in_err-note_all-in-Complete-clause-told_in_part
 returns-in_err-note_all-in-Complete-clause-told_in_part g c =
     let more = apart c.scans.state.at.found c.args.limit.solutions c.scans-test.true in
-    let after = goes_more (λ w. (goal.Watch-dyn g (w.vtable, w.value)).after w.value) (from_state c.args.model.now c.args.limit c.args.lambda c.args.routes.now.lists c.args.state.now) (left_after c.args.model.now c.args.limit c.args.lambda (counted c.scans.state.penalties) c.scans.routes.lists c.scans.state.best.routes.lists c.scans.state.at.used c.scans.state.at.found (scan_of c.args.model.now (makes_less c.args.model.now c.args.lambda (counted c.scans.state.penalties)) c.args.limit c.scans.routes.lists c.scans.state.at.used)) (events_after c.args.model.now c.scans.routes.lists c.scans.state.at.used (scan_of c.args.model.now (makes_less c.args.model.now c.args.lambda (counted c.scans.state.penalties)) c.args.limit c.scans.routes.lists c.scans.state.at.used)) _ _ _ (goes_as (λ w. (goal.Watch-dyn g (w.vtable, w.value)).after w.value) (from_state c.args.model.now c.args.limit c.args.lambda c.args.routes.now.lists c.args.state.now) _ _ _ _ (on_scan c.args.model.now c.args.limit c.args.lambda (counted c.scans.state.penalties) c.scans.routes.lists c.scans.state.best.routes.lists c.scans.state.at.used c.scans.state.at.found more) c.scans.invariant.goes) c.in_ok-ended.ensures.told in
+    let after = after_scan c.args.model.now c.args.limit c.args.lambda (counted c.scans.state.penalties) c.scans.routes.lists c.scans.state.best.routes.lists c.scans.state.at.used c.scans.state.at.found (λ w. (goal.Watch-dyn g (w.vtable, w.value)).after w.value) (from_state c.args.model.now c.args.limit c.args.lambda c.args.routes.now.lists c.args.state.now) _ _ _ more c.scans.invariant.goes c.in_ok-ended.ensures.told in
     let done = completed c.args.model.now (makes_less c.args.model.now c.args.lambda (counted c.scans.state.penalties)) c.scans.routes.lists (c.args.limit.tries - c.scans.state.at.used) c.in-Complete.length (sym c.in-Complete.is ∙ c.in_ok-ended.ensures.ends) in
     let scanned = done.0 in
     let low = done.1 in
@@ -235,7 +235,7 @@ returns-in_err-note_all-in-Complete-clause-asked_at_most g c =
 pub scans-preserved : goal.scans-preserved
 scans-preserved g c =
     let more = apart c.scans.state.at.found c.args.limit.solutions c.scans-test.true in
-    let after = goes_more (λ w. (goal.Watch-dyn g (w.vtable, w.value)).after w.value) (from_state c.args.model.now c.args.limit c.args.lambda c.args.routes.now.lists c.args.state.now) (left_after c.args.model.now c.args.limit c.args.lambda (counted c.scans.state.penalties) c.scans.routes.lists c.scans.state.best.routes.lists c.scans.state.at.used c.scans.state.at.found (scan_of c.args.model.now (makes_less c.args.model.now c.args.lambda (counted c.scans.state.penalties)) c.args.limit c.scans.routes.lists c.scans.state.at.used)) (events_after c.args.model.now c.scans.routes.lists c.scans.state.at.used (scan_of c.args.model.now (makes_less c.args.model.now c.args.lambda (counted c.scans.state.penalties)) c.args.limit c.scans.routes.lists c.scans.state.at.used)) _ _ _ (goes_as (λ w. (goal.Watch-dyn g (w.vtable, w.value)).after w.value) (from_state c.args.model.now c.args.limit c.args.lambda c.args.routes.now.lists c.args.state.now) _ _ _ _ (on_scan c.args.model.now c.args.limit c.args.lambda (counted c.scans.state.penalties) c.scans.routes.lists c.scans.state.best.routes.lists c.scans.state.at.used c.scans.state.at.found more) c.scans.invariant.goes) c.in_ok-ended.ensures.told in
+    let after = after_scan c.args.model.now c.args.limit c.args.lambda (counted c.scans.state.penalties) c.scans.routes.lists c.scans.state.best.routes.lists c.scans.state.at.used c.scans.state.at.found (λ w. (goal.Watch-dyn g (w.vtable, w.value)).after w.value) (from_state c.args.model.now c.args.limit c.args.lambda c.args.routes.now.lists c.args.state.now) _ _ _ more c.scans.invariant.goes c.in_ok-ended.ensures.told in
     let done = completed c.args.model.now (makes_less c.args.model.now c.args.lambda (counted c.scans.state.penalties)) c.scans.routes.lists (c.args.limit.tries - c.scans.state.at.used) c.in-Complete.length (sym c.in-Complete.is ∙ c.in_ok-ended.ensures.ends) in
     let scanned = done.0 in
     let low = done.1 in
@@ -275,7 +275,7 @@ scans-preserved g c =
 pub returns-then-is_stuck-clause-outcome : goal.returns-then-is_stuck-clause-outcome
 returns-then-is_stuck-clause-outcome g c =
     let more = apart c.scans.state.at.found c.args.limit.solutions c.scans-test.true in
-    let after = goes_more (λ w. (goal.Watch-dyn g (w.vtable, w.value)).after w.value) (from_state c.args.model.now c.args.limit c.args.lambda c.args.routes.now.lists c.args.state.now) (left_after c.args.model.now c.args.limit c.args.lambda (counted c.scans.state.penalties) c.scans.routes.lists c.scans.state.best.routes.lists c.scans.state.at.used c.scans.state.at.found (scan_of c.args.model.now (makes_less c.args.model.now c.args.lambda (counted c.scans.state.penalties)) c.args.limit c.scans.routes.lists c.scans.state.at.used)) (events_after c.args.model.now c.scans.routes.lists c.scans.state.at.used (scan_of c.args.model.now (makes_less c.args.model.now c.args.lambda (counted c.scans.state.penalties)) c.args.limit c.scans.routes.lists c.scans.state.at.used)) _ _ _ (goes_as (λ w. (goal.Watch-dyn g (w.vtable, w.value)).after w.value) (from_state c.args.model.now c.args.limit c.args.lambda c.args.routes.now.lists c.args.state.now) _ _ _ _ (on_scan c.args.model.now c.args.limit c.args.lambda (counted c.scans.state.penalties) c.scans.routes.lists c.scans.state.best.routes.lists c.scans.state.at.used c.scans.state.at.found more) c.scans.invariant.goes) c.in_ok-ended.ensures.told in
+    let after = after_scan c.args.model.now c.args.limit c.args.lambda (counted c.scans.state.penalties) c.scans.routes.lists c.scans.state.best.routes.lists c.scans.state.at.used c.scans.state.at.found (λ w. (goal.Watch-dyn g (w.vtable, w.value)).after w.value) (from_state c.args.model.now c.args.limit c.args.lambda c.args.routes.now.lists c.args.state.now) _ _ _ more c.scans.invariant.goes c.in_ok-ended.ensures.told in
     let done = completed c.args.model.now (makes_less c.args.model.now c.args.lambda (counted c.scans.state.penalties)) c.scans.routes.lists (c.args.limit.tries - c.scans.state.at.used) c.in-Complete.length (sym c.in-Complete.is ∙ c.in_ok-ended.ensures.ends) in
     let scanned = done.0 in
     let low = done.1 in
@@ -289,7 +289,7 @@ returns-then-is_stuck-clause-outcome g c =
 pub returns-then-is_stuck-clause-told : goal.returns-then-is_stuck-clause-told
 returns-then-is_stuck-clause-told g c =
     let more = apart c.scans.state.at.found c.args.limit.solutions c.scans-test.true in
-    let after = goes_more (λ w. (goal.Watch-dyn g (w.vtable, w.value)).after w.value) (from_state c.args.model.now c.args.limit c.args.lambda c.args.routes.now.lists c.args.state.now) (left_after c.args.model.now c.args.limit c.args.lambda (counted c.scans.state.penalties) c.scans.routes.lists c.scans.state.best.routes.lists c.scans.state.at.used c.scans.state.at.found (scan_of c.args.model.now (makes_less c.args.model.now c.args.lambda (counted c.scans.state.penalties)) c.args.limit c.scans.routes.lists c.scans.state.at.used)) (events_after c.args.model.now c.scans.routes.lists c.scans.state.at.used (scan_of c.args.model.now (makes_less c.args.model.now c.args.lambda (counted c.scans.state.penalties)) c.args.limit c.scans.routes.lists c.scans.state.at.used)) _ _ _ (goes_as (λ w. (goal.Watch-dyn g (w.vtable, w.value)).after w.value) (from_state c.args.model.now c.args.limit c.args.lambda c.args.routes.now.lists c.args.state.now) _ _ _ _ (on_scan c.args.model.now c.args.limit c.args.lambda (counted c.scans.state.penalties) c.scans.routes.lists c.scans.state.best.routes.lists c.scans.state.at.used c.scans.state.at.found more) c.scans.invariant.goes) c.in_ok-ended.ensures.told in
+    let after = after_scan c.args.model.now c.args.limit c.args.lambda (counted c.scans.state.penalties) c.scans.routes.lists c.scans.state.best.routes.lists c.scans.state.at.used c.scans.state.at.found (λ w. (goal.Watch-dyn g (w.vtable, w.value)).after w.value) (from_state c.args.model.now c.args.limit c.args.lambda c.args.routes.now.lists c.args.state.now) _ _ _ more c.scans.invariant.goes c.in_ok-ended.ensures.told in
     let done = completed c.args.model.now (makes_less c.args.model.now c.args.lambda (counted c.scans.state.penalties)) c.scans.routes.lists (c.args.limit.tries - c.scans.state.at.used) c.in-Complete.length (sym c.in-Complete.is ∙ c.in_ok-ended.ensures.ends) in
     let scanned = done.0 in
     let low = done.1 in
@@ -341,7 +341,7 @@ returns-then-is_stuck-clause-holds g c =
 pub returns-in-Cut-clause-outcome : goal.returns-in-Cut-clause-outcome
 returns-in-Cut-clause-outcome g c =
     let more = apart c.scans.state.at.found c.args.limit.solutions c.scans-test.true in
-    let after = goes_more (λ w. (goal.Watch-dyn g (w.vtable, w.value)).after w.value) (from_state c.args.model.now c.args.limit c.args.lambda c.args.routes.now.lists c.args.state.now) (left_after c.args.model.now c.args.limit c.args.lambda (counted c.scans.state.penalties) c.scans.routes.lists c.scans.state.best.routes.lists c.scans.state.at.used c.scans.state.at.found (scan_of c.args.model.now (makes_less c.args.model.now c.args.lambda (counted c.scans.state.penalties)) c.args.limit c.scans.routes.lists c.scans.state.at.used)) (events_after c.args.model.now c.scans.routes.lists c.scans.state.at.used (scan_of c.args.model.now (makes_less c.args.model.now c.args.lambda (counted c.scans.state.penalties)) c.args.limit c.scans.routes.lists c.scans.state.at.used)) _ _ _ (goes_as (λ w. (goal.Watch-dyn g (w.vtable, w.value)).after w.value) (from_state c.args.model.now c.args.limit c.args.lambda c.args.routes.now.lists c.args.state.now) _ _ _ _ (on_scan c.args.model.now c.args.limit c.args.lambda (counted c.scans.state.penalties) c.scans.routes.lists c.scans.state.best.routes.lists c.scans.state.at.used c.scans.state.at.found more) c.scans.invariant.goes) c.in_ok-ended.ensures.told in
+    let after = after_scan c.args.model.now c.args.limit c.args.lambda (counted c.scans.state.penalties) c.scans.routes.lists c.scans.state.best.routes.lists c.scans.state.at.used c.scans.state.at.found (λ w. (goal.Watch-dyn g (w.vtable, w.value)).after w.value) (from_state c.args.model.now c.args.limit c.args.lambda c.args.routes.now.lists c.args.state.now) _ _ _ more c.scans.invariant.goes c.in_ok-ended.ensures.told in
     let scanned = was_cut c.args.model.now (makes_less c.args.model.now c.args.lambda (counted c.scans.state.penalties)) c.scans.routes.lists (c.args.limit.tries - c.scans.state.at.used) (sym c.in-Cut.is ∙ c.in_ok-ended.ensures.ends) in
     let at_new : c.advance.new.self ≡ record { used = c.args.limit.tries; found = c.scans.state.at.found; cost = c.scans.state.at.cost } = c.in_ok-ended.ensures.progress ∙ ap (progress_after c.args.model.now c.args.limit c.scans.routes.lists c.scans.state.at) scanned in
     let routes_new : c.advance.new.routes ≡ c.scans.routes = c.in_ok-ended.ensures.routes ∙ ap (routes_after c.args.model.now c.scans.routes) scanned in
@@ -353,7 +353,7 @@ returns-in-Cut-clause-outcome g c =
 pub returns-in-Cut-clause-told : goal.returns-in-Cut-clause-told
 returns-in-Cut-clause-told g c =
     let more = apart c.scans.state.at.found c.args.limit.solutions c.scans-test.true in
-    let after = goes_more (λ w. (goal.Watch-dyn g (w.vtable, w.value)).after w.value) (from_state c.args.model.now c.args.limit c.args.lambda c.args.routes.now.lists c.args.state.now) (left_after c.args.model.now c.args.limit c.args.lambda (counted c.scans.state.penalties) c.scans.routes.lists c.scans.state.best.routes.lists c.scans.state.at.used c.scans.state.at.found (scan_of c.args.model.now (makes_less c.args.model.now c.args.lambda (counted c.scans.state.penalties)) c.args.limit c.scans.routes.lists c.scans.state.at.used)) (events_after c.args.model.now c.scans.routes.lists c.scans.state.at.used (scan_of c.args.model.now (makes_less c.args.model.now c.args.lambda (counted c.scans.state.penalties)) c.args.limit c.scans.routes.lists c.scans.state.at.used)) _ _ _ (goes_as (λ w. (goal.Watch-dyn g (w.vtable, w.value)).after w.value) (from_state c.args.model.now c.args.limit c.args.lambda c.args.routes.now.lists c.args.state.now) _ _ _ _ (on_scan c.args.model.now c.args.limit c.args.lambda (counted c.scans.state.penalties) c.scans.routes.lists c.scans.state.best.routes.lists c.scans.state.at.used c.scans.state.at.found more) c.scans.invariant.goes) c.in_ok-ended.ensures.told in
+    let after = after_scan c.args.model.now c.args.limit c.args.lambda (counted c.scans.state.penalties) c.scans.routes.lists c.scans.state.best.routes.lists c.scans.state.at.used c.scans.state.at.found (λ w. (goal.Watch-dyn g (w.vtable, w.value)).after w.value) (from_state c.args.model.now c.args.limit c.args.lambda c.args.routes.now.lists c.args.state.now) _ _ _ more c.scans.invariant.goes c.in_ok-ended.ensures.told in
     let scanned = was_cut c.args.model.now (makes_less c.args.model.now c.args.lambda (counted c.scans.state.penalties)) c.scans.routes.lists (c.args.limit.tries - c.scans.state.at.used) (sym c.in-Cut.is ∙ c.in_ok-ended.ensures.ends) in
     let at_new : c.advance.new.self ≡ record { used = c.args.limit.tries; found = c.scans.state.at.found; cost = c.scans.state.at.cost } = c.in_ok-ended.ensures.progress ∙ ap (progress_after c.args.model.now c.args.limit c.scans.routes.lists c.scans.state.at) scanned in
     let routes_new : c.advance.new.routes ≡ c.scans.routes = c.in_ok-ended.ensures.routes ∙ ap (routes_after c.args.model.now c.scans.routes) scanned in
