@@ -9,7 +9,7 @@ use crate::report::{TIMES, Timed, report};
 use crate::stop::Stop;
 use std::alloc::Global;
 use std::time::Instant;
-use vr_descent::moves;
+use vr_descent::{MoveList, moves};
 use vr_model::{Model, Move, NoMemory};
 use vr_routes::{Change, Routes};
 
@@ -36,19 +36,33 @@ pub(crate) fn first_moves(
     Ok(kept)
 }
 
-// Lists all moves of the model's neighbourhoods and makes their changes; how many.
+// Makes the changes of the moves that are left of a list; how many.
 #[inline(never)]
-fn changes_of_all(model: &Model, routes: &Routes, change: &mut Change) -> u64
+fn changes_of_list(
+    model: &Model,
+    routes: &Routes,
+    list: &mut MoveList<'_>,
+    change: &mut Change,
+) -> u64
     requires well_formed { IsWellFormed model.now }
     requires of_model { routes.now.visits ≡ visits model.now }
 {
     let mut count: u64 = 0;
-    for mv in moves(model, routes) {
+    while let Some(mv) = list.next() {
         if Change::of_into(model, routes, mv, change) {
             count = count.wrapping_add(1);
         }
     }
     count
+}
+
+// Lists all moves of the model's neighbourhoods and makes their changes; how many.
+fn changes_of_all(model: &Model, routes: &Routes, change: &mut Change) -> u64
+    requires well_formed { IsWellFormed model.now }
+    requires of_model { routes.now.visits ≡ visits model.now }
+{
+    let mut list = moves(model, routes);
+    changes_of_list(model, routes, &mut list, change)
 }
 
 // The time of so many rounds through all moves.

@@ -3,8 +3,8 @@
 //!
 //! `vr_bench WORK ROUNDS`. The works `crossing` and `meet` make what they need themselves. The others read a model from
 //! standard input and begin with its first solution by the cheapest arcs: `moves` lists the moves of the model's
-//! neighbourhoods and makes their changes, `judge` judges the first of them, and `schedule` asks for the chosen schedule
-//! of the first list in the first dimension. `bench/run` runs them beside plain Rust.
+//! neighbourhoods and makes their changes, `judge` judges the first of them, and `schedule` asks for the chosen
+//! schedule of the first list in the first dimension. `bench/run` runs them beside plain Rust.
 //!
 //! `vr_bench ask PLACE` takes no time: it prints what the judge says of one move of that solution, or that memory was
 //! wanting where it was asked. `bench/refuse` runs it. Without words nothing is printed.
