@@ -1,14 +1,14 @@
-//! What no contract says: that calls which take memory succeed, what std's readers and writers give, and that a sink
-//! over a writer flushes it.
+//! What no contract of `vr_io` says: that calls which take memory succeed, what std's readers and writers give, and
+//! that a sink over a writer flushes it.
 
 ghost use Rattle.std.specs.Prelude.{◌≤◌};
 
-use std::alloc::{AllocError, Global};
+use std::alloc::Global;
 use std::io::{self, ErrorKind, Read, Write};
 use std::test::Fail;
 use vr_io::{
-    MemSink, MemSource, NoMemory, ReadError, Sink, Source, StdSink, StdSource, WriteFault,
-    read_all, write_all,
+    MemSink, MemSource, ReadError, Sink, Source, StdSink, StdSource, WriteFault, read_all,
+    write_all,
 };
 
 const TEXT: &str = "{\"cost\":18}\n";
@@ -31,50 +31,16 @@ fn is_taken<K: Sink>(sink: &mut K, want: Result<(), WriteFault>) -> bool {
     write_all(sink, TEXT.as_bytes()) == want
 }
 
-// The text as a source that gives `piece` bytes a call and fails at the call of this number.
-fn source_of(alloc: Global, piece: usize, fails: u64) -> Result<MemSource, AllocError>
-    requires { 1 ≤ piece }
-{
-    let bytes = Vec::from_slice(alloc, TEXT.as_bytes())?;
-    let fails = Vec::from_slice(alloc, &[fails])?;
-    Ok(MemSource::new(bytes, piece, fails))
-}
-
-// Whatever the pieces, all bytes come.
+// A source that gives a few bytes a call is read to its end.
 #[test]
 fn a_source_is_read_to_its_end(rt: HostRuntime) -> Result<(), Fail> {
-    let mut source = source_of(rt.alloc(), 5, 9)?;
+    let bytes = Vec::from_slice(rt.alloc(), TEXT.as_bytes())?;
+    let mut source = MemSource::new(bytes, 5, Vec::new(rt.alloc()));
     assert!(rt; is_read(rt.alloc(), &mut source, 12, Ok(TEXT)));
     Ok(())
 }
 
-// A source goes on after a fault with what was left.
-#[test]
-fn no_byte_is_lost_in_a_fault(rt: HostRuntime) -> Result<(), Fail> {
-    let mut source = source_of(rt.alloc(), 10, 1)?;
-    assert!(rt; is_read(rt.alloc(), &mut source, 12, Err(ReadError::ReadFault)));
-    assert!(rt; is_read(rt.alloc(), &mut source, 12, Ok("}\n")));
-    Ok(())
-}
-
-// A sink that takes `piece` bytes a call, `room` in all, and fails at the call of this number.
-fn sink_of(alloc: Global, room: usize, piece: usize, fails: u64) -> Result<MemSink, NoMemory>
-    requires { 1 ≤ piece }
-{
-    let fails = Vec::from_slice(alloc, &[fails]).map_err(|_| NoMemory)?;
-    MemSink::with_room(alloc, room, piece, fails)
-}
-
-// The front that a sink takes before it fails.
-#[test]
-fn a_sink_takes_a_front(rt: HostRuntime) -> Result<(), Fail> {
-    let mut sink = sink_of(rt.alloc(), 11, 7, 9).map_err(|_| "memory")?;
-    assert!(rt; is_taken(&mut sink, Err(WriteFault)));
-    assert!(rt; sink.bytes() == b"{\"cost\"".as_slice());
-    Ok(())
-}
-
-// With ample memory, a sink takes a whole text.
+// A sink with room takes a whole text.
 #[test]
 fn a_sink_takes_the_text(rt: HostRuntime) -> Result<(), Fail> {
     let alloc = rt.alloc();
@@ -144,8 +110,15 @@ fn a_writer_is_flushed_after_each_write(rt: HostRuntime) {
             flushes: 0,
             fails,
         };
-        assert!(rt; is_taken(&mut StdSink::new(&mut writer), want));
-        assert_eq!(rt; (writer.calls, writer.flushes), (calls, flushes));
+        assert!(rt;
+            is_taken(&mut StdSink::new(&mut writer), want),
+            "fails: {fails}"
+        );
+        assert_eq!(rt;
+            (writer.calls, writer.flushes),
+            (calls, flushes),
+            "fails: {fails}"
+        );
     }
 }
 
