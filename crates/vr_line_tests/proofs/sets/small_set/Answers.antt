@@ -3,7 +3,7 @@ use Rattle.std.proofs.lemmas.Int.{ints}
 use Rattle.std.proofs.lemmas.Result.{IfOk-weaker}
 use Rattle.vr_spans.specs.Runs.{has, StaysWithin}
 use Rattle.vr_spans.proofs.Short.{short_numbers}
-use Rattle.vr_steps_tests.proofs.sets.small_set.Goals as goal
+use Rattle.vr_line_tests.proofs.sets.small_set.Goals as goal
 
 pub returns : goal.returns
 returns c = IfOk-weaker c.from_runs.result (λ set. (x : ℤ) → has set x ≡ has c.args.runs.now x) (StaysWithin (pos 0) (pos 2)) (λ set same x is.

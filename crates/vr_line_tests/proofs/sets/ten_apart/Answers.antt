@@ -1,7 +1,7 @@
 use Rattle.std.proofs.Common.{arith}
 use Rattle.std.proofs.lemmas.Int.{ints}
 use Rattle.vr_spans.proofs.Short.{five_short}
-use Rattle.vr_steps_tests.proofs.sets.ten_apart.Goals as goal
+use Rattle.vr_line_tests.proofs.sets.ten_apart.Goals as goal
 
 pub returns : goal.returns
 returns c =
