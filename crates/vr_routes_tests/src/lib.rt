@@ -1,6 +1,8 @@
-//! Tests of routes and changes, through what `vr_routes` makes public. They stand in a crate of their own, so that
-//! the crate that they test is proved once.
+//! Tests of routes, of the changes that moves make, and of the iterators of moves, through what `vr_routes` and the
+//! crates of moves make public. They stand in a crate of their own, so that the crates that they test are proved once.
 #![tactic(auto)]
 
 #[cfg(test)]
-mod tests;
+mod changes;
+#[cfg(test)]
+mod moves;

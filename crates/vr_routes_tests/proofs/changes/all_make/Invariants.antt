@@ -1,8 +1,8 @@
 use Rattle.std.proofs.Common.{◌≡◌, length}
-use Rattle.vr_routes_tests.proofs.tests.assert_each.Given as goal
+use Rattle.vr_routes_tests.proofs.changes.all_make.Given as goal
 
-abbrev pub invariant-loop-mv : goal.invariant-loop-mv
-invariant-loop-mv g l = record {
+abbrev pub invariant-loop-row : goal.invariant-loop-row
+invariant-loop-row l = record {
   visits : l.routes.visits ≡ l.base.visits;
   many : length l.routes.lists ≡ length l.base.lists;
 }
