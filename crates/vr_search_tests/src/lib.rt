@@ -1,8 +1,24 @@
-//! Tests of searches: how often they ask a judge, and what a descent leaves where a watcher refuses. They stand in a
-//! crate of their own, so that the crates that they test are proved once.
+//! Tests of filters, parts of the cost, judges and searches. What contracts say of them is proved and not tested again.
+//! No contract can say that memory is left: so a row for each call shows that it answers otherwise. The rest is what no
+//! contract says: what is told without a schedule being looked for, and how often a search asks a judge.
+//!
+//! They stand in a crate of their own, so that the crates that they test are proved once. `rows` owns the model and the
+//! routes of each row, and lends them to the function that owns the one thing that the row asks.
 #![tactic(auto)]
 
 #[cfg(test)]
-mod counting;
+mod filters;
+#[cfg(test)]
+mod judges;
+#[cfg(test)]
+mod kept;
+#[cfg(test)]
+mod models;
+#[cfg(test)]
+mod parts;
+#[cfg(test)]
+mod rows;
+#[cfg(test)]
+mod searches;
 #[cfg(test)]
 mod stopped;

@@ -7,17 +7,16 @@ ghost use Rattle.vr_model.specs.tables.Tables.{visits};
 ghost use Rattle.vr_model.specs.tables.WellFormed.{IsWellFormed};
 ghost use Rattle.vr_routes.specs.Judging.{HoldSame};
 
+use crate::models::OPTIONAL;
+use crate::rows::{Asks, Row, assert_rows};
 use std::alloc::Global;
 use std::marker::Brand;
 use std::sync::ledger::{Blank, Ledger};
-use std::test::Fail;
 use vr_descent::descend;
 use vr_model::{Limit, Model, NoMemory, Steps};
 use vr_plain::PlainJudge;
 use vr_routes::{Judge, Routes};
 use vr_rules::total;
-use vr_sample_routes::valid_routes;
-use vr_samples::read_model_text;
 use vr_watch::{Stopper, Trace, Watch};
 
 // Whether a descent wants memory.
@@ -50,64 +49,74 @@ fn is_stopped_plain(
     alloc: Global,
     model: &Model,
     routes: &mut Routes,
-    first_cost: i64,
     watch: &mut Vec<Box<dyn Watch>>,
 ) -> Result<bool, NoMemory>
     requires well_formed { IsWellFormed model.now }
     requires of_model { routes.old.visits ≡ visits model.now }
     requires valid { IsTrue (is_valid model.now routes.old.lists) }
-    requires first_cost { first_cost ≡ cost model.now routes.old.lists }
 {
+    let first_cost = total(alloc, model, routes)?;
     let mut judge = PlainJudge::open(alloc, model, routes)?;
-    let stopped = is_stopped::<PlainJudge<'_>, Brand>(
+    Ok(is_stopped::<PlainJudge<'_>, Brand>(
         model,
         &mut judge,
         routes,
         first_cost,
         watch,
         Blank::new(1),
-    );
-    Ok(stopped)
+    ))
 }
 
-// The reports of watchers, with a stroke behind each.
-fn reports_of(alloc: Global, watch: &[Box<dyn Watch>]) -> Result<Vec<u8>, NoMemory> {
-    let mut reports = Vec::new(alloc);
+// Puts a watcher that takes one event between two others.
+fn add_watchers(alloc: Global, watch: &mut Vec<Box<dyn Watch>>) -> Result<(), NoMemory> {
+    watch.push(Box::new(alloc, Trace::new(alloc))?)?;
+    watch.push(Box::new(alloc, Stopper::new(alloc, 1))?)?;
+    watch.push(Box::new(alloc, Trace::new(alloc))?)?;
+    Ok(())
+}
+
+// Writes the reports of watchers, with a stroke behind each.
+fn write_reports(watch: &[Box<dyn Watch>], reports: &mut Vec<u8>) -> Result<(), NoMemory> {
     for watcher in watch {
         reports.extend_from_slice(watcher.report()?.as_slice())?;
         reports.push(b'|')?;
     }
-    Ok(reports)
+    Ok(())
 }
 
-// A watcher that takes one event stands between two others: whether the move that is found then is committed, and told
-// to the first of them alone.
-fn ends_between_watchers(alloc: Global, model: &Model) -> Result<bool, Fail>
-    requires { IsWellFormed model.now }
+// Whether these are the reports of watchers.
+fn have_told(alloc: Global, watch: &[Box<dyn Watch>], wanted: &[u8]) -> Result<bool, NoMemory> {
+    let mut reports = Vec::new(alloc);
+    write_reports(watch, &mut reports)?;
+    Ok(reports.as_slice() == wanted)
+}
+
+/// A watcher that takes one event stands between two others: whether the move that is found then is committed, and told
+/// to the first of them alone.
+pub(crate) fn ends_between_watchers(
+    alloc: Global,
+    model: &Model,
+    routes: &mut Routes,
+) -> Result<bool, NoMemory>
+    requires well_formed { IsWellFormed model.now }
+    requires of_model { routes.old.visits ≡ visits model.now }
+    requires valid { IsTrue (is_valid model.now routes.old.lists) }
 {
-    let mut routes = valid_routes(alloc, model, &[&[1, 2]])?.ok_or("valid routes")?;
-    let first_cost = total(alloc, model, &routes)?;
     let mut watch: Vec<Box<dyn Watch>> = Vec::new(alloc);
-    watch.push(Box::new(alloc, Trace::new(alloc))?)?;
-    watch.push(Box::new(alloc, Stopper::new(alloc, 1))?)?;
-    watch.push(Box::new(alloc, Trace::new(alloc))?)?;
-    let stopped = is_stopped_plain(alloc, model, &mut routes, first_cost, &mut watch)?;
-    let reports = reports_of(alloc, &watch)?;
-    if routes.vehicles() == 0 {
-        return Ok(false);
-    }
-    let told = "0 first 18\n6 move 13\n||0 first 18\n|";
-    Ok(stopped && routes.list(0) == [1].as_slice() && reports.as_slice() == told.as_bytes())
+    add_watchers(alloc, &mut watch)?;
+    let stopped = is_stopped_plain(alloc, model, routes, &mut watch)?;
+    let told = have_told(alloc, &watch, b"0 first 18\n6 move 13\n||0 first 18\n|")?;
+    Ok(stopped && told && routes.vehicles() > 0 && routes.list(0) == [1].as_slice())
 }
 
-// Three nodes, of which the last may be left out for 3.
-const OPTIONAL: &str = "{\"format\":1,\"nodes\":3,\"matrices\":[[[0,5,9],[5,0,4],[9,4,0]]],\
-    \"vehicles\":[{\"start\":0,\"end\":0}],\"groups\":[{\"nodes\":[2],\"penalty\":3}]}";
+const ROWS: &[Row] = &[Row {
+    name: "a watcher that takes one event",
+    text: OPTIONAL,
+    lists: &[&[1, 2]],
+    asks: Asks::Stopper,
+}];
 
 #[test]
-fn a_watcher_that_refuses_ends_the_descent(rt: HostRuntime) -> Result<(), Fail> {
-    let alloc = rt.alloc();
-    let model = read_model_text(alloc, OPTIONAL).ok_or("a model")?;
-    assert!(rt; ends_between_watchers(alloc, &model)?);
-    Ok(())
+fn a_watcher_that_refuses_ends_the_descent(rt: HostRuntime) {
+    assert_rows(&rt, rt.alloc(), ROWS);
 }

@@ -1,2 +1,0 @@
-pub mod EmptyRules
-pub mod ValidRules

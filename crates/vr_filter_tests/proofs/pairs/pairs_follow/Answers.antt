@@ -1,5 +1,0 @@
-use Rattle.vr_filter_tests.proofs.ValidRules.{valid_serves}
-use Rattle.vr_filter_tests.proofs.pairs.pairs_follow.Goals as goal
-
-pub open-requires-clause-rule : goal.open-requires-clause-rule
-open-requires-clause-rule c = valid_serves c.args.model.now c.args.routes.now.lists c.requires.valid

@@ -1,0 +1,431 @@
+//! Filters that follow moves: a move is made where the filter lets it pass.
+
+ghost use Rattle.std.specs.Prelude.{◌≡◌, ◌<◌, IsTrue, OnOk, length};
+ghost use Rattle.vr_model.specs.routes.Rules.{is_valid};
+ghost use Rattle.vr_model.specs.tables.Tables.{visits};
+ghost use Rattle.vr_model.specs.tables.WellFormed.{IsWellFormed};
+
+use crate::models::{BREAKS, GAP, LIFO, LOAD, OPTIONAL, PAIR, THREE, TWENTY, WINDOWS};
+use crate::rows::{Asks, Row, assert_rows};
+use std::alloc::Global;
+use std::marker::Brand;
+use std::sync::ledger::{Blank, Ledger};
+use vr_filter::{Both, Each, PathFilter};
+use vr_model::{Model, Move, NoMemory, Steps};
+use vr_pathfilters::{DimensionFilter, GroupFilter, PairFilter, VehicleFilter};
+use vr_routes::{Change, Routes};
+
+/// Which filter is asked.
+#[derive(Clone, Copy)]
+pub(crate) enum Filter {
+    Groups,
+    Vehicles,
+    Pairs,
+    /// Of dimension 0, as the next two.
+    Dimension,
+    /// Of allowed vehicles and the dimension together.
+    Both,
+    /// One of a list of filters of dimensions.
+    Each,
+}
+
+// Makes a move where it is one and the filter lets it pass; answers whether that was so.
+fn try_move<F: PathFilter, L: Ledger>(
+    model: &Model,
+    filter: &mut F,
+    routes: &mut Routes,
+    mv: Move,
+    blank: Blank,
+) -> Result<bool, NoMemory>
+    requires name { blank.name ≡ L.name }
+    requires parts { blank.parts ≡ L.parts }
+    requires some { 0 < blank.parts }
+    requires well_formed { IsWellFormed model.now }
+    requires of_model { routes.old.visits ≡ visits model.now }
+    requires stands { F.stands_at filter.old routes.old }
+    ensures of_model { OnOk result (routes.new.visits ≡ visits model.now) }
+    ensures stands { OnOk result (F.stands_at filter.new routes.new) }
+{
+    let Some(change) = Change::of(model, routes, mv) else {
+        return Ok(false);
+    };
+    let mut steps = Steps::<L>::new(blank);
+    if !filter.passes(routes, &change, &mut steps)? {
+        return Ok(false);
+    }
+    filter.prepare(routes, &change)?;
+    filter.commit(routes, &change);
+    routes.commit(&change);
+    Ok(true)
+}
+
+// Whether a filter answers each of some moves, made one after another, as expected.
+fn follows<F: PathFilter>(
+    model: &Model,
+    filter: &mut F,
+    routes: &mut Routes,
+    moves: &[(Move, bool)],
+) -> Result<bool, NoMemory>
+    requires well_formed { IsWellFormed model.now }
+    requires of_model { routes.old.visits ≡ visits model.now }
+    requires stands { F.stands_at filter.old routes.old }
+{
+    for &(mv, expected) in moves {
+        if try_move::<F, Brand>(model, filter, routes, mv, Blank::new(1))? != expected {
+            return Ok(false);
+        }
+    }
+    Ok(true)
+}
+
+fn groups_follow(
+    alloc: Global,
+    model: &Model,
+    routes: &mut Routes,
+    moves: &[(Move, bool)],
+) -> Result<bool, NoMemory>
+    requires well_formed { IsWellFormed model.now }
+    requires of_model { routes.old.visits ≡ visits model.now }
+    requires many { length routes.old.lists ≡ length model.now.vehicles }
+    requires valid { IsTrue (is_valid model.now routes.old.lists) }
+{
+    let mut filter = GroupFilter::open(alloc, model, routes)?;
+    follows(model, &mut filter, routes, moves)
+}
+
+fn vehicles_follow(
+    alloc: Global,
+    model: &Model,
+    routes: &mut Routes,
+    moves: &[(Move, bool)],
+) -> Result<bool, NoMemory>
+    requires well_formed { IsWellFormed model.now }
+    requires of_model { routes.old.visits ≡ visits model.now }
+    requires many { length routes.old.lists ≡ length model.now.vehicles }
+    requires valid { IsTrue (is_valid model.now routes.old.lists) }
+{
+    let mut filter = VehicleFilter::open(alloc, model, routes)?;
+    follows(model, &mut filter, routes, moves)
+}
+
+fn pairs_follow(
+    alloc: Global,
+    model: &Model,
+    routes: &mut Routes,
+    moves: &[(Move, bool)],
+) -> Result<bool, NoMemory>
+    requires well_formed { IsWellFormed model.now }
+    requires of_model { routes.old.visits ≡ visits model.now }
+    requires many { length routes.old.lists ≡ length model.now.vehicles }
+    requires valid { IsTrue (is_valid model.now routes.old.lists) }
+{
+    let mut filter = PairFilter::open(alloc, model, routes)?;
+    follows(model, &mut filter, routes, moves)
+}
+
+fn dimension_follows(
+    alloc: Global,
+    model: &Model,
+    routes: &mut Routes,
+    moves: &[(Move, bool)],
+) -> Result<bool, NoMemory>
+    requires well_formed { IsWellFormed model.now }
+    requires of_model { routes.old.visits ≡ visits model.now }
+    requires many { length routes.old.lists ≡ length model.now.vehicles }
+    requires valid { IsTrue (is_valid model.now routes.old.lists) }
+    requires some { 0 < length model.now.dimensions }
+{
+    let mut filter = DimensionFilter::open(alloc, model, 0, routes)?;
+    follows(model, &mut filter, routes, moves)
+}
+
+fn both_follow(
+    alloc: Global,
+    model: &Model,
+    routes: &mut Routes,
+    moves: &[(Move, bool)],
+) -> Result<bool, NoMemory>
+    requires well_formed { IsWellFormed model.now }
+    requires of_model { routes.old.visits ≡ visits model.now }
+    requires many { length routes.old.lists ≡ length model.now.vehicles }
+    requires valid { IsTrue (is_valid model.now routes.old.lists) }
+    requires some { 0 < length model.now.dimensions }
+{
+    let mut both = Both {
+        a: VehicleFilter::open(alloc, model, routes)?,
+        b: DimensionFilter::open(alloc, model, 0, routes)?,
+    };
+    follows(model, &mut both, routes, moves)
+}
+
+fn each_follows(
+    alloc: Global,
+    model: &Model,
+    routes: &mut Routes,
+    moves: &[(Move, bool)],
+) -> Result<bool, NoMemory>
+    requires well_formed { IsWellFormed model.now }
+    requires of_model { routes.old.visits ≡ visits model.now }
+    requires many { length routes.old.lists ≡ length model.now.vehicles }
+    requires valid { IsTrue (is_valid model.now routes.old.lists) }
+    requires some { 0 < length model.now.dimensions }
+{
+    let mut filters = Vec::with_capacity(alloc, 1)?;
+    filters.push(DimensionFilter::open(alloc, model, 0, routes)?)?;
+    let mut each = Each { filters };
+    follows(model, &mut each, routes, moves)
+}
+
+/// Whether a filter answers moves from valid routes as expected.
+pub(crate) fn passes(
+    alloc: Global,
+    model: &Model,
+    routes: &mut Routes,
+    filter: Filter,
+    moves: &[(Move, bool)],
+) -> Result<bool, NoMemory>
+    requires well_formed { IsWellFormed model.now }
+    requires of_model { routes.old.visits ≡ visits model.now }
+    requires many { length routes.old.lists ≡ length model.now.vehicles }
+    requires valid { IsTrue (is_valid model.now routes.old.lists) }
+{
+    match filter {
+        Filter::Groups => groups_follow(alloc, model, routes, moves),
+        Filter::Vehicles => vehicles_follow(alloc, model, routes, moves),
+        Filter::Pairs => pairs_follow(alloc, model, routes, moves),
+        _ if model.dimensions.is_empty() => Ok(false),
+        Filter::Dimension => dimension_follows(alloc, model, routes, moves),
+        Filter::Both => both_follow(alloc, model, routes, moves),
+        Filter::Each => each_follows(alloc, model, routes, moves),
+    }
+}
+
+// The lists of two vehicles without visits.
+const EMPTY: &[&[u32]] = &[&[], &[]];
+
+const REVERSED: Move = Move::TwoOpt { v: 0, a: 0, b: 1 };
+
+const FIRST_LEAVES: Move = Move::MakeInactive { v: 0, a: 0 };
+
+const RULES: &[Row] = &[
+    Row {
+        name: "a required visit stays",
+        text: THREE,
+        lists: &[&[1, 2]],
+        asks: Asks::Filter(Filter::Groups, &[(FIRST_LEAVES, false), (REVERSED, true)]),
+    },
+    Row {
+        name: "an optional visit leaves and comes back",
+        text: OPTIONAL,
+        lists: &[&[2, 1]],
+        asks: Asks::Filter(
+            Filter::Groups,
+            &[
+                (FIRST_LEAVES, true),
+                (FIRST_LEAVES, false),
+                (Move::MakeActive { u: 2, w: 0, t: 1 }, true),
+            ],
+        ),
+    },
+    Row {
+        name: "a visit allows the first vehicle alone",
+        text: WINDOWS,
+        lists: EMPTY,
+        asks: Asks::Filter(
+            Filter::Vehicles,
+            &[
+                (Move::MakeActive { u: 4, w: 1, t: 0 }, false),
+                (Move::MakeActive { u: 4, w: 0, t: 0 }, true),
+                (
+                    Move::Relocate {
+                        v: 0,
+                        a: 0,
+                        w: 1,
+                        t: 0,
+                    },
+                    false,
+                ),
+            ],
+        ),
+    },
+    Row {
+        name: "without a pair a visit leaves",
+        text: THREE,
+        lists: &[&[1, 2]],
+        asks: Asks::Filter(Filter::Pairs, &[(FIRST_LEAVES, true)]),
+    },
+    Row {
+        name: "a pair stays whole and in order",
+        text: PAIR,
+        lists: &[&[1, 2]],
+        asks: Asks::Filter(
+            Filter::Pairs,
+            &[
+                (FIRST_LEAVES, false),
+                (REVERSED, false),
+                (Move::PairInactive { p: 0 }, true),
+            ],
+        ),
+    },
+    Row {
+        name: "a pair goes inside another one, not across it",
+        text: LIFO,
+        lists: &[&[1, 2]],
+        asks: Asks::Filter(
+            Filter::Pairs,
+            &[
+                (
+                    Move::PairActive {
+                        p: 1,
+                        w: 0,
+                        s: 1,
+                        t: 2,
+                    },
+                    false,
+                ),
+                (
+                    Move::PairActive {
+                        p: 1,
+                        w: 0,
+                        s: 1,
+                        t: 1,
+                    },
+                    true,
+                ),
+                (Move::TwoOpt { v: 0, a: 2, b: 3 }, false),
+            ],
+        ),
+    },
+];
+
+#[test]
+fn filters_of_groups_vehicles_and_pairs_answer(rt: HostRuntime) {
+    assert_rows(&rt, rt.alloc(), RULES);
+}
+
+// Moves to the first vehicle of four visits with windows, and one to the second.
+const TO_FIRST: &[(Move, bool)] = &[
+    (Move::MakeActive { u: 1, w: 0, t: 0 }, true),
+    (Move::MakeActive { u: 2, w: 0, t: 1 }, true),
+    (REVERSED, false),
+    (Move::MakeActive { u: 3, w: 0, t: 2 }, true),
+    (Move::MakeActive { u: 4, w: 0, t: 2 }, false),
+    (Move::MakeActive { u: 4, w: 0, t: 3 }, true),
+    (
+        Move::Relocate {
+            v: 0,
+            a: 2,
+            w: 1,
+            t: 0,
+        },
+        true,
+    ),
+    (
+        Move::Exchange {
+            v: 0,
+            a: 0,
+            w: 1,
+            b: 0,
+        },
+        false,
+    ),
+];
+
+// Moves of two visits between a vehicle with breaks and one without.
+const WITH_BREAKS: &[(Move, bool)] = &[
+    (Move::MakeActive { u: 2, w: 0, t: 0 }, true),
+    (Move::MakeActive { u: 1, w: 0, t: 1 }, false),
+    (Move::MakeActive { u: 1, w: 0, t: 0 }, true),
+    (REVERSED, false),
+    (
+        Move::Relocate {
+            v: 0,
+            a: 0,
+            w: 1,
+            t: 0,
+        },
+        true,
+    ),
+];
+
+const SCHEDULES: &[Row] = &[
+    Row {
+        name: "no cumul in a gap between two runs",
+        text: GAP,
+        lists: &[&[2, 1]],
+        asks: Asks::Filter(Filter::Dimension, &[(REVERSED, false)]),
+    },
+    Row {
+        name: "the same once a visit is put in front",
+        text: GAP,
+        lists: &[&[1]],
+        asks: Asks::Filter(
+            Filter::Dimension,
+            &[
+                (Move::MakeActive { u: 2, w: 0, t: 0 }, true),
+                (REVERSED, false),
+            ],
+        ),
+    },
+    Row {
+        name: "windows and many forbidden intervals",
+        text: WINDOWS,
+        lists: EMPTY,
+        asks: Asks::Filter(Filter::Dimension, TO_FIRST),
+    },
+    Row {
+        name: "breaks",
+        text: BREAKS,
+        lists: EMPTY,
+        asks: Asks::Filter(Filter::Dimension, WITH_BREAKS),
+    },
+    Row {
+        name: "a load",
+        text: LOAD,
+        lists: &[&[1, 2]],
+        asks: Asks::Filter(
+            Filter::Dimension,
+            &[
+                (Move::MakeActive { u: 3, w: 0, t: 1 }, false),
+                (FIRST_LEAVES, true),
+                (Move::MakeActive { u: 3, w: 0, t: 1 }, true),
+            ],
+        ),
+    },
+    Row {
+        name: "two of twenty visits change places, within the weight of that",
+        text: TWENTY,
+        lists: &[&[
+            1, 2, 3, 4, 5, 6, 7, 8, 9, 10, 11, 12, 13, 14, 15, 16, 17, 18, 19, 20,
+        ]],
+        asks: Asks::Filter(
+            Filter::Dimension,
+            &[(Move::TwoOpt { v: 0, a: 5, b: 6 }, true)],
+        ),
+    },
+    Row {
+        name: "allowed vehicles and windows together",
+        text: WINDOWS,
+        lists: EMPTY,
+        asks: Asks::Filter(
+            Filter::Both,
+            &[
+                (Move::MakeActive { u: 4, w: 1, t: 0 }, false),
+                (Move::MakeActive { u: 4, w: 0, t: 0 }, true),
+                (Move::MakeActive { u: 1, w: 0, t: 1 }, false),
+                (Move::MakeActive { u: 1, w: 0, t: 0 }, true),
+            ],
+        ),
+    },
+    Row {
+        name: "a list of filters",
+        text: WINDOWS,
+        lists: EMPTY,
+        asks: Asks::Filter(Filter::Each, TO_FIRST),
+    },
+];
+
+#[test]
+fn filters_of_dimensions_answer(rt: HostRuntime) {
+    assert_rows(&rt, rt.alloc(), SCHEDULES);
+}

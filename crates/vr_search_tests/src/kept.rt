@@ -1,0 +1,147 @@
+//! Kept cumuls: what a change makes of a list is told by them, whatever slacks may be, so that no schedule is looked
+//! for; so it is by what is kept once a change is committed.
+
+ghost use Rattle.std.specs.Prelude.{◌≡◌, ◌<◌, IsTrue, OnOk, length};
+ghost use Rattle.vr_cumuls.specs.Kept.{AreAllKept};
+ghost use Rattle.vr_model.specs.routes.Rules.{is_valid};
+ghost use Rattle.vr_model.specs.tables.Tables.{visits};
+ghost use Rattle.vr_model.specs.tables.WellFormed.{IsWellFormed};
+ghost use Rattle.vr_routes.specs.Changes.{IsMadeOn};
+ghost use Rattle.vr_routes.specs.Pieces.{changed};
+ghost use Rattle.vr_timings.specs.Tables.{AreTables};
+
+use crate::models::LATE;
+use crate::rows::{Asks, Row, assert_rows, stays_valid};
+use std::alloc::Global;
+use vr_cumuls::{AllCumuls, Paid, Trail};
+use vr_model::{Model, Move, NoMemory};
+use vr_routes::{Change, Piece, Routes};
+use vr_timings::{Table, tables_of};
+
+// Whether what is kept tells, in the first dimension, what the first list of a change comes to. An empty list has
+// nothing to tell.
+fn is_told(
+    model: &Model,
+    tables: &[Table],
+    kept: &AllCumuls,
+    routes: &Routes,
+    change: &Change,
+) -> bool
+    requires well_formed { IsWellFormed model.now }
+    requires tables { AreTables model.now tables.now }
+    requires valid { IsTrue (is_valid model.now routes.now.lists) }
+    requires kept { AreAllKept model.now routes.now.lists kept.now }
+    requires made { IsMadeOn routes.now change.now }
+    requires valid_after { IsTrue (is_valid model.now (changed routes.now.lists change.now)) }
+{
+    if model.dimensions.is_empty() || change.parts() == 0 {
+        return false;
+    }
+    if Piece::nodes_in(routes, change.pieces(0)) == 0 {
+        return true;
+    }
+    let mut trail = Trail::new();
+    kept.timing_after(model, &tables[0], 0, routes, change, 0, &mut trail)
+        .is_some()
+}
+
+// Whether it tells of a move after which the lists are valid; the move is made then.
+fn tells_of(
+    alloc: Global,
+    model: &Model,
+    tables: &[Table],
+    kept: &mut AllCumuls,
+    routes: &mut Routes,
+    mv: Move,
+) -> Result<bool, NoMemory>
+    requires well_formed { IsWellFormed model.now }
+    requires tables { AreTables model.now tables.now }
+    requires of_model { routes.old.visits ≡ visits model.now }
+    requires valid { IsTrue (is_valid model.now routes.old.lists) }
+    requires kept { AreAllKept model.now routes.old.lists kept.old }
+    ensures of_model { OnOk result (routes.new.visits ≡ visits model.now) }
+    ensures valid { OnOk result (IsTrue (is_valid model.now routes.new.lists)) }
+    ensures kept { OnOk result (AreAllKept model.now routes.new.lists kept.new) }
+{
+    let Some(change) = Change::of(model, routes, mv) else {
+        return Ok(false);
+    };
+    if !stays_valid(alloc, model, routes, mv, &change)? {
+        return Ok(false);
+    }
+    let told = is_told(model, tables, kept, routes, &change);
+    kept.commit(model, tables, routes, &change);
+    routes.commit(&change);
+    Ok(told)
+}
+
+// Whether what is kept for such costs tells of one move, and of another one then.
+fn tells_by(
+    alloc: Global,
+    model: &Model,
+    tables: &[Table],
+    routes: &mut Routes,
+    paid: Paid,
+    first: Move,
+    second: Move,
+) -> Result<bool, NoMemory>
+    requires well_formed { IsWellFormed model.now }
+    requires tables { AreTables model.now tables.now }
+    requires of_model { routes.old.visits ≡ visits model.now }
+    requires valid { IsTrue (is_valid model.now routes.old.lists) }
+{
+    let mut kept = AllCumuls::open(alloc, model, tables, paid, routes)?;
+    if !tells_of(alloc, model, tables, &mut kept, routes, first)? {
+        return Ok(false);
+    }
+    tells_of(alloc, model, tables, &mut kept, routes, second)
+}
+
+/// Whether what is kept of valid routes for such costs tells of a move after which lists are valid, and of another one
+/// then.
+pub(crate) fn tells(
+    alloc: Global,
+    model: &Model,
+    routes: &mut Routes,
+    paid: Paid,
+    first: Move,
+    second: Move,
+) -> Result<bool, NoMemory>
+    requires well_formed { IsWellFormed model.now }
+    requires of_model { routes.old.visits ≡ visits model.now }
+    requires valid { IsTrue (is_valid model.now routes.old.lists) }
+{
+    let tables = tables_of(alloc, model)?;
+    tells_by(alloc, model, &tables, routes, paid, first, second)
+}
+
+// Four of the visits before late windows.
+const LATE_LISTS: &[&[u32]] = &[&[1, 2, 3, 4, 5], &[6], &[]];
+
+const ROWS: &[Row] = &[
+    Row {
+        name: "a stretch is turned, and then the front, where each span costs something",
+        text: LATE,
+        lists: LATE_LISTS,
+        asks: Asks::Kept(
+            Paid::Alone,
+            Move::TwoOpt { v: 0, a: 1, b: 3 },
+            Move::TwoOpt { v: 0, a: 0, b: 1 },
+        ),
+    },
+    Row {
+        name: "a visit leaves, and then the front is turned, where global spans cost something",
+        text: LATE,
+        lists: LATE_LISTS,
+        asks: Asks::Kept(
+            Paid::Together,
+            Move::MakeInactive { v: 0, a: 4 },
+            Move::TwoOpt { v: 0, a: 0, b: 1 },
+        ),
+    },
+];
+
+#[test]
+fn kept_cumuls_tell(rt: HostRuntime) {
+    assert_rows(&rt, rt.alloc(), ROWS);
+}

@@ -1,0 +1,126 @@
+//! What a row asks, and who owns the model and the routes of which it asks.
+
+ghost use Rattle.std.specs.Prelude.{◌≡◌, IfOk, IsTrue, length, true};
+ghost use Rattle.vr_model.specs.moves.MoveTests.{is_move};
+ghost use Rattle.vr_model.specs.routes.Rules.{is_valid};
+ghost use Rattle.vr_model.specs.tables.Tables.{visits};
+ghost use Rattle.vr_model.specs.tables.WellFormed.{IsWellFormed};
+ghost use Rattle.vr_routes.specs.Changes.{IsChange, IsMadeOn};
+ghost use Rattle.vr_routes.specs.Pieces.{changed};
+
+use crate::filters::{self, Filter};
+use crate::judges::{self, Said};
+use crate::parts::{self, Part};
+use crate::searches::{self, Search, Wanted};
+use crate::{kept, stopped};
+use std::alloc::Global;
+use std::process::Abort;
+use vr_cumuls::Paid;
+use vr_model::{Model, Move, NoMemory};
+use vr_routes::{Change, Routes};
+use vr_rules::valid;
+use vr_sample_routes::valid_routes;
+use vr_samples::read_model_text;
+
+/// Who judges moves.
+#[derive(Clone, Copy)]
+pub(crate) enum By {
+    Rebuilding,
+    Filters,
+}
+
+/// What a row asks of valid routes.
+#[derive(Clone, Copy)]
+pub(crate) enum Asks {
+    /// Which moves a filter lets pass; each that passes is made.
+    Filter(Filter, &'static [(Move, bool)]),
+    /// What a move adds to a part of the cost.
+    Part(Part, Move, i64),
+    /// Whether what is kept of schedules tells of two moves, the second one after the first.
+    Kept(Paid, Move, Move),
+    /// What a judge says of moves; some of them are made.
+    Judge(By, &'static [Said]),
+    /// What a search finds.
+    Search(By, Search, &'static Wanted),
+    /// That a watcher which refuses ends the descent.
+    Stopper,
+}
+
+/// A question about valid lists of the model of a text.
+#[derive(Clone, Copy)]
+pub(crate) struct Row {
+    pub(crate) name: &'static str,
+    pub(crate) text: &'static str,
+    pub(crate) lists: &'static [&'static [u32]],
+    pub(crate) asks: Asks,
+}
+
+/// Asserts that each row is answered as it says.
+pub(crate) fn assert_rows(rt: &impl Abort, alloc: Global, rows: &[Row]) {
+    for row in rows {
+        assert!(rt; is_as_said(alloc, row), "{}", row.name);
+    }
+}
+
+// Whether a row is answered as it says: not where its text is no model, its lists are not valid, or memory is wanted.
+fn is_as_said(alloc: Global, row: &Row) -> bool {
+    match read_model_text(alloc, row.text) {
+        Some(model) => of_model(alloc, &model, row) == Ok(true),
+        None => false,
+    }
+}
+
+// The same of the model.
+fn of_model(alloc: Global, model: &Model, row: &Row) -> Result<bool, NoMemory>
+    requires { IsWellFormed model.now }
+{
+    match valid_routes(alloc, model, row.lists)? {
+        Some(mut routes) => of_routes(alloc, model, &mut routes, row.asks),
+        None => Ok(false),
+    }
+}
+
+// The same of the routes.
+fn of_routes(
+    alloc: Global,
+    model: &Model,
+    routes: &mut Routes,
+    asks: Asks,
+) -> Result<bool, NoMemory>
+    requires well_formed { IsWellFormed model.now }
+    requires of_model { routes.old.visits ≡ visits model.now }
+    requires many { length routes.old.lists ≡ length model.now.vehicles }
+    requires valid { IsTrue (is_valid model.now routes.old.lists) }
+{
+    match asks {
+        Asks::Filter(filter, moves) => filters::passes(alloc, model, routes, filter, moves),
+        Asks::Part(part, mv, added) => parts::adds(alloc, model, routes, part, mv, added),
+        Asks::Kept(paid, first, second) => kept::tells(alloc, model, routes, paid, first, second),
+        Asks::Judge(by, said) => judges::says(alloc, model, routes, by, said),
+        Asks::Search(by, search, wanted) => searches::finds(
+            alloc, model, routes, by, search, wanted,
+        ),
+        Asks::Stopper => stopped::ends_between_watchers(alloc, model, routes),
+    }
+}
+
+/// Whether the lists after a change by a move are valid.
+pub(crate) fn stays_valid(
+    alloc: Global,
+    model: &Model,
+    routes: &Routes,
+    mv: Move,
+    change: &Change,
+) -> Result<bool, NoMemory>
+    requires well_formed { IsWellFormed model.now }
+    requires valid { IsTrue (is_valid model.now routes.now.lists) }
+    requires is_one { is_move model.now routes.now.lists mv ≡ true }
+    requires change { IsChange model.now routes.now.lists mv change.now }
+    requires made { IsMadeOn routes.now change.now }
+    ensures { IfOk result (λ stays. stays ≡ is_valid model.now (changed routes.now.lists change.now)) }
+{
+    let mut after = routes.copy(alloc)?;
+    after.commit(change);
+    let stays = valid(alloc, model, &after)?;
+    Ok(stays)
+}
