@@ -1,6 +1,6 @@
 -- The text of a solution.
 use Rattle.std.specs.Prelude.{ℕ, ℤ, List, [], ◌∷◌, if◌then◌else◌, codes, length, map}
-use Rattle.serde_json.specs.Data.{Data, string, array, object, no_items, no_members, member}
+use Rattle.serde_json.specs.Data.{Data, Members, string, array, object, no_items, no_members, member, put}
 use Rattle.serde_json.specs.View.{items_of}
 use Rattle.vr_model.specs.tables.Numbers.{below}
 use Rattle.vr_model.specs.tables.Tables.{dimension_at}
@@ -83,6 +83,22 @@ tree_of parts dropped routes first_cost report = object
     (member (codes "status") (string (codes "ROUTING_SUCCESS"))
     (member (codes "stop") (string (word_of report.end))
     (member (codes "tries") (count report.tries) no_members)))))))))
+
+-- members, and what a solution costs with its parts, what the first solution cost, and the visits that are dropped
+abbrev pub costs_put : Parts → List ℕ → ℤ → Members → Members
+costs_put parts dropped first_cost members =
+    put (codes "parts") (parts_tree parts)
+    (put (codes "first_cost") (whole first_cost)
+    (put (codes "dropped") (counts dropped)
+    (put (codes "cost") (whole (sum_of parts)) members)))
+
+-- members, and the report of the search
+abbrev pub report_put : Report → Members → Members
+report_put report members =
+    put (codes "tries") (count report.tries)
+    (put (codes "stop") (string (word_of report.end))
+    (put (codes "status") (string (codes "ROUTING_SUCCESS"))
+    (put (codes "solutions") (count report.solutions) members)))
 
 -- an assignment as a solution: the parts of its cost at its cumuls, the inactive visits, and its routes
 unfoldable pub assignment_tree : Model → Assignment → ℤ → Report → Data

@@ -6,12 +6,14 @@ ghost use Rattle.vr_model.specs.routes.Costs.{assigned};
 ghost use Rattle.vr_model.specs.routes.Routes.{are_lists, inactive, is_active, route};
 ghost use Rattle.vr_model.specs.tables.Tables.{is_visit, visits};
 ghost use Rattle.vr_model.specs.tables.WellFormed.{IsWellFormed};
+ghost use Rattle.vr_print.specs.Numbers as numbers;
 ghost use Rattle.vr_print.specs.Solution as solution;
 
 use crate::leaves::counts;
 use crate::plans::plans_tree;
-use serde_json::{Value, json};
+use serde_json::Value;
 use std::alloc::Global;
+use vr_json::Tree;
 use vr_model::{Model, NoMemory};
 use vr_routes::Routes;
 
@@ -36,6 +38,16 @@ fn route_nodes(
     Ok(nodes)
 }
 
+// The same as an array.
+fn nodes_tree(alloc: Global, model: &Model, vehicle: u32, list: &[u32]) -> Result<Value, NoMemory>
+    requires { vehicle < length model.now.vehicles }
+    ensures { IfOk result (λ tree. view tree ≡ numbers.counts (solution.route_nodes model.now vehicle list.now)) }
+{
+    let nodes = route_nodes(alloc, model, vehicle, list)?;
+    let tree = counts(alloc, &nodes)?;
+    Ok(tree)
+}
+
 // The route of a vehicle.
 #[tactic(auto, unfolding(crate::specs::Solution::route_tree))]
 fn route_tree(alloc: Global, model: &Model, routes: &Routes, v: u32) -> Result<Value, NoMemory>
@@ -45,11 +57,11 @@ fn route_tree(alloc: Global, model: &Model, routes: &Routes, v: u32) -> Result<V
     ensures { let assignment = assigned model.now routes.now.lists in
         IfOk result (λ tree. view tree ≡ solution.route_tree model.now assignment v) }
 {
-    let dimensions = plans_tree(alloc, model, routes, v)?;
-    let nodes = route_nodes(alloc, model, v, routes.list(v))?;
-    let nodes = counts(alloc, &nodes)?;
-    let route = json!(in alloc; {"dimensions": dimensions, "nodes": nodes, "vehicle": v as u64})?;
-    Ok(route)
+    let mut tree = Tree::new(alloc);
+    tree.put("dimensions", plans_tree(alloc, model, routes, v)?)?;
+    tree.put("nodes", nodes_tree(alloc, model, v, routes.list(v))?)?;
+    tree.put("vehicle", Value::from(v))?;
+    Ok(tree.finish())
 }
 
 /// The routes of all vehicles.

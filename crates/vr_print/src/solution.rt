@@ -1,11 +1,11 @@
 //! The tree and the line of a solution.
 
-ghost use Rattle.std.specs.Prelude.{◌≡◌, ◌≤◌, IfOk, IsTrue, Some, false};
+ghost use Rattle.std.specs.Prelude.{◌≡◌, ◌≤◌, IfOk, IsTrue, OnOk, Some, false};
 ghost use Rattle.serde_json.specs.Data.{depth};
 ghost use Rattle.serde_json.specs.Read.{max_depth, read};
 ghost use Rattle.serde_json.specs.View.{view};
 ghost use Rattle.serde_json.specs.Written.{has_float};
-ghost use Rattle.vr_json.specs.Trees.{line_of};
+ghost use Rattle.vr_json.specs.Trees.{line_of, members_put};
 ghost use Rattle.vr_model.specs.routes.Rules.{is_valid};
 ghost use Rattle.vr_model.specs.tables.WellFormed.{IsWellFormed};
 ghost use Rattle.vr_rules.specs.Totals.{HasTotal};
@@ -47,6 +47,36 @@ fn word_of(end: End) -> &'static str
     }
 }
 
+// Puts what a solution costs, with its parts, what the first solution cost, and which visits are dropped.
+fn put_costs(
+    alloc: Global,
+    tree: &mut Tree,
+    parts: &Parts,
+    dropped: &[u32],
+    first_cost: i64,
+) -> Result<(), NoMemory>
+    requires { HasTotal parts.now }
+    ensures { OnOk result (members_put tree.new
+        ≡ solution.costs_put parts.now dropped.now first_cost (members_put tree.old)) }
+{
+    tree.put("cost", Value::from(total_cost(parts)))?;
+    tree.put("dropped", counts(alloc, dropped)?)?;
+    tree.put("first_cost", Value::from(first_cost))?;
+    tree.put("parts", parts_tree(alloc, parts)?)?;
+    Ok(())
+}
+
+// Puts how the search went.
+fn put_report(alloc: Global, tree: &mut Tree, report: Report) -> Result<(), NoMemory>
+    ensures { OnOk result (members_put tree.new ≡ solution.report_put report (members_put tree.old)) }
+{
+    tree.put("solutions", Value::from(report.solutions))?;
+    tree.put("status", text(alloc, "ROUTING_SUCCESS")?)?;
+    tree.put("stop", text(alloc, word_of(report.end))?)?;
+    tree.put("tries", Value::from(report.tries))?;
+    Ok(())
+}
+
 // The tree of a solution, of its parts.
 #[tactic(auto, unfolding(crate::specs::Solution::tree_of))]
 fn tree_of(
@@ -61,15 +91,9 @@ fn tree_of(
     ensures { IfOk result (λ tree. view tree ≡ solution.tree_of parts.now dropped.now (view routes) first_cost report) }
 {
     let mut tree = Tree::new(alloc);
-    tree.put("cost", Value::from(total_cost(parts)))?;
-    tree.put("dropped", counts(alloc, dropped)?)?;
-    tree.put("first_cost", Value::from(first_cost))?;
-    tree.put("parts", parts_tree(alloc, parts)?)?;
     tree.put("routes", routes)?;
-    tree.put("solutions", Value::from(report.solutions))?;
-    tree.put("status", text(alloc, "ROUTING_SUCCESS")?)?;
-    tree.put("stop", text(alloc, word_of(report.end))?)?;
-    tree.put("tries", Value::from(report.tries))?;
+    put_costs(alloc, &mut tree, parts, dropped, first_cost)?;
+    put_report(alloc, &mut tree, report)?;
     Ok(tree.finish())
 }
 
