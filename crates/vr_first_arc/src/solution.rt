@@ -1,18 +1,40 @@
 //! The first solution.
 
-ghost use Rattle.std.specs.Prelude.{◌≡◌, Some, None, cond, IfOk, IfSome};
+ghost use Rattle.std.specs.Prelude.{◌≡◌, Some, None, cond, IfOk, IfSome, OnOk};
+ghost use Rattle.vr_model.specs.first.Items.{empty_lists as empty_lists_of};
 ghost use Rattle.vr_model.specs.first.PathCheapestArc.{path_cheapest_arc};
 ghost use Rattle.vr_model.specs.routes.Rules.{is_valid};
 ghost use Rattle.vr_model.specs.tables.Tables.{visits};
 ghost use Rattle.vr_model.specs.tables.WellFormed.{IsWellFormed};
-ghost use Rattle.vr_rules.specs.Placing.{lists_in, AreBuilt};
+ghost use Rattle.vr_rules.specs.Placing.{lists_in, AreBuilt, AreCandidates};
 
 use crate::fill::fill_all;
 use std::alloc::Global;
 use vr_lists::NodeTables;
 use vr_model::{Model, NoMemory, Seq};
 use vr_routes::Routes;
-use vr_rules::{Room, candidates, complete_routes, empty_lists};
+use vr_rules::{Candidate, Room, candidates, complete_routes, empty_lists};
+
+// Fills empty lists with items of the model.
+fn fill_empty(
+    alloc: Global,
+    model: &Model,
+    lookups: &NodeTables<'_>,
+    candidates: &[Candidate],
+    lists: &mut [Seq<u32>],
+) -> Result<(), NoMemory>
+    requires well_formed { IsWellFormed model.now }
+    requires lookups { lookups.now ≡ model.now }
+    requires candidates { AreCandidates model.now candidates.now }
+    requires empty { lists.now ≡ empty_lists_of model.now }
+    ensures lists { OnOk result (lists.new ≡ path_cheapest_arc model.now) }
+    ensures built { OnOk result (AreBuilt model.now lists.new) }
+{
+    let mut marks = vec![in alloc; false; model.nodes as usize]?;
+    let mut room = Room::new(alloc);
+    fill_all(&mut room, model, lookups, candidates, lists, &mut marks)?;
+    Ok(())
+}
 
 // The lists at which the construction ends.
 fn filled_lists(
@@ -27,17 +49,25 @@ fn filled_lists(
 {
     let candidates = candidates(alloc, lookups)?;
     let mut lists = empty_lists(alloc, model)?;
-    let mut marks = vec![in alloc; false; model.nodes as usize]?;
-    let mut room = Room::new(alloc);
-    fill_all(
-        &mut room,
-        model,
-        lookups,
-        &candidates,
-        &mut lists,
-        &mut marks,
-    )?;
+    fill_empty(alloc, model, lookups, &candidates, &mut lists)?;
     Ok(lists)
+}
+
+// The first solution, over what was looked up.
+fn first_over(
+    alloc: Global,
+    model: &Model,
+    lookups: &NodeTables<'_>,
+) -> Result<Option<Routes>, NoMemory>
+    requires well_formed { IsWellFormed model.now }
+    requires lookups { lookups.now ≡ model.now }
+    ensures first { IfOk result (λ first. lists_in first
+        ≡ cond (is_valid model.now (path_cheapest_arc model.now)) (Some (path_cheapest_arc model.now)) None) }
+    ensures visits { IfOk result (λ first. IfSome first (λ routes. routes.visits ≡ visits model.now)) }
+{
+    let lists = filled_lists(alloc, model, lookups)?;
+    let routes = complete_routes(alloc, model, lookups, &lists)?;
+    Ok(routes)
 }
 
 /// The first solution of a model (`PATH_CHEAPEST_ARC` in OR-Tools): vehicle after vehicle, items are appended to its
@@ -52,7 +82,6 @@ pub fn first(alloc: Global, model: &Model) -> Result<Option<Routes>, NoMemory>
     ensures visits { IfOk result (λ first. IfSome first (λ routes. routes.visits ≡ visits model.now)) }
 {
     let lookups = NodeTables::open(alloc, model)?;
-    let lists = filled_lists(alloc, model, &lookups)?;
-    let routes = complete_routes(alloc, model, &lookups, &lists)?;
-    Ok(routes)
+    let first = first_over(alloc, model, &lookups)?;
+    Ok(first)
 }

@@ -1,7 +1,7 @@
 use Rattle.std.proofs.Common.{◌∙◌, Some, None, cond, ap, sym, subst}
 use Rattle.vr_model.specs.routes.Rules.{is_valid}
 use Rattle.vr_rules.specs.Placing.{AreBuilt}
-use Rattle.vr_first_arc.proofs.solution.first.Goals as goal
+use Rattle.vr_first_arc.proofs.solution.first_over.Goals as goal
 
 pub complete_routes-requires-clause-built : goal.complete_routes-requires-clause-built
 complete_routes-requires-clause-built c = subst (AreBuilt c.args.model.now) (sym c.deref.ensures.value) c.in_ok-lists.ensures.built

@@ -1,0 +1,19 @@
+use Rattle.std.proofs.Common.{◌∙◌, ap, sym, subst, length}
+use Rattle.vr_rules.specs.Placing.{AreBuilt, AreMarks}
+use Rattle.vr_rules.proofs.PlacingLemmas.{AreBuilt-empty, AreMarks-empty}
+use Rattle.vr_first_arc.specs.Choices.{all_filled}
+use Rattle.vr_first_arc.proofs.solution.fill_empty.Goals as goal
+
+pub fill_all-requires-clause-built : goal.fill_all-requires-clause-built
+fill_all-requires-clause-built c = subst (AreBuilt c.args.model.now) (sym c.requires.empty) (AreBuilt-empty c.args.model.now)
+
+pub fill_all-requires-clause-marks : goal.fill_all-requires-clause-marks
+fill_all-requires-clause-marks c =
+    let model = c.args.model.now in
+    subst (λ lists. AreMarks model.nodes lists c.deref_mut.result.now) (sym c.requires.empty)
+    (AreMarks-empty model c.deref_mut.result.now (c.deref_mut.ensures.value ∙ c.in_ok-marks.ensures.items_if_clones_equal (λ y e. e)))
+
+pub returns-clause-lists : goal.returns-clause-lists
+returns-clause-lists c =
+    let model = c.args.model.now in
+    c.in_ok-fill_all.ensures.filled ∙ ap (all_filled model (length model.vehicles)) c.requires.empty
