@@ -22,6 +22,3 @@ pub use search::{Event, Kind, Lambda, Limit};
 pub use sequence::Seq;
 pub use steps::Steps;
 pub use words::Text;
-
-#[cfg(test)]
-mod tests;

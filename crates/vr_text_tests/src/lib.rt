@@ -1,6 +1,6 @@
-//! Tests of the crates that read and write texts: devices, JSON values, models, generated models and checks, through
-//! what `vr_io`, `vr_json`, `vr_read`, `vr_gen`, `vr_printed` and `vr_check` make public. They stand in a crate of
-//! their own, so that the crates that they test are proved once.
+//! Tests of the crates that read and write texts: devices, JSON values, models, generated models, checks and reports
+//! of searches, through what `vr_io`, `vr_json`, `vr_read`, `vr_gen`, `vr_printed`, `vr_check` and `vr_watch` make
+//! public. They stand in a crate of their own, so that the crates that they test are proved once.
 #![tactic(auto)]
 
 #[cfg(test)]
@@ -11,3 +11,5 @@ mod devices;
 mod models;
 #[cfg(test)]
 mod values;
+#[cfg(test)]
+mod watchers;

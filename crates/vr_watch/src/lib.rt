@@ -4,8 +4,6 @@
 mod all;
 mod counting;
 mod stopping;
-#[cfg(test)]
-mod tests;
 mod texts;
 mod tracing;
 mod watchers;

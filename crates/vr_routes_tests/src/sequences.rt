@@ -2,9 +2,9 @@
 
 ghost use Rattle.std.specs.Prelude.{◌<◌, ◌≤◌, length};
 
-use crate::{Neighbourhood, NoMemory, Seq, Text};
 use std::alloc::Global;
 use std::test::Fail;
+use vr_model::{Neighbourhood, NoMemory, Seq, Text};
 
 // 0, 7, 14 and so on, `n` of them.
 fn sevens(alloc: Global, n: u32) -> Result<Seq<u32>, NoMemory>
