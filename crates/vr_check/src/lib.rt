@@ -1,7 +1,10 @@
 //! The checker: whether a printed solution keeps every rule of its model.
 //!
 //! It shares only the look-ups of the model with the search and its judges: each rule is asked of the printed lists,
-//! plans and numbers themselves, one pass for each.
+//! plans and numbers themselves, one pass for each. A pass is handed the model and the solution and answers the first
+//! place where its rule is broken; nothing is kept from one to the next, and the first that answers a place is told.
+//!
+//! `vr_replies` calls [`check`] for the word `check`, and has the law that what is printed meets it.
 #![tactic(auto)]
 
 mod asked;
