@@ -4,8 +4,8 @@
 //! `answer` works out the answer to an input, `numbered` a summary of a search, and `reply` ties these to the source
 //! and the sink. What is asked and replied without a search stands in `vr_replies`.
 //!
-//! An input is let go as it is used: the bytes before its model is read, the value before that is solved. A function owns
-//! one large value and lends it on. The lists that a search begins with are valid, and the judge holds them.
+//! An input is let go as it is used: the bytes before its model is read, the value before that is solved. A function
+//! owns one large value and lends it on. The lists that a search begins with are valid, and the judge holds them.
 //!
 //! `vr_cli` calls [`run`] with the words of its command line and the two standard streams.
 #![tactic(auto)]
