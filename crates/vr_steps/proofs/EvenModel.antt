@@ -1,24 +1,21 @@
--- An even model of three nodes.
-use Rattle.std.proofs.Common.{◌≡◌, ◌≢◌, ℕ, zero, suc, ◌<◌, true, false, List, [], ◌∷◌, length, refl, inl, arith}
-use Rattle.std.specs.Prelude.{ℤ, pos}
+-- An even model of three nodes: the worked model of two cars, with one of them.
+use Rattle.std.proofs.Common.{◌≡◌, ◌≢◌, ℕ, zero, suc, ◌<◌, true, false, [], ◌∷◌, length, refl, inl, arith}
+use Rattle.std.specs.Prelude.{pos}
 use Rattle.vr_model.specs.tables.Numbers.{number_at, horizon}
-use Rattle.vr_model.specs.tables.Tables.{dimension_at, transit}
+use Rattle.vr_model.specs.tables.Tables.{dimension_at, matrix_at, transit}
 use Rattle.vr_model.specs.tables.ModelRules.{has_negative_cost, has_large_entry, goes_back}
 use Rattle.vr_model.specs.tables.WellFormed.{least_value, greatest_cost, greatest_value, greatest_coefficient, IsMatrix, IsVehicle, IsEvaluator, IsDimension, IsWellFormed}
 use Rattle.vr_model.specs.declared.records.Dimension.{Dimension}
 use Rattle.vr_model.specs.declared.records.Model.{Model}
-use Rattle.vr_model.proofs.worked.WorkedModels.{car, model_of, time}
+use Rattle.vr_model.proofs.worked.WorkedModels.{car, time, two_cars}
 use Rattle.vr_model.proofs.worked.WorkedWellFormed.{default_is_search, in_range, of_none, of_one, one_in_range}
-use Rattle.vr_weights.specs.Even.{IsEven}
-
-abbrev entries : List ℤ
-entries = pos 0 ∷ pos 5 ∷ pos 5 ∷ pos 5 ∷ pos 0 ∷ pos 5 ∷ pos 5 ∷ pos 5 ∷ pos 0 ∷ []
+use Rattle.vr_steps.specs.Even.{IsEven}
 
 abbrev dimension : Dimension
 dimension = record (time 3) { fix_start = true; capacities = horizon ∷ [] }
 
 abbrev pub three : Model
-three = model_of 3 entries (car ∷ []) (dimension ∷ [])
+three = record two_cars { vehicles = car ∷ []; dimensions = dimension ∷ [] }
 
 dimension_is : IsDimension three dimension
 dimension_is = record {
@@ -48,7 +45,7 @@ well_formed : IsWellFormed three
 well_formed = record {
   number_of_nodes = (omega arith, omega arith);
   number_of_matrices = record { at_least = omega arith; at_most = omega arith };
-  each_matrix = of_one (IsMatrix 3) _ (record { square = refl; entries_in_range = in_range least_value greatest_cost entries refl });
+  each_matrix = of_one (IsMatrix 3) _ (record { square = refl; entries_in_range = in_range least_value greatest_cost (matrix_at two_cars 0).entries refl });
   number_of_vehicles = record { at_least = omega arith; at_most = omega arith };
   each_vehicle = of_one (IsVehicle three) car (record { start_in_range = omega arith; end_in_range = omega arith; costs_in_range = omega arith; fixed_in_range = one_in_range _ _ _ refl });
   number_of_dimensions = omega arith;

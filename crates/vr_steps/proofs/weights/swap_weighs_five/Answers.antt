@@ -1,5 +1,5 @@
-use Rattle.vr_weights.proofs.Swaps.{goes, weighs_five}
-use Rattle.vr_weights.proofs.swap_weighs_five.Goals as goal
+use Rattle.vr_steps.proofs.Swaps.{goes, weighs_five}
+use Rattle.vr_steps.proofs.weights.swap_weighs_five.Goals as goal
 
 pub returns-clause-weight : goal.returns-clause-weight
 returns-clause-weight c =

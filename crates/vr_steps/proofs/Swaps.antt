@@ -12,9 +12,9 @@ use Rattle.vr_model.specs.deciding.Testing.{and_left, and_right, or_left, test_o
 use Rattle.vr_model.proofs.tables.Tests.{apart, clash, fails_not}
 use Rattle.vr_model.proofs.schedules.LineArcs.{arcs_of_line}
 use Rattle.vr_steps.specs.Reached.{ArcAlone, RunsAreCounted}
-use Rattle.vr_weights.specs.Even.{SwapIsFeasible, SwapWeighsFive}
-use Rattle.vr_weights.proofs.EvenLines.{steady}
-use Rattle.vr_weights.proofs.Steady.{goes_through, three_arcs}
+use Rattle.vr_steps.specs.Even.{SwapIsFeasible, SwapWeighsFive}
+use Rattle.vr_steps.proofs.EvenLines.{steady}
+use Rattle.vr_steps.proofs.Steady.{goes_through, three_arcs}
 
 shared_before : (front rest others : List ℕ) (a b : ℕ) → a ≢ b → shared_front (front ++ a ∷ rest) (front ++ b ∷ others) ≡ length front
 shared_before [] rest others a b other = ap (λ t. cond t (1 + shared_front rest others) 0) (apart a b other)

@@ -1,7 +1,8 @@
 //! What a change of lists weighs: how many images of runs a walk takes through it, in worked cases.
-#![tactic(auto)]
 
-ghost use Rattle.vr_weights.specs.Even.{SomeModelIsEven, SwapIsFeasible, SwapWeighsFive};
+ghost use Rattle.vr_steps.specs.Even.{SomeModelIsEven, SwapIsFeasible, SwapWeighsFive};
+
+use crate::laws;
 
 /// There is a model in which the way between any two nodes takes five, and nothing else is asked.
 pub fn some_model_is_even()
@@ -23,6 +24,6 @@ pub fn swap_weighs_five()
     vr_model::laws::chosen_where_feasible();
     vr_model::laws::reached_as_tested();
     vr_model::laws::end_reached_as_tested();
-    vr_steps::laws::arc_alone();
-    vr_steps::laws::runs_are_counted();
+    laws::arc_alone();
+    laws::runs_are_counted();
 }

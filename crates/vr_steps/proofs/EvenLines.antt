@@ -15,8 +15,8 @@ use Rattle.vr_model.specs.declared.records.Dimension.{Dimension}
 use Rattle.vr_model.proofs.tables.Tests.{clash}
 use Rattle.vr_model.proofs.schedules.LineArcs.{arcs_of_line}
 use Rattle.vr_model.proofs.schedules.LinesSound.{arc_is, no_used_arc, taken}
-use Rattle.vr_weights.specs.Even.{IsEven, asking_nothing_else}
-use Rattle.vr_weights.proofs.Steady.{IsSteady}
+use Rattle.vr_steps.specs.Even.{IsEven, asking_nothing_else}
+use Rattle.vr_steps.proofs.Steady.{IsSteady}
 
 same_of_all : {T : Type 0} (f : ℕ → T) (last none : T) → ((n : ℕ) → f n ≡ last) → (list : List ℕ) (k : ℕ) → k ≤ length list → slice_index_or (map f list ++ last ∷ []) k none ≡ last
 same_of_all f last none same [] zero le = refl

@@ -1,4 +1,0 @@
-pub mod Steady
-pub mod EvenLines
-pub mod Swaps
-pub mod EvenModel
