@@ -32,8 +32,7 @@ fn fill_empty(
 {
     let mut marks = vec![in alloc; false; model.nodes as usize]?;
     let mut room = Room::new(alloc);
-    fill_all(&mut room, model, lookups, candidates, lists, &mut marks)?;
-    Ok(())
+    fill_all(&mut room, model, lookups, candidates, lists, &mut marks)
 }
 
 // The lists at which the construction ends.
@@ -66,8 +65,7 @@ fn first_over(
     ensures visits { IfOk result (λ first. IfSome first (λ routes. routes.visits ≡ visits model.now)) }
 {
     let lists = filled_lists(alloc, model, lookups)?;
-    let routes = complete_routes(alloc, model, lookups, &lists)?;
-    Ok(routes)
+    complete_routes(alloc, model, lookups, &lists)
 }
 
 /// The first solution of a model (`PATH_CHEAPEST_ARC` in OR-Tools): vehicle after vehicle, items are appended to its
@@ -82,6 +80,5 @@ pub fn first(alloc: Global, model: &Model) -> Result<Option<Routes>, NoMemory>
     ensures visits { IfOk result (λ first. IfSome first (λ routes. routes.visits ≡ visits model.now)) }
 {
     let lookups = NodeTables::open(alloc, model)?;
-    let first = first_over(alloc, model, &lookups)?;
-    Ok(first)
+    first_over(alloc, model, &lookups)
 }

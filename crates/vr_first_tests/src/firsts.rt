@@ -1,13 +1,14 @@
-//! First solutions of a model of two visits, by each strategy.
+//! First solutions, by each strategy, and lists that are rebuilt.
 
 ghost use Rattle.std.specs.Prelude.{IfOk, IfSome, IsTrue};
 ghost use Rattle.vr_model.specs.routes.Routes.{are_lists};
 ghost use Rattle.vr_model.specs.routes.Rules.{is_open};
 ghost use Rattle.vr_model.specs.tables.WellFormed.{IsWellFormed};
 
+use crate::rows::{PAIRED, row};
 use std::alloc::Global;
 use std::test::Fail;
-use vr_model::{First, Model, NoMemory};
+use vr_model::{Model, NoMemory};
 use vr_routes::Routes;
 use vr_routes::samples::routes_of;
 use vr_rules::open;
@@ -25,15 +26,25 @@ fn are(routes: Option<Routes>, list: &[u32]) -> bool {
     }
 }
 
-// The first solution by a strategy.
-fn first(alloc: Global, model: &Model, strategy: First) -> Result<Option<Routes>, NoMemory>
+// Whether the cheapest arcs give this list.
+fn by_arcs(alloc: Global, model: &Model, list: &[u32]) -> Result<bool, NoMemory>
     requires { IsWellFormed model.now }
 {
-    match strategy {
-        First::PathCheapestArc => vr_first_arc::first(alloc, model),
-        First::ParallelCheapestInsertion => vr_first_insert::first(alloc, model),
-        First::Savings => vr_first_savings::first(alloc, model),
-    }
+    Ok(are(vr_first_arc::first(alloc, model)?, list))
+}
+
+// Whether the cheapest insertions give this list.
+fn by_insertions(alloc: Global, model: &Model, list: &[u32]) -> Result<bool, NoMemory>
+    requires { IsWellFormed model.now }
+{
+    Ok(are(vr_first_insert::first(alloc, model)?, list))
+}
+
+// Whether savings give this list.
+fn by_savings(alloc: Global, model: &Model, list: &[u32]) -> Result<bool, NoMemory>
+    requires { IsWellFormed model.now }
+{
+    Ok(are(vr_first_savings::first(alloc, model)?, list))
 }
 
 // Open routes with a list of the one vehicle, where there are such.
@@ -52,33 +63,68 @@ fn open_routes(alloc: Global, model: &Model, list: &[u32]) -> Result<Option<Rout
     }
 }
 
-// What a list is rebuilt to, where it is one of the model and open.
-fn rebuilt(alloc: Global, model: &Model, list: &[u32]) -> Result<Option<Routes>, NoMemory>
+// Whether an open list is rebuilt to another.
+fn rebuilds(alloc: Global, model: &Model, list: &[u32], after: &[u32]) -> Result<bool, NoMemory>
     requires { IsWellFormed model.now }
 {
-    let Some(routes) = open_routes(alloc, model, list)? else {
-        return Ok(None);
-    };
-    let after = vr_first_insert::rebuild(alloc, model, &routes)?;
-    Ok(Some(after))
+    match open_routes(alloc, model, list)? {
+        Some(routes) => Ok(are(
+            Some(vr_first_insert::rebuild(alloc, model, &routes)?),
+            after,
+        )),
+        None => Ok(false),
+    }
+}
+
+fn three_nodes(alloc: Global, model: &Model) -> Result<(), Fail>
+    requires { IsWellFormed model.now }
+{
+    row(
+        "the nearest visit goes first",
+        by_arcs(alloc, model, &[1, 2]),
+    )?;
+    row(
+        "the lower of equal places wins",
+        by_insertions(alloc, model, &[2, 1]),
+    )?;
+    row(
+        "equal savings go by the lesser node",
+        by_savings(alloc, model, &[1, 2]),
+    )?;
+    row(
+        "what is left is inserted",
+        rebuilds(alloc, model, &[2], &[1, 2]),
+    )
+}
+
+fn pairs(alloc: Global, model: &Model) -> Result<(), Fail>
+    requires { IsWellFormed model.now }
+{
+    row(
+        "pairs by arcs: the lesser pickup goes first",
+        by_arcs(alloc, model, &[1, 2, 3, 4]),
+    )?;
+    row(
+        "pairs by insertions: the second goes to the front",
+        by_insertions(alloc, model, &[3, 4, 1, 2]),
+    )?;
+    row(
+        "pairs by savings: the lesser delivery goes in front",
+        by_savings(alloc, model, &[1, 2, 3, 4]),
+    )
 }
 
 #[test]
-fn each_strategy_has_its_order(rt: HostRuntime) -> Result<(), Fail> {
-    let alloc = rt.alloc();
-    let model = read_model_text(alloc, TRIPLE).ok_or("a model")?;
-    // the nearest visit goes first
-    assert!(rt; are(first(alloc, &model, First::PathCheapestArc)?, &[1, 2]));
-    // the lower of equal places wins
-    assert!(rt;
-        are(
-            first(alloc, &model, First::ParallelCheapestInsertion)?,
-            &[2, 1]
-        )
-    );
-    // equal savings go by the lesser node
-    assert!(rt; are(first(alloc, &model, First::Savings)?, &[1, 2]));
-    // what is left is inserted
-    assert!(rt; are(rebuilt(alloc, &model, &[2])?, &[1, 2]));
+fn first_solutions(rt: HostRuntime) -> Result<(), Fail> {
+    let model = read_model_text(rt.alloc(), TRIPLE).ok_or("three nodes")?;
+    three_nodes(rt.alloc(), &model)?;
+    Ok(())
+}
+
+#[test]
+fn first_solutions_of_pairs(rt: HostRuntime) -> Result<(), Fail> {
+    let text = PAIRED.replace(rt.alloc(), "POLICY", "any")?;
+    let model = read_model_text(rt.alloc(), text.as_str()).ok_or("pairs")?;
+    pairs(rt.alloc(), &model)?;
     Ok(())
 }

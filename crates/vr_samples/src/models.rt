@@ -1,5 +1,4 @@
-//! Models that tests give as texts. The program does not stand on it.
-#![tactic(auto)]
+//! Models of texts.
 
 ghost use Rattle.std.specs.Prelude.{IfSome};
 ghost use Rattle.vr_model.specs.tables.WellFormed.{IsWellFormed};

@@ -1,5 +1,4 @@
-//! Valid routes that tests give as lists. The program does not stand on it.
-#![tactic(auto)]
+//! Valid routes of lists.
 
 ghost use Rattle.std.specs.Prelude.{◌≡◌, IfOk, IfSome, IsTrue, MatchOption, false, length, map, true};
 ghost use Rattle.vr_model.specs.routes.Rules.{is_valid};

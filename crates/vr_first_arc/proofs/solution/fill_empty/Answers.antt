@@ -1,4 +1,5 @@
 use Rattle.std.proofs.Common.{◌∙◌, ap, sym, subst, length}
+use Rattle.std.proofs.lemmas.Result.{on_ok_weaker}
 use Rattle.vr_rules.specs.Placing.{AreBuilt, AreMarks}
 use Rattle.vr_rules.proofs.PlacingLemmas.{AreBuilt-empty, AreMarks-empty}
 use Rattle.vr_first_arc.specs.Choices.{all_filled}
@@ -16,4 +17,4 @@ fill_all-requires-clause-marks c =
 pub returns-clause-lists : goal.returns-clause-lists
 returns-clause-lists c =
     let model = c.args.model.now in
-    c.in_ok-fill_all.ensures.filled ∙ ap (all_filled model (length model.vehicles)) c.requires.empty
+    on_ok_weaker c.fill_all.result (λ filled. filled ∙ ap (all_filled model (length model.vehicles)) c.requires.empty) c.fill_all.ensures.filled

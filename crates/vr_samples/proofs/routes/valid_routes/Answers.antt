@@ -2,7 +2,7 @@ use Rattle.std.specs.Prelude.{map}
 use Rattle.std.proofs.lemmas.Bool.{false_from_ne_true, and_parts}
 use Rattle.vr_model.specs.routes.Rules.{is_valid}
 use Rattle.vr_rules.proofs.CompleteLemmas.{are-taken}
-use Rattle.vr_sample_routes.proofs.valid_routes.Goals as goal
+use Rattle.vr_samples.proofs.routes.valid_routes.Goals as goal
 
 -- lists that are not taken are not valid
 pub returns-in_default-clause-answer : goal.returns-in_default-clause-answer
