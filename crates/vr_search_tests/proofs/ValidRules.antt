@@ -32,7 +32,7 @@ module _ (model : Model) where
       (and_left (list_all (λ e. is_feasible (line model e v (x ∷ xs))) (below (length model.dimensions))) _ opens) d (omega arith) (omega (arith, low))
 
   module _ (lists : List (List ℕ)) (valid : IsTrue (is_valid model lists)) where
-    enough : Bool
+    abbrev enough : Bool
     enough = list_all (λ group. has_enough group.penalty group.max (active_in lists group)) model.groups
 
     -- all but that the lists are lists of the model

@@ -232,6 +232,11 @@ fn is_asked_enough(by: By, search: Search, asked: u64, tries: u64) -> bool {
     }
 }
 
+// Whether this is the list of the first vehicle.
+fn has_list(routes: &Routes, list: &[u32]) -> bool {
+    routes.vehicles() > 0 && routes.list(0) == list
+}
+
 /// Whether a search by a judge from valid routes finds what is wanted, and asks the judge as often as it should.
 pub(crate) fn finds(
     alloc: Global,
@@ -255,8 +260,7 @@ pub(crate) fn finds(
         is_asked_enough(by, search, count.asked, tries)
             && tries == wanted.tries
             && count.report.solutions == wanted.solutions
-            && routes.vehicles() > 0
-            && routes.list(0) == wanted.list,
+            && has_list(routes, wanted.list),
     )
 }
 

@@ -16,6 +16,6 @@ valid-requires-clause-lists c =
     let after : c.commit.new.self.lists ≡ apply model lists c.args.mv = c.commit.ensures.lists ∙ (ap (λ (r : Tours). changed r.lists c.args.change.now) c.in_ok-after.ensures ∙ c.requires.change.lists_are) in
     subst (λ ls. IsTrue (are_lists model ls)) (sym after) (moves_keep_lists model c.requires.well_formed lists c.args.mv (are-lists model lists c.requires.valid) c.requires.is_one)
 
-pub returns-clause-1 : goal.returns-clause-1
-returns-clause-1 c =
+pub returns : goal.returns
+returns c =
     c.in_ok-stays.ensures ∙ ap (is_valid c.args.model.now) (c.commit.ensures.lists ∙ ap (λ (r : Tours). changed r.lists c.args.change.now) c.in_ok-after.ensures)
