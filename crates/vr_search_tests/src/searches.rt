@@ -222,8 +222,8 @@ fn filter_count(
     count
 }
 
-// Whether a judge is asked so often in so many tries: by rebuilding of each move in a descent, where guided search rules
-// some out itself; by filters not of each.
+// Whether a judge is asked so often in so many tries: by rebuilding of each move in a descent, where guided search
+// rules some out itself; by filters not of each.
 fn is_asked_enough(by: By, search: Search, asked: u64, tries: u64) -> bool {
     match (by, search) {
         (By::Rebuilding, Search::Descent) => asked > 0 && asked == tries,
