@@ -16,4 +16,3 @@ pub mod ElsewhereLemmas
 pub mod RestLemmas
 pub mod PartLemmas
 pub mod InactiveLemmas
-pub mod SampleLemmas

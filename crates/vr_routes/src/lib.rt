@@ -12,7 +12,6 @@ mod pairs;
 mod pieces;
 mod routes;
 mod rows;
-pub mod samples;
 mod seats;
 
 pub use changes::Change;

@@ -7,9 +7,8 @@ ghost use Rattle.vr_model.specs.tables.WellFormed.{IsWellFormed};
 use std::alloc::Global;
 use std::test::Fail;
 use vr_model::{Model, Move};
-use vr_routes::samples::routes_of;
 use vr_routes::{Change, Indices, Routes};
-use vr_samples::read_model_text;
+use vr_samples::{read_model_text, routes_of};
 
 // Twelve visits: 2 and 4 are a pair, and so are 11 and 12.
 const TEXT: &str = r#"{"format":1,"nodes":13,"matrices":[[

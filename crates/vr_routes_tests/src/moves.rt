@@ -11,8 +11,7 @@ use vr_moves_cross::{cross_chains, exchange, relocate};
 use vr_moves_pair::{pair_active, pair_inactive, relocate_pair};
 use vr_moves_route::{or_opt, two_opt};
 use vr_routes::Routes;
-use vr_routes::samples::routes_of;
-use vr_samples::read_model_text;
+use vr_samples::{read_model_text, routes_of};
 
 // Two visits and one vehicle.
 const TWO: &str =

@@ -1,15 +1,48 @@
-//! Valid routes of lists.
+//! Routes of lists.
 
 ghost use Rattle.std.specs.Prelude.{◌≡◌, IfOk, IfSome, IsTrue, MatchOption, false, length, map, true};
+ghost use Rattle.vr_model.specs.routes.Routes.{are_lists};
 ghost use Rattle.vr_model.specs.routes.Rules.{is_valid};
 ghost use Rattle.vr_model.specs.tables.Tables.{visits};
 ghost use Rattle.vr_model.specs.tables.WellFormed.{IsWellFormed};
 
 use std::alloc::Global;
-use vr_model::{Model, NoMemory};
+use vr_model::{Model, NoMemory, Seq};
 use vr_routes::Routes;
-use vr_routes::samples::routes_of;
 use vr_rules::valid;
+
+/// Routes with these lists, as [`Routes::from_lists`] makes them.
+pub fn routes_of(alloc: Global, model: &Model, lists: &[&[u32]]) -> Result<Option<Routes>, NoMemory>
+    requires well_formed { IsWellFormed model.now }
+    ensures answer { let are = are_lists model.now (map (λ list. list.now) lists.now) in
+        IfOk result (λ answer. MatchOption answer (are ≡ false) (λ routes. are ≡ true)) }
+    ensures visits { IfOk result (λ answer. IfSome answer (λ routes. routes.visits ≡ visits model.now)) }
+    ensures lists { IfOk result (λ answer. IfSome answer (λ routes. routes.lists ≡ map (λ list. list.now) lists.now)) }
+{
+    let seqs = seqs_of(alloc, lists)?;
+    let answer = Routes::from_lists(alloc, model, &seqs)?;
+    Ok(answer)
+}
+
+// The same lists.
+fn seqs_of(alloc: Global, lists: &[&[u32]]) -> Result<Vec<Seq<u32>>, NoMemory>
+    ensures { IfOk result (λ seqs. seqs.items ≡ map (λ list. list.now) lists.now) }
+{
+    let mut seqs = Vec::new(alloc);
+    for list in lists {
+        seqs.push(seq_of(alloc, list)?)?;
+    }
+    Ok(seqs)
+}
+
+// The numbers in order.
+fn seq_of(alloc: Global, numbers: &[u32]) -> Result<Seq<u32>, NoMemory>
+    ensures { IfOk result (λ seq. seq ≡ numbers.now) }
+{
+    let mut seq = Seq::new(alloc);
+    seq.extend_from_slice(numbers)?;
+    Ok(seq)
+}
 
 /// Routes of a model with these lists; `None` exactly where they are not valid. The only refusal is want of memory.
 pub fn valid_routes(
