@@ -54,8 +54,7 @@ fn insert_known(
     let mut rows = rows_of(room.alloc, candidates.len(), model.vehicles.len())?;
     insert_all(
         room, model, lookups, keeps, candidates, lists, marks, &mut rows,
-    )?;
-    Ok(())
+    )
 }
 
 // The same with the items of the model, where the lists are those of routes.
@@ -77,8 +76,7 @@ fn insert_items(
 {
     let candidates = candidates(room.alloc, lookups)?;
     let mut marks = active_marks(room.alloc, model, routes)?;
-    insert_known(room, model, lookups, keeps, &candidates, lists, &mut marks)?;
-    Ok(())
+    insert_known(room, model, lookups, keeps, &candidates, lists, &mut marks)
 }
 
 // The same with what is kept of the lists.
@@ -97,8 +95,7 @@ fn insert_kept(
     ensures built { OnOk result (AreBuilt model.now lists.new) }
 {
     let mut keeps = keep_each(room.alloc, model, lists)?;
-    insert_items(room, model, lookups, &mut keeps, routes, lists)?;
-    Ok(())
+    insert_items(room, model, lookups, &mut keeps, routes, lists)
 }
 
 // The same with room for what is tried.
@@ -117,8 +114,7 @@ fn insert_from(
     ensures built { OnOk result (AreBuilt model.now lists.new) }
 {
     let mut room = Room::new(alloc);
-    insert_kept(&mut room, model, lookups, routes, lists)?;
-    Ok(())
+    insert_kept(&mut room, model, lookups, routes, lists)
 }
 
 // The lists at which insertion ends. Each function from here up owns one large value and lends it on, since each of its
@@ -178,8 +174,7 @@ pub fn rebuild(alloc: Global, model: &Model, routes: &Routes) -> Result<Routes, 
     ensures built { IfOk result (λ after. AreBuilt model.now after.lists) }
 {
     let lookups = NodeTables::open(alloc, model)?;
-    let after = rebuilt_routes(alloc, model, &lookups, routes)?;
-    Ok(after)
+    rebuilt_routes(alloc, model, &lookups, routes)
 }
 
 // The lists at which insertion ends when it begins with empty ones.
@@ -194,8 +189,7 @@ fn lists_from_empty(
     ensures built { IfOk result (λ lists. AreBuilt model.now lists.items) }
 {
     let empty = Routes::empty(alloc, model)?;
-    let lists = rebuilt_lists(alloc, model, lookups, &empty)?;
-    Ok(lists)
+    rebuilt_lists(alloc, model, lookups, &empty)
 }
 
 // The first solution, over what was looked up.
@@ -212,8 +206,7 @@ fn first_over(
     ensures visits { IfOk result (λ first. IfSome first (λ routes. routes.visits ≡ visits model.now)) }
 {
     let lists = lists_from_empty(alloc, model, lookups)?;
-    let routes = complete_routes(alloc, model, lookups, &lists)?;
-    Ok(routes)
+    complete_routes(alloc, model, lookups, &lists)
 }
 
 /// The first solution of a model by parallel cheapest insertion (`PARALLEL_CHEAPEST_INSERTION` in OR-Tools): empty
@@ -228,6 +221,5 @@ pub fn first(alloc: Global, model: &Model) -> Result<Option<Routes>, NoMemory>
     ensures visits { IfOk result (λ first. IfSome first (λ routes. routes.visits ≡ visits model.now)) }
 {
     let lookups = NodeTables::open(alloc, model)?;
-    let first = first_over(alloc, model, &lookups)?;
-    Ok(first)
+    first_over(alloc, model, &lookups)
 }

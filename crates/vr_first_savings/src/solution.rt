@@ -53,8 +53,7 @@ fn lists_over(
     ensures lists { IfOk result (λ lists. IsTrue (are_lists model.now lists.items)) }
 {
     let mut driving = Driving::new(alloc);
-    let lists = lists_joined(alloc, model, tables, lookups, &mut driving)?;
-    Ok(lists)
+    lists_joined(alloc, model, tables, lookups, &mut driving)
 }
 
 // The same, with look-ups of its own.
@@ -69,8 +68,7 @@ fn lists_from_tables(
     ensures lists { IfOk result (λ lists. IsTrue (are_lists model.now lists.items)) }
 {
     let lookups = NodeTables::open(alloc, model)?;
-    let lists = lists_over(alloc, model, tables, &lookups)?;
-    Ok(lists)
+    lists_over(alloc, model, tables, &lookups)
 }
 
 // The lists at which the construction ends.
@@ -80,8 +78,7 @@ fn lists_by_savings(alloc: Global, model: &Model) -> Result<Vec<Seq<u32>>, NoMem
     ensures lists { IfOk result (λ lists. IsTrue (are_lists model.now lists.items)) }
 {
     let tables = tables_of(alloc, model)?;
-    let lists = lists_from_tables(alloc, model, &tables)?;
-    Ok(lists)
+    lists_from_tables(alloc, model, &tables)
 }
 
 /// The first solution of a model by savings (`SAVINGS` in OR-Tools, after Clarke and Wright): each item begins as a

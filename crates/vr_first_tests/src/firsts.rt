@@ -10,8 +10,9 @@ use std::alloc::Global;
 use std::test::Fail;
 use vr_model::{Model, NoMemory};
 use vr_routes::Routes;
+use vr_routes::samples::routes_of;
 use vr_rules::open;
-use vr_samples::{read_model_text, routes_of};
+use vr_samples::read_model_text;
 
 // A vehicle from node 0 to node 0: 5 from 0 to 1, 9 from 0 to 2, 4 from 1 to 2, and as much back.
 const TRIPLE: &str =
@@ -116,14 +117,12 @@ fn pairs(alloc: Global, model: &Model) -> Result<(), Fail>
 #[test]
 fn first_solutions(rt: HostRuntime) -> Result<(), Fail> {
     let model = read_model_text(rt.alloc(), TRIPLE).ok_or("three nodes")?;
-    three_nodes(rt.alloc(), &model)?;
-    Ok(())
+    three_nodes(rt.alloc(), &model)
 }
 
 #[test]
 fn first_solutions_of_pairs(rt: HostRuntime) -> Result<(), Fail> {
     let text = PAIRED.replace(rt.alloc(), "POLICY", "any")?;
     let model = read_model_text(rt.alloc(), text.as_str()).ok_or("pairs")?;
-    pairs(rt.alloc(), &model)?;
-    Ok(())
+    pairs(rt.alloc(), &model)
 }

@@ -62,6 +62,5 @@ fn prints(alloc: Global, model: &Model) -> Result<bool, NoMemory>
 #[test]
 fn breaks_cumuls_and_slacks_are_printed(rt: HostRuntime) -> Result<(), Fail> {
     let model = read_model_text(rt.alloc(), MODEL).ok_or("a model")?;
-    row("the line of a solution", prints(rt.alloc(), &model))?;
-    Ok(())
+    row("the line of a solution", prints(rt.alloc(), &model))
 }

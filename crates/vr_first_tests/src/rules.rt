@@ -10,8 +10,9 @@ use std::alloc::Global;
 use std::test::Fail;
 use vr_model::{Model, NoMemory};
 use vr_routes::Routes;
+use vr_routes::samples::routes_of;
 use vr_rules::{cost, route_open, total};
-use vr_samples::{read_model_text, routes_of, valid_routes};
+use vr_samples::{read_model_text, valid_routes};
 
 // Two nodes, and 5 from one to the other. Times up to 100 with slacks up to 3; node 1 may not be visited from 5 to 8,
 // and each unit above 5 costs 2 there. The span of the vehicle costs 3 a unit, that of all vehicles 4.
@@ -69,8 +70,7 @@ fn driven(
     wanted: bool,
 ) -> Result<(), Fail> {
     let model = paired(alloc, policy)?;
-    row(name, answers(alloc, &model, list, wanted))?;
-    Ok(())
+    row(name, answers(alloc, &model, list, wanted))
 }
 
 #[test]
@@ -112,6 +112,5 @@ fn list_costs(alloc: Global, model: &Model) -> Result<bool, NoMemory>
 #[test]
 fn parts_of_a_cost(rt: HostRuntime) -> Result<(), Fail> {
     let model = read_model_text(rt.alloc(), TIMED).ok_or("times")?;
-    row("the parts of a cost", list_costs(rt.alloc(), &model))?;
-    Ok(())
+    row("the parts of a cost", list_costs(rt.alloc(), &model))
 }

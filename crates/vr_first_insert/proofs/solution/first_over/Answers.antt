@@ -1,6 +1,8 @@
-use Rattle.std.proofs.Common.{◌∙◌, Some, None, cond, ap, sym, subst}
+use Rattle.std.proofs.Common.{◌≡◌, ◌∙◌, ℕ, List, Option, Some, None, cond, sym, subst}
+use Rattle.std.specs.Prelude.{IfOk}
 use Rattle.vr_model.specs.routes.Rules.{is_valid}
-use Rattle.vr_rules.specs.Placing.{AreBuilt}
+use Rattle.vr_routes.specs.Tours.{Tours}
+use Rattle.vr_rules.specs.Placing.{lists_in, AreBuilt}
 use Rattle.vr_first_insert.proofs.solution.first_over.Goals as goal
 
 pub complete_routes-requires-clause-built : goal.complete_routes-requires-clause-built
@@ -8,5 +10,5 @@ complete_routes-requires-clause-built c = subst (AreBuilt c.args.model.now) (sym
 
 pub returns-clause-first : goal.returns-clause-first
 returns-clause-first c =
-    c.in_ok-routes.ensures.lists
-    ∙ ap (λ lists. cond (is_valid c.args.model.now lists) (Some lists) None) (c.deref.ensures.value ∙ c.in_ok-lists.ensures.lists)
+    let Are = λ (lists : List (List ℕ)) (found : Option Tours). lists_in found ≡ cond (is_valid c.args.model.now lists) (Some lists) None in
+    subst (λ lists. IfOk c.complete_routes.result (Are lists)) (c.deref.ensures.value ∙ c.in_ok-lists.ensures.lists) c.complete_routes.ensures.lists

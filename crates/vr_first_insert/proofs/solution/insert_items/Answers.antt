@@ -1,4 +1,4 @@
-use Rattle.std.proofs.Common.{◌∙◌, sym, subst}
+use Rattle.std.proofs.Common.{sym, subst}
 use Rattle.vr_rules.specs.Placing.{AreMarks}
 use Rattle.vr_first_insert.proofs.solution.insert_items.Goals as goal
 

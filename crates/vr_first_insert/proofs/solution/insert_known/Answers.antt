@@ -1,4 +1,4 @@
-use Rattle.std.proofs.Common.{◌≡◌, ◌∙◌, ℕ, length, ap, sym, subst, arith}
+use Rattle.std.proofs.Common.{◌≡◌, ◌∙◌, ℕ, length, ap, sym, subst}
 use Rattle.std.specs.Prelude.{replicate}
 use Rattle.vr_first_insert.specs.declared.known.Known.TheVariants.{Nothing}
 use Rattle.vr_first_insert.specs.Kept.{AreRows}

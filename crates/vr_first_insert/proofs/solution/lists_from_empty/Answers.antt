@@ -1,4 +1,5 @@
-use Rattle.std.proofs.Common.{◌∙◌, ap, length}
+use Rattle.std.proofs.Common.{◌≡◌, ◌∙◌, ap, length, subst}
+use Rattle.std.specs.Prelude.{IfOk}
 use Rattle.vr_model.specs.routes.Routes.{are_lists}
 use Rattle.vr_model.specs.routes.Rules.{is_open}
 use Rattle.vr_model.specs.first.Items.{items}
@@ -15,4 +16,4 @@ rebuilt_lists-requires-clause-open_lists c = ap (is_open c.args.model.now) c.in_
 pub returns-clause-lists : goal.returns-clause-lists
 returns-clause-lists c =
     let model = c.args.model.now in
-    c.in_ok-lists.ensures.rebuilt ∙ ap (rebuilt model (length (items model))) c.in_ok-empty.ensures.lists
+    subst (λ routes. IfOk c.rebuilt_lists.result (λ lists. lists.items ≡ rebuilt model (length (items model)) routes)) c.in_ok-empty.ensures.lists c.rebuilt_lists.ensures.rebuilt
