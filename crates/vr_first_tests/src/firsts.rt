@@ -10,9 +10,8 @@ use std::alloc::Global;
 use std::test::Fail;
 use vr_model::{Model, NoMemory};
 use vr_routes::Routes;
-use vr_routes::samples::routes_of;
 use vr_rules::open;
-use vr_samples::read_model_text;
+use vr_samples::{read_model_text, routes_of};
 
 // A vehicle from node 0 to node 0: 5 from 0 to 1, 9 from 0 to 2, 4 from 1 to 2, and as much back.
 const TRIPLE: &str =

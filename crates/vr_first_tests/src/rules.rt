@@ -10,9 +10,8 @@ use std::alloc::Global;
 use std::test::Fail;
 use vr_model::{Model, NoMemory};
 use vr_routes::Routes;
-use vr_routes::samples::routes_of;
 use vr_rules::{cost, route_open, total};
-use vr_samples::{read_model_text, valid_routes};
+use vr_samples::{read_model_text, routes_of, valid_routes};
 
 // Two nodes, and 5 from one to the other. Times up to 100 with slacks up to 3; node 1 may not be visited from 5 to 8,
 // and each unit above 5 costs 2 there. The span of the vehicle costs 3 a unit, that of all vehicles 4.
