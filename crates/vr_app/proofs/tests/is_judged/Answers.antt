@@ -5,4 +5,4 @@ use Rattle.vr_app.proofs.tests.is_judged.Goals as goal
 
 pub open_judge-requires-clause-valid : goal.open_judge-requires-clause-valid
 open_judge-requires-clause-valid c =
-    first_lists-valid c.args.model.now c.in-Some.first.lists (sym c.in_ok-first_routes.ensures.lists ∙ ap lists_in c.in-Some.is)
+    first_lists-valid c.args.model.now _ (sym c.in_ok-first.ensures.lists ∙ ap lists_in c.in-Some.is)
