@@ -8,3 +8,10 @@ pub mod GroupLemmas
 pub mod VehicleLemmas
 pub mod PairLemmas
 pub mod TurnLemmas
+pub mod Counting
+pub mod Places
+pub mod Turning
+pub mod Splices
+pub mod PairsFound
+pub mod Replacing
+pub mod CountLemmas

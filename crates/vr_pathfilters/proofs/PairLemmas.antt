@@ -22,8 +22,8 @@ use Rattle.vr_routes.specs.Seats.{IsSeat}
 use Rattle.vr_routes.proofs.SeatLemmas.{active_at}
 use Rattle.vr_walks.specs.Spliced.{spliced}
 use Rattle.vr_walks.proofs.Splicing.{at_front, at_middle, at_back, long}
-use Rattle.vr_policies.proofs.PairsFound.{is_of, pair_found}
-use Rattle.vr_policies.proofs.Places.{place_is}
+use Rattle.vr_pathfilters.proofs.PairsFound.{is_of, pair_found}
+use Rattle.vr_pathfilters.proofs.Places.{place_is}
 use Rattle.vr_pathfilters.specs.Pairs.{AreMarked, IsNewList, is_marked, serves_if_any, serves_node, serves_unmarked}
 
 -- ---- pairs of nodes that are not among those between

@@ -23,11 +23,11 @@ use Rattle.vr_routes.proofs.CommitLemmas.{as_many_lists}
 use Rattle.vr_routes.proofs.PartLemmas.{part_is, part_or_before}
 use Rattle.vr_walks.specs.Lists.{IsTour}
 use Rattle.vr_walks.specs.Spliced.{AreSeams, spliced}
-use Rattle.vr_policies.specs.declared.counts.Counts.{Counts}
-use Rattle.vr_policies.specs.Counted.{AreCounted, asks_turns, count_of}
-use Rattle.vr_policies.specs.Replaced.{Serves, takes_turns_between}
-use Rattle.vr_policies.proofs.Replacing.{turns_are_between}
-use Rattle.vr_policies.proofs.Turning.{turns_are_policies}
+use Rattle.vr_pathfilters.specs.declared.policies.counts.Counts.{Counts}
+use Rattle.vr_pathfilters.specs.Counted.{AreCounted, asks_turns, count_of}
+use Rattle.vr_pathfilters.specs.Replaced.{Serves, takes_turns_between}
+use Rattle.vr_pathfilters.proofs.Replacing.{turns_are_between}
+use Rattle.vr_pathfilters.proofs.Turning.{turns_are_policies}
 use Rattle.vr_pathfilters.specs.Pairs.{AreAllCounted, IsListCounted, asks_turns_of}
 
 -- ---- lists

@@ -5,3 +5,6 @@ pub mod Known
 pub mod ListFilters
 pub mod Groups
 pub mod Pairs
+pub mod Turns
+pub mod Replaced
+pub mod Counted

@@ -8,8 +8,8 @@ use Rattle.vr_model.specs.tables.Tables.{vehicle_at}
 use Rattle.vr_model.specs.tables.WellFormed.{IsWellFormed}
 use Rattle.vr_model.specs.declared.records.Model.{Model}
 use Rattle.vr_model.specs.declared.records.Pair.{Pair}
-use Rattle.vr_policies.specs.Counted.{AreCounted, asks_turns, count_of}
-use Rattle.vr_policies.specs.declared.counts.Counts.{Counts}
+use Rattle.vr_pathfilters.specs.Counted.{AreCounted, asks_turns, count_of}
+use Rattle.vr_pathfilters.specs.declared.policies.counts.Counts.{Counts}
 use Rattle.vr_routes.specs.Seats.{IsOnce}
 use Rattle.vr_routes.specs.Tours.{Tours}
 use Rattle.vr_walks.specs.Spliced.{spliced, AreSeams}

@@ -6,7 +6,7 @@ ghost use Rattle.vr_model.specs.tables.Tables.{visits};
 ghost use Rattle.vr_model.specs.schedules.Weights.{weight as weight_in, list_weight};
 ghost use Rattle.vr_model.specs.routes.Routes.{route};
 ghost use Rattle.vr_model.specs.declared.records.Model.{Model as Defined};
-ghost use Rattle.vr_model.specs.tables.WellFormed.{IsWellFormed};
+ghost use Rattle.vr_model.specs.tables.WellFormed.{IsWellFormed, WherePresent};
 ghost use Rattle.vr_routes.specs.Changes.{IsMadeOn};
 ghost use Rattle.vr_routes.specs.Pieces.{ListAfter, changed, joined, part_at};
 ghost use Rattle.vr_routes.specs.Tours.{Tours};
@@ -16,7 +16,8 @@ ghost use Rattle.vr_walks.specs.Lists.{is_feasible_list, IsTour};
 ghost use Rattle.vr_walks.specs.Stops.{AreStops};
 ghost use Rattle.vr_pathfilters.specs.Lists.{holds_of_each};
 ghost use Rattle.vr_pathfilters.specs.TourLists.{AreTours};
-ghost use Rattle.vr_pathfilters.specs.Known.{AreKnown, StandsAt, IsReady, KnowsRows, AreRowsOfPart, with_part};
+ghost use Rattle.vr_pathfilters.specs.Known.{AreKnown, StandsAt, IsReady, AreRowsOfPart, with_part};
+ghost use Rattle.vr_pathfilters.specs.Known.{KnowsLoads, KnowsRows};
 
 use crate::loads::{all_carried, loads_of, put_list};
 use std::alloc::Global;
@@ -79,9 +80,7 @@ impl<'m> DimensionFilter<'m> {
         routes.know_once();
         routes.know_entries();
         let stops = Stops::build(alloc, model, d)?;
-        let mut line = no_line(alloc);
-        let loads = loads_of(alloc, model, d, routes)?;
-        let known = rows_unless(&loads, alloc, model, d, &stops, routes, &mut line)?;
+        let (loads, known) = kept_of(alloc, model, d, &stops, routes)?;
         Ok(DimensionFilter {
             model,
             d,
@@ -91,7 +90,7 @@ impl<'m> DimensionFilter<'m> {
             known,
             walk: Walk::new(alloc),
             list: Row::new(),
-            line,
+            line: no_line(alloc),
             first: Rows::new(alloc),
             second: Rows::new(alloc),
             is_prepared: false,
@@ -241,6 +240,27 @@ fn put_part(known: &mut Vec<Rows>, change: &Change, k: usize, rows: &mut Rows)
         return;
     }
     mem::swap(&mut known[change.vehicle(k) as usize], rows);
+}
+
+// What is kept of the lists of all vehicles: loads where the dimension is one, else rows.
+fn kept_of(
+    alloc: Global,
+    model: &Model,
+    d: u32,
+    stops: &Stops,
+    routes: &Routes,
+) -> Result<(Option<Loads>, Vec<Rows>), NoMemory>
+    requires well_formed { IsWellFormed model.now }
+    requires dimension { d < length model.now.dimensions }
+    requires stops { AreStops model.now d stops.now }
+    requires tours { AreTours model.now routes.now }
+    ensures loads { IfOk result (λ kept. WherePresent (KnowsLoads model.now d routes.now.lists) kept.0) }
+    ensures known { IfOk result (λ kept. kept.0 ≡ None → KnowsRows model.now d kept.1.items routes.now.lists) }
+{
+    let loads = loads_of(alloc, model, d, routes)?;
+    let mut line = no_line(alloc);
+    let known = rows_unless(&loads, alloc, model, d, stops, routes, &mut line)?;
+    Ok((loads, known))
 }
 
 // The rows of each vehicle with its list, unless loads are kept.

@@ -7,6 +7,7 @@ mod lists;
 mod loads;
 mod new_lists;
 mod pairs;
+pub mod policies;
 mod vehicles;
 
 pub use dimensions::DimensionFilter;

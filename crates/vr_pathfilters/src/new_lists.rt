@@ -4,13 +4,13 @@ ghost use Rattle.std.specs.Prelude.{◌≡◌, ◌==◌, ◌&&◌, ◌<◌, ◌�
 ghost use Rattle.std.specs.List.{list_all};
 ghost use Rattle.vr_model.specs.routes.Routes.{route};
 ghost use Rattle.vr_model.specs.routes.Rules.{place_of, serves_pair};
-ghost use Rattle.vr_policies.specs.Replaced.{comes_in_turn, list_of};
+ghost use Rattle.vr_pathfilters.specs.Replaced.{comes_in_turn, list_of};
 ghost use Rattle.vr_pathfilters.specs.Pairs.{AreMarked, serves_node, serves_unmarked};
 
+use crate::policies::NewCounts;
 use std::marker::Model;
 use vr_lists::NodeTables;
 use vr_model::{Pair, Policy};
-use vr_policies::NewCounts;
 use vr_routes::Routes;
 
 /// The list of a vehicle after a change: what it keeps at both ends, with other nodes between. Contracts see the list.
@@ -33,7 +33,7 @@ impl<'a> Model for NewList<'a> {
     ghost use Rattle.std.specs.Prelude.{ℕ, List};
     ghost use Rattle.vr_model.specs.routes.Routes.{route};
     ghost use Rattle.vr_walks.specs.Spliced.{spliced};
-    ghost use Rattle.vr_policies.specs.Replaced.{comes_in_turn, list_of};
+    ghost use Rattle.vr_pathfilters.specs.Replaced.{comes_in_turn, list_of};
     ghost use Rattle.vr_pathfilters.specs.Pairs.{IsNewList};
 
     ghost Value = { List ℕ };

@@ -14,20 +14,20 @@ ghost use Rattle.vr_routes.specs.Tours.{Tours};
 ghost use Rattle.vr_walks.specs.Lists.{IsTour};
 ghost use Rattle.vr_walks.specs.Spliced.{AreSeams, spliced};
 ghost use Rattle.vr_filter.specs.Filters.{after};
-ghost use Rattle.vr_policies.specs.Counted.{AreCounted};
-ghost use Rattle.vr_policies.specs.Replaced.{takes_turns_between};
+ghost use Rattle.vr_pathfilters.specs.Counted.{AreCounted};
+ghost use Rattle.vr_pathfilters.specs.Replaced.{takes_turns_between};
 ghost use Rattle.vr_pathfilters.specs.Lists.{holds_of_each};
 ghost use Rattle.vr_pathfilters.specs.ListFilters.{StandsBy};
 ghost use Rattle.vr_pathfilters.specs.Pairs.{AreAllCounted, AreMarked, IsListCounted, KnowsPairs, KnowsTours};
 
 use crate::lists::{ListFilter, ListRule};
 use crate::new_lists::{NewList, mark};
+use crate::policies::{NewCounts, Turns};
 use std::alloc::Global;
 use vr_balance::strip;
 use vr_filter::PathFilter;
 use vr_lists::NodeTables;
 use vr_model::{Model, NoMemory, Policy};
-use vr_policies::{NewCounts, Turns};
 use vr_routes::{Change, Routes, Row};
 
 /// The rule that a list serves each pair in order and keeps the policy of its vehicle.

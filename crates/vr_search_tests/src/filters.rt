@@ -21,12 +21,10 @@ pub(crate) enum Filter {
     Groups,
     Vehicles,
     Pairs,
-    /// Of dimension 0, as the next two.
-    Dimension,
-    /// Of allowed vehicles and the dimension together.
+    /// Of allowed vehicles and of groups together.
     Both,
-    /// One of a list of filters of dimensions.
-    Each,
+    /// Of dimension 0, as a list of one filter.
+    Dimensions,
 }
 
 // Makes a move where it is one and the filter lets it pass; answers whether that was so.
@@ -123,22 +121,6 @@ fn pairs_follow(
     follows(model, &mut filter, routes, moves)
 }
 
-fn dimension_follows(
-    alloc: Global,
-    model: &Model,
-    routes: &mut Routes,
-    moves: &[(Move, bool)],
-) -> Result<bool, NoMemory>
-    requires well_formed { IsWellFormed model.now }
-    requires of_model { routes.old.visits ≡ visits model.now }
-    requires many { length routes.old.lists ≡ length model.now.vehicles }
-    requires valid { IsTrue (is_valid model.now routes.old.lists) }
-    requires some { 0 < length model.now.dimensions }
-{
-    let mut filter = DimensionFilter::open(alloc, model, 0, routes)?;
-    follows(model, &mut filter, routes, moves)
-}
-
 fn both_follow(
     alloc: Global,
     model: &Model,
@@ -149,16 +131,15 @@ fn both_follow(
     requires of_model { routes.old.visits ≡ visits model.now }
     requires many { length routes.old.lists ≡ length model.now.vehicles }
     requires valid { IsTrue (is_valid model.now routes.old.lists) }
-    requires some { 0 < length model.now.dimensions }
 {
     let mut both = Both {
         a: VehicleFilter::open(alloc, model, routes)?,
-        b: DimensionFilter::open(alloc, model, 0, routes)?,
+        b: GroupFilter::open(alloc, model, routes)?,
     };
     follows(model, &mut both, routes, moves)
 }
 
-fn each_follows(
+fn dimensions_follow(
     alloc: Global,
     model: &Model,
     routes: &mut Routes,
@@ -193,10 +174,9 @@ pub(crate) fn passes(
         Filter::Groups => groups_follow(alloc, model, routes, moves),
         Filter::Vehicles => vehicles_follow(alloc, model, routes, moves),
         Filter::Pairs => pairs_follow(alloc, model, routes, moves),
-        _ if model.dimensions.is_empty() => Ok(false),
-        Filter::Dimension => dimension_follows(alloc, model, routes, moves),
         Filter::Both => both_follow(alloc, model, routes, moves),
-        Filter::Each => each_follows(alloc, model, routes, moves),
+        Filter::Dimensions if model.dimensions.is_empty() => Ok(false),
+        Filter::Dimensions => dimensions_follow(alloc, model, routes, moves),
     }
 }
 
@@ -245,6 +225,19 @@ const RULES: &[Row] = &[
                     },
                     false,
                 ),
+            ],
+        ),
+    },
+    Row {
+        name: "allowed vehicles and groups together",
+        text: WINDOWS,
+        lists: EMPTY,
+        asks: Asks::Filter(
+            Filter::Both,
+            &[
+                (Move::MakeActive { u: 4, w: 1, t: 0 }, false),
+                (Move::MakeActive { u: 4, w: 0, t: 0 }, true),
+                (FIRST_LEAVES, true),
             ],
         ),
     },
@@ -353,14 +346,14 @@ const SCHEDULES: &[Row] = &[
         name: "no cumul in a gap between two runs",
         text: GAP,
         lists: &[&[2, 1]],
-        asks: Asks::Filter(Filter::Dimension, &[(REVERSED, false)]),
+        asks: Asks::Filter(Filter::Dimensions, &[(REVERSED, false)]),
     },
     Row {
         name: "the same once a visit is put in front",
         text: GAP,
         lists: &[&[1]],
         asks: Asks::Filter(
-            Filter::Dimension,
+            Filter::Dimensions,
             &[
                 (Move::MakeActive { u: 2, w: 0, t: 0 }, true),
                 (REVERSED, false),
@@ -371,20 +364,20 @@ const SCHEDULES: &[Row] = &[
         name: "windows and many forbidden intervals",
         text: WINDOWS,
         lists: EMPTY,
-        asks: Asks::Filter(Filter::Dimension, TO_FIRST),
+        asks: Asks::Filter(Filter::Dimensions, TO_FIRST),
     },
     Row {
         name: "breaks",
         text: BREAKS,
         lists: EMPTY,
-        asks: Asks::Filter(Filter::Dimension, WITH_BREAKS),
+        asks: Asks::Filter(Filter::Dimensions, WITH_BREAKS),
     },
     Row {
         name: "a load",
         text: LOAD,
         lists: &[&[1, 2]],
         asks: Asks::Filter(
-            Filter::Dimension,
+            Filter::Dimensions,
             &[
                 (Move::MakeActive { u: 3, w: 0, t: 1 }, false),
                 (FIRST_LEAVES, true),
@@ -399,29 +392,9 @@ const SCHEDULES: &[Row] = &[
             1, 2, 3, 4, 5, 6, 7, 8, 9, 10, 11, 12, 13, 14, 15, 16, 17, 18, 19, 20,
         ]],
         asks: Asks::Filter(
-            Filter::Dimension,
+            Filter::Dimensions,
             &[(Move::TwoOpt { v: 0, a: 5, b: 6 }, true)],
         ),
-    },
-    Row {
-        name: "allowed vehicles and windows together",
-        text: WINDOWS,
-        lists: EMPTY,
-        asks: Asks::Filter(
-            Filter::Both,
-            &[
-                (Move::MakeActive { u: 4, w: 1, t: 0 }, false),
-                (Move::MakeActive { u: 4, w: 0, t: 0 }, true),
-                (Move::MakeActive { u: 1, w: 0, t: 1 }, false),
-                (Move::MakeActive { u: 1, w: 0, t: 0 }, true),
-            ],
-        ),
-    },
-    Row {
-        name: "a list of filters",
-        text: WINDOWS,
-        lists: EMPTY,
-        asks: Asks::Filter(Filter::Each, TO_FIRST),
     },
 ];
 

@@ -42,13 +42,12 @@ pub(crate) struct Wanted {
 }
 
 // A judge that counts the moves that it judges.
-#[derive(Drop)]
-struct Counting<J: Judge + Drop> {
+struct Counting<J: Judge> {
     judge: J,
     count: u64,
 }
 
-impl<J: Judge + Drop> Judge for Counting<J> {
+impl<J: Judge> Judge for Counting<J> {
     ghost model = { λ counting. J.model counting.judge };
 
     ghost committed = { λ counting. J.committed counting.judge };
@@ -82,7 +81,7 @@ impl<J: Judge + Drop> Judge for Counting<J> {
     }
 }
 
-impl<J: Judge + Drop> Counting<J> {
+impl<J: Judge> Counting<J> {
     // The judge that was counted.
     fn into_judge(self) -> J {
         let Counting { judge, count: _ } = self;
@@ -140,7 +139,7 @@ struct Count {
 }
 
 // The same by a judge that counts.
-fn count_of<J: Judge + Drop, L: Ledger>(
+fn count_of<J: Judge, L: Ledger>(
     alloc: Global,
     model: &Model,
     counting: &mut Counting<J>,
@@ -183,7 +182,7 @@ fn plain_count(
 {
     let judge = PlainJudge::open(alloc, model, routes)?;
     let mut counting = Counting { judge, count: 0 };
-    count_of::<PlainJudge<'_>, Brand>(
+    let count = count_of::<PlainJudge<'_>, Brand>(
         alloc,
         model,
         &mut counting,
@@ -191,7 +190,9 @@ fn plain_count(
         first_cost,
         search,
         Blank::new(1),
-    )
+    );
+    counting.into_judge();
+    count
 }
 
 // The same by the judge of filters.

@@ -67,15 +67,6 @@ fn is_stopped_plain(
     ))
 }
 
-// A watcher that takes one event, between two others.
-fn watchers(alloc: Global) -> Result<Vec<Box<dyn Watch>>, NoMemory> {
-    let mut watch: Vec<Box<dyn Watch>> = Vec::new(alloc);
-    watch.push(Box::new(alloc, Trace::new(alloc))?)?;
-    watch.push(Box::new(alloc, Stopper::new(alloc, 1))?)?;
-    watch.push(Box::new(alloc, Trace::new(alloc))?)?;
-    Ok(watch)
-}
-
 // Writes the reports of watchers, with a stroke behind each.
 fn write_reports(watch: &[Box<dyn Watch>], reports: &mut Vec<u8>) -> Result<(), NoMemory> {
     for watcher in watch {
@@ -103,7 +94,10 @@ pub(crate) fn ends_between_watchers(
     requires of_model { routes.old.visits ≡ visits model.now }
     requires valid { IsTrue (is_valid model.now routes.old.lists) }
 {
-    let mut watch = watchers(alloc)?;
+    let mut watch: Vec<Box<dyn Watch>> = Vec::new(alloc);
+    watch.push(Box::new(alloc, Trace::new(alloc))?)?;
+    watch.push(Box::new(alloc, Stopper::new(alloc, 1))?)?;
+    watch.push(Box::new(alloc, Trace::new(alloc))?)?;
     let stopped = is_stopped_plain(alloc, model, routes, &mut watch)?;
     let told = have_told(alloc, &watch, b"0 first 18\n6 move 13\n||0 first 18\n|")?;
     Ok(stopped && told && routes.vehicles() > 0 && routes.list(0) == [1].as_slice())

@@ -1,7 +1,7 @@
 use Rattle.std.proofs.Common.{◌<◌, ℕ}
 use Rattle.std.specs.Prelude.{IsTrue}
 use Rattle.vr_model.specs.routes.Routes.{route}
-use Rattle.vr_policies.specs.Counted.{AreCounted}
+use Rattle.vr_pathfilters.specs.Counted.{AreCounted}
 use Rattle.vr_pathfilters.specs.Pairs.{asks_turns_of}
 use Rattle.vr_pathfilters.proofs.pairs.count_all.Given as goal
 

@@ -1,0 +1,57 @@
+use Rattle.std.proofs.Common.{◌≡◌, ◌+◌, ◌-◌, length, take, refl, sym, subst, arith}
+use Rattle.vr_pathfilters.specs.declared.policies.counts.Counts.{Counts}
+use Rattle.vr_pathfilters.specs.Counted.{counts}
+use Rattle.vr_pathfilters.specs.Replaced.{Replaced, list_of}
+use Rattle.vr_pathfilters.proofs.CountLemmas.{counts_behind, counts_between, deliveries_rise, pickups_rise}
+use Rattle.vr_pathfilters.proofs.policies.new_counts.NewCounts.before.Goals as goal
+
+pub returns-then-place-front-2-clause-value : goal.returns-then-place-front-2-clause-value
+returns-then-place-front-2-clause-value c =
+    let s = c.self.inside in
+    let a = c.listed-at_front.result in
+    let b = c.between-inside.result in
+    let seen = sym c.self.view_is in
+    let at_front = subst (λ (r : Replaced). a ≡ counts r.model (take s.front r.old)) seen c.listed-at_front.ensures.value in
+    let inside = subst (λ (r : Replaced). b ≡ counts r.model (take (c.args.place - s.front) r.middle)) seen c.between-inside.ensures.value in
+    subst (λ (r : Replaced). ◌≡◌ {A = Counts} (record { pickups = a.pickups + b.pickups; deliveries = a.deliveries + b.deliveries }) (counts r.model (take c.args.place (list_of r)))) c.self.view_is
+    (counts_between s.lookups.now s.old.now s.middle.now s.front s.behind c.self.invariant.seams c.args.place a b at_front inside
+    (omega (arith, c.if-place-front.false)) (omega (arith, c.if-place-front-2.true)))
+
+pub overflow_sub-result : goal.overflow_sub-result
+overflow_sub-result c =
+    let s = c.self.inside in
+    let seen = sym c.self.view_is in
+    let at_front = subst (λ (r : Replaced). c.listed-at_front.result ≡ counts r.model (take s.front r.old)) seen c.listed-at_front.ensures.value in
+    let inside = subst (λ (r : Replaced). c.between-inside.result ≡ counts r.model (take (c.args.place - s.front) r.middle)) seen c.between-inside.ensures.value in
+    let at_behind = subst (λ (r : Replaced). c.listed-at_behind.result ≡ counts r.model (take s.behind r.old)) seen c.listed-at_behind.ensures.value in
+    let past = subst (λ (r : Replaced). c.listed-past.result ≡ counts r.model (take (s.behind + (c.args.place - s.front - length s.middle.now)) r.old)) seen c.listed-past.ensures.value in
+    pickups_rise s.lookups.now s.old.now s.middle.now s.front s.behind c.self.invariant.seams c.args.place c.listed-at_front.result c.between-inside.result at_front inside
+    _ refl c.listed-at_behind.result c.listed-past.result at_behind past
+
+pub overflow_sub-result-2 : goal.overflow_sub-result-2
+overflow_sub-result-2 c =
+    let s = c.self.inside in
+    let seen = sym c.self.view_is in
+    let at_front = subst (λ (r : Replaced). c.listed-at_front.result ≡ counts r.model (take s.front r.old)) seen c.listed-at_front.ensures.value in
+    let inside = subst (λ (r : Replaced). c.between-inside.result ≡ counts r.model (take (c.args.place - s.front) r.middle)) seen c.between-inside.ensures.value in
+    let at_behind = subst (λ (r : Replaced). c.listed-at_behind.result ≡ counts r.model (take s.behind r.old)) seen c.listed-at_behind.ensures.value in
+    let past = subst (λ (r : Replaced). c.listed-past.result ≡ counts r.model (take (s.behind + (c.args.place - s.front - length s.middle.now)) r.old)) seen c.listed-past.ensures.value in
+    deliveries_rise s.lookups.now s.old.now s.middle.now s.front s.behind c.self.invariant.seams c.args.place c.listed-at_front.result c.between-inside.result at_front inside
+    _ refl c.listed-at_behind.result c.listed-past.result at_behind past
+
+pub returns-clause-value : goal.returns-clause-value
+returns-clause-value c =
+    let s = c.self.inside in
+    let a = c.listed-at_front.result in
+    let b = c.between-inside.result in
+    let e = c.listed-at_behind.result in
+    let d = c.listed-past.result in
+    let seen = sym c.self.view_is in
+    let at_front = subst (λ (r : Replaced). a ≡ counts r.model (take s.front r.old)) seen c.listed-at_front.ensures.value in
+    let inside = subst (λ (r : Replaced). b ≡ counts r.model (take (c.args.place - s.front) r.middle)) seen c.between-inside.ensures.value in
+    let at_behind = subst (λ (r : Replaced). e ≡ counts r.model (take s.behind r.old)) seen c.listed-at_behind.ensures.value in
+    let past = subst (λ (r : Replaced). d ≡ counts r.model (take (s.behind + (c.args.place - s.front - length s.middle.now)) r.old)) seen c.listed-past.ensures.value in
+    subst (λ (r : Replaced). ◌≡◌ {A = Counts} (record { pickups = a.pickups + b.pickups + d.pickups - e.pickups; deliveries = a.deliveries + b.deliveries + d.deliveries - e.deliveries }) (counts r.model (take c.args.place (list_of r)))) c.self.view_is
+    (counts_behind s.lookups.now s.old.now s.middle.now s.front s.behind c.self.invariant.seams c.args.place a b at_front inside
+    _ refl e d at_behind past
+    (omega (arith, c.if-place-front.false)) (omega (arith, c.if-place-front-2.false)))

@@ -1,0 +1,103 @@
+//! How many pickups and deliveries stand in a list up to each of its nodes.
+
+ghost use Rattle.std.specs.Prelude.{◌≡◌, ◌<◌, ◌≤◌, ℕ, All, IsTrue, false, length, take};
+ghost use Rattle.vr_model.specs.routes.Routes.{holds, is_distinct};
+ghost use Rattle.vr_pathfilters.specs.Counted.{AreCounted, counts, count_of as count_of_node, no_counts};
+ghost use Rattle.vr_pathfilters.specs.Counted.{with_node as with_one_node};
+
+use vr_lists::NodeTables;
+
+/// How many pickups and how many deliveries are among some nodes.
+#[derive(Clone, Copy)]
+pub struct Counts {
+    pub pickups: u32,
+    pub deliveries: u32,
+}
+
+impl Counts {
+    // Of no nodes.
+    #[inline]
+    pub(crate) fn none() -> Counts
+        ensures { result ≡ no_counts }
+    {
+        Counts {
+            pickups: 0,
+            deliveries: 0,
+        }
+    }
+}
+
+// What is counted with one node more.
+#[inline]
+fn with_node(lookups: &NodeTables<'_>, before: Counts, node: u32) -> Counts
+    requires pickups { before.pickups ≤ 1000 }
+    requires deliveries { before.deliveries ≤ 1000 }
+    ensures { result ≡ with_one_node lookups.now before node }
+{
+    match lookups.pair_of(node) {
+        None => before,
+        Some(pair) => {
+            if pair.pickup == node {
+                return Counts {
+                    pickups: before.pickups + 1,
+                    deliveries: before.deliveries,
+                };
+            }
+            Counts {
+                pickups: before.pickups,
+                deliveries: before.deliveries + 1,
+            }
+        }
+    }
+}
+
+/// Writes, for each node of a list of distinct nodes, what stands in the list up to it.
+pub(crate) fn write_counts(lookups: &NodeTables<'_>, list: &[u32], table: &mut [Counts; 1000])
+    requires nodes { All (λ node. node < 1000) list.now }
+    requires few { length list.now ≤ 1000 }
+    requires distinct { IsTrue (is_distinct list.now) }
+    ensures counted { AreCounted lookups.now list.now table.new }
+    ensures others { (node : ℕ) → holds list.now node ≡ false
+        → count_of_node table.new node ≡ count_of_node table.old node }
+{
+    // what holds of the model is known
+    let _model = lookups.model();
+    let mut counts = Counts::none();
+    for k in 0..list.len() {
+        counts = with_node(lookups, counts, list[k]);
+        table[list[k] as usize] = counts;
+    }
+}
+
+// What a table has of a node.
+#[inline]
+fn count_of(table: &[Counts], node: u32) -> Counts
+    ensures { result ≡ count_of_node table.now node }
+{
+    if (node as usize) < table.len() {
+        return table[node as usize];
+    }
+    Counts::none()
+}
+
+/// What is counted of the nodes of a list before a place, of all of them at its end and past it. The contract asks of
+/// which model; the answer comes of the table alone.
+#[inline]
+pub(crate) fn counts_before(
+    lookups: &NodeTables<'_>,
+    list: &[u32],
+    table: &[Counts],
+    place: usize,
+) -> Counts
+    requires counted { AreCounted lookups.now list.now table.now }
+    requires few { length list.now ≤ 1000 }
+    ensures value { result ≡ counts lookups.now (take place list.now) }
+    ensures pickups { result.pickups ≤ 1000 }
+    ensures deliveries { result.deliveries ≤ 1000 }
+{
+    let last = place.min(list.len());
+    if last == 0 {
+        return Counts::none();
+    }
+    count_of(table, list[last - 1])
+}

@@ -1,0 +1,152 @@
+//! What is counted in a list with other nodes in the place of a stretch, and whether its pairs come in turn.
+
+ghost use Rattle.std.specs.Prelude.{◌≡◌, ◌+◌, ◌<◌, ◌≤◌, ◌^◌, length, take};
+ghost use Rattle.vr_walks.specs.Spliced.{AreSeams, spliced};
+ghost use Rattle.vr_pathfilters.specs.Counted.{counts, AreCounted, IsOfThreeLists};
+ghost use Rattle.vr_pathfilters.specs.Turns.{are_in_turn as are_in_turn_in};
+ghost use Rattle.vr_pathfilters.specs.Replaced.{list_of};
+
+use super::counts::{Counts, counts_before};
+use super::turns::Turns;
+use std::marker::Model;
+use vr_lists::NodeTables;
+use vr_model::Policy;
+
+/// A list with other nodes in the place of a stretch, whose pickups and deliveries are counted. Contracts see the
+/// model, the list before, the stretch and the nodes.
+#[derive(Drop)]
+pub struct NewCounts<'a, 'm> {
+    // whose pairs are counted: contracts see it, and the answers come of the counts alone
+    lookups: &'a NodeTables<'m>,
+    turns: &'a Turns,
+    old: &'a [u32],
+    // how many nodes are kept at the front
+    front: u32,
+    // the place from which on nodes are kept
+    behind: u32,
+    // the nodes between
+    middle: &'a [u32],
+}
+
+impl<'a, 'm> Model for NewCounts<'a, 'm> {
+    ghost use Rattle.vr_pathfilters.specs.Counted.{IsNewCounted};
+    ghost use Rattle.vr_pathfilters.specs.Replaced.{Replaced};
+
+    ghost Value = { Replaced };
+
+    ghost view = { λ s. record {
+      model = s.lookups.now;
+      old = s.old.now;
+      front = s.front;
+      behind = s.behind;
+      middle = s.middle.now;
+    } };
+
+    ghost invariant = { λ s. IsNewCounted s.lookups.now s.old.now s.front s.behind s.middle.now
+        s.turns.now.listed s.turns.now.between };
+}
+
+impl<'a, 'm> NewCounts<'a, 'm> {
+    /// A list that keeps its first `front` nodes and those from `behind` on, with others between, where all are
+    /// counted.
+    #[inline]
+    pub fn of(
+        lookups: &'a NodeTables<'m>,
+        turns: &'a Turns,
+        old: &'a [u32],
+        front: u32,
+        behind: u32,
+        middle: &'a [u32],
+    ) -> NewCounts<'a, 'm>
+        requires seams { AreSeams (length old.now) front behind }
+        requires few { length old.now ≤ 1000 }
+        requires few_between { length middle.now ≤ 1000 }
+        requires listed { AreCounted lookups.now old.now turns.now.listed }
+        requires between { AreCounted lookups.now middle.now turns.now.between }
+        ensures { result ≡ record {
+          model = lookups.now;
+          old = old.now;
+          front = front;
+          behind = behind;
+          middle = middle.now;
+        } }
+    {
+        NewCounts {
+            lookups,
+            turns,
+            old,
+            front,
+            behind,
+            middle,
+        }
+    }
+
+    // What is counted before a place of the list before.
+    #[inline]
+    fn listed(&self, place: usize) -> Counts
+        ensures value { result ≡ counts self.now.model (take place self.now.old) }
+        ensures pickups { result.pickups ≤ 1000 }
+        ensures deliveries { result.deliveries ≤ 1000 }
+    {
+        counts_before(self.lookups, self.old, &self.turns.listed, place)
+    }
+
+    // What is counted before a place of the nodes between.
+    #[inline]
+    fn between(&self, place: usize) -> Counts
+        ensures value { result ≡ counts self.now.model (take place self.now.middle) }
+        ensures pickups { result.pickups ≤ 1000 }
+        ensures deliveries { result.deliveries ≤ 1000 }
+    {
+        counts_before(self.lookups, self.middle, &self.turns.between, place)
+    }
+
+    // What is counted before a place of the list. It looks at four nodes at most.
+    #[inline]
+    fn before(&self, place: usize) -> Counts
+        requires place { place ≤ 2 ^ 32 }
+        ensures value { result ≡ counts self.now.model (take place (list_of self.now)) }
+        ensures pickups { IsOfThreeLists result.pickups }
+        ensures deliveries { IsOfThreeLists result.deliveries }
+    {
+        let front = self.front as usize;
+        if place <= front {
+            return self.listed(place);
+        }
+        let at_front = self.listed(front);
+        let inside = self.between(place - front);
+        if place - front <= self.middle.len() {
+            return Counts {
+                pickups: at_front.pickups + inside.pickups,
+                deliveries: at_front.deliveries + inside.deliveries,
+            };
+        }
+        let at_behind = self.listed(self.behind as usize);
+        let past = self.listed(self.behind as usize + (place - front - self.middle.len()));
+        Counts {
+            pickups: at_front.pickups + inside.pickups + past.pickups - at_behind.pickups,
+            deliveries: at_front.deliveries + inside.deliveries + past.deliveries
+                - at_behind.deliveries,
+        }
+    }
+
+    /// Whether the pickup and the delivery at two places of the list come in turn.
+    #[inline]
+    pub fn are_in_turn(&self, policy: Policy, pickup: u32, delivery: u32) -> bool
+        ensures { result ≡ are_in_turn_in self.now.model policy (list_of self.now) pickup delivery }
+    {
+        match policy {
+            Policy::Any => true,
+            Policy::Lifo => {
+                let a = self.before(pickup as usize + 1);
+                let b = self.before(delivery as usize);
+                a.pickups + b.deliveries == b.pickups + a.deliveries
+            }
+            Policy::Fifo => {
+                let a = self.before(pickup as usize);
+                let b = self.before(delivery as usize);
+                a.pickups == b.deliveries
+            }
+        }
+    }
+}

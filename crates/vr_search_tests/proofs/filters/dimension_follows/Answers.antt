@@ -1,5 +1,0 @@
-use Rattle.vr_search_tests.proofs.ValidRules.{valid_goes}
-use Rattle.vr_search_tests.proofs.filters.dimension_follows.Goals as goal
-
-pub open-requires-clause-rule : goal.open-requires-clause-rule
-open-requires-clause-rule c = valid_goes c.args.model.now c.args.routes.now.lists c.requires.valid 0 c.requires.some
