@@ -19,8 +19,7 @@ use vr_cumuls::Paid;
 use vr_model::{Model, Move, NoMemory};
 use vr_routes::{Change, Routes};
 use vr_rules::valid;
-use vr_sample_routes::valid_routes;
-use vr_samples::read_model_text;
+use vr_samples::{read_model_text, valid_routes};
 
 /// Who judges moves.
 #[derive(Clone, Copy)]
