@@ -1,10 +1,10 @@
 //! What a vehicle reaches at the end of a list that grows: whether an item may stand there, without going along the
 //! list anew.
 
-ghost use Rattle.std.specs.Prelude.{◌≡◌, ◌<◌, ◌++◌, [], ◌∷◌, IfOk, IsTrue, OnOk, length};
+ghost use Rattle.std.specs.Prelude.{◌≡◌, ◌<◌, ◌≤◌, ◌++◌, [], ◌∷◌, All, IfOk, IsTrue, OnOk, length};
 ghost use Rattle.std.specs.List.{list_all};
-ghost use Rattle.vr_model.specs.tables.Tables.{is_visit as is_visit_of};
-ghost use Rattle.vr_model.specs.tables.WellFormed.{IsWellFormed};
+ghost use Rattle.vr_model.specs.tables.Tables.{breaks_of, dimension_at, is_visit as is_visit_of};
+ghost use Rattle.vr_model.specs.tables.WellFormed.{IsBreak, IsWellFormed};
 ghost use Rattle.vr_model.specs.schedules.Lines.{line};
 ghost use Rattle.vr_model.specs.schedules.Choices.{is_feasible};
 ghost use Rattle.vr_steps.specs.Levels.{AreLevels};
@@ -79,6 +79,30 @@ fn visit_sets(alloc: Global, model: &Model, d: u32, v: u32) -> Result<Vec<Spans>
     Ok(sets)
 }
 
+// What vehicle `v` reaches at its start.
+fn levels_at_start(
+    alloc: Global,
+    model: &Model,
+    d: u32,
+    v: u32,
+    breaks: &Breaks,
+) -> Result<Levels, NoMemory>
+    requires well_formed { IsWellFormed model.now }
+    requires dimension { d < length model.now.dimensions }
+    requires vehicle { v < length model.now.vehicles }
+    requires breaks { breaks.now ≡ breaks_of (dimension_at model.now d) v }
+    requires each_break { All IsBreak breaks.now }
+    requires few_breaks { length breaks.now ≤ 8 }
+    ensures form { IfOk result (AreLevels breaks.now) }
+    ensures reached { IfOk result (AreReachedBehind model.now d v []) }
+{
+    vr_model::laws::lines_are_sound();
+    vr_steps::laws::start_is_reached();
+    let start = allowed_at(alloc, model, d, v, StopName::Start)?;
+    let levels = start_levels(alloc, &start, breaks)?;
+    Ok(levels)
+}
+
 impl Front {
     // At the start of the vehicle.
     fn at_start(alloc: Global, model: &Model, d: u32, v: u32) -> Result<Front, NoMemory>
@@ -87,12 +111,9 @@ impl Front {
         requires vehicle { v < length model.now.vehicles }
         ensures { IfOk result (IsFrontOf model.now d v []) }
     {
-        vr_model::laws::lines_are_sound();
-        vr_steps::laws::start_is_reached();
         let breaks = Breaks::of(model.dimensions.get(d as usize), v);
-        let start = allowed_at(alloc, model, d, v, StopName::Start)?;
+        let here = levels_at_start(alloc, model, d, v, &breaks)?;
         let ending = allowed_at(alloc, model, d, v, StopName::End)?;
-        let here = start_levels(alloc, &start, &breaks)?;
         let visits = visit_sets(alloc, model, d, v)?;
         Ok(Front {
             dimension: d,

@@ -197,8 +197,7 @@ pub fn route_open(
     ensures { IfOk result (λ answer. answer ≡ is_route_open_of model.now v list.now) }
 {
     let mut rules = Rules::open(alloc, model)?;
-    let answer = rules.route_open(v, list)?;
-    Ok(answer)
+    rules.route_open(v, list)
 }
 
 /// Whether routes of the model are open, as `Rules::open_routes` answers it. `NoMemory` where there was no memory.
@@ -208,8 +207,7 @@ pub fn open(alloc: Global, model: &RoutingModel, routes: &Routes) -> Result<bool
     ensures { IfOk result (λ answer. answer ≡ is_open_of model.now routes.now.lists) }
 {
     let mut rules = Rules::open(alloc, model)?;
-    let answer = rules.open_routes(routes)?;
-    Ok(answer)
+    rules.open_routes(routes)
 }
 
 /// Whether routes of the model are valid, as `Rules::valid` answers it. `NoMemory` where there was no memory.
@@ -219,8 +217,7 @@ pub fn valid(alloc: Global, model: &RoutingModel, routes: &Routes) -> Result<boo
     ensures { IfOk result (λ answer. answer ≡ is_valid_of model.now routes.now.lists) }
 {
     let mut rules = Rules::open(alloc, model)?;
-    let answer = rules.valid(routes)?;
-    Ok(answer)
+    rules.valid(routes)
 }
 
 /// What valid routes cost, as `Rules::cost` answers it. `NoMemory` where there was no memory.
@@ -231,8 +228,7 @@ pub fn cost(alloc: Global, model: &RoutingModel, routes: &Routes) -> Result<Part
     ensures total { IfOk result HasTotal }
 {
     let mut rules = Rules::open(alloc, model)?;
-    let parts = rules.cost(routes)?;
-    Ok(parts)
+    rules.cost(routes)
 }
 
 /// What valid routes cost in all, as `Rules::total` answers it. `NoMemory` where there was no memory.
@@ -243,6 +239,5 @@ pub fn total(alloc: Global, model: &RoutingModel, routes: &Routes) -> Result<i64
     ensures least { IfOk result (λ total. pos 0 ≤ℤ total) }
 {
     let mut rules = Rules::open(alloc, model)?;
-    let total = rules.total(routes)?;
-    Ok(total)
+    rules.total(routes)
 }
