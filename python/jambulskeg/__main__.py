@@ -1,0 +1,234 @@
+"""python -m jambulskeg: pictures of a day, many searches of a model, many models.
+
+Ends with 0 where there is an answer, with 1 and a sentence where there is none, with 2 where the words are unknown.
+"""
+
+from __future__ import annotations
+
+import argparse
+import os
+import sys
+from typing import List, Optional, Sequence, Tuple
+
+from .batch import Found, batch, read_folder
+from .engines import Engine, GnuParallel, OwnProcesses, Slurm
+from .errors import JambulskegError
+from .model import meets, read_model, read_solution
+from .places import Place, read_places, read_vans, whole
+from .portfolio import LAMBDAS, Outcome, Portfolio, portfolio
+from .program import find
+from .records import Model
+from .solution import Solution
+from .view import Day, compare_page, day_of, drawing, page
+
+__all__ = ["main"]
+
+
+def main(words: Optional[Sequence[str]] = None) -> int:
+    """Runs a command; its exit status."""
+    asked = parser().parse_args(words)
+    try:
+        status: int = asked.run(asked)
+        return status
+    except OSError as problem:
+        return failed(f"{problem.filename or 'a file'}: {problem.strerror}")
+    except (JambulskegError, ValueError) as problem:
+        return failed(str(problem))
+
+
+def failed(sentence: str) -> int:
+    """Tells what went wrong."""
+    sys.stderr.write(f"jambulskeg: {sentence}\n")
+    return 1
+
+
+def parser() -> argparse.ArgumentParser:
+    """The words that are taken."""
+    out = argparse.ArgumentParser(prog="python -m jambulskeg", description="Vehicle routing by the program vr_cli.")
+    commands = out.add_subparsers(required=True, metavar="view|portfolio|batch")
+    add_view(commands.add_parser("view", help="a page (or an SVG) of a day, or of two side by side"))
+    one = commands.add_parser("portfolio", help="many searches of a model, the cheapest checked answer kept")
+    one.add_argument("model", metavar="MODEL", help="the model file")
+    one.add_argument("-o", "--output", metavar="SOLUTION", help="where the solution is written; else to standard output")
+    one.set_defaults(run=run_portfolio)
+    many = commands.add_parser("batch", help="the same for each model NAME.json of a folder")
+    many.add_argument("models", metavar="FOLDER", help="the folder of model files; NAME.*.json are left out")
+    many.add_argument(
+        "-o", "--output", metavar="FOLDER", help="where NAME.solved.json are written; else in the folder itself"
+    )
+    many.set_defaults(run=run_batch)
+    for command in (one, many):
+        add_search(command)
+    return out
+
+
+def add_view(command: argparse.ArgumentParser) -> None:
+    """The words of `view`."""
+    command.add_argument("model", metavar="MODEL", help="the model file")
+    command.add_argument("solution", metavar="SOLUTION", nargs="?", help="the solution, as the program wrote it")
+    command.add_argument("--compare", nargs=2, metavar=("A", "B"), help="two solutions of the model, side by side")
+    command.add_argument("-o", "--output", metavar="FILE", required=True, help="the page that is written")
+    command.add_argument("--svg", action="store_true", help="an SVG in place of a page")
+    command.add_argument("--places", metavar="CSV", help="a place for each node: columns name, x, y and more")
+    command.add_argument("--degrees", action="store_true", help="x is the longitude and y the latitude, in degrees")
+    command.add_argument("--vehicles", metavar="CSV", help="the vehicles' names: columns name, start, end and more")
+    command.add_argument("--time", metavar="NAME", help="the dimension that the day is drawn along")
+    command.add_argument(
+        "--clock", metavar="H:MM", type=whole, help="times are minutes from this time of day; 0:00 for midnight"
+    )
+    command.add_argument("--title", help="the title of the page")
+    command.add_argument("--unchecked", action="store_true", help="do not ask whether the solution meets the model")
+    command.set_defaults(run=run_view)
+
+
+def add_search(command: argparse.ArgumentParser) -> None:
+    """The words of `portfolio` and `batch`."""
+    command.add_argument("--jobs", type=positive, default=1, metavar="N", help="searches at a time (on each machine)")
+    command.add_argument("--tries", type=positive, metavar="N", help="in place of the model's")
+    command.add_argument(
+        "--lambda", dest="lambdas", type=weight, action="append", metavar="P/Q", help="weights of guided searches"
+    )
+    command.add_argument("--keep-going", action="store_true", help="take the best where some searches were ended")
+    command.add_argument("--with", dest="engine", choices=("own", "parallel", "slurm"), default="own",
+                         help="processes of this machine, GNU parallel, or a job array of Slurm")
+    command.add_argument("--sshlogin", action="append", default=[], metavar="LOGIN", help="GNU parallel's machines")
+    command.add_argument("--option", action="append", default=[], metavar="WORD",
+                         help="a further word of parallel or sbatch, as in --option=--partition=long")
+    command.add_argument("--folder", metavar="DIR", help="a new folder that keeps the files of parallel or slurm")
+    command.add_argument("--remote-program", metavar="PATH", help="vr_cli on the machines of parallel or slurm")
+
+
+def positive(text: str) -> int:
+    """A whole number above 0."""
+    found = int(text)
+    if found < 1:
+        raise argparse.ArgumentTypeError(f"{text} is not above 0")
+    return found
+
+
+def weight(text: str) -> Tuple[int, int]:
+    """A weight as P/Q."""
+    over, _, under = text.partition("/")
+    return int(over), int(under or 1)
+
+
+def run_view(asked: argparse.Namespace) -> int:
+    """Writes a page or an SVG."""
+    if (asked.solution is None) == (asked.compare is None):
+        return failed("view takes a SOLUTION, or --compare A B")
+    model = read_model(asked.model)
+    files: List[str] = asked.compare or [asked.solution]
+    solutions = [read_solution(file) for file in files]
+    if not asked.unchecked:
+        solutions = [meets(model, solution) for solution in solutions]
+    days = days_of(asked, model, solutions)
+    titles = titles_of(asked, files)
+    found = "The proved check was not asked." if asked.unchecked else (
+        "The proved check found that this keeps all rules of the model and costs what it says."
+    )
+    write(asked.output, text_of(asked, days, titles, found))
+    return 0
+
+
+def text_of(asked: argparse.Namespace, days: Sequence[Day], titles: Sequence[str], found: str) -> str:
+    """The text of a page or of an SVG."""
+    if asked.svg:
+        return drawing(days, titles, asked.degrees)
+    if len(days) == 2:
+        return compare_page((days[0], days[1]), (titles[0], titles[1]), found, asked.degrees)
+    return page(days[0], titles[0], found, asked.degrees)
+
+
+def titles_of(asked: argparse.Namespace, files: Sequence[str]) -> List[str]:
+    """What the days are called: by the title, or by the names of their files, apart where these are equal."""
+    names = [os.path.basename(file).split(".")[0] for file in files]
+    if len(set(names)) < len(names):
+        names = [os.path.basename(file) for file in files]
+    if len(set(names)) < len(names):
+        names = [f"{name} ({place})" for place, name in enumerate(names, 1)]
+    return [asked.title] if asked.title and len(names) == 1 else names
+
+
+def days_of(asked: argparse.Namespace, model: Model, solutions: Sequence[Solution]) -> List[Day]:
+    """The days to be drawn."""
+    places: Sequence[Place] = read_places(asked.places) if asked.places else ()
+    vehicles: Sequence[str] = ()
+    if asked.vehicles:
+        vehicles = [van.name for van in read_vans(asked.vehicles, places)]
+    return [
+        day_of(model, solution, places=places, vehicles=vehicles, time=asked.time, clock=asked.clock)
+        for solution in solutions
+    ]
+
+
+def write(path: str, text: str) -> None:
+    """Writes a file."""
+    with open(path, "w", encoding="utf-8") as file:
+        file.write(text)
+
+
+def engine_of(asked: argparse.Namespace) -> Engine:
+    """The engine that was asked for."""
+    if asked.engine == "own":
+        if asked.sshlogin or asked.option or asked.folder or asked.remote_program:
+            raise ValueError("--sshlogin, --option, --folder and --remote-program belong to --with parallel or slurm")
+        return OwnProcesses(asked.jobs)
+    program = asked.remote_program or os.path.abspath(find())
+    if asked.engine == "parallel":
+        return GnuParallel(asked.jobs, program, asked.sshlogin, asked.option, asked.folder)
+    if asked.sshlogin:
+        raise ValueError("--sshlogin belongs to --with parallel")
+    return Slurm(asked.jobs, program, asked.option, asked.folder)
+
+
+def run_portfolio(asked: argparse.Namespace) -> int:
+    """Writes the cheapest answer of a portfolio, and on standard error what each search came to."""
+    model, engine = read_model(asked.model), engine_of(asked)
+    found = portfolio(
+        model, engine, tries=asked.tries, lambdas=asked.lambdas or LAMBDAS, keep_going=asked.keep_going
+    )
+    for number, outcome in enumerate(found.outcomes):
+        sys.stderr.write(f"{'*' if number == found.number else ' '} {told_outcome(outcome)}\n")
+    text = found.solution.text() + "\n"
+    if asked.output:
+        write(asked.output, text)
+    else:
+        sys.stdout.write(text)
+    return 0
+
+
+def told_outcome(outcome: Outcome) -> str:
+    """A line for a search."""
+    if outcome.solution is None:
+        return f"{'-':>12}  {outcome.name}: {outcome.problem}"
+    return f"{outcome.solution.cost:12}  {outcome.name}; {outcome.solution.tries} tries, {outcome.solution.stop.value}"
+
+
+def run_batch(asked: argparse.Namespace) -> int:
+    """Writes the cheapest answer of each model, and a line for each; 1 where a model has none."""
+    models, faulty = read_folder(asked.models)
+    if not models and not faulty:
+        return failed(f"the folder {asked.models} has no file NAME.json")
+    found = batch(
+        models, engine_of(asked), tries=asked.tries, lambdas=asked.lambdas or LAMBDAS, keep_going=asked.keep_going
+    )
+    output = asked.output or asked.models
+    os.makedirs(output, exist_ok=True)
+    for name, entry in found.items():
+        if isinstance(entry, Portfolio):
+            write(os.path.join(output, f"{name}.solved.json"), entry.solution.text() + "\n")
+        print(told_model(name, entry))
+    for name, fault in faulty:
+        print(f"{name}: {fault}")
+    return 1 if faulty or any(not isinstance(entry, Portfolio) for entry in found.values()) else 0
+
+
+def told_model(name: str, entry: Found) -> str:
+    """A line for a model."""
+    if not isinstance(entry, Portfolio):
+        return f"{name}: {entry}"
+    return f"{name}: cost {entry.solution.cost}, {entry.outcomes[entry.number].name}"
+
+
+if __name__ == "__main__":
+    sys.exit(main())

@@ -1,0 +1,148 @@
+"""Many searches of one model, the cheapest checked answer kept.
+
+A portfolio runs constructions times searches times lambdas, each a process of its own, on an engine of `engines`. All
+are run to their ends, and among equal costs the one that stands first is kept: the same arguments give the same answer,
+whatever the order in which they end.
+
+    found = portfolio(model, OwnProcesses(4))
+    print(found.solution.cost, found.outcomes[found.number].name)
+"""
+
+from __future__ import annotations
+
+from dataclasses import dataclass, replace
+from typing import List, Optional, Sequence, Tuple
+
+from .engines import Answer, Engine, OwnProcesses
+from .errors import JambulskegError, NoFirstSolution, NotMet, Refused
+from .model import meets
+from .program import ProgramLike
+from .records import First, Improve, Model, Search
+from .rescue import ALIKE, as_own
+from .solution import Solution
+
+__all__ = ["Incomplete", "LAMBDAS", "Outcome", "Portfolio", "collected", "portfolio", "variants"]
+
+LAMBDAS: Sequence[Tuple[int, int]] = ((1, 10), (1, 5), (1, 3), (1, 20))
+"""The weights of penalties that guided searches are run with."""
+
+
+class Incomplete(JambulskegError):
+    """Some searches ended by an accident, so that another run might give another answer: `outcomes` says which."""
+
+    def __init__(self, outcomes: Sequence["Outcome"]) -> None:
+        self.outcomes = outcomes
+        first = outcomes[0]
+        more = f", and {len(outcomes) - 1} others" if len(outcomes) > 1 else ""
+        super().__init__(
+            f"{first.name} ended by an accident{more}: {first.problem}; --keep-going takes the best of the others"
+        )
+
+
+@dataclass(frozen=True)
+class Outcome:
+    """What a search of a portfolio came to: its solution, or what went wrong."""
+
+    search: Search
+    solution: Optional[Solution] = None
+    problem: Optional[JambulskegError] = None
+
+    @property
+    def name(self) -> str:
+        """The search in words."""
+        words = f"{self.search.first.value}, {self.search.improve.value}"
+        guided = self.search.improve is Improve.GUIDED_LOCAL_SEARCH
+        return words + (", lambda {}/{}".format(*self.search.lambda_) if guided else "")
+
+    @property
+    def is_accident(self) -> bool:
+        """Whether it might end otherwise another time."""
+        is_plain = isinstance(self.problem, (NoFirstSolution, Refused, NotMet))
+        return self.problem is not None and not is_plain
+
+
+@dataclass(frozen=True)
+class Portfolio:
+    """The cheapest answer: `solution` is one of `model` and was checked against it; `outcomes[number]` found it."""
+
+    model: Model
+    solution: Solution
+    number: int
+    outcomes: Tuple[Outcome, ...]
+
+
+def variants(
+    model: Model, tries: Optional[int] = None, lambdas: Sequence[Tuple[int, int]] = LAMBDAS
+) -> List[Search]:
+    """The searches of a portfolio: the model's own first, then each construction with a descent and with a guided
+    search of each lambda. `tries` takes the place of the model's."""
+    own = model.search if tries is None else replace(model.search, tries=tries)
+    out = [own]
+    for first in First:
+        out.append(replace(own, first=first, improve=Improve.GREEDY_DESCENT))
+        out += [replace(own, first=first, improve=Improve.GUIDED_LOCAL_SEARCH, lambda_=weight) for weight in lambdas]
+    return [search for place, search in enumerate(out) if key_of(search) not in map(key_of, out[:place])]
+
+
+def key_of(search: Search) -> Tuple[First, Improve, Tuple[int, ...]]:
+    """What a search depends on; the lambda of one that is not guided is not looked at."""
+    guided = search.improve is Improve.GUIDED_LOCAL_SEARCH
+    return search.first, search.improve, tuple(search.lambda_) if guided else ()
+
+
+def portfolio(
+    model: Model, engine: Optional[Engine] = None, program: ProgramLike = None, *, tries: Optional[int] = None,
+    lambdas: Sequence[Tuple[int, int]] = LAMBDAS, keep_going: bool = False,
+) -> Portfolio:
+    """The cheapest checked answer of the searches of `variants`, run by an engine (one process, where none is named).
+
+    `program` is the one that checks. Raises `NoFirstSolution` where no search has an answer, `Refused` where the model
+    has a fault, `EngineFailed`, and `Incomplete` where a search ended by an accident, unless `keep_going`.
+    """
+    searches = variants(model, tries, lambdas)
+    answers = (engine or OwnProcesses(1, program)).run([replace(model, search=search) for search in searches])
+    return collected(model, searches, answers, program, keep_going=keep_going)
+
+
+def collected(
+    model: Model, searches: Sequence[Search], answers: Sequence[Answer], program: ProgramLike = None, *,
+    keep_going: bool = False,
+) -> Portfolio:
+    """The cheapest checked one of the answers of some searches. Raises as `portfolio` does."""
+    outcomes = [outcome_of(search, found) for search, found in zip(searches, answers)]
+    accidents = [outcome for outcome in outcomes if outcome.is_accident]
+    if accidents and not keep_going:
+        raise Incomplete(accidents)
+    ranked = sorted(
+        (outcome.solution.cost, number) for number, outcome in enumerate(outcomes) if outcome.solution is not None
+    )
+    for _, number in ranked:
+        try:
+            solution = meets(model, fitted(model, outcomes[number].solution), program)
+            return Portfolio(model, solution, number, tuple(outcomes))
+        except NotMet as broken:
+            outcomes[number] = replace(outcomes[number], solution=None, problem=broken)
+    raise why_none(outcomes)
+
+
+def outcome_of(search: Search, found: Answer) -> Outcome:
+    """The outcome of a search."""
+    return Outcome(search, problem=found) if isinstance(found, JambulskegError) else Outcome(search, found)
+
+
+def fitted(model: Model, solution: Optional[Solution]) -> Solution:
+    """A solution that another search of the model found, with as many tries and solutions as the model's may have."""
+    assert solution is not None
+    within = solution.tries <= model.search.tries and solution.solutions <= model.search.solutions
+    return solution if within else as_own(solution)
+
+
+def why_none(outcomes: Sequence[Outcome]) -> JambulskegError:
+    """Why no search has an answer: a fault of the model, a broken rule, an accident, or no first solution."""
+    problems = [outcome.problem for outcome in outcomes if outcome.problem is not None]
+    faults = [fault for fault in problems if isinstance(fault, Refused) and fault.code != ALIKE]
+    others = [problem for problem in problems if not isinstance(problem, (Refused, NoFirstSolution))]
+    return (faults + others + [NoFirstSolution(
+        "no construction finds a first solution, which does not say that there is none; "
+        "jambulskeg.rescue.rescue tries penalties"
+    )])[0]

@@ -1,0 +1,169 @@
+"""A page of one file, without a network: charts, a map, and the tables that say the same."""
+
+from __future__ import annotations
+
+from typing import Iterator, List, Sequence, Tuple
+
+from .axis import Axis
+from .compare import changes_table, costs_beside
+from .day import Day
+from .loads import loads
+from .route_map import route_map
+from .style import PATTERNS, page_script, page_style
+from .svg import Picture, told, told_json
+from .tables import PARTS, cost_table, left_table, parts_table, stops_table, visits_table
+from .timeline import axis_of, timeline
+
+__all__ = ["compare_page", "page"]
+
+POLICY = "default-src 'none'; style-src 'unsafe-inline'; script-src 'unsafe-inline'"
+LEGEND = (
+    ('<rect class="visit" x="2" width="30" height="16"/>', "visit"),
+    ('<rect class="travel" x="2" y="6" width="30" height="4"/>', "drive"),
+    ('<rect class="wait" x="2" y="4" width="30" height="8"/>', "waiting"),
+    ('<rect class="break" x="2" y="2" width="30" height="12"/>', "break"),
+    ('<line class="window" x1="2" y1="8" x2="32" y2="8"/><circle class="at" cx="14" cy="8" r="2.5"/>',
+     "window of a visit, and where it begins"),
+    ('<line class="window" x1="2" y1="8" x2="32" y2="8"/><line class="forbidden" x1="12" y1="8" x2="24" y2="8"/>',
+     "forbidden in it"),
+    ('<line class="late" x1="2" y1="8" x2="32" y2="8"/>', "beyond a soft bound"),
+    ('<rect class="shift" x="2" width="30" height="16"/>', "when the vehicle may be out"),
+)
+
+
+def page(day: Day, title: str, found: str, in_degrees: bool = False) -> str:
+    """The page of a day. `found` says what was checked."""
+    axis = axis_of([day])
+    parts = [
+        f"<h1>{told(title)}</h1><p>{told(found)}</p>",
+        facts(day),
+        choice(day),
+        "<h2>The day</h2>" + legend(day) + charts(day, axis, in_degrees),
+        "<h2>What it costs</h2>" + bar(day) + parts_table(day.solution.parts) + details(
+            "What each vehicle costs", cost_table(day)
+        ),
+        "<h2>What was left out</h2>" + left_table(day),
+        '<h2 id="tables">Visits</h2>' + search() + visits_table(day),
+        "<h2>Stops</h2>" + details("Stops of each vehicle", stops_table(day)),
+    ]
+    return whole(title, "".join(parts), [day])
+
+
+def compare_page(days: Tuple[Day, Day], titles: Tuple[str, str], found: str, in_degrees: bool = False) -> str:
+    """The page of two days of one model, side by side."""
+    axis = axis_of(days)
+    title = f"{titles[0]} beside {titles[1]}"
+    columns = "".join(
+        f"<section><h3>{told(name)}: cost {day.solution.cost}</h3>{facts(day)}{charts(day, axis, in_degrees)}"
+        f"{details(f'What was left out, {name}', left_table(day))}"
+        f"{details(f'Stops of each vehicle, {name}', stops_table(day))}</section>"
+        for day, name in zip(days, titles)
+    )
+    parts = [
+        f"<h1>{told(title)}</h1><p>{told(found)}</p>",
+        "<h2>What they cost</h2>" + costs_beside(days, titles),
+        choice(days[0]),
+        "<h2>Both days</h2>" + legend(days[0]) + f'<div class="beside">{columns}</div>',
+        '<h2 id="tables">Visits</h2>' + search() + changes_table(days, titles),
+    ]
+    return whole(title, "".join(parts), days)
+
+
+def whole(title: str, body: str, days: Sequence[Day]) -> str:
+    """The page around its parts; it holds the solutions as JSON too."""
+    trees = "".join(
+        f'<script type="application/json" class="solution">{told_json(day.solution.tree())}</script>' for day in days
+    )
+    return (
+        '<!DOCTYPE html>\n<html lang="en"><head><meta charset="utf-8">'
+        f'<meta http-equiv="Content-Security-Policy" content="{POLICY}">'
+        '<meta name="viewport" content="width=device-width, initial-scale=1">'
+        f"<title>{told(title)}</title><style>{page_style()}</style></head>"
+        f'<body{" class=two" if len(days) > 1 else ""}><a class="skip" href="#tables">To the table of visits</a>'
+        f'<svg class="patterns" aria-hidden="true">{PATTERNS}</svg><main>{body}</main>'
+        f"{trees}<script>{page_script()}</script></body></html>\n"
+    )
+
+
+def facts(day: Day) -> str:
+    """The day in a few numbers."""
+    made, left = len(day.made_by()), len(day.solution.dropped)
+    rows = [
+        (day.solution.cost, "cost"), (f"{len(day.routes())} of {len(day.model.vehicles)}", "vehicles leave"),
+        (f"{made} of {made + left}", "visits are made"), (left, "left out"),
+    ]
+    return '<ul class="facts">' + "".join(f"<li><b>{value}</b> {words}</li>" for value, words in rows) + "</ul>"
+
+
+def choice(day: Day) -> str:
+    """The choice of a vehicle to bring out."""
+    options = "".join(
+        f'<option value="{route.vehicle}">{told(day.names.vehicle(route.vehicle))}</option>' for route in day.routes()
+    )
+    return (
+        '<div class="tools"><label for="vehicle">Bring out</label>'
+        f'<select id="vehicle"><option value="">all vehicles</option>{options}</select></div>'
+    )
+
+
+def search() -> str:
+    """The search in the table of visits."""
+    return (
+        '<div class="tools" role="search"><label for="search">Search visits</label>'
+        '<input type="search" id="search" autocomplete="off"><output id="count" aria-live="polite"></output></div>'
+    )
+
+
+def legend(day: Day) -> str:
+    """What the marks of the chart of the day mean, as far as it has them."""
+    marks = LEGEND if day.is_timed else LEGEND[1:2]
+    rows = [f'<li><svg viewBox="0 0 34 16" aria-hidden="true">{mark}</svg>{told(words)}</li>' for mark, words in marks]
+    return '<ul class="legend">' + "".join(rows) + "</ul>"
+
+
+def charts(day: Day, axis: Axis, in_degrees: bool) -> str:
+    """The charts of a day, and its map where its places are known."""
+    parts: List[str] = [chart(timeline(day, axis))]
+    for number in day.loads():
+        picture = loads(day, number, axis)
+        parts.append(f"<h3>{told(day.model.dimensions[number].name)}, beside the capacity</h3>{chart(picture)}")
+    if day.places:
+        picture = route_map(day, in_degrees)
+        parts.append(f'<h3>Map</h3><figure class="map">{svg(picture.width, picture, picture.body)}</figure>')
+    return "".join(parts)
+
+
+def chart(picture: Picture) -> str:
+    """A drawing whose labels stay where they are while its body is scrolled."""
+    sizes = f"--labels:{picture.label_width:g};--body:{picture.width:g};--all:{picture.width + picture.label_width:g}"
+    labels = f'<svg viewBox="0 0 {picture.label_width:g} {picture.height:g}" aria-hidden="true">{picture.labels}</svg>'
+    body = svg(picture.width, picture, picture.body)
+    return (
+        f'<figure class="chart" style="{sizes}"><div class="labels">{labels}</div>'
+        f'<div class="scroll" tabindex="0" role="region" aria-label="{told(picture.title)}"><div class="body">{body}</div>'
+        "</div></figure>"
+    )
+
+
+def svg(width: float, picture: Picture, marks: str) -> str:
+    """A drawing as an image with a name and a description."""
+    words = told(f"{picture.title}. {picture.description}")
+    return f'<svg viewBox="0 0 {width:g} {picture.height:g}" role="img" aria-label="{words}">{marks}</svg>'
+
+
+def details(summary: str, content: str) -> str:
+    """Something that is shown when it is asked for."""
+    return f"<details><summary>{told(summary)}</summary>{content}</details>"
+
+
+def bar(day: Day) -> str:
+    """The parts of the cost as a bar; the table beside it says the same."""
+    return f'<div class="bar" aria-hidden="true">{"".join(shares(day))}</div>'
+
+
+def shares(day: Day) -> Iterator[str]:
+    """The shares of the parts."""
+    for field, name, _ in PARTS:
+        value = getattr(day.solution.parts, field)
+        if value > 0:
+            yield f'<span class="part-{field}" style="flex:{value} 1 0" title="{told(name)}: {value}"></span>'

@@ -1,0 +1,87 @@
+"""Marks of a drawing as SVG text. Whatever comes from a model or a file goes through `told` before it is written."""
+
+from __future__ import annotations
+
+import html
+import json
+import re
+from dataclasses import dataclass
+from typing import Any, Iterable, Sequence, Tuple
+
+Point = Tuple[float, float]
+NO_CHARACTER = re.compile("[^\t\n\r\u0020-\ud7ff\ue000-\ufffd\U00010000-\U0010ffff]")
+
+
+def told(value: object) -> str:
+    """A value as text of HTML and XML, also within quotes; what neither of them can hold becomes U+FFFD."""
+    return html.escape(NO_CHARACTER.sub("\ufffd", str(value)))
+
+
+def told_json(tree: Any) -> str:
+    """A value as JSON that may stand within a script element."""
+    text = json.dumps(tree, separators=(",", ":"), sort_keys=True)
+    return text.replace("<", "\\u003c").replace(">", "\\u003e").replace("&", "\\u0026")
+
+
+def shortened(text: str, most: int) -> str:
+    """A text of at most so many characters."""
+    return text if len(text) <= most else text[:most - 1] + "…"
+
+
+def number(value: float) -> str:
+    """A coordinate, to a tenth."""
+    return f"{value:.1f}".rstrip("0").rstrip(".")
+
+
+def titled(name: str, marks: str, title: str) -> str:
+    """An element, with the title that a pointer shows over it."""
+    return f"<{name} {marks}><title>{told(title)}</title></{name}>" if title else f"<{name} {marks}/>"
+
+
+def rect(kind: str, corner: Point, size: Point, title: str = "") -> str:
+    """A rectangle of a class; `corner` is its upper left one."""
+    (x, y), (width, height) = corner, size
+    marks = f'class="{kind}" x="{number(x)}" y="{number(y)}" width="{number(width)}" height="{number(height)}"'
+    return titled("rect", marks, title)
+
+
+def line(kind: str, tail: Point, head: Point, title: str = "") -> str:
+    """A line of a class."""
+    marks = f'class="{kind}" x1="{number(tail[0])}" y1="{number(tail[1])}" x2="{number(head[0])}" y2="{number(head[1])}"'
+    return titled("line", marks, title)
+
+
+def path(kind: str, points: Sequence[Point], title: str = "") -> str:
+    """An open line through some points."""
+    way = "L".join(f"{number(x)} {number(y)}" for x, y in points)
+    return titled("path", f'class="{kind}" d="M{way}"', title)
+
+
+def circle(kind: str, centre: Point, radius: float, title: str = "") -> str:
+    """A disc of a class."""
+    return titled("circle", f'class="{kind}" cx="{number(centre[0])}" cy="{number(centre[1])}" r="{radius:g}"', title)
+
+
+def text(kind: str, at: Point, words: object, anchor: str = "start") -> str:
+    """Words at a point: `anchor` says whether they start there, end there, or have their middle there."""
+    place = f'x="{number(at[0])}" y="{number(at[1])}"'
+    return f'<text class="{kind}" {place} text-anchor="{anchor}">{told(words)}</text>'
+
+
+def group(kind: str, marks: Iterable[str], vehicle: int = -1) -> str:
+    """Marks that belong together, and to a vehicle."""
+    whose = f' data-vehicle="{vehicle}"' if vehicle >= 0 else ""
+    return f'<g class="{kind}"{whose}>{"".join(marks)}</g>'
+
+
+@dataclass(frozen=True)
+class Picture:
+    """A drawing: what it shows in words, its height, its labels and, beside them, its body, as wide as these say."""
+
+    title: str
+    description: str
+    height: float
+    body: str
+    width: float
+    labels: str = ""
+    label_width: float = 0

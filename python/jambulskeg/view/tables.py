@@ -1,0 +1,170 @@
+"""The tables of a page: the parts of the cost, what was left out, each visit, and the stops of each vehicle."""
+
+from __future__ import annotations
+
+from typing import Any, Dict, Iterable, Iterator, List, Optional, Sequence, Tuple
+
+from ..costs import arcs_of, soft_of, span_of
+from ..solution import Parts, Route
+from .day import Day, Penalty
+from .svg import told
+
+__all__ = ["PARTS", "cost_table", "left_table", "parts_table", "stops_table", "visits_table"]
+
+PARTS: Sequence[Tuple[str, str, str]] = (
+    ("arcs", "arcs", "the arc costs of all vehicles that leave"),
+    ("fixed", "fixed costs", "what it costs that these vehicles leave at all"),
+    ("span", "spans", "what each vehicle's way from its start to its end costs in the dimensions"),
+    ("global_", "global spans", "from the first start to the last end of all vehicles"),
+    ("soft", "lateness", "what lies beyond soft bounds"),
+    ("penalty", "penalties", "visits that are left out"),
+)
+"""The parts of a cost: the field, its name, and what it is."""
+
+
+def table(caption: str, heads: Sequence[str], bodies: Iterable[str], identity: str = "") -> str:
+    """A table of bodies that are HTML already; the first column has the names of the rows. A head that begins with #
+    stands over numbers."""
+    cells = "".join(
+        f'<th scope="col" class="number">{told(head[1:])}</th>' if head.startswith("#") else
+        f'<th scope="col">{told(head)}</th>' for head in heads
+    )
+    name = f' id="{identity}"' if identity else ""
+    return (
+        f'<div class="scroll" tabindex="0" role="region" aria-label="{told(caption)}">'
+        f"<table{name}><caption>{told(caption)}</caption><thead><tr>{cells}</tr></thead>{''.join(bodies)}</table></div>"
+    )
+
+
+def row(cells: Sequence[Any], marks: str = "") -> str:
+    """A row; numbers are set to the right."""
+    first, *rest = cells
+    words = "".join(
+        f'<td class="number">{cell}</td>' if isinstance(cell, int) else f"<td>{told(cell)}</td>" for cell in rest
+    )
+    return f'<tr{marks}><th scope="row">{told(first)}</th>{words}</tr>'
+
+
+def parts_table(parts: Parts) -> str:
+    """The parts of a cost, each with what it is."""
+    rows = [row([name, getattr(parts, field), words]) for field, name, words in PARTS]
+    rows.append(row(["all", parts.total(), "the cost of the day"], ' class="sum"'))
+    return table("The parts of the cost", ["part", "#cost", "what it is"], ["<tbody>", *rows, "</tbody>"])
+
+
+def cost_table(day: Day) -> str:
+    """What each vehicle costs; what only all of them together cost is in the table of the parts."""
+    rows = []
+    for route in day.routes():
+        arcs, fixed = arcs_of(day.model, route), day.model.vehicles[route.vehicle].fixed
+        span = sum(span_of(day.model, number, route, plan) for number, plan in enumerate(route.dimensions))
+        soft = sum(soft_of(day.model, number, route, plan) for number, plan in enumerate(route.dimensions))
+        rows.append(row([
+            day.names.vehicle(route.vehicle), len(route.visits), arcs, fixed, span, soft, arcs + fixed + span + soft
+        ]))
+    heads = ["vehicle", "#visits", "#arcs", "#fixed cost", "#spans", "#lateness", "#together"]
+    return table("What each vehicle costs", heads, ["<tbody>", *rows, "</tbody>"])
+
+
+def left_table(day: Day) -> str:
+    """What was left out, and why it costs."""
+    penalties = day.penalties()
+    if not penalties:
+        return "<p>Every visit is made.</p>"
+    rows = [left_row(day, penalty) for penalty in penalties]
+    rows.append(row(["all", "", day.solution.parts.penalty, ""], ' class="sum"'))
+    heads = ["group", "left out", "#cost", "why"]
+    return table("What was left out, and why it costs", heads, ["<tbody>", *rows, "</tbody>"])
+
+
+def left_row(day: Day, penalty: Penalty) -> str:
+    """The row of a group of which visits are left out."""
+    group = penalty.group
+    left = ", ".join(day.names.node(node) for node in penalty.left)
+    made = len(group.nodes) - len(penalty.left)
+    if group.penalty is None:
+        why = f"exactly {group.max} of {len(group.nodes)} are made; the others cost nothing"
+    elif len(group.nodes) == 1:
+        why = f"it may be left out at a penalty of {group.penalty}"
+    else:
+        why = f"of {len(group.nodes)} visits {made} are made and {group.max} could be: "
+        why += f"{penalty.short} times the penalty {group.penalty}"
+    return row([f"group {penalty.number}", left, penalty.cost, why])
+
+
+def visits_table(day: Day, identity: str = "visits") -> str:
+    """Each visit of the model: who makes it and when, and what it asks."""
+    made, asked = day.made_by(), day.asked_by()
+    routes = {route.vehicle: route for route in day.routes()}
+    heads = ["visit", "vehicle", "#stop"]
+    heads += ["#begins", "window", "forbidden", "beyond the soft bound"] if day.is_timed else []
+    rows = []
+    for node in day.model.visits():
+        vehicle, stop = made.get(node, (-1, -1))
+        cells: List[Any] = [day.names.node(node), day.names.vehicle(vehicle) if stop > 0 else "left out"]
+        cells.append(stop if stop > 0 else "")
+        begins = day.stops(routes[vehicle])[stop] if stop > 0 else None
+        cells += time_cells(day, asked.get(node), begins) if day.is_timed else []
+        rows.append(row(cells, "" if stop > 0 else ' class="left"'))
+    return table("Each visit", heads, ["<tbody>", *rows, "</tbody>"], identity)
+
+
+def time_cells(day: Day, asked: Any, begins: Optional[int]) -> List[Any]:
+    """When a visit begins and what it asks of its time."""
+    late = ""
+    if asked is not None and asked.soft is not None and begins is not None and begins > asked.soft.bound:
+        late = f"{begins - asked.soft.bound} at {asked.soft.coefficient} each"
+    return [
+        "" if begins is None else clock_cell(day, begins),
+        told_range(day, asked.window) if asked is not None and asked.window else "",
+        ", ".join(told_range(day, entry) for entry in asked.forbidden) if asked is not None else "",
+        late,
+    ]
+
+
+def clock_cell(day: Day, value: int) -> Any:
+    """A time in a cell: a number where it is written as one."""
+    return value if day.names.clock is None else day.names.time(value)
+
+
+def told_range(day: Day, window: Sequence[int]) -> str:
+    """An interval of times in words."""
+    return f"{day.names.time(window[0])} to {day.names.time(window[1])}"
+
+
+def stops_table(day: Day) -> str:
+    """The stops of each vehicle in order, with all that the charts show."""
+    loads = day.loads()
+    heads = ["stop", *([f"#{day.unit}", "until", "then"] if day.is_timed else [f"#{day.unit}"])]
+    heads += [f"#{day.model.dimensions[number].name}" for number in loads]
+    bodies = []
+    for route in day.routes():
+        name = f"{day.names.vehicle(route.vehicle)}: {len(route.visits)} visits"
+        head = f'<tr><th colspan="{len(heads)}" scope="rowgroup">{told(name)}</th></tr>'
+        rows = "".join(stop_rows(day, route, loads))
+        bodies.append(f'<tbody data-vehicle="{route.vehicle}">{head}{rows}</tbody>')
+    return table("Stops of each vehicle", heads, bodies)
+
+
+def stop_rows(day: Day, route: Route, loads: Sequence[int]) -> Iterator[str]:
+    """The rows of a route, one for each stop."""
+    stops, then = day.stops(route), told_pieces(day, route)
+    if then.get(-1):
+        yield row(["before the start", "", "", then[-1], *("" for _ in loads)])
+    for stop, node in enumerate(route.nodes):
+        cells: List[Any] = [day.names.node(node), clock_cell(day, stops[stop]) if day.is_timed else stops[stop]]
+        if day.is_timed:
+            service = day.service(route, stop)
+            cells += [day.names.time(stops[stop] + service) if service else "", then.get(stop, "")]
+        yield row([*cells, *(route.dimensions[number].cumuls[stop] for number in loads)])
+
+
+def told_pieces(day: Day, route: Route) -> Dict[int, str]:
+    """For each stop what the vehicle does behind it, in words."""
+    words = {"travel": "drives", "wait": "waits", "break": "break"}
+    out: Dict[int, List[str]] = {}
+    for piece in day.pieces(route):
+        if piece.kind in words:
+            at = f" {day.names.time(piece.low)} to {day.names.time(piece.high)}" if piece.kind == "break" else ""
+            out.setdefault(piece.stop, []).append(f"{words[piece.kind]} {piece.high - piece.low}" + at)
+    return {stop: ", ".join(told_ones) for stop, told_ones in out.items()}

@@ -1,0 +1,208 @@
+"""The chart of a day: a row for each vehicle, time along it.
+
+A row has the names of its visits, a bar of what the vehicle does (visits, drives, waiting, breaks), and below it a lane
+for each visit with a window: the window as a line, its forbidden intervals as gaps, and a mark where the visit begins.
+"""
+
+from __future__ import annotations
+
+from typing import Iterator, List, Sequence
+
+from ..records import HORIZON, StopRow
+from ..solution import Route
+from .axis import Axis
+from .day import Day, Piece
+from .svg import Picture, circle, group, line, rect, shortened, text
+
+__all__ = ["axis_of", "grid", "name_of", "timeline"]
+
+WIDTH = 1080
+LABELS = 130
+MARGIN = 14
+HEAD = 24
+"""The height of the numbers of the axis."""
+NAMES = 13
+BAR = 16
+LANE = 3
+LANES = 24
+GAP = 8
+IDLE = 20
+"""The height of the row of a vehicle that is not used."""
+EVERY = 12
+"""After so many vehicles the axis is written again."""
+LETTER = 6.4
+"""The width of a letter of a visit's name."""
+THICK = {"visit": BAR, "travel": 4, "wait": 8, "break": 12}
+WORDS = {"visit": "visits", "travel": "drives", "wait": "waits", "break": "takes a break"}
+
+
+def axis_of(days: Sequence[Day]) -> Axis:
+    """The axis of some days: from the first start, or break, to the last end, and a little of the windows beside it."""
+    numbers = [at for day in days for route in day.routes() for at in (day.stops(route)[0], day.stops(route)[-1])]
+    for piece in (piece for day in days for route in day.routes() for piece in day.breaks(route)):
+        numbers += [piece.low, piece.high]
+    low, high = min(numbers, default=0), max(numbers, default=1)
+    room = (high - low) // 8
+    near = [edge for day in days for edge in window_edges(day) if low - room <= edge <= high + room]
+    return Axis(min([low, *near]), max([high, *near]), MARGIN, WIDTH - 2 * MARGIN)
+
+
+def window_edges(day: Day) -> Iterator[int]:
+    """The ends of the windows of a day."""
+    for row in day.asked_by().values():
+        yield from row.window or ()
+
+
+def timeline(day: Day, axis: Axis) -> Picture:
+    """The chart of a day along an axis."""
+    y: float = 0
+    labels: List[str] = []
+    body: List[str] = []
+    for place, route in enumerate(day.solution.routes):
+        if place % EVERY == 0:
+            y += HEAD
+            body.append(heading(day, axis, y))
+        height = row_height(day, route)
+        labels.append(name_of(day, route, y + (NAMES if route.nodes else 0) + BAR - 4))
+        body.append(row_of(day, axis, route, y, place))
+        y += height
+    body.insert(0, group("grid", grid(day, axis, y)))
+    title = f"Each vehicle's day along {day.unit}"
+    return Picture(title, described(day), y, "".join(body), WIDTH, "".join(labels), LABELS)
+
+
+def described(day: Day) -> str:
+    """The chart in words."""
+    unused = len(day.solution.routes) - len(day.routes())
+    return (
+        f"{len(day.routes())} vehicles leave, {unused} are not used. A row for each vehicle shows its visits, drives, "
+        "waiting and breaks, and below them the windows of its visits. The table 'Stops of each vehicle' says the same."
+    )
+
+
+def grid(day: Day, axis: Axis, height: float) -> List[str]:
+    """A line at each number of the axis."""
+    return [
+        line("tick", (axis.at(tick), 0), (axis.at(tick), height)) for tick in axis.ticks(12, day.names.clock is not None)
+    ]
+
+
+def heading(day: Day, axis: Axis, y: float) -> str:
+    """The numbers of the axis."""
+    ticks = axis.ticks(12, day.names.clock is not None)
+    return group("axis", [text("number", (axis.at(tick), y - 8), day.names.time(tick), "middle") for tick in ticks])
+
+
+def name_of(day: Day, route: Route, y: float) -> str:
+    """The name of a vehicle, with the colour that its route has on the map."""
+    kind = f"swatch r{route.vehicle % 12}" if route.nodes else "swatch idle"
+    name = shortened(day.names.vehicle(route.vehicle), 17)
+    marks = [rect(kind, (0, y - 10), (6, 12)), text("name", (12, y), name)]
+    return group("label" if route.nodes else "label idle", marks, route.vehicle)
+
+
+def row_height(day: Day, route: Route) -> float:
+    """The height of the row of a route."""
+    return NAMES + BAR + LANE * lanes_of(day, route) + GAP if route.nodes else IDLE
+
+
+def lanes_of(day: Day, route: Route) -> int:
+    """How many lanes the windows of a route take."""
+    return min(LANES, sum(1 for row in day.rows(route)[1:-1] if row is not None))
+
+
+def row_of(day: Day, axis: Axis, route: Route, y: float, place: int) -> str:
+    """The row of a vehicle."""
+    height = row_height(day, route)
+    marks = [rect("band" if place % 2 else "band even", (0, y), (WIDTH, height))]
+    if not route.nodes:
+        return group("row idle", [*marks, text("note", (axis.left, y + 14), "not used")], route.vehicle)
+    top = y + NAMES
+    marks += shift_of(day, axis, route, top)
+    marks += [bar_of(day, axis, route, piece, top) for piece in day.pieces(route)]
+    marks += visits_of(day, axis, route, top)
+    marks += windows_of(day, axis, route, top + BAR + 3)
+    return group("row", marks, route.vehicle)
+
+
+def shift_of(day: Day, axis: Axis, route: Route, top: float) -> Iterator[str]:
+    """From when to when the vehicle may be out."""
+    if day.time is None:
+        return
+    first, last = day.rows(route)[0], day.rows(route)[-1]
+    most = day.model.dimensions[day.time].capacity_of(route.vehicle)
+    low = first.window[0] if first is not None and first.window else 0
+    high = min(most, last.window[1] if last is not None and last.window else HORIZON)
+    title = f"{day.names.vehicle(route.vehicle)} may be out from {day.names.time(low)} to {day.names.time(high)}"
+    yield rect("shift", (axis.at(low), top - 1), (axis.at(high) - axis.at(low), BAR + 2), title)
+
+
+def bar_of(day: Day, axis: Axis, route: Route, piece: Piece, top: float) -> str:
+    """A piece of the bar of a vehicle."""
+    thick = THICK[piece.kind]
+    corner = (axis.at(piece.low), top + (BAR - thick) / 2)
+    return rect(piece.kind, corner, (axis.at(piece.high) - corner[0], thick), piece_title(day, route, piece))
+
+
+def piece_title(day: Day, route: Route, piece: Piece) -> str:
+    """A piece in words."""
+    if piece.kind == "visit":
+        where = f" {day.names.node(route.nodes[piece.stop])}"
+    elif piece.kind == "break":
+        where = ""
+    else:
+        where = f" {'to' if piece.kind == 'travel' else 'for'} {day.names.node(route.nodes[piece.stop + 1])}"
+    words = f"{day.names.vehicle(route.vehicle)} {WORDS[piece.kind]}{where}"
+    return f"{words}, {day.names.time(piece.low)} to {day.names.time(piece.high)} ({piece.high - piece.low})"
+
+
+def visits_of(day: Day, axis: Axis, route: Route, top: float) -> List[str]:
+    """A mark where each stop begins, and its name where there is room for it."""
+    marks, free = [], axis.left - MARGIN
+    stops = day.stops(route)
+    for stop, node in enumerate(route.nodes):
+        x = axis.at(stops[stop])
+        is_visit = 0 < stop < len(route.nodes) - 1
+        title = f"{day.names.node(node)}: {day.names.time(stops[stop])}"
+        marks.append(rect("begin" if is_visit else "end", (x - 1, top), (2, BAR), title))
+        name = shortened(day.names.short(node), 14)
+        width = LETTER * len(name)
+        if is_visit and x >= free and x + width <= WIDTH:
+            marks.append(text("stop", (x, top - 3), name))
+            free = x + width + 3
+    return marks
+
+
+def windows_of(day: Day, axis: Axis, route: Route, top: float) -> List[str]:
+    """The windows of the visits of a route, each in its lane."""
+    marks: List[str] = []
+    rows = [(stop, row) for stop, row in enumerate(day.rows(route)[:-1]) if stop and row is not None]
+    for place, (stop, row) in enumerate(rows):
+        y = top + LANE * (place % LANES) + 1
+        marks += window_of(day, axis, row, route.nodes[stop], y)
+        at = (axis.at(day.stops(route)[stop]), y)
+        marks += late_of(day, axis, row, day.stops(route)[stop], y)
+        marks.append(circle("at", at, 1.6))
+    return marks
+
+
+def window_of(day: Day, axis: Axis, row: StopRow, node: int, y: float) -> Iterator[str]:
+    """The window of a visit, and its forbidden intervals."""
+    low, high = row.window or (axis.low, axis.high)
+    name = day.names.node(node)
+    title = f"{name} may begin from {day.names.time(low)} to {day.names.time(high)}" if row.window else ""
+    yield line("window", (axis.at(low), y), (axis.at(high), y), title)
+    for least, most in row.forbidden:
+        if least <= axis.high and most >= axis.low:
+            title = f"{name} may not begin from {day.names.time(least)} to {day.names.time(most)}"
+            yield line("forbidden", (axis.at(least), y), (axis.at(most), y), title)
+
+
+def late_of(day: Day, axis: Axis, row: StopRow, cumul: int, y: float) -> Iterator[str]:
+    """From a soft bound to a visit that begins later."""
+    if row.soft is not None and cumul > row.soft.bound:
+        cost = row.soft.coefficient * (cumul - row.soft.bound)
+        title = f"{cumul - row.soft.bound} beyond the soft bound {day.names.time(row.soft.bound)} costs {cost}"
+        yield line("late", (axis.at(row.soft.bound), y), (axis.at(cumul), y), title)
+
+
