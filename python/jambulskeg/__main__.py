@@ -49,7 +49,7 @@ def parser() -> argparse.ArgumentParser:
     add_view(commands.add_parser("view", help="a page (or an SVG) of a day, or of two side by side"))
     one = commands.add_parser("portfolio", help="many searches of a model, the cheapest checked answer kept")
     one.add_argument("model", metavar="MODEL", help="the model file")
-    one.add_argument("-o", "--output", metavar="SOLUTION", help="where the solution is written; else to standard output")
+    one.add_argument("-o", "--output", metavar="SOLUTION", help="where it is written; else to standard output")
     one.set_defaults(run=run_portfolio)
     many = commands.add_parser("batch", help="the same for each model NAME.json of a folder")
     many.add_argument("models", metavar="FOLDER", help="the folder of model files; NAME.*.json are left out")

@@ -8,8 +8,8 @@ from ..records import HORIZON
 from ..solution import Route
 from .axis import Axis
 from .day import Day
-from .svg import Picture, group, line, path, rect, text
-from .timeline import EVERY, HEAD, LABELS, WIDTH, grid, heading, name_of
+from .svg import Picture, group, line, path, text
+from .timeline import EVERY, HEAD, LABELS, WIDTH, band, grid, heading, name_of
 
 __all__ = ["levels_of", "loads"]
 
@@ -41,20 +41,22 @@ def loads(day: Day, number: int, axis: Axis) -> Picture:
     y: float = 0
     labels: List[str] = []
     body: List[str] = []
+    bands: List[str] = []
     for place, route in enumerate(day.routes()):
         if place % EVERY == 0:
             y += HEAD
             body.append(heading(day, axis, y))
-        labels += [name_of(day, route, y + 18), text("note", (12, y + 34), told_most(day, number, route))]
-        body.append(row_of(day, number, axis, route, (y, most, place)))
+        labels += [name_of(day, route, y + 18), text("note", (21, y + 34), told_most(day, number, route))]
+        bands.append(band(place, y, ROW))
+        body.append(row_of(day, number, axis, route, (y, most)))
         y += ROW
-    body.insert(0, group("grid", grid(day, axis, y)))
     title = f"{dimension.name} of each vehicle"
     description = (
         f"A line for each vehicle shows its {dimension.name} along the day, beside its capacity. "
         "The table 'Stops of each vehicle' says the same."
     )
-    return Picture(title, description, y, "".join(body), WIDTH, "".join(labels), LABELS)
+    marks = "".join([*bands, *grid(day, axis, y), *body])
+    return Picture(title, description, y, marks, WIDTH, "".join(labels), LABELS)
 
 
 def greatest(day: Day, number: int, route: Route) -> int:
@@ -76,16 +78,15 @@ def told_most(day: Day, number: int, route: Route) -> str:
     return f"{greatest(day, number, route)}" + (f" of {capacity}" if capacity < HORIZON else "")
 
 
-def row_of(day: Day, number: int, axis: Axis, route: Route, where: Tuple[float, int, int]) -> str:
+def row_of(day: Day, number: int, axis: Axis, route: Route, where: Tuple[float, int]) -> str:
     """The row of a vehicle: the line of its levels, and its capacity."""
-    top, most, place = where
+    top, most = where
     base, high = top + ROW - ROOM, ROW - 2 * ROOM
     points = [(axis.at(at), base - high * max(0, level) / most) for at, level in levels_of(day, number, route)]
     capacity = day.model.dimensions[number].capacity_of(route.vehicle)
     dimension = day.model.dimensions[number].name
     title = f"{day.names.vehicle(route.vehicle)}: {dimension} at most {told_most(day, number, route)}"
     marks = [
-        rect("band" if place % 2 else "band even", (0, top), (WIDTH, ROW)),
         line("base", (axis.left, base), (axis.left + axis.width, base)),
         path("area", [(points[0][0], base), *points, (points[-1][0], base)], title),
         path("level", points, title),

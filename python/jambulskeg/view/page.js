@@ -10,6 +10,9 @@
       row.classList.toggle("hidden", !fits);
       shown += fits ? 1 : 0;
     });
+    tell(shown);
+  }
+  function tell(shown) {
     count.textContent = shown + " of " + table.tBodies[0].rows.length + " visits";
   }
   function choose() {
@@ -18,8 +21,14 @@
       part.classList.toggle(part.tagName === "TBODY" ? "hidden" : "faint", other);
     });
   }
-  if (search && table) { search.addEventListener("input", filter); filter(); }
-  if (choice) { choice.addEventListener("change", choose); choose(); }
+  if (search && table) {
+    search.addEventListener("input", filter);
+    if (search.value) { filter(); } else { tell(table.tBodies[0].rows.length); }
+  }
+  if (choice) {
+    choice.addEventListener("change", choose);
+    if (choice.value !== "") { choose(); }
+  }
   window.addEventListener("beforeprint", function () {
     document.querySelectorAll("details").forEach(function (part) { part.open = true; });
   });

@@ -18,17 +18,19 @@ __all__ = ["compare_page", "page"]
 
 POLICY = "default-src 'none'; style-src 'unsafe-inline'; script-src 'unsafe-inline'"
 LEGEND = (
-    ('<rect class="visit" x="2" width="30" height="16"/>', "visit"),
-    ('<rect class="travel" x="2" y="6" width="30" height="4"/>', "drive"),
-    ('<rect class="wait" x="2" y="4" width="30" height="8"/>', "waiting"),
-    ('<rect class="break" x="2" y="2" width="30" height="12"/>', "break"),
-    ('<line class="window" x1="2" y1="8" x2="32" y2="8"/><circle class="at" cx="14" cy="8" r="2.5"/>',
+    ("visit", '<rect class="visit" x="2" width="30" height="16"/>', "visit"),
+    ("travel", '<path class="travel" d="M2 8L32 8"/>', "drive"),
+    ("wait", '<rect class="wait" x="2" y="4" width="30" height="8"/>', "waiting"),
+    ("break", '<rect class="break" x="2" y="2" width="30" height="12"/>', "break"),
+    ("window", '<line class="window" x1="2" y1="8" x2="32" y2="8"/><path class="at" d="M14 8L14 8"/>',
      "window of a visit, and where it begins"),
-    ('<line class="window" x1="2" y1="8" x2="32" y2="8"/><line class="forbidden" x1="12" y1="8" x2="24" y2="8"/>',
-     "forbidden in it"),
-    ('<line class="late" x1="2" y1="8" x2="32" y2="8"/>', "beyond a soft bound"),
-    ('<rect class="shift" x="2" width="30" height="16"/>', "when the vehicle may be out"),
+    ("forbidden", '<line class="window" x1="2" y1="8" x2="32" y2="8"/>'
+     '<line class="forbidden" x1="12" y1="8" x2="24" y2="8"/>', "forbidden in it"),
+    ("late", '<line class="late" x1="2" y1="8" x2="32" y2="8"/>', "beyond a soft bound"),
+    ("shift", '<rect class="shift" x="2" width="30" height="16"/>', "when the vehicle may be out"),
+    ("capacity", '<line class="capacity" x1="2" y1="8" x2="32" y2="8"/>', "capacity"),
 )
+"""What the marks of the charts mean: the class, a mark, and words."""
 
 
 def page(day: Day, title: str, found: str, in_degrees: bool = False) -> str:
@@ -38,7 +40,7 @@ def page(day: Day, title: str, found: str, in_degrees: bool = False) -> str:
         f"<h1>{told(title)}</h1><p>{told(found)}</p>",
         facts(day),
         choice(day),
-        "<h2>The day</h2>" + legend(day) + charts(day, axis, in_degrees),
+        "<h2>The day</h2>" + charts(day, axis, in_degrees),
         "<h2>What it costs</h2>" + bar(day) + parts_table(day.solution.parts) + details(
             "What each vehicle costs", cost_table(day)
         ),
@@ -63,7 +65,7 @@ def compare_page(days: Tuple[Day, Day], titles: Tuple[str, str], found: str, in_
         f"<h1>{told(title)}</h1><p>{told(found)}</p>",
         "<h2>What they cost</h2>" + costs_beside(days, titles),
         choice(days[0]),
-        "<h2>Both days</h2>" + legend(days[0]) + f'<div class="beside">{columns}</div>',
+        "<h2>Both days</h2>" + f'<div class="beside">{columns}</div>',
         '<h2 id="tables">Visits</h2>' + search() + changes_table(days, titles),
     ]
     return whole(title, "".join(parts), days)
@@ -114,22 +116,26 @@ def search() -> str:
     )
 
 
-def legend(day: Day) -> str:
-    """What the marks of the chart of the day mean, as far as it has them."""
-    marks = LEGEND if day.is_timed else LEGEND[1:2]
-    rows = [f'<li><svg viewBox="0 0 34 16" aria-hidden="true">{mark}</svg>{told(words)}</li>' for mark, words in marks]
+def legend(picture: Picture) -> str:
+    """What the marks of a chart mean, as far as it has them."""
+    rows = [
+        f'<li><svg viewBox="0 0 34 16" aria-hidden="true">{mark}</svg>{told(words)}</li>'
+        for kind, mark, words in LEGEND if f'class="{kind}"' in picture.body
+    ]
     return '<ul class="legend">' + "".join(rows) + "</ul>"
 
 
 def charts(day: Day, axis: Axis, in_degrees: bool) -> str:
     """The charts of a day, and its map where its places are known."""
-    parts: List[str] = [chart(timeline(day, axis))]
+    picture = timeline(day, axis)
+    parts: List[str] = [f"<p>Along the rows: {told(day.unit)}.</p>{legend(picture)}{chart(picture)}"]
     for number in day.loads():
         picture = loads(day, number, axis)
-        parts.append(f"<h3>{told(day.model.dimensions[number].name)}, beside the capacity</h3>{chart(picture)}")
+        name = told(day.model.dimensions[number].name)
+        parts.append(f"<h3>{name}, beside the capacity</h3>{legend(picture)}{chart(picture)}")
     if day.places:
         picture = route_map(day, in_degrees)
-        parts.append(f'<h3>Map</h3><figure class="map">{svg(picture.width, picture, picture.body)}</figure>')
+        parts.append(f'<h3>Map</h3><figure class="map far">{svg(picture.width, picture, picture.body)}</figure>')
     return "".join(parts)
 
 
@@ -140,8 +146,8 @@ def chart(picture: Picture) -> str:
     body = svg(picture.width, picture, picture.body)
     return (
         f'<figure class="chart" style="{sizes}"><div class="labels">{labels}</div>'
-        f'<div class="scroll" tabindex="0" role="region" aria-label="{told(picture.title)}"><div class="body">{body}</div>'
-        "</div></figure>"
+        f'<div class="scroll" tabindex="0" role="region" aria-label="{told(picture.title)}">'
+        f'<div class="body">{body}</div></div></figure>'
     )
 
 

@@ -29,8 +29,8 @@ def route_map(day: Day, in_degrees: bool = False) -> Picture:
         marks += [group("places", names_of(day, points))]
     description = (
         f"The routes of {len(day.routes())} vehicles between {len(points)} places as straight lines; starts and ends "
-        "are squares, visits are discs, visits that nobody makes are crosses. The table 'Stops of each vehicle' has the "
-        "order of the stops."
+        "are squares, visits are discs, visits that nobody makes are crosses. The table 'Stops of each vehicle' has "
+        "the order of the stops."
     )
     return Picture("Map of the routes", description, height, "".join(marks), WIDTH)
 
@@ -74,9 +74,8 @@ def place_of(day: Day, node: int, points: Sequence[Point]) -> str:
     x, y = points[node]
     name = day.names.node(node)
     if node in set(day.solution.dropped):
-        return group("dropped", [
-            line("cross", (x - 5, y - 5), (x + 5, y + 5), f"{name}: left out"), line("cross", (x - 5, y + 5), (x + 5, y - 5))
-        ])
+        ends = ((x - 5, y - 5), (x + 5, y + 5)), ((x - 5, y + 5), (x + 5, y - 5))
+        return group("dropped", [line("cross", tail, head, f"{name}: left out") for tail, head in ends])
     if any(node in (vehicle.start, vehicle.end) for vehicle in day.model.vehicles):
         return rect("depot", (x - 6, y - 6), (12, 12), f"{name}: start or end")
     return circle("place", (x, y), 4 if len(points) <= 300 else 2.5, name)

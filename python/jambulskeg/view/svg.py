@@ -47,7 +47,8 @@ def rect(kind: str, corner: Point, size: Point, title: str = "") -> str:
 
 def line(kind: str, tail: Point, head: Point, title: str = "") -> str:
     """A line of a class."""
-    marks = f'class="{kind}" x1="{number(tail[0])}" y1="{number(tail[1])}" x2="{number(head[0])}" y2="{number(head[1])}"'
+    (x1, y1), (x2, y2) = tail, head
+    marks = f'class="{kind}" x1="{number(x1)}" y1="{number(y1)}" x2="{number(x2)}" y2="{number(y2)}"'
     return titled("line", marks, title)
 
 
@@ -55,6 +56,21 @@ def path(kind: str, points: Sequence[Point], title: str = "") -> str:
     """An open line through some points."""
     way = "L".join(f"{number(x)} {number(y)}" for x, y in points)
     return titled("path", f'class="{kind}" d="M{way}"', title)
+
+
+def segments(kind: str, ends: Iterable[Tuple[Point, Point]]) -> str:
+    """Some lines of a class as one element; a line of no length is a dot where its ends are round."""
+    way = "".join(f"M{number(x1)} {number(y1)}L{number(x2)} {number(y2)}" for (x1, y1), (x2, y2) in ends)
+    return f'<path class="{kind}" d="{way}"/>' if way else ""
+
+
+def boxes(kind: str, parts: Iterable[Tuple[Point, Point]]) -> str:
+    """Some rectangles of a class as one element: the upper left corner of each, and its size."""
+    way = "".join(
+        f"M{number(x)} {number(y)}h{number(width)}v{number(height)}h{number(-width)}z"
+        for (x, y), (width, height) in parts
+    )
+    return f'<path class="{kind}" d="{way}"/>' if way else ""
 
 
 def circle(kind: str, centre: Point, radius: float, title: str = "") -> str:

@@ -5,6 +5,7 @@ from __future__ import annotations
 from typing import Any, Dict, Iterable, Iterator, List, Optional, Sequence, Tuple
 
 from ..costs import arcs_of, soft_of, span_of
+from ..records import NodeRow
 from ..solution import Parts, Route
 from .day import Day, Penalty
 from .svg import told
@@ -31,23 +32,24 @@ def table(caption: str, heads: Sequence[str], bodies: Iterable[str], identity: s
     )
     name = f' id="{identity}"' if identity else ""
     return (
-        f'<div class="scroll" tabindex="0" role="region" aria-label="{told(caption)}">'
+        f'<div class="scroll far" tabindex="0" role="region" aria-label="{told(caption)}">'
         f"<table{name}><caption>{told(caption)}</caption><thead><tr>{cells}</tr></thead>{''.join(bodies)}</table></div>"
     )
 
 
-def row(cells: Sequence[Any], marks: str = "") -> str:
-    """A row; numbers are set to the right."""
+def row(cells: Sequence[Any], marks: str = "", key: str = "") -> str:
+    """A row; numbers are set to the right, and a key of a colour stands before the first cell."""
     first, *rest = cells
+    colour = f'<i class="key {key}"></i>' if key else ""
     words = "".join(
         f'<td class="number">{cell}</td>' if isinstance(cell, int) else f"<td>{told(cell)}</td>" for cell in rest
     )
-    return f'<tr{marks}><th scope="row">{told(first)}</th>{words}</tr>'
+    return f'<tr{marks}><th scope="row">{colour}{told(first)}</th>{words}</tr>'
 
 
 def parts_table(parts: Parts) -> str:
     """The parts of a cost, each with what it is."""
-    rows = [row([name, getattr(parts, field), words]) for field, name, words in PARTS]
+    rows = [row([name, getattr(parts, field), words], key=f"part-{field}") for field, name, words in PARTS]
     rows.append(row(["all", parts.total(), "the cost of the day"], ' class="sum"'))
     return table("The parts of the cost", ["part", "#cost", "what it is"], ["<tbody>", *rows, "</tbody>"])
 
@@ -96,20 +98,34 @@ def visits_table(day: Day, identity: str = "visits") -> str:
     """Each visit of the model: who makes it and when, and what it asks."""
     made, asked = day.made_by(), day.asked_by()
     routes = {route.vehicle: route for route in day.routes()}
+    partners = partners_of(day)
     heads = ["visit", "vehicle", "#stop"]
+    heads += ["pair"] if partners else []
     heads += ["#begins", "window", "forbidden", "beyond the soft bound"] if day.is_timed else []
-    rows = []
+    rows: List[Tuple[List[Any], str]] = []
     for node in day.model.visits():
         vehicle, stop = made.get(node, (-1, -1))
         cells: List[Any] = [day.names.node(node), day.names.vehicle(vehicle) if stop > 0 else "left out"]
         cells.append(stop if stop > 0 else "")
+        cells += [partners.get(node, "")] if partners else []
         begins = day.stops(routes[vehicle])[stop] if stop > 0 else None
         cells += time_cells(day, asked.get(node), begins) if day.is_timed else []
-        rows.append(row(cells, "" if stop > 0 else ' class="left"'))
-    return table("Each visit", heads, ["<tbody>", *rows, "</tbody>"], identity)
+        rows.append((cells, "" if stop > 0 else ' class="left"'))
+    shown = [at for at, head in enumerate(heads) if at < 3 or any(cells[at] != "" for cells, _ in rows)]
+    lines = [row([cells[at] for at in shown], marks) for cells, marks in rows]
+    return table("Each visit", [heads[at] for at in shown], ["<tbody>", *lines, "</tbody>"], identity)
 
 
-def time_cells(day: Day, asked: Any, begins: Optional[int]) -> List[Any]:
+def partners_of(day: Day) -> Dict[int, str]:
+    """For each node of a pair the other one, in words."""
+    out = {}
+    for pair in day.model.pairs:
+        out[pair.pickup] = f"delivered at {day.names.node(pair.delivery)}"
+        out[pair.delivery] = f"picked up at {day.names.node(pair.pickup)}"
+    return out
+
+
+def time_cells(day: Day, asked: Optional[NodeRow], begins: Optional[int]) -> List[Any]:
     """When a visit begins and what it asks of its time."""
     late = ""
     if asked is not None and asked.soft is not None and begins is not None and begins > asked.soft.bound:

@@ -6,15 +6,15 @@ for each visit with a window: the window as a line, its forbidden intervals as g
 
 from __future__ import annotations
 
-from typing import Iterator, List, Sequence
+from typing import Dict, Iterator, List, Sequence, Tuple
 
 from ..records import HORIZON, StopRow
 from ..solution import Route
 from .axis import Axis
 from .day import Day, Piece
-from .svg import Picture, circle, group, line, rect, shortened, text
+from .svg import Picture, Point, boxes, group, line, rect, segments, shortened, text
 
-__all__ = ["axis_of", "grid", "name_of", "timeline"]
+__all__ = ["axis_of", "band", "grid", "name_of", "timeline"]
 
 WIDTH = 1080
 LABELS = 130
@@ -32,8 +32,8 @@ EVERY = 12
 """After so many vehicles the axis is written again."""
 LETTER = 6.4
 """The width of a letter of a visit's name."""
-THICK = {"visit": BAR, "travel": 4, "wait": 8, "break": 12}
-WORDS = {"visit": "visits", "travel": "drives", "wait": "waits", "break": "takes a break"}
+THICK = {"visit": BAR, "wait": 8, "break": 12}
+WORDS = {"travel": "drives", "wait": "waits", "break": "break of"}
 
 
 def axis_of(days: Sequence[Day]) -> Axis:
@@ -58,17 +58,24 @@ def timeline(day: Day, axis: Axis) -> Picture:
     y: float = 0
     labels: List[str] = []
     body: List[str] = []
+    bands: List[str] = []
     for place, route in enumerate(day.solution.routes):
         if place % EVERY == 0:
             y += HEAD
             body.append(heading(day, axis, y))
         height = row_height(day, route)
         labels.append(name_of(day, route, y + (NAMES if route.nodes else 0) + BAR - 4))
-        body.append(row_of(day, axis, route, y, place))
+        bands.append(band(place, y, height))
+        body.append(row_of(day, axis, route, y))
         y += height
-    body.insert(0, group("grid", grid(day, axis, y)))
     title = f"Each vehicle's day along {day.unit}"
-    return Picture(title, described(day), y, "".join(body), WIDTH, "".join(labels), LABELS)
+    marks = "".join([*bands, *grid(day, axis, y), *body])
+    return Picture(title, described(day), y, marks, WIDTH, "".join(labels), LABELS)
+
+
+def band(place: int, y: float, height: float) -> str:
+    """The ground of a row."""
+    return rect("band" if place % 2 else "band even", (0, y), (WIDTH, height))
 
 
 def described(day: Day) -> str:
@@ -82,9 +89,8 @@ def described(day: Day) -> str:
 
 def grid(day: Day, axis: Axis, height: float) -> List[str]:
     """A line at each number of the axis."""
-    return [
-        line("tick", (axis.at(tick), 0), (axis.at(tick), height)) for tick in axis.ticks(12, day.names.clock is not None)
-    ]
+    ticks = axis.ticks(12, day.names.clock is not None)
+    return [line("tick", (axis.at(tick), 0), (axis.at(tick), height)) for tick in ticks]
 
 
 def heading(day: Day, axis: Axis, y: float) -> str:
@@ -96,8 +102,8 @@ def heading(day: Day, axis: Axis, y: float) -> str:
 def name_of(day: Day, route: Route, y: float) -> str:
     """The name of a vehicle, with the colour that its route has on the map."""
     kind = f"swatch r{route.vehicle % 12}" if route.nodes else "swatch idle"
-    name = shortened(day.names.vehicle(route.vehicle), 17)
-    marks = [rect(kind, (0, y - 10), (6, 12)), text("name", (12, y), name)]
+    name = shortened(day.names.vehicle(route.vehicle), 15)
+    marks = [rect(kind, (8, y - 10), (7, 12)), text("name", (21, y), name)]
     return group("label" if route.nodes else "label idle", marks, route.vehicle)
 
 
@@ -111,15 +117,13 @@ def lanes_of(day: Day, route: Route) -> int:
     return min(LANES, sum(1 for row in day.rows(route)[1:-1] if row is not None))
 
 
-def row_of(day: Day, axis: Axis, route: Route, y: float, place: int) -> str:
+def row_of(day: Day, axis: Axis, route: Route, y: float) -> str:
     """The row of a vehicle."""
-    height = row_height(day, route)
-    marks = [rect("band" if place % 2 else "band even", (0, y), (WIDTH, height))]
     if not route.nodes:
-        return group("row idle", [*marks, text("note", (axis.left, y + 14), "not used")], route.vehicle)
+        return group("row idle", [text("note", (axis.left, y + 14), "not used")], route.vehicle)
     top = y + NAMES
-    marks += shift_of(day, axis, route, top)
-    marks += [bar_of(day, axis, route, piece, top) for piece in day.pieces(route)]
+    marks = list(shift_of(day, axis, route, top))
+    marks += bars_of(day, axis, route, top)
     marks += visits_of(day, axis, route, top)
     marks += windows_of(day, axis, route, top + BAR + 3)
     return group("row", marks, route.vehicle)
@@ -137,53 +141,64 @@ def shift_of(day: Day, axis: Axis, route: Route, top: float) -> Iterator[str]:
     yield rect("shift", (axis.at(low), top - 1), (axis.at(high) - axis.at(low), BAR + 2), title)
 
 
-def bar_of(day: Day, axis: Axis, route: Route, piece: Piece, top: float) -> str:
-    """A piece of the bar of a vehicle."""
-    thick = THICK[piece.kind]
-    corner = (axis.at(piece.low), top + (BAR - thick) / 2)
-    return rect(piece.kind, corner, (axis.at(piece.high) - corner[0], thick), piece_title(day, route, piece))
+def bars_of(day: Day, axis: Axis, route: Route, top: float) -> List[str]:
+    """The bar of a vehicle: its drives as one line, its waiting as one area, and each visit and break by itself."""
+    pieces = day.pieces(route)
+    ends = [(axis.at(piece.low), axis.at(piece.high), piece.kind) for piece in pieces]
+    middle = top + BAR / 2
+    marks = [
+        segments("travel", [((low, middle), (high, middle)) for low, high, kind in ends if kind == "travel"]),
+        boxes("wait", [((low, middle - THICK["wait"] / 2), (high - low, THICK["wait"]))
+                       for low, high, kind in ends if kind == "wait"]),
+    ]
+    before: Dict[int, List[Piece]] = {}
+    for piece in pieces:
+        before.setdefault(piece.stop + 1, []).extend([] if piece.kind == "visit" else [piece])
+    for piece, (low, high, kind) in zip(pieces, ends):
+        if kind in ("visit", "break"):
+            corner = (low, middle - THICK[kind] / 2)
+            title = piece_title(day, route, piece, before.get(piece.stop, []))
+            marks.append(rect(kind, corner, (high - low, THICK[kind]), title))
+    return marks
 
 
-def piece_title(day: Day, route: Route, piece: Piece) -> str:
-    """A piece in words."""
-    if piece.kind == "visit":
-        where = f" {day.names.node(route.nodes[piece.stop])}"
-    elif piece.kind == "break":
-        where = ""
-    else:
-        where = f" {'to' if piece.kind == 'travel' else 'for'} {day.names.node(route.nodes[piece.stop + 1])}"
-    words = f"{day.names.vehicle(route.vehicle)} {WORDS[piece.kind]}{where}"
-    return f"{words}, {day.names.time(piece.low)} to {day.names.time(piece.high)} ({piece.high - piece.low})"
+def piece_title(day: Day, route: Route, piece: Piece, before: Sequence[Piece]) -> str:
+    """A visit or a break in words; of a visit also what comes before it."""
+    name = day.names.vehicle(route.vehicle)
+    times = f"{day.names.time(piece.low)} to {day.names.time(piece.high)} ({piece.high - piece.low})"
+    if piece.kind == "break":
+        return f"{name} takes a break, {times}"
+    way = ", ".join(f"{WORDS[entry.kind]} {entry.high - entry.low}" for entry in before)
+    return f"{day.names.node(route.nodes[piece.stop])}: {name}, {times}" + (f"; before it: {way}" if way else "")
 
 
 def visits_of(day: Day, axis: Axis, route: Route, top: float) -> List[str]:
     """A mark where each stop begins, and its name where there is room for it."""
-    marks, free = [], axis.left - MARGIN
+    names: List[str] = []
+    free = axis.left - MARGIN
     stops = day.stops(route)
-    for stop, node in enumerate(route.nodes):
-        x = axis.at(stops[stop])
-        is_visit = 0 < stop < len(route.nodes) - 1
-        title = f"{day.names.node(node)}: {day.names.time(stops[stop])}"
-        marks.append(rect("begin" if is_visit else "end", (x - 1, top), (2, BAR), title))
-        name = shortened(day.names.short(node), 14)
+    ticks = [((axis.at(at), top), (axis.at(at), top + BAR)) for at in stops]
+    for (x, _), _ in ticks[1:-1]:
+        name = shortened(day.names.short(route.nodes[len(names) + 1]), 14)
         width = LETTER * len(name)
-        if is_visit and x >= free and x + width <= WIDTH:
-            marks.append(text("stop", (x, top - 3), name))
-            free = x + width + 3
-    return marks
+        has_room = x >= free and x + width <= WIDTH
+        names.append(text("stop", (x, top - 3), name) if has_room else "")
+        free = x + width + 3 if has_room else free
+    return [segments("begin", ticks[1:-1]), segments("end", [ticks[0], ticks[-1]]), *names]
 
 
 def windows_of(day: Day, axis: Axis, route: Route, top: float) -> List[str]:
-    """The windows of the visits of a route, each in its lane."""
+    """The windows of the visits of a route, each in its lane, and marks where these begin."""
     marks: List[str] = []
+    begins: List[Tuple[Point, Point]] = []
+    stops = day.stops(route)
     rows = [(stop, row) for stop, row in enumerate(day.rows(route)[:-1]) if stop and row is not None]
     for place, (stop, row) in enumerate(rows):
-        y = top + LANE * (place % LANES) + 1
-        marks += window_of(day, axis, row, route.nodes[stop], y)
-        at = (axis.at(day.stops(route)[stop]), y)
-        marks += late_of(day, axis, row, day.stops(route)[stop], y)
-        marks.append(circle("at", at, 1.6))
-    return marks
+        at = (axis.at(stops[stop]), top + LANE * (place % LANES) + 1)
+        marks += window_of(day, axis, row, route.nodes[stop], at[1])
+        marks += late_of(day, axis, row, stops[stop], at[1])
+        begins.append((at, at))
+    return [*marks, segments("at", begins)]
 
 
 def window_of(day: Day, axis: Axis, row: StopRow, node: int, y: float) -> Iterator[str]:
