@@ -23,6 +23,12 @@ from .view import Day, compare_page, day_of, drawing, page
 
 __all__ = ["main"]
 
+BELONGS = {
+    "sshlogin": ("parallel",), "folder": ("slurm",), "option": ("parallel", "slurm"),
+    "remote_program": ("parallel", "slurm"),
+}
+"""The engines that some words belong to."""
+
 
 def main(words: Optional[Sequence[str]] = None) -> int:
     """Runs a command; its exit status."""
@@ -94,7 +100,7 @@ def add_search(command: argparse.ArgumentParser) -> None:
     command.add_argument("--sshlogin", action="append", default=[], metavar="LOGIN", help="GNU parallel's machines")
     command.add_argument("--option", action="append", default=[], metavar="WORD",
                          help="a further word of parallel or sbatch, as in --option=--partition=long")
-    command.add_argument("--folder", metavar="DIR", help="a new folder that keeps the files of parallel or slurm")
+    command.add_argument("--folder", metavar="DIR", help="a new folder that keeps the files of slurm")
     command.add_argument("--remote-program", metavar="PATH", help="vr_cli on the machines of parallel or slurm")
 
 
@@ -169,15 +175,14 @@ def write(path: str, text: str) -> None:
 
 def engine_of(asked: argparse.Namespace) -> Engine:
     """The engine that was asked for."""
+    for word, engines in BELONGS.items():
+        if getattr(asked, word) and asked.engine not in engines:
+            raise ValueError(f"--{word.replace('_', '-')} belongs to --with {' or '.join(engines)}")
     if asked.engine == "own":
-        if asked.sshlogin or asked.option or asked.folder or asked.remote_program:
-            raise ValueError("--sshlogin, --option, --folder and --remote-program belong to --with parallel or slurm")
         return OwnProcesses(asked.jobs)
     program = asked.remote_program or os.path.abspath(find())
     if asked.engine == "parallel":
-        return GnuParallel(asked.jobs, program, asked.sshlogin, asked.option, asked.folder)
-    if asked.sshlogin:
-        raise ValueError("--sshlogin belongs to --with parallel")
+        return GnuParallel(asked.jobs, program, asked.sshlogin, asked.option)
     return Slurm(asked.jobs, program, asked.option, asked.folder)
 
 

@@ -7,6 +7,7 @@ a process of the program of its own, and deterministic, so the answers do not de
 from __future__ import annotations
 
 import os
+import re
 import shlex
 import shutil
 import subprocess
@@ -15,9 +16,9 @@ import time
 from concurrent.futures import ThreadPoolExecutor
 from contextlib import contextmanager
 from dataclasses import dataclass
-from typing import Iterator, List, Optional, Protocol, Sequence, Union
+from typing import IO, Dict, Iterator, List, Optional, Protocol, Sequence, Tuple, Union
 
-from .errors import JambulskegError
+from .errors import JambulskegError, ProgramFailed
 from .model import Model, Solution, solution_of, solve
 from .program import Program, ProgramLike, answer, program_of, tree_of
 
@@ -28,6 +29,9 @@ MOST_TASKS = 1000
 """The most tasks of one job array; Slurm takes 1001 where its operator says nothing else."""
 LATE_FILES = 30.0
 """So many seconds results may come after their job, as on file systems of a network."""
+Results = Dict[int, Tuple[int, str]]
+"""The status and the text of tasks by their numbers."""
+RESULT = re.compile(r"^(.*)\n*\nstatus (\d+) (\d+)$", re.MULTILINE)
 
 
 class EngineFailed(JambulskegError):
@@ -70,33 +74,37 @@ def solved(model: Model, program: Program) -> Answer:
 class GnuParallel:
     """GNU parallel with at most `jobs` tasks at a time on each machine.
 
-    `sshlogins` are its `--sshlogin` words (`:` is this machine); models and results are then carried over ssh, and the
-    program lies at the same path everywhere, or is `program` by a name that is on the path there. `options` are further
-    words of its own. `folder`, new or empty, keeps the files; without it they lie in this folder for a while.
+    `sshlogins` are its `--sshlogin` words (`:` is this machine), `options` further words of its own. Models go to the
+    tasks, and answers come back, by their pipes, so machines need no common files; the program lies at the same path
+    everywhere, or `program` is a name that is on the path there.
     """
 
     jobs: int = 1
     program: str = ""
     sshlogins: Sequence[str] = ()
     options: Sequence[str] = ()
-    folder: Optional[str] = None
 
     def run(self, models: Sequence[Model]) -> List[Answer]:
         """For each model its solution, or the exception that `solve` would raise."""
-        with working_folder(self.folder) as folder:
-            names = written(models, folder)
-            ran = called([*self.words(), work_of(self.program, "{.}")], folder, "".join(f"{it}.json\n" for it in names))
-            return [result(folder, name, ran.stderr, 0) for name in names]
+        with tempfile.TemporaryFile("w+", encoding="utf-8") as texts:
+            longest = 0
+            for model in models:
+                longest = max(longest, texts.write(model.text() + "\n"))
+            texts.seek(0)
+            process = started(self.words(longest), os.getcwd(), texts)
+            with process:
+                out, told = process.communicate()
+        found = results(out)
+        return [answer_of(found, task, told) for task in range(1, len(models) + 1)]
 
-    def words(self) -> List[str]:
-        """The words of the call, up to the command of a task."""
-        command = ["parallel", "--will-cite", "--jobs", str(self.jobs), "--joblog", "joblog", *self.options]
-        for login in self.sshlogins:
-            command += ["--sshlogin", login]
-        if self.sshlogins:
-            command += ["--workdir", "...", "--cleanup", "--transferfile", "{}"]
-            command += [word for end in ("out", "err", "status") for word in ("--return", f"{{.}}.{end}")]
-        return command
+    def words(self, longest: int) -> List[str]:
+        """The call, for models whose texts have at most so many characters."""
+        logins = [word for login in self.sshlogins for word in ("--sshlogin", login)]
+        block = str(max(longest + 1, 2**20))
+        return [
+            "parallel", "--will-cite", "--jobs", str(self.jobs), "--pipe", "-N1", "--block", block, *logins,
+            *self.options, work_of(self.program, "{#}"),
+        ]
 
 
 @dataclass(frozen=True)
@@ -115,12 +123,14 @@ class Slurm:
     def run(self, models: Sequence[Model]) -> List[Answer]:
         """For each model its solution, or the exception that `solve` would raise."""
         with working_folder(self.folder) as folder:
-            names = written(models, folder)
+            for task, model in enumerate(models):
+                with open(os.path.join(folder, f"{task}.json"), "w", encoding="utf-8") as file:
+                    file.write(model.text())
             told = ""
-            for begin in range(0, len(names), MOST_TASKS):
-                told += self.submit(folder, begin, min(MOST_TASKS, len(names) - begin))
+            for begin in range(0, len(models), MOST_TASKS):
+                told += self.submit(folder, begin, min(MOST_TASKS, len(models) - begin))
             end = time.monotonic() + LATE_FILES
-            return [result(folder, name, told, end) for name in names]
+            return [answer_of(results_of(folder, task, end), task, told) for task in range(len(models))]
 
     def submit(self, folder: str, begin: int, tasks: int) -> str:
         """Runs a job array over some of the models, to its end; what sbatch said of it."""
@@ -134,7 +144,7 @@ class Slurm:
             try:
                 return process.communicate()[1]
             except BaseException:
-                called(["scancel", job], folder, "")
+                started(["scancel", job], folder).wait()
                 raise
 
     def script(self, folder: str, begin: int, tasks: int) -> str:
@@ -143,15 +153,15 @@ class Slurm:
             f"#!/bin/sh\n#SBATCH --job-name=jambulskeg\n#SBATCH --array=0-{tasks - 1}%{self.jobs}\n"
             "#SBATCH --ntasks=1\n#SBATCH --output=/dev/null\n"
             f"cd {shlex.quote(folder)} || exit 1\n"
-            f'name=$(printf %06d "$((SLURM_ARRAY_TASK_ID + {begin}))")\n'
-            f"{work_of(self.program, '$name')}\n"
+            f"task=$((SLURM_ARRAY_TASK_ID + {begin}))\n"
+            f"{{ {work_of(self.program, '$task')}; }} < $task.json > $task.result\n"
         )
 
 
-def work_of(program: str, name: str) -> str:
-    """The shell's line of a task; the file with its status comes last, when the others are whole."""
+def work_of(program: str, task: str) -> str:
+    """The shell's line of a task: the program's answer, then a line with the number of the task and the status."""
     path = shlex.quote(program or program_of(None).path)
-    return f"{path} solve < {name}.json > {name}.out 2> {name}.err; echo $? > {name}.status"
+    return f"{path} solve; printf '\\nstatus %s %s\\n' {task} $?"
 
 
 @contextmanager
@@ -171,58 +181,45 @@ def working_folder(asked: Optional[str]) -> Iterator[str]:
     yield os.path.abspath(asked)
 
 
-def written(models: Sequence[Model], folder: str) -> List[str]:
-    """Writes each model to a file; their names."""
-    names = [f"{place:06}" for place in range(len(models))]
-    for name, model in zip(names, models):
-        with open(os.path.join(folder, f"{name}.json"), "w", encoding="utf-8") as file:
-            file.write(model.text())
-    return names
-
-
-def started(command: Sequence[str], folder: str) -> "subprocess.Popen[str]":
-    """A process in a folder. Raises `EngineFailed` where there is no such program."""
+def started(command: Sequence[str], folder: str, text: Optional[IO[str]] = None) -> "subprocess.Popen[str]":
+    """A process in a folder, that reads a file. Raises `EngineFailed` where there is no such program."""
     try:
         return subprocess.Popen(
-            command, cwd=folder, stdin=subprocess.PIPE, stdout=subprocess.PIPE, stderr=subprocess.PIPE, text=True
+            command, cwd=folder, stdin=text or subprocess.DEVNULL, stdout=subprocess.PIPE, stderr=subprocess.PIPE,
+            text=True, encoding="utf-8", errors="replace",
         )
     except OSError as problem:
         raise EngineFailed(f"'{command[0]}' could not be started: {problem.strerror}") from problem
 
 
-def called(command: Sequence[str], folder: str, text: str) -> "subprocess.CompletedProcess[str]":
-    """A process that was run to its end."""
-    process = started(command, folder)
-    with process:
-        out, told = process.communicate(text)
-    return subprocess.CompletedProcess(command, process.returncode, out, told)
+def results(out: str) -> Results:
+    """What tasks wrote, by their numbers."""
+    return {int(task): (int(status), text) for text, task, status in RESULT.findall(out)}
 
 
-def result(folder: str, name: str, told: str, end: float) -> Answer:
-    """What a task wrote: its solution, or the exception of its status; it is waited for until `end`.
-
-    Raises `EngineFailed` where it wrote nothing.
-    """
-    path = os.path.join(folder, name)
-    while not is_written(f"{path}.status"):
-        if time.monotonic() >= end:
-            last = told.strip().splitlines()[-1:] or ["nothing"]
-            raise EngineFailed(f"task {int(name)} has no result; the engine said: {last[0]}")
+def results_of(folder: str, task: int, end: float) -> Results:
+    """What a task wrote to its file, which is waited for until `end`."""
+    while True:
+        try:
+            with open(os.path.join(folder, f"{task}.result"), encoding="utf-8", errors="replace") as file:
+                found = results(file.read())
+        except OSError:
+            found = {}
+        if found or time.monotonic() >= end:
+            return found
         time.sleep(0.2)
-    with open(f"{path}.status", encoding="ascii") as file:
-        status = int(file.read())
+
+
+def answer_of(found: Results, task: int, told: str) -> Answer:
+    """The solution of a task, or the exception of its status. Raises `EngineFailed` where it wrote nothing."""
+    if task not in found:
+        last = told.strip().splitlines()[-1:] or ["nothing"]
+        raise EngineFailed(f"a task has no result (number {task}); the engine said: {last[0]}")
+    status, text = found[task]
+    if status in (126, 127):
+        return ProgramFailed(f"where the task was run the program could not be started (status {status} of the shell)")
     try:
-        with open(f"{path}.out", "rb") as out, open(f"{path}.err", "rb") as err:
-            text = answer(128 - status if status > 128 else status, out.read(), err.read())
-        return solution_of(tree_of(text.split("\n", 1)[0]))
+        out = answer(128 - status if status > 128 else status, text.encode("utf-8"), b"")
+        return solution_of(tree_of(out.split("\n", 1)[0]))
     except JambulskegError as problem:
         return problem
-
-
-def is_written(path: str) -> bool:
-    """Whether a file is there with a whole line."""
-    try:
-        with open(path, encoding="ascii") as file:
-            return file.read().endswith("\n")
-    except OSError:
-        return False
