@@ -149,7 +149,7 @@ def titles_of(asked: argparse.Namespace, files: Sequence[str]) -> List[str]:
     """What the days are called: by the title, or by the names of their files, apart where these are equal."""
     names = [os.path.basename(file).split(".")[0] for file in files]
     if len(set(names)) < len(names):
-        names = [os.path.basename(file) for file in files]
+        names = [os.path.splitext(os.path.basename(file))[0] for file in files]
     if len(set(names)) < len(names):
         names = [f"{name} ({place})" for place, name in enumerate(names, 1)]
     return [asked.title] if asked.title and len(names) == 1 else names

@@ -11,7 +11,9 @@ import unittest
 from types import ModuleType
 from typing import Iterator, List, Tuple, Union
 
-from jambulskeg import complete, doubts, errors, model, places, program, rescue, rounds, schedules
+from jambulskeg import (
+    batch, complete, doubts, engines, errors, model, places, portfolio, program, rescue, rounds, schedules, view,
+)
 from jambulskeg.routing import pywrapcp
 
 PACKAGE = os.path.join(os.path.dirname(os.path.dirname(os.path.abspath(__file__))), "jambulskeg")
@@ -80,7 +82,9 @@ class PublicTests(unittest.TestCase):
 
 INHERITED = ("faults", "taken", "tree", "own_faults", "kind_of")
 """What a kind and a record say once, where they are defined first."""
-MODULES = (complete, doubts, errors, model, places, program, rescue, rounds, schedules, pywrapcp)
+MODULES = (
+    batch, complete, doubts, engines, errors, model, places, portfolio, program, rescue, rounds, schedules, view, pywrapcp,
+)
 """The modules whose calls are for users."""
 
 

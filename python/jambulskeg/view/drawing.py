@@ -6,16 +6,20 @@ from typing import List, Sequence, Tuple
 
 from .axis import Axis
 from .day import Day
+from .legend import marks_of
 from .loads import loads
 from .route_map import route_map
 from .style import PATTERNS, picture_style
-from .svg import Picture, told
-from .timeline import axis_of, timeline
+from .svg import Picture, number, text, told
+from .tables import PARTS
+from .timeline import LETTER, axis_of, timeline
 
 __all__ = ["drawing"]
 
 MARGIN = 20
 HEADING = 34
+FEW = 20
+"""So many of the visits that are left out are named."""
 
 
 def drawing(days: Sequence[Day], titles: Sequence[str], in_degrees: bool = False) -> str:
@@ -25,10 +29,10 @@ def drawing(days: Sequence[Day], titles: Sequence[str], in_degrees: bool = False
     height: float = 0
     columns: List[str] = []
     for day, title in zip(days, titles):
-        marks, width, below = column(pictures_of(day, axis, in_degrees), f"{title}: cost {day.solution.cost}")
+        marks, width, below = column(pictures_of(day, axis, in_degrees), [title, cost_of(day), left_of(day)])
         columns.append(f'<g transform="translate({x:g} {MARGIN})">{marks}</g>')
         x, height = x + width + MARGIN, max(height, below)
-    words = "; ".join(f"{title}: cost {day.solution.cost}" for day, title in zip(days, titles))
+    words = "; ".join(f"{title}: {cost_of(day)}; {left_of(day)}" for day, title in zip(days, titles))
     size = f"{x:g} {height + 2 * MARGIN:g}"
     return (
         f'<svg xmlns="http://www.w3.org/2000/svg" viewBox="0 0 {size}" width="{x:g}" height="{height + 2 * MARGIN:g}" '
@@ -49,18 +53,41 @@ def pictures_of(day: Day, axis: Axis, in_degrees: bool) -> List[Picture]:
     return [*found, route_map(day, in_degrees)] if day.places else found
 
 
-def column(pictures: Sequence[Picture], title: str) -> Tuple[str, float, float]:
-    """Drawings below each other under a title: the marks, how wide, and how high."""
-    y: float = HEADING
+def cost_of(day: Day) -> str:
+    """The cost and its parts in a line."""
+    parts = [(name, getattr(day.solution.parts, field)) for field, name, _ in PARTS]
+    return f"cost {day.solution.cost}: " + (", ".join(f"{name} {value}" for name, value in parts if value) or "nothing")
+
+
+def left_of(day: Day) -> str:
+    """What was left out, in a line."""
+    names = [day.names.node(node) for node in day.solution.dropped]
+    more = f" and {len(names) - FEW} more" if len(names) > FEW else ""
+    return f"left out: {', '.join(names[:FEW])}{more}" if names else "every visit is made"
+
+
+def column(pictures: Sequence[Picture], lines: Sequence[str]) -> Tuple[str, float, float]:
+    """Drawings below each other under some lines: the marks, how wide, and how high."""
     width = max(picture.width + picture.label_width for picture in pictures)
-    marks = [f'<text class="title" x="0" y="18">{told(title)}</text>']
+    marks = [text("name" if place else "title", (0, 18 * (place + 1)), line) for place, line in enumerate(lines)]
+    y: float = 18 * len(lines) + HEADING / 2
     for picture in pictures:
-        marks.append(f'<text class="name" x="0" y="{y + 14:g}">{told(picture.title)}</text>')
-        y += HEADING - 12
+        marks += [text("name", (0, y + 14), picture.title), legend(picture, y + 22)]
+        y += HEADING + (12 if marks_of(picture) else -8)
         marks.append(inner(0, y, (picture.label_width, picture.height), picture.labels))
         marks.append(inner(picture.label_width, y, (picture.width, picture.height), picture.body))
         y += picture.height + MARGIN
     return "".join(marks), width, y
+
+
+def legend(picture: Picture, y: float) -> str:
+    """What the marks of a picture mean, in a line."""
+    x: float = 0
+    out: List[str] = []
+    for mark, words in marks_of(picture):
+        out.append(f'<g transform="translate({number(x)} {number(y)})">{mark}{text("note", (40, 12), words)}</g>')
+        x += 62 + LETTER * len(words)
+    return "".join(out)
 
 
 def inner(x: float, y: float, size: Tuple[float, float], marks: str) -> str:

@@ -7,6 +7,7 @@ from typing import Iterator, List, Sequence, Tuple
 from .axis import Axis
 from .compare import changes_table, costs_beside
 from .day import Day
+from .legend import marks_of
 from .loads import loads
 from .route_map import route_map
 from .style import PATTERNS, page_script, page_style
@@ -17,20 +18,6 @@ from .timeline import axis_of, timeline
 __all__ = ["compare_page", "page"]
 
 POLICY = "default-src 'none'; style-src 'unsafe-inline'; script-src 'unsafe-inline'"
-LEGEND = (
-    ("visit", '<rect class="visit" x="2" width="30" height="16"/>', "visit"),
-    ("travel", '<path class="travel" d="M2 8L32 8"/>', "drive"),
-    ("wait", '<rect class="wait" x="2" y="4" width="30" height="8"/>', "waiting"),
-    ("break", '<rect class="break" x="2" y="2" width="30" height="12"/>', "break"),
-    ("window", '<line class="window" x1="2" y1="8" x2="32" y2="8"/><path class="at" d="M14 8L14 8"/>',
-     "window of a visit, and where it begins"),
-    ("forbidden", '<line class="window" x1="2" y1="8" x2="32" y2="8"/>'
-     '<line class="forbidden" x1="12" y1="8" x2="24" y2="8"/>', "forbidden in it"),
-    ("late", '<line class="late" x1="2" y1="8" x2="32" y2="8"/>', "beyond a soft bound"),
-    ("shift", '<rect class="shift" x="2" width="30" height="16"/>', "when the vehicle may be out"),
-    ("capacity", '<line class="capacity" x1="2" y1="8" x2="32" y2="8"/>', "capacity"),
-)
-"""What the marks of the charts mean: the class, a mark, and words."""
 
 
 def page(day: Day, title: str, found: str, in_degrees: bool = False) -> str:
@@ -120,7 +107,7 @@ def legend(picture: Picture) -> str:
     """What the marks of a chart mean, as far as it has them."""
     rows = [
         f'<li><svg viewBox="0 0 34 16" aria-hidden="true">{mark}</svg>{told(words)}</li>'
-        for kind, mark, words in LEGEND if f'class="{kind}"' in picture.body
+        for mark, words in marks_of(picture)
     ]
     return '<ul class="legend">' + "".join(rows) + "</ul>"
 

@@ -1,0 +1,140 @@
+"""python -m jambulskeg: its words, what it writes, and how it says what is wrong."""
+
+from __future__ import annotations
+
+import contextlib
+import io
+import json
+import os
+import subprocess
+import sys
+import tempfile
+import unittest
+import xml.dom.minidom
+from typing import List, Tuple
+from unittest import mock
+
+from jambulskeg.__main__ import main
+from jambulskeg.model import Model, check, read_model, read_solution
+
+from .support import EXAMPLES, THREE, environment
+
+TOP = os.path.dirname(os.path.dirname(os.path.abspath(__file__)))
+
+
+def called(*words: str) -> Tuple[int, str, str]:
+    """The exit status of a command, and what it wrote to its two outputs."""
+    out, told = io.StringIO(), io.StringIO()
+    with contextlib.redirect_stdout(out), contextlib.redirect_stderr(told):
+        try:
+            status = main(words)
+        except SystemExit as stopped:
+            status = int(stopped.code or 0)
+    return status, out.getvalue(), told.getvalue()
+
+
+class CommandTests(unittest.TestCase):
+    def setUp(self) -> None:
+        folder = tempfile.TemporaryDirectory()
+        self.addCleanup(folder.cleanup)
+        self.folder = folder.name
+
+    def at(self, name: str) -> str:
+        """A file of the test's folder."""
+        return os.path.join(self.folder, name)
+
+    def write(self, name: str, text: str) -> str:
+        """Writes a file; its path."""
+        with open(self.at(name), "w", encoding="utf-8") as file:
+            file.write(text)
+        return self.at(name)
+
+    def read(self, name: str) -> str:
+        """The text of a file."""
+        with open(self.at(name), encoding="utf-8") as file:
+            return file.read()
+
+    def test_portfolio_then_view(self) -> None:
+        model = self.write("three.json", Model.of(THREE).text())
+        status, out, told = called("portfolio", model, "--jobs", "2", "--tries", "50", "--lambda", "1/4")
+        self.assertEqual((status, json.loads(out)["cost"]), (0, 18))
+        self.assertEqual(told.count("*"), 1)
+        self.assertEqual(called("portfolio", model, "-o", self.at("a.json"))[:2], (0, ""))
+        self.assertEqual(check(read_model(model), read_solution(self.at("a.json"))).cost, 18)
+        self.assertEqual(called("view", model, self.at("a.json"), "-o", self.at("a.html"), "--title", "A <day>")[0], 0)
+        self.assertIn("<h1>A &lt;day&gt;</h1>", self.read("a.html"))
+        self.assertIn("The proved check found", self.read("a.html"))
+
+    def test_view_with_places_and_names(self) -> None:
+        model = self.write("three.json", Model.of(THREE).text())
+        self.assertEqual(called("portfolio", model, "-o", self.at("a.json"))[0], 0)
+        places = self.write("places.csv", "name,x,y\nyard,0,0\nA<da,1,2\nBen,3,1\n")
+        vans = self.write("vans.csv", "name,start\nred <,yard\n")
+        words = ["--places", places, "--vehicles", vans, "--degrees", "--clock", "8:30"]
+        self.assertEqual(called("view", model, self.at("a.json"), "-o", self.at("a.html"), *words)[0], 0)
+        self.assertIn("A&lt;da", self.read("a.html"))
+        self.assertIn("red &lt;", self.read("a.html"))
+        pair = ["--compare", self.at("a.json"), self.at("a.json")]
+        self.assertEqual(called("view", model, *pair, "-o", self.at("b.html"), *words)[0], 0)
+        self.assertIn("a (1) beside a (2)", self.read("b.html"))
+        self.assertEqual(called("view", model, *pair, "-o", self.at("b.svg"), "--svg", "--unchecked")[0], 0)
+        xml.dom.minidom.parse(self.at("b.svg"))
+
+    def test_batch(self) -> None:
+        for name in ("breaks-day", "pickups"):
+            self.write(f"{name}.json", read_model(os.path.join(EXAMPLES, f"{name}.json")).text())
+        status, out, _ = called("batch", self.folder, "--jobs", "2", "--tries", "200", "-o", self.at("out"))
+        self.assertEqual(status, 0)
+        self.assertEqual([line.split(":")[0] for line in out.splitlines()], ["breaks-day", "pickups"])
+        self.assertEqual(sorted(os.listdir(self.at("out"))), ["breaks-day.solved.json", "pickups.solved.json"])
+        self.write("faulty.json", '{"format":1}')
+        status, out, _ = called("batch", self.folder, "--tries", "200")
+        self.assertEqual((status, out.splitlines()[-1]), (1, "faulty: Model/nodes: a required field is absent (code 10)"))
+        self.assertTrue(os.path.exists(self.at("pickups.solved.json")))
+        self.assertEqual(called("batch", self.at("out"))[0], 1)
+
+    def test_what_is_wrong_is_said(self) -> None:
+        model = self.write("three.json", Model.of(THREE).text())
+        solution = self.write("wrong.json", "{}")
+        self.assertEqual(called("portfolio", model, "-o", self.at("a.json"))[0], 0)
+        tree = json.loads(self.read("a.json"))
+        self.write("false.json", json.dumps({**tree, "cost": 1}))
+        self.write("no.csv", "name,x,y\na,1,2\n")
+        page = ["-o", self.at("page.html")]
+        for words, said in (
+            (["view", model, *page], "SOLUTION, or --compare"),
+            (["view", model, solution, *page], "a required field is absent"),
+            (["view", model, self.at("false.json"), *page], "the cost is not the sum"),
+            (["view", model, self.at("none.json"), *page], "none.json: No such file"),
+            (["view", model, self.at("a.json"), *page, "--places", self.at("no.csv")], "1 places"),
+            (["view", model, self.at("a.json"), *page, "--time", "hours"], "no dimension has the name"),
+            (["portfolio", self.write("bad.json", "{")], "Expecting property name"),
+            (["portfolio", model, "--sshlogin", "a"], "--sshlogin belongs to --with parallel"),
+            (["portfolio", model, "--folder", "a", "--with", "parallel"], "--folder belongs to --with slurm"),
+        ):
+            status, out, told = called(*words)
+            self.assertEqual((status, out), (1, ""), words)
+            self.assertIn(said, told)
+            self.assertEqual(told.count("\n"), 1)
+        unknown: List[List[str]] = [
+            [], ["draw"], ["portfolio", model, "--jobs", "0"], ["portfolio", model, "--lambda", "x"]
+        ]
+        for words in unknown:
+            self.assertEqual(called(*words)[0], 2)
+
+    def test_the_program_is_missing(self) -> None:
+        model = self.write("three.json", Model.of(THREE).text())
+        with mock.patch.dict(os.environ, {"VR_CLI": "/no/such/program"}):
+            self.assertIn("VR_CLI names no program", called("portfolio", model)[2])
+
+    def test_as_a_process(self) -> None:
+        ran = subprocess.run(
+            [sys.executable, "-W", "error", "-m", "jambulskeg", "portfolio", "-h"], cwd=TOP, env=environment(),
+            stdout=subprocess.PIPE, check=False, text=True,
+        )
+        self.assertEqual(ran.returncode, 0)
+        self.assertIn("--with {own,parallel,slurm}", ran.stdout)
+
+
+if __name__ == "__main__":
+    unittest.main()

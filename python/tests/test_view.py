@@ -1,0 +1,293 @@
+"""Pictures: what is drawn is the solution, texts are escaped, and a page needs no network."""
+
+from __future__ import annotations
+
+import json
+import os
+import random
+import re
+import time
+import unittest
+import xml.dom.minidom
+from html.parser import HTMLParser
+from typing import Any, Dict, List, Optional, Tuple
+
+from jambulskeg.complete import complete, leave_later
+from jambulskeg.errors import NoFirstSolution
+from jambulskeg.model import Model, Solution, read_model, solve
+from jambulskeg.places import Place
+from jambulskeg.view import CannotBeDrawn, Day, Names, compare_page, day_of, drawing, page
+from jambulskeg.view.axis import Axis
+from jambulskeg.view.compare import changes_table
+from jambulskeg.view.loads import levels_of
+from jambulskeg.view.route_map import projected
+from jambulskeg.view.svg import told, told_json
+from jambulskeg.view.tables import left_table, stops_table, visits_table
+from jambulskeg.view.timeline import axis_of
+
+from .support import EXAMPLES, THREE, random_tree
+
+NASTY = "<script>alert(1)</script> & \"quoted\" 'too' \x00\x1b \ud800 ]]>"
+EMPTY = {"meta", "rect", "line", "path", "circle", "input", "br"}
+
+
+class Reader(HTMLParser):
+    """Reads a page: each element that is opened is closed, and which there are."""
+
+    def __init__(self) -> None:
+        super().__init__()
+        self.open: List[str] = []
+        self.seen: Dict[str, int] = {}
+        self.marks: List[Tuple[str, str, Optional[str]]] = []
+
+    def handle_starttag(self, tag: str, attrs: List[Tuple[str, Optional[str]]]) -> None:
+        self.seen[tag] = self.seen.get(tag, 0) + 1
+        self.marks += [(tag, name, value) for name, value in attrs]
+        if tag not in ("meta", "input"):
+            self.open.append(tag)
+
+    def handle_startendtag(self, tag: str, attrs: List[Tuple[str, Optional[str]]]) -> None:
+        self.seen[tag] = self.seen.get(tag, 0) + 1
+
+    def handle_endtag(self, tag: str) -> None:
+        if not self.open or self.open.pop() != tag:
+            raise AssertionError(f"{tag} is closed, and was not the last one opened")
+
+
+def read(text: str) -> Reader:
+    """A page that was read to its end."""
+    reader = Reader()
+    reader.feed(text)
+    reader.close()
+    if reader.open:
+        raise AssertionError(f"left open: {reader.open}")
+    return reader
+
+
+def day(name: str, **fields: Any) -> Day:
+    """A day of an example."""
+    model = read_model(os.path.join(EXAMPLES, f"{name}.json"))
+    return day_of(model, solve(model), **fields)
+
+
+def random_days(count: int) -> List[Day]:
+    """Days of models made at random."""
+    rng = random.Random(31)
+    found: List[Day] = []
+    while len(found) < count:
+        model = Model.of(random_tree(rng))
+        try:
+            found.append(day_of(model, solve(model)))
+        except NoFirstSolution:
+            pass
+    return found
+
+
+class PieceTests(unittest.TestCase):
+    def test_a_drive_is_interrupted_by_a_break_and_then_waits(self) -> None:
+        model = Model.of({
+            "format": 1, "nodes": 2, "matrices": [[[0, 60], [60, 0]]], "vehicles": [{"start": 0, "end": 0}],
+            "dimensions": [{
+                "name": "time", "evaluators": [{"matrix": 0, "values": [0, 10]}], "slack_max": 30, "capacity": 480,
+                "visit": [0, 10], "nodes": [{"node": 1, "window": [130, 250]}],
+                "breaks": [{"vehicle": 0, "breaks": [{"from": 60, "to": 60, "duration": 20}]}],
+            }],
+        })
+        drawn = day_of(model, complete(model, [[1]]))
+        route = drawn.routes()[0]
+        self.assertEqual([(piece.kind, piece.low, piece.high) for piece in drawn.pieces(route)], [
+            ("travel", 40, 60), ("break", 60, 80), ("travel", 80, 120), ("wait", 120, 130), ("visit", 130, 140),
+            ("travel", 140, 200),
+        ])
+        self.assertEqual(drawn.plan(route), route.dimensions[0])
+
+    def test_pieces_fill_each_route_and_are_its_transits_and_slacks(self) -> None:
+        for drawn in random_days(40):
+            for route in drawn.routes() if drawn.is_timed else ():
+                stops, plan = drawn.stops(route), route.dimensions[drawn.time or 0]
+                inside = [piece for piece in drawn.pieces(route) if stops[0] <= piece.low and piece.high <= stops[-1]]
+                self.assertEqual(sum(piece.high - piece.low for piece in inside), stops[-1] - stops[0])
+                for one, other in zip(inside, inside[1:]):
+                    self.assertEqual(one.high, other.low)
+                idle = sum(piece.high - piece.low for piece in inside if piece.kind in ("wait", "break"))
+                drives = [drawn.drive(route, arc) for arc in range(len(stops) - 1)]
+                visits = sum(piece.high - piece.low for piece in inside if piece.kind == "visit")
+                self.assertEqual(idle + visits + sum(drives), stops[-1] - stops[0])
+                self.assertLessEqual(idle, sum(plan.slacks))
+                self.assertEqual(sum(p.high - p.low for p in inside if p.kind == "travel"), sum(drives))
+                self.assertEqual(len([p for p in drawn.pieces(route) if p.kind == "break"]), len(drawn.breaks(route)))
+
+    def test_penalties_are_those_of_the_cost(self) -> None:
+        for drawn in random_days(60):
+            self.assertEqual(sum(entry.cost for entry in drawn.penalties()), drawn.solution.parts.penalty)
+            left = {node for entry in drawn.penalties() for node in entry.left}
+            self.assertEqual(sorted(left), list(drawn.solution.dropped))
+
+    def test_levels_are_the_cumuls(self) -> None:
+        for drawn in random_days(40):
+            for number in drawn.loads():
+                for route in drawn.routes():
+                    levels = levels_of(drawn, number, route)
+                    self.assertEqual([level for _, level in levels[::3]], list(route.dimensions[number].cumuls))
+                    self.assertEqual([at for at, _ in levels], sorted(at for at, _ in levels))
+
+
+class DayTests(unittest.TestCase):
+    def test_the_dimension_that_is_drawn_along(self) -> None:
+        self.assertEqual(day("service-day").time, 0)
+        self.assertEqual(day("service-day", time="load").unit, "load")
+        pickups = day("pickups")
+        self.assertEqual((pickups.time, pickups.unit, pickups.loads()), (None, "arc costs so far", [0]))
+        self.assertEqual(list(pickups.stops(pickups.routes()[0])), [0, 8, 17, 26, 35, 39, 44, 50])
+        free = Model.of({**THREE, "matrices": [[[0, 0, 0]] * 3]})
+        flat = day_of(free, solve(free))
+        self.assertEqual((flat.unit, list(flat.stops(flat.routes()[0]))), ("stops", [0, 1, 2, 3]))
+        faults: List[Dict[str, Any]] = [{"time": "hours"}, {"places": [Place("a", 0, 0)]}, {"vehicles": ["a", "b"]}]
+        for fault in faults:
+            with self.assertRaises(CannotBeDrawn):
+                day("service-day", **fault)
+
+    def test_names(self) -> None:
+        names = Names(["yard"], ["red"], 510)
+        self.assertEqual((names.node(0), names.node(1), names.short(1)), ("yard", "node 1", "1"))
+        self.assertEqual((names.vehicle(0), names.vehicle(1)), ("red", "vehicle 1"))
+        self.assertEqual((names.time(5), names.time(1000), Names().time(70)), ("8:35", "1:10 (day 2)", "70"))
+
+    def test_what_a_day_tells(self) -> None:
+        drawn = day("windows-day")
+        route = drawn.routes()[0]
+        self.assertEqual(drawn.made_by()[route.nodes[1]], (route.vehicle, 1))
+        self.assertEqual(drawn.rows(route), drawn.asked(0, route))
+        self.assertEqual(drawn.asked_by()[3].node, 3)
+        self.assertEqual(drawn.service(route, len(route.nodes) - 1), 0)
+
+    def test_ticks_are_round(self) -> None:
+        self.assertEqual(Axis(3, 97, 0, 100).ticks(10), [10, 20, 30, 40, 50, 60, 70, 80, 90])
+        self.assertEqual(Axis(485, 720, 0, 100).ticks(4, True), [540, 600, 660, 720])
+        self.assertEqual(Axis(0, 100000, 0, 100).ticks(12, True)[1] % 1440, 0)
+        self.assertEqual(Axis(5, 5, 0, 100).ticks(12), [5])
+        self.assertEqual([Axis(0, 10, 5, 100).at(value) for value in (-3, 5, 99)], [5, 55, 105])
+
+
+class PageTests(unittest.TestCase):
+    def test_examples_are_drawn(self) -> None:
+        for name in ("service-day", "breaks-day", "pickups", "windows-day", "optional-visits", "three-nodes"):
+            drawn = day(name)
+            reader = read(page(drawn, name, "checked"))
+            self.assertEqual(reader.open, [])
+            self.assertEqual(reader.seen["h1"], 1)
+            xml.dom.minidom.parseString(drawing([drawn], [name]))
+
+    def test_random_days_are_drawn(self) -> None:
+        for number, drawn in enumerate(random_days(25)):
+            read(page(drawn, str(number), ""))
+            xml.dom.minidom.parseString(drawing([drawn, drawn], ["one", "other"]))
+
+    def test_a_day_on_which_nobody_leaves(self) -> None:
+        model = Model.of({**THREE, "groups": [{"nodes": [1], "penalty": 0}, {"nodes": [2], "penalty": 0}]})
+        drawn = day_of(model, complete(model, [[]]), places=[Place("a", 1, 1)] * 3)
+        text = page(drawn, "empty", "")
+        self.assertIn("left out", text)
+        read(text)
+        xml.dom.minidom.parseString(drawing([drawn], ["empty"]))
+
+    def test_texts_are_escaped(self) -> None:
+        tree = json.loads(read_model(os.path.join(EXAMPLES, "breaks-day.json")).text())
+        tree["dimensions"][0]["name"] = "<b>&\""
+        tree["dimensions"][1]["name"] = "</script><i>"
+        model = Model.of(tree)
+        places = [Place(f"{NASTY}{node}", node, node * node) for node in range(model.nodes)]
+        drawn = day_of(model, solve(model), places=places, vehicles=[NASTY, "b"])
+        texts = [page(drawn, NASTY, NASTY), compare_page((drawn, drawn), (NASTY, "b"), NASTY), drawing([drawn], [NASTY])]
+        for text in texts:
+            self.assertNotIn("<script>alert", text)
+            self.assertNotIn("<b>&", text)
+            self.assertNotIn("\x00", text)
+            text.encode("utf-8")
+        self.assertEqual([read(text).seen["script"] for text in texts[:2]], [2, 3])
+        xml.dom.minidom.parseString(texts[2])
+        islands = re.findall(r'<script type="application/json"[^>]*>(.*?)</script>', texts[0])
+        self.assertEqual(Solution.of(json.loads(islands[0])), drawn.solution)
+        self.assertEqual(told("a<b>\x07"), "a&lt;b&gt;\ufffd")
+        self.assertEqual(json.loads(told_json("</script>&")), "</script>&")
+        self.assertNotIn("<", told_json("</script>"))
+
+    def test_a_page_needs_no_network(self) -> None:
+        text = page(day("service-day"), "day", "")
+        marks = read(text).marks
+        self.assertEqual([value for _, name, value in marks if name in ("src", "href", "action", "data")], ["#tables"])
+        self.assertNotRegex(text, r"https?://|@import|url\((?!#)")
+        self.assertIn("default-src 'none'", text)
+
+    def test_charts_have_words_and_tables(self) -> None:
+        text = page(day("service-day"), "day", "")
+        marks = read(text).marks
+        images = [value for tag, name, value in marks if tag == "svg" and name == "role"]
+        said = [value for tag, name, value in marks if tag == "svg" and name == "aria-label"]
+        self.assertEqual((len(images), len(said)), (2, 2))
+        regions = [value for tag, name, value in marks if tag == "div" and name == "tabindex"]
+        self.assertEqual(len(regions), text.count('class="scroll'))
+        self.assertIn("Stops of each vehicle", text)
+        self.assertIn('<label for="search">', text)
+        self.assertIn('lang="en"', text)
+
+    def test_tables_say_what_is_there(self) -> None:
+        drawn = day("windows-day")
+        table = visits_table(drawn)
+        self.assertIn(" at 2 each", table)
+        self.assertIn("180 to 240", table)
+        self.assertIn("waits ", stops_table(drawn))
+        self.assertIn("delivered at node 2", visits_table(day("pickups")))
+        self.assertIn("Every visit is made", left_table(drawn))
+        self.assertIn("break 30 90 to 120", stops_table(day("breaks-day")))
+        optional = day("optional-visits")
+        for entry in optional.penalties():
+            self.assertIn(f'<td class="number">{entry.cost}</td>', left_table(optional))
+
+    def test_two_days(self) -> None:
+        one = day("service-day")
+        other = day_of(one.model, leave_later(one.model, one.solution))
+        text = compare_page((one, other), ("printed", "later"), "")
+        read(text)
+        self.assertIn(f"{other.solution.cost - one.solution.cost:+}", text)
+        self.assertIn("<td>later</td>", changes_table((one, other), ("printed", "later")))
+        self.assertEqual(axis_of([one, other]).low, min(axis_of([one]).low, axis_of([other]).low))
+        swapped = complete(one.model, one.solution.lists()[::-1])
+        self.assertIn("another vehicle", changes_table((one, day_of(one.model, swapped)), ("a", "b")))
+        empty = day_of(one.model, complete(one.model, [[], [], [], [13]]))
+        self.assertIn("now left out", changes_table((one, empty), ("a", "b")))
+        self.assertIn("now made", changes_table((empty, one), ("a", "b")))
+
+    def test_places_lie_within_the_map(self) -> None:
+        places = [Place(str(at), 8 + at / 10, 50 - at / 20) for at in range(5)]
+        for in_degrees in (False, True):
+            points, height = projected(places, in_degrees)
+            self.assertTrue(all(0 < x < 1000 and 0 < y < height for x, y in points))
+            self.assertLess(points[0][1], points[4][1])
+        points, height = projected([Place("a", 3, 4)] * 2, False)
+        self.assertEqual(points, [(500, height / 2)] * 2)
+
+
+class LargeTests(unittest.TestCase):
+    def test_a_hundred_vehicles_by_a_thousand_visits(self) -> None:
+        rows = [[abs(tail - head) for head in range(1000)] for tail in range(1000)]
+        windows = [{"node": node, "window": [node, node + 900]} for node in range(1, 1000)]
+        model = Model.of({
+            "format": 1, "nodes": 1000, "matrices": [rows], "vehicles": [{"start": 0, "end": 0}] * 100, "dimensions": [
+                {"name": "time", "evaluators": [{"matrix": 0, "values": [5] * 1000}], "slack_max": 100,
+                 "capacity": 5000, "nodes": windows},
+                {"name": "load", "evaluators": [{"values": [1] * 1000}], "slack_max": 0, "capacity": 20},
+            ],
+        })
+        lists = [list(range(max(1, 10 * vehicle), 10 * vehicle + 10)) for vehicle in range(100)]
+        drawn = day_of(model, complete(model, lists, checked=False), places=[
+            Place(f"place {node}", node % 37, node % 41) for node in range(1000)
+        ])
+        began = time.process_time()
+        text = page(drawn, "large", "")
+        self.assertLess(time.process_time() - began, 1)
+        self.assertLess(len(text), 2_000_000)
+
+
+if __name__ == "__main__":
+    unittest.main()
