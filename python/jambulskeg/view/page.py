@@ -122,7 +122,11 @@ def charts(day: Day, axis: Axis, in_degrees: bool) -> str:
         parts.append(f"<h3>{name}, beside the capacity</h3>{legend(picture)}{chart(picture)}")
     if day.places:
         picture = route_map(day, in_degrees)
-        parts.append(f'<h3>Map</h3><figure class="map far">{svg(picture.width, picture, picture.body)}</figure>')
+        image = svg(picture.width, picture, picture.body)
+        parts.append(
+            '<h3>Map</h3><figure class="map far scroll" tabindex="0" role="region" aria-label="Map">'
+            f"{image}</figure>"
+        )
     return "".join(parts)
 
 

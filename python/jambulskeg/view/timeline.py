@@ -205,8 +205,9 @@ def window_of(day: Day, axis: Axis, row: StopRow, node: int, y: float) -> Iterat
     """The window of a visit, and its forbidden intervals."""
     low, high = row.window or (axis.low, axis.high)
     name = day.names.node(node)
-    title = f"{name} may begin from {day.names.time(low)} to {day.names.time(high)}" if row.window else ""
-    yield line("window", (axis.at(low), y), (axis.at(high), y), title)
+    if row.window or row.forbidden:
+        title = f"{name} may begin from {day.names.time(low)} to {day.names.time(high)}" if row.window else ""
+        yield line("window", (axis.at(low), y), (axis.at(high), y), title)
     for least, most in row.forbidden:
         if least <= axis.high and most >= axis.low:
             title = f"{name} may not begin from {day.names.time(least)} to {day.names.time(most)}"
