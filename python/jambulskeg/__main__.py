@@ -23,6 +23,8 @@ from .view import Day, compare_page, day_of, drawing, page
 
 __all__ = ["main"]
 
+STOPPED = 130
+"""The exit status where it is stopped from the keyboard, as shells have it."""
 BELONGS = {
     "sshlogin": ("parallel",), "folder": ("slurm",), "option": ("parallel", "slurm"),
     "remote_program": ("parallel", "slurm"),
@@ -36,6 +38,8 @@ def main(words: Optional[Sequence[str]] = None) -> int:
     try:
         status: int = asked.run(asked)
         return status
+    except KeyboardInterrupt:
+        return STOPPED
     except OSError as problem:
         return failed(f"{problem.filename or 'a file'}: {problem.strerror}")
     except (JambulskegError, ValueError) as problem:

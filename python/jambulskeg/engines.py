@@ -142,10 +142,13 @@ class Slurm:
         with process:
             job = (process.stdout.readline() if process.stdout else "").strip().split(";")[0]
             try:
-                return process.communicate()[1]
+                told = process.communicate()[1]
             except BaseException:
                 started(["scancel", job], folder).wait()
                 raise
+        if not job:
+            raise EngineFailed(f"sbatch took no job; it said: {last_of(told)}")
+        return told
 
     def script(self, folder: str, begin: int, tasks: int) -> str:
         """The script of a job array."""
@@ -192,6 +195,11 @@ def started(command: Sequence[str], folder: str, text: Optional[IO[str]] = None)
         raise EngineFailed(f"'{command[0]}' could not be started: {problem.strerror}") from problem
 
 
+def last_of(told: str) -> str:
+    """The last line of what a process said."""
+    return (told.strip().splitlines()[-1:] or ["nothing"])[0]
+
+
 def results(out: str) -> Results:
     """What tasks wrote, by their numbers."""
     return {int(task): (int(status), text) for text, task, status in RESULT.findall(out)}
@@ -213,8 +221,7 @@ def results_of(folder: str, task: int, end: float) -> Results:
 def answer_of(found: Results, task: int, told: str) -> Answer:
     """The solution of a task, or the exception of its status. Raises `EngineFailed` where it wrote nothing."""
     if task not in found:
-        last = told.strip().splitlines()[-1:] or ["nothing"]
-        raise EngineFailed(f"a task has no result (number {task}); the engine said: {last[0]}")
+        raise EngineFailed(f"a task has no result (number {task}); the engine said: {last_of(told)}")
     status, text = found[task]
     if status in (126, 127):
         return ProgramFailed(f"where the task was run the program could not be started (status {status} of the shell)")

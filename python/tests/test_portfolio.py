@@ -199,6 +199,9 @@ class EngineTests(unittest.TestCase):
         with engine_on_path("sbatch", SBATCH, lost=2), mock.patch("jambulskeg.engines.LATE_FILES", 0.1):
             with self.assertRaisesRegex(EngineFailed, "a node is gone"):
                 portfolio(model, Slurm(2))
+        with engine_on_path("sbatch", "import sys\nsys.exit('sbatch: error: no such partition')"):
+            with self.assertRaisesRegex(EngineFailed, "took no job; it said: sbatch: error: no such partition"):
+                portfolio(model, Slurm(2))
         missing: List[Engine] = [GnuParallel(1, "vr"), Slurm(1, "vr")]
         with mock.patch.dict(os.environ, {"PATH": "/nowhere"}):
             for engine in missing:

@@ -134,8 +134,8 @@ def engines(folder: str) -> Iterator[Sequence[str]]:
 
 
 def shown(words: Sequence[str], folder: str) -> str:
-    """The words of an engine without the folder."""
-    return " ".join(f"'{word}'" if " " in word else word for word in words).replace(folder, "KEYS")
+    """The words of an engine; the machine by ssh is called LOGIN."""
+    return " ".join("LOGIN" if word == login_of(folder) else word for word in words)
 
 
 def compare_portfolios(folder: str, names: Sequence[str]) -> None:
@@ -151,10 +151,8 @@ def compare_portfolios(folder: str, names: Sequence[str]) -> None:
             answers.add(ran.stdout)
             tables.add(ran.stderr)
             seconds = time.monotonic() - began
-            print(f"portfolio {name} {shown(words, folder)}: status {ran.returncode}, {seconds:.1f} s")
-            print(ran.stderr if ran.returncode else "".join(
-                line + "\n" for line in ran.stderr.splitlines() if line.startswith("*")
-            ), end="")
+            best = [line for line in ran.stderr.splitlines() if line.startswith("*")] or [ran.stderr]
+            print(f"portfolio {name} {shown(words, folder)}: status {ran.returncode}, {seconds:.1f} s; {best[0].strip()}")
         print(f"answers of {name} that differ: {len(answers) - 1}; tables of searches: {len(tables) - 1}")
 
 
@@ -169,7 +167,7 @@ def compare_batches(folder: str) -> None:
     for number, words in enumerate(engines(folder)):
         out = os.path.join(folder, f"out{number}")
         ran = package("batch", models, "--jobs", "2", "--tries", "2000", "-o", out, *words, folder=folder)
-        print(f"batch of {len(os.listdir(models))} models {shown(words, folder)}: status {ran.returncode}")
+        print(f"batch of {len(os.listdir(models))} files {shown(words, folder)}: status {ran.returncode}")
         texts = [ran.stdout, *(open(os.path.join(out, name), encoding="utf-8").read()
                                for name in sorted(os.listdir(out)))]
         found.add("\n".join(texts))
@@ -192,7 +190,8 @@ def accidents(folder: str) -> None:
         told += [["--folder", kept], ["--folder", kept]] if engine == "slurm" else []
         for words in told:
             ran = package(*base, *words, folder=folder)
-            said = " ".join(ran.stderr.splitlines()[-1:])
+            lines = ran.stderr.splitlines()
+            said = ([line for line in lines if line.startswith("*")] or lines[-1:] or ["nothing"])[0]
             print(f"{engine} {' '.join(words)}: status {ran.returncode}; {said}".replace(folder, "FOLDER"))
 
 

@@ -14,14 +14,19 @@ def costs_beside(days: Tuple[Day, Day], titles: Tuple[str, str]) -> str:
     """The parts of both costs and how they differ."""
     one, other = days[0].solution.parts, days[1].solution.parts
     rows = [
-        row([name, getattr(one, field), getattr(other, field), f"{getattr(other, field) - getattr(one, field):+}"])
+        row([name, getattr(one, field), getattr(other, field), signed(getattr(other, field) - getattr(one, field))])
         for field, name, _ in PARTS
     ]
-    rows.append(row(["all", one.total(), other.total(), f"{other.total() - one.total():+}"], ' class="sum"'))
+    rows.append(row(["all", one.total(), other.total(), signed(other.total() - one.total())], ' class="sum"'))
     rows.append(row(["vehicles that leave", *(len(day.routes()) for day in days),
-                     f"{len(days[1].routes()) - len(days[0].routes()):+}"]))
+                     signed(len(days[1].routes()) - len(days[0].routes()))]))
     heads = ["part", f"#{titles[0]}", f"#{titles[1]}", "second less first"]
     return table("Both costs", heads, ["<tbody>", *rows, "</tbody>"])
+
+
+def signed(value: int) -> str:
+    """A difference with its sign."""
+    return f"{value:+}" if value else "0"
 
 
 def changes_table(days: Tuple[Day, Day], titles: Tuple[str, str]) -> str:
