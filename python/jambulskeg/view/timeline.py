@@ -25,6 +25,8 @@ NAMES = 13
 BAR = 16
 LANE = 3
 LANES = 24
+LEAST = 3
+"""The least width of a visit or a break."""
 GAP = 8
 IDLE = 20
 """The height of the row of a vehicle that is not used."""
@@ -154,12 +156,21 @@ def bars_of(day: Day, axis: Axis, route: Route, top: float) -> List[str]:
     before: Dict[int, List[Piece]] = {}
     for piece in pieces:
         before.setdefault(piece.stop + 1, []).extend([] if piece.kind == "visit" else [piece])
-    for piece, (low, high, kind) in zip(pieces, ends):
-        if kind in ("visit", "break"):
-            corner = (low, middle - THICK[kind] / 2)
-            title = piece_title(day, route, piece, before.get(piece.stop, []))
-            marks.append(rect(kind, corner, (high - low, THICK[kind]), title))
+    for piece in [*pieces, *brief_visits(day, route)]:
+        if piece.kind in ("visit", "break"):
+            low, width = axis.at(piece.low), axis.at(piece.high) - axis.at(piece.low)
+            corner, size = (low, middle - THICK[piece.kind] / 2), (max(LEAST, width), THICK[piece.kind])
+            marks.append(rect(piece.kind, corner, size, piece_title(day, route, piece, before.get(piece.stop, []))))
     return marks
+
+
+def brief_visits(day: Day, route: Route) -> List[Piece]:
+    """The visits of a route that take no time."""
+    stops = day.stops(route)
+    return [
+        Piece("visit", stops[stop], stops[stop], stop)
+        for stop in range(1, len(stops) - 1) if not day.service(route, stop)
+    ]
 
 
 def piece_title(day: Day, route: Route, piece: Piece, before: Sequence[Piece]) -> str:
