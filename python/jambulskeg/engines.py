@@ -91,11 +91,21 @@ class GnuParallel:
             for model in models:
                 longest = max(longest, texts.write(model.text() + "\n"))
             texts.seek(0)
-            process = started(self.words(longest), os.getcwd(), texts)
-            with process:
-                out, told = process.communicate()
+            out, told = self.called(longest, texts)
         found = results(out)
         return [answer_of(found, task, told) for task in range(1, len(models) + 1)]
+
+    def called(self, longest: int, texts: IO[str]) -> Tuple[str, str]:
+        """What GNU parallel wrote to its two outputs; it is ended where this process is stopped."""
+        process = started(self.words(longest), os.getcwd(), texts)
+        with process:
+            try:
+                return process.communicate()
+            except BaseException:
+                for _ in range(2):  # At the first signal it starts nothing more, at the second it ends what runs.
+                    process.terminate()
+                    time.sleep(0.5)
+                raise
 
     def words(self, longest: int) -> List[str]:
         """The call, for models whose texts have at most so many characters."""

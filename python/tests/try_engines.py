@@ -195,6 +195,28 @@ def accidents(folder: str) -> None:
             print(f"{engine} {' '.join(words)}: status {ran.returncode}; {said}".replace(folder, "FOLDER"))
 
 
+def stopped(folder: str) -> None:
+    """A portfolio that is stopped from the keyboard leaves nothing behind."""
+    slow = os.path.join(folder, "slow")
+    write(slow, "#!/bin/sh\nexec sleep 599\n")
+    os.chmod(slow, 0o755)
+    model = os.path.join(EXAMPLES, "breaks-day.json")
+    for engine in ("parallel", "slurm"):
+        words = [sys.executable, "-m", "jambulskeg", "portfolio", model, "--with", engine, "--jobs", "2"]
+        process = subprocess.Popen([*words, "--remote-program", slow], cwd=folder, stderr=subprocess.DEVNULL)
+        for _ in range(60):
+            time.sleep(1)
+            if "sleep 599" in run("ps", "-eo", "args").stdout:
+                break
+        began = run("ps", "-eo", "args").stdout.count("sleep 599")
+        process.send_signal(signal.SIGINT)
+        status = process.wait(60)
+        time.sleep(5)
+        left = run("ps", "-eo", "args").stdout.count("sleep 599")
+        jobs = run("squeue", "--noheader").stdout.strip() or "none"
+        print(f"{engine} stopped: status {status}; {began} searches ran, {left} are left; jobs of Slurm: {jobs}")
+
+
 def main() -> None:
     """Tries all, and ends what it started."""
     os.environ["PYTHONPATH"] = TOP
@@ -206,6 +228,7 @@ def main() -> None:
             compare_portfolios(folder, ["service-day", "pickups"])
             compare_batches(folder)
             accidents(folder)
+            stopped(folder)
             print("left in the folder of searches:", [n for n in os.listdir(folder) if n.startswith("jambulskeg-")])
         finally:
             for end in reversed(STOPS):
