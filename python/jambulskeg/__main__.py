@@ -81,7 +81,7 @@ def add_view(command: argparse.ArgumentParser) -> None:
     command.add_argument("--svg", action="store_true", help="an SVG in place of a page")
     command.add_argument("--places", metavar="CSV", help="a place for each node: columns name, x, y and more")
     command.add_argument("--degrees", action="store_true", help="x is the longitude and y the latitude, in degrees")
-    command.add_argument("--vehicles", metavar="CSV", help="the vehicles' names: columns name, start, end and more")
+    command.add_argument("--vehicles", metavar="CSV", help="with --places: columns name, start and more")
     command.add_argument("--time", metavar="NAME", help="the dimension that the day is drawn along")
     command.add_argument(
         "--clock", metavar="H:MM", type=whole, help="times are minutes from this time of day; 0:00 for midnight"
@@ -164,6 +164,8 @@ def days_of(asked: argparse.Namespace, model: Model, solutions: Sequence[Solutio
     places: Sequence[Place] = read_places(asked.places) if asked.places else ()
     vehicles: Sequence[str] = ()
     if asked.vehicles:
+        if not asked.places:
+            raise ValueError("--vehicles asks for --places, where its starts and ends have their names")
         vehicles = [van.name for van in read_vans(asked.vehicles, places)]
     return [
         day_of(model, solution, places=places, vehicles=vehicles, time=asked.time, clock=asked.clock)

@@ -89,7 +89,8 @@ class CommandTests(unittest.TestCase):
         self.assertEqual(sorted(os.listdir(self.at("out"))), ["breaks-day.solved.json", "pickups.solved.json"])
         self.write("faulty.json", '{"format":1}')
         status, out, _ = called("batch", self.folder, "--tries", "200")
-        self.assertEqual((status, out.splitlines()[-1]), (1, "faulty: Model/nodes: a required field is absent (code 10)"))
+        self.assertEqual(status, 1)
+        self.assertEqual(out.splitlines()[-1], "faulty: Model/nodes: a required field is absent (code 10)")
         self.assertTrue(os.path.exists(self.at("pickups.solved.json")))
         self.assertEqual(called("batch", self.at("out"))[0], 1)
 
@@ -108,6 +109,7 @@ class CommandTests(unittest.TestCase):
             (["view", model, self.at("none.json"), *page], "none.json: No such file"),
             (["view", model, self.at("a.json"), *page, "--places", self.at("no.csv")], "1 places"),
             (["view", model, self.at("a.json"), *page, "--time", "hours"], "no dimension has the name"),
+            (["view", model, self.at("a.json"), *page, "--vehicles", self.at("no.csv")], "asks for --places"),
             (["portfolio", self.write("bad.json", "{")], "Expecting property name"),
             (["portfolio", model, "--sshlogin", "a"], "--sshlogin belongs to --with parallel"),
             (["portfolio", model, "--folder", "a", "--with", "parallel"], "--folder belongs to --with slurm"),
