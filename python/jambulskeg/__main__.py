@@ -134,7 +134,8 @@ def run_view(asked: argparse.Namespace) -> int:
     days = days_of(asked, model, solutions)
     titles = titles_of(asked, files)
     found = "The proved check was not asked." if asked.unchecked else (
-        "The proved check found that this keeps all rules of the model and costs what it says."
+        f"The proved check found that {'both keep' if asked.compare else 'this keeps'} all rules of the model and "
+        f"{'cost what they say' if asked.compare else 'costs what it says'}."
     )
     write(asked.output, text_of(asked, days, titles, found))
     return 0

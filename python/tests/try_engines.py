@@ -152,7 +152,8 @@ def compare_portfolios(folder: str, names: Sequence[str]) -> None:
             tables.add(ran.stderr)
             seconds = time.monotonic() - began
             best = [line for line in ran.stderr.splitlines() if line.startswith("*")] or [ran.stderr]
-            print(f"portfolio {name} {shown(words, folder)}: status {ran.returncode}, {seconds:.1f} s; {best[0].strip()}")
+            told = f"status {ran.returncode}, {seconds:.1f} s; {best[0].strip()}"
+            print(f"portfolio {name} {shown(words, folder)}: {told}")
         print(f"answers of {name} that differ: {len(answers) - 1}; tables of searches: {len(tables) - 1}")
 
 

@@ -122,7 +122,7 @@ def lanes_of(day: Day, route: Route) -> int:
 def row_of(day: Day, axis: Axis, route: Route, y: float) -> str:
     """The row of a vehicle."""
     if not route.nodes:
-        return group("row idle", [text("note", (axis.left, y + 14), "not used")], route.vehicle)
+        return group("row idle", [text("note", (axis.left, y + BAR - 4), "not used")], route.vehicle)
     top = y + NAMES
     marks = list(shift_of(day, axis, route, top))
     marks += bars_of(day, axis, route, top)
