@@ -18,7 +18,7 @@ from jambulskeg.model import Model, Solution, read_model, solve
 from jambulskeg.places import Place
 from jambulskeg.view import CannotBeDrawn, Day, Names, compare_page, day_of, drawing, page
 from jambulskeg.view.axis import Axis
-from jambulskeg.view.compare import changes_table
+from jambulskeg.view.compare import changes_table, signed
 from jambulskeg.view.loads import levels_of
 from jambulskeg.view.route_map import projected
 from jambulskeg.view.svg import told, told_json
@@ -250,7 +250,8 @@ class PageTests(unittest.TestCase):
         other = day_of(one.model, leave_later(one.model, one.solution))
         text = compare_page((one, other), ("printed", "later"), "")
         read(text)
-        self.assertIn(f"{other.solution.cost - one.solution.cost:+}", text)
+        self.assertIn(signed(other.solution.cost - one.solution.cost), text)
+        self.assertEqual([signed(value) for value in (-3, 0, 4)], ["-3", "0", "+4"])
         self.assertIn("<td>later</td>", changes_table((one, other), ("printed", "later")))
         self.assertEqual(axis_of([one, other]).low, min(axis_of([one]).low, axis_of([other]).low))
         swapped = complete(one.model, one.solution.lists()[::-1])

@@ -7,7 +7,7 @@ from typing import Any, List, Tuple
 from .day import Day
 from .tables import PARTS, clock_cell, row, table
 
-__all__ = ["changes_table", "costs_beside"]
+__all__ = ["changes_table", "costs_beside", "signed"]
 
 
 def costs_beside(days: Tuple[Day, Day], titles: Tuple[str, str]) -> str:
