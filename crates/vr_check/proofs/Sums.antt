@@ -3,7 +3,8 @@ use Rattle.std.proofs.Common.{◌≡◌, ℕ, zero, suc, ◌*◌, ◌^◌, arith
 use Rattle.std.specs.Prelude.{ℤ, pos, negsuc, ◌+ℤ◌, ◌*ℤ◌}
 use Rattle.std.proofs.Math.IntN.{zero-*ℤ, suc_ℤ-*ℤ}
 use Rattle.std.proofs.lemmas.Int.{ints}
-use Rattle.vr_model.specs.tables.WellFormed.{IsIn, greatest_cost}
+use Rattle.vr_model.specs.tables.Limits.{greatest_cost}
+use Rattle.vr_model.specs.tables.WellFormed.{IsIn}
 use Rattle.vr_check.specs.Parts.{IsAround}
 
 -- n times a number that lies within 2^66

@@ -6,7 +6,8 @@ ghost use Rattle.vr_model.specs.routes.Costs.{arcs_part, fixed_part, penalty_for
 ghost use Rattle.vr_model.specs.routes.Routes.{are_lists, is_empty, route_cost};
 ghost use Rattle.vr_model.specs.routes.Rules.{active_in};
 ghost use Rattle.vr_model.specs.tables.Tables.{is_visit, vehicle_at};
-ghost use Rattle.vr_model.specs.tables.WellFormed.{IsIn, IsWellFormed, WherePresent, greatest_cost};
+ghost use Rattle.vr_model.specs.tables.Limits.{greatest_cost};
+ghost use Rattle.vr_model.specs.tables.WellFormed.{IsIn, IsWellFormed, WherePresent};
 ghost use Rattle.vr_check.specs.Parts.{IsAround};
 
 use crate::numbers::times;

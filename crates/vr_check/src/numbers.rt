@@ -2,7 +2,8 @@
 
 ghost use Rattle.std.specs.Prelude.{◌≡◌, ◌<◌, ◌^◌, ◌+ℤ◌, ◌*ℤ◌, ◌≤ℤ◌, pos, IsTrue};
 ghost use Rattle.vr_model.specs.tables.Numbers.{is_same_number, within};
-ghost use Rattle.vr_model.specs.tables.WellFormed.{IsIn, IsWellFormed, greatest_cost};
+ghost use Rattle.vr_model.specs.tables.Limits.{greatest_cost};
+ghost use Rattle.vr_model.specs.tables.WellFormed.{IsIn, IsWellFormed};
 ghost use Rattle.vr_model.specs.routes.Costs.{sum_of};
 ghost use Rattle.vr_model.specs.routes.Routes.{are_lists};
 ghost use Rattle.vr_printed.specs.Printed.{lists_of};

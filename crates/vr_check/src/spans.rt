@@ -2,7 +2,8 @@
 
 ghost use Rattle.std.specs.Prelude.{◌≡◌, ◌<◌, ◌^◌, length, pos, IsTrue};
 ghost use Rattle.vr_model.specs.tables.Numbers.{below, number_at, total_by};
-ghost use Rattle.vr_model.specs.tables.WellFormed.{IsIn, IsWellFormed, greatest_cost};
+ghost use Rattle.vr_model.specs.tables.Limits.{greatest_cost};
+ghost use Rattle.vr_model.specs.tables.WellFormed.{IsIn, IsWellFormed};
 ghost use Rattle.vr_model.specs.tables.Tables.{dimension_at};
 ghost use Rattle.vr_model.specs.routes.Costs.{global_part, global_span, span_part};
 ghost use Rattle.vr_printed.specs.Printed.{assignment_of};

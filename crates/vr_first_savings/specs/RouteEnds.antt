@@ -1,7 +1,8 @@
 -- The ends of routes, as code keeps them.
 use Rattle.std.specs.Prelude.{ℕ, ◌<◌, List, pos}
 use Rattle.vr_model.specs.tables.Tables.{arc_cost, vehicle_at}
-use Rattle.vr_model.specs.tables.WellFormed.{IsIn, greatest_cost}
+use Rattle.vr_model.specs.tables.Limits.{greatest_cost}
+use Rattle.vr_model.specs.tables.WellFormed.{IsIn}
 use Rattle.vr_model.specs.first.Items.{first_node, last_node}
 use Rattle.vr_model.specs.declared.records.Model.{Model}
 use Rattle.vr_first_savings.specs.declared.ends.Ends.{Ends}

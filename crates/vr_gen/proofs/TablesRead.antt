@@ -11,7 +11,7 @@ use Rattle.vr_json.specs.declared.fault.Cause.TheVariants.{Repeated, Reversed, N
 use Rattle.vr_json.specs.Reading.{ReaderOf, and_then, at_path, field, if_present, required, optional, present, maybe, known, if_unknown, list, array as array_of, entries, first_two, two_entries, for_each, refuse_if}
 use Rattle.vr_json.specs.Kinds.{whole, below as below_n, count as count_of, text, flag, choice}
 use Rattle.vr_model.specs.tables.Numbers.{below, horizon}
-use Rattle.vr_model.specs.tables.WellFormed.{least_value, greatest_value, greatest_cost}
+use Rattle.vr_model.specs.tables.Limits.{least_value, greatest_value, greatest_cost}
 use Rattle.vr_model.specs.routes.Routes.{holds}
 use Rattle.vr_model.specs.moves.Moves.{all_neighbourhoods}
 use Rattle.vr_model.specs.declared.records.Matrix.{Matrix}

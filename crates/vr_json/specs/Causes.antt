@@ -4,7 +4,7 @@ use Rattle.vr_json.specs.declared.fault.Cause.{Cause}
 use Rattle.vr_json.specs.declared.fault.Cause.TheVariants.{Absent, OtherKind, NotWhole, UnknownKey, OutOfRange}
 use Rattle.vr_json.specs.declared.fault.Cause.TheVariants.{WrongLength, Repeated, UnknownWord, NotAVisit, Reversed}
 use Rattle.vr_json.specs.declared.fault.Cause.TheVariants.{NegativeCost, LargeTransit, NegativeTransit}
-use Rattle.vr_json.specs.declared.fault.Cause.TheVariants.{UnlikeVehicles, NotBuilt}
+use Rattle.vr_json.specs.declared.fault.Cause.TheVariants.{UnlikeVehicles}
 use Rattle.vr_json.specs.declared.fault.Fault.{Fault}
 
 -- the number of a cause in the texts of the program
@@ -23,7 +23,6 @@ code_of NegativeCost = 20
 code_of LargeTransit = 21
 code_of NegativeTransit = 22
 code_of UnlikeVehicles = 23
-code_of NotBuilt = 30
 
 -- the fault of a cause at a path
 abbrev pub fault_at : Cause → List ℕ → Fault

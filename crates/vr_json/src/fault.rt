@@ -41,12 +41,10 @@ pub enum Cause {
     NegativeTransit,
     /// The vehicles differ, or are restricted, where they must be alike.
     UnlikeVehicles,
-    /// A part of the model that this version reads and does not solve yet.
-    NotBuilt,
 }
 
 impl Cause {
-    /// The number of this cause in the texts of the program: 10 to 23, and 30 for a part that is not built yet.
+    /// The number of this cause in the texts of the program, 10 to 23.
     pub fn code(self) -> u8
         ensures { result ≡ code_of self }
     {
@@ -65,7 +63,6 @@ impl Cause {
             Cause::LargeTransit => 21,
             Cause::NegativeTransit => 22,
             Cause::UnlikeVehicles => 23,
-            Cause::NotBuilt => 30,
         }
     }
 }

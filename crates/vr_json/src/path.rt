@@ -108,11 +108,4 @@ impl Path {
     {
         self.text.as_str()
     }
-
-    /// The path as a text.
-    pub fn as_text(&self) -> Result<Text, NoMemory>
-        ensures { IfOk result (λ t. t ≡ self.now) }
-    {
-        Text::from_str(self.alloc, self.text.as_str())
-    }
 }

@@ -6,7 +6,8 @@ use Rattle.std.proofs.lemmas.Int.{ints}
 use Rattle.vr_model.specs.tables.Numbers.{number_at, horizon, within, is_same_number}
 use Rattle.vr_model.specs.tables.Tables.{dimension_at, vehicle_at, no_dimension, no_evaluator, row_of, breaks_of, matrix_part, transit, evaluator_number}
 use Rattle.vr_model.specs.tables.ModelRules.{evaluator_at}
-use Rattle.vr_model.specs.tables.WellFormed.{IsDimension, IsEvaluator, IsIn, greatest_value}
+use Rattle.vr_model.specs.tables.Limits.{greatest_value}
+use Rattle.vr_model.specs.tables.WellFormed.{IsDimension, IsEvaluator, IsIn}
 use Rattle.vr_model.specs.routes.Routes.{UsedArc, arcs_from, is_empty}
 use Rattle.vr_model.specs.schedules.Lines.{Line, line, line_arc, start_allows, stop_allows}
 use Rattle.vr_model.specs.schedules.Schedules.{allows, no_arc}

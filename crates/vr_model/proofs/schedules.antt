@@ -11,3 +11,6 @@ pub mod Narrowing
 pub mod LineArcs
 pub mod LinesSound
 pub mod RunCounts
+pub mod Measures
+pub mod NarrowLines
+pub mod UnderRules

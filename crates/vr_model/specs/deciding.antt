@@ -5,3 +5,4 @@ pub mod Testing
 pub mod ScheduleTests
 pub mod Boxes
 pub mod ChosenSchedule
+pub mod LeastCumul

@@ -9,3 +9,6 @@ pub mod Levels
 pub mod ChosenLaws
 pub mod Weights
 pub mod Runs
+pub mod Tight
+pub mod Narrowed
+pub mod RuleLaws

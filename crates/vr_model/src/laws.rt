@@ -12,7 +12,10 @@ ghost use Rattle.vr_model.specs.moves.MoveTests.{MovesAsTested};
 ghost use Rattle.vr_model.specs.moves.MoveLaws.{MovesChangeLists, MovesKeepLists};
 ghost use Rattle.vr_model.specs.schedules.Runs.{RunsAsLongAsForm};
 ghost use Rattle.vr_model.specs.search.SearchLaws.{DescentBoundUnmet, GuidedBoundUnmet};
+ghost use Rattle.vr_model.specs.schedules.RuleLaws.{ChosenUnderIsChosen, ChosenUnderWhereFeasible, NarrowedChooses};
+ghost use Rattle.vr_model.specs.schedules.RuleLaws.{NarrowedKeepsRules, NarrowedToEnds, OneChosenUnder};
 ghost use Rattle.vr_model.specs.schedules.SoundLines.{LinesAreSound};
+ghost use Rattle.vr_model.specs.tables.Limits.{LimitsAsDefined};
 
 /// The rules of a schedule hold exactly where their tests pass.
 pub fn rules_as_tested()
@@ -145,4 +148,39 @@ pub fn descent_bound_unmet()
 /// A greater bound on the scans of guided local search changes nothing.
 pub fn guided_bound_unmet()
     ensures { GuidedBoundUnmet }
+{}
+
+/// What is chosen of the line that a rule narrows another one to is chosen under the rule.
+pub fn narrowed_chooses()
+    ensures { NarrowedChooses }
+{}
+
+/// The function of the schedule under a rule gives the one that the rule chooses.
+pub fn chosen_under_is_chosen()
+    ensures { ChosenUnderIsChosen }
+{}
+
+/// There is a chosen schedule under a rule exactly where a line is feasible.
+pub fn chosen_under_where_feasible()
+    ensures { ChosenUnderWhereFeasible }
+{}
+
+/// No two schedules of a line are chosen under a rule.
+pub fn one_chosen_under()
+    ensures { OneChosenUnder }
+{}
+
+/// A schedule of the narrowed line is one of the line.
+pub fn narrowed_keeps_rules()
+    ensures { NarrowedKeepsRules }
+{}
+
+/// Where the least end and the latest start with it are known, the line is narrowed to them.
+pub fn narrowed_to_ends()
+    ensures { NarrowedToEnds }
+{}
+
+/// The limits that the code reads by are those that the definitions name.
+pub fn limits_as_defined()
+    ensures { LimitsAsDefined }
 {}

@@ -16,7 +16,7 @@ pub use memory::NoMemory;
 pub use neighbours::{Move, Neighbourhood};
 pub use records::{
     Allowed, BreakRow, Dimension, End, Evaluator, First, Group, Improve, Interval, Matrix, Model,
-    Pair, Parts, Policy, Report, SearchRow, Soft, StopRow, Vehicle, VehicleBreaks,
+    Pair, Parts, Policy, Report, ScheduleRule, SearchRow, Soft, StopRow, Vehicle, VehicleBreaks,
 };
 pub use search::{Event, Kind, Lambda, Limit};
 pub use sequence::Seq;

@@ -23,6 +23,12 @@ pub const GREATEST_COEFFICIENT: i64 = 10_000;
 /// The greatest numerator and denominator of lambda.
 pub const GREATEST_LAMBDA: i64 = 1_000;
 
+/// How many visits a cut takes out of a path at most.
+pub const MOST_CUT: u32 = 100;
+
+/// For how many rounds a changed visit may be tabu.
+pub const MOST_TENURE: u32 = 1_000;
+
 /// How many moves may be tried, and how many solutions may be found, at most.
 pub const MOST_TRIES: u64 = 1_000_000_000;
 

@@ -9,7 +9,7 @@ ghost use Rattle.vr_model.specs.tables.Tables.{arc_cost, breaks_of as breaks_of_
 ghost use Rattle.vr_model.specs.tables.Tables.{evaluator_of as evaluator_of_vehicle, is_terminal, is_visit};
 ghost use Rattle.vr_model.specs.tables.Tables.{matrix_part, row_of, transit};
 ghost use Rattle.vr_model.specs.tables.WellFormed.{IsEvaluator, IsIn, IsMatrix, IsStopRow, IsWellFormed, WherePresent};
-ghost use Rattle.vr_model.specs.tables.WellFormed.{least_value, greatest_cost, greatest_value};
+ghost use Rattle.vr_model.specs.tables.Limits.{least_value, greatest_cost, greatest_value};
 ghost use Rattle.vr_model.specs.routes.Rules.{allows_vehicle as allows_vehicle_of};
 
 use crate::{Allowed, BreakRow, Dimension, Evaluator, Matrix, Model, Seq, StopRow, Vehicle};

@@ -45,6 +45,7 @@ pub struct Vehicle {
     /// What it costs to use it, in `0..=2^40` (`SetFixedCostOfVehicle` in OR-Tools).
     pub fixed: i64,
     pub policy: Policy,
+    pub schedule: ScheduleRule,
 }
 
 /// In which order a vehicle may serve its pairs (`PickupAndDeliveryPolicy` in OR-Tools).
@@ -56,6 +57,16 @@ pub enum Policy {
     Lifo,
     /// What was picked up first is delivered first.
     Fifo,
+}
+
+/// By which rule a vehicle chooses one of its schedules, in each dimension.
+#[derive(Clone, Copy)]
+pub enum ScheduleRule {
+    /// The least cumuls, compared from the start on.
+    Earliest,
+    /// The least cumul at the end; with it the greatest at the start; with both the least cumuls, compared from the
+    /// start on.
+    Tight,
 }
 
 /// A quantity that adds up along each route, as time or load (`RoutingDimension` in OR-Tools).
@@ -189,6 +200,10 @@ pub struct SearchRow {
     pub q: i64,
     /// The neighbourhoods in the order in which their moves are tried, none twice.
     pub neighbourhoods: Seq<Neighbourhood>,
+    /// How many visits a cut takes out of a path at most, in `1..=100`.
+    pub cut: u32,
+    /// For how many rounds a changed visit is tabu, in `1..=1000`.
+    pub tenure: u32,
 }
 
 /// How the first solution is built (`FirstSolutionStrategy` in OR-Tools).
@@ -208,6 +223,10 @@ pub enum Improve {
     None,
     GreedyDescent,
     GuidedLocalSearch,
+    /// A chain of a path is taken out, and all unplaced items are inserted anew.
+    PathLns,
+    /// The best move that is not tabu is made, also where it costs more.
+    TabuSearch,
 }
 
 /// The six parts of the cost of a solution. None is negative.

@@ -9,7 +9,8 @@ use Rattle.vr_json.specs.Reading.{ReaderOf, optional, array}
 use Rattle.vr_model.specs.tables.Numbers.{horizon}
 use Rattle.vr_model.specs.routes.Routes.{is_distinct}
 use Rattle.vr_model.specs.tables.Tables.{is_visit}
-use Rattle.vr_model.specs.tables.WellFormed.{HasLength, IsIn, WherePresent, IsInterval, IsSoft, IsStopRow, IsBreak, AreBreaks, AreVisitRows, AreVehicleRows, IsEvaluator, IsDimension, least_value, greatest_value, greatest_coefficient}
+use Rattle.vr_model.specs.tables.Limits.{least_value, greatest_value, greatest_coefficient}
+use Rattle.vr_model.specs.tables.WellFormed.{HasLength, IsIn, WherePresent, IsInterval, IsSoft, IsStopRow, IsBreak, AreBreaks, AreVisitRows, AreVehicleRows, IsEvaluator, IsDimension}
 use Rattle.vr_model.specs.declared.records.Model.{Model}
 use Rattle.vr_model.specs.declared.records.Dimension.{Dimension}
 use Rattle.vr_model.specs.declared.records.StopRow.{StopRow}

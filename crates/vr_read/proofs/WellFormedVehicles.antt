@@ -6,7 +6,8 @@ use Rattle.std.proofs.lemmas.Bool.{and_from, not_from_false, lt-ltb}
 use Rattle.std.proofs.lemmas.Int.{ints}
 use Rattle.std.proofs.lemmas.List.Elements.{All-nil, All-append, All-head, All-tail}
 use Rattle.vr_model.specs.tables.Tables.{is_visit}
-use Rattle.vr_model.specs.tables.WellFormed.{IsMatrix, IsVehicle, least_value, greatest_cost}
+use Rattle.vr_model.specs.tables.Limits.{least_value, greatest_cost}
+use Rattle.vr_model.specs.tables.WellFormed.{IsMatrix, IsVehicle}
 use Rattle.vr_model.specs.declared.records.Model.{Model}
 use Rattle.vr_read.specs.Vehicles.{matrix, ends, vehicle, is_terminal, visit}
 use Rattle.vr_json.proofs.Readings.{EachEnsures, IsFull, gives, after, any_value, whole_ensures, below_ensures, required_ensures, optional_ensures, refuse_if_ensures, full_array_ensures}

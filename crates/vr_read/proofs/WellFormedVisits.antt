@@ -12,7 +12,8 @@ use Rattle.vr_json.specs.Reading.{array}
 use Rattle.vr_model.specs.tables.Numbers.{each}
 use Rattle.vr_model.specs.routes.Routes.{is_distinct, holds}
 use Rattle.vr_model.specs.tables.Tables.{is_visit}
-use Rattle.vr_model.specs.tables.WellFormed.{HasLength, IsGroup, IsPair, IsAllowed, nodes_of, greatest_cost}
+use Rattle.vr_model.specs.tables.Limits.{greatest_cost}
+use Rattle.vr_model.specs.tables.WellFormed.{HasLength, IsGroup, IsPair, IsAllowed, nodes_of}
 use Rattle.vr_model.specs.declared.records.Model.{Model}
 use Rattle.vr_model.specs.declared.records.Group.{Group}
 use Rattle.vr_model.specs.declared.records.Pair.{Pair}

@@ -7,7 +7,7 @@ use Rattle.vr_json.specs.declared.fault.Cause.TheVariants.{Repeated}
 use Rattle.vr_json.specs.Reading.{◌>>=◌, ReaderOf, required, optional, maybe, known, array, for_each, refuse_if}
 use Rattle.vr_json.specs.Kinds.{whole, below, text, flag}
 use Rattle.vr_model.specs.tables.Numbers.{horizon}
-use Rattle.vr_model.specs.tables.WellFormed.{least_value, greatest_value, greatest_coefficient}
+use Rattle.vr_model.specs.tables.Limits.{least_value, greatest_value, greatest_coefficient}
 use Rattle.vr_model.specs.declared.records.Vehicle.{Vehicle}
 use Rattle.vr_model.specs.declared.records.Dimension.{Dimension}
 use Rattle.vr_model.specs.declared.records.Evaluator.{Evaluator}

@@ -6,7 +6,7 @@ use Rattle.vr_json.specs.Paths.{name_path}
 use Rattle.vr_json.specs.Reading.{◌>>=◌, ReaderOf, required, optional, maybe, known, array, two_entries, refuse_if}
 use Rattle.vr_json.specs.Kinds.{whole, below}
 use Rattle.vr_model.specs.tables.Numbers.{horizon}
-use Rattle.vr_model.specs.tables.WellFormed.{greatest_coefficient}
+use Rattle.vr_model.specs.tables.Limits.{greatest_coefficient}
 use Rattle.vr_model.specs.declared.records.StopRow.{StopRow}
 use Rattle.vr_model.specs.declared.records.Interval.{Interval}
 use Rattle.vr_model.specs.declared.records.Soft.{Soft}

@@ -4,7 +4,7 @@ use Rattle.std.specs.List.{list_any}
 use Rattle.vr_json.specs.declared.fault.Cause.TheVariants.{NotAVisit}
 use Rattle.vr_json.specs.Reading.{◌>>=◌, ReaderOf, required, optional, known, array, refuse_if}
 use Rattle.vr_json.specs.Kinds.{whole, below, choice}
-use Rattle.vr_model.specs.tables.WellFormed.{greatest_cost, least_value}
+use Rattle.vr_model.specs.tables.Limits.{greatest_cost, least_value}
 use Rattle.vr_model.specs.declared.records.Matrix.{Matrix}
 use Rattle.vr_model.specs.declared.records.Vehicle.{Vehicle}
 use Rattle.vr_model.specs.declared.records.Policy.{Policy}

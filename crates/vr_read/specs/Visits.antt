@@ -6,7 +6,7 @@ use Rattle.vr_json.specs.Paths.{name_path}
 use Rattle.vr_json.specs.Reading.{◌>>=◌, ReaderOf, required, optional, maybe, known, array, refuse_if}
 use Rattle.vr_json.specs.Kinds.{whole, below, count}
 use Rattle.vr_model.specs.routes.Routes.{holds}
-use Rattle.vr_model.specs.tables.WellFormed.{greatest_cost}
+use Rattle.vr_model.specs.tables.Limits.{greatest_cost}
 use Rattle.vr_model.specs.declared.records.Vehicle.{Vehicle}
 use Rattle.vr_model.specs.declared.records.Group.{Group}
 use Rattle.vr_model.specs.declared.records.Pair.{Pair}

@@ -4,13 +4,13 @@ use Rattle.std.specs.Str.{is_utf8}
 use Rattle.serde_json.specs.Data.{Data}
 use Rattle.serde_json.specs.Read.{read}
 use Rattle.vr_json.specs.declared.fault.Fault.{Fault}
-use Rattle.vr_model.specs.declared.limits.TheConstants.{MOST_INPUT_BYTES}
+use Rattle.vr_model.specs.tables.Limits.{most_input_bytes}
 use Rattle.vr_model.specs.declared.records.Model.{Model}
 use Rattle.vr_read.specs.Models.{read_model}
 
 -- the most bytes that an input may have: 64 MiB
 abbrev pub max_input : ℕ
-max_input = MOST_INPUT_BYTES
+max_input = most_input_bytes
 
 -- the value of an input; none where it is no JSON, since its bytes are no UTF-8, or since `serde_json` reads no value
 -- from them, which may nest at most 127 deep

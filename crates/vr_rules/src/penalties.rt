@@ -4,7 +4,8 @@ ghost use Rattle.std.specs.Prelude.{◌≡◌, ◌<◌, ◌≤◌, ◌*◌, ◌^
 ghost use Rattle.std.specs.Prelude.{pos, All, IsTrue, count_by, length, nat_le};
 ghost use Rattle.std.specs.List.{list_all};
 ghost use Rattle.vr_model.specs.tables.Numbers.{total_by};
-ghost use Rattle.vr_model.specs.tables.WellFormed.{greatest_cost, IsIn, IsWellFormed, WherePresent};
+ghost use Rattle.vr_model.specs.tables.Limits.{greatest_cost};
+ghost use Rattle.vr_model.specs.tables.WellFormed.{IsIn, IsWellFormed, WherePresent};
 ghost use Rattle.vr_rules.specs.Placing.{fits_by, is_marked, penalty_by};
 
 use crate::complete::marked;

@@ -4,7 +4,8 @@ use Rattle.std.specs.Prelude.{pos}
 use Rattle.vr_model.specs.tables.Numbers.{number_at, horizon}
 use Rattle.vr_model.specs.tables.Tables.{dimension_at, matrix_at, transit}
 use Rattle.vr_model.specs.tables.ModelRules.{has_negative_cost, has_large_entry, goes_back}
-use Rattle.vr_model.specs.tables.WellFormed.{least_value, greatest_cost, greatest_value, greatest_coefficient, IsMatrix, IsVehicle, IsEvaluator, IsDimension, IsWellFormed}
+use Rattle.vr_model.specs.tables.Limits.{least_value, greatest_cost, greatest_value, greatest_coefficient}
+use Rattle.vr_model.specs.tables.WellFormed.{IsMatrix, IsVehicle, IsEvaluator, IsDimension, IsWellFormed}
 use Rattle.vr_model.specs.declared.records.Dimension.{Dimension}
 use Rattle.vr_model.specs.declared.records.Model.{Model}
 use Rattle.vr_model.proofs.worked.WorkedModels.{car, time, two_cars}

@@ -11,7 +11,8 @@ use Rattle.vr_model.proofs.tables.Totals.{total_by-append}
 use Rattle.std.proofs.lemmas.List.Concat.{flat_map-cons}
 use Rattle.std.proofs.lemmas.List.Sums.{sum_by-cons}
 use Rattle.vr_model.specs.tables.Numbers.{total_by, number_at, each}
-use Rattle.vr_model.specs.tables.WellFormed.{greatest_cost, IsIn, IsWellFormed, WherePresent}
+use Rattle.vr_model.specs.tables.Limits.{greatest_cost}
+use Rattle.vr_model.specs.tables.WellFormed.{IsIn, IsWellFormed, WherePresent}
 use Rattle.vr_model.specs.tables.Tables.{is_visit}
 use Rattle.vr_model.specs.routes.Routes.{are_lists, holds, route, vehicles}
 use Rattle.vr_model.specs.routes.Rules.{active_in, fits_group, is_open, is_route_open, is_valid}

@@ -4,7 +4,8 @@ ghost use Rattle.std.specs.Prelude.{◌≡◌, ◌≢◌, ◌<◌, ◌≤◌, �
 ghost use Rattle.std.specs.Prelude.{All, IsTrue, IfOk, IsOk, OnOk, OnErr, length};
 ghost use Rattle.vr_model.specs.tables.Numbers.{number_at, total_by};
 ghost use Rattle.vr_model.specs.tables.Tables.{visits};
-ghost use Rattle.vr_model.specs.tables.WellFormed.{greatest_cost, IsIn, IsWellFormed, WherePresent};
+ghost use Rattle.vr_model.specs.tables.Limits.{greatest_cost};
+ghost use Rattle.vr_model.specs.tables.WellFormed.{IsIn, IsWellFormed, WherePresent};
 ghost use Rattle.vr_model.specs.routes.Routes.{holds};
 ghost use Rattle.vr_model.specs.routes.Costs.{penalty_for, penalty_part};
 ghost use Rattle.vr_model.specs.routes.Rules.{active_in as active_in_of, fits_group, is_valid};

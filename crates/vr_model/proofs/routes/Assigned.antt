@@ -1,11 +1,11 @@
 -- The assignment of lists at their chosen schedules.
-use Rattle.std.proofs.Common.{◌≡◌, ℕ, ◌<◌, Bool, true, false, cond, List, [], ◌∷◌, length, Option, Some, None, refl, sym, ◌∙◌, ap, subst, arith}
+use Rattle.std.proofs.Common.{◌≡◌, ℕ, suc, ◌<◌, Bool, true, false, cond, List, [], ◌∷◌, length, Option, Some, None, refl, sym, ◌∙◌, ap, subst, arith}
 use Rattle.std.specs.Prelude.{IsTrue, ◌||◌, is_some, slice_index_or, unwrap_or}
 use Rattle.std.specs.List.{list_all}
 use Rattle.std.proofs.lemmas.List.FromFn.{get_or-map-range_with_len, length-map-range_with_len}
 use Rattle.vr_model.specs.tables.Numbers.{below}
 use Rattle.vr_model.specs.routes.Routes.{route, is_empty, vehicles}
-use Rattle.vr_model.specs.schedules.Lines.{Line, line}
+use Rattle.vr_model.specs.schedules.Lines.{line}
 use Rattle.vr_model.specs.schedules.Schedules.{Plan, IsSchedule}
 use Rattle.vr_model.specs.schedules.Choices.{chosen, is_feasible}
 use Rattle.vr_model.specs.routes.Rules.{is_route_open, fits_group, is_open}
@@ -14,24 +14,35 @@ use Rattle.vr_model.specs.routes.AssignmentLaws.{ChosenPlansAreThere, OpenMeetsI
 use Rattle.vr_model.specs.deciding.Testing.{and_left, list_all_range}
 use Rattle.vr_model.proofs.tables.Tests.{clash}
 use Rattle.vr_model.specs.declared.records.Model.{Model}
-use Rattle.vr_model.proofs.schedules.ChoiceLaws.{chosen_is}
+use Rattle.vr_model.proofs.schedules.ChoiceLaws.{chosen_is, feasible_is}
+use Rattle.vr_model.proofs.schedules.LineArcs.{stops_of_line}
+use Rattle.vr_model.proofs.schedules.UnderRules.{chosen_under_where_feasible, narrowed_keeps_rules}
+use Rattle.vr_model.specs.schedules.Narrowed.{chosen_line}
+use Rattle.vr_model.specs.tables.Tables.{vehicle_at}
+use Rattle.vr_model.specs.declared.records.ScheduleRule.{ScheduleRule}
 
--- the plan of a feasible line is a schedule of it
-schedule_chosen : (line : Line) → IsTrue (is_feasible line) → IsSchedule line (unwrap_or (chosen line) no_plan)
-schedule_chosen line h = go (chosen line) refl h
+-- the plan of a vehicle with a list whose line is feasible is a schedule of the line
+schedule_chosen : (model : Model) (d v : ℕ) (list : List ℕ) → IsTrue (is_feasible (line model d v list)) → IsSchedule (line model d v list) (unwrap_or (chosen (chosen_line model d v list)) no_plan)
+schedule_chosen model d v list h = go (chosen (chosen_line model d v list)) refl ((chosen_under_where_feasible rule (line model d v list) stops).1 (feasible_is (line model d v list) h))
   where
-    go : (o : Option Plan) → chosen line ≡ o → IsTrue (is_some o) → IsSchedule line (unwrap_or o no_plan)
-    go (Some plan) e h = (chosen_is line plan e).schedule
-    go None e h = absurd (clash false h refl)
+    rule : ScheduleRule
+    rule = (vehicle_at model v).schedule
+
+    stops : length (line model d v list).allowed ≡ suc (length (line model d v list).arcs)
+    stops = stops_of_line model d v list
+
+    go : (o : Option Plan) → chosen (chosen_line model d v list) ≡ o → IsTrue (is_some o) → IsSchedule (line model d v list) (unwrap_or o no_plan)
+    go (Some plan) e t = narrowed_keeps_rules (vehicle_at model v).schedule (line model d v list) stops plan (chosen_is (chosen_line model d v list) plan e).schedule
+    go None e t = absurd (clash false t refl)
 
 module _ (model : Model) where
   length_chosen : (v : ℕ) (list : List ℕ) → length (chosen_plans model v list) ≡ cond (is_empty list) 0 (length model.dimensions)
   length_chosen v [] = refl
-  length_chosen v (x ∷ xs) = length-map-range_with_len (λ d. unwrap_or (chosen (line model d v (x ∷ xs))) no_plan) 0 (length model.dimensions)
+  length_chosen v (x ∷ xs) = length-map-range_with_len (λ d. unwrap_or (chosen (chosen_line model d v (x ∷ xs))) no_plan) 0 (length model.dimensions)
 
-  plan_chosen : (d v : ℕ) (list : List ℕ) → d < length model.dimensions → is_empty list ≡ false → slice_index_or (chosen_plans model v list) d no_plan ≡ unwrap_or (chosen (line model d v list)) no_plan
+  plan_chosen : (d v : ℕ) (list : List ℕ) → d < length model.dimensions → is_empty list ≡ false → slice_index_or (chosen_plans model v list) d no_plan ≡ unwrap_or (chosen (chosen_line model d v list)) no_plan
   plan_chosen d v [] low some = absurd (clash true refl some)
-  plan_chosen d v (x ∷ xs) low some = get_or-map-range_with_len (λ d. unwrap_or (chosen (line model d v (x ∷ xs))) no_plan) 0 (length model.dimensions) d d no_plan low (omega arith)
+  plan_chosen d v (x ∷ xs) low some = get_or-map-range_with_len (λ d. unwrap_or (chosen (chosen_line model d v (x ∷ xs))) no_plan) 0 (length model.dimensions) d d no_plan low (omega arith)
 
   module _ (lists : List (List ℕ)) where
     plans_of : (v : ℕ) → v < length lists → slice_index_or (assigned model lists).plans v [] ≡ chosen_plans model v (route lists v)
@@ -58,4 +69,4 @@ pub open_meets_its_lines : OpenMeetsItsLines
 open_meets_its_lines model lists h d v low known some =
     subst (IsSchedule (line model d v (route lists v)))
     (sym (ap (λ plans. slice_index_or plans d no_plan) (plans_of model lists v known) ∙ plan_chosen model d v (route lists v) low some))
-    (schedule_chosen (line model d v (route lists v)) (feasible_there model lists h d v low known some))
+    (schedule_chosen model d v (route lists v) (feasible_there model lists h d v low known some))

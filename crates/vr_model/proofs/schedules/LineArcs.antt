@@ -1,9 +1,10 @@
 -- The arcs of the line of a list.
 use Rattle.std.proofs.Common.{◌≡◌, ℕ, zero, suc, ◌<◌, List, [], ◌∷◌, ◌++◌, length, map, get_or, refl, ap, arith}
 use Rattle.std.proofs.lemmas.List.{length-map, length-append}
-use Rattle.vr_model.specs.tables.Tables.{vehicle_at}
+use Rattle.vr_model.specs.tables.Numbers.{number_at}
+use Rattle.vr_model.specs.tables.Tables.{dimension_at, row_of, vehicle_at}
 use Rattle.vr_model.specs.routes.Routes.{UsedArc, arcs_from}
-use Rattle.vr_model.specs.schedules.Lines.{line, line_arc}
+use Rattle.vr_model.specs.schedules.Lines.{line, line_arc, stop_allows}
 use Rattle.vr_model.specs.declared.records.Model.{Model}
 
 -- arc k through some nodes leads from the node at place k to the next one
@@ -26,3 +27,13 @@ arcs_of_line model d v list =
     let through = length_arcs v (vehicle_at model v).start nodes in
     let behind = length-append list ((vehicle_at model v).end ∷ []) in
     omega (arith, mapped, through, behind)
+
+-- and one stop more than arcs
+pub stops_of_line : (model : Model) (d v : ℕ) (list : List ℕ) → length (line model d v list).allowed ≡ suc (length (line model d v list).arcs)
+stops_of_line model d v list =
+    let dimension = dimension_at model d in
+    let capacity = number_at dimension.capacities v in
+    let mapped = length-map list (λ node. stop_allows capacity (row_of dimension.nodes node)) in
+    let behind = length-append (map (λ node. stop_allows capacity (row_of dimension.nodes node)) list) (stop_allows capacity (row_of dimension.ends v) ∷ []) in
+    let arcs = arcs_of_line model d v list in
+    omega (arith, mapped, behind, arcs)

@@ -11,7 +11,8 @@ use Rattle.vr_model.specs.declared.records.Model.{Model}
 use Rattle.vr_model.specs.declared.records.Evaluator.{Evaluator}
 use Rattle.vr_model.specs.tables.Tables.{no_matrix, no_vehicle, no_dimension, no_evaluator, matrix_at, entry, vehicle_at, dimension_at, evaluator_number, evaluator_of, matrix_part, arc_cost, transit}
 use Rattle.vr_model.specs.tables.ModelRules.{is_negative, greatest_entry, is_large}
-use Rattle.vr_model.specs.tables.WellFormed.{IsIn, IsEvaluator, IsDimension, IsWellFormed, WherePresent, least_value, greatest_cost, greatest_value}
+use Rattle.vr_model.specs.tables.Limits.{least_value, greatest_cost, greatest_value}
+use Rattle.vr_model.specs.tables.WellFormed.{IsIn, IsEvaluator, IsDimension, IsWellFormed, WherePresent}
 
 -- the least and the greatest transit
 abbrev pub least_transit : ℤ

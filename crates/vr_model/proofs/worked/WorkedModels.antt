@@ -12,13 +12,14 @@ use Rattle.vr_model.specs.declared.records.Policy.{Policy}
 use Rattle.vr_model.specs.declared.records.Policy.TheVariants.{Any}
 use Rattle.vr_model.specs.declared.records.First.{First}
 use Rattle.vr_model.specs.declared.records.First.TheVariants.{PathCheapestArc}
+use Rattle.vr_model.specs.declared.records.ScheduleRule.TheVariants.{Earliest}
 use Rattle.vr_model.specs.declared.records.Improve.TheVariants.{GreedyDescent}
 use Rattle.vr_model.specs.declared.search.Limit.{Limit}
 use Rattle.vr_model.specs.declared.search.Lambda.{Lambda}
 
 -- what a model asks of the search that names nothing
 abbrev pub default_search : SearchRow
-default_search = record { first = PathCheapestArc; improve = GreedyDescent; tries = 100000; solutions = 1000000000; p = pos 1; q = pos 10; neighbourhoods = all_neighbourhoods }
+default_search = record { first = PathCheapestArc; improve = GreedyDescent; tries = 100000; solutions = 1000000000; p = pos 1; q = pos 10; neighbourhoods = all_neighbourhoods; cut = 10; tenure = 10 }
 
 abbrev pub default_limit : Limit
 default_limit = record { tries = 100000; solutions = 1000000000 }
@@ -28,7 +29,7 @@ default_lambda = record { p = pos 1; q = pos 10 }
 
 -- a vehicle from node 0 to node 0
 abbrev pub car : Vehicle
-car = record { start = 0; «end» = 0; costs = 0; fixed = pos 0; policy = Any }
+car = record { start = 0; «end» = 0; costs = 0; fixed = pos 0; policy = Any; schedule = Earliest }
 
 -- a model of one matrix, some vehicles and dimensions
 abbrev pub model_of : ℕ → List ℤ → List Vehicle → List Dimension → Model

@@ -7,7 +7,8 @@ use Rattle.std.proofs.lemmas.List.Sums.{AllPass-from_list_all}
 use Rattle.vr_model.specs.tables.Numbers.{within, horizon}
 use Rattle.vr_model.specs.tables.Tables.{dimension_at}
 use Rattle.vr_model.specs.tables.ModelRules.{has_negative_cost, has_large_entry, goes_back}
-use Rattle.vr_model.specs.tables.WellFormed.{least_value, greatest_cost, greatest_value, greatest_coefficient, IsIn, IsMatrix, IsVehicle, IsEvaluator, IsBreak, AreBreaks, IsDimension, IsSearch, IsWellFormed}
+use Rattle.vr_model.specs.tables.Limits.{least_value, greatest_cost, greatest_value, greatest_coefficient}
+use Rattle.vr_model.specs.tables.WellFormed.{IsIn, IsMatrix, IsVehicle, IsEvaluator, IsBreak, AreBreaks, IsDimension, IsSearch, IsWellFormed}
 use Rattle.vr_model.specs.deciding.Testing.{within_is}
 use Rattle.vr_model.proofs.worked.WorkedModels.{default_search, car, rest_row, three_entries, three, rests_entries, rests_time, rests}
 
@@ -33,6 +34,8 @@ default_is_search = record {
   solutions_in_range = (omega arith, omega arith);
   p_in_range = one_in_range _ _ _ refl;
   q_in_range = one_in_range _ _ _ refl;
+  cut_in_range = (omega arith, omega arith);
+  tenure_in_range = (omega arith, omega arith);
   number_of_neighbourhoods = omega arith;
   no_neighbourhood_twice = refl;
 }

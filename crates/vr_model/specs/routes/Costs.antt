@@ -6,7 +6,8 @@ use Rattle.std.specs.Int.{int_max, int_min}
 use Rattle.vr_model.specs.tables.Numbers.{number_at, total, total_by, below}
 use Rattle.vr_model.specs.tables.Tables.{vehicle_at, dimension_at}
 use Rattle.vr_model.specs.routes.Routes.{route, route_cost, vehicles, used_vehicles}
-use Rattle.vr_model.specs.schedules.Lines.{line, stop_rows}
+use Rattle.vr_model.specs.schedules.Lines.{stop_rows}
+use Rattle.vr_model.specs.schedules.Narrowed.{chosen_line}
 use Rattle.vr_model.specs.schedules.Schedules.{Plan, cumul}
 use Rattle.vr_model.specs.schedules.Choices.{chosen}
 use Rattle.vr_model.specs.routes.Rules.{active_in}
@@ -122,7 +123,7 @@ sum_of parts = total (parts.arcs ∷ parts.fixed ∷ parts.global ∷ parts.pena
 abbrev pub chosen_plans : Model → ℕ → List ℕ → List Plan
 chosen_plans model v [] = []
 chosen_plans model v (x ∷ xs) =
-    map (λ d. unwrap_or (chosen (line model d v (x ∷ xs))) no_plan) (below (length model.dimensions))
+    map (λ d. unwrap_or (chosen (chosen_line model d v (x ∷ xs))) no_plan) (below (length model.dimensions))
 
 -- the assignment of lists at their chosen schedules
 abbrev pub assigned : Model → List (List ℕ) → Assignment

@@ -6,7 +6,7 @@ use Rattle.vr_model.specs.tables.Numbers.{below, number_at, is_same_number, are_
 use Rattle.vr_model.specs.tables.Tables.{matrix_at, vehicle_at, dimension_at, transit, evaluator_number, no_evaluator}
 use Rattle.vr_model.specs.tables.Tables.{row_of, breaks_of}
 use Rattle.vr_model.specs.routes.Routes.{is_empty}
-use Rattle.vr_model.specs.declared.limits.TheConstants.{GREATEST_VALUE}
+use Rattle.vr_model.specs.tables.Limits.{greatest_value}
 use Rattle.vr_model.specs.declared.records.Model.{Model}
 use Rattle.vr_model.specs.declared.records.Dimension.{Dimension}
 use Rattle.vr_model.specs.declared.records.Evaluator.{Evaluator}
@@ -16,6 +16,8 @@ use Rattle.vr_model.specs.declared.records.Soft.{Soft}
 use Rattle.vr_model.specs.declared.records.BreakRow.{BreakRow}
 use Rattle.vr_model.specs.declared.records.Policy.{Policy}
 use Rattle.vr_model.specs.declared.records.Policy.TheVariants.{Any, Lifo, Fifo}
+use Rattle.vr_model.specs.declared.records.ScheduleRule.{ScheduleRule}
+use Rattle.vr_model.specs.declared.records.ScheduleRule.TheVariants.{Earliest, Tight}
 use Rattle.vr_model.specs.declared.records.First.{First}
 use Rattle.vr_model.specs.declared.records.First.TheVariants.{PathCheapestArc, ParallelCheapestInsertion, Savings}
 
@@ -31,7 +33,7 @@ has_negative_cost model v = list_any is_negative (matrix_at model (vehicle_at mo
 
 -- the greatest entry of a matrix that a dimension uses, 2 ^ 30
 abbrev pub greatest_entry : ℤ
-greatest_entry = GREATEST_VALUE
+greatest_entry = greatest_value
 
 -- evaluator k of a dimension
 abbrev pub evaluator_at : Dimension → ℕ → Evaluator
@@ -84,6 +86,11 @@ is_same_policy Lifo Lifo = true
 is_same_policy Fifo Fifo = true
 is_same_policy policy other = false
 
+abbrev pub is_same_schedule_rule : ScheduleRule → ScheduleRule → Bool
+is_same_schedule_rule Earliest Earliest = true
+is_same_schedule_rule Tight Tight = true
+is_same_schedule_rule rule other = false
+
 abbrev pub is_same_interval : Interval → Interval → Bool
 is_same_interval interval other = is_same_number interval.lo other.lo && is_same_number interval.hi other.hi
 
@@ -110,8 +117,8 @@ are_alike_in dimension v w = is_same_number (number_at dimension.capacities v) (
     && (is_same_option is_same_row (row_of dimension.ends v) (row_of dimension.ends w)
     && are_same_by is_same_break (breaks_of dimension v) (breaks_of dimension w)))))
 
--- vehicles v and w are alike: the same start, end, cost matrix number, fixed cost and policy, and alike in each
--- dimension
+-- vehicles v and w are alike: the same start, end, cost matrix number, fixed cost, policy and rule of schedules, and
+-- alike in each dimension
 abbrev pub are_alike : Model → ℕ → ℕ → Bool
 are_alike model v w = let one = vehicle_at model v in let other = vehicle_at model w in
     (one.start == other.start)
@@ -119,7 +126,8 @@ are_alike model v w = let one = vehicle_at model v in let other = vehicle_at mod
     && ((one.costs == other.costs)
     && (is_same_number one.fixed other.fixed
     && (is_same_policy one.policy other.policy
-    && list_all (λ dimension. are_alike_in dimension v w) model.dimensions))))
+    && (is_same_schedule_rule one.schedule other.schedule
+    && list_all (λ dimension. are_alike_in dimension v w) model.dimensions)))))
 
 -- some two vehicles are not alike
 abbrev pub vehicles_differ : Model → Bool

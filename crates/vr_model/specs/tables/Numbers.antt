@@ -2,11 +2,10 @@
 use Rattle.std.specs.Prelude.{ℕ, ◌-◌, Bool, true, false, ◌&&◌, ◌||◌, List, [], ◌∷◌, ℤ, pos, ◌+ℤ◌, int_lt, int_le}
 use Rattle.std.specs.Prelude.{slice_index_or, flat_map}
 use Rattle.std.specs.List.{range_with_len}
-use Rattle.vr_model.specs.declared.limits.TheConstants.{HORIZON}
 
 -- the greatest cumul, 2 ^ 36
 abbrev pub horizon : ℤ
-horizon = HORIZON
+horizon = pos 68719476736
 
 -- the sum of a list of numbers
 abbrev pub total : List ℤ → ℤ

@@ -4,6 +4,7 @@ use Rattle.std.specs.Prelude.{ℕ, ◌+◌, ◌*◌, Bool, false, ◌&&◌, ◌|
 use Rattle.std.specs.Prelude.{Some, None, find, filter, slice_index_or, option_map, unwrap_or}
 use Rattle.std.specs.List.{list_any}
 use Rattle.vr_model.specs.tables.Numbers.{number_at, below}
+use Rattle.vr_model.specs.declared.records.ScheduleRule.TheVariants.{Earliest}
 use Rattle.vr_model.specs.declared.records.Model.{Model}
 use Rattle.vr_model.specs.declared.records.Matrix.{Matrix}
 use Rattle.vr_model.specs.declared.records.Vehicle.{Vehicle}
@@ -26,7 +27,7 @@ abbrev pub entry : Model → ℕ → ℕ → ℕ → ℤ
 entry model m i j = number_at (matrix_at model m).entries (i * model.nodes + j)
 
 abbrev pub no_vehicle : Vehicle
-no_vehicle = record { start = 0; «end» = 0; costs = 0; fixed = pos 0; policy = Any }
+no_vehicle = record { start = 0; «end» = 0; costs = 0; fixed = pos 0; policy = Any; schedule = Earliest }
 
 -- the vehicle of a number
 abbrev pub vehicle_at : Model → ℕ → Vehicle

@@ -4,14 +4,13 @@ use Rattle.std.specs.Prelude.{◌≡◌, ℕ, ◌*◌, ◌<◌, ◌≤◌, ◌�
 use Rattle.std.specs.Prelude.{length, ℤ, pos, ◌≤ℤ◌, Option, Some, None}
 use Rattle.std.specs.List.{All, list_any}
 use Rattle.vr_model.specs.tables.Numbers.{horizon, each}
+use Rattle.vr_model.specs.tables.Limits.{greatest_cost, least_value, greatest_value, greatest_coefficient}
+use Rattle.vr_model.specs.tables.Limits.{greatest_lambda, most_nodes, most_vehicles, most_matrices, most_dimensions}
+use Rattle.vr_model.specs.tables.Limits.{most_evaluators, most_breaks, most_forbidden, most_groups, most_pairs}
+use Rattle.vr_model.specs.tables.Limits.{most_name_bytes, most_tries, most_neighbourhoods, most_cut, most_tenure}
 use Rattle.vr_model.specs.tables.Tables.{dimension_at, is_visit}
 use Rattle.vr_model.specs.routes.Routes.{is_same, is_distinct}
 use Rattle.vr_model.specs.tables.ModelRules.{has_negative_cost, has_large_entry, goes_back, cannot_save}
-use Rattle.vr_model.specs.declared.limits.TheConstants.{GREATEST_COST, LEAST_VALUE, GREATEST_VALUE}
-use Rattle.vr_model.specs.declared.limits.TheConstants.{GREATEST_COEFFICIENT, GREATEST_LAMBDA, MOST_TRIES, MOST_NODES}
-use Rattle.vr_model.specs.declared.limits.TheConstants.{MOST_VEHICLES, MOST_MATRICES, MOST_DIMENSIONS, MOST_EVALUATORS}
-use Rattle.vr_model.specs.declared.limits.TheConstants.{MOST_BREAKS, MOST_FORBIDDEN, MOST_GROUPS, MOST_PAIRS}
-use Rattle.vr_model.specs.declared.limits.TheConstants.{MOST_NAME_BYTES, MOST_NEIGHBOURHOODS}
 use Rattle.vr_model.specs.declared.records.Model.{Model}
 use Rattle.vr_model.specs.declared.records.Matrix.{Matrix}
 use Rattle.vr_model.specs.declared.records.Vehicle.{Vehicle}
@@ -43,22 +42,6 @@ pub record IsIn (lo hi : ℤ) (x : ℤ) : Type 0 where
 abbrev pub WherePresent : {A : Type 0} → (A → Type 0) → Option A → Type 0
 WherePresent P None = Unit {0}
 WherePresent P (Some x) = P x
-
--- the greatest entry of a matrix, fixed cost and penalty, 2 ^ 40
-abbrev pub greatest_cost : ℤ
-greatest_cost = GREATEST_COST
-
--- the least entry of a matrix and value of a node, -(2 ^ 30)
-abbrev pub least_value : ℤ
-least_value = LEAST_VALUE
-
--- the greatest value and visit time of a node, 2 ^ 30
-abbrev pub greatest_value : ℤ
-greatest_value = GREATEST_VALUE
-
--- the greatest coefficient
-abbrev pub greatest_coefficient : ℤ
-greatest_coefficient = GREATEST_COEFFICIENT
 
 -- a matrix of n rows of n entries each
 pub record IsMatrix (n : ℕ) (matrix : Matrix) : Type 0 where
@@ -92,7 +75,7 @@ pub record IsSoft (soft : Soft) : Type 0 where
 -- a row of a stop, but for its key
 pub record IsStopRow (row : StopRow) : Type 0 where
   pub window_is_interval : WherePresent IsInterval row.window
-  pub number_of_forbidden : length row.forbidden ≤ MOST_FORBIDDEN
+  pub number_of_forbidden : length row.forbidden ≤ most_forbidden
   pub each_forbidden_is_interval : All IsInterval row.forbidden
   pub soft_in_range : WherePresent IsSoft row.soft
 
@@ -105,27 +88,27 @@ pub record IsBreak (row : BreakRow) : Type 0 where
 
 -- the breaks of a vehicle
 pub record AreBreaks (entry : VehicleBreaks) : Type 0 where
-  pub number_of_rows : HasLength 1 MOST_BREAKS entry.rows
+  pub number_of_rows : HasLength 1 most_breaks entry.rows
   pub each_row : All IsBreak entry.rows
 
 -- rows of visits: each key a visit, no key twice
 pub record AreVisitRows (model : Model) (rows : List StopRow) : Type 0 where
-  pub number_of_rows : length rows ≤ MOST_NODES
+  pub number_of_rows : length rows ≤ most_nodes
   pub each_key_is_visit : All (λ row. IsTrue (is_visit model row.key)) rows
   pub no_key_twice : IsTrue (is_distinct (map (λ row. row.key) rows))
   pub each_row : All IsStopRow rows
 
 -- rows of starts or of ends: each key a vehicle, no key twice
 pub record AreVehicleRows (model : Model) (rows : List StopRow) : Type 0 where
-  pub number_of_rows : length rows ≤ MOST_VEHICLES
+  pub number_of_rows : length rows ≤ most_vehicles
   pub each_key_is_vehicle : All (λ row. row.key < length model.vehicles) rows
   pub no_key_twice : IsTrue (is_distinct (map (λ row. row.key) rows))
   pub each_row : All IsStopRow rows
 
 -- a dimension of a model; the lists by vehicle and by node are full, also where the model file leaves them out
 pub record IsDimension (model : Model) (dimension : Dimension) : Type 0 where
-  pub length_of_name : HasLength 1 MOST_NAME_BYTES dimension.name
-  pub number_of_evaluators : HasLength 1 MOST_EVALUATORS dimension.evaluators
+  pub length_of_name : HasLength 1 most_name_bytes dimension.name
+  pub number_of_evaluators : HasLength 1 most_evaluators dimension.evaluators
   pub each_evaluator : All (IsEvaluator model) dimension.evaluators
   pub evaluator_of_each_vehicle : length dimension.vehicle_evaluators ≡ length model.vehicles
   pub vehicle_evaluators_in_range : All (λ k. k < length dimension.evaluators) dimension.vehicle_evaluators
@@ -137,7 +120,7 @@ pub record IsDimension (model : Model) (dimension : Dimension) : Type 0 where
   pub rows_of_visits : AreVisitRows model dimension.nodes
   pub rows_of_starts : AreVehicleRows model dimension.starts
   pub rows_of_ends : AreVehicleRows model dimension.ends
-  pub number_of_breaks : length dimension.breaks ≤ MOST_VEHICLES
+  pub number_of_breaks : length dimension.breaks ≤ most_vehicles
   pub each_break_of_vehicle : All (λ entry. entry.vehicle < length model.vehicles) dimension.breaks
   pub breaks_of_no_vehicle_twice : IsTrue (is_distinct (map (λ entry. entry.vehicle) dimension.breaks))
   pub each_breaks : All AreBreaks dimension.breaks
@@ -147,7 +130,7 @@ pub record IsDimension (model : Model) (dimension : Dimension) : Type 0 where
 
 -- a group of visits
 pub record IsGroup (model : Model) (group : Group) : Type 0 where
-  pub number_of_nodes : HasLength 1 MOST_NODES group.nodes
+  pub number_of_nodes : HasLength 1 most_nodes group.nodes
   pub each_node_is_visit : All (λ node. IsTrue (is_visit model node)) group.nodes
   pub penalty_in_range : WherePresent (IsIn (pos 0) greatest_cost) group.penalty
   pub max_in_range : (1 ≤ group.max) × (group.max ≤ length group.nodes)
@@ -180,12 +163,14 @@ number_of all.SwapActive = 10
 
 -- what a search may be told
 pub record IsSearch (search : SearchRow) : Type 0 where
-  pub tries_in_range : search.tries ≤ MOST_TRIES
-  pub solutions_in_range : (1 ≤ search.solutions) × (search.solutions ≤ MOST_TRIES)
-  pub p_in_range : IsIn (pos 1) GREATEST_LAMBDA search.p
-  pub q_in_range : IsIn (pos 1) GREATEST_LAMBDA search.q
-  pub number_of_neighbourhoods : length search.neighbourhoods ≤ MOST_NEIGHBOURHOODS
+  pub tries_in_range : search.tries ≤ most_tries
+  pub solutions_in_range : (1 ≤ search.solutions) × (search.solutions ≤ most_tries)
+  pub p_in_range : IsIn (pos 1) greatest_lambda search.p
+  pub q_in_range : IsIn (pos 1) greatest_lambda search.q
+  pub number_of_neighbourhoods : length search.neighbourhoods ≤ most_neighbourhoods
   pub no_neighbourhood_twice : IsTrue (is_distinct (map number_of search.neighbourhoods))
+  pub cut_in_range : (1 ≤ search.cut) × (search.cut ≤ most_cut)
+  pub tenure_in_range : (1 ≤ search.tenure) × (search.tenure ≤ most_tenure)
 
 -- the nodes of a pair
 abbrev pub nodes_of : Pair → List ℕ
@@ -198,21 +183,21 @@ are_distinct_names (name ∷ names) = not (list_any (is_same name) names) && are
 
 -- a well-formed model
 pub record IsWellFormed (model : Model) : Type 0 where
-  pub number_of_nodes : (1 ≤ model.nodes) × (model.nodes ≤ MOST_NODES)
-  pub number_of_matrices : HasLength 1 MOST_MATRICES model.matrices
+  pub number_of_nodes : (1 ≤ model.nodes) × (model.nodes ≤ most_nodes)
+  pub number_of_matrices : HasLength 1 most_matrices model.matrices
   pub each_matrix : All (IsMatrix model.nodes) model.matrices
-  pub number_of_vehicles : HasLength 1 MOST_VEHICLES model.vehicles
+  pub number_of_vehicles : HasLength 1 most_vehicles model.vehicles
   pub each_vehicle : All (IsVehicle model) model.vehicles
-  pub number_of_dimensions : length model.dimensions ≤ MOST_DIMENSIONS
+  pub number_of_dimensions : length model.dimensions ≤ most_dimensions
   pub each_dimension : All (IsDimension model) model.dimensions
   pub no_name_twice : IsTrue (are_distinct_names (map (λ dimension. dimension.name) model.dimensions))
-  pub number_of_groups : length model.groups ≤ MOST_GROUPS
+  pub number_of_groups : length model.groups ≤ most_groups
   pub each_group : All (IsGroup model) model.groups
   pub no_node_in_groups_twice : IsTrue (is_distinct (each model.groups (λ group. group.nodes)))
-  pub number_of_pairs : length model.pairs ≤ MOST_PAIRS
+  pub number_of_pairs : length model.pairs ≤ most_pairs
   pub each_pair : All (IsPair model) model.pairs
   pub no_node_in_pairs_twice : IsTrue (is_distinct (each model.pairs nodes_of))
-  pub number_of_allowed : length model.allowed ≤ MOST_NODES
+  pub number_of_allowed : length model.allowed ≤ most_nodes
   pub each_allowed : All (IsAllowed model) model.allowed
   pub no_node_allowed_twice : IsTrue (is_distinct (map (λ row. row.node) model.allowed))
   pub search_in_range : IsSearch model.search

@@ -3,7 +3,8 @@ use Rattle.std.specs.Prelude.{pos}
 use Rattle.std.proofs.lemmas.Int.{ints}
 use Rattle.vr_model.specs.tables.Numbers.{number_at}
 use Rattle.vr_model.specs.tables.Tables.{no_matrix}
-use Rattle.vr_model.specs.tables.WellFormed.{IsIn, IsMatrix, WherePresent, least_value, greatest_cost}
+use Rattle.vr_model.specs.tables.Limits.{least_value, greatest_cost}
+use Rattle.vr_model.specs.tables.WellFormed.{IsIn, IsMatrix, WherePresent}
 use Rattle.vr_model.specs.declared.records.Matrix.{Matrix}
 use Rattle.vr_model.proofs.tables.Bounds.{place_low}
 use Rattle.vr_model.proofs.records.Model.matrix_part.Goals as goal
