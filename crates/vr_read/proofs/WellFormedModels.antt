@@ -107,11 +107,11 @@ record IsBase (read : ModelBase) : Type 0 where
 base_ensures : EachEnsures IsBase base
 unfolding base
 base_ensures path d =
-    after any_value λ format _.
+    after any_value λ version _.
     after (required_ensures (codes "nodes") (count_ensures 1 1000) path d) λ nodes nodes_ok.
     after (required_ensures (codes "matrices") (array_ensures 1 16 (λ so_far. matrix_ensures nodes)) path d) λ matrices matrices_ok.
     after (required_ensures (codes "vehicles") (array_ensures 1 100 (λ so_far path d.
-    for_every (λ (other : Model). vehicle_ensures (over nodes matrices other.vehicles other) matrices_ok.0.at_least path d))) path d) λ vehicles vehicles_ok.
+    for_every (λ (other : Model). vehicle_ensures version (over nodes matrices other.vehicles other) matrices_ok.0.at_least path d))) path d) λ vehicles vehicles_ok.
     gives (record {
       number_of_nodes = nodes_ok;
       matrices = matrices_ok;

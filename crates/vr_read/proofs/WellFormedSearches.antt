@@ -35,6 +35,8 @@ default_in_range = record {
   q_in_range = weight_in_range 10 (omega arith) (omega arith);
   number_of_neighbourhoods = omega arith;
   no_neighbourhood_twice = refl;
+  cut_in_range = (omega arith, omega arith);
+  tenure_in_range = (omega arith, omega arith);
 }
 
 -- the limits that are read
@@ -66,4 +68,6 @@ search_ensures path d =
       q_in_range = lambda_ok.1;
       number_of_neighbourhoods = chosen_ok.at_most_all;
       no_neighbourhood_twice = chosen_ok.no_neighbourhood_twice;
+      cut_in_range = (omega arith, omega arith);
+      tenure_in_range = (omega arith, omega arith);
     })

@@ -9,6 +9,7 @@ use Rattle.vr_model.specs.tables.Tables.{is_visit}
 use Rattle.vr_model.specs.tables.Limits.{least_value, greatest_cost}
 use Rattle.vr_model.specs.tables.WellFormed.{IsMatrix, IsVehicle}
 use Rattle.vr_model.specs.declared.records.Model.{Model}
+use Rattle.vr_read.specs.declared.formats.Format.{Format}
 use Rattle.vr_read.specs.Vehicles.{matrix, ends, vehicle, is_terminal, visit}
 use Rattle.vr_json.proofs.Readings.{EachEnsures, IsFull, gives, after, any_value, whole_ensures, below_ensures, required_ensures, optional_ensures, refuse_if_ensures, full_array_ensures}
 
@@ -38,13 +39,14 @@ ends_ensure n path d =
     after (required_ensures (codes "end") (below_ensures n) path d) λ final final_ok.
     gives (start_ok, final_ok)
 
-pub vehicle_ensures : (model : Model) → 1 ≤ length model.matrices → EachEnsures (IsVehicle model) (vehicle model.nodes (length model.matrices))
+pub vehicle_ensures : (version : Format) (model : Model) → 1 ≤ length model.matrices → EachEnsures (IsVehicle model) (vehicle version model.nodes (length model.matrices))
 unfolding vehicle
-vehicle_ensures model some path d =
+vehicle_ensures version model some path d =
     after (ends_ensure model.nodes path d) λ terminals terminals_ok.
     after (optional_ensures (codes "costs") 0 some (below_ensures (length model.matrices)) path d) λ costs costs_ok.
     after (optional_ensures (codes "fixed") (pos 0) (record { at_least = omega (arith, ints); at_most = omega (arith, ints) }) (whole_ensures (pos 0) greatest_cost) path d) λ fixed fixed_ok.
     after any_value λ policy _.
+    after any_value λ rule _.
     after any_value λ others _.
     gives (record { start_in_range = terminals_ok.0; end_in_range = terminals_ok.1; costs_in_range = costs_ok; fixed_in_range = fixed_ok })
 

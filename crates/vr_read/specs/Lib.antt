@@ -1,3 +1,4 @@
+pub mod Formats
 pub mod Vehicles
 pub mod StopRows
 pub mod Dimensions

@@ -1,12 +1,13 @@
 -- The reading of a model: its table, and then the rules on the whole model.
-use Rattle.std.specs.Prelude.{ℕ, List, [], ◌∷◌, length, pos, codes, Ok}
+use Rattle.std.specs.Prelude.{ℕ, List, [], ◌∷◌, length, codes, Ok}
 use Rattle.vr_json.specs.Reading.{◌>>=◌, ReaderOf, required, optional, known, array}
-use Rattle.vr_json.specs.Kinds.{whole, count}
+use Rattle.vr_json.specs.Kinds.{count}
 use Rattle.vr_model.specs.declared.records.Model.{Model}
 use Rattle.vr_model.specs.declared.records.Vehicle.{Vehicle}
 use Rattle.vr_read.specs.declared.model.ModelBase.{ModelBase}
 use Rattle.vr_read.specs.declared.model.ModelParts.{ModelParts}
 use Rattle.vr_read.specs.declared.model.VisitTables.{VisitTables}
+use Rattle.vr_read.specs.Formats.{format}
 use Rattle.vr_read.specs.Vehicles.{matrix, vehicle}
 use Rattle.vr_read.specs.Dimensions.{dimension}
 use Rattle.vr_read.specs.Visits.{group, pair, allowed}
@@ -33,10 +34,10 @@ parts n matrices fleet vehicles path d = do
 -- the fields of a model up to its vehicles
 unfoldable pub base : ReaderOf ModelBase
 base path d = do
-  format ← required (codes "format") (whole (pos 1) (pos 1)) path d
+  version ← required (codes "format") format path d
   nodes ← required (codes "nodes") (count 1 1000) path d
   matrices ← required (codes "matrices") (array 1 16 (λ so_far. matrix nodes)) path d
-  vehicles ← required (codes "vehicles") (array 1 100 (λ so_far. vehicle nodes (length matrices))) path d
+  vehicles ← required (codes "vehicles") (array 1 100 (λ so_far. vehicle version nodes (length matrices))) path d
   Ok (record { nodes = nodes; matrices = matrices; vehicles = vehicles })
 
 -- the fields of a model

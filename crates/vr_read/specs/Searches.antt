@@ -54,6 +54,8 @@ default_search = record {
   p = pos 1;
   q = pos 10;
   neighbourhoods = all_neighbourhoods;
+  cut = 10;
+  tenure = 10;
 }
 
 -- how a search begins and goes on, and how far it may go
@@ -71,7 +73,7 @@ search_fields =
     codes "first" ∷ codes "improve" ∷ codes "tries" ∷ codes "solutions" ∷ codes "lambda"
     ∷ codes "neighbourhoods" ∷ []
 
--- the search
+-- the search; cut and tenure are 10
 unfoldable pub search_row : ReaderOf SearchRow
 search_row path d = do
   chosen ← choices path d
@@ -86,4 +88,6 @@ search_row path d = do
     p = lambda.0;
     q = lambda.1;
     neighbourhoods = neighbourhoods;
+    cut = 10;
+    tenure = 10;
   })

@@ -9,6 +9,10 @@ use Rattle.vr_model.specs.declared.records.Matrix.{Matrix}
 use Rattle.vr_model.specs.declared.records.Vehicle.{Vehicle}
 use Rattle.vr_model.specs.declared.records.Policy.{Policy}
 use Rattle.vr_model.specs.declared.records.Policy.TheVariants.{Any, Lifo, Fifo}
+use Rattle.vr_model.specs.declared.records.ScheduleRule.{ScheduleRule}
+use Rattle.vr_model.specs.declared.records.ScheduleRule.TheVariants.{Earliest, Tight}
+use Rattle.vr_read.specs.declared.formats.Format.{Format}
+use Rattle.vr_read.specs.declared.formats.Format.TheVariants.{One, Two}
 
 -- a matrix: an array of n arrays of n whole numbers
 unfoldable pub matrix : ℕ → ReaderOf Matrix
@@ -20,6 +24,10 @@ matrix n path d = do
 abbrev pub policies : List (List ℕ × Policy)
 policies = (codes "any", Any) ∷ (codes "lifo", Lifo) ∷ (codes "fifo", Fifo) ∷ []
 
+-- what the words of `schedule` stand for
+abbrev pub schedule_rules : List (List ℕ × ScheduleRule)
+schedule_rules = (codes "earliest", Earliest) ∷ (codes "tight", Tight) ∷ []
+
 -- where a vehicle starts and ends, in a model of n nodes
 unfoldable pub ends : ℕ → ReaderOf (ℕ × ℕ)
 ends n path d = do
@@ -27,15 +35,33 @@ ends n path d = do
   final ← required (codes "end") (below n) path d
   Ok (start, final)
 
--- a vehicle, in a model of n nodes and so many matrices
-unfoldable pub vehicle : ℕ → ℕ → ReaderOf Vehicle
-vehicle n matrices path d = do
+-- by which rule a vehicle chooses its schedules: format 1 has no such field, and the rule is the earliest
+unfoldable pub schedule : Format → ReaderOf ScheduleRule
+schedule One path d = Ok Earliest
+schedule Two path d = optional (codes "schedule") Earliest (choice schedule_rules) path d
+
+-- the fields of a vehicle
+abbrev pub fields : Format → List (List ℕ)
+fields One = codes "start" ∷ codes "end" ∷ codes "costs" ∷ codes "fixed" ∷ codes "policy" ∷ []
+fields Two = codes "start" ∷ codes "end" ∷ codes "costs" ∷ codes "fixed" ∷ codes "policy" ∷ codes "schedule" ∷ []
+
+-- a vehicle, in a model of a format and of n nodes and so many matrices
+unfoldable pub vehicle : Format → ℕ → ℕ → ReaderOf Vehicle
+vehicle format n matrices path d = do
   terminals ← ends n path d
   costs ← optional (codes "costs") 0 (below matrices) path d
   fixed ← optional (codes "fixed") (pos 0) (whole (pos 0) greatest_cost) path d
   policy ← optional (codes "policy") Any (choice policies) path d
-  others ← known (codes "start" ∷ codes "end" ∷ codes "costs" ∷ codes "fixed" ∷ codes "policy" ∷ []) path d
-  Ok (record { start = terminals.0; «end» = terminals.1; costs = costs; fixed = fixed; policy = policy })
+  rule ← schedule format path d
+  others ← known (fields format) path d
+  Ok (record {
+    start = terminals.0;
+    «end» = terminals.1;
+    costs = costs;
+    fixed = fixed;
+    policy = policy;
+    schedule = rule;
+  })
 
 -- a node is the start or the end of some vehicle
 abbrev pub is_terminal : List Vehicle → ℕ → Bool

@@ -7,7 +7,7 @@ ghost use Rattle.vr_model.specs.tables.Numbers.{are_same_by};
 ghost use Rattle.vr_read.specs.Alike as alike;
 ghost use Rattle.vr_read.specs.ModelParts.{HasModelParts, HasVehicle};
 
-use vr_model::{BreakRow, Dimension, Interval, Model, Policy, Soft, StopRow};
+use vr_model::{BreakRow, Dimension, Interval, Model, Policy, ScheduleRule, Soft, StopRow};
 
 // Values that are the same or not.
 trait Alike {
@@ -111,6 +111,17 @@ fn is_same_policy(one: Policy, other: Policy) -> bool
     }
 }
 
+// Whether two rules of schedules are the same.
+fn is_same_schedule_rule(one: ScheduleRule, other: ScheduleRule) -> bool
+    ensures { result ≡ model_rules.is_same_schedule_rule one other }
+{
+    match (one, other) {
+        (ScheduleRule::Earliest, ScheduleRule::Earliest)
+        | (ScheduleRule::Tight, ScheduleRule::Tight) => true,
+        _ => false,
+    }
+}
+
 // Whether two vehicles are alike in a dimension: the same capacity, evaluator, span coefficient,
 // start row, end row and breaks.
 fn are_alike_in(dimension: &Dimension, v: u32, w: u32) -> bool
@@ -146,8 +157,8 @@ fn are_alike_in_all(dimensions: &[Dimension], v: u32, w: u32) -> bool
     true
 }
 
-// Whether two vehicles are alike: the same start, end, cost matrix, fixed cost and policy, and alike
-// in each dimension.
+// Whether two vehicles are alike: the same start, end, cost matrix, fixed cost, policy and rule of
+// schedules, and alike in each dimension.
 fn are_alike(model: &Model, v: u32, w: u32) -> bool
     requires parts { HasModelParts model.now }
     requires one { v < length model.now.vehicles }
@@ -161,6 +172,7 @@ fn are_alike(model: &Model, v: u32, w: u32) -> bool
         && one.costs == other.costs
         && one.fixed.is_same(&other.fixed)
         && is_same_policy(one.policy, other.policy)
+        && is_same_schedule_rule(one.schedule, other.schedule)
         && are_alike_in_all(model.dimensions.as_slice(), v, w)
 }
 

@@ -1,9 +1,14 @@
-//! The reading of a routing model from its JSON form.
+//! The reading of a routing model from its JSON form, in format 1 or 2.
+//!
+//! Each table is a reader that stands beside its definition in `specs/`, line by line: the order of the lines is the
+//! order of the faults, and the first fault is the answer. What is read is well formed, the one condition of all crates
+//! above (`laws`). `vr_replies` and `vr_samples` call `read_model`; `vr_gen` shows that it accepts what is generated.
 #![tactic(auto)]
 
 mod alike;
 mod backward;
 mod dimensions;
+mod formats;
 mod groups;
 pub mod laws;
 mod matrices;
@@ -14,6 +19,7 @@ mod stop_rows;
 mod vehicles;
 
 pub use dimensions::DimensionTable;
+pub use formats::{Format, FormatNumber};
 pub use groups::{AllowedTable, GroupTable, PairTable};
 pub use model::read_model;
 pub use searches::{NeighbourhoodTable, SearchTable};

@@ -10,11 +10,12 @@ use crate::matrices::MatrixTable;
 use crate::model_rules::keep_rules;
 use crate::searches::default_search;
 use crate::{
-    AllowedTable, DimensionTable, GroupTable, PairTable, SearchTable, VehicleTable, Visit,
+    AllowedTable, DimensionTable, FormatNumber, GroupTable, PairTable, SearchTable, VehicleTable,
+    Visit,
 };
 use serde_json::Value;
 use std::alloc::Global;
-use vr_json::{Array, Count, Path, ReadFail, Whole, known, optional, required};
+use vr_json::{Array, Count, Path, ReadFail, known, optional, required};
 use vr_model::{Allowed, Dimension, Group, Matrix, Model, Pair, SearchRow, Seq, Vehicle};
 
 // The fields of a model up to its vehicles.
@@ -118,9 +119,8 @@ fn read_parts(
 fn read_base(alloc: Global, value: &Value, path: &Path) -> Result<ModelBase, ReadFail>
     ensures { Answers result (models.base path.now (view value.now)) }
 {
+    let format = required(alloc, value, "format", path, &FormatNumber)?;
     let nodes = Count { lo: 1, hi: 1000 };
-    let one = Whole { lo: 1, hi: 1 };
-    let format = required(alloc, value, "format", path, &one)?;
     let nodes = required(alloc, value, "nodes", path, &nodes)?;
     let table = Array {
         lo: 1,
@@ -133,6 +133,7 @@ fn read_base(alloc: Global, value: &Value, path: &Path) -> Result<ModelBase, Rea
         lo: 1,
         hi: 100,
         entry: VehicleTable {
+            format,
             nodes,
             matrices: count,
         },

@@ -54,6 +54,12 @@ const TRIES: u32 = 100_000;
 // say how many.
 const MOST: u32 = 1_000_000_000;
 
+// How many visits a cut takes out of a path at most.
+const CUT: u32 = 10;
+
+// For how many rounds a changed visit is tabu.
+const TENURE: u32 = 10;
+
 /// A neighbourhood, named by a word that stands nowhere earlier in its array.
 #[derive(Clone, Copy)]
 pub struct NeighbourhoodTable;
@@ -101,7 +107,7 @@ impl Reader for NeighbourhoodTable {
 }
 
 /// The search where a model says nothing of it: the cheapest arc first, then greedy descent over all
-/// neighbourhoods with at most 100000 tries.
+/// neighbourhoods with at most 100000 tries; cut and tenure are 10.
 pub(crate) fn default_search(alloc: Global) -> Result<SearchRow, NoMemory>
     ensures { IfOk result (λ row. row ≡ search_tables.default_search) }
 {
@@ -113,6 +119,8 @@ pub(crate) fn default_search(alloc: Global) -> Result<SearchRow, NoMemory>
         p: 1,
         q: 10,
         neighbourhoods: Neighbourhood::all(alloc)?,
+        cut: CUT,
+        tenure: TENURE,
     })
 }
 
@@ -150,7 +158,7 @@ fn choices(alloc: Global, value: &Value, path: &Path) -> Result<SearchChoices, R
 }
 
 /// The search: its strategy for the first solution, its improvement, its limits, the weight of
-/// penalties, and its neighbourhoods.
+/// penalties, and its neighbourhoods; cut and tenure are 10.
 #[derive(Clone, Copy)]
 pub struct SearchTable;
 
@@ -190,6 +198,8 @@ impl Reader for SearchTable {
             p: lambda.0,
             q: lambda.1,
             neighbourhoods,
+            cut: CUT,
+            tenure: TENURE,
         })
     }
 }

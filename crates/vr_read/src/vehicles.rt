@@ -2,9 +2,10 @@
 
 ghost use Rattle.std.specs.Prelude.{◌≡◌};
 ghost use Rattle.serde_json.specs.View.{view};
-ghost use Rattle.vr_json.specs.Reading.{Answers};
+ghost use Rattle.vr_json.specs.Reading.{Answers, known};
 ghost use Rattle.vr_read.specs.Vehicles as vehicle_tables;
 
+use crate::Format;
 use serde_json::Value;
 use std::alloc::Global;
 use vr_json::{
@@ -12,11 +13,12 @@ use vr_json::{
     required,
 };
 use vr_model::limits::GREATEST_COST;
-use vr_model::{Policy, Vehicle};
+use vr_model::{Policy, ScheduleRule, Vehicle};
 
-/// A vehicle, in a model of so many nodes and matrices.
+/// A vehicle, in a model of this format and of so many nodes and matrices.
 #[derive(Clone, Copy)]
 pub struct VehicleTable {
+    pub format: Format,
     pub nodes: u32,
     pub matrices: u32,
 }
@@ -26,6 +28,12 @@ const POLICIES: [(&str, Policy); 3] = [
     ("any", Policy::Any),
     ("lifo", Policy::Lifo),
     ("fifo", Policy::Fifo),
+];
+
+// The words for rules of schedules.
+const SCHEDULE_RULES: [(&str, ScheduleRule); 2] = [
+    ("earliest", ScheduleRule::Earliest),
+    ("tight", ScheduleRule::Tight),
 ];
 
 impl VehicleTable {
@@ -38,6 +46,38 @@ impl VehicleTable {
         let end = required(alloc, value, "end", path, &node)?;
         Ok((start, end))
     }
+
+    // By which rule the vehicle chooses its schedules: the earliest, where the format has no such field.
+    fn schedule(&self, alloc: Global, value: &Value, path: &Path) -> Result<ScheduleRule, ReadFail>
+        ensures { Answers result (vehicle_tables.schedule self.now.format path.now (view value.now)) }
+    {
+        match self.format {
+            Format::One => Ok(ScheduleRule::Earliest),
+            Format::Two => {
+                let rule = Choice {
+                    words: &SCHEDULE_RULES,
+                };
+                let earliest = ScheduleRule::Earliest;
+                optional(alloc, value, "schedule", path, earliest, &rule)
+            }
+        }
+    }
+
+    // Refuses a vehicle with a field that the format does not have.
+    fn keep_fields(&self, alloc: Global, value: &Value, path: &Path) -> Result<(), ReadFail>
+        ensures { Answers result (known (vehicle_tables.fields self.now.format) path.now (view value.now)) }
+    {
+        match self.format {
+            Format::One => {
+                let fields = ["start", "end", "costs", "fixed", "policy"];
+                known(alloc, value, &fields, path)
+            }
+            Format::Two => {
+                let fields = ["start", "end", "costs", "fixed", "policy", "schedule"];
+                known(alloc, value, &fields, path)
+            }
+        }
+    }
 }
 
 impl Reader for VehicleTable {
@@ -45,7 +85,7 @@ impl Reader for VehicleTable {
 
     type Item = Vehicle;
 
-    ghost reads = { λ it earlier path d. vehicle it.nodes it.matrices path d };
+    ghost reads = { λ it earlier path d. vehicle it.format it.nodes it.matrices path d };
 
     fn read(
         &self,
@@ -67,18 +107,15 @@ impl Reader for VehicleTable {
         let fixed = optional(alloc, value, "fixed", &path, 0, &cost)?;
         let policy = Choice { words: &POLICIES };
         let policy = optional(alloc, value, "policy", &path, Policy::Any, &policy)?;
-        known(
-            alloc,
-            value,
-            &["start", "end", "costs", "fixed", "policy"],
-            &path,
-        )?;
+        let schedule = self.schedule(alloc, value, &path)?;
+        self.keep_fields(alloc, value, &path)?;
         Ok(Vehicle {
             start: ends.0,
             end: ends.1,
             costs,
             fixed,
             policy,
+            schedule,
         })
     }
 }

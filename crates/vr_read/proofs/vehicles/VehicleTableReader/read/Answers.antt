@@ -19,10 +19,14 @@ pub returns-in_err-policy : goal.returns-in_err-policy
 unfolding vehicle
 returns-in_err-policy c = rw (← c.in_ok-path.ensures) (then _ c.in_ok-ends.ensures (then _ c.in_ok-costs.ensures (then _ c.in_ok-fixed.ensures (stops _ _ c.in_err-policy.ensures c.from_residual-in_err-policy.ensures.1))))
 
-pub returns-in_err-known : goal.returns-in_err-known
+pub returns-in_err-schedule : goal.returns-in_err-schedule
 unfolding vehicle
-returns-in_err-known c = rw (← c.in_ok-path.ensures) (then _ c.in_ok-ends.ensures (then _ c.in_ok-costs.ensures (then _ c.in_ok-fixed.ensures (then _ c.in_ok-policy.ensures (stops _ _ c.in_err-known.ensures c.from_residual-in_err-known.ensures.1)))))
+returns-in_err-schedule c = rw (← c.in_ok-path.ensures) (then _ c.in_ok-ends.ensures (then _ c.in_ok-costs.ensures (then _ c.in_ok-fixed.ensures (then _ c.in_ok-policy.ensures (stops _ _ c.in_err-schedule.ensures c.from_residual-in_err-schedule.ensures.1)))))
+
+pub returns-in_err-keep_fields : goal.returns-in_err-keep_fields
+unfolding vehicle
+returns-in_err-keep_fields c = rw (← c.in_ok-path.ensures) (then _ c.in_ok-ends.ensures (then _ c.in_ok-costs.ensures (then _ c.in_ok-fixed.ensures (then _ c.in_ok-policy.ensures (then _ c.in_ok-schedule.ensures (stops _ _ c.in_err-keep_fields.ensures c.from_residual-in_err-keep_fields.ensures.1))))))
 
 pub returns : goal.returns
 unfolding vehicle
-returns c = rw (← c.in_ok-path.ensures) (then _ c.in_ok-ends.ensures (then _ c.in_ok-costs.ensures (then _ c.in_ok-fixed.ensures (then _ c.in_ok-policy.ensures (then _ c.in_ok-known.ensures (gives (search rules)))))))
+returns c = rw (← c.in_ok-path.ensures) (then _ c.in_ok-ends.ensures (then _ c.in_ok-costs.ensures (then _ c.in_ok-fixed.ensures (then _ c.in_ok-policy.ensures (then _ c.in_ok-schedule.ensures (then _ c.in_ok-keep_fields.ensures (gives (search rules))))))))
