@@ -16,7 +16,9 @@ use Rattle.vr_model.specs.declared.records.Matrix.{Matrix}
 use Rattle.vr_model.specs.declared.records.Dimension.{Dimension}
 use Rattle.vr_model.specs.declared.records.Evaluator.{Evaluator}
 use Rattle.vr_json.specs.Reading.{and_then, at_path, field, if_present, required, optional, known, if_unknown, list, entries, array as array_of}
-use Rattle.vr_json.specs.Kinds.{whole, count as count_of}
+use Rattle.vr_json.specs.Kinds.{count as count_of}
+use Rattle.vr_read.specs.declared.formats.Format.TheVariants.{One}
+use Rattle.vr_read.specs.Formats.{format}
 use Rattle.vr_read.specs.Vehicles.{vehicle as vehicle_of}
 use Rattle.vr_read.specs.Visits.{group as group_of}
 use Rattle.vr_read.specs.Rules.{for_all, rules}
@@ -122,10 +124,10 @@ all_joined P (row ∷ rows) h = All-append P row (flat_map (λ row. row) rows) (
 
 module _ (sites : List Site) (customers : List Customer) where
   table_reads : (path : List ℕ) → length sites ≡ 61 → length customers ≡ 60 → All IsNear sites → All IsModest customers → model_table path (model_of sites customers) ≡ Ok (model_read sites customers)
-  unfolding model_table base parts visit_tables model_of whole count_of required optional known if_unknown field if_present array_of list entries at_path and_then
+  unfolding model_table base parts visit_tables model_of format count_of required optional known if_unknown field if_present array_of list entries at_path and_then
   table_reads path sites_all customers_all near modest =
       step _ (step _ (step _ (matrix_reads 61 sites sites_all near _) refl)
-      (step _ (array_each (λ so_far. vehicle_of 61 1) (λ v. vehicle) (λ v. vehicle_read) 1 100 _ (below 6) (omega arith) (omega arith) (λ k d low earlier path. vehicle_reads path)) refl))
+      (step _ (array_each (λ so_far. vehicle_of One 61 1) (λ v. vehicle) (λ v. vehicle_read) 1 100 _ (below 6) (omega arith) (omega arith) (λ k d low earlier path. vehicle_reads path)) refl))
       (step _ (step _ (dimensions_read_as customers _ customers_all modest)
       (step _ (step _ (array_below (group_of 61 vehicles_read) group group_read 60 group_reads 0 1000 _ (omega arith) (omega arith)) refl)
       (step _ (search_reads _) refl)))

@@ -17,6 +17,7 @@ use Rattle.vr_model.specs.moves.Moves.{all_neighbourhoods}
 use Rattle.vr_model.specs.declared.records.Matrix.{Matrix}
 use Rattle.vr_model.specs.declared.records.Vehicle.{Vehicle}
 use Rattle.vr_model.specs.declared.records.Policy.TheVariants.{Any}
+use Rattle.vr_model.specs.declared.records.ScheduleRule.TheVariants.{Earliest}
 use Rattle.vr_model.specs.declared.records.Dimension.{Dimension}
 use Rattle.vr_model.specs.declared.records.Evaluator.{Evaluator}
 use Rattle.vr_model.specs.declared.records.StopRow.{StopRow}
@@ -27,7 +28,8 @@ use Rattle.vr_model.specs.declared.records.SearchRow.{SearchRow}
 use Rattle.vr_model.specs.declared.records.First.TheVariants.{ParallelCheapestInsertion}
 use Rattle.vr_model.specs.declared.records.Improve.TheVariants as improve
 use Rattle.vr_model.proofs.tables.Tests.{apart as differ}
-use Rattle.vr_read.specs.Vehicles.{matrix as matrix_of, vehicle as vehicle_of, ends, visit, is_terminal}
+use Rattle.vr_read.specs.declared.formats.Format.TheVariants.{One}
+use Rattle.vr_read.specs.Vehicles.{matrix as matrix_of, vehicle as vehicle_of, ends, schedule, visit, is_terminal}
 use Rattle.vr_read.specs.StopRows.{interval, limits, stop_row, break_row, vehicle_breaks}
 use Rattle.vr_read.specs.Dimensions.{evaluator, capped, name, transits, bounds, rows, span_costs, dimension}
 use Rattle.vr_read.specs.Visits.{group_node, group as group_of}
@@ -86,13 +88,13 @@ module _ (n : ℕ) (sites : List Site) (all : length sites ≡ n) (near : All Is
 -- ---- vehicles
 
 abbrev pub vehicle_read : Vehicle
-vehicle_read = record { start = 0; «end» = 0; costs = 0; fixed = pos 0; policy = Any }
+vehicle_read = record { start = 0; «end» = 0; costs = 0; fixed = pos 0; policy = Any; schedule = Earliest }
 
 abbrev pub vehicles_read : List Vehicle
 vehicles_read = map (λ v. vehicle_read) (below 6)
 
-pub vehicle_reads : (path : List ℕ) → vehicle_of 61 1 path vehicle ≡ Ok vehicle_read
-unfolding vehicle_of ends below_n required optional known if_unknown field if_present at_path and_then
+pub vehicle_reads : (path : List ℕ) → vehicle_of One 61 1 path vehicle ≡ Ok vehicle_read
+unfolding vehicle_of ends schedule below_n required optional known if_unknown field if_present at_path and_then
 vehicle_reads path = refl
 
 -- each node but 0 is a visit
@@ -290,6 +292,8 @@ search_read = record {
   p = pos 1;
   q = pos 10;
   neighbourhoods = all_neighbourhoods;
+  cut = 10;
+  tenure = 10;
 }
 
 pub search_reads : (path : List ℕ) → search_of path search_row ≡ Ok search_read
