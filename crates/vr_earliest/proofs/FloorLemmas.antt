@@ -6,13 +6,14 @@ use Rattle.std.specs.List.{list_all}
 use Rattle.std.proofs.lemmas.Int.{ints, int_min_is}
 use Rattle.std.proofs.lemmas.List.{get_or_default}
 use Rattle.vr_model.specs.tables.Numbers.{horizon, number_at, within}
-use Rattle.vr_model.specs.tables.Tables.{row_of}
+use Rattle.vr_model.specs.tables.Tables.{no_vehicle, row_of}
 use Rattle.vr_model.specs.tables.WellFormed.{IsIn, IsInterval}
 use Rattle.vr_model.specs.schedules.Lines.{in_window, row_allows, stop_allows}
 use Rattle.vr_model.specs.deciding.Testing.{and_left, and_right, within_is, test_of_within}
 use Rattle.vr_model.specs.declared.records.Interval.{Interval}
 use Rattle.vr_model.specs.declared.records.Dimension.{Dimension}
 use Rattle.vr_model.specs.declared.records.StopRow.{StopRow}
+use Rattle.vr_model.specs.declared.records.Vehicle.{Vehicle}
 use Rattle.vr_model.proofs.tables.Tests.{clash, fails_not}
 use Rattle.vr_parts.proofs.RowLemmas.{rows-push}
 use Rattle.vr_earliest.specs.Floors.{behind, opening, floor_of, starts_freely, AreFree, HaveFloors}
@@ -72,10 +73,11 @@ floors-more rows n floors more x h is range e = record {
   range = rows-push (λ key y. IsIn (pos 0) horizon y) (pos 0) floors more x n h.many h.range range e;
 }
 
-pub free-more : (dimension : Dimension) (n : ℕ) (free more : List Bool) (x : Bool) → AreFree dimension n free → x ≡ starts_freely dimension n → more ≡ free ++ x ∷ [] → AreFree dimension (n + 1) more
-free-more dimension n free more x h is e = record {
+pub free-more : (vehicles : List Vehicle) (dimension : Dimension) (n : ℕ) (free more : List Bool) (x : Bool) → AreFree vehicles dimension n free → x ≡ starts_freely (slice_index_or vehicles n no_vehicle) dimension n → more ≡ free ++ x ∷ []
+    → AreFree vehicles dimension (n + 1) more
+free-more vehicles dimension n free more x h is e = record {
   many = ap length e ∙ length-append free (x ∷ []) ∙ ap (λ m. m + 1) h.many;
-  each = λ v other. rows-push (λ w y. y ≡ starts_freely dimension w) other free more x n h.many (λ w. h.each w other) is e v;
+  each = λ v other. rows-push (λ w y. y ≡ starts_freely (slice_index_or vehicles w no_vehicle) dimension w) other free more x n h.many (λ w. h.each w other) is e v;
 }
 
 -- ---- ranges

@@ -1,6 +1,6 @@
 -- The chosen schedule of a list ends no earlier than its whole way, and its span is no less than the least one.
 use Rattle.std.proofs.Common.{◌≡◌, ◌∙◌, ℕ, suc, ◌<◌, ◌≤◌, ◌⊎◌, inl, inr, Bool, true, false, cond, List, [], ◌∷◌, ◌++◌, length, map, refl, ap, sym, subst, arith}
-use Rattle.std.specs.Prelude.{ℤ, pos, negsuc, neg_ℤ, ◌+ℤ◌, ◌-ℤ◌, ◌≤ℤ◌, ◌==◌, IsTrue, int_le, slice_index_or}
+use Rattle.std.specs.Prelude.{ℤ, pos, negsuc, neg_ℤ, ◌+ℤ◌, ◌-ℤ◌, ◌≤ℤ◌, ◌==◌, ◌&&◌, IsTrue, int_le, slice_index_or}
 use Rattle.std.specs.Int.{int_min}
 use Rattle.std.proofs.lemmas.Int.{ints, int_max_is, int_min_is}
 use Rattle.vr_model.specs.tables.Numbers.{horizon, number_at, within}
@@ -8,13 +8,17 @@ use Rattle.vr_model.specs.tables.Tables.{breaks_of, dimension_at, no_dimension, 
 use Rattle.vr_model.specs.tables.WellFormed.{IsStopRow, IsWellFormed}
 use Rattle.vr_model.specs.routes.Routes.{arcs_from, is_empty}
 use Rattle.vr_model.specs.schedules.Lines.{Arc, line, line_arc, start_allows, stop_allows}
+use Rattle.vr_model.specs.schedules.Narrowed.{chosen_line, narrowed}
 use Rattle.vr_model.specs.schedules.Schedules.{Plan, IsChosen, IsSchedule, allows, cumul, no_arc, slack}
 use Rattle.vr_model.specs.deciding.Testing.{and_left, and_right, and_both, test_of_within, within_is}
 use Rattle.vr_model.specs.declared.records.Model.{Model}
-use Rattle.vr_model.proofs.schedules.LineArcs.{arcs_of_line}
+use Rattle.vr_model.specs.declared.records.ScheduleRule.{ScheduleRule}
+use Rattle.vr_model.specs.declared.records.ScheduleRule.TheVariants.{Earliest, Tight}
+use Rattle.vr_model.proofs.schedules.LineArcs.{arcs_of_line, stops_of_line}
 use Rattle.vr_model.proofs.schedules.LinesSound.{found_is}
+use Rattle.vr_model.proofs.schedules.UnderRules.{narrowed_keeps_rules}
 use Rattle.vr_earliest.specs.declared.ways.Way.{Way}
-use Rattle.vr_earliest.specs.Floors.{floor_of, starts_freely, start_floor}
+use Rattle.vr_earliest.specs.Floors.{floor_of, forbids_none, is_earliest, starts_freely, start_floor}
 use Rattle.vr_earliest.specs.Ways.{along, setting_out, span_by, to_node, to_visit, whole_way}
 use Rattle.vr_earliest.specs.Laws.{ChosenIsNoEarlier, IsNoEarlier}
 use Rattle.vr_earliest.proofs.FloorLemmas.{floor-below, least-below}
@@ -131,54 +135,79 @@ none-of : {A : Type 0} (xs : List A) → IsTrue (is_empty xs) → xs ≡ []
 none-of [] h = refl
 none-of (x ∷ xs) h = absurd (let f : false ≡ true → ⊥ = λ e. Prim.cc in f h)
 
-module _ (model : Model) (well : IsWellFormed model) (d v : ℕ) (dimension : d < length model.dimensions) (list : List ℕ) (some : is_empty list ≡ false) (plan : Plan) (chosen : IsChosen (line model d v list) plan) where
+-- a vehicle that starts freely
+record IsFree (model : Model) (d v : ℕ) : Type 0 where
+  rule : (vehicle_at model v).schedule ≡ Earliest
+  no_breaks : IsTrue (is_empty (breaks_of (dimension_at model d) v))
+  forbids_none : IsTrue (forbids_none (row_of (dimension_at model d).starts v))
+
+earliest-is : (rule : ScheduleRule) → IsTrue (is_earliest rule) → rule ≡ Earliest
+earliest-is Earliest h = refl
+earliest-is Tight h = absurd (let f : false ≡ true → ⊥ = λ e. Prim.cc in f h)
+
+free-is : (model : Model) (d v : ℕ) → IsTrue (starts_freely (vehicle_at model v) (dimension_at model d) v) → IsFree model d v
+free-is model d v h =
+    let rule = (vehicle_at model v).schedule in
+    let breaks = breaks_of (dimension_at model d) v in
+    let start = row_of (dimension_at model d).starts v in
+    let first = and_left (is_earliest rule && is_empty breaks) (forbids_none start) h in
+    record {
+      rule = earliest-is rule (and_left (is_earliest rule) (is_empty breaks) first);
+      no_breaks = and_right (is_earliest rule) (is_empty breaks) first;
+      forbids_none = and_right (is_earliest rule && is_empty breaks) (forbids_none start) h;
+    }
+
+module _ (model : Model) (well : IsWellFormed model) (d v : ℕ) (dimension : d < length model.dimensions) (list : List ℕ) (some : is_empty list ≡ false) (plan : Plan) (chosen : IsChosen (chosen_line model d v list) plan) where
   abbrev last : ℤ
   last = cumul plan (suc (length list))
 
+  keeps : IsSchedule (line model d v list) plan
+  keeps = narrowed_keeps_rules (vehicle_at model v).schedule (line model d v list) (stops_of_line model d v list) plan chosen.schedule
+
   -- a vehicle that starts freely starts at the floor, or waits for the greatest slack
-  early-or-late : IsTrue (starts_freely (dimension_at model d) v) → (cumul plan 0 ≤ℤ start_floor model d v) ⊎ ((dimension_at model d).slack_max ≤ℤ slack plan 0)
+  early-or-late : IsFree model d v → (cumul plan 0 ≤ℤ start_floor model d v) ⊎ ((dimension_at model d).slack_max ≤ℤ slack plan 0)
   early-or-late free = elim (int_cases (cumul plan 0) (start_floor model d v)) [
     | inl low ↦ inl low
     | inr high ↦ elim (int_cases (dimension_at model d).slack_max (slack plan 0)) [
       | inl full ↦ inr full
-      | inr room ↦ absurd (not-least (line model d v list) plan chosen.schedule (none-of _ (and_left (is_empty (breaks_of (dimension_at model d) v)) _ free))
-          (let n = arcs_of_line model d v list in omega (arith, n)) (omega arith) (before high) room chosen.least)
+      | inr room ↦ absurd (not-least (line model d v list) plan keeps (none-of _ free.no_breaks)
+          (let n = arcs_of_line model d v list in omega (arith, n)) (omega arith) (before high) room (subst (λ rule. IsChosen (narrowed rule (line model d v list)) plan) free.rule chosen).least)
     ]
   ]
     where
       before : (start_floor model d v +ℤ pos 1) ≤ℤ cumul plan 0 → IsTrue (allows (line model d v list) 0 (cumul plan 0 +ℤ negsuc 0))
       before high =
-          let r = in_range model d v list plan chosen.schedule 0 (omega arith) in
+          let r = in_range model d v list plan keeps 0 (omega arith) in
           let top = r.1 in
           let row = found_is IsStopRow (λ row. row.key == v) (dimension_at model d).starts (well.each_dimension d no_dimension dimension).rows_of_starts.each_row in
-          let a = start-before (dimension_at model d) (number_at (dimension_at model d).capacities v) (row_of (dimension_at model d).starts v) (cumul plan 0) row (and_right (is_empty (breaks_of (dimension_at model d) v)) _ free) (start_allowed model d v list plan chosen.schedule) high top in
+          let a = start-before (dimension_at model d) (number_at (dimension_at model d).capacities v) (row_of (dimension_at model d).starts v) (cumul plan 0) row free.forbids_none (start_allowed model d v list plan keeps) high top in
           and_both (within (pos 0) horizon (cumul plan 0 +ℤ negsuc 0)) _ (test_of_within (pos 0) horizon (cumul plan 0 +ℤ negsuc 0) (low a) (omega (arith, ints, top))) a
         where
           low : IsTrue (start_allows (dimension_at model d) (number_at (dimension_at model d).capacities v) (row_of (dimension_at model d).starts v) (cumul plan 0 +ℤ negsuc 0)) → pos 0 ≤ℤ (cumul plan 0 +ℤ negsuc 0)
           low a = (within_is (pos 0) _ _ (and_left (within (pos 0) (number_at (dimension_at model d).capacities v) (cumul plan 0 +ℤ negsuc 0)) _ (and_left (stop_allows (number_at (dimension_at model d).capacities v) (row_of (dimension_at model d).starts v) (cumul plan 0 +ℤ negsuc 0)) _ a))).0
 
   by-way : span_by model d v (whole_way model d v list) ≤ℤ (last -ℤ cumul plan 0)
-  by-way = go (starts_freely (dimension_at model d) v) refl
+  by-way = go (starts_freely (vehicle_at model v) (dimension_at model d) v) refl
     where
       way : Way
       way = whole_way model d v list
 
       w : IsBelow (whole_way model d v list) last (cumul plan 0)
-      w = whole model d v list plan chosen.schedule
+      w = whole model d v list plan keeps
 
-      go : (b : Bool) → starts_freely (dimension_at model d) v ≡ b
+      go : (b : Bool) → starts_freely (vehicle_at model v) (dimension_at model d) v ≡ b
           → cond b (int_min ((whole_way model d v list).time -ℤ start_floor model d v) ((dimension_at model d).slack_max +ℤ (whole_way model d v list).transits)) (whole_way model d v list).transits ≤ℤ (last -ℤ cumul plan 0)
       go false e = w.transits
-      go true e = elim (early-or-late e) [
+      go true e = elim (early-or-late (free-is model d v e)) [
         | inl low ↦ (let t = w.time in let m = int_min_is ((whole_way model d v list).time -ℤ start_floor model d v) ((dimension_at model d).slack_max +ℤ (whole_way model d v list).transits) in omega (arith, ints, m, t, low))
-        | inr full ↦ (let s = slack-below model d v list plan chosen.schedule some full in least-below ((whole_way model d v list).time -ℤ start_floor model d v) ((dimension_at model d).slack_max +ℤ (whole_way model d v list).transits) (last -ℤ cumul plan 0) s)
+        | inr full ↦ (let s = slack-below model d v list plan keeps some full in least-below ((whole_way model d v list).time -ℤ start_floor model d v) ((dimension_at model d).slack_max +ℤ (whole_way model d v list).transits) (last -ℤ cumul plan 0) s)
       ]
 
   no-earlier : IsNoEarlier model d v list plan
   no-earlier =
-      let r = in_range model d v list plan chosen.schedule (suc (length list)) (omega arith) in
-      let s = in_range model d v list plan chosen.schedule 0 (omega arith) in
-      let w = (whole model d v list plan chosen.schedule).time in
+      let r = in_range model d v list plan keeps (suc (length list)) (omega arith) in
+      let s = in_range model d v list plan keeps 0 (omega arith) in
+      let w = (whole model d v list plan keeps).time in
       let b = by-way in
       let low = r.0 in
       let top = s.1 in

@@ -1,15 +1,18 @@
 -- Floors: numbers below which a stop allows no cumul.
-use Rattle.std.specs.Prelude.{◌≡◌, ℕ, ◌<◌, ◌&&◌, Bool, true, List, length, fold, cond, ℤ, pos, ◌+ℤ◌, Option, Some, None}
+use Rattle.std.specs.Prelude.{◌≡◌, ℕ, ◌<◌, ◌&&◌, Bool, true, false, List, length, fold, cond, ℤ, pos, ◌+ℤ◌, Option, Some, None}
 use Rattle.std.specs.Prelude.{slice_index_or}
 use Rattle.std.specs.Int.{int_min}
 use Rattle.vr_model.specs.tables.Numbers.{horizon, number_at, within}
-use Rattle.vr_model.specs.tables.Tables.{breaks_of, dimension_at, row_of}
+use Rattle.vr_model.specs.tables.Tables.{breaks_of, dimension_at, no_vehicle, row_of}
 use Rattle.vr_model.specs.tables.WellFormed.{IsIn, IsWellFormed}
 use Rattle.vr_model.specs.routes.Routes.{is_empty}
 use Rattle.vr_model.specs.declared.records.Model.{Model}
 use Rattle.vr_model.specs.declared.records.Dimension.{Dimension}
 use Rattle.vr_model.specs.declared.records.Interval.{Interval}
+use Rattle.vr_model.specs.declared.records.ScheduleRule.{ScheduleRule}
+use Rattle.vr_model.specs.declared.records.ScheduleRule.TheVariants.{Earliest, Tight}
 use Rattle.vr_model.specs.declared.records.StopRow.{StopRow}
+use Rattle.vr_model.specs.declared.records.Vehicle.{Vehicle}
 use Rattle.vr_earliest.specs.declared.floors.Floors.{Floors}
 
 -- x, or the number behind a forbidden interval where x lies in it
@@ -31,9 +34,15 @@ abbrev pub forbids_none : Option StopRow → Bool
 forbids_none None = true
 forbids_none (Some row) = is_empty row.forbidden
 
--- vehicle v has no breaks, and its start has no forbidden interval
-abbrev pub starts_freely : Dimension → ℕ → Bool
-starts_freely dimension v = is_empty (breaks_of dimension v) && forbids_none (row_of dimension.starts v)
+-- the rule chooses the earliest schedule
+abbrev pub is_earliest : ScheduleRule → Bool
+is_earliest Earliest = true
+is_earliest Tight = false
+
+-- vehicle v chooses its earliest schedule, has no breaks, and its start has no forbidden interval
+abbrev pub starts_freely : Vehicle → Dimension → ℕ → Bool
+starts_freely vehicle dimension v = (is_earliest vehicle.schedule && is_empty (breaks_of dimension v))
+    && forbids_none (row_of dimension.starts v)
 
 -- the floor of a visit
 abbrev pub visit_floor : Model → ℕ → ℕ → ℤ
@@ -53,17 +62,18 @@ pub record HaveFloors (rows : List StopRow) (n : ℕ) (floors : List ℤ) : Type
   pub each : (key : ℕ) → key < n → number_at floors key ≡ floor_of (row_of rows key)
   pub range : (key : ℕ) → key < n → IsIn (pos 0) horizon (number_at floors key)
 
--- which of n vehicles start freely
-pub record AreFree (dimension : Dimension) (n : ℕ) (free : List Bool) : Type 0 where
+-- which of the first n vehicles start freely
+pub record AreFree (vehicles : List Vehicle) (dimension : Dimension) (n : ℕ) (free : List Bool) : Type 0 where
   pub many : length free ≡ n
-  pub each : (v : ℕ) (other : Bool) → v < n → slice_index_or free v other ≡ starts_freely dimension v
+  pub each : (v : ℕ) (other : Bool) → v < n
+      → slice_index_or free v other ≡ starts_freely (slice_index_or vehicles v no_vehicle) dimension v
 
 -- the floors of the visits, the starts and the ends of a dimension, and which vehicles start freely
 pub record AreFloors (model : Model) (d : ℕ) (floors : Floors) : Type 0 where
   pub visits : HaveFloors (dimension_at model d).nodes model.nodes floors.visits.items
   pub starts : HaveFloors (dimension_at model d).starts (length model.vehicles) floors.starts.items
   pub ends : HaveFloors (dimension_at model d).ends (length model.vehicles) floors.ends.items
-  pub free : AreFree (dimension_at model d) (length model.vehicles) floors.free.items
+  pub free : AreFree model.vehicles (dimension_at model d) (length model.vehicles) floors.free.items
 
 -- the same of each dimension
 pub record AreAllFloors (model : Model) (floors : List Floors) : Type 0 where

@@ -2,7 +2,7 @@
 use Rattle.std.specs.Prelude.{◌≡◌, ℕ, suc, ◌<◌, false, List, length, ◌-ℤ◌, ◌≤ℤ◌}
 use Rattle.vr_model.specs.tables.WellFormed.{IsWellFormed}
 use Rattle.vr_model.specs.routes.Routes.{is_empty}
-use Rattle.vr_model.specs.schedules.Lines.{line}
+use Rattle.vr_model.specs.schedules.Narrowed.{chosen_line}
 use Rattle.vr_model.specs.schedules.Schedules.{Plan, cumul, IsChosen}
 use Rattle.vr_model.specs.declared.records.Model.{Model}
 use Rattle.vr_earliest.specs.Ways.{earliest_end, least_span}
@@ -12,7 +12,8 @@ pub record IsNoEarlier (model : Model) (d v : ℕ) (list : List ℕ) (plan : Pla
   pub last : earliest_end model d v list ≤ℤ cumul plan (suc (length list))
   pub span : least_span model d v list ≤ℤ (cumul plan (suc (length list)) -ℤ cumul plan 0)
 
--- the chosen schedule of a list that is not empty does so
+-- the chosen schedule of a list that is not empty does so, whatever the rule of its vehicle is
 abbrev pub ChosenIsNoEarlier : Type 0
 ChosenIsNoEarlier = (model : Model) → IsWellFormed model → (d v : ℕ) → d < length model.dimensions → (list : List ℕ)
-    → is_empty list ≡ false → (plan : Plan) → IsChosen (line model d v list) plan → IsNoEarlier model d v list plan
+    → is_empty list ≡ false → (plan : Plan) → IsChosen (chosen_line model d v list) plan
+    → IsNoEarlier model d v list plan

@@ -6,12 +6,13 @@ ghost use Rattle.vr_model.specs.tables.Numbers.{horizon};
 ghost use Rattle.vr_model.specs.tables.Tables.{dimension_at};
 ghost use Rattle.vr_model.specs.tables.WellFormed.{IsIn, IsInterval, IsStopRow, IsWellFormed, WherePresent};
 ghost use Rattle.vr_earliest.specs.Floors.{behind as behind_interval, floor_of as floor_of_row, opening as opening_of};
-ghost use Rattle.vr_earliest.specs.Floors.{forbids_none as row_forbids_none, starts_freely as starts_freely_in};
+ghost use Rattle.vr_earliest.specs.Floors.{forbids_none as row_forbids_none, is_earliest as is_earliest_rule};
+ghost use Rattle.vr_earliest.specs.Floors.{starts_freely as starts_freely_in};
 ghost use Rattle.vr_earliest.specs.Floors.{AreFloors, AreFree, HaveFloors};
 
 use std::alloc::Global;
 use vr_model::limits::HORIZON;
-use vr_model::{Dimension, Interval, Model, NoMemory, Seq, StopRow};
+use vr_model::{Dimension, Interval, Model, NoMemory, ScheduleRule, Seq, StopRow, Vehicle};
 
 /// The floors of the visits, the starts and the ends of a dimension, below which a stop allows no cumul, and which
 /// vehicles start freely.
@@ -23,7 +24,8 @@ pub struct Floors {
     pub starts: Vec<i64>,
     /// By vehicle.
     pub ends: Vec<i64>,
-    /// Of each vehicle, whether it has no breaks and its start has no forbidden interval.
+    /// Of each vehicle, whether it chooses its earliest schedule, has no breaks, and its start has no forbidden
+    /// interval.
     pub free: Vec<bool>,
 }
 
@@ -40,7 +42,7 @@ impl Floors {
             visits: floors_of(alloc, &dimension.nodes, model.nodes)?,
             starts: floors_of(alloc, &dimension.starts, vehicles)?,
             ends: floors_of(alloc, &dimension.ends, vehicles)?,
-            free: free_of(alloc, dimension, vehicles)?,
+            free: free_of(alloc, &model.vehicles, dimension, vehicles)?,
         })
     }
 }
@@ -57,23 +59,39 @@ fn floors_of(alloc: Global, rows: &Seq<StopRow>, n: u32) -> Result<Vec<i64>, NoM
     Ok(floors)
 }
 
-// Which of `n` vehicles start freely.
-fn free_of(alloc: Global, dimension: &Dimension, n: u32) -> Result<Vec<bool>, NoMemory>
-    ensures { IfOk result (λ free. AreFree dimension.now n free.items) }
+// Which of the first `n` vehicles start freely.
+fn free_of(
+    alloc: Global,
+    vehicles: &Seq<Vehicle>,
+    dimension: &Dimension,
+    n: u32,
+) -> Result<Vec<bool>, NoMemory>
+    requires { n ≤ length vehicles.now }
+    ensures { IfOk result (λ free. AreFree vehicles.now dimension.now n free.items) }
 {
     let mut free = Vec::with_capacity(alloc, n as usize)?;
     for v in 0..n {
-        free.push(starts_freely(dimension, v))?;
+        free.push(starts_freely(vehicles.get(v as usize), dimension, v))?;
     }
     Ok(free)
 }
 
-// Whether a vehicle has no breaks, and its start has no forbidden interval.
-fn starts_freely(dimension: &Dimension, v: u32) -> bool
-    ensures { result ≡ starts_freely_in dimension.now v }
+// Whether a vehicle chooses its earliest schedule, has no breaks, and its start has no forbidden interval.
+fn starts_freely(vehicle: &Vehicle, dimension: &Dimension, v: u32) -> bool
+    ensures { result ≡ starts_freely_in vehicle.now dimension.now v }
 {
     let forbids_none = forbids_none(StopRow::of_key(&dimension.starts, v));
-    dimension.breaks_of(v).is_empty() && forbids_none
+    is_earliest(vehicle.schedule) && dimension.breaks_of(v).is_empty() && forbids_none
+}
+
+// Whether a rule chooses the earliest schedule.
+fn is_earliest(rule: ScheduleRule) -> bool
+    ensures { result ≡ is_earliest_rule rule }
+{
+    match rule {
+        ScheduleRule::Earliest => true,
+        ScheduleRule::Tight => false,
+    }
 }
 
 // Whether the row of a stop has no forbidden interval.

@@ -2,8 +2,8 @@
 
 ghost use Rattle.vr_earliest.specs.Laws.{ChosenIsNoEarlier};
 
-/// The chosen schedule of a list that is not empty ends no earlier than its earliest end, and its span is no less than
-/// its least one.
+/// The chosen schedule of a list that is not empty, under the rule of its vehicle, ends no earlier than its earliest
+/// end, and its span is no less than its least one.
 pub fn chosen_is_no_earlier()
     ensures { ChosenIsNoEarlier }
 {}

@@ -3,7 +3,7 @@ use Rattle.std.specs.Prelude.{pos, ◌+ℤ◌, ◌-ℤ◌, true}
 use Rattle.std.specs.Int.{int_min}
 use Rattle.std.proofs.lemmas.Int.{ints, int_min_is}
 use Rattle.vr_model.specs.tables.Numbers.{horizon}
-use Rattle.vr_model.specs.tables.Tables.{dimension_at, no_dimension}
+use Rattle.vr_model.specs.tables.Tables.{dimension_at, no_dimension, vehicle_at}
 use Rattle.vr_model.specs.tables.WellFormed.{IsIn}
 use Rattle.vr_model.specs.declared.records.Dimension.{Dimension}
 use Rattle.vr_earliest.specs.Floors.{starts_freely}
@@ -44,5 +44,5 @@ returns c =
     let is = c.min.ensures.value ∙ ap₂ (λ x y. int_min x y) a b in
     let n = int_min_is (way.time -ℤ start_floor m d v) (dimension.slack_max +ℤ way.transits) in
     let read : to_z w64 (of_z w64 c.min.result) ≡ int_min (way.time -ℤ start_floor m d v) (dimension.slack_max +ℤ way.transits) = omega (arith, ints, is, n, f_is, f_low, f_high, early, late, low, high, r_low, r_high) in
-    let free : starts_freely dimension v ≡ true = sym (c.requires.guide.floors_are.free.each v c.index.result.now c.requires.guide.vehicle) ∙ sym c.index.ensures ∙ c.if-not-index.false in
+    let free : starts_freely (vehicle_at m v) dimension v ≡ true = sym (c.requires.guide.floors_are.free.each v c.index.result.now c.requires.guide.vehicle) ∙ sym c.index.ensures ∙ c.if-not-index.false in
     read ∙ sym (ap (λ x. cond x (int_min (way.time -ℤ start_floor m d v) (dimension.slack_max +ℤ way.transits)) way.transits) free)
