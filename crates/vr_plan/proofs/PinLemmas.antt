@@ -56,10 +56,16 @@ module _ (line : Defined) (sound : IsSound line) (j : ℕ) (le : j ≤ length li
   there = let n = sound.stops in omega (arith, n, le)
 
   -- what schedules have there is shared
-  shared_of : (plan : Plan) → IsSchedule line plan → SharedAt from to (cumul plan j)
+  pub shared_of : (plan : Plan) → IsSchedule line plan → SharedAt from to (cumul plan j)
   shared_of plan s =
       let m = (meet line sound j le (cumul plan j)).0 (plan, s, refl) in
       (m.0, let le = m.1 in omega (arith, le, long), let le = m.1 in omega (arith, le, long_too), (reached m.0 m.1 (cumul plan j)).1 m.2, (reaching m.0 m.1 (cumul plan j)).1 m.3)
+
+  -- and what is shared some schedule has there
+  pub schedule_of : (x : ℤ) → SharedAt from to x → (plan : Plan) × IsSchedule line plan × (cumul plan j ≡ x)
+  schedule_of x m =
+      let few : m.0 ≤ length line.breaks = let lt = m.1 in omega (arith, lt, long) in
+      (meet line sound j le x).1 (m.0, few, (reached m.0 few x).0 m.3, (reaching m.0 few x).0 m.4)
 
   -- where nothing is shared there is no schedule
   pub none_shared : ((x : ℤ) → SharedAt from to x → ⊥) → IsFeasible line → ⊥
@@ -71,9 +77,7 @@ module _ (line : Defined) (sound : IsSound line) (j : ℕ) (le : j ≤ length li
 
     pub pinned_feasible : IsFeasible (pinned line j x)
     pinned_feasible =
-        let m = least.shared in
-        let few : m.0 ≤ length line.breaks = let lt = m.1 in omega (arith, lt, long) in
-        let plan = (meet line sound j le x).1 (m.0, few, (reached m.0 few x).0 m.3, (reaching m.0 few x).0 m.4) in
+        let plan = schedule_of x least.shared in
         (plan.0, to_pinned line j x there plan.0 plan.1 plan.2)
 
     pub pinned_chosen : LeastCumulMayBePinned → ((plan : Plan) → (other : Plan) → IsSchedule line plan → IsSchedule line other → (i : ℕ) → i < j → cumul plan i ≡ cumul other i) → (plan : Plan) → IsChosen (pinned line j x) plan → IsChosen line plan
@@ -110,11 +114,11 @@ reaching_same line narrow k rest arcs slack breaks to are b few y =
 number_before : (cumuls : List ℤ) (x : ℤ) (i : ℕ) → i < length cumuls → number_at (cumuls ++ x ∷ []) i ≡ number_at cumuls i
 number_before cumuls x i lt = get_or_append_left cumuls (x ∷ []) (pos 0) i lt
 
-module _ (stands : LinesStandForTheirs) (meet : CumulWhereLevelsMeet) (law : LeastCumulMayBePinned) (made : Line) (rows : List (List (List Run))) (sound_made : IsSoundLine made) (are : AreBackward made rows) where
-  -- the levels of a line have as many sets
-  long_of : (defined : Defined) → IsLineOf defined made → (levels : List (List Run)) → AreLevels made.breaks levels → length levels ≡ suc (length defined.breaks)
-  long_of defined of levels m = m.one_more ∙ ap (λ bs. suc (length bs)) (sym (stands defined made of sound_made).breaks)
+-- the levels of a line have as many sets
+pub long_of : LinesStandForTheirs → (made : Line) → IsSoundLine made → (defined : Defined) → IsLineOf defined made → (levels : List (List Run)) → AreLevels made.breaks levels → length levels ≡ suc (length defined.breaks)
+long_of stands made sound_made defined of levels m = m.one_more ∙ ap (λ bs. suc (length bs)) (sym (stands defined made of sound_made).breaks)
 
+module _ (stands : LinesStandForTheirs) (meet : CumulWhereLevelsMeet) (law : LeastCumulMayBePinned) (made : Line) (rows : List (List (List Run))) (sound_made : IsSoundLine made) (are : AreBackward made rows) where
   -- no cumul is shared at the start
   pub unfeasible_at_start : (from to : List (List Run)) → IsForwardRow made 0 from → row_at rows 0 ≡ to → ((x : ℤ) → SharedAt from to x → ⊥) → IsUnfeasible made
   unfeasible_at_start from to first last none defined of feasible =
@@ -122,7 +126,7 @@ module _ (stands : LinesStandForTheirs) (meet : CumulWhereLevelsMeet) (law : Lea
       let n = sound_made.stops in
       let ahead : AreLevels made.breaks from × AreReached defined 0 from = (first.form, first.exact defined of) in
       let behind = subst (λ r. AreLevels made.breaks r × AreReachingEnd defined 0 r) last (let m = are.each 0 (omega (arith, n)) in (m.form, m.exact defined of)) in
-      none_shared defined s.sound 0 (omega arith) from to (long_of defined of from ahead.0) (long_of defined of to behind.0) ahead.1 behind.1 meet none feasible
+      none_shared defined s.sound 0 (omega arith) from to (long_of stands made sound_made defined of from ahead.0) (long_of stands made sound_made defined of to behind.0) ahead.1 behind.1 meet none feasible
 
   -- the start is settled
   pub settled_at_start : StartIsReached → (from to : List (List Run)) → IsForwardRow made 0 from → row_at rows 0 ≡ to → (x : ℤ) → IsLeastShared from to x → (set only : List Run) (here : List (List Run)) → ((d : List Run) → get_or made.allowed 0 d ≡ set) → IsOnly set x only → IsCumuls only → AreStartLevels only made.breaks here → IsIn (pos 0) horizon x → IsSettled made 0 (x ∷ []) here
@@ -134,8 +138,8 @@ module _ (stands : LinesStandForTheirs) (meet : CumulWhereLevelsMeet) (law : Lea
         let n = sound_made.stops in
         let ahead : AreLevels made.breaks from × AreReached defined 0 from = (first.form, first.exact defined of) in
         let behind = subst (λ r. AreLevels made.breaks r × AreReachingEnd defined 0 r) last (let m = are.each 0 (omega (arith, n)) in (m.form, m.exact defined of)) in
-        let long = long_of defined of from ahead.0 in
-        let long_too = long_of defined of to behind.0 in
+        let long = long_of stands made sound_made defined of from ahead.0 in
+        let long_too = long_of stands made sound_made defined of to behind.0 in
         let le : 0 ≤ length defined.arcs = omega arith in
         let here_sound = pinned_sound defined s.sound 0 le from to long long_too ahead.1 behind.1 meet x least in
         let allowed = pinned_allows defined s.sound 0 le from to long long_too ahead.1 behind.1 meet x least set only (subst (IsAllowedSet defined 0) (set_is []) (s.allowed 0 (omega (arith, n)))) is cumuls in (
@@ -265,8 +269,7 @@ chosen_where_settled stands feasible least made sound cumuls here k last settled
 }
 
 -- a shared cumul lies in its range
-pub shared_range : (bs : List BreakRow) (from to : List (List Run)) (x : ℤ) → AreLevels bs from → IsLeastShared from to x → IsIn (pos 0) horizon x
-shared_range bs from to x levels least =
-    let m = least.shared in
+pub shared_range : (bs : List BreakRow) (from to : List (List Run)) (x : ℤ) → AreLevels bs from → SharedAt from to x → IsIn (pos 0) horizon x
+shared_range bs from to x levels m =
     let range = within_is (pos 0) horizon x (levels.cumuls m.0 [] m.1 x m.3) in
     record { at_least = range.0; at_most = range.1 }

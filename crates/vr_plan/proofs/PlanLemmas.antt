@@ -22,7 +22,8 @@ use Rattle.vr_plan.proofs.FixedLemmas.{fixed_line, to_fixed, of_fixed}
 use Rattle.vr_plan.specs.Settled.{Goes, HaveChosenCumuls, IsUnfeasible}
 use Rattle.vr_plan.specs.Starts.{HaveChosenStarts, HaveStarts, HaveCumuls}
 
-none_where_unfeasible : (found : Option Wanted) → (is_some found ≡ true → ⊥) → None ≡ found
+-- nothing is chosen where nothing may be
+pub none_where_unfeasible : (found : Option Wanted) → (is_some found ≡ true → ⊥) → None ≡ found
 none_where_unfeasible None never = refl
 none_where_unfeasible (Some p) never = absurd (never refl)
 

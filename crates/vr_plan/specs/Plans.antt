@@ -5,6 +5,8 @@ use Rattle.vr_model.specs.schedules.Lines.{Line as Defined}
 use Rattle.std.specs.Option.{option_map}
 use Rattle.vr_model.specs.schedules.Schedules.{Plan as Wanted}
 use Rattle.vr_model.specs.schedules.Choices.{chosen}
+use Rattle.vr_model.specs.schedules.Narrowed.{chosen_under}
+use Rattle.vr_model.specs.declared.records.ScheduleRule.{ScheduleRule}
 use Rattle.vr_steps.specs.declared.lines.Line.{Line}
 use Rattle.vr_steps.specs.Lines.{IsLineOf}
 use Rattle.vr_steps.specs.declared.hops.Hop.{Hop}
@@ -34,3 +36,15 @@ IsChosenPlan line found = (defined : Defined) → IsLineOf defined line → opti
 -- the cumuls are those of the chosen schedule of the line, and none are there where the line has no schedule
 abbrev pub AreChosenCumuls : Line → Option (List ℤ) → Type 0
 AreChosenCumuls line found = (defined : Defined) → IsLineOf defined line → found ≡ option_map cumuls_of (chosen defined)
+
+-- ---- under a rule
+
+-- the plan is the schedule of the line that is chosen under the rule, and none is there where the line has no schedule
+abbrev pub IsChosenPlanUnder : ScheduleRule → Line → Option Plan → Type 0
+IsChosenPlanUnder rule line found =
+    (defined : Defined) → IsLineOf defined line → option_map seen found ≡ chosen_under rule defined
+
+-- the cumuls are those of the schedule that is chosen under the rule, and none are there where the line has no schedule
+abbrev pub AreChosenCumulsUnder : ScheduleRule → Line → Option (List ℤ) → Type 0
+AreChosenCumulsUnder rule line found =
+    (defined : Defined) → IsLineOf defined line → found ≡ option_map cumuls_of (chosen_under rule defined)

@@ -4,26 +4,28 @@ ghost use Rattle.std.specs.Prelude.{◌≡◌, IfOk, [], All, pos, length};
 ghost use Rattle.std.specs.Bool.{then_some};
 ghost use Rattle.vr_model.specs.tables.Numbers.{horizon};
 ghost use Rattle.vr_model.specs.tables.WellFormed.{IsIn};
+ghost use Rattle.vr_model.specs.declared.records.ScheduleRule.TheVariants.{Tight};
 ghost use Rattle.vr_steps.specs.Lines.{IsSoundLine};
-ghost use Rattle.vr_plan.specs.Plans.{AreChosenCumuls};
+ghost use Rattle.vr_plan.specs.Plans.{AreChosenCumuls, AreChosenCumulsUnder};
 ghost use Rattle.vr_plan.specs.Settled.{Goes};
 
 use crate::cumuls::{Room, settle};
+use crate::ends::tight_line;
 use std::alloc::Global;
 use std::marker::{Brand, Model};
 use std::sync::ledger::Blank;
-use vr_model::{NoMemory, Seq};
+use vr_model::{NoMemory, ScheduleRule, Seq};
 use vr_reach::Sweep;
 use vr_steps::Line;
 
 /// The chosen cumuls of one line after another. Contracts see those that are kept.
 ///
 /// They are chosen in places that are written over, which takes memory only where a line has more stops than any
-/// before, or a set more runs than its place has room for.
+/// before, or a set more runs than its place has room for. Under `Tight` a narrower line is made each time besides.
 #[derive(Drop)]
 pub struct Chooser {
-    // what the end of the line is reached from
-    behind: Sweep,
+    // what is reached at each stop, from one end of a line or the other
+    sweep: Sweep,
     room: Room,
     cumuls: Seq<i64>,
 }
@@ -42,16 +44,51 @@ impl Chooser {
         ensures { result ≡ [] }
     {
         Chooser {
-            behind: Sweep::new(alloc),
+            sweep: Sweep::new(alloc),
             room: Room::new(alloc),
             cumuls: Seq::new(alloc),
         }
     }
 
-    /// Writes the cumuls of the chosen schedule of a line over those that are kept: one for each stop, in `0..=2^36`.
-    /// `false` exactly where the line has no schedule; then, and after `NoMemory`, nothing is said of what is kept. The
-    /// breaks are taken into account, and their starts are not looked for.
-    pub fn choose(&mut self, alloc: Global, line: &Line) -> Result<bool, NoMemory>
+    /// Writes the cumuls of the schedule of a line that is chosen under a rule over those that are kept: one for each
+    /// stop, in `0..=2^36`. `false` exactly where the line has no schedule; then, and after `NoMemory`, nothing is said
+    /// of what is kept. The breaks are taken into account, and their starts are not looked for.
+    pub fn choose(
+        &mut self,
+        alloc: Global,
+        line: &Line,
+        rule: ScheduleRule,
+    ) -> Result<bool, NoMemory>
+        requires sound { IsSoundLine line.now }
+        ensures chosen { IfOk result (λ goes. AreChosenCumulsUnder rule line.now (then_some goes self.new)) }
+        ensures stops { IfOk result (Goes (length self.new ≡ length line.now.allowed)) }
+        ensures range { IfOk result (Goes (All (IsIn (pos 0) horizon) self.new)) }
+    {
+        match rule {
+            ScheduleRule::Earliest => self.choose_earliest(alloc, line),
+            ScheduleRule::Tight => self.choose_tight(alloc, line),
+        }
+    }
+
+    // The tight cumuls: those that are least where the ends of the line are narrowed.
+    fn choose_tight(&mut self, alloc: Global, line: &Line) -> Result<bool, NoMemory>
+        requires sound { IsSoundLine line.now }
+        ensures chosen { IfOk result (λ goes. AreChosenCumulsUnder Tight line.now (then_some goes self.new)) }
+        ensures stops { IfOk result (Goes (length self.new ≡ length line.now.allowed)) }
+        ensures range { IfOk result (Goes (All (IsIn (pos 0) horizon) self.new)) }
+    {
+        vr_steps::laws::lines_stand_for_theirs();
+        self.sweep.forward(alloc, line)?;
+        let ahead = self.sweep.levels(line.hops.len());
+        let Some(narrow) = tight_line(alloc, line, ahead)? else {
+            return Ok(false);
+        };
+        let goes = self.choose_earliest(alloc, &narrow)?;
+        Ok(goes)
+    }
+
+    // The cumuls that are least, compared from the start on.
+    fn choose_earliest(&mut self, alloc: Global, line: &Line) -> Result<bool, NoMemory>
         requires sound { IsSoundLine line.now }
         ensures chosen { IfOk result (λ goes. AreChosenCumuls line.now (then_some goes self.new)) }
         ensures stops { IfOk result (Goes (length self.new ≡ length line.now.allowed)) }
@@ -59,11 +96,11 @@ impl Chooser {
     {
         vr_model::laws::chosen_where_feasible();
         vr_model::laws::chosen_is_least();
-        self.behind.backward(alloc, line)?;
+        self.sweep.backward(alloc, line)?;
         self.cumuls.truncate(0);
         let goes = settle::<Brand>(
             line,
-            &self.behind,
+            &self.sweep,
             &mut self.room,
             &mut self.cumuls,
             Blank::new(1),

@@ -1,8 +1,14 @@
-//! The chosen schedule of a line.
+//! The schedule of a line that is chosen under the rule of its vehicle.
+//!
+//! Each stop in turn is settled at the least cumul that is reached there and from which the end is reached. The line
+//! that allows the settled cumuls alone keeps the same chosen schedule, which is what its proof carries from stop to
+//! stop. The tight schedule is found in the same way, where the end of the line was first narrowed to its least cumul
+//! and then the start to its greatest. `vr_timings` asks for cumuls, and `vr_print` for whole schedules.
 #![tactic(auto)]
 
 mod choosers;
 mod cumuls;
+mod ends;
 mod narrow;
 mod plans;
 mod schedules;

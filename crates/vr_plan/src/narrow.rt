@@ -1,9 +1,12 @@
 //! Lines whose cumuls and break starts are put in.
 
-ghost use Rattle.std.specs.Prelude.{◌≡◌, ◌<◌, ◌≤◌, All, IfOk, length, set, slice_index_or};
+ghost use Rattle.std.specs.Prelude.{◌≡◌, ◌<◌, ◌≤◌, All, IfOk, OnOk, length, pos, set, slice_index_or};
+ghost use Rattle.vr_model.specs.tables.Numbers.{horizon};
+ghost use Rattle.vr_model.specs.tables.WellFormed.{IsIn};
 ghost use Rattle.vr_model.specs.schedules.Schedules.{no_break};
 ghost use Rattle.vr_steps.specs.Levels.{IsCumuls};
 ghost use Rattle.vr_steps.specs.Lines.{IsSoundLine};
+ghost use Rattle.vr_plan.specs.Ends.{IsPinnedOf};
 ghost use Rattle.vr_plan.specs.Narrow.{AreOnly};
 ghost use Rattle.vr_plan.specs.Settled.{HaveChosenCumuls};
 
@@ -44,6 +47,47 @@ fn only_sets(alloc: Global, line: &Line, cumuls: &[i64]) -> Result<Seq<Spans>, N
         sets.push(only)?;
     }
     Ok(sets)
+}
+
+// Lets stop `k` allow `x` alone, where it allowed it.
+pub(crate) fn pin(alloc: Global, line: &mut Line, k: usize, x: i64) -> Result<(), NoMemory>
+    requires sound { IsSoundLine line.old }
+    requires place { k < length line.old.allowed }
+    requires cumul { IsIn (pos 0) horizon x }
+    ensures exact { OnOk result (IsPinnedOf line.old k x line.new) }
+    ensures sound { OnOk result (IsSoundLine line.new) }
+    ensures stops { OnOk result (length line.new.allowed ≡ length line.old.allowed) }
+{
+    let mut only = Spans::new(alloc);
+    keep(line.allowed.get(k), x, &mut only)?;
+    line.allowed.set(k, only);
+    Ok(())
+}
+
+// The same line.
+pub(crate) fn same_line(alloc: Global, line: &Line) -> Result<Line, NoMemory>
+    requires { length line.now.breaks ≤ 8 }
+    ensures { IfOk result (λ same. same ≡ line.now) }
+{
+    Ok(Line {
+        allowed: same_sets(alloc, line.allowed.as_slice())?,
+        hops: same_hops(alloc, line.hops.as_slice())?,
+        breaks: same_breaks(&line.breaks),
+    })
+}
+
+// The same sets.
+fn same_sets(alloc: Global, sets: &[Spans]) -> Result<Seq<Spans>, NoMemory>
+    ensures { IfOk result (λ same. same ≡ sets.now) }
+{
+    let mut same = Seq::new(alloc);
+    for k in 0..sets.len() {
+        let Ok(set) = sets[k].copy() else {
+            return Err(NoMemory);
+        };
+        same.push(set)?;
+    }
+    Ok(same)
 }
 
 // The same arcs.

@@ -1,26 +1,79 @@
-//! The chosen schedule of a line.
+//! The chosen schedule of a line, under each rule.
 
 ghost use Rattle.std.specs.Prelude.{◌≡◌, IfOk, IfSome, All, pos, length};
 ghost use Rattle.vr_model.specs.tables.Numbers.{horizon};
 ghost use Rattle.vr_model.specs.tables.WellFormed.{IsIn};
+ghost use Rattle.vr_model.specs.declared.records.ScheduleRule.TheVariants.{Tight};
 ghost use Rattle.vr_steps.specs.Lines.{IsSoundLine};
-ghost use Rattle.vr_reach.specs.Rows.{AreBackward, AreRows};
-ghost use Rattle.vr_plan.specs.Plans.{AreChosenCumuls, IsChosenPlan};
+ghost use Rattle.vr_reach.specs.Rows.{AreBackward, AreRows, IsForwardRow};
+ghost use Rattle.vr_plan.specs.Plans.{AreChosenCumulsUnder, IsChosenPlan, IsChosenPlanUnder};
 
 use crate::cumuls::settled_cumuls;
+use crate::ends::tight_line;
 use crate::plans::slacks_left;
 use crate::starts::chosen_starts;
 use crate::{Chooser, Plan};
 use std::alloc::Global;
 use std::marker::Brand;
 use std::sync::ledger::Blank;
-use vr_model::{NoMemory, Seq};
+use vr_model::{NoMemory, ScheduleRule, Seq};
 use vr_reach::{Rows, Sweep};
-use vr_steps::Line;
+use vr_steps::{Levels, Line};
 
-/// The chosen schedule of a line: the one whose cumuls, compared from the start on, are least, and of those with equal
-/// cumuls the one whose break starts, compared in order, are least. `None` exactly where the line has no schedule.
-pub fn schedule(alloc: Global, line: &Line) -> Result<Option<Plan>, NoMemory>
+/// The schedule of a line that is chosen under a rule. Under `Earliest` it is the one whose cumuls, compared from the
+/// start on, are least, and of those with equal cumuls the one whose break starts, compared in order, are least. Under
+/// `Tight` it is the same of those schedules whose end is least and, with it, the start greatest. `None` exactly where
+/// the line has no schedule.
+pub fn schedule(alloc: Global, line: &Line, rule: ScheduleRule) -> Result<Option<Plan>, NoMemory>
+    requires sound { IsSoundLine line.now }
+    ensures chosen { IfOk result (IsChosenPlanUnder rule line.now) }
+    ensures stops { IfOk result (λ found. IfSome found (λ plan. length plan.cumuls ≡ length line.now.allowed)) }
+    ensures range { IfOk result (λ found. IfSome found (λ plan. All (IsIn (pos 0) horizon) plan.cumuls)) }
+{
+    match rule {
+        ScheduleRule::Earliest => earliest(alloc, line),
+        ScheduleRule::Tight => tight(alloc, line),
+    }
+}
+
+/// The schedule of a line that is chosen under a rule, over the rows of the line, as `schedule` answers it.
+pub fn schedule_over(
+    alloc: Global,
+    line: &Line,
+    rows: &Rows,
+    rule: ScheduleRule,
+) -> Result<Option<Plan>, NoMemory>
+    requires rows { AreRows line.now rows.now }
+    ensures chosen { IfOk result (IsChosenPlanUnder rule line.now) }
+    ensures stops { IfOk result (λ found. IfSome found (λ plan. length plan.cumuls ≡ length line.now.allowed)) }
+    ensures range { IfOk result (λ found. IfSome found (λ plan. All (IsIn (pos 0) horizon) plan.cumuls)) }
+{
+    match rule {
+        ScheduleRule::Earliest => schedule_behind(alloc, line, rows.backward_sweep()),
+        ScheduleRule::Tight => tight_ahead(alloc, line, rows.forward(line.hops.len())),
+    }
+}
+
+/// The cumuls of the schedule of a line that is chosen under a rule, one for each stop; `None` exactly where the line
+/// has no schedule. The breaks are taken into account, and their starts are not looked for.
+pub fn chosen_cumuls(
+    alloc: Global,
+    line: &Line,
+    rule: ScheduleRule,
+) -> Result<Option<Seq<i64>>, NoMemory>
+    requires sound { IsSoundLine line.now }
+    ensures chosen { IfOk result (AreChosenCumulsUnder rule line.now) }
+    ensures stops { IfOk result (λ found. IfSome found (λ cumuls. length cumuls ≡ length line.now.allowed)) }
+    ensures range { IfOk result (λ found. IfSome found (All (IsIn (pos 0) horizon))) }
+{
+    let mut chooser = Chooser::new(alloc);
+    let goes = chooser.choose(alloc, line, rule)?;
+    let cumuls = chooser.into_cumuls();
+    Ok(goes.then_some(cumuls))
+}
+
+// The schedule of a line whose cumuls, and then break starts, are least.
+fn earliest(alloc: Global, line: &Line) -> Result<Option<Plan>, NoMemory>
     requires sound { IsSoundLine line.now }
     ensures chosen { IfOk result (IsChosenPlan line.now) }
     ensures stops { IfOk result (λ found. IfSome found (λ plan. length plan.cumuls ≡ length line.now.allowed)) }
@@ -31,31 +84,35 @@ pub fn schedule(alloc: Global, line: &Line) -> Result<Option<Plan>, NoMemory>
     schedule_behind(alloc, line, &behind)
 }
 
-/// The chosen schedule of a line, over its rows, as `schedule` answers it.
-pub fn schedule_over(alloc: Global, line: &Line, rows: &Rows) -> Result<Option<Plan>, NoMemory>
-    requires rows { AreRows line.now rows.now }
-    ensures chosen { IfOk result (IsChosenPlan line.now) }
+// The tight schedule of a line.
+fn tight(alloc: Global, line: &Line) -> Result<Option<Plan>, NoMemory>
+    requires sound { IsSoundLine line.now }
+    ensures chosen { IfOk result (IsChosenPlanUnder Tight line.now) }
     ensures stops { IfOk result (λ found. IfSome found (λ plan. length plan.cumuls ≡ length line.now.allowed)) }
     ensures range { IfOk result (λ found. IfSome found (λ plan. All (IsIn (pos 0) horizon) plan.cumuls)) }
 {
-    schedule_behind(alloc, line, rows.backward_sweep())
+    let mut ahead = Sweep::new(alloc);
+    ahead.forward(alloc, line)?;
+    tight_ahead(alloc, line, ahead.levels(line.hops.len()))
 }
 
-/// The cumuls of the chosen schedule of a line, one for each stop; `None` exactly where the line has no schedule. The
-/// breaks are taken into account, and their starts are not looked for.
-pub fn chosen_cumuls(alloc: Global, line: &Line) -> Result<Option<Seq<i64>>, NoMemory>
+// The tight schedule of a line, by what its last stop is reached at: the earliest where its ends are narrowed.
+fn tight_ahead(alloc: Global, line: &Line, ahead: &Levels) -> Result<Option<Plan>, NoMemory>
     requires sound { IsSoundLine line.now }
-    ensures chosen { IfOk result (AreChosenCumuls line.now) }
-    ensures stops { IfOk result (λ found. IfSome found (λ cumuls. length cumuls ≡ length line.now.allowed)) }
-    ensures range { IfOk result (λ found. IfSome found (All (IsIn (pos 0) horizon))) }
+    requires ahead { IsForwardRow line.now (length line.now.hops) ahead.now }
+    ensures chosen { IfOk result (IsChosenPlanUnder Tight line.now) }
+    ensures stops { IfOk result (λ found. IfSome found (λ plan. length plan.cumuls ≡ length line.now.allowed)) }
+    ensures range { IfOk result (λ found. IfSome found (λ plan. All (IsIn (pos 0) horizon) plan.cumuls)) }
 {
-    let mut chooser = Chooser::new(alloc);
-    let goes = chooser.choose(alloc, line)?;
-    let cumuls = chooser.into_cumuls();
-    Ok(goes.then_some(cumuls))
+    vr_steps::laws::lines_stand_for_theirs();
+    let Some(narrow) = tight_line(alloc, line, ahead)? else {
+        return Ok(None);
+    };
+    let plan = earliest(alloc, &narrow)?;
+    Ok(plan)
 }
 
-// The chosen schedule of a line, by what its end is reached from.
+// The earliest schedule of a line, by what its end is reached from.
 fn schedule_behind(alloc: Global, line: &Line, behind: &Sweep) -> Result<Option<Plan>, NoMemory>
     requires sound { IsSoundLine line.now }
     requires behind { AreBackward line.now behind.now }

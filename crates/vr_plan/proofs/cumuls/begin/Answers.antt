@@ -19,7 +19,7 @@ returns-clause-settled c = λ goes.
     let x = to_z w64 (of_z w64 c.in-Some.first) in
     let least = c.in-Some.ensures.some in
     let ahead = begun c.lines_stand_for_theirs.ensures c.args.line.now c.requires.sound c.start_is_reached.ensures c.get-allowed.result.now c.start_levels_into.new.out c.get-allowed.ensures.value c.in_ok-start_levels_into.ensures.exact c.in_ok-start_levels_into.ensures.levels in
-    let range = shared_range c.args.line.now.breaks c.start_levels_into.new.out c.levels.result.now c.in-Some.first c.in_ok-start_levels_into.ensures.levels least in
+    let range = shared_range c.args.line.now.breaks c.start_levels_into.new.out c.levels.result.now c.in-Some.first c.in_ok-start_levels_into.ensures.levels least.shared in
     let same : x ≡ c.in-Some.first = omega (arith, ints, range) in
     let pushed = c.in_ok-push.ensures.ok ∙ ap (λ cs. cs ++ x ∷ []) c.requires.none in
     subst (λ cs. IsSettled c.args.line.now 0 cs c.start_levels_into-2.new.out) (sym pushed)

@@ -33,7 +33,7 @@ pub loop-k-preserved : goal.loop-k-preserved
 loop-k-preserved g c =
     let x = to_z w64 (of_z w64 c.in-Some.least) in
     let least = c.in-Some.ensures.some in
-    let range = shared_range c.args.line.now.breaks c.cross_into.new.out c.levels.result.now c.in-Some.least c.in_ok-cross_into.ensures.levels least in
+    let range = shared_range c.args.line.now.breaks c.cross_into.new.out c.levels.result.now c.in-Some.least c.in_ok-cross_into.ensures.levels least.shared in
     let same : x ≡ c.in-Some.least = omega (arith, ints, range) in
     rw (c.swap.ensures.x_after, c.in_ok-push.ensures.ok) (record {
       settled = settled_behind c.lines_stand_for_theirs.ensures c.cumul_where_levels_meet.ensures c.least_cumul_may_be_pinned.ensures c.args.line.now c.args.behind.now c.requires.sound c.requires.behind c.reached_behind_arc.ensures c.loop-k.k (omega arith) c.loop-k.cumuls c.loop-k.here c.loop-k.invariant.settled

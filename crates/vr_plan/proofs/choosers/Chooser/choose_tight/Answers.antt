@@ -1,0 +1,14 @@
+use Rattle.std.proofs.Common.{subst, rules}
+use Rattle.std.specs.Prelude.{IfSome}
+use Rattle.vr_model.specs.declared.records.ScheduleRule.TheVariants.{Tight}
+use Rattle.vr_plan.specs.Ends.{IsTightLineOf}
+use Rattle.vr_plan.proofs.RuleLemmas.{no_cumuls}
+use Rattle.vr_plan.proofs.choosers.Chooser.choose_tight.Goals as goal
+
+pub returns-in_default-clause-chosen : goal.returns-in_default-clause-chosen
+returns-in_default-clause-chosen c = no_cumuls c.lines_stand_for_theirs.ensures c.args.line.now c.requires.sound Tight (c.in_ok-narrow.ensures.none (search rules))
+
+pub returns-clause-chosen : goal.returns-clause-chosen
+returns-clause-chosen c =
+    let narrow = subst (λ found. IfSome found (IsTightLineOf c.args.line.now)) c.in-Some.is c.in_ok-narrow.ensures.some in
+    λ defined of. c.in_ok-goes.ensures.chosen _ (narrow defined of)
