@@ -8,7 +8,7 @@ use Rattle.vr_model.specs.declared.records.Model.{Model}
 use Rattle.vr_model.specs.tables.Numbers.{total_by}
 use Rattle.vr_model.specs.routes.Routes.{route, is_empty, used_vehicles}
 use Rattle.vr_model.specs.routes.Costs.{no_plan, plan_at, chosen_plans, assigned}
-use Rattle.vr_model.specs.schedules.Lines.{line}
+use Rattle.vr_model.specs.schedules.Narrowed.{chosen_line}
 use Rattle.vr_model.specs.schedules.Choices.{chosen}
 use Rattle.vr_timings.specs.Timings.{plan_of}
 
@@ -41,7 +41,7 @@ used-all P lists h = go 0 (length lists) (omega arith)
 module _ (model : Model) where
   chosen-at : (d v : ℕ) (list : List ℕ) → d < length model.dimensions → is_empty list ≡ false → slice_index_or (chosen_plans model v list) d no_plan ≡ plan_of model d v list
   chosen-at d v [] low some = absurd (cc)
-  chosen-at d v (x ∷ xs) low some = get_or-map-range_with_len (λ d. unwrap_or (chosen (line model d v (x ∷ xs))) no_plan) 0 (length model.dimensions) d d no_plan low (omega arith)
+  chosen-at d v (x ∷ xs) low some = get_or-map-range_with_len (λ d. unwrap_or (chosen (chosen_line model d v (x ∷ xs))) no_plan) 0 (length model.dimensions) d d no_plan low (omega arith)
 
   module _ (lists : List (List ℕ)) where
     -- the plan of a used vehicle

@@ -7,10 +7,13 @@ use Rattle.vr_model.specs.tables.Numbers.{total_by, number_at}
 use Rattle.vr_model.specs.routes.Costs.{row_cost, no_plan}
 use Rattle.vr_model.specs.declared.records.StopRow.{StopRow}
 use Rattle.vr_model.specs.declared.records.Model.{Model}
-use Rattle.vr_model.specs.tables.Tables.{dimension_at, row_of}
+use Rattle.vr_model.specs.declared.records.ScheduleRule.{ScheduleRule}
+use Rattle.vr_model.specs.tables.Tables.{dimension_at, row_of, vehicle_at}
 use Rattle.vr_model.specs.schedules.Lines.{line, stop_allows}
+use Rattle.vr_model.specs.schedules.Narrowed.{chosen_under}
 use Rattle.vr_model.specs.schedules.Schedules.{Plan as Wanted}
 use Rattle.vr_plan.specs.Plans.{cumuls_of}
+use Rattle.vr_timings.specs.Timings.{plan_of}
 
 -- what the cumuls from stop k + 1 on cost
 abbrev pub from_stop : (ℕ → Option StopRow) → Option StopRow → List ℕ → List ℤ → ℕ → ℤ
@@ -41,3 +44,8 @@ line-stops model d v list =
 pub cumuls-seen : (plan : Option Wanted) (found : Option (List ℤ)) → found ≡ option_map cumuls_of plan → (unwrap_or plan no_plan).cumuls ≡ unwrap_or found []
 cumuls-seen None found e = sym (ap (λ o. unwrap_or o []) e)
 cumuls-seen (Some plan) found e = sym (ap (λ o. unwrap_or o []) e)
+
+-- those that were chosen under the rule of the vehicle are those of its plan
+pub plan-cumuls : (model : Model) (d v : ℕ) (list : List ℕ) (rule : ScheduleRule) (cumuls : List ℤ) → (vehicle_at model v).schedule ≡ rule → Some cumuls ≡ option_map cumuls_of (chosen_under rule (line model d v list)) → (plan_of model d v list).cumuls ≡ cumuls
+plan-cumuls model d v list rule cumuls is found =
+    ap (λ r. (unwrap_or (chosen_under r (line model d v list)) no_plan).cumuls) is ∙ cumuls-seen (chosen_under rule (line model d v list)) (Some cumuls) found

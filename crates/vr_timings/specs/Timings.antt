@@ -4,7 +4,8 @@ use Rattle.std.specs.List.{zip}
 use Rattle.vr_model.specs.tables.Numbers.{number_at, total_by, horizon}
 use Rattle.vr_model.specs.tables.Tables.{dimension_at}
 use Rattle.vr_model.specs.tables.WellFormed.{IsIn}
-use Rattle.vr_model.specs.schedules.Lines.{line, stop_rows}
+use Rattle.vr_model.specs.schedules.Lines.{stop_rows}
+use Rattle.vr_model.specs.schedules.Narrowed.{chosen_line}
 use Rattle.vr_model.specs.schedules.Schedules.{Plan, cumul}
 use Rattle.vr_model.specs.schedules.Choices.{chosen}
 use Rattle.vr_model.specs.routes.Costs.{no_plan, row_cost}
@@ -15,7 +16,7 @@ use Rattle.vr_timings.specs.declared.timings.Timing.{Timing}
 
 -- the plan that is chosen for a list of vehicle v in dimension d
 abbrev pub plan_of : Model → ℕ → ℕ → List ℕ → Plan
-plan_of model d v list = unwrap_or (chosen (line model d v list)) no_plan
+plan_of model d v list = unwrap_or (chosen (chosen_line model d v list)) no_plan
 
 -- what cumuls cost by the soft upper bounds of the stops of a list
 abbrev pub soft_of : Dimension → ℕ → List ℕ → List ℤ → ℤ

@@ -8,6 +8,9 @@ ghost use Rattle.vr_model.specs.tables.Tables.{dimension_at, is_visit};
 ghost use Rattle.vr_model.specs.routes.Routes.{is_distinct};
 ghost use Rattle.vr_model.specs.routes.Costs.{row_cost};
 ghost use Rattle.vr_model.specs.tables.WellFormed.{IsWellFormed, IsStopRow, IsIn, WherePresent};
+ghost use Rattle.vr_model.specs.schedules.Narrowed.{chosen_line};
+ghost use Rattle.vr_walks.specs.Early.{AreChosen};
+ghost use Rattle.vr_walks.specs.Lists.{IsUsed};
 ghost use Rattle.vr_timings.specs.Bounds.{cumul_cost, IsAround};
 ghost use Rattle.vr_timings.specs.Tables.{keys_of, IsTable};
 ghost use Rattle.vr_lists.specs.Places.{ArePlaces};
@@ -16,7 +19,7 @@ ghost use Rattle.vr_timings.specs.Timings.{soft_of, IsTiming, IsTimingOf};
 use crate::tables::{Table, row_of};
 use arrayvec::ArrayVec;
 use std::alloc::Global;
-use vr_model::{Dimension, Model, NoMemory, Seq, StopRow};
+use vr_model::{Dimension, Model, NoMemory, ScheduleRule, Seq, StopRow};
 use vr_plan::Chooser;
 use vr_steps::{Breaks, Line};
 use vr_walks::{Cumuls, write_earliest, write_line};
@@ -59,8 +62,8 @@ impl Timer {
     }
 }
 
-/// What the chosen schedule of a list of distinct visits of vehicle `v` comes to in dimension `d`. Where there is no
-/// schedule, all is 0. The only refusal is want of memory.
+/// What the schedule comes to that the rule of vehicle `v` chooses for a list of distinct visits in dimension `d`. Where
+/// there is no schedule, all is 0. The only refusal is want of memory.
 pub fn timing_of(
     model: &Model,
     table: &Table,
@@ -80,11 +83,12 @@ pub fn timing_of(
     ensures timing { IfOk result (IsTiming model.now d v list.now) }
     ensures range { IfOk result (IsTimingOf (length list.now + 2)) }
 {
-    if write_earliest(model, d, v, &table.stops, list, &mut timer.early) {
+    if write_early(model, table, d, v, list, &mut timer.early) {
         return Ok(timing_at(model, table, d, v, list, timer.early.as_slice()));
     }
     write_line(model, d, v, &table.stops, list, &mut timer.line)?;
-    if !timer.chooser.choose(timer.alloc, &timer.line)? {
+    let rule = model.vehicles.get(v as usize).schedule;
+    if !timer.chooser.choose(timer.alloc, &timer.line, rule)? {
         return Ok(Timing {
             soft: 0,
             start: 0,
@@ -92,6 +96,32 @@ pub fn timing_of(
         });
     }
     Ok(timing_at(model, table, d, v, list, timer.chooser.cumuls()))
+}
+
+// Writes the cumuls of the chosen schedule of a list over others, where the rule of its vehicle is that they are least
+// and they are found stop by stop.
+fn write_early(
+    model: &Model,
+    table: &Table,
+    d: u32,
+    v: u32,
+    list: &[u32],
+    cumuls: &mut Cumuls,
+) -> bool
+    requires well_formed { IsWellFormed model.now }
+    requires dimension { d < length model.now.dimensions }
+    requires vehicle { v < length model.now.vehicles }
+    requires table { IsTable model.now d table.now }
+    requires used { IsUsed model.now list.now }
+    requires few { length list.now ≤ 1000 }
+    ensures chosen { IsTrue result → AreChosen (chosen_line model.now d v list.now) cumuls.new.items }
+    ensures stops { IsTrue result → length cumuls.new.items ≡ suc (suc (length list.now)) }
+    ensures range { IsTrue result → All (IsIn (pos 0) horizon) cumuls.new.items }
+{
+    match model.vehicles.get(v as usize).schedule {
+        ScheduleRule::Earliest => write_earliest(model, d, v, &table.stops, list, cumuls),
+        ScheduleRule::Tight => false,
+    }
 }
 
 // What a list comes to with these cumuls in dimension `d`.
