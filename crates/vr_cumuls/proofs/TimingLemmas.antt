@@ -13,6 +13,7 @@ use Rattle.vr_model.specs.tables.Tables.{dimension_at, no_dimension, row_of, tra
 use Rattle.vr_model.specs.tables.WellFormed.{IsIn, IsSoft, IsStopRow, IsWellFormed, WherePresent}
 use Rattle.vr_model.specs.schedules.ChosenLaws.{ChosenIsLeast}
 use Rattle.vr_model.specs.schedules.Lines.{line, stop_rows}
+use Rattle.vr_model.specs.schedules.Narrowed.{chosen_under}
 use Rattle.vr_model.specs.schedules.Schedules.{Plan, IsSchedule, allows, arc_at, cumul}
 use Rattle.vr_model.specs.routes.Costs.{no_plan, row_cost, soft_cost}
 use Rattle.vr_model.specs.declared.records.Model.{Model}
@@ -273,7 +274,7 @@ module _ (model : Model) (well : IsWellFormed model) (d v : ℕ) (dimension : d 
     chosen = chosen_list model d v list comes.cumuls comes.early law are.no_breaks
 
     cumuls-are : (plan_of model d v list).cumuls ≡ comes.cumuls
-    cumuls-are = ap (λ o. (unwrap_or o no_plan).cumuls) chosen.is_chosen ∙ chosen.of_plan
+    cumuls-are = ap (λ rule. (unwrap_or (chosen_under rule (line model d v list)) no_plan).cumuls) are.rule ∙ ap (λ o. (unwrap_or o no_plan).cumuls) chosen.is_chosen ∙ chosen.of_plan
 
     -- the numbers of the stage at the end
     pub soft-low : pos 0 ≤ℤ last.soft

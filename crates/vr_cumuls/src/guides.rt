@@ -11,6 +11,7 @@ ghost use Rattle.std.specs.Option.{option_copied};
 ghost use Rattle.vr_model.specs.tables.Numbers.{horizon};
 ghost use Rattle.vr_model.specs.tables.Tables.{dimension_at, is_visit, row_of as row_of_key, transit, vehicle_at};
 ghost use Rattle.vr_model.specs.tables.WellFormed.{IsIn, IsStopRow, IsWellFormed, WherePresent};
+ghost use Rattle.vr_model.specs.declared.records.ScheduleRule.TheVariants.{Earliest};
 ghost use Rattle.vr_routes.specs.Pieces.{joined, nodes_of, IsWithin};
 ghost use Rattle.vr_timings.specs.Bounds.{cumul_cost};
 ghost use Rattle.vr_timings.specs.Tables.{IsTable};
@@ -22,7 +23,7 @@ ghost use Rattle.vr_cumuls.specs.Stages.{along, go_on as go_on_by, standing as s
 ghost use Rattle.vr_cumuls.specs.Stages.{to_end as to_end_by, to_visit as to_visit_by, IsStageOf};
 
 use crate::trails::{Step, Trail};
-use vr_model::{Evaluator, Model, StopRow};
+use vr_model::{Evaluator, Model, ScheduleRule, StopRow};
 use vr_routes::{Piece, Routes};
 use vr_spans::Run;
 use vr_timings::{Table, row_cost, row_of};
@@ -52,7 +53,8 @@ pub struct Guide<'m> {
 }
 
 impl<'m> Guide<'m> {
-    /// What is looked up once, nothing where the vehicle has breaks or a stop allows several runs of cumuls.
+    /// What is looked up once, nothing where the vehicle does not choose its earliest schedule, has breaks, or a stop
+    /// allows several runs of cumuls.
     #[inline]
     pub fn of(model: &'m Model, table: &'m Table, d: u32, v: u32) -> Option<Guide<'m>>
         requires well_formed { IsWellFormed model.now }
@@ -64,6 +66,10 @@ impl<'m> Guide<'m> {
         ensures dimension { IfSome result (λ guide. guide.d ≡ d) }
         ensures vehicle { IfSome result (λ guide. guide.v ≡ v) }
     {
+        let vehicle = model.vehicles.get(v as usize);
+        if !is_earliest(vehicle.schedule) {
+            return None;
+        }
         let runs = single_runs(model, d, v, &table.stops)?;
         Some(Guide {
             model,
@@ -348,6 +354,16 @@ impl<'m> Guide<'m> {
             cumul,
             soft: stage.soft + cost,
         })
+    }
+}
+
+// Whether a rule chooses the earliest schedule.
+fn is_earliest(rule: ScheduleRule) -> bool
+    ensures { IsTrue result → rule ≡ Earliest }
+{
+    match rule {
+        ScheduleRule::Earliest => true,
+        ScheduleRule::Tight => false,
     }
 }
 

@@ -352,9 +352,10 @@ impl KeptCumuls {
     }
 
     /// What the chosen schedule of the list that pieces are joined to comes to, for vehicle `v` in dimension `d`.
-    /// Nothing where it is not told so: where nothing is kept, the vehicle has breaks, a stop allows several runs of
-    /// cumuls, or there is no schedule. What the change keeps of the front of the list is walked as far back as it gets
-    /// another floor, and of its end as much as gets another cumul. The trail is written over.
+    /// Nothing where it is not told so: where nothing is kept, the vehicle does not choose its earliest schedule or has
+    /// breaks, a stop allows several runs of cumuls, or there is no schedule. What the change keeps of the front of the
+    /// list is walked as far back as it gets another floor, and of its end as much as gets another cumul. The trail is
+    /// written over.
     pub fn timing_after(
         &self,
         model: &RoutingModel,

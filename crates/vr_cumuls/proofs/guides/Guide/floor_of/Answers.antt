@@ -1,4 +1,4 @@
-use Rattle.std.proofs.Common.{◌≡◌, ◌∙◌, refl, ap₂, arith, to_z, of_z, w64}
+use Rattle.std.proofs.Common.{◌∙◌, refl, ap₂, arith, to_z, of_z, w64}
 use Rattle.std.specs.Prelude.{ℤ, ◌-ℤ◌}
 use Rattle.std.specs.Int.{int_max}
 use Rattle.std.proofs.lemmas.Int.{ints}
