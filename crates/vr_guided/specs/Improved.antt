@@ -22,8 +22,11 @@ limit_of model = record { tries = model.search.tries; solutions = model.search.s
 abbrev pub lambda_of : Model → Lambda
 lambda_of model = record { p = model.search.p; q = model.search.q }
 
--- how a first solution is improved
+-- how a first solution is improved. Reading offers no word for path LNS or tabu search, so no model that is read asks
+-- for them, and both end at the first solution.
 abbrev pub improved : Improve → Model → List (List ℕ) → Outcome
 improved improve.None model lists = untried lists
 improved improve.GreedyDescent model lists = descent model lists (limit_of model)
 improved improve.GuidedLocalSearch model lists = guided model lists (limit_of model) (lambda_of model)
+improved improve.PathLns model lists = untried lists
+improved improve.TabuSearch model lists = untried lists

@@ -137,7 +137,7 @@ pub fn improve<J: Judge, L: Ledger>(
         OnOk result (Told (λ w later. after w later) watch.old.items watch.new.items outcome.events) }
 {
     match model.search.improve {
-        Improve::None => Ok(untried(first)),
+        Improve::None | Improve::PathLns | Improve::TabuSearch => Ok(untried(first)),
         Improve::GreedyDescent => descend_from(model, judge, first, first_cost, watch, steps),
         Improve::GuidedLocalSearch => {
             guide_from(alloc, model, judge, first, first_cost, watch, steps)
