@@ -17,7 +17,7 @@ from .kinds import Row, between
 from .model import meets
 from .program import ProgramLike
 from .records import MOST_NODES, NODE, Model
-from .schedules import Line, earliest, line_of, reach_of, rows_of, tight
+from .schedules import Line, chosen, line_of, reach_of, rows_of, tight
 from .solution import Plan, Route, Solution, Status, Stop
 
 __all__ = ["CannotBeDriven", "complete", "leave_later", "shape_faults"]
@@ -84,7 +84,7 @@ def route_of(model: Model, vehicle: int, visits: Sequence[int]) -> Route:
     plans: List[Plan] = []
     for number in range(len(model.dimensions)):
         line = line_of(model, number, vehicle, nodes)
-        plan = earliest(line)
+        plan = chosen(line, model.vehicles[vehicle].schedule)
         if plan is None:
             raise cannot_be_driven(line, vehicle, nodes)
         plans.append(plan)
@@ -122,8 +122,8 @@ def leave_later(
 ) -> Solution:
     """The same routes, each day ending as early as it can and beginning as late as that allows, where it is no dearer.
 
-    No stop comes later than it did beyond its soft bound. The program's own schedule is the earliest one, in which a
-    driver who may wait leaves early and is paid for standing. Raises `NotMet` where the solution breaks a rule; where
+    No stop comes later than it did beyond its soft bound. The program's own schedule is the earliest one where the
+    vehicle does not ask for `tight`: in it a driver who may wait leaves early and is paid for standing. Raises `NotMet` where the solution breaks a rule; where
     it is not `checked`, it has to meet its model.
     """
     solution = meets(model, solution, program) if checked else solution

@@ -14,16 +14,16 @@ from .errors import NotMet, ProgramFailed, Refused
 from .findings import Finding, explain
 from .program import ProgramLike, lines_of, program_of, tree_of
 from .records import (
-    Allowed, Break, Dimension, Evaluator, First, Group, Improve, Model, Neighbourhood, NodeRow, Pair, Policy, Search,
-    Soft, StopRow, Vehicle, VehicleBreaks, VehicleRow,
+    Allowed, Break, Dimension, Evaluator, First, Group, Improve, Model, Neighbourhood, NodeRow, Pair, Policy,
+    ScheduleRule, Search, Soft, StopRow, Vehicle, VehicleBreaks, VehicleRow,
 )
 from .solution import Parts, Plan, Route, Solution, Status, Stop
 
 __all__ = [
     "Allowed", "Break", "Dimension", "Evaluator", "Event", "Finding", "First", "Group", "Improve", "Model",
-    "Neighbourhood", "NodeRow", "Pair", "Parts", "Plan", "Policy", "Route", "Search", "SearchLog", "Soft", "Solution",
-    "Status", "Stop", "StopRow", "Vehicle", "VehicleBreaks", "VehicleRow", "check", "explain", "first", "generate",
-    "meets", "read_model", "read_solution", "solve", "solve_with_log",
+    "Neighbourhood", "NodeRow", "Pair", "Parts", "Plan", "Policy", "Route", "ScheduleRule", "Search", "SearchLog",
+    "Soft", "Solution", "Status", "Stop", "StopRow", "Vehicle", "VehicleBreaks", "VehicleRow", "check", "explain",
+    "first", "generate", "meets", "read_model", "read_solution", "solve", "solve_with_log",
 ]
 
 

@@ -10,11 +10,11 @@ from __future__ import annotations
 import json
 from dataclasses import dataclass
 from enum import Enum
-from typing import Annotated, Iterator, List, Optional, Sequence, Set, Tuple, Union
+from typing import Annotated, Any, Iterator, List, Optional, Sequence, Set, Tuple, Union
 
 from .errors import Fault
 from .kinds import Either, Flag, Inner, Maybe, Record, Row, Span, Square, Text, Whole, Word
-from .whole import model_faults
+from .whole import model_faults, schedules_of_format_1
 
 MOST_NODES = 1000
 MOST_VEHICLES = 100
@@ -41,6 +41,15 @@ class Policy(Enum):
     ANY = "any"
     LIFO = "lifo"
     FIFO = "fifo"
+
+
+class ScheduleRule(Enum):
+    """By which rule a vehicle chooses one of its schedules, in each dimension; format 2 alone has it."""
+
+    EARLIEST = "earliest"
+    """The least cumuls, compared from the start on."""
+    TIGHT = "tight"
+    """The day ends as early as it can, begins as late as that allows, and then has the least cumuls."""
 
 
 class First(Enum):
@@ -86,13 +95,15 @@ def repeated(entries: Sequence[int], path: str) -> Iterator[Fault]:
 
 @dataclass(frozen=True)
 class Vehicle(Record):
-    """A vehicle: the nodes where it starts and ends, the number of its cost matrix, what it costs to use it at all."""
+    """A vehicle: the nodes where it starts and ends, the number of its cost matrix, what it costs to use it at all, the
+    order of its deliveries, and the rule of its schedules."""
 
     start: Annotated[int, NODE]
     end: Annotated[int, NODE]
     costs: Annotated[int, Whole(0, MOST_MATRICES - 1)] = 0
     fixed: Annotated[int, Whole(0, GREATEST_ENTRY)] = 0
     policy: Annotated[Policy, Word(Policy)] = Policy.ANY
+    schedule: Annotated[ScheduleRule, Word(ScheduleRule)] = ScheduleRule.EARLIEST
 
 
 @dataclass(frozen=True)
@@ -281,7 +292,8 @@ class Model(Record):
     """A model: nodes, matrices, vehicles, and what is asked of routes. `Model.of(tree)` reads one, `tree` writes it.
 
     A node where some vehicle starts or ends is no visit; every other node is one, and must be made unless it stands in
-    a group. Raises `Refused` at the first faulty field; negative costs and transits are left to the program.
+    a group. Raises `Refused` at the first faulty field; negative costs and transits are left to the program. A vehicle
+    with a `schedule` of its own asks for `format=2`.
     """
 
     nodes: Annotated[int, Whole(1, MOST_NODES)]
@@ -295,13 +307,18 @@ class Model(Record):
     pairs: Annotated[Sequence[Pair], Row(Inner(Pair), 0, 500)] = ()
     allowed: Annotated[Sequence[Allowed], Row(Inner(Allowed), 0, 1000)] = ()
     search: Annotated[Search, Inner(Search)] = Search()
-    format: Annotated[int, Whole(1, 1)] = 1
+    format: Annotated[int, Whole(1, 2)] = 1
 
     def __repr__(self) -> str:
         return f"Model({self.nodes} nodes, {len(self.vehicles)} vehicles, {len(self.dimensions)} dimensions)"
 
     def own_faults(self) -> Iterator[Fault]:
         yield from model_faults(self)
+
+    @classmethod
+    def faults_of(cls, tree: Any, path: str = "") -> Iterator[Fault]:
+        yield from super().faults_of(tree, path)
+        yield from schedules_of_format_1(tree, path)
 
     def tree(self) -> "dict[str, object]":
         return {"format": self.format, **super().tree()}

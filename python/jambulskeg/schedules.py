@@ -12,10 +12,10 @@ from dataclasses import dataclass, replace
 from typing import List, Optional, Sequence, Set, Tuple
 
 from .intervals import Interval, Numbers, common, united, without
-from .records import HORIZON, Break, Dimension, Model, StopRow
+from .records import HORIZON, Break, Dimension, Model, ScheduleRule, StopRow
 from .solution import Plan
 
-__all__ = ["Line", "earliest", "line_of", "ranges", "tight"]
+__all__ = ["Line", "chosen", "earliest", "line_of", "ranges", "tight"]
 
 Levels = List[Numbers]
 """For each number of breaks a set of cumuls."""
@@ -248,6 +248,11 @@ def fits(line: Line, cumuls: Sequence[int], place: int, start: int, entry: Break
     """Whether a break that starts here ends before the next stop, and the slack has room for it."""
     is_last = place == len(line.transits)
     return start <= entry.to and entry.duration <= room and (is_last or start + entry.duration <= cumuls[place + 1])
+
+
+def chosen(line: Line, rule: ScheduleRule) -> Optional[Plan]:
+    """The schedule of a line under the rule of its vehicle; None without any."""
+    return tight(line) if rule is ScheduleRule.TIGHT else earliest(line)
 
 
 def tight(line: Line) -> Optional[Plan]:

@@ -123,6 +123,12 @@ def random_tree(rng: random.Random) -> Dict[str, Any]:
     return tree
 
 
+def in_format_2(rng: random.Random, tree: Dict[str, Any]) -> Dict[str, Any]:
+    """The same model, some of whose vehicles say by which rule they choose their schedules."""
+    rules: "list[Dict[str, str]]" = [{}, {"schedule": "earliest"}, {"schedule": "tight"}, {"schedule": "tight"}]
+    return {**tree, "format": 2, "vehicles": [{**vehicle, **rng.choice(rules)} for vehicle in tree["vehicles"]]}
+
+
 def add_rules(rng: random.Random, tree: Dict[str, Any], visits: List[int]) -> None:
     """Adds groups, pairs and allowed vehicles."""
     shuffled = rng.sample(visits, len(visits))

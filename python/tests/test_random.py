@@ -16,7 +16,7 @@ from jambulskeg.model import Model, check, first, solve, solve_with_log
 from jambulskeg.rescue import Way, rescue
 from jambulskeg.routing import pywrapcp
 
-from .support import ask, mutated, random_tree
+from .support import ask, in_format_2, mutated, random_tree
 
 MODELS = 40
 LEFT_TO_THE_PROGRAM = (20, 21, 22, 23)
@@ -36,7 +36,10 @@ class RandomTests(unittest.TestCase):
     def test_the_package_answers_as_the_program(self) -> None:
         solved = 0
         for number in range(MODELS):
-            tree = random_tree(random.Random(number))
+            rng = random.Random(number)
+            tree = random_tree(rng)
+            if number % 2:
+                tree = in_format_2(rng, tree)
             text = json.dumps(tree)
             status, line = ask("solve", text)
             if status == 5:
@@ -72,7 +75,7 @@ class RandomTests(unittest.TestCase):
                 status, line = ask("first", json.dumps(changed))
                 told = json.loads(line)
                 fault = (told["code"], told["path"]) if status == 5 else (0, "")
-                if fault[0] not in LEFT_TO_THE_PROGRAM and changed.get("format") == 1:
+                if fault[0] not in LEFT_TO_THE_PROGRAM and changed.get("format") in (1, 2):
                     self.assertEqual(refusal(changed), fault, number)
                     refused += bool(fault[0])
         self.assertGreater(refused, MODELS)

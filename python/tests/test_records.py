@@ -11,8 +11,8 @@ from typing import Any, Callable
 from jambulskeg.errors import CAUSES, Fault, Refused
 from jambulskeg.kinds import Flag, Kind, Maybe, Square, Text, Word, between, is_list, key_of, kinds_of, whole_fault
 from jambulskeg.model import (
-    Allowed, Break, Dimension, Evaluator, First, Group, Improve, Model, Neighbourhood, NodeRow, Pair, Policy, Search,
-    Soft, Vehicle, VehicleBreaks, VehicleRow, read_model, read_solution,
+    Allowed, Break, Dimension, Evaluator, First, Group, Improve, Model, Neighbourhood, NodeRow, Pair, Policy,
+    ScheduleRule, Search, Soft, Vehicle, VehicleBreaks, VehicleRow, read_model, read_solution,
 )
 from jambulskeg.records import repeated
 
@@ -41,6 +41,18 @@ class RecordTests(unittest.TestCase):
                 self.assertEqual(read_solution(path).text() + "\n", file.read(), path)
             model = read_model(path.replace(".solved.json", ".json"))
             self.assertEqual(Model.of(json.loads(model.text())), model, path)
+
+    def test_a_vehicle_chooses_its_schedules_in_format_2_alone(self) -> None:
+        tight = Vehicle(0, 0, schedule=ScheduleRule.TIGHT)
+        model = Model(1, [[[0]]], [tight], format=2)
+        self.assertEqual(model.tree()["vehicles"], [{"start": 0, "end": 0, "schedule": "tight"}])
+        self.assertEqual(Model.of(model.tree()), model)
+        self.refused(13, "/vehicles/0/schedule", lambda: Model(1, [[[0]]], [tight]))
+        for word in ("tight", "earliest"):
+            vehicle = {"start": 0, "end": 0, "schedule": word}
+            self.refused(13, "/vehicles/0/schedule", lambda: Model.of({**model.tree(), "format": 1, "vehicles": [vehicle]}))
+        self.refused(17, "/schedule", lambda: Vehicle(0, 0, schedule="loose"))  # type: ignore[arg-type]
+        self.refused(14, "/format", lambda: Model(1, [[[0]]], [Vehicle(0, 0)], format=3))
 
     def test_a_field_is_checked_where_it_is_written(self) -> None:
         self.refused(14, "/fixed", lambda: Vehicle(0, 1, fixed=-1))
@@ -94,7 +106,7 @@ class RecordTests(unittest.TestCase):
         self.refused(11, "/groups", lambda: Model.of(tree_with(groups=None)))
         self.refused(14, "/vehicles/0/start", lambda: Model.of(tree_with(vehicles=[{"start": 1000, "end": 0}])))
         self.refused(16, "/pairs/0/delivery", lambda: Model.of(tree_with(pairs=[{"pickup": 1, "delivery": 1}])))
-        self.refused(14, "/format", lambda: Model(**THREE, format=2))
+        self.refused(14, "/format", lambda: Model(**THREE, format=3))
 
     def test_a_model_answers(self) -> None:
         model = Model.of(tree_with(dimensions=[LOAD], allowed=[{"node": 1, "vehicles": [0]}]))
