@@ -16,7 +16,7 @@ use Rattle.vr_model.specs.declared.records.Report.{Report}
 use Rattle.vr_model.specs.routes.Costs.{Assignment, assigned, chosen_plans, no_plan, parts_at, plan_at}
 use Rattle.vr_model.specs.routes.Routes.{inactive, is_empty, route, vehicles}
 use Rattle.vr_model.specs.schedules.Choices.{chosen}
-use Rattle.vr_model.specs.schedules.Lines.{line}
+use Rattle.vr_model.specs.schedules.Narrowed.{chosen_line}
 use Rattle.vr_model.specs.schedules.Schedules.{Plan}
 use Rattle.vr_model.proofs.tables.Ranges.{below-more}
 use Rattle.vr_print.specs.Numbers.{count, whole}
@@ -36,13 +36,13 @@ filter-below_more p q n =
 -- ---- the plans of an assignment
 
 chosen-at : (model : Model) (d v : ℕ) (list : List ℕ) → d < length model.dimensions → is_empty list ≡ false
-    → slice_index_or (chosen_plans model v list) d no_plan ≡ unwrap_or (chosen (line model d v list)) no_plan
+    → slice_index_or (chosen_plans model v list) d no_plan ≡ unwrap_or (chosen (chosen_line model d v list)) no_plan
 chosen-at model d v [] low some = absurd (cc)
-chosen-at model d v (x ∷ xs) low some = get_or-map-range_with_len (λ d. unwrap_or (chosen (line model d v (x ∷ xs))) no_plan) 0 (length model.dimensions) d d no_plan low (omega arith)
+chosen-at model d v (x ∷ xs) low some = get_or-map-range_with_len (λ d. unwrap_or (chosen (chosen_line model d v (x ∷ xs))) no_plan) 0 (length model.dimensions) d d no_plan low (omega arith)
 
 -- the plan of a used vehicle
 pub plan-at : (model : Model) (lists : List (List ℕ)) (d v : ℕ) → d < length model.dimensions → v < length lists → is_empty (route lists v) ≡ false
-    → plan_at (assigned model lists) d v ≡ unwrap_or (chosen (line model d v (route lists v))) no_plan
+    → plan_at (assigned model lists) d v ≡ unwrap_or (chosen (chosen_line model d v (route lists v))) no_plan
 plan-at model lists d v low known some =
     ap (λ plans. slice_index_or plans d no_plan) (get_or-map-range_with_len (λ v. chosen_plans model v (route lists v)) 0 (length lists) v v [] known (omega arith))
     ∙ chosen-at model d v (route lists v) low some

@@ -6,7 +6,7 @@ ghost use Rattle.serde_json.specs.View.{view};
 ghost use Rattle.vr_model.specs.routes.Costs.{assigned, no_plan};
 ghost use Rattle.vr_model.specs.routes.Routes.{are_lists, is_distinct, is_empty, route};
 ghost use Rattle.vr_model.specs.schedules.Choices.{chosen};
-ghost use Rattle.vr_model.specs.schedules.Lines.{line};
+ghost use Rattle.vr_model.specs.schedules.Narrowed.{chosen_line};
 ghost use Rattle.vr_model.specs.tables.Tables.{is_visit};
 ghost use Rattle.vr_model.specs.tables.WellFormed.{IsWellFormed};
 ghost use Rattle.vr_plan.specs.Plans.{seen};
@@ -21,7 +21,7 @@ use vr_plan::{Plan, schedule};
 use vr_routes::Routes;
 use vr_steps::Line;
 
-// The plan that is chosen for a list of vehicle `v` in dimension `d`, empty where the list has no schedule.
+// The plan that the rule of vehicle `v` chooses for a list in dimension `d`, empty where the list has no schedule.
 fn chosen_plan(alloc: Global, model: &Model, d: u32, v: u32, list: &[u32]) -> Result<Plan, NoMemory>
     requires well_formed { IsWellFormed model.now }
     requires dimension { d < length model.now.dimensions }
@@ -29,10 +29,11 @@ fn chosen_plan(alloc: Global, model: &Model, d: u32, v: u32, list: &[u32]) -> Re
     requires some { 0 < length list.now }
     requires visits { IsTrue (list_all (is_visit model.now) list.now) }
     requires distinct { IsTrue (is_distinct list.now) }
-    ensures { IfOk result (λ plan. seen plan ≡ unwrap_or (chosen (line model.now d v list.now)) no_plan) }
+    ensures { IfOk result (λ plan. seen plan ≡ unwrap_or (chosen (chosen_line model.now d v list.now)) no_plan) }
 {
     let line = Line::build(alloc, model, d, v, list)?;
-    match schedule(alloc, &line)? {
+    let rule = model.vehicles.get(v as usize).schedule;
+    match schedule(alloc, &line, rule)? {
         Some(plan) => Ok(plan),
         None => Ok(Plan {
             cumuls: Seq::new(alloc),

@@ -98,8 +98,8 @@ fn tree_of(
 }
 
 /// The tree of valid routes of a model: their cost with its six parts, the visits that are dropped, ascending, and for
-/// each vehicle its nodes from start to end and, in each dimension, the cumuls, slacks and break starts of its chosen
-/// schedule; beside these what the first solution cost and how the search went.
+/// each vehicle its nodes from start to end and, in each dimension, the cumuls, slacks and break starts of the schedule
+/// that its rule chooses; beside these what the first solution cost and how the search went.
 ///
 /// `NoMemory` where there was no memory.
 pub fn solution_tree(

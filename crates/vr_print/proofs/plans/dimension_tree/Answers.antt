@@ -4,7 +4,7 @@ use Rattle.vr_model.specs.routes.Routes.{is_distinct}
 use Rattle.vr_model.specs.tables.Tables.{is_visit, no_dimension}
 use Rattle.vr_model.specs.routes.Costs.{no_plan}
 use Rattle.vr_model.specs.schedules.Choices.{chosen}
-use Rattle.vr_model.specs.schedules.Lines.{line}
+use Rattle.vr_model.specs.schedules.Narrowed.{chosen_line}
 use Rattle.std.specs.Prelude.{unwrap_or}
 use Rattle.vr_model.proofs.routes.Lists.{route-visits, route-distinct}
 use Rattle.vr_print.specs.Solution.{plan_tree}
@@ -22,6 +22,6 @@ chosen_plan-requires-clause-distinct c =
 pub returns : goal.returns
 returns c =
     let model = c.args.model.now in
-    let plan = c.in_ok-plan.ensures ∙ ap (λ list. unwrap_or (chosen (line model c.args.d c.args.v list)) no_plan) c.list.ensures.value
+    let plan = c.in_ok-plan.ensures ∙ ap (λ list. unwrap_or (chosen (chosen_line model c.args.d c.args.v list)) no_plan) c.list.ensures.value
     ∙ sym (plan-at model c.args.routes.now.lists c.args.d c.args.v c.requires.dimension c.requires.vehicle c.requires.used) in
     c.in_ok-tree.ensures ∙ ap₂ plan_tree (sym (c.get.ensures.value no_dimension)) plan
