@@ -5,19 +5,24 @@ use Rattle.std.proofs.lemmas.Int.{ints}
 use Rattle.vr_model.specs.declared.records.Improve.{Improve}
 use Rattle.vr_model.specs.declared.records.Improve.TheVariants as improve
 use Rattle.vr_model.specs.declared.records.Model.{Model}
+use Rattle.vr_model.specs.declared.records.ScheduleRule.{ScheduleRule}
 use Rattle.vr_model.specs.search.Outcomes.{Outcome}
 use Rattle.vr_model.specs.first.FirstSolutions.{build, first_lists}
 use Rattle.vr_model.specs.routes.Costs.{assigned, cost, no_plan}
 use Rattle.vr_model.specs.routes.Routes.{inactive, route}
 use Rattle.vr_model.specs.routes.Rules.{is_open, is_valid}
-use Rattle.vr_model.specs.schedules.Choices.{chosen}
 use Rattle.vr_model.specs.schedules.Lines.{Line, line}
-use Rattle.vr_model.specs.schedules.Schedules.{IsChosen, IsSchedule, Plan}
+use Rattle.vr_model.specs.schedules.Narrowed.{chosen_under}
+use Rattle.vr_model.specs.schedules.RuleLaws.{HasStops}
+use Rattle.vr_model.specs.schedules.Schedules.{IsSchedule, Plan}
+use Rattle.vr_model.specs.schedules.Tight.{IsChosenUnder}
+use Rattle.vr_model.specs.tables.Tables.{vehicle_at}
 use Rattle.vr_model.specs.tables.WellFormed.{IsWellFormed}
 use Rattle.vr_model.specs.deciding.Testing.{and_left, and_right}
 use Rattle.vr_model.proofs.routes.CostFits.{costs_are_bounded}
 use Rattle.vr_model.proofs.routes.Assigned.{chosen_plans_are_there, open_meets_its_lines}
-use Rattle.vr_model.proofs.schedules.ChoiceLaws.{chosen_is, chosen_where_feasible}
+use Rattle.vr_model.proofs.schedules.LineArcs.{stops_of_line}
+use Rattle.vr_model.proofs.schedules.UnderRules.{chosen_under_is_chosen, chosen_under_where_feasible}
 use Rattle.vr_descent.specs.Answering.{IsSoundAnswer}
 use Rattle.vr_descent.proofs.AnswerLemmas.{descent_is_sound}
 use Rattle.vr_guided.proofs.AnswerLemmas.{guided_is_sound}
@@ -45,18 +50,21 @@ valid-open : (model : Model) (lists : List (List ℕ)) → IsTrue (is_valid mode
 unfolding is_valid
 valid-open model lists h = and_left (is_open model lists) _ (and_right _ _ h)
 
--- a line with a schedule has the chosen one
-chosen-of : (line : Line) (plan : Plan) → IsSchedule line plan → IsChosen line (unwrap_or (chosen line) no_plan)
-chosen-of line plan is = by (chosen line) refl ((chosen_where_feasible line).1 (plan, is))
+-- a line with a schedule has the one that a rule chooses
+chosen-of : (rule : ScheduleRule) (line : Line) → HasStops line → (plan : Plan) → IsSchedule line plan → IsChosenUnder rule line (unwrap_or (chosen_under rule line) no_plan)
+chosen-of rule line stops plan is = by (chosen_under rule line) refl ((chosen_under_where_feasible rule line stops).1 (plan, is))
   where
-    by : (o : Option Plan) → chosen line ≡ o → IsTrue (is_some o) → IsChosen line (unwrap_or o no_plan)
+    by : (o : Option Plan) → chosen_under rule line ≡ o → IsTrue (is_some o) → IsChosenUnder rule line (unwrap_or o no_plan)
     by None e h = absurd cc
-    by (Some p) e h = chosen_is line p e
+    by (Some p) e h = (chosen_under_is_chosen rule line stops p).0 e
 
 chosen-plans : (model : Model) (lists : List (List ℕ)) → IsTrue (is_valid model lists) → HasChosenPlans model (assigned model lists)
 chosen-plans model lists valid d v low known used =
     let meets = open_meets_its_lines model lists (valid-open model lists valid) d v low known used in
-    subst (IsChosen (line model d v (route lists v))) (sym (plan-at model lists d v low known used)) (chosen-of (line model d v (route lists v)) _ meets)
+    let rule = (vehicle_at model v).schedule in
+    let stops = stops_of_line model d v (route lists v) in
+    subst (IsChosenUnder rule (line model d v (route lists v))) (sym (plan-at model lists d v low known used))
+    (chosen-of rule (line model d v (route lists v)) stops _ meets)
 
 -- valid lists at their chosen schedules are a solution
 pub is-solution : (model : Model) (first lists : List (List ℕ)) → IsTrue (is_valid model lists) → cost model lists ≤ℤ cost model first → IsSolution model first (assigned model lists)
@@ -92,6 +100,8 @@ pub improved-sound : (how : Improve) (model : Model) (first : List (List ℕ)) �
 improved-sound improve.None model first well_formed valid = untried-sound model first well_formed valid
 improved-sound improve.GreedyDescent model first well_formed valid =
     answer-sound model first _ (descent_is_sound model first (limit_of model) valid well_formed.search_in_range.solutions_in_range.0)
+improved-sound improve.PathLns model first well_formed valid = untried-sound model first well_formed valid
+improved-sound improve.TabuSearch model first well_formed valid = untried-sound model first well_formed valid
 improved-sound improve.GuidedLocalSearch model first well_formed valid =
     answer-sound model first _ (guided_is_sound model first (limit_of model) (lambda_of model) valid well_formed.search_in_range.solutions_in_range.0)
 

@@ -7,18 +7,19 @@ use Rattle.vr_model.specs.routes.Costs.{Assignment, cost, parts_at, plan_at, sum
 use Rattle.vr_model.specs.routes.Routes.{is_empty, route}
 use Rattle.vr_model.specs.routes.Rules.{is_valid}
 use Rattle.vr_model.specs.schedules.Lines.{line}
-use Rattle.vr_model.specs.schedules.Schedules.{IsChosen}
+use Rattle.vr_model.specs.schedules.Tight.{IsChosenUnder}
+use Rattle.vr_model.specs.tables.Tables.{vehicle_at}
 use Rattle.vr_model.specs.declared.records.Model.{Model}
 use Rattle.vr_model.specs.declared.records.Report.{Report}
 use Rattle.vr_print.specs.Solution.{assignment_tree}
 use Rattle.vr_check.specs.Check.{finding}
 use Rattle.vr_check.specs.declared.finding.Finding.TheVariants.{Meets}
 
--- the plan of each used vehicle in each dimension is the chosen schedule of its line
+-- the plan of each used vehicle in each dimension is the schedule of its line that the rule of the vehicle chooses
 abbrev pub HasChosenPlans : Model → Assignment → Type 0
 HasChosenPlans model assignment = (d v : ℕ) → d < length model.dimensions → v < length assignment.lists
     → is_empty (route assignment.lists v) ≡ false
-    → IsChosen (line model d v (route assignment.lists v)) (plan_at assignment d v)
+    → IsChosenUnder (vehicle_at model v).schedule (line model d v (route assignment.lists v)) (plan_at assignment d v)
 
 -- an assignment with valid lists and chosen schedules; its cost, the sum of the six parts at its cumuls, is that of its
 -- lists and at most that of the first solution
