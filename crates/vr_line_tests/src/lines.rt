@@ -24,18 +24,18 @@ pub fn model_of(alloc: Global, fields: &str) -> Option<Model>
     }
 }
 
-/// The line in dimension 0; none where the model has no such dimension or no such visit.
-pub fn line_in(alloc: Global, model: &Model) -> Option<Line>
+/// The line in a dimension; none where the model has no such dimension or no such visit.
+pub fn line_in(alloc: Global, model: &Model, d: u32) -> Option<Line>
     requires { IsWellFormed model.now }
     ensures { IfSome result IsSoundLine }
 {
-    if model.dimensions.len() == 0 {
+    if model.dimensions.len() <= d as usize {
         return None;
     }
     if !model.is_visit(1) {
         return None;
     }
-    match Line::build(alloc, model, 0, 0, &[1]) {
+    match Line::build(alloc, model, d, 0, &[1]) {
         Ok(line) => Some(line),
         Err(_) => None,
     }

@@ -113,7 +113,7 @@ fn holds_of(alloc: Global, line: &Line, row: &Row) -> bool
 
 fn holds(alloc: Global, row: &Row) -> bool {
     let line = match model_of(alloc, row.1) {
-        Some(model) => line_in(alloc, &model),
+        Some(model) => line_in(alloc, &model, 0),
         None => None,
     };
     match line {

@@ -6,113 +6,222 @@ ghost use Rattle.vr_steps.specs.Lines.{IsSoundLine};
 use crate::lines::{line_in, model_of};
 use std::alloc::Global;
 use std::test::Fail;
-use vr_model::{Model, NoMemory};
+use vr_model::{Model, NoMemory, ScheduleRule};
 use vr_plan::{Chooser, Plan, chosen_cumuls, schedule, schedule_over};
 use vr_reach::Rows;
+use vr_samples::read_model_text;
 use vr_steps::Line;
 use vr_walks::{Cumuls, Stops, write_earliest};
 
-// The fields of a dimension, and the chosen schedule of the line in it: without cumuls where there is none. The last
-// says whether its cumuls are found stop by stop.
-struct Row {
-    name: &'static str,
-    fields: &'static str,
+// A schedule, without cumuls where there is none.
+struct Wanted {
     cumuls: &'static [i64],
     slacks: &'static [i64],
     breaks: &'static [i64],
+}
+
+// The fields of a dimension, and the schedule of the line in it that is chosen under each rule. The last says whether
+// the earliest cumuls are found stop by stop.
+struct Row {
+    name: &'static str,
+    fields: &'static str,
+    earliest: Wanted,
+    tight: Wanted,
     early: bool,
 }
 
 // The visit allows six runs, more than are held in place; the first that is reached from 0 with transit 5 is 9.
 #[rattlefmt::skip]
 static WAITING: [Row; 8] = [
-    Row { name: "no wait is long enough", cumuls: &[], slacks: &[], breaks: &[], early: false,
+    Row { name: "no wait is long enough", early: false,
+        earliest: Wanted { cumuls: &[], slacks: &[], breaks: &[] },
+        tight: Wanted { cumuls: &[], slacks: &[], breaks: &[] },
         fields: r#""evaluators":[{"matrix":0}],"slack_max":3,"capacity":100,"fix_start":true,
 "nodes":[{"node":1,"forbidden":[[5,8],[10,12],[14,16],[18,20],[22,24]]}]"# },
-    Row { name: "the start waits", cumuls: &[1, 9, 14], slacks: &[3, 0], breaks: &[], early: false,
+    Row { name: "the start waits", early: false,
+        earliest: Wanted { cumuls: &[1, 9, 14], slacks: &[3, 0], breaks: &[] },
+        tight: Wanted { cumuls: &[4, 9, 14], slacks: &[0, 0], breaks: &[] },
         fields: r#""evaluators":[{"matrix":0}],"slack_max":3,"capacity":100,
 "nodes":[{"node":1,"forbidden":[[5,8],[10,12],[14,16],[18,20],[22,24]]}]"# },
-    Row { name: "the vehicle waits", cumuls: &[0, 9, 14], slacks: &[4, 0], breaks: &[], early: false,
+    Row { name: "the vehicle waits", early: false,
+        earliest: Wanted { cumuls: &[0, 9, 14], slacks: &[4, 0], breaks: &[] },
+        tight: Wanted { cumuls: &[0, 9, 14], slacks: &[4, 0], breaks: &[] },
         fields: r#""evaluators":[{"matrix":0}],"slack_max":4,"capacity":100,"fix_start":true,
 "nodes":[{"node":1,"forbidden":[[5,8],[10,12],[14,16],[18,20],[22,24]]}]"# },
-    Row { name: "a slack of the whole horizon", cumuls: &[0, 68719476736, 68719476736], slacks: &[68719476736, 0],
-        breaks: &[], early: true,
+    Row { name: "a slack of the whole horizon", early: true,
+        earliest: Wanted { cumuls: &[0, 68719476736, 68719476736], slacks: &[68719476736, 0], breaks: &[] },
+        tight: Wanted { cumuls: &[68719476736, 68719476736, 68719476736], slacks: &[0, 0], breaks: &[] },
         fields: r#""evaluators":[{"matrix":2}],"slack_max":68719476736,"capacity":68719476736,
 "nodes":[{"node":1,"window":[68719476736,68719476736]}]"# },
-    Row { name: "no wait", cumuls: &[0, 5, 10], slacks: &[0, 0], breaks: &[], early: true,
+    Row { name: "no wait", early: true,
+        earliest: Wanted { cumuls: &[0, 5, 10], slacks: &[0, 0], breaks: &[] },
+        tight: Wanted { cumuls: &[0, 5, 10], slacks: &[0, 0], breaks: &[] },
         fields: r#""evaluators":[{"matrix":0}],"slack_max":0,"capacity":100"# },
-    Row { name: "all the wait that there is", cumuls: &[0, 8, 13], slacks: &[3, 0], breaks: &[], early: true,
+    Row { name: "all the wait that there is", early: true,
+        earliest: Wanted { cumuls: &[0, 8, 13], slacks: &[3, 0], breaks: &[] },
+        tight: Wanted { cumuls: &[3, 8, 13], slacks: &[0, 0], breaks: &[] },
         fields: r#""evaluators":[{"matrix":0}],"slack_max":3,"capacity":100,"nodes":[{"node":1,"window":[8,20]}]"# },
-    Row { name: "the start waits for a window", cumuls: &[1, 9, 14], slacks: &[3, 0], breaks: &[], early: false,
+    Row { name: "the start waits for a window", early: false,
+        earliest: Wanted { cumuls: &[1, 9, 14], slacks: &[3, 0], breaks: &[] },
+        tight: Wanted { cumuls: &[4, 9, 14], slacks: &[0, 0], breaks: &[] },
         fields: r#""evaluators":[{"matrix":0}],"slack_max":3,"capacity":100,"nodes":[{"node":1,"window":[9,20]}]"# },
-    Row { name: "too late", cumuls: &[], slacks: &[], breaks: &[], early: false,
+    Row { name: "too late", early: false,
+        earliest: Wanted { cumuls: &[], slacks: &[], breaks: &[] },
+        tight: Wanted { cumuls: &[], slacks: &[], breaks: &[] },
         fields: r#""evaluators":[{"matrix":0}],"slack_max":3,"capacity":9"# },
 ];
 
 #[rattlefmt::skip]
 static BREAKS: [Row; 3] = [
-    Row { name: "a break on the way", cumuls: &[0, 15, 25], slacks: &[5, 0], breaks: &[4], early: false,
+    Row { name: "a break on the way", early: false,
+        earliest: Wanted { cumuls: &[0, 15, 25], slacks: &[5, 0], breaks: &[4] },
+        tight: Wanted { cumuls: &[0, 15, 25], slacks: &[5, 0], breaks: &[4] },
         fields: r#""evaluators":[{"matrix":1}],"slack_max":20,"capacity":100,"fix_start":true,"visit":[2,2],
 "breaks":[{"vehicle":0,"breaks":[{"from":4,"to":6,"duration":5}]}]"# },
-    Row { name: "a break during a visit", cumuls: &[], slacks: &[], breaks: &[], early: false,
+    Row { name: "a break during a visit", early: false,
+        earliest: Wanted { cumuls: &[], slacks: &[], breaks: &[] },
+        tight: Wanted { cumuls: &[], slacks: &[], breaks: &[] },
         fields: r#""evaluators":[{"matrix":1}],"slack_max":20,"capacity":100,"fix_start":true,"visit":[7,7],
 "breaks":[{"vehicle":0,"breaks":[{"from":4,"to":6,"duration":5}]}]"# },
-    Row { name: "a break before and one after", cumuls: &[5, 15, 25], slacks: &[0, 0], breaks: &[0, 40], early: false,
+    Row { name: "a break before and one after", early: false,
+        earliest: Wanted { cumuls: &[5, 15, 25], slacks: &[0, 0], breaks: &[0, 40] },
+        tight: Wanted { cumuls: &[5, 15, 25], slacks: &[0, 0], breaks: &[0, 40] },
         fields: r#""evaluators":[{"matrix":1}],"slack_max":0,"capacity":100,"visit":[2,2],
 "breaks":[{"vehicle":0,"breaks":[{"from":0,"to":0,"duration":5},{"from":40,"to":50,"duration":5}]}]"# },
 ];
 
-fn is_wanted(found: Result<Option<Plan>, NoMemory>, row: &Row) -> bool {
+// Each rule chooses another schedule.
+#[rattlefmt::skip]
+static UNLIKE: [Row; 3] = [
+    Row { name: "the vehicle waits at home", early: true,
+        earliest: Wanted { cumuls: &[0, 30, 40], slacks: &[20, 0], breaks: &[] },
+        tight: Wanted { cumuls: &[20, 30, 40], slacks: &[0, 0], breaks: &[] },
+        fields: r#""evaluators":[{"matrix":1}],"slack_max":20,"capacity":100,"nodes":[{"node":1,"window":[30,40]}]"# },
+    Row { name: "the start may not be late, nor the end early", early: false,
+        earliest: Wanted { cumuls: &[0, 30, 60], slacks: &[20, 20], breaks: &[] },
+        tight: Wanted { cumuls: &[20, 30, 60], slacks: &[0, 20], breaks: &[] },
+        fields: r#""evaluators":[{"matrix":1}],"slack_max":20,"capacity":100,
+"starts":[{"vehicle":0,"window":[0,20]}],"ends":[{"vehicle":0,"window":[60,100]}]"# },
+    Row { name: "several runs at the visit and at the end", early: false,
+        earliest: Wanted { cumuls: &[14, 30, 41], slacks: &[6, 1], breaks: &[] },
+        tight: Wanted { cumuls: &[21, 31, 41], slacks: &[0, 0], breaks: &[] },
+        fields: r#""evaluators":[{"matrix":1}],"slack_max":6,"capacity":100,"starts":[{"vehicle":0,"window":[0,60]}],
+"nodes":[{"node":1,"forbidden":[[0,19],[25,29],[34,49]]}],
+"ends":[{"vehicle":0,"forbidden":[[21,40],[43,44],[91,100]]}]"# },
+];
+
+#[rattlefmt::skip]
+static UNLIKE_BY_BREAKS: [Row; 6] = [
+    Row { name: "a break at 0 is taken before the start", early: false,
+        earliest: Wanted { cumuls: &[0, 15, 25], slacks: &[5, 0], breaks: &[0] },
+        tight: Wanted { cumuls: &[5, 15, 25], slacks: &[0, 0], breaks: &[0] },
+        fields: r#""evaluators":[{"matrix":1}],"slack_max":20,"capacity":100,
+"breaks":[{"vehicle":0,"breaks":[{"from":0,"to":0,"duration":5}]}]"# },
+    Row { name: "a break inside the first arc", early: false,
+        earliest: Wanted { cumuls: &[10, 40, 50], slacks: &[20, 0], breaks: &[33] },
+        tight: Wanted { cumuls: &[25, 40, 50], slacks: &[5, 0], breaks: &[33] },
+        fields: r#""evaluators":[{"matrix":1}],"slack_max":20,"capacity":100,"nodes":[{"node":1,"window":[40,50]}],
+"breaks":[{"vehicle":0,"breaks":[{"from":33,"to":34,"duration":5}]}]"# },
+    Row { name: "a break inside the second arc", early: false,
+        earliest: Wanted { cumuls: &[0, 30, 45], slacks: &[20, 5], breaks: &[35] },
+        tight: Wanted { cumuls: &[20, 30, 45], slacks: &[0, 5], breaks: &[35] },
+        fields: r#""evaluators":[{"matrix":1}],"slack_max":20,"capacity":100,"nodes":[{"node":1,"window":[30,40]}],
+"breaks":[{"vehicle":0,"breaks":[{"from":35,"to":36,"duration":5}]}]"# },
+    Row { name: "a break after the end", early: false,
+        earliest: Wanted { cumuls: &[0, 30, 40], slacks: &[20, 0], breaks: &[45] },
+        tight: Wanted { cumuls: &[20, 30, 40], slacks: &[0, 0], breaks: &[45] },
+        fields: r#""evaluators":[{"matrix":1}],"slack_max":20,"capacity":100,"nodes":[{"node":1,"window":[30,40]}],
+"breaks":[{"vehicle":0,"breaks":[{"from":45,"to":60,"duration":5}]}]"# },
+    Row { name: "breaks before, inside and after", early: false,
+        earliest: Wanted { cumuls: &[0, 30, 40], slacks: &[20, 0], breaks: &[2, 24, 44] },
+        tight: Wanted { cumuls: &[15, 30, 40], slacks: &[5, 0], breaks: &[0, 24, 44] },
+        fields: r#""evaluators":[{"matrix":1}],"slack_max":20,"capacity":100,"nodes":[{"node":1,"window":[30,40]}],
+"visit":[2,2],"breaks":[{"vehicle":0,"breaks":[{"from":0,"to":5,"duration":10},{"from":24,"to":26,"duration":5},
+{"from":44,"to":60,"duration":5}]}]"# },
+    Row { name: "the earliest start does not end first", early: false,
+        earliest: Wanted { cumuls: &[0, 13, 18], slacks: &[8, 0], breaks: &[8] },
+        tight: Wanted { cumuls: &[5, 10, 15], slacks: &[0, 0], breaks: &[0] },
+        fields: r#""evaluators":[{"matrix":0}],"slack_max":20,"capacity":60,"visit":[8,8],
+"breaks":[{"vehicle":0,"breaks":[{"from":0,"to":8,"duration":5}]}]"# },
+];
+
+// The vehicle is tight; the two dimensions of its list have different arcs and ask different cumuls.
+const TWO_DIMENSIONS: &str = r#"{"format":2,"nodes":2,"matrices":[[[0,5],[5,0]],[[0,10],[10,0]]],
+"vehicles":[{"start":0,"end":0,"schedule":"tight"}],"dimensions":[
+{"name":"time","evaluators":[{"matrix":1}],"slack_max":20,"capacity":100,"nodes":[{"node":1,"window":[30,40]}]},
+{"name":"turns","evaluators":[{"matrix":0}],"slack_max":3,"capacity":100,
+"nodes":[{"node":1,"forbidden":[[5,8],[10,12],[14,16],[18,20],[22,24]]}]}]}"#;
+
+// What is wanted in each of them.
+#[rattlefmt::skip]
+static IN_EACH_DIMENSION: [Wanted; 2] = [
+    Wanted { cumuls: &[20, 30, 40], slacks: &[0, 0], breaks: &[] },
+    Wanted { cumuls: &[4, 9, 14], slacks: &[0, 0], breaks: &[] },
+];
+
+fn is_wanted(found: Result<Option<Plan>, NoMemory>, wanted: &Wanted) -> bool {
     match found {
         Ok(Some(plan)) => {
-            plan.cumuls.as_slice() == row.cumuls
-                && plan.slacks.as_slice() == row.slacks
-                && plan.breaks.as_slice() == row.breaks
+            plan.cumuls.as_slice() == wanted.cumuls
+                && plan.slacks.as_slice() == wanted.slacks
+                && plan.breaks.as_slice() == wanted.breaks
         }
-        Ok(None) => row.cumuls.is_empty(),
+        Ok(None) => wanted.cumuls.is_empty(),
         Err(_) => false,
     }
 }
 
 // Whether the schedule is chosen over rows that are known.
-fn is_found_over_rows(alloc: Global, line: &Line, row: &Row) -> bool
+fn is_found_over_rows(alloc: Global, line: &Line, rule: ScheduleRule, wanted: &Wanted) -> bool
     requires { IsSoundLine line.now }
 {
     match Rows::build(alloc, line) {
-        Ok(rows) => is_wanted(schedule_over(alloc, line, &rows), row),
+        Ok(rows) => is_wanted(schedule_over(alloc, line, &rows, rule), wanted),
         Err(_) => false,
     }
 }
 
-fn has_cumuls(alloc: Global, line: &Line, row: &Row) -> bool
+fn has_cumuls(alloc: Global, line: &Line, rule: ScheduleRule, wanted: &Wanted) -> bool
     requires { IsSoundLine line.now }
 {
-    match chosen_cumuls(alloc, line) {
-        Ok(Some(cumuls)) => cumuls.as_slice() == row.cumuls,
-        Ok(None) => row.cumuls.is_empty(),
+    match chosen_cumuls(alloc, line, rule) {
+        Ok(Some(cumuls)) => cumuls.as_slice() == wanted.cumuls,
+        Ok(None) => wanted.cumuls.is_empty(),
         Err(_) => false,
     }
 }
 
 // The same by a place that is written over.
-fn chooses(alloc: Global, chooser: &mut Chooser, line: &Line, wanted: &[i64]) -> bool
+fn chooses(
+    alloc: Global,
+    chooser: &mut Chooser,
+    line: &Line,
+    rule: ScheduleRule,
+    wanted: &[i64],
+) -> bool
     requires { IsSoundLine line.now }
 {
-    match chooser.choose(alloc, line) {
+    match chooser.choose(alloc, line, rule) {
         Ok(true) => chooser.cumuls() == wanted,
         Ok(false) => wanted.is_empty(),
         Err(_) => false,
     }
 }
 
-// Whether each way to ask for the schedule of a line finds the wanted one.
-fn all_find(alloc: Global, chooser: &mut Chooser, line: &Line, row: &Row) -> bool
+// Whether each way to ask for the schedule of a line under a rule finds the wanted one.
+fn all_find(
+    alloc: Global,
+    chooser: &mut Chooser,
+    line: &Line,
+    rule: ScheduleRule,
+    wanted: &Wanted,
+) -> bool
     requires { IsSoundLine line.now }
 {
-    is_wanted(schedule(alloc, line), row)
-        && is_found_over_rows(alloc, line, row)
-        && has_cumuls(alloc, line, row)
-        && chooses(alloc, chooser, line, row.cumuls)
+    is_wanted(schedule(alloc, line, rule), wanted)
+        && is_found_over_rows(alloc, line, rule, wanted)
+        && has_cumuls(alloc, line, rule, wanted)
+        && chooses(alloc, chooser, line, rule, wanted.cumuls)
 }
 
 // Whether the cumuls of the list of node 1 are found stop by stop exactly where the row says so.
@@ -129,7 +238,7 @@ fn is_early(alloc: Global, model: &Model, row: &Row) -> bool
         Ok(stops) => {
             let mut cumuls = Cumuls::new();
             let found = write_earliest(model, 0, 0, &stops, &[1], &mut cumuls);
-            found == row.early && (!found || cumuls.as_slice() == row.cumuls)
+            found == row.early && (!found || cumuls.as_slice() == row.earliest.cumuls)
         }
         Err(_) => false,
     }
@@ -138,8 +247,11 @@ fn is_early(alloc: Global, model: &Model, row: &Row) -> bool
 fn holds_of(alloc: Global, chooser: &mut Chooser, model: &Model, row: &Row) -> bool
     requires { IsWellFormed model.now }
 {
-    match line_in(alloc, model) {
-        Some(line) => all_find(alloc, chooser, &line, row),
+    match line_in(alloc, model, 0) {
+        Some(line) => {
+            all_find(alloc, chooser, &line, ScheduleRule::Earliest, &row.earliest)
+                && all_find(alloc, chooser, &line, ScheduleRule::Tight, &row.tight)
+        }
         None => false,
     }
 }
@@ -162,6 +274,29 @@ fn all_hold(alloc: Global, rows: &[Row]) -> Result<(), Fail> {
     Ok(())
 }
 
+// Whether the rule of vehicle 0 chooses the wanted schedule in a dimension.
+fn holds_in(alloc: Global, chooser: &mut Chooser, model: &Model, d: u32, wanted: &Wanted) -> bool
+    requires { IsWellFormed model.now }
+{
+    if model.vehicles.len() == 0 {
+        return false;
+    }
+    let rule = model.vehicles.get(0).schedule;
+    match line_in(alloc, model, d) {
+        Some(line) => all_find(alloc, chooser, &line, rule, wanted),
+        None => false,
+    }
+}
+
+// Whether it does so in both dimensions, one after another, with one place for both.
+fn holds_in_both(alloc: Global, model: &Model) -> bool
+    requires { IsWellFormed model.now }
+{
+    let mut chooser = Chooser::new(alloc);
+    holds_in(alloc, &mut chooser, model, 0, &IN_EACH_DIMENSION[0])
+        && holds_in(alloc, &mut chooser, model, 1, &IN_EACH_DIMENSION[1])
+}
+
 #[test]
 fn a_stop_waits_where_it_may(rt: HostRuntime) -> Result<(), Fail> {
     all_hold(rt.alloc(), &WAITING)
@@ -170,4 +305,28 @@ fn a_stop_waits_where_it_may(rt: HostRuntime) -> Result<(), Fail> {
 #[test]
 fn breaks_are_taken_where_they_fit(rt: HostRuntime) -> Result<(), Fail> {
     all_hold(rt.alloc(), &BREAKS)
+}
+
+#[test]
+fn each_rule_chooses_a_schedule_of_its_own(rt: HostRuntime) -> Result<(), Fail> {
+    all_hold(rt.alloc(), &UNLIKE)
+}
+
+#[test]
+fn breaks_are_taken_before_a_tight_start_inside_and_after(rt: HostRuntime) -> Result<(), Fail> {
+    all_hold(rt.alloc(), &UNLIKE_BY_BREAKS)
+}
+
+#[test]
+fn a_tight_vehicle_is_tight_in_each_dimension(rt: HostRuntime) -> Result<(), Fail> {
+    match read_model_text(rt.alloc(), TWO_DIMENSIONS) {
+        Some(model) => {
+            if holds_in_both(rt.alloc(), &model) {
+                Ok(())
+            } else {
+                Err(Fail::new("two dimensions of a tight vehicle"))
+            }
+        }
+        None => Err(Fail::new("the model is not read")),
+    }
 }
