@@ -1,4 +1,4 @@
-//! The chosen schedule of a list.
+//! The earliest schedule of a list.
 
 ghost use Rattle.std.specs.Prelude.{IfOk, IsTrue};
 ghost use Rattle.vr_model.specs.routes.Routes.{are_lists};
@@ -10,7 +10,7 @@ use crate::report::{TIMES, Timed, report};
 use crate::stop::Stop;
 use std::alloc::Global;
 use std::time::Instant;
-use vr_model::Model;
+use vr_model::{Model, ScheduleRule};
 use vr_plan::schedule;
 use vr_routes::Routes;
 use vr_steps::Line;
@@ -28,17 +28,17 @@ fn first_line(alloc: Global, model: &Model, routes: &Routes) -> Result<Line, Sto
     Ok(line)
 }
 
-// How many cumuls the chosen schedule of a line has.
+// How many cumuls the earliest schedule of a line has.
 fn cumuls_of(alloc: Global, line: &Line) -> Result<i64, Stop>
     requires { IsSoundLine line.now }
 {
-    match schedule(alloc, line)? {
+    match schedule(alloc, line, ScheduleRule::Earliest)? {
         Some(plan) => Ok(plan.cumuls.len() as i64),
         None => Err(Stop::NoRoute),
     }
 }
 
-// The time of the chosen schedule of a line.
+// The time of the earliest schedule of a line.
 fn time_rounds(rt: &HostRuntime, alloc: Global, line: &Line, rounds: u32) -> Result<Timed, Stop>
     requires { IsSoundLine line.now }
 {
@@ -55,7 +55,7 @@ fn time_rounds(rt: &HostRuntime, alloc: Global, line: &Line, rounds: u32) -> Res
     })
 }
 
-// Prints the times of the chosen schedule of a line.
+// Prints the times of the earliest schedule of a line.
 fn report_line(rt: &HostRuntime, alloc: Global, line: &Line, rounds: u32) -> Result<(), Stop>
     requires { IsSoundLine line.now }
 {
@@ -65,7 +65,7 @@ fn report_line(rt: &HostRuntime, alloc: Global, line: &Line, rounds: u32) -> Res
     Ok(())
 }
 
-/// Prints the times of the chosen schedule of the list of vehicle 0, in the first dimension.
+/// Prints the times of the earliest schedule of the list of vehicle 0, in the first dimension.
 pub(crate) fn time_schedules(
     rt: &HostRuntime,
     alloc: Global,
