@@ -1,8 +1,13 @@
-//! A model is read and one is generated, with ample memory.
+//! A model is read and one is generated, with ample memory; what the formats say of rules of schedules.
 
+use crate::values::is_refused;
+use serde_json::Value;
+use std::alloc::Global;
 use std::test::Fail;
 use vr_gen::generate;
-use vr_model::Model;
+use vr_json::{Path, ReadFail};
+use vr_model::{Model, ScheduleRule};
+use vr_read::read_model;
 use vr_samples::read_model_text;
 
 // Every table that a short text can have: five nodes, of which 1 to 4 are visits.
@@ -43,5 +48,92 @@ fn a_model_is_read(rt: HostRuntime) -> Result<(), Fail> {
 fn a_model_is_generated(rt: HostRuntime) -> Result<(), Fail> {
     let tree = generate(rt.alloc(), 7).map_err(|_| "memory")?;
     assert!(rt; tree.get("nodes").is_some());
+    Ok(())
+}
+
+// A model, and the rules of schedules of its vehicles, or the code and the path with which it is refused.
+type Row = (
+    &'static str,
+    &'static str,
+    Result<&'static [ScheduleRule], (u8, &'static str)>,
+);
+
+static ROWS: [Row; 8] = [
+    (
+        "a rule left out in format 1",
+        r#"{"format":1,"nodes":1,"matrices":[[[0]]],"vehicles":[{"start":0,"end":0}]}"#,
+        Ok(&[ScheduleRule::Earliest]),
+    ),
+    (
+        "a rule left out in format 2",
+        r#"{"format":2,"nodes":1,"matrices":[[[0]]],"vehicles":[{"start":0,"end":0}]}"#,
+        Ok(&[ScheduleRule::Earliest]),
+    ),
+    (
+        "each rule by its word",
+        r#"{"format":2,"nodes":1,"matrices":[[[0]]],
+"vehicles":[{"start":0,"end":0,"schedule":"tight"},{"start":0,"end":0,"schedule":"earliest"}]}"#,
+        Ok(&[ScheduleRule::Tight, ScheduleRule::Earliest]),
+    ),
+    (
+        "a rule in format 1",
+        r#"{"format":1,"nodes":1,"matrices":[[[0]]],"vehicles":[{"start":0,"end":0,"schedule":"tight"}]}"#,
+        Err((13, "/vehicles/0/schedule")),
+    ),
+    (
+        "a rule by no word",
+        r#"{"format":2,"nodes":1,"matrices":[[[0]]],"vehicles":[{"start":0,"end":0,"schedule":"loose"}]}"#,
+        Err((17, "/vehicles/0/schedule")),
+    ),
+    (
+        "a format below the first",
+        r#"{"format":0,"nodes":1,"matrices":[[[0]]],"vehicles":[{"start":0,"end":0}]}"#,
+        Err((14, "/format")),
+    ),
+    (
+        "a format behind the last",
+        r#"{"format":3,"nodes":1,"matrices":[[[0]]],"vehicles":[{"start":0,"end":0}]}"#,
+        Err((14, "/format")),
+    ),
+    (
+        "savings of vehicles with two rules",
+        r#"{"format":2,"nodes":1,"matrices":[[[0]]],"search":{"first":"SAVINGS"},
+"vehicles":[{"start":0,"end":0,"schedule":"tight"},{"start":0,"end":0}]}"#,
+        Err((23, "/search/first")),
+    ),
+];
+
+// Whether the vehicles have these rules, in order.
+fn has_rules(model: &Model, rules: &[ScheduleRule]) -> bool {
+    let vehicles = model.vehicles.as_slice();
+    vehicles.len() == rules.len()
+        && vehicles
+            .iter()
+            .zip(rules)
+            .all(|(vehicle, rule)| vehicle.schedule as u8 == *rule as u8)
+}
+
+fn is_read(answer: Result<Model, ReadFail>, row: &Row) -> bool {
+    match (answer, row.2) {
+        (Ok(model), Ok(rules)) => has_rules(&model, rules),
+        (Err(fail), Err((code, path))) => is_refused(&fail, code, path),
+        _ => false,
+    }
+}
+
+fn holds(alloc: Global, row: &Row) -> bool {
+    match Value::from_str(alloc, row.1) {
+        Ok(value) => is_read(read_model(alloc, &value, &Path::root(alloc)), row),
+        Err(_) => false,
+    }
+}
+
+#[test]
+fn formats_are_read(rt: HostRuntime) -> Result<(), Fail> {
+    for row in &ROWS {
+        if !holds(rt.alloc(), row) {
+            return Err(Fail::new(row.0));
+        }
+    }
     Ok(())
 }

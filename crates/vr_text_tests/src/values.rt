@@ -119,7 +119,7 @@ static ROWS: [Row; 31] = [
 ];
 
 // Whether a call is refused with this code at this path.
-fn is_refused(fail: &ReadFail, code: u8, path: &str) -> bool {
+pub fn is_refused(fail: &ReadFail, code: u8, path: &str) -> bool {
     match fail {
         ReadFail::Refused(fault) => fault.code == code && fault.path.as_str() == path,
         ReadFail::NoMemory => false,
