@@ -122,9 +122,9 @@ def leave_later(
 ) -> Solution:
     """The same routes, each day ending as early as it can and beginning as late as that allows, where it is no dearer.
 
-    No stop comes later than it did beyond its soft bound. The program's own schedule is the earliest one where the
-    vehicle does not ask for `tight`: in it a driver who may wait leaves early and is paid for standing. Raises `NotMet` where the solution breaks a rule; where
-    it is not `checked`, it has to meet its model.
+    No stop comes later than it did beyond its soft bound. A vehicle that does not ask for `tight` has the earliest
+    schedule, in which a driver who may wait leaves early and is paid for standing. Raises `NotMet` where the solution
+    breaks a rule; where it is not `checked`, it has to meet its model.
     """
     solution = meets(model, solution, program) if checked else solution
     for vehicle, route in enumerate(solution.routes):

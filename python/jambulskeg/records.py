@@ -317,6 +317,7 @@ class Model(Record):
 
     @classmethod
     def faults_of(cls, tree: Any, path: str = "") -> Iterator[Fault]:
+        """Each fault of a JSON object that should be a model; none exactly where `of` takes it."""
         yield from super().faults_of(tree, path)
         yield from schedules_of_format_1(tree, path)
 

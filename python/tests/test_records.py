@@ -47,6 +47,7 @@ class RecordTests(unittest.TestCase):
         model = Model(1, [[[0]]], [tight], format=2)
         self.assertEqual(model.tree()["vehicles"], [{"start": 0, "end": 0, "schedule": "tight"}])
         self.assertEqual(Model.of(model.tree()), model)
+        self.assertEqual(list(Model.faults_of(model.tree())), [])
         self.refused(13, "/vehicles/0/schedule", lambda: Model(1, [[[0]]], [tight]))
         for word in ("tight", "earliest"):
             vehicle = {"start": 0, "end": 0, "schedule": word}

@@ -8,9 +8,9 @@ import unittest
 from typing import Iterator, List, Optional, Sequence, Set, Tuple
 
 from jambulskeg.intervals import Numbers, common, told, united, without
-from jambulskeg.model import Break, Model, Plan, StopRow
+from jambulskeg.model import Break, Model, Plan, ScheduleRule, StopRow
 from jambulskeg.schedules import (
-    Line, break_starts, chain_of, crossing, earliest, line_of, numbers_of, ranges, reach_of, rows_of, tight,
+    Line, break_starts, chain_of, chosen, crossing, earliest, line_of, numbers_of, ranges, reach_of, rows_of, tight,
 )
 
 MOST = 12
@@ -87,6 +87,7 @@ class ScheduleTests(unittest.TestCase):
             line = random_line(rng)
             every = list(schedules(line))
             plan, last = earliest(line), tight(line)
+            self.assertEqual((plan, last), (chosen(line, ScheduleRule.EARLIEST), chosen(line, ScheduleRule.TIGHT)))
             self.assertEqual(plan is not None, bool(every), line)
             self.assertEqual(reach_of(line).is_feasible(), bool(every))
             if plan is None or last is None:
