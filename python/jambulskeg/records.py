@@ -173,7 +173,8 @@ class Dimension(Record):
     """What adds up along a route: time, load, distance (OR-Tools: RoutingDimension).
 
     The cumul at the next stop is the cumul here plus the transit plus a slack of 0 to `slack_max`. The first arc has
-    slack too: a vehicle leaves as early as that allows, so take the least `slack_max` with which everybody is served.
+    slack too: under the rule `earliest` a vehicle leaves as early as that allows, so take the least `slack_max` with
+    which everybody is served.
     """
 
     name: Annotated[str, Text(1, 64)]
