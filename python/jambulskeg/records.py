@@ -10,11 +10,11 @@ from __future__ import annotations
 import json
 from dataclasses import dataclass
 from enum import Enum
-from typing import Annotated, Any, Iterator, List, Optional, Sequence, Set, Tuple, Union
+from typing import Annotated, Any, Iterator, List, Mapping, Optional, Sequence, Set, Tuple, Union
 
 from .errors import Fault
 from .kinds import Either, Flag, Inner, Maybe, Record, Row, Span, Square, Text, Whole, Word
-from .whole import model_faults, schedules_of_format_1
+from .whole import model_faults
 
 MOST_NODES = 1000
 MOST_VEHICLES = 100
@@ -94,15 +94,21 @@ def repeated(entries: Sequence[int], path: str) -> Iterator[Fault]:
 
 
 @dataclass(frozen=True)
-class Vehicle(Record):
-    """A vehicle: the nodes where it starts and ends, the number of its cost matrix, what it costs to use it at all, the
-    order of its deliveries, and the rule of its schedules."""
+class FirstVehicle(Record):
+    """A vehicle of format 1, as a file has it: it has no field `schedule`."""
 
     start: Annotated[int, NODE]
     end: Annotated[int, NODE]
     costs: Annotated[int, Whole(0, MOST_MATRICES - 1)] = 0
     fixed: Annotated[int, Whole(0, GREATEST_ENTRY)] = 0
     policy: Annotated[Policy, Word(Policy)] = Policy.ANY
+
+
+@dataclass(frozen=True)
+class Vehicle(FirstVehicle):
+    """A vehicle: the nodes where it starts and ends, the number of its cost matrix, what it costs to use it at all, the
+    order of its deliveries, and the rule of its schedules."""
+
     schedule: Annotated[ScheduleRule, Word(ScheduleRule)] = ScheduleRule.EARLIEST
 
 
@@ -319,8 +325,8 @@ class Model(Record):
     @classmethod
     def faults_of(cls, tree: Any, path: str = "") -> Iterator[Fault]:
         """Each fault of a JSON object that should be a model; none exactly where `of` takes it."""
-        yield from super().faults_of(tree, path)
-        yield from schedules_of_format_1(tree, path)
+        is_first = cls is Model and isinstance(tree, Mapping) and tree.get("format", 1) == 1
+        yield from FirstModel.faults_of(tree, path) if is_first else super().faults_of(tree, path)
 
     def tree(self) -> "dict[str, object]":
         return {"format": self.format, **super().tree()}
@@ -348,3 +354,10 @@ class Model(Record):
         """The vehicles that may make a visit."""
         row = next((row for row in self.allowed if row.node == node), None)
         return range(len(self.vehicles)) if row is None else row.vehicles
+
+
+@dataclass(frozen=True)
+class FirstModel(Model):
+    """A model of format 1, as a file has it: in it `schedule` is a field that no vehicle has."""
+
+    vehicles: Annotated[Sequence[FirstVehicle], Row(Inner(FirstVehicle), 1, MOST_VEHICLES)]

@@ -6,24 +6,19 @@ With it a `Model` that was made can be looked into without a fault. What remains
 
 from __future__ import annotations
 
-from typing import TYPE_CHECKING, Any, Iterator, Mapping, Optional, Sequence, Set
+from typing import TYPE_CHECKING, Any, Iterator, Optional, Sequence, Set
 
 from .errors import Fault
 from .kinds import is_list
 
 if TYPE_CHECKING:
-    from .records import Dimension, Model
+    from .records import Dimension, FirstVehicle, Model
 
 
-NO_SCHEDULE = "format 1 has no such field: a model that chooses schedules says format 2"
-
-
-def schedules_of_format_1(tree: Any, path: str) -> Iterator[Fault]:
-    """A fault at each vehicle of a JSON object of format 1 that has the field `schedule`, whatever its value."""
-    vehicles = tree.get("vehicles") if isinstance(tree, Mapping) and tree.get("format") == 1 else None
-    for number, vehicle in enumerate(vehicles if is_list(vehicles) else ()):
-        if isinstance(vehicle, Mapping) and "schedule" in vehicle:
-            yield Fault(13, f"{path}/vehicles/{number}/schedule", NO_SCHEDULE)
+def has_rule(vehicle: "FirstVehicle") -> bool:
+    """Whether a vehicle says another rule of schedules than that of format 1."""
+    rule = getattr(vehicle, "schedule", None)
+    return rule is not None and rule.value != "earliest"
 
 
 def model_faults(model: "Model") -> Iterator[Fault]:
@@ -36,8 +31,8 @@ def model_faults(model: "Model") -> Iterator[Fault]:
         yield from known(vehicle.start, model.nodes, f"{path}/start", "node")
         yield from known(vehicle.end, model.nodes, f"{path}/end", "node")
         yield from known(vehicle.costs, len(model.matrices), f"{path}/costs", "matrix")
-        if model.format == 1 and vehicle.schedule.value != "earliest":
-            yield Fault(13, f"{path}/schedule", NO_SCHEDULE)
+        if model.format == 1 and has_rule(vehicle):
+            yield Fault(13, f"{path}/schedule", "a model whose vehicles have this field says format 2")
     names = Unlike("dimension")
     for number, dimension in enumerate(model.dimensions):
         yield from names.faults(dimension.name, f"/dimensions/{number}/name")

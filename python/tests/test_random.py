@@ -80,6 +80,18 @@ class RandomTests(unittest.TestCase):
                     refused += bool(fault[0])
         self.assertGreater(refused, MODELS)
 
+    def test_a_schedule_in_format_1_is_refused_as_by_the_program(self) -> None:
+        values = ["tight", "earliest", "Tight", "", None, True, 1, [], {}]
+        for number, value in enumerate(values * 4):
+            rng = random.Random(4000 + number)
+            tree = random_tree(rng)
+            vehicle = rng.choice(tree["vehicles"])
+            vehicle["schedule"] = value
+            vehicle.update(rng.choice([{}, {"colour": 1}, {"zone": 1}, {"policy": "random"}]))
+            tree["dimensions"] += rng.choice([[], [{"name": ""}]])
+            told = json.loads(ask("first", json.dumps(tree))[1])
+            self.assertEqual(refusal(tree), (told["code"], told["path"]), number)
+
     def by_hand(self, model: Model) -> None:
         """The program's lists have the program's schedules and costs, and drivers can leave later."""
         solution = solve(model)

@@ -51,7 +51,8 @@ class RecordTests(unittest.TestCase):
         self.refused(13, "/vehicles/0/schedule", lambda: Model(1, [[[0]]], [tight]))
         for word in ("tight", "earliest"):
             vehicle = {"start": 0, "end": 0, "schedule": word}
-            self.refused(13, "/vehicles/0/schedule", lambda: Model.of({**model.tree(), "format": 1, "vehicles": [vehicle]}))
+            tree = {**model.tree(), "format": 1, "vehicles": [vehicle]}
+            self.refused(13, "/vehicles/0/schedule", lambda: Model.of(tree))
         self.refused(17, "/schedule", lambda: Vehicle(0, 0, schedule="loose"))  # type: ignore[arg-type]
         self.refused(14, "/format", lambda: Model(1, [[[0]]], [Vehicle(0, 0)], format=3))
 
