@@ -1,0 +1,10 @@
+pub mod PieceLemmas
+pub mod ReadLemmas
+pub mod BeginLemmas
+pub mod CutLemmas
+pub mod BehindLemmas
+pub mod PassLemmas
+pub mod ShortLemmas
+pub mod WayLemmas
+pub mod LineLemmas
+pub mod SpanLemmas

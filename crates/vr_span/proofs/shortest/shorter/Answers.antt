@@ -1,0 +1,20 @@
+use Rattle.std.proofs.Common.{subst, arith}
+use Rattle.std.specs.Prelude.{IfSome}
+use Rattle.std.proofs.lemmas.Int.{ints}
+use Rattle.vr_span.specs.Pieces.{HasEnds}
+use Rattle.vr_span.proofs.ShortLemmas.{shorter_is, shorter_not}
+use Rattle.vr_span.proofs.shortest.shorter.Goals as goal
+
+pub returns-then-other-piece : goal.returns-then-other-piece
+returns-then-other-piece c =
+    let mine = c.requires.piece in
+    let theirs = subst (λ found. IfSome found HasEnds) c.in-Some.is c.requires.behind in
+    let test = c.if-other-piece.true in
+    shorter_is c.args.piece c.args.behind c.in-Some.other c.in-Some.is (omega (arith, ints, test, mine.cumul, mine.start, theirs.cumul, theirs.start))
+
+pub returns-else-other-piece : goal.returns-else-other-piece
+returns-else-other-piece c =
+    let mine = c.requires.piece in
+    let theirs = subst (λ found. IfSome found HasEnds) c.in-Some.is c.requires.behind in
+    let test = c.if-other-piece.false in
+    shorter_not c.args.piece c.args.behind c.in-Some.other c.in-Some.is (omega (arith, ints, test, mine.cumul, mine.start, theirs.cumul, theirs.start))

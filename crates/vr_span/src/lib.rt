@@ -1,0 +1,21 @@
+//! The least span of a line without breaks, and its schedule: how short a route could be, from its start to its end.
+//!
+//! Of each cumul that is reached at a stop the greatest start from which it is reached is kept, as pieces: over a run
+//! of cumuls it grows with the cumul, one for one, up to some start, and then stays. It never falls: of two ways that
+//! cross, the one that starts later can go on to the greater cumul. So an arc moves each piece by its transit and makes
+//! it longer by the slack, up to where the next one begins, and the next stop cuts the pieces to its runs. There are at
+//! most as many pieces as runs in all stops up to there, however far the horizon is. On a piece the span is least at
+//! its first cumul. The schedule starts and ends as the first of the shortest pieces says, and is the chosen one of the
+//! line narrowed to these ends.
+//!
+//! Invariant: at each stop, a cumul is in a piece that starts it at `s` or later exactly where some way comes there
+//! from `s` or later. It is asked for each printed route of which is told how short it could be.
+#![tactic(auto)]
+
+mod crossing;
+mod least;
+mod narrow;
+mod pieces;
+mod shortest;
+
+pub use least::{Least, span};
