@@ -1,6 +1,7 @@
-//! Tests of the crates that read and write texts: devices, JSON values, models, generated models, checks and reports
-//! of searches, through what `vr_io`, `vr_json`, `vr_read`, `vr_gen`, `vr_printed`, `vr_check` and `vr_watch` make
-//! public. They stand in a crate of their own, so that the crates that they test are proved once.
+//! Tests of the crates that read and write texts: devices, JSON values, models, files of TSPLIB, generated models,
+//! checks and reports of searches, through what `vr_io`, `vr_json`, `vr_read`, `vr_tsplib`, `vr_gen`, `vr_printed`,
+//! `vr_check` and `vr_watch` make public. They stand in a crate of their own, so that the crates that they test are
+//! proved once.
 #![tactic(auto)]
 
 #[cfg(test)]
@@ -9,6 +10,8 @@ mod checked;
 mod devices;
 #[cfg(test)]
 mod models;
+#[cfg(test)]
+mod tsplib;
 #[cfg(test)]
 mod values;
 #[cfg(test)]

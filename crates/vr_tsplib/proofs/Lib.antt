@@ -1,0 +1,9 @@
+pub mod RootLemmas
+pub mod TextLemmas
+pub mod RangeLemmas
+pub mod TellSteps
+pub mod RowLemmas
+pub mod LineLemmas
+pub mod TreeLemmas
+pub mod Chains
+pub mod AnswerSteps

@@ -1,0 +1,8 @@
+use Rattle.std.proofs.Common.{arith}
+use Rattle.std.proofs.lemmas.Grind.{common_steps}
+use Rattle.vr_model.proofs.tables.Ranges.{map-below_more}
+use Rattle.vr_tsplib.specs.Trees.{count, weight}
+use Rattle.vr_tsplib.proofs.trees.square_row.Goals as goal
+
+pub loop-j-preserved : goal.loop-j-preserved
+loop-j-preserved c = let more = map-below_more (λ j. count (weight c.args.lower c.args.n c.args.weights.now c.args.i j)) c.loop-j.j in grind (arith, common_steps)

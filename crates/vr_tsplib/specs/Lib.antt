@@ -1,0 +1,10 @@
+pub mod Roots
+pub mod Texts
+pub mod Flaws
+pub mod Numbers
+pub mod Heads
+pub mod Rows
+pub mod Files
+pub mod Ranges
+pub mod Trees
+pub mod Imported

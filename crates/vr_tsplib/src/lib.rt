@@ -1,0 +1,29 @@
+//! Import of routing problems from TSPLIB files of type CVRP.
+//!
+//! A file is read line by line, once, and what a line tells is kept in a `State`: the head (keywords, which sections
+//! stood, and where the next line stands) and the rows of the sections. Nothing of the file's text is kept. The state
+//! behind each line is that of the definition `read_lines`, so the first faulty line gives the answer. A whole file
+//! becomes the tree of a model of format 1. No crate of the program calls `import` yet.
+#![tactic(auto)]
+
+mod files;
+mod flaws;
+mod heads;
+mod imports;
+mod numbers;
+mod roots;
+mod rows;
+mod sections;
+mod summaries;
+mod texts;
+mod trees;
+mod weights;
+mod words;
+
+pub use files::State;
+pub use flaws::Flaw;
+pub use heads::{Head, Heading, Keyword, Place, WeightFormat, WeightType};
+pub use imports::import;
+pub use roots::nearest_root;
+pub use rows::{DemandRow, SiteRow};
+pub use summaries::{Distances, Problem};

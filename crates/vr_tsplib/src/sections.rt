@@ -1,0 +1,167 @@
+//! The lines outside sections: keyword lines, and the lines with which sections begin.
+
+ghost use Rattle.std.specs.Prelude.{◌≡◌};
+ghost use Rattle.vr_tsplib.specs.Heads as heads;
+
+use crate::flaws::{Flaw, refuse_if};
+use crate::heads::{Head, Heading, Keyword, Place, WeightFormat};
+use crate::texts::cut_at;
+use crate::words::{meaning, one_word};
+
+const KEYWORDS: [(&str, Keyword); 9] = [
+    ("NAME", Keyword::Name),
+    ("COMMENT", Keyword::Comment),
+    ("NODE_COORD_TYPE", Keyword::NodeCoordType),
+    ("DISPLAY_DATA_TYPE", Keyword::DisplayDataType),
+    ("TYPE", Keyword::Type),
+    ("DIMENSION", Keyword::Dimension),
+    ("CAPACITY", Keyword::Capacity),
+    ("EDGE_WEIGHT_TYPE", Keyword::EdgeWeightType),
+    ("EDGE_WEIGHT_FORMAT", Keyword::EdgeWeightFormat),
+];
+
+const HEADINGS: [(&str, Heading); 5] = [
+    ("NODE_COORD_SECTION", Heading::NodeCoordSection),
+    ("EDGE_WEIGHT_SECTION", Heading::EdgeWeightSection),
+    ("DEMAND_SECTION", Heading::DemandSection),
+    ("DEPOT_SECTION", Heading::DepotSection),
+    ("EOF", Heading::Eof),
+];
+
+// How many weights a format has for `n` nodes.
+fn weights_of(format: WeightFormat, n: u32) -> Option<u64>
+    ensures { result ≡ heads.weights_of format n }
+{
+    let n = u64::from(n);
+    match format {
+        WeightFormat::FullMatrix => Some(n * n),
+        WeightFormat::LowerRow => Some(n * n.saturating_sub(1) / 2),
+        WeightFormat::Function => None,
+    }
+}
+
+// How many weights the format, if there is one, has for `n` nodes.
+fn weights_wanted(format: Option<WeightFormat>, n: u32) -> Option<u64>
+    ensures { result ≡ heads.weights_wanted format n }
+{
+    match format {
+        None => None,
+        Some(format) => weights_of(format, n),
+    }
+}
+
+/// The section of weights where so many are to come.
+pub(crate) fn weights_left(left: u64) -> Place
+    ensures { result ≡ heads.weights_left left }
+{
+    if left == 0 {
+        Place::Outside
+    } else {
+        Place::Weights(left)
+    }
+}
+
+impl Head {
+    // The section of coordinates begins.
+    #[tactic(auto, unfolding(vr_json::specs::Reading::and_then, crate::specs::Heads::begin_sites))]
+    fn begin_sites(self) -> Result<Head, Flaw>
+        ensures { result ≡ heads.begin_sites self }
+    {
+        refuse_if(self.has_sites, Flaw::Repeated)?;
+        let n = self.nodes.ok_or(Flaw::Missing)?;
+        Ok(Head {
+            has_sites: true,
+            place: Place::Sites(n),
+            ..self
+        })
+    }
+
+    // The section of weights begins.
+    #[tactic(auto, unfolding(vr_json::specs::Reading::and_then, crate::specs::Heads::begin_weights))]
+    fn begin_weights(self) -> Result<Head, Flaw>
+        ensures { result ≡ heads.begin_weights self }
+    {
+        refuse_if(self.has_weights, Flaw::Repeated)?;
+        let n = self.nodes.ok_or(Flaw::Missing)?;
+        let left = weights_wanted(self.weight_format, n).ok_or(Flaw::Missing)?;
+        Ok(Head {
+            has_weights: true,
+            place: weights_left(left),
+            ..self
+        })
+    }
+
+    // The section of demands begins.
+    #[tactic(auto, unfolding(vr_json::specs::Reading::and_then, crate::specs::Heads::begin_demands))]
+    fn begin_demands(self) -> Result<Head, Flaw>
+        ensures { result ≡ heads.begin_demands self }
+    {
+        refuse_if(self.has_demands, Flaw::Repeated)?;
+        let n = self.nodes.ok_or(Flaw::Missing)?;
+        Ok(Head {
+            has_demands: true,
+            place: Place::Demands(n),
+            ..self
+        })
+    }
+
+    // The section of the depot begins.
+    #[tactic(auto, unfolding(vr_json::specs::Reading::and_then, crate::specs::Heads::begin_depot))]
+    fn begin_depot(self) -> Result<Head, Flaw>
+        ensures { result ≡ heads.begin_depot self }
+    {
+        refuse_if(self.has_depot, Flaw::Repeated)?;
+        self.nodes.ok_or(Flaw::Missing)?;
+        Ok(Head {
+            has_depot: true,
+            place: Place::Depot,
+            ..self
+        })
+    }
+
+    // A section begins, or the file ends.
+    fn begin(self, heading: Heading) -> Result<Head, Flaw>
+        ensures { result ≡ heads.begin heading self }
+    {
+        match heading {
+            Heading::NodeCoordSection => self.begin_sites(),
+            Heading::EdgeWeightSection => self.begin_weights(),
+            Heading::DemandSection => self.begin_demands(),
+            Heading::DepotSection => self.begin_depot(),
+            Heading::Eof => Ok(Head {
+                place: Place::Ended,
+                ..self
+            }),
+        }
+    }
+
+    // A line with a colon, of which these are the parts before and behind the first one.
+    #[tactic(auto, unfolding(vr_json::specs::Reading::and_then, crate::specs::Heads::keyword_parts))]
+    fn keyword_parts(self, name: &[u8], value: &[u8]) -> Result<Head, Flaw>
+        ensures { result ≡ heads.keyword_parts self name.now value.now }
+    {
+        let word = one_word(name)?;
+        let keyword = meaning(&KEYWORDS, word).ok_or(Flaw::FaultyLine)?;
+        self.keep(keyword, value)
+    }
+
+    // A line without a colon.
+    #[tactic(auto, unfolding(vr_json::specs::Reading::and_then, crate::specs::Heads::heading_line))]
+    fn heading_line(self, line: &[u8]) -> Result<Head, Flaw>
+        ensures { result ≡ heads.heading_line self line.now }
+    {
+        let word = one_word(line)?;
+        let heading = meaning(&HEADINGS, word).ok_or(Flaw::FaultyLine)?;
+        self.begin(heading)
+    }
+
+    /// With a line outside sections.
+    pub(crate) fn outside_line(self, line: &[u8]) -> Result<Head, Flaw>
+        ensures { result ≡ heads.outside_line self line.now }
+    {
+        match cut_at(line, b':') {
+            Some((name, value)) => self.keyword_parts(name, value),
+            None => self.heading_line(line),
+        }
+    }
+}

@@ -1,0 +1,260 @@
+//! The tree of the model of a file.
+
+ghost use Rattle.std.specs.Prelude.{◌≡◌, ◌≤◌, ◌<◌, All, IfOk, map};
+ghost use Rattle.std.specs.List.{range_with_len};
+ghost use Rattle.serde_json.specs.Data.{string};
+ghost use Rattle.serde_json.specs.View.{view};
+ghost use Rattle.vr_model.specs.tables.Numbers.{below};
+ghost use Rattle.vr_tsplib.specs.Trees as trees;
+ghost use Rattle.vr_tsplib.specs.Rows as row_tables;
+ghost use Rattle.vr_tsplib.specs.Ranges.{IsNear};
+
+use crate::files::State;
+use crate::roots::nearest_root;
+use crate::rows::SiteRow;
+use crate::summaries::{Distances, Problem, demand_of};
+use serde_json::{Value, json};
+use std::alloc::Global;
+use vr_json::Tree;
+use vr_model::NoMemory;
+
+// An array of one entry.
+fn one(alloc: Global, entry: Value) -> Result<Value, NoMemory>
+    ensures { IfOk result (λ tree. view tree ≡ trees.one (view entry)) }
+{
+    let mut all = Vec::new(alloc);
+    all.push(entry)?;
+    Ok(Value::Array(all))
+}
+
+// A text as a value.
+fn text(alloc: Global, text: &str) -> Result<Value, NoMemory>
+    ensures { IfOk result (λ tree. view tree ≡ string text.now) }
+{
+    Ok(Value::String(String::from_str(alloc, text)?))
+}
+
+// The distance of two nodes in the plane.
+fn distance(a: SiteRow, b: SiteRow) -> u64
+    requires first { IsNear a }
+    requires second { IsNear b }
+    ensures { result ≡ trees.distance a b }
+{
+    let dx = a.x.abs_diff(b.x);
+    let dy = a.y.abs_diff(b.y);
+    nearest_root(dx * dx + dy * dy)
+}
+
+// The row of a node; the origin where it has none.
+fn site_of(rows: &[SiteRow], node: u32) -> SiteRow
+    ensures { result ≡ row_tables.site_of rows.now node }
+{
+    for row in rows {
+        if row.node == node {
+            return *row;
+        }
+    }
+    SiteRow { node, x: 0, y: 0 }
+}
+
+// Where each of `n` nodes stands.
+fn sites(alloc: Global, n: u32, rows: &[SiteRow]) -> Result<Vec<SiteRow>, NoMemory>
+    ensures { IfOk result (λ all. all.items ≡ trees.sites n rows.now) }
+{
+    let mut all = Vec::new(alloc);
+    for k in 0..n {
+        all.push(site_of(rows, k + 1))?;
+    }
+    Ok(all)
+}
+
+// The distances from a node.
+fn plane_row(alloc: Global, places: &[SiteRow], from: SiteRow) -> Result<Value, NoMemory>
+    requires all { All IsNear places.now }
+    requires one { IsNear from }
+    ensures { IfOk result (λ tree. view tree ≡ trees.plane_row places.now from) }
+{
+    let mut entries = Vec::new(alloc);
+    for &to in places {
+        entries.push(Value::from(distance(from, to)))?;
+    }
+    Ok(Value::Array(entries))
+}
+
+// The matrix of distances.
+fn plane(alloc: Global, places: &[SiteRow]) -> Result<Value, NoMemory>
+    requires { All IsNear places.now }
+    ensures { IfOk result (λ tree. view tree ≡ trees.plane places.now) }
+{
+    let mut rows = Vec::new(alloc);
+    for &from in places {
+        rows.push(plane_row(alloc, places, from)?)?;
+    }
+    Ok(Value::Array(rows))
+}
+
+// The weight at a place of the weights.
+fn weight_at(weights: &[u64], k: u64) -> u64
+    ensures { result ≡ trees.weight_at weights.now k }
+{
+    if k < weights.len() as u64 {
+        weights[k as usize]
+    } else {
+        0
+    }
+}
+
+// The weight of two nodes, where the weights stand in a full matrix.
+fn full_weight(n: u64, weights: &[u64], i: u64, j: u64) -> u64
+    requires few { n ≤ 1000 }
+    requires first { i < n }
+    requires second { j < n }
+    ensures { result ≡ trees.full_weight n weights.now i j }
+{
+    weight_at(weights, i * n + j)
+}
+
+// The weight of two nodes, where each node has those to all lower ones.
+fn lower_weight(n: u64, weights: &[u64], i: u64, j: u64) -> u64
+    requires few { n ≤ 1000 }
+    requires first { i < n }
+    requires second { j < n }
+    ensures { result ≡ trees.lower_weight weights.now i j }
+{
+    if i == j {
+        return 0;
+    }
+    let hi = i.max(j);
+    let lo = i.min(j);
+    weight_at(weights, hi * hi.saturating_sub(1) / 2 + lo)
+}
+
+// The weight of two nodes, where the weights stand in the file.
+fn weight(lower: bool, n: u64, weights: &[u64], i: u64, j: u64) -> u64
+    requires few { n ≤ 1000 }
+    requires first { i < n }
+    requires second { j < n }
+    ensures { result ≡ trees.weight lower n weights.now i j }
+{
+    if lower {
+        lower_weight(n, weights, i, j)
+    } else {
+        full_weight(n, weights, i, j)
+    }
+}
+
+// The weights of a node.
+fn square_row(
+    alloc: Global,
+    lower: bool,
+    n: u64,
+    weights: &[u64],
+    i: u64,
+) -> Result<Value, NoMemory>
+    requires few { n ≤ 1000 }
+    requires node { i < n }
+    ensures { IfOk result (λ tree. view tree ≡ trees.square_row lower n weights.now i) }
+{
+    let mut entries = Vec::new(alloc);
+    for j in 0..n {
+        entries.push(Value::from(weight(lower, n, weights, i, j)))?;
+    }
+    Ok(Value::Array(entries))
+}
+
+// The matrix of weights that stand in the file.
+fn square(alloc: Global, lower: bool, n: u64, weights: &[u64]) -> Result<Value, NoMemory>
+    requires { n ≤ 1000 }
+    ensures { IfOk result (λ tree. view tree ≡ trees.square lower n weights.now) }
+{
+    let mut rows = Vec::new(alloc);
+    for i in 0..n {
+        rows.push(square_row(alloc, lower, n, weights, i)?)?;
+    }
+    Ok(Value::Array(rows))
+}
+
+// The matrix.
+fn matrix(alloc: Global, distances: Distances, n: u32, state: &State) -> Result<Value, NoMemory>
+    requires few { n ≤ 1000 }
+    requires near { All IsNear state.now.sites }
+    ensures { IfOk result (λ tree. view tree ≡ trees.matrix distances n state.now) }
+{
+    match distances {
+        Distances::Plane => {
+            let places = sites(alloc, n, state.sites.as_slice())?;
+            plane(alloc, &places)
+        }
+        Distances::Full => square(alloc, false, u64::from(n), state.weights.as_slice()),
+        Distances::Lower => square(alloc, true, u64::from(n), state.weights.as_slice()),
+    }
+}
+
+// The demands of all nodes.
+fn demands(alloc: Global, n: u32, state: &State) -> Result<Value, NoMemory>
+    ensures { IfOk result (λ tree. view tree ≡ trees.demands n state.now) }
+{
+    let mut all = Vec::new(alloc);
+    for k in 0..n {
+        all.push(Value::from(demand_of(state.demands.as_slice(), k + 1)))?;
+    }
+    Ok(Value::Array(all))
+}
+
+// The dimension of loads.
+#[tactic(auto, unfolding(crate::specs::Trees::loads))]
+fn loads(alloc: Global, capacity: u64, demands: Value) -> Result<Value, NoMemory>
+    ensures { IfOk result (λ tree. view tree ≡ trees.loads capacity (view demands)) }
+{
+    let evaluator = json!(in alloc; {"values": demands})?;
+    let mut tree = Tree::new(alloc);
+    tree.put("capacity", Value::from(capacity))?;
+    tree.put("evaluators", one(alloc, evaluator)?)?;
+    tree.put("fix_start", Value::Bool(true))?;
+    tree.put("name", text(alloc, "load")?)?;
+    tree.put("slack_max", Value::from(0u32))?;
+    Ok(tree.finish())
+}
+
+// A vehicle from a node to that node.
+fn vehicle(alloc: Global, node: u32) -> Result<Value, NoMemory>
+    ensures { IfOk result (λ tree. view tree ≡ trees.vehicle node) }
+{
+    Ok(json!(in alloc; {"end": node, "start": node})?)
+}
+
+// So many vehicles at a node.
+fn fleet(alloc: Global, count: u32, node: u32) -> Result<Value, NoMemory>
+    ensures { IfOk result (λ tree. view tree ≡ trees.fleet count node) }
+{
+    let mut all = Vec::new(alloc);
+    for _v in 0..count {
+        all.push(vehicle(alloc, node)?)?;
+    }
+    Ok(Value::Array(all))
+}
+
+/// The model of a file, with so many vehicles.
+#[tactic(auto, unfolding(crate::specs::Trees::tree_of))]
+pub(crate) fn tree(
+    alloc: Global,
+    vehicles: u32,
+    state: &State,
+    problem: Problem,
+) -> Result<Value, NoMemory>
+    requires few { problem.nodes ≤ 1000 }
+    requires near { All IsNear state.now.sites }
+    ensures { IfOk result (λ tree. view tree ≡ trees.tree_of vehicles state.now problem) }
+{
+    let orders = demands(alloc, problem.nodes, state)?;
+    let loads = loads(alloc, problem.capacity, orders)?;
+    let mut tree = Tree::new(alloc);
+    tree.put("dimensions", one(alloc, loads)?)?;
+    tree.put("format", Value::from(1u32))?;
+    let matrix = matrix(alloc, problem.distances, problem.nodes, state)?;
+    tree.put("matrices", one(alloc, matrix)?)?;
+    tree.put("nodes", Value::from(problem.nodes))?;
+    let depot = problem.depot.saturating_sub(1);
+    tree.put("vehicles", fleet(alloc, vehicles, depot)?)?;
+    Ok(tree.finish())
+}
