@@ -1,6 +1,6 @@
 -- Floors: numbers below which a stop allows no cumul.
-use Rattle.std.specs.Prelude.{◌≡◌, ℕ, ◌<◌, ◌&&◌, Bool, true, false, List, length, fold, cond, ℤ, pos, ◌+ℤ◌, Option, Some, None}
-use Rattle.std.specs.Prelude.{slice_index_or}
+use Rattle.std.specs.Prelude.{◌≡◌, ℕ, ◌<◌, ◌&&◌, Bool, true, false, List, length, fold, cond, ℤ, pos, ◌+ℤ◌}
+use Rattle.std.specs.Prelude.{Option, Some, None, slice_index_or}
 use Rattle.std.specs.Int.{int_min}
 use Rattle.vr_model.specs.tables.Numbers.{horizon, number_at, within}
 use Rattle.vr_model.specs.tables.Tables.{breaks_of, dimension_at, no_vehicle, row_of}

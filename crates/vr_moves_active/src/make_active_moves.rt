@@ -13,7 +13,7 @@ ghost use Rattle.vr_model.specs.declared.neighbours.Neighbourhood.TheVariants.{M
 use std::marker::Model;
 use vr_model::Move;
 use vr_routes::Routes;
-use vr_routes::nests::{Each, Family, Listed, Numbered, Run};
+use vr_known::nests::{Each, Family, Listed, Numbered, Run};
 
 // The places of `w` before which `u` may be put.
 #[derive(Drop)]

@@ -9,7 +9,7 @@ ghost use Rattle.vr_model.specs.declared.neighbours.Neighbourhood.TheVariants.{P
 
 use std::marker::Model;
 use vr_model::{Model as RoutingModel, Move};
-use vr_routes::nests::{Listed, Numbered, Run};
+use vr_known::nests::{Listed, Numbered, Run};
 use vr_routes::{Routes, is_pair_together};
 
 // The pairs whose nodes stand in one list.

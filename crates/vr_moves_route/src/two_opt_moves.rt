@@ -12,7 +12,7 @@ ghost use Rattle.vr_model.specs.declared.neighbours.Neighbourhood.TheVariants.{T
 use std::marker::Model;
 use vr_model::Move;
 use vr_routes::Routes;
-use vr_routes::nests::{Each, Family, Listed, Numbered, Run};
+use vr_known::nests::{Each, Family, Listed, Numbered, Run};
 
 // The last places of parts of `v` that begin at place `a`.
 #[derive(Drop)]

@@ -15,5 +15,6 @@ mod schedules;
 mod starts;
 
 pub use choosers::Chooser;
+pub use narrow::{pin, same_line};
 pub use plans::Plan;
 pub use schedules::{chosen_cumuls, schedule, schedule_over};

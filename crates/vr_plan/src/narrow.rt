@@ -49,8 +49,9 @@ fn only_sets(alloc: Global, line: &Line, cumuls: &[i64]) -> Result<Seq<Spans>, N
     Ok(sets)
 }
 
-// Lets stop `k` allow `x` alone, where it allowed it.
-pub(crate) fn pin(alloc: Global, line: &mut Line, k: usize, x: i64) -> Result<(), NoMemory>
+/// Lets stop `k` allow `x` alone, where it allowed it, and nothing where it did not. The only refusal is want of
+/// memory.
+pub fn pin(alloc: Global, line: &mut Line, k: usize, x: i64) -> Result<(), NoMemory>
     requires sound { IsSoundLine line.old }
     requires place { k < length line.old.allowed }
     requires cumul { IsIn (pos 0) horizon x }
@@ -64,8 +65,8 @@ pub(crate) fn pin(alloc: Global, line: &mut Line, k: usize, x: i64) -> Result<()
     Ok(())
 }
 
-// The same line.
-pub(crate) fn same_line(alloc: Global, line: &Line) -> Result<Line, NoMemory>
+/// The same line anew. The only refusal is want of memory.
+pub fn same_line(alloc: Global, line: &Line) -> Result<Line, NoMemory>
     requires { length line.now.breaks ≤ 8 }
     ensures { IfOk result (λ same. same ≡ line.now) }
 {

@@ -3,7 +3,6 @@ pub mod TourLemmas
 pub mod PieceLemmas
 pub mod JoinedPieces
 pub mod ChangeLemmas
-pub mod NestLemmas
 pub mod OnceLemmas
 pub mod FinalLemmas
 pub mod CommitLemmas

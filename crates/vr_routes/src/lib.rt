@@ -7,7 +7,6 @@ mod filling;
 mod indices;
 mod judging;
 mod kinds;
-pub mod nests;
 mod pairs;
 mod pieces;
 mod routes;

@@ -9,12 +9,11 @@ ghost use Rattle.vr_span.specs.Spans.{IsChosenBetween, IsFirstPlan, IsLeastSpanO
 ghost use Rattle.vr_span.specs.Starts.{IsShortestWay};
 
 use crate::crossing::pieces_at_end;
-use crate::narrow::{pin, same_line};
 use crate::pieces::Piece;
 use crate::shortest::shortest;
 use std::alloc::Global;
 use vr_model::{NoMemory, ScheduleRule};
-use vr_plan::{Plan, schedule};
+use vr_plan::{Plan, pin, same_line, schedule};
 use vr_steps::Line;
 
 /// The least span of a line, and the schedule that has it.

@@ -14,7 +14,6 @@
 
 mod crossing;
 mod least;
-mod narrow;
 mod pieces;
 mod shortest;
 

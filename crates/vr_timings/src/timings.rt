@@ -62,8 +62,8 @@ impl Timer {
     }
 }
 
-/// What the schedule comes to that the rule of vehicle `v` chooses for a list of distinct visits in dimension `d`. Where
-/// there is no schedule, all is 0. The only refusal is want of memory.
+/// What the schedule comes to that the rule of vehicle `v` chooses for a list of distinct visits in dimension `d`.
+/// Where there is no schedule, all is 0. The only refusal is want of memory.
 pub fn timing_of(
     model: &Model,
     table: &Table,

@@ -58,7 +58,7 @@ pub fn single_runs<'a>(model: &Model, d: u32, v: u32, stops: &'a Stops) -> Optio
     })
 }
 
-/// Writes the cumuls of the chosen schedule of a list over others, where they are found stop by stop, each the least
+/// Writes the cumuls of the earliest schedule of a list over others, where they are found stop by stop, each the least
 /// that the one before leaves: where the vehicle has no breaks, no stop allows more than one run of cumuls, and no
 /// slack would be too great. False where they are not found so, also where there is no schedule.
 pub fn write_earliest(

@@ -34,7 +34,7 @@ least_end line = least_of (end_of line) line
 abbrev pub before_horizon : Plan → ℤ
 before_horizon plan = horizon -ℤ cumul plan 0
 
--- the greatest cumul at the start of all schedules of a line
+-- the greatest cumul at the start of all schedules of a line, the horizon where there is none
 abbrev pub latest_start : Line → ℤ
 latest_start line = horizon -ℤ least_of before_horizon line
 

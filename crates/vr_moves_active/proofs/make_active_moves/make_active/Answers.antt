@@ -6,7 +6,7 @@ use Rattle.vr_model.specs.moves.Moves.{gaps}
 use Rattle.vr_routes.specs.Tours.{inactive_of}
 use Rattle.vr_model.specs.declared.neighbours.Move.{Move}
 use Rattle.vr_model.specs.declared.neighbours.Move.TheVariants.{MakeActive}
-use Rattle.vr_routes.proofs.NestLemmas.{joined_all_below, each_places}
+use Rattle.vr_known.proofs.NestLemmas.{joined_all_below, each_places}
 use Rattle.vr_moves_active.proofs.make_active_moves.make_active.Goals as goal
 
 pub returns : goal.returns

@@ -5,7 +5,7 @@ use Rattle.vr_model.specs.moves.Moves.{places}
 use Rattle.vr_routes.specs.Tours.{inactive_of}
 use Rattle.vr_model.specs.declared.neighbours.Move.{Move}
 use Rattle.vr_model.specs.declared.neighbours.Move.TheVariants.{SwapActive}
-use Rattle.vr_routes.proofs.NestLemmas.{joined_all_below}
+use Rattle.vr_known.proofs.NestLemmas.{joined_all_below}
 use Rattle.vr_moves_active.proofs.swap_active_moves.swap_active.Goals as goal
 
 pub returns : goal.returns

@@ -5,7 +5,7 @@ use Rattle.vr_model.specs.routes.Routes.{route, vehicles}
 use Rattle.vr_model.specs.moves.Moves.{gaps, is_pair_inactive}
 use Rattle.vr_model.specs.declared.neighbours.Move.{Move}
 use Rattle.vr_model.specs.declared.neighbours.Move.TheVariants.{PairActive}
-use Rattle.vr_routes.proofs.NestLemmas.{joined_below}
+use Rattle.vr_known.proofs.NestLemmas.{joined_below}
 use Rattle.vr_moves_pair.proofs.pair_active_moves.pair_active.Goals as goal
 
 pub returns : goal.returns

@@ -3,7 +3,7 @@ use Rattle.std.specs.Prelude.{filter}
 use Rattle.vr_model.specs.tables.Numbers.{below}
 use Rattle.vr_model.specs.moves.Moves.{is_pair_together}
 use Rattle.vr_model.specs.declared.neighbours.Move.TheVariants.{PairInactive}
-use Rattle.vr_routes.proofs.NestLemmas.{run_below}
+use Rattle.vr_known.proofs.NestLemmas.{run_below}
 use Rattle.vr_moves_pair.proofs.pair_inactive_moves.pair_inactive.Goals as goal
 
 pub returns : goal.returns

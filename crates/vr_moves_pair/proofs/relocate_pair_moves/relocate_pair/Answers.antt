@@ -6,7 +6,7 @@ use Rattle.vr_model.specs.tables.Tables.{pair_at}
 use Rattle.vr_model.specs.moves.Moves.{gaps, without_pair, changes_the_list, is_pair_served}
 use Rattle.vr_model.specs.declared.neighbours.Move.{Move}
 use Rattle.vr_model.specs.declared.neighbours.Move.TheVariants.{RelocatePair}
-use Rattle.vr_routes.proofs.NestLemmas.{joined_below}
+use Rattle.vr_known.proofs.NestLemmas.{joined_below}
 use Rattle.vr_moves_pair.proofs.relocate_pair_moves.relocate_pair.Goals as goal
 
 pub returns : goal.returns

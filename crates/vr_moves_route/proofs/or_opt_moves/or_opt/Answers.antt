@@ -5,7 +5,7 @@ use Rattle.vr_model.specs.routes.Routes.{route}
 use Rattle.vr_model.specs.moves.Moves.{places, has_chain, is_other}
 use Rattle.vr_model.specs.declared.neighbours.Move.{Move}
 use Rattle.vr_model.specs.declared.neighbours.Move.TheVariants.{OrOpt}
-use Rattle.vr_routes.proofs.NestLemmas.{joined_all_below}
+use Rattle.vr_known.proofs.NestLemmas.{joined_all_below}
 use Rattle.vr_moves_route.proofs.or_opt_moves.or_opt.Goals as goal
 
 pub returns : goal.returns

@@ -5,7 +5,7 @@ use Rattle.vr_model.specs.routes.Routes.{route}
 use Rattle.vr_model.specs.moves.Moves.{gaps}
 use Rattle.vr_model.specs.declared.neighbours.Move.{Move}
 use Rattle.vr_model.specs.declared.neighbours.Move.TheVariants.{MakeActive}
-use Rattle.vr_routes.proofs.NestLemmas.{joined_all_below}
+use Rattle.vr_known.proofs.NestLemmas.{joined_all_below}
 use Rattle.vr_moves_active.proofs.make_active_moves.NodesFamily.open.Goals as goal
 
 pub returns-clause-rest : goal.returns-clause-rest

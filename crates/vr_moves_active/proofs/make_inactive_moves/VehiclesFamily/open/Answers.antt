@@ -1,7 +1,7 @@
 use Rattle.std.proofs.Common.{◌∙◌, map, ap}
 use Rattle.vr_model.specs.tables.Numbers.{below}
 use Rattle.vr_model.specs.declared.neighbours.Move.TheVariants.{MakeInactive}
-use Rattle.vr_routes.proofs.NestLemmas.{run_all_below}
+use Rattle.vr_known.proofs.NestLemmas.{run_all_below}
 use Rattle.vr_moves_active.proofs.make_inactive_moves.VehiclesFamily.open.Goals as goal
 
 pub returns-clause-rest : goal.returns-clause-rest

@@ -2,7 +2,7 @@ use Rattle.std.proofs.Common.{◌∙◌, ℕ, length}
 use Rattle.std.specs.Prelude.{slice_index}
 use Rattle.vr_model.specs.declared.neighbours.Move.{Move}
 use Rattle.vr_model.specs.declared.neighbours.Move.TheVariants.{SwapActive}
-use Rattle.vr_routes.proofs.NestLemmas.{run_all_below, map_places}
+use Rattle.vr_known.proofs.NestLemmas.{run_all_below, map_places}
 use Rattle.vr_moves_active.proofs.swap_active_moves.PlacesFamily.open.Goals as goal
 
 pub returns-clause-rest : goal.returns-clause-rest

@@ -2,7 +2,7 @@ use Rattle.std.proofs.Common.{◌∙◌, ℕ, List, map, ap}
 use Rattle.vr_model.specs.tables.Numbers.{below, each}
 use Rattle.vr_model.specs.declared.neighbours.Move.{Move}
 use Rattle.vr_model.specs.declared.neighbours.Move.TheVariants.{SwapActive}
-use Rattle.vr_routes.proofs.NestLemmas.{joined_all_below}
+use Rattle.vr_known.proofs.NestLemmas.{joined_all_below}
 use Rattle.vr_moves_active.proofs.swap_active_moves.VehiclesFamily.open.Goals as goal
 
 pub returns-clause-rest : goal.returns-clause-rest

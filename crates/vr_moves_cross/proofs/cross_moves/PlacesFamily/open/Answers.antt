@@ -5,7 +5,7 @@ use Rattle.vr_model.specs.routes.Routes.{route}
 use Rattle.vr_model.specs.moves.Moves.{gaps, has_some_front}
 use Rattle.vr_model.specs.declared.neighbours.Move.{Move}
 use Rattle.vr_model.specs.declared.neighbours.Move.TheVariants.{Cross}
-use Rattle.vr_routes.proofs.NestLemmas.{joined_all}
+use Rattle.vr_known.proofs.NestLemmas.{joined_all}
 use Rattle.vr_moves_cross.proofs.cross_moves.PlacesFamily.open.Goals as goal
 
 pub returns-clause-rest : goal.returns-clause-rest

@@ -3,7 +3,7 @@ use Rattle.vr_model.specs.tables.Numbers.{from_to, each}
 use Rattle.vr_model.specs.moves.Moves.{places_behind}
 use Rattle.vr_model.specs.declared.neighbours.Move.{Move}
 use Rattle.vr_model.specs.declared.neighbours.Move.TheVariants.{Exchange}
-use Rattle.vr_routes.proofs.NestLemmas.{joined_all}
+use Rattle.vr_known.proofs.NestLemmas.{joined_all}
 use Rattle.vr_moves_cross.proofs.exchange_moves.PlacesFamily.open.Goals as goal
 
 pub returns-clause-rest : goal.returns-clause-rest

@@ -3,7 +3,7 @@ use Rattle.std.specs.Prelude.{◌==◌}
 use Rattle.vr_model.specs.tables.Numbers.{from_to}
 use Rattle.vr_model.specs.declared.neighbours.Move.{Move}
 use Rattle.vr_model.specs.declared.neighbours.Move.TheVariants.{Exchange}
-use Rattle.vr_routes.proofs.NestLemmas.{run_all}
+use Rattle.vr_known.proofs.NestLemmas.{run_all}
 use Rattle.vr_moves_cross.proofs.exchange_moves.TargetsFamily.open.Goals as goal
 
 pub returns-clause-rest : goal.returns-clause-rest

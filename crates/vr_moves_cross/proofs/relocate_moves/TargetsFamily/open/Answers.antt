@@ -4,7 +4,7 @@ use Rattle.vr_model.specs.routes.Routes.{route}
 use Rattle.vr_model.specs.moves.Moves.{is_other}
 use Rattle.vr_model.specs.declared.neighbours.Move.{Move}
 use Rattle.vr_model.specs.declared.neighbours.Move.TheVariants.{Relocate}
-use Rattle.vr_routes.proofs.NestLemmas.{run_all_below}
+use Rattle.vr_known.proofs.NestLemmas.{run_all_below}
 use Rattle.vr_moves_cross.proofs.relocate_moves.TargetsFamily.open.Goals as goal
 
 pub returns-clause-rest : goal.returns-clause-rest

@@ -5,7 +5,7 @@ use Rattle.vr_model.specs.routes.Routes.{route, vehicles}
 use Rattle.vr_model.specs.moves.Moves.{gaps, is_other}
 use Rattle.vr_model.specs.declared.neighbours.Move.{Move}
 use Rattle.vr_model.specs.declared.neighbours.Move.TheVariants.{Relocate}
-use Rattle.vr_routes.proofs.NestLemmas.{joined_all_below}
+use Rattle.vr_known.proofs.NestLemmas.{joined_all_below}
 use Rattle.vr_moves_cross.proofs.relocate_moves.VehiclesFamily.open.Goals as goal
 
 pub returns-clause-rest : goal.returns-clause-rest

@@ -4,7 +4,7 @@ use Rattle.vr_model.specs.routes.Routes.{route, vehicles}
 use Rattle.vr_model.specs.moves.Moves.{gaps}
 use Rattle.vr_model.specs.declared.neighbours.Move.{Move}
 use Rattle.vr_model.specs.declared.neighbours.Move.TheVariants.{PairActive}
-use Rattle.vr_routes.proofs.NestLemmas.{joined_all_below}
+use Rattle.vr_known.proofs.NestLemmas.{joined_all_below}
 use Rattle.vr_moves_pair.proofs.pair_active_moves.PairsFamily.open.Goals as goal
 
 pub returns-clause-rest : goal.returns-clause-rest

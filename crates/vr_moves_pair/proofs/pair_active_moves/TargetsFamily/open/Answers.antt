@@ -2,7 +2,7 @@ use Rattle.std.proofs.Common.{◌∙◌, ◌+◌, ℕ, List, suc, map, ap, add-o
 use Rattle.vr_model.specs.tables.Numbers.{from_to, below, each}
 use Rattle.vr_model.specs.declared.neighbours.Move.{Move}
 use Rattle.vr_model.specs.declared.neighbours.Move.TheVariants.{PairActive}
-use Rattle.vr_routes.proofs.NestLemmas.{joined_all_below}
+use Rattle.vr_known.proofs.NestLemmas.{joined_all_below}
 use Rattle.vr_moves_pair.proofs.pair_active_moves.TargetsFamily.open.Goals as goal
 
 pub returns-clause-rest : goal.returns-clause-rest

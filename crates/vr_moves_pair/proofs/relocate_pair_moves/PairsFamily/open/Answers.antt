@@ -7,7 +7,7 @@ use Rattle.vr_model.specs.moves.Moves.{gaps, without_pair, changes_the_list}
 use Rattle.vr_model.specs.declared.records.Pair.{Pair}
 use Rattle.vr_model.specs.declared.neighbours.Move.{Move}
 use Rattle.vr_model.specs.declared.neighbours.Move.TheVariants.{RelocatePair}
-use Rattle.vr_routes.proofs.NestLemmas.{joined_all_below}
+use Rattle.vr_known.proofs.NestLemmas.{joined_all_below}
 use Rattle.vr_moves_pair.proofs.relocate_pair_moves.PairsFamily.open.Goals as goal
 
 pub returns-in-Some-clause-rest : goal.returns-in-Some-clause-rest

@@ -8,7 +8,7 @@ use Rattle.vr_model.specs.declared.records.Pair.{Pair}
 use Rattle.vr_model.specs.declared.neighbours.Move.{Move}
 use Rattle.vr_model.specs.declared.neighbours.Move.TheVariants.{RelocatePair}
 use Rattle.vr_routes.specs.Pairs.{is_elsewhere}
-use Rattle.vr_routes.proofs.NestLemmas.{joined_all_below, each_same, filter_same}
+use Rattle.vr_known.proofs.NestLemmas.{joined_all_below, each_same, filter_same}
 use Rattle.vr_routes.proofs.ElsewhereLemmas.{elsewhere_tells}
 use Rattle.vr_moves_pair.proofs.relocate_pair_moves.TargetsFamily.open.Goals as goal
 

@@ -4,7 +4,7 @@ use Rattle.vr_model.specs.tables.Numbers.{below}
 use Rattle.vr_model.specs.moves.Moves.{is_other}
 use Rattle.vr_model.specs.declared.neighbours.Move.{Move}
 use Rattle.vr_model.specs.declared.neighbours.Move.TheVariants.{OrOpt}
-use Rattle.vr_routes.proofs.NestLemmas.{run_below}
+use Rattle.vr_known.proofs.NestLemmas.{run_below}
 use Rattle.vr_moves_route.proofs.or_opt_moves.ChainsFamily.open.Goals as goal
 
 pub returns-clause-rest : goal.returns-clause-rest

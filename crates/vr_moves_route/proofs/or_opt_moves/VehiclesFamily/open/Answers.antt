@@ -4,7 +4,7 @@ use Rattle.vr_model.specs.tables.Numbers.{from_to, below, each}
 use Rattle.vr_model.specs.moves.Moves.{is_other}
 use Rattle.vr_model.specs.declared.neighbours.Move.{Move}
 use Rattle.vr_model.specs.declared.neighbours.Move.TheVariants.{OrOpt}
-use Rattle.vr_routes.proofs.NestLemmas.{joined_all_below}
+use Rattle.vr_known.proofs.NestLemmas.{joined_all_below}
 use Rattle.vr_moves_route.proofs.or_opt_moves.VehiclesFamily.open.Goals as goal
 
 pub returns-clause-rest : goal.returns-clause-rest

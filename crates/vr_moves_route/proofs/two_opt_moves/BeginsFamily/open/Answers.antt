@@ -1,7 +1,7 @@
 use Rattle.std.proofs.Common.{◌∙◌, ◌+◌, map, ap, add-one}
 use Rattle.vr_model.specs.tables.Numbers.{from_to}
 use Rattle.vr_model.specs.declared.neighbours.Move.TheVariants.{TwoOpt}
-use Rattle.vr_routes.proofs.NestLemmas.{run_all}
+use Rattle.vr_known.proofs.NestLemmas.{run_all}
 use Rattle.vr_moves_route.proofs.two_opt_moves.BeginsFamily.open.Goals as goal
 
 pub returns-clause-rest : goal.returns-clause-rest

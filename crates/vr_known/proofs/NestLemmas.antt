@@ -4,7 +4,7 @@ use Rattle.std.specs.Prelude.{filter, slice_index}
 use Rattle.std.specs.List.{range_with_len}
 use Rattle.vr_model.proofs.tables.Ranges.{all_left, none_left}
 use Rattle.vr_model.specs.tables.Numbers.{below, from_to, each}
-use Rattle.vr_routes.specs.Nests.{run_of, joined_of}
+use Rattle.vr_known.specs.Nests.{run_of, joined_of}
 
 pub from_to_step : (a b : ℕ) → a < b → from_to a b ≡ a ∷ from_to (a + 1) b
 from_to_step a b low = let e : b - a ≡ suc (b - (a + 1)) = omega (arith, low) in ap (range_with_len a) e
