@@ -11,9 +11,9 @@ ghost use Rattle.vr_model.specs.declared.neighbours.Move.TheVariants.{MakeActive
 ghost use Rattle.vr_model.specs.declared.neighbours.Neighbourhood.TheVariants.{MakeActive as MakeActiveKind};
 
 use std::marker::Model;
+use vr_known::nests::{Each, Family, Listed, Numbered, Run};
 use vr_model::Move;
 use vr_routes::Routes;
-use vr_known::nests::{Each, Family, Listed, Numbered, Run};
 
 // The places of `w` before which `u` may be put.
 #[derive(Drop)]

@@ -9,9 +9,9 @@ ghost use Rattle.vr_model.specs.declared.neighbours.Move.TheVariants.{MakeInacti
 ghost use Rattle.vr_model.specs.declared.neighbours.Neighbourhood.TheVariants.{MakeInactive as MakeInactiveKind};
 
 use std::marker::Model;
+use vr_known::nests::{Each, Family, Listed, Numbered, Run};
 use vr_model::Move;
 use vr_routes::Routes;
-use vr_known::nests::{Each, Family, Listed, Numbered, Run};
 
 // The places of `v`.
 #[derive(Drop)]

@@ -11,9 +11,9 @@ ghost use Rattle.vr_model.specs.declared.neighbours.Move.TheVariants.{SwapActive
 ghost use Rattle.vr_model.specs.declared.neighbours.Neighbourhood.TheVariants.{SwapActive as SwapActiveKind};
 
 use std::marker::Model;
+use vr_known::nests::{Each, Family, Listed, Numbered, Run};
 use vr_model::Move;
 use vr_routes::Routes;
-use vr_known::nests::{Each, Family, Listed, Numbered, Run};
 
 // The inactive visits that may take the place of the node at place `a` of `v`.
 #[derive(Drop)]

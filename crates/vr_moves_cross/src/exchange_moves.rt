@@ -10,9 +10,9 @@ ghost use Rattle.vr_model.specs.declared.neighbours.Move.TheVariants.{Exchange};
 ghost use Rattle.vr_model.specs.declared.neighbours.Neighbourhood.TheVariants.{Exchange as ExchangeKind};
 
 use std::marker::Model;
+use vr_known::nests::{Each, Family, Listed, Numbered, Run};
 use vr_model::Move;
 use vr_routes::Routes;
-use vr_known::nests::{Each, Family, Listed, Numbered, Run};
 
 // The places of `w` whose nodes may change places with that at place `a` of `v`.
 #[derive(Drop)]

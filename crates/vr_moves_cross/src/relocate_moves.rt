@@ -10,9 +10,9 @@ ghost use Rattle.vr_model.specs.declared.neighbours.Move.TheVariants.{Relocate};
 ghost use Rattle.vr_model.specs.declared.neighbours.Neighbourhood.TheVariants.{Relocate as RelocateKind};
 
 use std::marker::Model;
+use vr_known::nests::{Each, Family, Listed, Numbered, Run};
 use vr_model::Move;
 use vr_routes::Routes;
-use vr_known::nests::{Each, Family, Listed, Numbered, Run};
 
 // The places of `w` before which the node at place `a` of `v` may be put.
 #[derive(Drop)]

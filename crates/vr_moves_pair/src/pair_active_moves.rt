@@ -10,8 +10,8 @@ ghost use Rattle.vr_model.specs.declared.neighbours.Move.TheVariants.{PairActive
 ghost use Rattle.vr_model.specs.declared.neighbours.Neighbourhood.TheVariants.{PairActive as PairActiveKind};
 
 use std::marker::Model;
-use vr_model::{Model as RoutingModel, Move};
 use vr_known::nests::{Each, Family, Listed, Numbered, Run};
+use vr_model::{Model as RoutingModel, Move};
 use vr_routes::{Routes, is_pair_inactive};
 
 // The places of `w` before which the delivery may be put, where the pickup is put before place `s`.

@@ -8,8 +8,8 @@ ghost use Rattle.vr_model.specs.declared.neighbours.Move.TheVariants.{PairInacti
 ghost use Rattle.vr_model.specs.declared.neighbours.Neighbourhood.TheVariants.{PairInactive as PairInactiveKind};
 
 use std::marker::Model;
-use vr_model::{Model as RoutingModel, Move};
 use vr_known::nests::{Listed, Numbered, Run};
+use vr_model::{Model as RoutingModel, Move};
 use vr_routes::{Routes, is_pair_together};
 
 // The pairs whose nodes stand in one list.

@@ -13,8 +13,8 @@ ghost use Rattle.vr_routes.specs.Pairs.{ArePlaces, is_elsewhere};
 ghost use Rattle.vr_moves_pair.specs.Putting.{puts_into};
 
 use std::marker::Model;
-use vr_model::{Model as RoutingModel, Move};
 use vr_known::nests::{Each, Family, Listed, Numbered, Run};
+use vr_model::{Model as RoutingModel, Move};
 use vr_routes::{PairPlaces, Routes, is_elsewhere, pair_served, rest_len};
 
 // The places of the rest of `w` before which the delivery may be put, where the pickup is put before place `s`. The

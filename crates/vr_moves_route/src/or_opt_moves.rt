@@ -10,9 +10,9 @@ ghost use Rattle.vr_model.specs.declared.neighbours.Move.TheVariants.{OrOpt};
 ghost use Rattle.vr_model.specs.declared.neighbours.Neighbourhood.TheVariants.{OrOpt as OrOptKind};
 
 use std::marker::Model;
+use vr_known::nests::{Each, Family, Listed, Numbered, Run};
 use vr_model::Move;
 use vr_routes::Routes;
-use vr_known::nests::{Each, Family, Listed, Numbered, Run};
 
 // The places before which the `k` nodes of `v` from place `a` on may be put.
 #[derive(Drop)]

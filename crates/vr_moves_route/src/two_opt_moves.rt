@@ -10,9 +10,9 @@ ghost use Rattle.vr_model.specs.declared.neighbours.Move.TheVariants.{TwoOpt};
 ghost use Rattle.vr_model.specs.declared.neighbours.Neighbourhood.TheVariants.{TwoOpt as TwoOptKind};
 
 use std::marker::Model;
+use vr_known::nests::{Each, Family, Listed, Numbered, Run};
 use vr_model::Move;
 use vr_routes::Routes;
-use vr_known::nests::{Each, Family, Listed, Numbered, Run};
 
 // The last places of parts of `v` that begin at place `a`.
 #[derive(Drop)]
