@@ -1,8 +1,9 @@
-"""Plans made by hand: the schedule and costs of lists, or why they cannot be driven; drivers that leave later; faults
-of a solution's form.
+"""Plans made by hand: the schedule and costs of lists, or why they cannot be driven; drivers that leave later, and
+routes as short as they can be; faults of a solution's form.
 
     plan = complete(model, [[3, 1], [2]])       # vehicle 0 makes the visits 3 and 1, vehicle 1 the visit 2
     plan = leave_later(model, plan)
+    plan = shorten(model, plan)
 """
 
 from __future__ import annotations
@@ -14,13 +15,13 @@ from .costs import parts_of
 from .errors import Fault, JambulskegError, Refused
 from .intervals import common, told
 from .kinds import Row, between
-from .model import meets
+from .model import meets, spans
 from .program import ProgramLike
 from .records import MOST_NODES, NODE, Model
 from .schedules import Line, chosen, line_of, reach_of, rows_of, tight
 from .solution import Plan, Route, Solution, Status, Stop
 
-__all__ = ["CannotBeDriven", "complete", "leave_later", "shape_faults"]
+__all__ = ["CannotBeDriven", "complete", "leave_later", "shape_faults", "shorten"]
 
 
 class CannotBeDriven(JambulskegError, ValueError):
@@ -129,17 +130,17 @@ def leave_later(
     solution = meets(model, solution, program) if checked else solution
     for vehicle, route in enumerate(solution.routes):
         for number in range(len(route.dimensions)):
-            later = with_later_plan(model, solution, vehicle, number)
+            later = with_plan(model, solution, vehicle, number, later_plan(model, number, route))
             if later.cost <= solution.cost:
                 solution = later
     return meets(model, solution, program) if checked else solution
 
 
-def with_later_plan(model: Model, solution: Solution, vehicle: int, number: int) -> Solution:
+def with_plan(model: Model, solution: Solution, vehicle: int, number: int, plan: Plan) -> Solution:
     """The solution with another schedule of one route in one dimension."""
     route, routes = solution.routes[vehicle], list(solution.routes)
     plans = list(route.dimensions)
-    plans[number] = later_plan(model, number, route)
+    plans[number] = plan
     routes[vehicle] = replace(route, dimensions=plans)
     parts = parts_of(model, routes)
     return replace(solution, routes=routes, parts=parts, cost=parts.total())
@@ -155,6 +156,21 @@ def later_plan(model: Model, number: int, route: Route) -> Plan:
         for row, numbers, cumul in zip(rows, line.allowed, printed.cumuls)
     ]
     return tight(replace(line, allowed=allowed)) or printed
+
+
+def shorten(model: Model, solution: Solution, program: ProgramLike = None, *, checked: bool = True) -> Solution:
+    """The same routes, each with the schedule of its least span, as `model.spans` tells it, where it is no dearer.
+
+    Unlike `leave_later` it lets a day end later where it is shorter so; a dimension in which some vehicle has breaks
+    keeps its schedules. Raises `NotMet` where the solution breaks a rule.
+    """
+    numbers = {dimension.name: number for number, dimension in enumerate(model.dimensions)}
+    for span in spans(model, solution, program):
+        plan = Plan(span.dimension, span.cumuls, span.slacks, ())
+        shorter = with_plan(model, solution, span.vehicle, numbers[span.dimension], plan)
+        if shorter.cost <= solution.cost:
+            solution = shorter
+    return meets(model, solution, program) if checked else solution
 
 
 def shape_faults(model: Model, tree: Any) -> List[Fault]:

@@ -26,8 +26,15 @@ CAUSES = {
     21: "the matrix of an evaluator has an entry above 2^30",
     22: "a transit is negative in a dimension that has breaks or span costs",
     23: "SAVINGS asks for vehicles that are alike and for no allowed rows",
+    40: "the line is none that may stand there",
+    41: "the keyword or section stands a second time",
+    42: "the word is none that the keyword may have",
+    43: "the number is out of its range",
+    44: "the node stood earlier in its section, or this is a second depot",
+    45: "something is missing that must come earlier, or before the end of the file",
+    46: "the demand of the depot is not 0",
 }
-"""The causes of refusal by code, as docs/FORMAT.md has them."""
+"""The causes of refusal by code, as docs/FORMAT.md has them; from 40 on those of a TSPLIB file."""
 
 
 class JambulskegError(Exception):
@@ -83,7 +90,8 @@ class NoFirstSolution(JambulskegError):
 class Fault:
     """A fault of a model or of a solution.
 
-    `code` is one of `CAUSES`; `path` names the field: each key, and each place in a list from 0, after a `/`.
+    `code` is one of `CAUSES`; `path` names the field: each key, and each place in a list from 0, after a `/`. Of a
+    TSPLIB file it is the line after a `/`, and `/0` for the whole file.
     """
 
     code: int

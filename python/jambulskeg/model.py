@@ -1,4 +1,5 @@
-"""The model file and what is asked of it: `solve`, `first`, `check`. The records are those of `records` and `solution`.
+"""The model file and what is asked of it: `solve`, `first`, `check`, `spans`. The records are those of `records` and
+`solution`.
 
 Each answer that is handed out was found to meet its model by the program's proved check; `checked=False` leaves that
 out. Whoever adds a mode of the program adds a function here, beside `solve`.
@@ -7,23 +8,26 @@ out. Whoever adds a mode of the program adds a function here, beside `solve`.
 from __future__ import annotations
 
 import json
+import operator
+import os
 from dataclasses import dataclass
-from typing import Optional, Sequence, Tuple
+from typing import List, Optional, Sequence, Tuple, Union
 
-from .errors import NotMet, ProgramFailed, Refused
+from .errors import CAUSES, Fault, NotMet, ProgramFailed, Refused
 from .findings import Finding, explain
+from .kinds import Whole
 from .program import ProgramLike, lines_of, program_of, tree_of
 from .records import (
-    Allowed, Break, Dimension, Evaluator, First, Group, Improve, Model, Neighbourhood, NodeRow, Pair, Policy,
-    ScheduleRule, Search, Soft, StopRow, Vehicle, VehicleBreaks, VehicleRow,
+    MOST_VEHICLES, Allowed, Break, Dimension, Evaluator, First, Group, Improve, Model, Neighbourhood, NodeRow, Pair,
+    Policy, ScheduleRule, Search, Soft, StopRow, Vehicle, VehicleBreaks, VehicleRow,
 )
-from .solution import Parts, Plan, Route, Solution, Status, Stop
+from .solution import LeastSpan, Parts, Plan, Route, Solution, Status, Stop
 
 __all__ = [
-    "Allowed", "Break", "Dimension", "Evaluator", "Event", "Finding", "First", "Group", "Improve", "Model",
+    "Allowed", "Break", "Dimension", "Evaluator", "Event", "Finding", "First", "Group", "Improve", "LeastSpan", "Model",
     "Neighbourhood", "NodeRow", "Pair", "Parts", "Plan", "Policy", "Route", "ScheduleRule", "Search", "SearchLog",
     "Soft", "Solution", "Status", "Stop", "StopRow", "Vehicle", "VehicleBreaks", "VehicleRow", "check", "explain",
-    "first", "generate", "meets", "read_model", "read_solution", "solve", "solve_with_log",
+    "first", "generate", "import_tsplib", "meets", "read_model", "read_solution", "solve", "solve_with_log", "spans",
 ]
 
 
@@ -110,14 +114,18 @@ def check(
 
     Raises `Refused` where the model has a fault, at a path that begins with `/model`.
     """
-    text = f'{{"model":{model.text()},"solution":{solution.text()}}}'
     try:
-        tree = program_of(program).ask(["check"], text, seconds)
+        tree = program_of(program).ask(["check"], beside(model, solution), seconds)
     except NotMet as broken:
         return Finding(None, broken.rule, broken.vehicle, broken.place)
     if not isinstance(tree, dict) or not isinstance(tree.get("cost"), int):
         raise ProgramFailed("the program wrote a finding that cannot be read")
     return Finding(cost=tree["cost"])
+
+
+def beside(model: Model, solution: Solution) -> str:
+    """What `check` and `spans` read: a model and a solution of it."""
+    return f'{{"model":{model.text()},"solution":{solution.text()}}}'
 
 
 def meets(
@@ -130,9 +138,63 @@ def meets(
     return solution
 
 
+def spans(
+    model: Model, solution: Solution, program: ProgramLike = None, *, seconds: Optional[float] = None
+) -> List[LeastSpan]:
+    """How short each printed route could be, by vehicle and then dimension.
+
+    A dimension in which some vehicle has breaks is left out, and so is a vehicle that is not used. What a schedule
+    costs is not looked at. Raises `NotMet` where the solution breaks a rule of the model, and else as `check` does.
+    """
+    try:
+        tree = program_of(program).ask(["spans"], beside(model, solution), seconds)
+    except NotMet as broken:
+        finding = Finding(None, broken.rule, broken.vehicle, broken.place)
+        raise NotMet(broken.rule, broken.vehicle, broken.place, explain(finding, solution)) from None
+    try:
+        return [LeastSpan.of(entry) for entry in tree["spans"]]
+    except (Refused, KeyError, TypeError) as fault:
+        raise ProgramFailed(f"the program wrote spans that cannot be read: {fault}") from fault
+
+
 def generate(number: int, program: ProgramLike = None) -> Model:
     """A model to try things with, of a number up to 2^64 - 1: sixty visits, six vehicles."""
     return Model.of(program_of(program).ask(["generate", str(number)]))
+
+
+def import_tsplib(
+    file: Union[str, "os.PathLike[str]", bytes], vehicles: int, program: ProgramLike = None, *,
+    seconds: Optional[float] = None
+) -> Model:
+    """The model of a TSPLIB file of type CVRP, given by its path or as its bytes, with 1 to 100 vehicles.
+
+    Raises `Refused` at the first faulty line, whose number is the path (`/8`; `/0` where the file ends too early or the
+    depot has a demand), and where there may not be so many vehicles; `OSError` where the file cannot be read.
+    """
+    for fault in Whole(1, MOST_VEHICLES).faults(vehicles, "/vehicles"):
+        raise Refused(fault, "the import")
+    name, data = ("the file", file) if isinstance(file, bytes) else (os.fspath(file), bytes_of(file))
+    try:
+        tree = program_of(program).ask(["import", str(operator.index(vehicles))], data, seconds)
+    except Refused as refused:
+        raise Refused(at_line(refused.fault), name) from None
+    try:
+        return Model.of(tree)
+    except Refused as fault_of_tree:
+        raise ProgramFailed(f"the program wrote a model that cannot be read: {fault_of_tree}") from fault_of_tree
+
+
+def bytes_of(path: Union[str, "os.PathLike[str]"]) -> bytes:
+    """The bytes of a file."""
+    with open(path, "rb") as file:
+        return file.read()
+
+
+def at_line(fault: Fault) -> Fault:
+    """A fault of a TSPLIB file, with its line in words."""
+    line = fault.path.lstrip("/")
+    place = "at the end of the file" if line == "0" else f"in line {line}"
+    return Fault(fault.code, fault.path, f"{place}, {CAUSES.get(fault.code, 'something is wrong')}")
 
 
 def read_model(path: str) -> Model:

@@ -75,13 +75,14 @@ class Program:
         """The program that `find` finds."""
         return cls(find(path))
 
-    def run(self, words: Sequence[str], text: str = "", seconds: Optional[float] = None) -> str:
+    def run(self, words: Sequence[str], text: Union[str, bytes] = "", seconds: Optional[float] = None) -> str:
         """What the program writes when called with these words on this input.
 
         `seconds` is how long it may take. Raises `ProgramSlow` after that, `ProgramKilled` where a signal ended it,
         `ProgramFailed` where it could not be run, and else the exception of its status.
         """
         command = [self.path, *words]
+        data = text if isinstance(text, bytes) else text.encode("utf-8", "surrogatepass")
         try:
             process = subprocess.Popen(
                 command, stdin=subprocess.PIPE, stdout=subprocess.PIPE, stderr=subprocess.PIPE
@@ -90,7 +91,7 @@ class Program:
             raise ProgramFailed(f"the program {self.path} could not be started: {problem.strerror}") from problem
         with process:
             try:
-                out, told = process.communicate(text.encode("utf-8", "surrogatepass"), seconds)
+                out, told = process.communicate(data, seconds)
             except subprocess.TimeoutExpired:
                 process.kill()
                 raise ProgramSlow(seconds or 0) from None
@@ -99,7 +100,7 @@ class Program:
                 raise
         return answer(process.returncode, out, told)
 
-    def ask(self, words: Sequence[str], text: str = "", seconds: Optional[float] = None) -> Any:
+    def ask(self, words: Sequence[str], text: Union[str, bytes] = "", seconds: Optional[float] = None) -> Any:
         """The JSON object in the first line of what the program writes. Raises as `run` does."""
         return tree_of(self.run(words, text, seconds).split("\n", 1)[0])
 

@@ -54,6 +54,24 @@ class Route(Record):
 
 
 @dataclass(frozen=True)
+class LeastSpan(Record):
+    """How short a printed route could be in a dimension: its `least` span from the first cumul to the last, that of the
+    `printed` cumuls, and the schedule of the least span whose cumuls are least."""
+
+    cumuls: Annotated[Sequence[int], NUMBERS]
+    dimension: Annotated[str, Text(0, 64)]
+    least: Annotated[int, NUMBER]
+    printed: Annotated[int, NUMBER]
+    slacks: Annotated[Sequence[int], NUMBERS]
+    vehicle: Annotated[int, NUMBER]
+
+    @property
+    def spared(self) -> int:
+        """By how much the route could be shorter than it is printed."""
+        return self.printed - self.least
+
+
+@dataclass(frozen=True)
 class Parts(Record):
     """The parts of a cost: arcs, fixed costs, global spans, penalties of groups, soft bounds, spans."""
 

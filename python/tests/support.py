@@ -10,6 +10,7 @@ import stat
 import subprocess
 import sys
 import tempfile
+import unittest
 from types import ModuleType
 from typing import Any, Dict, Iterator, List, Optional, Tuple
 
@@ -25,6 +26,12 @@ def ask(word: str, text: str) -> Tuple[int, str]:
     """The status and the text of the program, asked without the package."""
     ran = subprocess.run([find(), *word.split()], input=text.encode(), stdout=subprocess.PIPE, check=False)
     return ran.returncode, ran.stdout.decode()
+
+
+def need(words: str) -> None:
+    """Skips a test where the program at hand does not know these words."""
+    if ask(words, "")[0] == 1:
+        raise unittest.SkipTest(f"the program at hand does not know the words '{words}': {find()}")
 
 
 class Fake:
