@@ -1,1 +1,4 @@
+pub mod Blocks
+pub mod Locality
 pub mod Nests
+pub mod Passing

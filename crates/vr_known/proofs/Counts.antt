@@ -1,0 +1,64 @@
+-- How many moves a range has.
+use Rattle.std.proofs.Common.{◌≡◌, ◌∙◌, ℕ, zero, suc, ◌+◌, ◌-◌, ◌<◌, ◌≤◌, Bool, true, false, cond, ◌∷◌, length, map, refl, ap, arith, inl, inr}
+use Rattle.std.specs.Prelude.{filter}
+use Rattle.std.specs.List.{range_with_len}
+use Rattle.std.proofs.lemmas.Bool.{cases_lt}
+use Rattle.std.proofs.lemmas.List.{length-map}
+use Rattle.std.proofs.lemmas.List.FromFn.{length-range_with_len}
+use Rattle.vr_model.specs.tables.Numbers.{below, from_to}
+use Rattle.vr_model.specs.moves.Moves.{is_other, has_some_front}
+
+pub count_given : {A : Type 0} (f : ℕ → A) (a b : ℕ) → length (map f (from_to a b)) ≡ b - a
+count_given f a b = length-map (from_to a b) f ∙ length-range_with_len a (b - a)
+
+pub count_below : {A : Type 0} (f : ℕ → A) (n : ℕ) → length (map f (below n)) ≡ n
+count_below f n = length-map (below n) f ∙ length-range_with_len 0 n
+
+count_passing : (p : ℕ → Bool) (a n : ℕ) → ((k : ℕ) → a ≤ k → p k ≡ true) → length (filter p (range_with_len a n)) ≡ n
+count_passing p a zero h = refl
+count_passing p a (suc n) h =
+    ap (λ t. length (cond t (a ∷ filter p (range_with_len (a + 1) n)) (filter p (range_with_len (a + 1) n)))) (h a (omega arith))
+    ∙ ap suc (count_passing p (a + 1) n (λ k low. h k (omega (arith, low))))
+
+is_other_above : (x k : ℕ) → x < k → is_other x k ≡ true
+is_other_above x k low = Prim.grind arith
+
+is_other_below : (x k : ℕ) → k < x → is_other x k ≡ true
+is_other_below x k low = Prim.grind arith
+
+is_other_same : (x k : ℕ) → x ≡ k → is_other x k ≡ false
+is_other_same x k e = Prim.grind arith
+
+step_other : (x a m : ℕ) → is_other x a ≡ true → length (filter (is_other x) (range_with_len a (suc m))) ≡ suc (length (filter (is_other x) (range_with_len (a + 1) m)))
+step_other x a m e = ap (λ t. length (cond t (a ∷ filter (is_other x) (range_with_len (a + 1) m)) (filter (is_other x) (range_with_len (a + 1) m)))) e
+
+step_same : (x a m : ℕ) → is_other x a ≡ false → length (filter (is_other x) (range_with_len a (suc m))) ≡ length (filter (is_other x) (range_with_len (a + 1) m))
+step_same x a m e = ap (λ t. length (cond t (a ∷ filter (is_other x) (range_with_len (a + 1) m)) (filter (is_other x) (range_with_len (a + 1) m)))) e
+
+count_but_one : (x n a : ℕ) → a ≤ x → x < a + suc n → length (filter (is_other x) (range_with_len a (suc n))) ≡ n
+count_but_one x zero a low high = step_same x a zero (is_other_same x a (omega (arith, low, high)))
+count_but_one x (suc n) a low high = elim (cases_lt a x) [
+  | inl more ↦ step_other x a (suc n) (is_other_below x a more) ∙ ap suc (count_but_one x n (a + 1) (omega (arith, more)) (omega (arith, high)))
+  | inr same ↦ step_same x a (suc n) (is_other_same x a (omega (arith, same, low)))
+      ∙ count_passing (is_other x) (a + 1) (suc n) (λ k above. is_other_above x k (omega (arith, above, same)))
+]
+
+pub count_other : (x n : ℕ) → x ≤ n → length (filter (is_other x) (below (suc n))) ≡ n
+count_other x n low = count_but_one x n 0 (omega arith) (omega (arith, low))
+
+front_there : (a k : ℕ) → 1 ≤ k → has_some_front a k ≡ true
+front_there a k low = Prim.grind arith
+
+front_behind : (a k : ℕ) → 1 ≤ a → has_some_front a k ≡ true
+front_behind a k low = Prim.grind arith
+
+front_none : (a : ℕ) → a ≡ 0 → has_some_front a 0 ≡ false
+front_none a e = Prim.grind arith
+
+pub count_front_none : (a n : ℕ) → a ≡ 0 → length (filter (has_some_front a) (below (suc n))) ≡ n
+count_front_none a n e =
+    ap (λ t. length (cond t (0 ∷ filter (has_some_front a) (range_with_len (0 + 1) n)) (filter (has_some_front a) (range_with_len (0 + 1) n)))) (front_none a e)
+    ∙ count_passing (has_some_front a) (0 + 1) n (λ k low. front_there a k (omega (arith, low)))
+
+pub count_front : (a n : ℕ) → 1 ≤ a → length (filter (has_some_front a) (below n)) ≡ n
+count_front a n low = count_passing (has_some_front a) 0 n (λ k _. front_behind a k low)
