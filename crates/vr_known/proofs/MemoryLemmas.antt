@@ -66,14 +66,6 @@ module _ (memory : Memory) where
         (one_fewer k u u (and_left (nat_lt (changed_at (forgotten v) u) (seen_at memory k u)) _ h))
         (one_fewer k u w (and_right (nat_lt (changed_at (forgotten v) u) (seen_at memory k u)) _ h))
 
-  -- only few kinds are remembered
-  pub few_kinds : length memory.seen ≡ 500 → (k u w : ℕ) → IsTrue (is_known memory k u w) → k < 5
-  few_kinds long k u w h = elim (cases_lt k 5) [
-    | inl low ↦ low
-    | inr high ↦ absurd (clash (is_known memory k u w) h (fails_left _ (nat_lt (changed_at memory w) (seen_at memory k u))
-        (ap (λ s. nat_lt (changed_at memory u) s) (get_or_past memory.seen (k * 100 + u) 0 (omega (arith, long, high))) ∙ not_less (changed_at memory u) 0 (omega arith))))
-  ]
-
 -- ---- neighbourhoods in turn
 
 -- what was learned of the neighbourhoods so far stands in front of the move in the list of all
@@ -124,3 +116,8 @@ pub zeros : (n i : ℕ) → slice_index_or (replicate n zero) i zero ≡ zero
 zeros zero i = refl
 zeros (suc n) zero = refl
 zeros (suc n) (suc i) = zeros n i
+
+-- a memory without stamps knows nothing
+pub knows_none : (memory : Memory) → length memory.seen ≡ 0 → (kind v w : ℕ) → is_known memory kind v w ≡ false
+knows_none memory e kind v w = fails_left _ (nat_lt (changed_at memory w) (seen_at memory kind v))
+    (ap (λ s. nat_lt (changed_at memory v) s) (get_or_past memory.seen (kind * 100 + v) 0 (omega (arith, e))) ∙ not_less (changed_at memory v) 0 (omega arith))

@@ -1,5 +1,5 @@
 -- Moves that are passed over one after the other.
-use Rattle.std.proofs.Common.{◌≡◌, ◌∙◌, ℕ, ◌+◌, ◌-◌, ◌<◌, ◌^◌, Bool, true, List, [], ◌∷◌, ◌++◌, length, map, refl, sym, ap, ap₂, subst, false, arith, append_assoc, length-append, ◌&&◌}
+use Rattle.std.proofs.Common.{◌≡◌, ◌∙◌, ℕ, ◌+◌, ◌-◌, ◌<◌, ◌^◌, Bool, true, List, [], ◌∷◌, ◌++◌, length, map, refl, sym, ap, ap₂, subst, false, arith, nat_lt, append_assoc, length-append, ◌&&◌}
 use Rattle.std.specs.Prelude.{min, Option, Some, None}
 use Rattle.std.specs.List.{list_all}
 use Rattle.std.proofs.lemmas.List.{append-nil}
@@ -8,7 +8,7 @@ use Rattle.vr_model.specs.declared.neighbours.Move.{Move}
 use Rattle.vr_known.specs.Blocks.{Memory, covers, is_known, kind_of, first_of, second_of}
 use Rattle.vr_known.specs.Passing.{capped, ArePassed, Passes, IsFirst, Takes}
 
-capped_small : (n : ℕ) → n < 2 ^ 64 → n ≡ capped n
+pub capped_small : (n : ℕ) → n < 2 ^ 64 → n ≡ capped n
 capped_small n low = Prim.grind arith
 
 capped_twice : (a b : ℕ) → capped (capped a + b) ≡ capped (a + b)
@@ -66,12 +66,12 @@ module _ (memory : Memory) where
 
 -- ---- where nothing is known, no move is passed
 
-none_passed : (memory : Memory) → ((kind v w : ℕ) → is_known memory kind v w ≡ false) → (moves : List Move) → list_all (covers memory) moves ≡ true → moves ≡ []
+pub none_passed : (memory : Memory) → ((kind v w : ℕ) → is_known memory kind v w ≡ false) → (moves : List Move) → list_all (covers memory) moves ≡ true → moves ≡ []
 none_passed memory none [] known = refl
-none_passed memory none (mv ∷ moves) known = absurd (clash (covers memory mv) (list_all (covers memory) moves) (none (kind_of mv) (first_of mv) (second_of mv)) known)
+none_passed memory none (mv ∷ moves) known = absurd (clash (nat_lt (kind_of mv) 5) (is_known memory (kind_of mv) (first_of mv) (second_of mv)) (list_all (covers memory) moves) (none (kind_of mv) (first_of mv) (second_of mv)) known)
   where
-    clash : (a b : Bool) → a ≡ false → (a && b) ≡ true → ⊥
-    clash a b e f = Prim.grind arith
+    clash : (a b c : Bool) → b ≡ false → ((a && b) && c) ≡ true → ⊥
+    clash a b c e f = Prim.grind arith
 
 pub takes_unknown : (memory : Memory) → ((kind v w : ℕ) → is_known memory kind v w ≡ false) → (old left : List Move) (count counted : ℕ) (result : Option Move)
     → Takes memory old count result left counted → IsFirst old result left

@@ -98,9 +98,9 @@ abbrev pub is_known : Memory → ℕ → ℕ → ℕ → Bool
 is_known memory kind v w = nat_lt (changed_at memory v) (seen_at memory kind v)
     && nat_lt (changed_at memory w) (seen_at memory kind v)
 
--- the block of a move is known
+-- a move changes no activity, and its block is known
 abbrev pub covers : Memory → Move → Bool
-covers memory mv = is_known memory (kind_of mv) (first_of mv) (second_of mv)
+covers memory mv = nat_lt (kind_of mv) 5 && is_known memory (kind_of mv) (first_of mv) (second_of mv)
 
 -- all moves of a kind and a first vehicle stand in front of a move in the list of some neighbourhoods
 abbrev pub is_behind : List Neighbourhood → ℕ → ℕ → Move → Bool

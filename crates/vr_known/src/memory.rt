@@ -70,13 +70,12 @@ impl Known {
         requires first { first_of mv < 100 }
         ensures learned { (k u w : ℕ) → u < 100 → IsTrue (is_known self.new k u w)
             → IsTrue (is_known self.old k u w) ⊎ IsTrue (is_behind neighbourhoods.now k u mv) }
-        ensures kinds { (k u w : ℕ) → IsTrue (is_known self.new k u w) → k < 5 }
         ensures learns { Learns self.new → Learns self.old }
     {
         if let Some(stamps) = &mut self.stamps {
-            stamps.know_bounds();
+            stamps.know_room();
             stamps.note(neighbourhoods, mv);
-            stamps.know_bounds();
+            stamps.know_room();
         }
     }
 
@@ -84,13 +83,12 @@ impl Known {
     pub fn note_all(&mut self, neighbourhoods: &[Neighbourhood])
         ensures learned { (k u w : ℕ) → u < 100 → IsTrue (is_known self.new k u w)
             → IsTrue (is_known self.old k u w) ⊎ IsTrue (is_kind_of neighbourhoods.now k) }
-        ensures kinds { (k u w : ℕ) → IsTrue (is_known self.new k u w) → k < 5 }
         ensures learns { Learns self.new → Learns self.old }
     {
         if let Some(stamps) = &mut self.stamps {
-            stamps.know_bounds();
+            stamps.know_room();
             stamps.note_all(neighbourhoods);
-            stamps.know_bounds();
+            stamps.know_room();
         }
     }
 
@@ -100,14 +98,13 @@ impl Known {
         requires second { second_of mv < 100 }
         ensures fewer { (k u w : ℕ) → IsTrue (is_known self.new k u w) → IsTrue (is_known self.old k u w) }
         ensures apart { (k u w : ℕ) → u < 100 → IsTrue (is_known self.new k u w) → IsApart mv u w }
-        ensures kinds { (k u w : ℕ) → IsTrue (is_known self.new k u w) → k < 5 }
         ensures known { (k u w : ℕ) → IsTrue (is_known self.new k u w) → Learns self.new }
         ensures learns { Learns self.new → Learns self.old }
     {
         if let Some(stamps) = &mut self.stamps {
-            stamps.know_bounds();
+            stamps.know_room();
             stamps.change(mv);
-            stamps.know_bounds();
+            stamps.know_room();
         }
     }
 
@@ -117,15 +114,14 @@ impl Known {
         ensures fewer { (k u w : ℕ) → IsTrue (is_known self.new k u w) → IsTrue (is_known self.old k u w) }
         ensures first { (k w : ℕ) → is_known self.new k v w ≡ false }
         ensures second { (k u : ℕ) → is_known self.new k u v ≡ false }
-        ensures kinds { (k u w : ℕ) → IsTrue (is_known self.new k u w) → k < 5 }
         ensures known { (k u w : ℕ) → IsTrue (is_known self.new k u w) → Learns self.new }
         ensures learns { Learns self.new → Learns self.old }
     {
         if let Some(stamps) = &mut self.stamps {
-            stamps.know_bounds();
+            stamps.know_room();
             stamps.forget(v);
             stamps.go_on();
-            stamps.know_bounds();
+            stamps.know_room();
         }
     }
 }

@@ -40,11 +40,10 @@ impl Stamps {
         }
     }
 
-    /// What the stamps keep of what is known. It does nothing.
+    /// There is room for stamps. It does nothing.
     #[inline]
-    pub(crate) fn know_bounds(&self)
-        ensures kinds { (k u w : ℕ) → IsTrue (is_known self.now k u w) → k < 5 }
-        ensures learns { Learns self.now }
+    pub(crate) fn know_room(&self)
+        ensures { Learns self.now }
     {
         let _ = &self.seen;
     }

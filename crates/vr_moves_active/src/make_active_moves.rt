@@ -11,7 +11,7 @@ ghost use Rattle.vr_model.specs.declared.neighbours.Move.TheVariants.{MakeActive
 ghost use Rattle.vr_model.specs.declared.neighbours.Neighbourhood.TheVariants.{MakeActive as MakeActiveKind};
 
 use std::marker::Model;
-use vr_known::nests::{Each, Family, Listed, Numbered, Run};
+use vr_known::nests::{Each, Family, Listed, Numbered, Run, next_of};
 use vr_model::Move;
 use vr_routes::Routes;
 
@@ -127,7 +127,7 @@ impl<'a> Iterator for MakeActiveMoves<'a> {
 
     #[inline(always)]
     fn next(&mut self) -> Option<Move> {
-        self.left.step()
+        next_of(&mut self.left)
     }
 }
 

@@ -9,7 +9,7 @@ ghost use Rattle.vr_model.specs.declared.neighbours.Move.TheVariants.{MakeInacti
 ghost use Rattle.vr_model.specs.declared.neighbours.Neighbourhood.TheVariants.{MakeInactive as MakeInactiveKind};
 
 use std::marker::Model;
-use vr_known::nests::{Each, Family, Listed, Numbered, Run};
+use vr_known::nests::{Each, Family, Listed, Numbered, Run, next_of};
 use vr_model::Move;
 use vr_routes::Routes;
 
@@ -89,7 +89,7 @@ impl<'a> Iterator for MakeInactiveMoves<'a> {
 
     #[inline(always)]
     fn next(&mut self) -> Option<Move> {
-        self.left.step()
+        next_of(&mut self.left)
     }
 }
 

@@ -11,7 +11,7 @@ ghost use Rattle.vr_model.specs.declared.neighbours.Move.TheVariants.{SwapActive
 ghost use Rattle.vr_model.specs.declared.neighbours.Neighbourhood.TheVariants.{SwapActive as SwapActiveKind};
 
 use std::marker::Model;
-use vr_known::nests::{Each, Family, Listed, Numbered, Run};
+use vr_known::nests::{Each, Family, Listed, Numbered, Run, next_of};
 use vr_model::Move;
 use vr_routes::Routes;
 
@@ -131,7 +131,7 @@ impl<'a> Iterator for SwapActiveMoves<'a> {
 
     #[inline(always)]
     fn next(&mut self) -> Option<Move> {
-        self.left.step()
+        next_of(&mut self.left)
     }
 }
 

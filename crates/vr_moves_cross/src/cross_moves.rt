@@ -5,13 +5,15 @@ ghost use Rattle.std.specs.Iterator.{YieldsFirst, item_count};
 ghost use Rattle.vr_model.specs.tables.Numbers.{each, from_to};
 ghost use Rattle.vr_model.specs.routes.Routes.{route, vehicles};
 ghost use Rattle.vr_model.specs.moves.Moves.{gaps, has_some_front, moves_in};
+ghost use Rattle.vr_known.specs.Passing.{ArePassed, Takes};
 ghost use Rattle.vr_model.specs.declared.records.Model.{Model as Defined};
 ghost use Rattle.vr_model.specs.declared.neighbours.Move.TheVariants.{Cross};
 ghost use Rattle.vr_model.specs.declared.neighbours.Neighbourhood.TheVariants.{Cross as CrossKind};
 
 use std::marker::Model;
-use vr_known::nests::{Each, Family, Listed, Numbered, Run};
-use vr_model::Move;
+use vr_known::Known;
+use vr_known::nests::{Each, Family, Listed, Numbered, Run, next_of};
+use vr_model::{Move, Neighbourhood};
 use vr_routes::Routes;
 
 // The places of `w` before which its front may end, where that of `v` ends before place `a`.
@@ -58,7 +60,7 @@ struct Targets<'a> {
 impl<'a> Family for Targets<'a> {
     type Inner = Run<Gaps>;
 
-    ghost is_sound = { λ s. ⊤ };
+    ghost is_sound = { λ s. s.v < 100 };
 
     ghost count = { λ s. length s.routes.now.lists };
 
@@ -74,6 +76,19 @@ impl<'a> Family for Targets<'a> {
             w: k,
         };
         Some(Run::new(gaps, 0, self.routes.len(k) + 1))
+    }
+
+    #[inline]
+    fn passed(&self, k: u32, known: &Known) -> Option<u64> {
+        let _few = self.routes.vehicles();
+        if known.has(Neighbourhood::Cross, self.v, k) {
+            let n = self.routes.len(k) as u64;
+            if self.a == 0 {
+                return Some(n);
+            }
+            return Some(n + 1);
+        }
+        None
     }
 }
 
@@ -158,6 +173,16 @@ impl<'a> Model for CrossMoves<'a> {
     ghost invariant = { λ s. ⟦<Each<Vehicles<'static>> as Listed>⟧.is_sound s.left };
 }
 
+impl<'a> CrossMoves<'a> {
+    /// Takes the first of the moves that are left, behind some that are known, which are counted.
+    #[inline(always)]
+    pub fn step(&mut self, known: &Known, passed: &mut u64) -> Option<Move>
+        ensures { Takes known.now self.old passed.old result self.new passed.new }
+    {
+        self.left.step(known, passed)
+    }
+}
+
 impl<'a> Iterator for CrossMoves<'a> {
     type Item = Move;
 
@@ -167,7 +192,7 @@ impl<'a> Iterator for CrossMoves<'a> {
 
     #[inline(always)]
     fn next(&mut self) -> Option<Move> {
-        self.left.step()
+        next_of(&mut self.left)
     }
 }
 

@@ -5,13 +5,15 @@ ghost use Rattle.std.specs.Iterator.{YieldsFirst, item_count};
 ghost use Rattle.vr_model.specs.tables.Numbers.{each, from_to};
 ghost use Rattle.vr_model.specs.routes.Routes.{route, vehicles};
 ghost use Rattle.vr_model.specs.moves.Moves.{places, places_behind, moves_in};
+ghost use Rattle.vr_known.specs.Passing.{ArePassed, Takes};
 ghost use Rattle.vr_model.specs.declared.records.Model.{Model as Defined};
 ghost use Rattle.vr_model.specs.declared.neighbours.Move.TheVariants.{Exchange};
 ghost use Rattle.vr_model.specs.declared.neighbours.Neighbourhood.TheVariants.{Exchange as ExchangeKind};
 
 use std::marker::Model;
-use vr_known::nests::{Each, Family, Listed, Numbered, Run};
-use vr_model::Move;
+use vr_known::Known;
+use vr_known::nests::{Each, Family, Listed, Numbered, Run, next_of};
+use vr_model::{Move, Neighbourhood};
 use vr_routes::Routes;
 
 // The places of `w` whose nodes may change places with that at place `a` of `v`.
@@ -58,7 +60,7 @@ struct Targets<'a> {
 impl<'a> Family for Targets<'a> {
     type Inner = Run<Others>;
 
-    ghost is_sound = { λ s. s.a < 1000 };
+    ghost is_sound = { λ s. (s.a < 1000) × (s.v < 100) };
 
     ghost count = { λ s. length s.routes.now.lists };
 
@@ -75,6 +77,16 @@ impl<'a> Family for Targets<'a> {
         };
         let first = first_behind(self.v, self.a, k);
         Some(Run::new(others, first, self.routes.len(k)))
+    }
+
+    #[inline]
+    fn passed(&self, k: u32, known: &Known) -> Option<u64> {
+        let _few = self.routes.vehicles();
+        if known.has(Neighbourhood::Exchange, self.v, k) {
+            let first = first_behind(self.v, self.a, k);
+            return Some(self.routes.len(k).saturating_sub(first) as u64);
+        }
+        None
     }
 }
 
@@ -101,6 +113,7 @@ impl<'a> Family for Places<'a> {
 
     #[inline]
     fn open(&self, k: u32) -> Option<Each<Targets<'a>>> {
+        let _few = self.routes.vehicles();
         let targets = Targets {
             routes: self.routes,
             v: self.v,
@@ -168,6 +181,16 @@ impl<'a> Model for ExchangeMoves<'a> {
     ghost invariant = { λ s. ⟦<Each<Vehicles<'static>> as Listed>⟧.is_sound s.left };
 }
 
+impl<'a> ExchangeMoves<'a> {
+    /// Takes the first of the moves that are left, behind some that are known, which are counted.
+    #[inline(always)]
+    pub fn step(&mut self, known: &Known, passed: &mut u64) -> Option<Move>
+        ensures { Takes known.now self.old passed.old result self.new passed.new }
+    {
+        self.left.step(known, passed)
+    }
+}
+
 impl<'a> Iterator for ExchangeMoves<'a> {
     type Item = Move;
 
@@ -177,7 +200,7 @@ impl<'a> Iterator for ExchangeMoves<'a> {
 
     #[inline(always)]
     fn next(&mut self) -> Option<Move> {
-        self.left.step()
+        next_of(&mut self.left)
     }
 }
 

@@ -1,17 +1,19 @@
 //! Nodes that are moved to other lists.
 
-ghost use Rattle.std.specs.Prelude.{◌≡◌, ⊤, ℕ, ◌≤◌, suc, true, length, map, filter};
+ghost use Rattle.std.specs.Prelude.{◌≡◌, ⊤, ℕ, ◌<◌, ◌≤◌, suc, true, length, map, filter};
 ghost use Rattle.std.specs.Iterator.{YieldsFirst, item_count};
 ghost use Rattle.vr_model.specs.tables.Numbers.{each};
 ghost use Rattle.vr_model.specs.routes.Routes.{route, vehicles};
 ghost use Rattle.vr_model.specs.moves.Moves.{places, gaps, is_other, moves_in};
+ghost use Rattle.vr_known.specs.Passing.{ArePassed, Takes};
 ghost use Rattle.vr_model.specs.declared.records.Model.{Model as Defined};
 ghost use Rattle.vr_model.specs.declared.neighbours.Move.TheVariants.{Relocate};
 ghost use Rattle.vr_model.specs.declared.neighbours.Neighbourhood.TheVariants.{Relocate as RelocateKind};
 
 use std::marker::Model;
-use vr_known::nests::{Each, Family, Listed, Numbered, Run};
-use vr_model::Move;
+use vr_known::Known;
+use vr_known::nests::{Each, Family, Listed, Numbered, Run, next_of};
+use vr_model::{Move, Neighbourhood};
 use vr_routes::Routes;
 
 // The places of `w` before which the node at place `a` of `v` may be put.
@@ -58,7 +60,7 @@ struct Targets<'a> {
 impl<'a> Family for Targets<'a> {
     type Inner = Run<Gaps>;
 
-    ghost is_sound = { λ s. ⊤ };
+    ghost is_sound = { λ s. s.v < 100 };
 
     ghost count = { λ s. length s.routes.now.lists };
 
@@ -78,6 +80,15 @@ impl<'a> Family for Targets<'a> {
         };
         Some(Run::new(gaps, 0, self.routes.len(k) + 1))
     }
+
+    #[inline]
+    fn passed(&self, k: u32, known: &Known) -> Option<u64> {
+        let _few = self.routes.vehicles();
+        if self.v != k && known.has(Neighbourhood::Relocate, self.v, k) {
+            return Some(self.routes.len(k) as u64 + 1);
+        }
+        None
+    }
 }
 
 // The places of `v`.
@@ -91,7 +102,7 @@ struct Places<'a> {
 impl<'a> Family for Places<'a> {
     type Inner = Each<Targets<'a>>;
 
-    ghost is_sound = { λ s. s.vehicles ≡ length s.routes.now.lists };
+    ghost is_sound = { λ s. (s.vehicles ≡ length s.routes.now.lists) × (s.v < 100) };
 
     ghost count = { λ s. length (route s.routes.now.lists s.v) };
 
@@ -133,6 +144,7 @@ impl<'a> Family for Vehicles<'a> {
 
     #[inline]
     fn open(&self, k: u32) -> Option<Each<Places<'a>>> {
+        let _few = self.routes.vehicles();
         let places = Places {
             routes: self.routes,
             v: k,
@@ -160,6 +172,16 @@ impl<'a> Model for RelocateMoves<'a> {
     ghost invariant = { λ s. ⟦<Each<Vehicles<'static>> as Listed>⟧.is_sound s.left };
 }
 
+impl<'a> RelocateMoves<'a> {
+    /// Takes the first of the moves that are left, behind some that are known, which are counted.
+    #[inline(always)]
+    pub fn step(&mut self, known: &Known, passed: &mut u64) -> Option<Move>
+        ensures { Takes known.now self.old passed.old result self.new passed.new }
+    {
+        self.left.step(known, passed)
+    }
+}
+
 impl<'a> Iterator for RelocateMoves<'a> {
     type Item = Move;
 
@@ -169,7 +191,7 @@ impl<'a> Iterator for RelocateMoves<'a> {
 
     #[inline(always)]
     fn next(&mut self) -> Option<Move> {
-        self.left.step()
+        next_of(&mut self.left)
     }
 }
 

@@ -10,7 +10,7 @@ ghost use Rattle.vr_model.specs.declared.neighbours.Move.TheVariants.{PairActive
 ghost use Rattle.vr_model.specs.declared.neighbours.Neighbourhood.TheVariants.{PairActive as PairActiveKind};
 
 use std::marker::Model;
-use vr_known::nests::{Each, Family, Listed, Numbered, Run};
+use vr_known::nests::{Each, Family, Listed, Numbered, Run, next_of};
 use vr_model::{Model as RoutingModel, Move};
 use vr_routes::{Routes, is_pair_inactive};
 
@@ -163,7 +163,7 @@ impl<'a> Iterator for PairActiveMoves<'a> {
 
     #[inline(always)]
     fn next(&mut self) -> Option<Move> {
-        self.left.step()
+        next_of(&mut self.left)
     }
 }
 

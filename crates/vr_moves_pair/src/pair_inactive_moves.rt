@@ -8,7 +8,7 @@ ghost use Rattle.vr_model.specs.declared.neighbours.Move.TheVariants.{PairInacti
 ghost use Rattle.vr_model.specs.declared.neighbours.Neighbourhood.TheVariants.{PairInactive as PairInactiveKind};
 
 use std::marker::Model;
-use vr_known::nests::{Listed, Numbered, Run};
+use vr_known::nests::{Listed, Numbered, Run, next_of};
 use vr_model::{Model as RoutingModel, Move};
 use vr_routes::{Routes, is_pair_together};
 
@@ -66,7 +66,7 @@ impl<'a> Iterator for PairInactiveMoves<'a> {
 
     #[inline(always)]
     fn next(&mut self) -> Option<Move> {
-        self.left.step()
+        next_of(&mut self.left)
     }
 }
 

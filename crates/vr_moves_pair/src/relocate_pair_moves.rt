@@ -13,7 +13,7 @@ ghost use Rattle.vr_routes.specs.Pairs.{ArePlaces, is_elsewhere};
 ghost use Rattle.vr_moves_pair.specs.Putting.{puts_into};
 
 use std::marker::Model;
-use vr_known::nests::{Each, Family, Listed, Numbered, Run};
+use vr_known::nests::{Each, Family, Listed, Numbered, Run, next_of};
 use vr_model::{Model as RoutingModel, Move};
 use vr_routes::{PairPlaces, Routes, is_elsewhere, pair_served, rest_len};
 
@@ -184,7 +184,7 @@ impl<'a> Iterator for RelocatePairMoves<'a> {
 
     #[inline(always)]
     fn next(&mut self) -> Option<Move> {
-        self.left.step()
+        next_of(&mut self.left)
     }
 }
 

@@ -1,17 +1,19 @@
 //! Chains that are moved within a list.
 
-ghost use Rattle.std.specs.Prelude.{◌≡◌, ⊤, ℕ, ◌+◌, ◌-◌, ◌≤◌, nat_le, suc, true, length, map, filter};
+ghost use Rattle.std.specs.Prelude.{◌≡◌, ⊤, ℕ, ◌+◌, ◌-◌, ◌<◌, ◌≤◌, nat_le, suc, true, length, map, filter};
 ghost use Rattle.std.specs.Iterator.{YieldsFirst, item_count};
 ghost use Rattle.vr_model.specs.tables.Numbers.{below, each, from_to};
 ghost use Rattle.vr_model.specs.routes.Routes.{route};
 ghost use Rattle.vr_model.specs.moves.Moves.{places, is_other, has_chain, moves_in};
+ghost use Rattle.vr_known.specs.Passing.{ArePassed, Takes};
 ghost use Rattle.vr_model.specs.declared.records.Model.{Model as Defined};
 ghost use Rattle.vr_model.specs.declared.neighbours.Move.TheVariants.{OrOpt};
 ghost use Rattle.vr_model.specs.declared.neighbours.Neighbourhood.TheVariants.{OrOpt as OrOptKind};
 
 use std::marker::Model;
-use vr_known::nests::{Each, Family, Listed, Numbered, Run};
-use vr_model::Move;
+use vr_known::Known;
+use vr_known::nests::{Each, Family, Listed, Numbered, Run, next_of};
+use vr_model::{Move, Neighbourhood};
 use vr_routes::Routes;
 
 // The places before which the `k` nodes of `v` from place `a` on may be put.
@@ -58,7 +60,7 @@ struct Chains {
 impl Family for Chains {
     type Inner = Run<Gaps>;
 
-    ghost is_sound = { λ s. s.n ≤ 1000 };
+    ghost is_sound = { λ s. (s.n ≤ 1000) × (s.v < 100) };
 
     ghost count = { λ s. 4 };
 
@@ -78,6 +80,17 @@ impl Family for Chains {
         };
         Some(Run::new(gaps, 0, self.n - k + 1))
     }
+
+    #[inline]
+    fn passed(&self, k: u32, known: &Known) -> Option<u64> {
+        if known.has(Neighbourhood::OrOpt, self.v, self.v) {
+            if self.a as u64 + k as u64 > self.n as u64 {
+                return Some(0);
+            }
+            return Some((self.n - k) as u64);
+        }
+        None
+    }
 }
 
 // The places of `v`, which has `n`, where a chain begins.
@@ -90,7 +103,7 @@ struct Begins {
 impl Family for Begins {
     type Inner = Each<Chains>;
 
-    ghost is_sound = { λ s. s.n ≤ 1000 };
+    ghost is_sound = { λ s. (s.n ≤ 1000) × (s.v < 100) };
 
     ghost count = { λ s. s.n };
 
@@ -131,6 +144,7 @@ impl<'a> Family for Vehicles<'a> {
 
     #[inline]
     fn open(&self, k: u32) -> Option<Each<Begins>> {
+        let _few = self.routes.vehicles();
         let n = self.routes.len(k);
         Some(Each::new(Begins { v: k, n }, 0, n))
     }
@@ -154,6 +168,16 @@ impl<'a> Model for OrOptMoves<'a> {
     ghost invariant = { λ s. ⟦<Each<Vehicles<'static>> as Listed>⟧.is_sound s.left };
 }
 
+impl<'a> OrOptMoves<'a> {
+    /// Takes the first of the moves that are left, behind some that are known, which are counted.
+    #[inline(always)]
+    pub fn step(&mut self, known: &Known, passed: &mut u64) -> Option<Move>
+        ensures { Takes known.now self.old passed.old result self.new passed.new }
+    {
+        self.left.step(known, passed)
+    }
+}
+
 impl<'a> Iterator for OrOptMoves<'a> {
     type Item = Move;
 
@@ -163,7 +187,7 @@ impl<'a> Iterator for OrOptMoves<'a> {
 
     #[inline(always)]
     fn next(&mut self) -> Option<Move> {
-        self.left.step()
+        next_of(&mut self.left)
     }
 }
 

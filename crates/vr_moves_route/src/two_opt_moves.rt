@@ -1,17 +1,19 @@
 //! Parts of a list that are reversed.
 
-ghost use Rattle.std.specs.Prelude.{◌≡◌, ⊤, ℕ, ◌≤◌, suc, true, length, map};
+ghost use Rattle.std.specs.Prelude.{◌≡◌, ⊤, ℕ, ◌<◌, ◌≤◌, suc, true, length, map};
 ghost use Rattle.std.specs.Iterator.{YieldsFirst, item_count};
 ghost use Rattle.vr_model.specs.tables.Numbers.{each, from_to};
 ghost use Rattle.vr_model.specs.routes.Routes.{route};
 ghost use Rattle.vr_model.specs.moves.Moves.{places, moves_in};
+ghost use Rattle.vr_known.specs.Passing.{ArePassed, Takes};
 ghost use Rattle.vr_model.specs.declared.records.Model.{Model as Defined};
 ghost use Rattle.vr_model.specs.declared.neighbours.Move.TheVariants.{TwoOpt};
 ghost use Rattle.vr_model.specs.declared.neighbours.Neighbourhood.TheVariants.{TwoOpt as TwoOptKind};
 
 use std::marker::Model;
-use vr_known::nests::{Each, Family, Listed, Numbered, Run};
-use vr_model::Move;
+use vr_known::Known;
+use vr_known::nests::{Each, Family, Listed, Numbered, Run, next_of};
+use vr_model::{Move, Neighbourhood};
 use vr_routes::Routes;
 
 // The last places of parts of `v` that begin at place `a`.
@@ -55,7 +57,7 @@ struct Begins {
 impl Family for Begins {
     type Inner = Run<Ends>;
 
-    ghost is_sound = { λ s. s.n ≤ 1000 };
+    ghost is_sound = { λ s. (s.n ≤ 1000) × (s.v < 100) };
 
     ghost count = { λ s. s.n };
 
@@ -66,6 +68,14 @@ impl Family for Begins {
     #[inline]
     fn open(&self, k: u32) -> Option<Run<Ends>> {
         Some(Run::new(Ends { v: self.v, a: k }, k + 1, self.n))
+    }
+
+    #[inline]
+    fn passed(&self, k: u32, known: &Known) -> Option<u64> {
+        if known.has(Neighbourhood::TwoOpt, self.v, self.v) {
+            return Some((self.n - k - 1) as u64);
+        }
+        None
     }
 }
 
@@ -89,6 +99,7 @@ impl<'a> Family for Vehicles<'a> {
 
     #[inline]
     fn open(&self, k: u32) -> Option<Each<Begins>> {
+        let _few = self.routes.vehicles();
         let n = self.routes.len(k);
         Some(Each::new(Begins { v: k, n }, 0, n))
     }
@@ -112,6 +123,16 @@ impl<'a> Model for TwoOptMoves<'a> {
     ghost invariant = { λ s. ⟦<Each<Vehicles<'static>> as Listed>⟧.is_sound s.left };
 }
 
+impl<'a> TwoOptMoves<'a> {
+    /// Takes the first of the moves that are left, behind some that are known, which are counted.
+    #[inline(always)]
+    pub fn step(&mut self, known: &Known, passed: &mut u64) -> Option<Move>
+        ensures { Takes known.now self.old passed.old result self.new passed.new }
+    {
+        self.left.step(known, passed)
+    }
+}
+
 impl<'a> Iterator for TwoOptMoves<'a> {
     type Item = Move;
 
@@ -121,7 +142,7 @@ impl<'a> Iterator for TwoOptMoves<'a> {
 
     #[inline(always)]
     fn next(&mut self) -> Option<Move> {
-        self.left.step()
+        next_of(&mut self.left)
     }
 }
 

@@ -13,4 +13,4 @@ returns-clause-rest c =
     let s = c.args.self.now in
     let lists : List (List ℕ) = s.routes.now.lists in
     let at : ℕ → List Move = λ w. map (Relocate s.v c.args.k w) (gaps (route lists w)) in
-    rw c.new.ensures (joined_below (is_other s.v) at s.vehicles ∙ ap (λ n. each (filter (is_other s.v) (below n)) at) c.requires.sound)
+    rw c.new.ensures (joined_below (is_other s.v) at s.vehicles ∙ ap (λ n. each (filter (is_other s.v) (below n)) at) c.requires.sound.0)
