@@ -5,3 +5,6 @@ pub mod DescentLemmas
 pub mod ListingLemmas
 pub mod AnswerLemmas
 pub mod TakenLemmas
+pub mod PassedLemmas
+pub mod OrderLemmas
+pub mod RefusedLemmas

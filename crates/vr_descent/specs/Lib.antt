@@ -1,4 +1,5 @@
 pub mod Listing
 pub mod Answering
 pub mod Scanned
+pub mod Refused
 pub mod Searching

@@ -9,6 +9,7 @@ ghost use Rattle.vr_watch.specs.Told.{Told, ToldInPart};
 
 use crate::{Accept, Progress, ScanEnd};
 use std::sync::ledger::Ledger;
+use vr_known::Known;
 use vr_model::{End, Kind, Limit, Model, Move, NoMemory, Report, Steps};
 use vr_routes::{Change, Judge, Routes};
 use vr_watch::{Watch, note_all};
@@ -56,6 +57,9 @@ impl<'m> Accept for Cheaper<'m> {
 /// The only refusal is want of memory. Routes and judge then hold the same valid lists, the judge was asked about no
 /// more moves than the limit has tries, and the watchers have been told the events up to there: of the event in hand,
 /// the first few. Memory is taken by the judge and the watchers alone.
+///
+/// A move that was refused is not asked about again as long as the lists of its vehicles stay, where no dimension has a
+/// cost of its global span.
 pub fn descend<J: Judge, L: Ledger>(
     model: &Model,
     judge: &mut J,
@@ -91,6 +95,7 @@ pub fn descend<J: Judge, L: Ledger>(
     ensures asked_at_most { OnErr result (J.asked judge.new ≤ J.asked judge.old + limit.tries) }
 {
     let cheaper = Cheaper { model };
+    let mut known = Known::of(model);
     let mut at = Progress {
         used: 0,
         found: 1,
@@ -98,7 +103,9 @@ pub fn descend<J: Judge, L: Ledger>(
     };
     note_all(watch, at.event(Kind::First))?;
     'scans: while at.found != limit.solutions {
-        let ended = at.advance(model, judge, routes, &cheaper, limit, watch, steps)?;
+        let ended = at.advance(
+            model, judge, routes, &cheaper, limit, watch, steps, &mut known,
+        )?;
         match ended {
             ScanEnd::Accepted { .. } => {}
             ScanEnd::Complete { .. } => return Ok(at.report(End::Optimum)),

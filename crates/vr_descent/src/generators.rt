@@ -1,12 +1,13 @@
 //! The moves of one neighbourhood, whichever it is.
 
-ghost use Rattle.std.specs.Prelude.{◌≡◌};
-ghost use Rattle.std.specs.Iterator.{YieldsFirst};
+ghost use Rattle.std.specs.Prelude.{◌≡◌, ◌+◌};
 ghost use Rattle.vr_descent.specs.Listing.{left_in};
 ghost use Rattle.vr_model.specs.moves.Moves.{moves_in};
 ghost use Rattle.vr_model.specs.tables.Tables.{visits};
 ghost use Rattle.vr_model.specs.tables.WellFormed.{IsWellFormed};
+ghost use Rattle.vr_known.specs.Passing.{capped, Takes};
 
+use vr_known::Known;
 use vr_model::{Model, Move, Neighbourhood};
 use vr_moves_active::{
     MakeActiveMoves, MakeInactiveMoves, SwapActiveMoves, make_active, make_inactive, swap_active,
@@ -57,23 +58,33 @@ impl<'a> Generator<'a> {
         }
     }
 
-    /// Takes the first of the moves that are left, if there is one. Takes no memory.
+    /// Takes the first of the moves that are left, behind some that are known, which are counted. Takes no memory.
     #[inline(always)]
-    pub fn step(&mut self) -> Option<Move>
-        ensures { YieldsFirst left_in self.old result self.new }
+    pub fn step(&mut self, known: &Known, passed: &mut u64) -> Option<Move>
+        ensures { Takes known.now (left_in self.old) passed.old result (left_in self.new) passed.new }
     {
         match self {
-            Generator::TwoOpt(moves) => moves.next(),
-            Generator::OrOpt(moves) => moves.next(),
-            Generator::Relocate(moves) => moves.next(),
-            Generator::Exchange(moves) => moves.next(),
-            Generator::Cross(moves) => moves.next(),
-            Generator::RelocatePair(moves) => moves.next(),
-            Generator::PairActive(moves) => moves.next(),
-            Generator::PairInactive(moves) => moves.next(),
-            Generator::MakeActive(moves) => moves.next(),
-            Generator::MakeInactive(moves) => moves.next(),
-            Generator::SwapActive(moves) => moves.next(),
+            Generator::TwoOpt(moves) => moves.step(known, passed),
+            Generator::OrOpt(moves) => moves.step(known, passed),
+            Generator::Relocate(moves) => moves.step(known, passed),
+            Generator::Exchange(moves) => moves.step(known, passed),
+            Generator::Cross(moves) => moves.step(known, passed),
+            Generator::RelocatePair(moves) => unpassed(moves.next(), passed),
+            Generator::PairActive(moves) => unpassed(moves.next(), passed),
+            Generator::PairInactive(moves) => unpassed(moves.next(), passed),
+            Generator::MakeActive(moves) => unpassed(moves.next(), passed),
+            Generator::MakeInactive(moves) => unpassed(moves.next(), passed),
+            Generator::SwapActive(moves) => unpassed(moves.next(), passed),
         }
     }
+}
+
+// A move was taken, and none was passed over.
+#[inline(always)]
+fn unpassed(found: Option<Move>, passed: &mut u64) -> Option<Move>
+    ensures same { result ≡ found }
+    ensures counts { passed.new ≡ capped (passed.old + 0) }
+{
+    *passed = passed.saturating_add(0);
+    found
 }

@@ -2,10 +2,13 @@
 //!
 //! A search is scan after scan. A scan ([`scan`]) tries the moves of all neighbourhoods, in the one order of [`moves`],
 //! up to the first that is acceptable: the lists after it are valid, and [`Accept`] takes it. [`Progress`] makes that
-//! move, counts tries and solutions, and tells the watchers. [`descend`] takes each move that makes the cost less.
+//! move, counts tries and solutions, and tells the watchers. [`descend`] takes each move that makes the cost less. Moves
+//! that are known to be refused are counted as tries, and nothing is asked about them; at its end a scan notes those that
+//! it refused.
 //!
 //! Between scans routes and judge hold the same valid lists, whose cost is known, and what the definition tells of the
-//! whole search is what was told already, and behind that what it tells of the search from here.
+//! whole search is what was told already, and behind that what it tells of the search from here. No move of these lists
+//! that is known is acceptable.
 //!
 //! `vr_guided` stands on it: it descends where a model asks for that, and scans by penalised costs.
 #![tactic(auto)]

@@ -1,14 +1,15 @@
 //! The moves of the neighbourhoods of a model, in order.
 
 ghost use Rattle.std.specs.Prelude.{◌≡◌};
-ghost use Rattle.std.specs.Iterator.{YieldsFirst};
 ghost use Rattle.vr_descent.specs.Listing.{left_of};
+ghost use Rattle.vr_known.specs.Passing.{Takes};
 ghost use Rattle.vr_model.specs.moves.Moves.{moves, moves_in};
 ghost use Rattle.vr_model.specs.tables.Tables.{visits};
 ghost use Rattle.vr_model.specs.tables.WellFormed.{IsWellFormed};
 
 use crate::generators::Generator;
 use std::marker::Model;
+use vr_known::Known;
 use vr_model::{Model as RoutingModel, Move, Neighbourhood};
 use vr_routes::Routes;
 
@@ -52,20 +53,16 @@ pub fn moves<'a>(model: &'a RoutingModel, routes: &'a Routes) -> MoveList<'a>
     }
 }
 
-impl<'a> Iterator for MoveList<'a> {
-    type Item = Move;
-
-    ghost use Rattle.std.specs.Iterator.{YieldsFirst, item_count};
-
-    ghost next_gives = { YieldsFirst (λ list. list) };
-
-    ghost remaining = { item_count (λ list. list) };
-
+impl<'a> MoveList<'a> {
+    /// Takes the first of the moves that are left, behind some that are known, which are counted. Takes no memory.
     // Inlined, so that a move stays in registers.
     #[inline(always)]
-    fn next(&mut self) -> Option<Move> {
+    pub fn step(&mut self, known: &Known, passed: &mut u64) -> Option<Move>
+        ensures { Takes known.now self.old passed.old result self.new passed.new }
+    {
+        let _count = *passed;
         loop {
-            if let Some(mv) = step_in(&mut self.current) {
+            if let Some(mv) = step_in(&mut self.current, known, passed) {
                 return Some(mv);
             }
             match self.behind.split_first() {
@@ -79,13 +76,30 @@ impl<'a> Iterator for MoveList<'a> {
     }
 }
 
+impl<'a> Iterator for MoveList<'a> {
+    type Item = Move;
+
+    ghost use Rattle.std.specs.Iterator.{YieldsFirst, item_count};
+
+    ghost next_gives = { YieldsFirst (λ list. list) };
+
+    ghost remaining = { item_count (λ list. list) };
+
+    #[inline(always)]
+    fn next(&mut self) -> Option<Move> {
+        let mut passed = 0;
+        self.step(&Known::none(), &mut passed)
+    }
+}
+
 // Takes the first of the moves that are left of a neighbourhood, where there is one in hand.
 #[inline(always)]
-fn step_in(current: &mut Option<Generator>) -> Option<Move>
-    ensures { YieldsFirst left_of current.old result current.new }
+fn step_in(current: &mut Option<Generator>, known: &Known, passed: &mut u64) -> Option<Move>
+    ensures { Takes known.now (left_of current.old) passed.old result (left_of current.new) passed.new }
 {
+    let _count = *passed;
     match current {
-        Some(current) => current.step(),
+        Some(current) => current.step(known, passed),
         None => None,
     }
 }

@@ -1,9 +1,11 @@
 //! Where a search stands.
 
 ghost use Rattle.std.specs.Prelude.{◌≡◌, ◌+◌, ◌≤◌, ◌<◌, ◌^◌, [], ◌∷◌, IsTrue, IfOk, OnOk, OnErr};
+ghost use Rattle.vr_descent.specs.Refused.{AreRefused, StaysRefused};
 ghost use Rattle.vr_descent.specs.Scanned.{scan_end};
 ghost use Rattle.vr_descent.specs.Searching.{after_move, event_of, events_after, move_event};
 ghost use Rattle.vr_descent.specs.Searching.{progress_after, routes_after, scan_of};
+ghost use Rattle.vr_known.specs.Blocks.{Learns};
 ghost use Rattle.vr_model.specs.routes.CostLaws.{HasBoundedCost};
 ghost use Rattle.vr_model.specs.routes.Costs.{cost};
 ghost use Rattle.vr_model.specs.moves.Moves.{apply};
@@ -15,6 +17,7 @@ ghost use Rattle.vr_watch.specs.Told.{Told, ToldInPart};
 
 use crate::{Accept, ScanEnd, scan};
 use std::sync::ledger::Ledger;
+use vr_known::Known;
 use vr_model::{End, Event, Kind, Limit, Model, Move, NoMemory, Report, Steps};
 use vr_routes::{Judge, Routes};
 use vr_watch::{Watch, note_all};
@@ -28,7 +31,8 @@ pub struct Progress {
 }
 
 impl Progress {
-    /// One scan: the first acceptable move is made and told to the watchers; the tries are counted.
+    /// One scan: the first acceptable move is made and told to the watchers; the tries are counted. What the scan
+    /// refused is known then, but for what names a vehicle whose list the move changed.
     ///
     /// The only refusal is want of memory. Routes and judge then hold the same valid lists, and of the event in hand
     /// some watchers at the front were told.
@@ -41,6 +45,7 @@ impl Progress {
         limit: Limit,
         watch: &mut Vec<Box<dyn Watch>>,
         steps: &mut Steps<L>,
+        known: &mut Known,
     ) -> Result<ScanEnd, NoMemory>
         requires well_formed { IsWellFormed model.now }
         requires judge_model { J.model judge.old ≡ model.now }
@@ -51,6 +56,8 @@ impl Progress {
         requires tries { limit.tries ≤ 1000000000 }
         requires used { self.old.used ≤ limit.tries }
         requires found { self.old.found ≤ 1000000000 }
+        requires known { AreRefused model.now (A.takes accept.now) routes.old.lists known.old }
+        requires stays { Learns known.old → StaysRefused model.now (A.takes accept.now) }
         ensures ends { IfOk result (λ ended. ended ≡ scan_end model.now routes.old.lists
             (scan_of model.now (A.takes accept.now) limit routes.old.lists self.old.used)) }
         ensures progress { OnOk result (self.new ≡ progress_after model.now limit routes.old.lists self.old
@@ -61,6 +68,8 @@ impl Progress {
             (events_after model.now routes.old.lists self.old.used
             (scan_of model.now (A.takes accept.now) limit routes.old.lists self.old.used))) }
         ensures asked { OnOk result (J.asked judge.new + self.old.used ≤ J.asked judge.old + self.new.used) }
+        ensures known { OnOk result (AreRefused model.now (A.takes accept.now) routes.new.lists known.new) }
+        ensures learns { OnOk result (Learns known.new → Learns known.old) }
 
         ensures judge_model { J.model judge.new ≡ model.now }
         ensures holds { HoldSame model.now (J.committed judge.new) routes.new }
@@ -69,17 +78,28 @@ impl Progress {
             (scan_of model.now (A.takes accept.now) limit routes.old.lists self.old.used))) }
         ensures asked_at_most { OnErr result (J.asked judge.new + self.old.used ≤ J.asked judge.old + limit.tries) }
     {
-        let ended = scan(model, judge, routes, accept, limit.tries - self.used, steps)?;
+        let ended = scan(
+            model,
+            judge,
+            routes,
+            accept,
+            limit.tries - self.used,
+            steps,
+            known,
+        )?;
         match ended {
             ScanEnd::Accepted {
                 place,
                 mv,
                 difference,
             } => {
+                known.note(model.search.neighbourhoods.as_slice(), mv);
                 self.take(judge, routes, watch, place, mv, difference)?;
+                known.change(mv);
                 Ok(ended)
             }
             ScanEnd::Complete { length } => {
+                known.note_all(model.search.neighbourhoods.as_slice());
                 self.used += length;
                 Ok(ended)
             }

@@ -1,15 +1,18 @@
 //! The scan of a list of moves for the first that is acceptable.
 
 ghost use Rattle.std.specs.Prelude.{◌≡◌, ◌+◌, ◌≤◌, IsTrue, IfOk, OnErr};
+ghost use Rattle.vr_descent.specs.Refused.{AreRefused};
 ghost use Rattle.vr_descent.specs.Scanned.{is_acceptable, scan_end, taken, tries_of};
+ghost use Rattle.vr_known.specs.Blocks.{Learns};
 ghost use Rattle.vr_model.specs.moves.Moves.{moves};
 ghost use Rattle.vr_model.specs.moves.MoveTests.{is_move};
 ghost use Rattle.vr_model.specs.search.Scans.{scan};
 ghost use Rattle.vr_model.specs.tables.WellFormed.{IsWellFormed};
 ghost use Rattle.vr_routes.specs.Judging.{HoldSame};
 
-use crate::{Accept, MoveList, moves};
+use crate::{Accept, moves};
 use std::sync::ledger::Ledger;
+use vr_known::Known;
 use vr_model::{Model, Move, NoMemory, Steps};
 use vr_routes::{Change, Judge, Routes, Verdict};
 
@@ -36,6 +39,9 @@ pub enum ScanEnd {
 /// and where its numbers tell this, what it changes is not written. Else that is written once, for what it makes at
 /// least and for what `accept` says of that.
 ///
+/// Moves that are known not to be acceptable are tries as any others, and nothing is asked about them; where something
+/// is learned of moves, the tries are at most 10^9.
+///
 /// The only refusal is want of memory, which is taken by the judge alone; the judge still holds the same lists then.
 #[inline(never)]
 pub fn scan<J: Judge, A: Accept, L: Ledger>(
@@ -45,12 +51,15 @@ pub fn scan<J: Judge, A: Accept, L: Ledger>(
     accept: &A,
     rest: u64,
     steps: &mut Steps<L>,
+    known: &Known,
 ) -> Result<ScanEnd, NoMemory>
     requires well_formed { IsWellFormed model.now }
     requires judge_model { J.model judge.old ≡ model.now }
     requires accept_model { A.model accept.now ≡ model.now }
     requires accept_stands { A.stands_at accept.now routes.now.lists }
     requires holds { HoldSame model.now (J.committed judge.old) routes.now }
+    requires known { AreRefused model.now (A.takes accept.now) routes.now.lists known.now }
+    requires tries { Learns known.now → rest ≤ 1000000000 }
     ensures ends { IfOk result (λ ended. ended ≡ scan_end model.now routes.now.lists
         (scan (moves model.now routes.now.lists)
         (is_acceptable model.now (A.takes accept.now) routes.now.lists) rest)) }
@@ -60,39 +69,10 @@ pub fn scan<J: Judge, A: Accept, L: Ledger>(
     ensures asked_at_most { OnErr result (J.asked judge.new ≤ J.asked judge.old + rest) }
 {
     let mut list = moves(model, routes);
-    scan_list(model, judge, routes, accept, rest, &mut list, steps)
-}
-
-// The scan of a list of all moves, at most `rest` of them. The list is lent, so that where the scan ends there is less
-// to let go.
-#[inline(always)]
-fn scan_list<J: Judge, A: Accept, L: Ledger>(
-    model: &Model,
-    judge: &mut J,
-    routes: &Routes,
-    accept: &A,
-    rest: u64,
-    list: &mut MoveList<'_>,
-    steps: &mut Steps<L>,
-) -> Result<ScanEnd, NoMemory>
-    requires well_formed { IsWellFormed model.now }
-    requires judge_model { J.model judge.old ≡ model.now }
-    requires accept_model { A.model accept.now ≡ model.now }
-    requires accept_stands { A.stands_at accept.now routes.now.lists }
-    requires holds { HoldSame model.now (J.committed judge.old) routes.now }
-    requires list { list.old ≡ moves model.now routes.now.lists }
-    ensures ends { IfOk result (λ ended. ended ≡ scan_end model.now routes.now.lists
-        (scan (moves model.now routes.now.lists)
-        (is_acceptable model.now (A.takes accept.now) routes.now.lists) rest)) }
-    ensures model { J.model judge.new ≡ J.model judge.old }
-    ensures committed { J.committed judge.new ≡ J.committed judge.old }
-    ensures asked { IfOk result (λ ended. J.asked judge.new ≤ J.asked judge.old + tries_of rest ended) }
-    ensures asked_at_most { OnErr result (J.asked judge.new ≤ J.asked judge.old + rest) }
-{
     let mut change = Change::blank();
-    let mut place = 0;
-    while let Some(mv) = list.next() {
-        if place == rest {
+    let mut place: u64 = 0;
+    while let Some(mv) = list.step(known, &mut place) {
+        if place >= rest {
             return Ok(ScanEnd::Cut);
         }
         place += 1;
@@ -104,6 +84,9 @@ fn scan_list<J: Judge, A: Accept, L: Ledger>(
                 difference,
             });
         }
+    }
+    if place > rest {
+        return Ok(ScanEnd::Cut);
     }
     Ok(ScanEnd::Complete { length: place })
 }

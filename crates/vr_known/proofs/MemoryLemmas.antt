@@ -3,7 +3,6 @@ use Rattle.std.proofs.Common.{◌≡◌, ◌∙◌, ◌⊎◌, ℕ, zero, suc, �
 use Rattle.std.specs.Prelude.{IsTrue, ◌==◌, slice_index_or, slice_set}
 use Rattle.std.proofs.Math.ListN.{replicate}
 use Rattle.std.proofs.lemmas.List.{get_or-set_same, get_or-set_other, get_or_past}
-use Rattle.std.proofs.lemmas.Bool.{cases_lt}
 use Rattle.vr_model.specs.deciding.Testing.{and_left, and_right, and_both, or_left, or_right, test_of_eq}
 use Rattle.vr_model.proofs.tables.Tests.{clash, test_of_lt}
 use Rattle.vr_model.specs.declared.neighbours.Move.{Move}

@@ -15,6 +15,7 @@ use Rattle.vr_descent.specs.Searching.{after_move, events_after, progress_after,
 use Rattle.vr_descent.proofs.EndLemmas.{accepted_at, completed, was_cut}
 use Rattle.vr_descent.proofs.GoingOn.{Goes, breaks_off, goes_as, goes_more, goes_to_end}
 use Rattle.vr_descent.proofs.DescentLemmas.{begins, enough, from_here, left_after, no_dearer, on_scan, same_count, standing, takes_less}
+use Rattle.vr_descent.proofs.RefusedLemmas.{less_stays, nothing_refused}
 use Rattle.vr_descent.proofs.descending.descend.Goals as goal
 
 pub returns-in_err-note_all-clause-told_in_part : goal.returns-in_err-note_all-clause-told_in_part
@@ -41,6 +42,8 @@ scans-init g c =
       asked = omega arith;
       goes = goes_more (λ w. (goal.Watch-dyn g (w.vtable, w.value)).after w.value) (descent c.args.model.now c.args.routes.now.lists c.args.limit) (from_here c.args.model.now c.args.limit c.args.routes.now.lists 0 1) (event_at c.args.model.now (begun c.args.routes.now.lists) kind.First ∷ []) _ _ _ (begins c.args.model.now c.args.limit (λ w. (goal.Watch-dyn g (w.vtable, w.value)).after w.value) c.args.routes.now.lists _)
           (subst (λ event. Told (λ w. (goal.Watch-dyn g (w.vtable, w.value)).after w.value) c.args.watch.now.items c.note_all.new.watch.items (event ∷ [])) first c.in_ok-note_all.ensures.told);
+      known = nothing_refused c.args.model.now takes_less c.args.routes.now.lists c.of-known.result c.of-known.ensures.none;
+      learns = c.of-known.ensures.learns;
     }
 
 pub advance-requires-clause-judge_model : goal.advance-requires-clause-judge_model
@@ -94,6 +97,8 @@ scans-preserved g c =
       goes = subst (λ p. Goes (λ w. (goal.Watch-dyn g (w.vtable, w.value)).after w.value) (descent c.args.model.now c.args.routes.now.lists c.args.limit) (from_here c.args.model.now c.args.limit c.advance.new.routes.lists p.used p.found) c.args.watch.now.items c.advance.new.watch.items) (sym at_new)
           (subst (λ r. Goes (λ w. (goal.Watch-dyn g (w.vtable, w.value)).after w.value) (descent c.args.model.now c.args.routes.now.lists c.args.limit) (from_here c.args.model.now c.args.limit r.lists (c.scans.at.used + c.in-Accepted.place) (c.scans.at.found + 1)) c.args.watch.now.items c.advance.new.watch.items) (sym routes_new)
           (goes_as (λ w. (goal.Watch-dyn g (w.vtable, w.value)).after w.value) (descent c.args.model.now c.args.routes.now.lists c.args.limit) _ _ _ _ (ap (left_after c.args.model.now c.args.limit c.scans.routes.lists c.scans.at.used c.scans.at.found) at.scanned) (goes_more (λ w. (goal.Watch-dyn g (w.vtable, w.value)).after w.value) (descent c.args.model.now c.args.routes.now.lists c.args.limit) (left_after c.args.model.now c.args.limit c.scans.routes.lists c.scans.at.used c.scans.at.found (scan_of c.args.model.now takes_less c.args.limit c.scans.routes.lists c.scans.at.used)) (events_after c.args.model.now c.scans.routes.lists c.scans.at.used (scan_of c.args.model.now takes_less c.args.limit c.scans.routes.lists c.scans.at.used)) _ _ _ (goes_as (λ w. (goal.Watch-dyn g (w.vtable, w.value)).after w.value) (descent c.args.model.now c.args.routes.now.lists c.args.limit) _ _ _ _ (on_scan c.args.model.now c.args.limit c.scans.routes.lists c.scans.at.used c.scans.at.found more) c.scans.invariant.goes) c.in_ok-ended.ensures.told)));
+      known = c.in_ok-ended.ensures.known;
+      learns = λ h. c.scans.invariant.learns (c.in_ok-ended.ensures.learns h);
     }
 
 pub scans-smaller : goal.scans-smaller
@@ -282,3 +287,9 @@ returns-clause-judge_model g c =
 pub returns-clause-holds : goal.returns-clause-holds
 returns-clause-holds g c =
     c.scans.invariant.holds
+
+pub advance-requires-clause-known : goal.advance-requires-clause-known
+advance-requires-clause-known g c = c.scans.invariant.known
+
+pub advance-requires-clause-stays : goal.advance-requires-clause-stays
+advance-requires-clause-stays g c h = less_stays c.args.model.now c.requires.well_formed (c.scans.invariant.learns h)

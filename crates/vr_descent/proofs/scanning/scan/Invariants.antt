@@ -5,7 +5,7 @@ use Rattle.vr_model.specs.moves.Moves.{moves}
 use Rattle.vr_model.specs.moves.MoveTests.{is_move}
 use Rattle.vr_model.specs.search.Scans.{scan_from, scan}
 use Rattle.vr_descent.specs.Scanned.{is_acceptable}
-use Rattle.vr_descent.proofs.scanning.scan_list.Given as goal
+use Rattle.vr_descent.proofs.scanning.scan.Given as goal
 
 -- the scan of the moves that are left, behind those tried, ends as the scan of all
 abbrev pub invariant-loop-mv : goal.invariant-loop-mv

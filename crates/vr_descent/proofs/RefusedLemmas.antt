@@ -1,0 +1,245 @@
+-- What is remembered stays true: after a scan, and after the move that it accepted.
+use Rattle.std.proofs.Common.{◌≡◌, ◌∙◌, ℕ, suc, ◌+◌, ◌^◌, ◌<◌, ◌≤◌, Bool, true, false, cond, List, ◌∷◌, ◌++◌, length, length-append, Some, None, w64, to_z, of_z, refl, sym, ap, arith, inl, inr, ◌⊎◌, ◌&&◌, nat_le}
+use Rattle.std.specs.Prelude.{IsTrue, ℤ, pos, int_lt, nat_lt}
+use Rattle.std.specs.List.{list_all}
+use Rattle.vr_model.specs.deciding.Testing.{and_both, and_left, and_right}
+use Rattle.vr_model.specs.tables.WellFormed.{IsWellFormed}
+use Rattle.vr_model.proofs.tables.Tests.{clash, lt_of_test, test_of_lt}
+use Rattle.vr_model.specs.moves.Moves.{apply, moves}
+use Rattle.vr_model.specs.moves.MoveTests.{is_move}
+use Rattle.vr_model.specs.routes.Rules.{is_valid}
+use Rattle.vr_model.specs.search.Scans.{scan, scan_from}
+use Rattle.vr_model.specs.search.Scans.Scan.{Accepted, Complete, Cut}
+use Rattle.vr_model.specs.declared.records.Model.{Model}
+use Rattle.vr_model.specs.declared.neighbours.Move.{Move}
+use Rattle.std.proofs.lemmas.Bool.{cases_lt}
+use Rattle.std.proofs.lemmas.Int.{ints}
+use Rattle.vr_model.proofs.routes.Lists.{are-lists, are_lists-count}
+use Rattle.vr_model.specs.declared.neighbours.Move.TheVariants.{TwoOpt, OrOpt, Relocate, Exchange, Cross}
+use Rattle.vr_model.proofs.routes.CostFits.{costs_are_bounded}
+use Rattle.vr_model.proofs.moves.KeptLists.{as_many}
+use Rattle.vr_descent.proofs.EndLemmas.{both}
+use Rattle.vr_routes.specs.Judging.{cost_change}
+use Rattle.vr_descent.specs.Scanned.{is_acceptable, scan_end, taken}
+use Rattle.vr_descent.specs.declared.scanning.ScanEnd.TheVariants as ends
+use Rattle.vr_descent.proofs.DescentLemmas.{takes_less}
+use Rattle.vr_known.specs.Blocks.{Memory, Learns, is_known, covers, kind_of, first_of, second_of, is_behind, is_kind_of, IsApart, Agree}
+use Rattle.vr_known.specs.Locality.{HasNoGlobalSpans}
+use Rattle.vr_known.proofs.Applied.{first_low, second_low, stays, moves_local}
+use Rattle.vr_known.proofs.Locality.{validity_is_local}
+use Rattle.vr_known.proofs.CostLocality.{cost_is_local}
+use Rattle.vr_known.proofs.MemoryLemmas.{knows_none}
+use Rattle.vr_known.proofs.PassingLemmas.{capped_small, none_passed}
+use Rattle.vr_known.specs.Passing.{capped, Passes}
+use Rattle.vr_descent.specs.Refused.{AreRefused, StaysRefused}
+use Rattle.vr_descent.proofs.PassedLemmas.{all_left, all_right, at_each, capped_low, in_front, none_taken, over}
+use Rattle.vr_descent.proofs.OrderLemmas.{are_listed, stand_before}
+
+-- ---- what a descent takes
+
+pub less_stays : (model : Model) → IsWellFormed model → HasNoGlobalSpans model → StaysRefused model takes_less
+less_stays model well none lists other mv both = λ i. validity_is_local model well lists other mv both i && int_lt (cost_is_local model none lists other mv both i) (pos 0)
+
+-- nothing is remembered
+pub nothing_refused : (model : Model) (takes : List (List ℕ) → Move → ℤ → Bool) (lists : List (List ℕ)) (memory : Memory) → ((kind v w : ℕ) → is_known memory kind v w ≡ false) → AreRefused model takes lists memory
+nothing_refused model takes lists memory none mv one covered = absurd (clash (is_known memory (kind_of mv) (first_of mv) (second_of mv)) (and_right (nat_lt (kind_of mv) 5) _ covered) (none (kind_of mv) (first_of mv) (second_of mv)))
+
+module _ (model : Model) (takes : List (List ℕ) → Move → ℤ → Bool) (lists : List (List ℕ)) where
+  -- ---- after a scan
+
+  -- a move names a vehicle of few
+  named_low : (mv : Move) → IsTrue (is_move model lists mv) → kind_of mv < 5 → length lists < 101 → first_of mv < 100
+  named_low mv one kind few = let low = first_low model lists mv one kind in omega (arith, low, few)
+
+  -- what was remembered, and the moves in front of the one that was accepted, are refused
+  pub noted : (old new : Memory) (place rest : ℕ) (mv : Move) → length lists < 101 → scan (moves model lists) (is_acceptable model takes lists) rest ≡ Accepted place mv
+      → ((k u w : ℕ) → u < 100 → IsTrue (is_known new k u w) → IsTrue (is_known old k u w) ⊎ IsTrue (is_behind model.search.neighbourhoods k u mv))
+      → AreRefused model takes lists old → AreRefused model takes lists new
+  noted old new place rest mv few scanned learned refused m one covered =
+      let kind = lt_of_test (kind_of m) 5 (and_left (nat_lt (kind_of m) 5) _ covered) in
+      let known = and_right (nat_lt (kind_of m) 5) _ covered in
+      elim (learned (kind_of m) (first_of m) (second_of m) (named_low m one kind few) known) [
+        | inl before ↦ refused m one (and_both (nat_lt (kind_of m) 5) _ (test_of_lt (kind_of m) 5 kind) before)
+        | inr behind ↦ (
+            let front = in_front (is_acceptable model takes lists) rest 0 (moves model lists) place mv scanned in
+            front.none m (stand_before model lists model.search.neighbourhoods front.before mv front.after front.split m one kind behind))
+      ]
+
+  -- what was remembered, and all moves of a scan that accepted none, are refused
+  pub noted_all : (old new : Memory) (n rest : ℕ) → length lists < 101 → scan (moves model lists) (is_acceptable model takes lists) rest ≡ Complete n
+      → ((k u w : ℕ) → u < 100 → IsTrue (is_known new k u w) → IsTrue (is_known old k u w) ⊎ IsTrue (is_kind_of model.search.neighbourhoods k))
+      → AreRefused model takes lists old → AreRefused model takes lists new
+  noted_all old new n rest few scanned learned refused m one covered =
+      let kind = lt_of_test (kind_of m) 5 (and_left (nat_lt (kind_of m) 5) _ covered) in
+      let known = and_right (nat_lt (kind_of m) 5) _ covered in
+      elim (learned (kind_of m) (first_of m) (second_of m) (named_low m one kind few) known) [
+        | inl before ↦ refused m one (and_both (nat_lt (kind_of m) 5) _ (test_of_lt (kind_of m) 5 kind) before)
+        | inr listed ↦ none_taken (is_acceptable model takes lists) rest 0 (moves model lists) n scanned m (are_listed model lists model.search.neighbourhoods m one listed)
+      ]
+
+  -- ---- after a move
+
+  module _ (mv : Move) (one : IsTrue (is_move model lists mv)) where
+    -- the lists of vehicles that the move does not name are the same after it
+    agree_after : (m : Move) → IsApart mv (first_of m) (second_of m) → Agree m (apply model lists mv) lists
+    agree_after m apart = record {
+      many = as_many model lists mv;
+      first = stays model lists mv (first_of m) apart.kind apart.first_is apart.first_is_second;
+      second = stays model lists mv (second_of m) apart.kind apart.second_is_first apart.second_is;
+    }
+
+    agree_before : (m : Move) → IsApart mv (first_of m) (second_of m) → Agree m lists (apply model lists mv)
+    agree_before m apart = let a = agree_after m apart in record { many = sym a.many; first = sym a.first; second = sym a.second }
+
+    -- what is still remembered after the move is refused
+    pub changed : (old new : Memory) → length lists < 101 → IsTrue (is_valid model lists) → IsTrue (is_valid model (apply model lists mv))
+        → ((k u w : ℕ) → IsTrue (is_known new k u w) → StaysRefused model takes)
+        → ((k u w : ℕ) → IsTrue (is_known new k u w) → IsTrue (is_known old k u w))
+        → ((k u w : ℕ) → u < 100 → IsTrue (is_known new k u w) → IsApart mv u w)
+        → AreRefused model takes lists old → AreRefused model takes (apply model lists mv) new
+    changed old new few valid valid_after local fewer apart refused m there covered =
+        let after : List (List ℕ) = apply model lists mv in
+        let kind = lt_of_test (kind_of m) 5 (and_left (nat_lt (kind_of m) 5) _ covered) in
+        let known = and_right (nat_lt (kind_of m) 5) _ covered in
+        let many = as_many model lists mv in
+        let low = first_low model after m there kind in
+        let off = apart (kind_of m) (first_of m) (second_of m) (omega (arith, low, few, many)) known in
+        let here : IsTrue (is_move model lists m) = moves_local model after lists m kind (agree_after m off) ∙ there in
+        sym (local (kind_of m) (first_of m) (second_of m) known lists after m (record { valid = valid; other_valid = valid_after; is_one = here; kind = kind; agree = agree_before m off }))
+        ∙ refused m here (and_both (nat_lt (kind_of m) 5) _ (test_of_lt (kind_of m) 5 kind) (fewer (kind_of m) (first_of m) (second_of m) known))
+
+-- ---- a step of a scan
+
+-- so many moves were passed over, and the scan goes on behind them
+pub record GoesOn (model : Model) (takes : List (List ℕ) → Move → ℤ → Bool) (lists : List (List ℕ)) (rest : ℕ) (list : List Move) (place : ℕ) (behind : List Move) (counted : ℕ) : Type 0 where
+  pub at : ℕ
+  pub more : place ≤ at
+  pub real : counted ≡ capped at
+  pub exact : counted ≤ rest → counted ≡ at
+  pub ends : scan_from place (is_acceptable model takes lists) rest list ≡ scan_from at (is_acceptable model takes lists) rest behind
+  pub are_moves : list_all (is_move model lists) behind ≡ true
+  pub fewer : length behind ≤ length list
+
+module _ (model : Model) (takes : List (List ℕ) → Move → ℤ → Bool) (lists : List (List ℕ)) (rest : ℕ) where
+  abbrev acceptable : Move → Bool
+  acceptable = is_acceptable model takes lists
+
+  -- so many tries are counted as they are
+  counts_as : (memory : Memory) → (Learns memory → rest ≤ 1000000000) → (passed : List Move) (place counted : ℕ) → list_all (covers memory) passed ≡ true → place < 2 ^ 64
+      → counted ≡ capped (place + length passed) → counted ≤ rest → counted ≡ place + length passed
+  counts_as memory few passed place counted known fits real low = elim (cases_lt 0 (length memory.seen)) [
+    | inl learns ↦ (let most = few learns in real ∙ capped_low (place + length passed) (omega (arith, real, low, most)))
+    | inr none ↦ (
+        let no : length passed ≡ 0 = ap length (none_passed memory (knows_none memory (omega (arith, none))) passed known) in
+        let there : place + length passed < 2 ^ 64 = omega (arith, fits, no) in
+        real ∙ sym (capped_small (place + length passed) there))
+  ]
+
+  pub goes_on : (memory : Memory) → AreRefused model takes lists memory → (Learns memory → rest ≤ 1000000000) → (list behind : List Move) (place counted : ℕ) → place < 2 ^ 64
+      → list_all (is_move model lists) list ≡ true → Passes memory list place behind counted → GoesOn model takes lists rest list place behind counted
+  goes_on memory refused few list behind place counted fits are p =
+      let all : list_all (is_move model lists) (p.passed ++ behind) ≡ true = sym (ap (list_all (is_move model lists)) p.split) ∙ are in
+      let long = length-append p.passed behind in
+      let same = ap length p.split in
+      record {
+        at = place + length p.passed;
+        more = omega arith;
+        real = p.counts;
+        exact = counts_as memory few p.passed place counted p.known fits p.counts;
+        ends = ap (scan_from place acceptable rest) p.split ∙ over acceptable rest place p.passed behind
+            (λ m there. refused m (at_each (is_move model lists) p.passed (all_left (is_move model lists) p.passed behind all) m there) (at_each (covers memory) p.passed p.known m there));
+        are_moves = all_right (is_move model lists) p.passed behind all;
+        fewer = omega (arith, long, same);
+      }
+
+  -- a move that is acceptable ends the scan
+  pub found_at : (place : ℕ) (mv : Move) (left : List Move) (difference : ℤ) → Some difference ≡ taken model takes lists mv → place < rest
+      → scan_end model lists (scan_from place acceptable rest (mv ∷ left)) ≡ ends.Accepted (place + 1) mv difference
+  found_at place mv left difference e low = by (acceptable mv) e
+    where
+      here : place < rest → nat_le (suc place) rest ≡ true
+      here low = Prim.grind arith
+
+      same : Some difference ≡ Some (cost_change model lists mv) → difference ≡ cost_change model lists mv
+      same e = Prim.cc
+
+      number : suc place ≡ place + 1
+      number = omega arith
+
+      by : (b : Bool) → Some difference ≡ cond b (Some (cost_change model lists mv)) None
+          → scan_end model lists (cond b (cond (nat_le (suc place) rest) (Accepted (suc place) mv) Cut) (scan_from (suc place) acceptable rest left)) ≡ ends.Accepted (place + 1) mv difference
+      by true e = ap (λ c. scan_end model lists (cond c (Accepted (suc place) mv) Cut)) (here low) ∙ ap (λ k. ends.Accepted k mv (cost_change model lists mv)) number ∙ ap (λ d. ends.Accepted (place + 1) mv d) (sym (same e))
+      by false e = absurd (no e)
+        where
+          no : Some difference ≡ None → ⊥
+          no e = Prim.cc
+
+  -- one that is not is a try
+  pub missed_at : (place : ℕ) (mv : Move) (left : List Move) → None ≡ taken model takes lists mv
+      → scan_from place acceptable rest (mv ∷ left) ≡ scan_from (place + 1) acceptable rest left
+  missed_at place mv left e = by (acceptable mv) e
+    where
+      number : suc place ≡ place + 1
+      number = omega arith
+
+      by : (b : Bool) → None ≡ cond b (Some (cost_change model lists mv)) None
+          → cond b (cond (nat_le (suc place) rest) (Accepted (suc place) mv) Cut) (scan_from (suc place) acceptable rest left) ≡ scan_from (place + 1) acceptable rest left
+      by true e = absurd (no e)
+        where
+          no : None ≡ Some (cost_change model lists mv) → ⊥
+          no e = Prim.cc
+      by false e = ap (λ k. scan_from k acceptable rest left) number
+
+  taken_where : (mv : Move) (difference : ℤ) → Some difference ≡ taken model takes lists mv → IsTrue (is_valid model (apply model lists mv)) × (difference ≡ cost_change model lists mv)
+  taken_where mv difference e = by (is_acceptable model takes lists mv) refl e
+    where
+      by : (b : Bool) → is_acceptable model takes lists mv ≡ b → Some difference ≡ cond b (Some (cost_change model lists mv)) None → IsTrue (is_valid model (apply model lists mv)) × (difference ≡ cost_change model lists mv)
+      by true f e = ((both (is_valid model (apply model lists mv)) (takes lists mv (cost_change model lists mv)) f).0, Prim.cc)
+      by false f e = absurd (no e)
+        where
+          no : Some difference ≡ None → ⊥
+          no e = Prim.cc
+
+  -- a difference is read as it is
+  pub read_difference : IsWellFormed model → IsTrue (is_valid model lists) → (mv : Move) (difference : ℤ) → Some difference ≡ taken model takes lists mv → to_z w64 (of_z w64 difference) ≡ difference
+  read_difference well valid mv difference e =
+      let t = taken_where mv difference e in
+      let changes = t.1 in
+      let after = costs_are_bounded model well (apply model lists mv) t.0 in
+      let before = costs_are_bounded model well lists valid in
+      omega (arith, ints, changes, after.least, after.greatest, before.least, before.greatest)
+
+-- ---- few vehicles
+
+-- the lists of a model are few
+pub few_lists : (model : Model) → IsWellFormed model → (lists : List (List ℕ)) → IsTrue (is_valid model lists) → length lists < 101
+few_lists model well lists valid = let many = are_lists-count model lists (are-lists model lists valid) in let most = well.number_of_vehicles.at_most in omega (arith, many, most)
+
+no_first : (mv : Move) → 5 ≤ kind_of mv → first_of mv ≡ 0
+no_first (TwoOpt v a b) high = absurd (omega (arith, high))
+no_first (OrOpt v a k t) high = absurd (omega (arith, high))
+no_first (Relocate v a w t) high = absurd (omega (arith, high))
+no_first (Exchange v a w b) high = absurd (omega (arith, high))
+no_first (Cross v a w b) high = absurd (omega (arith, high))
+no_first other high = refl
+
+no_second : (mv : Move) → 5 ≤ kind_of mv → second_of mv ≡ 0
+no_second (TwoOpt v a b) high = absurd (omega (arith, high))
+no_second (OrOpt v a k t) high = absurd (omega (arith, high))
+no_second (Relocate v a w t) high = absurd (omega (arith, high))
+no_second (Exchange v a w b) high = absurd (omega (arith, high))
+no_second (Cross v a w b) high = absurd (omega (arith, high))
+no_second other high = refl
+
+module _ (model : Model) (lists : List (List ℕ)) (few : length lists < 101) (mv : Move) (one : IsTrue (is_move model lists mv)) where
+  pub first_few : first_of mv < 100
+  first_few = elim (cases_lt (kind_of mv) 5) [
+    | inl low ↦ (let f = first_low model lists mv one low in omega (arith, f, few))
+    | inr high ↦ (let f = no_first mv high in omega (arith, f))
+  ]
+
+  pub second_few : second_of mv < 100
+  second_few = elim (cases_lt (kind_of mv) 5) [
+    | inl low ↦ (let f = second_low model lists mv one low in omega (arith, f, few))
+    | inr high ↦ (let f = no_second mv high in omega (arith, f))
+  ]

@@ -1,0 +1,104 @@
+use Rattle.std.proofs.Common.{◌≡◌, ◌∙◌, ◌+◌, ◌<◌, ◌≤◌, ◌∷◌, refl, sym, ap, arith}
+use Rattle.std.specs.List.{list_all}
+use Rattle.vr_model.specs.moves.MoveTests.{is_move}
+use Rattle.vr_model.specs.search.Scans.{scan_from}
+use Rattle.vr_model.specs.deciding.Testing.{and_right}
+use Rattle.vr_descent.specs.Scanned.{is_acceptable, scan_end}
+use Rattle.vr_descent.specs.declared.scanning.ScanEnd.TheVariants.{Accepted, Complete}
+use Rattle.vr_descent.proofs.ScanLemmas.{all_moves}
+use Rattle.vr_descent.proofs.PassedLemmas.{capped_most, cut_at_end, cut_from, ends_here}
+use Rattle.vr_descent.proofs.RefusedLemmas.{goes_on, found_at, missed_at, read_difference}
+use Rattle.vr_descent.proofs.scanning.scan.Goals as goal
+
+pub loop-mv-init : goal.loop-mv-init
+loop-mv-init g c = let list = c.moves-list.ensures in record {
+  model = refl;
+  committed = refl;
+  asked = omega arith;
+  within = omega arith;
+  ends = ap (scan_from 0 (is_acceptable c.args.model.now (g.A.Accept.takes c.args.accept.now) c.args.routes.now.lists) c.args.rest) list;
+  moves = ap (list_all (is_move c.args.model.now c.args.routes.now.lists)) list ∙ all_moves c.args.model.now c.args.routes.now.lists;
+}
+
+pub returns-then-place-rest-clause-ends : goal.returns-then-place-rest-clause-ends
+returns-then-place-rest-clause-ends g c =
+    let model = c.args.model.now in
+    let takes = g.A.Accept.takes c.args.accept.now in
+    let lists = c.args.routes.now.lists in
+    let acceptable = is_acceptable model takes lists in
+    let t = c.in-Some.ensures in
+    let go = goes_on model takes lists c.args.rest c.args.known.now c.requires.known c.requires.tries c.loop-mv.list t.behind c.loop-mv.place c.step.new.passed (omega (arith, c.loop-mv.invariant.within, c.ranges.rest)) c.loop-mv.invariant.moves t.passes in
+    let real = go.real in
+    let most = capped_most go.at in
+    let far : c.args.rest ≤ go.at = omega (arith, real, most, c.if-place-rest.true) in
+    ap (scan_end model lists) (sym (cut_from acceptable c.args.rest go.at c.in-Some.mv c.step.new.self far)
+    ∙ (ap (scan_from go.at acceptable c.args.rest) (sym t.first) ∙ (sym go.ends ∙ c.loop-mv.invariant.ends)))
+
+pub loop-mv-preserved : goal.loop-mv-preserved
+loop-mv-preserved g c =
+    let model = c.args.model.now in
+    let takes = g.A.Accept.takes c.args.accept.now in
+    let lists = c.args.routes.now.lists in
+    let acceptable = is_acceptable model takes lists in
+    let t = c.in-Some.ensures in
+    let go = goes_on model takes lists c.args.rest c.args.known.now c.requires.known c.requires.tries c.loop-mv.list t.behind c.loop-mv.place c.step.new.passed (omega (arith, c.loop-mv.invariant.within, c.ranges.rest)) c.loop-mv.invariant.moves t.passes in
+    let real = go.real in
+    let more = go.more in
+    let under = c.if-place-rest.false in
+    let at : c.step.new.passed ≡ go.at = go.exact (omega (arith, under)) in
+    let asked = c.try_move.ensures.asked in
+    let before = c.loop-mv.invariant.asked in
+    record {
+      model = c.try_move.ensures.model ∙ c.loop-mv.invariant.model;
+      committed = c.try_move.ensures.committed ∙ c.loop-mv.invariant.committed;
+      asked = omega (arith, asked, before, more, at);
+      within = omega (arith, under);
+      ends = sym (missed_at model takes lists c.args.rest c.step.new.passed c.in-Some.mv c.step.new.self (sym c.in_default-tried.is ∙ c.in_ok-tried.ensures.answer))
+          ∙ (ap (λ k. scan_from k acceptable c.args.rest (c.in-Some.mv ∷ c.step.new.self)) at ∙ (ap (scan_from go.at acceptable c.args.rest) (sym t.first) ∙ (sym go.ends ∙ c.loop-mv.invariant.ends)));
+      moves = and_right (is_move model lists c.in-Some.mv) _ (ap (list_all (is_move model lists)) (sym t.first) ∙ go.are_moves);
+    }
+
+pub returns-in-Some-tried-clause-ends : goal.returns-in-Some-tried-clause-ends
+returns-in-Some-tried-clause-ends g c =
+    let model = c.args.model.now in
+    let takes = g.A.Accept.takes c.args.accept.now in
+    let lists = c.args.routes.now.lists in
+    let acceptable = is_acceptable model takes lists in
+    let t = c.in-Some.ensures in
+    let go = goes_on model takes lists c.args.rest c.args.known.now c.requires.known c.requires.tries c.loop-mv.list t.behind c.loop-mv.place c.step.new.passed (omega (arith, c.loop-mv.invariant.within, c.ranges.rest)) c.loop-mv.invariant.moves t.passes in
+    let real = go.real in
+    let under = c.if-place-rest.false in
+    let at : c.step.new.passed ≡ go.at = go.exact (omega (arith, under)) in
+    let some = sym c.in-Some-tried.is ∙ c.in_ok-tried.ensures.answer in
+    ap (λ d. Accepted (c.step.new.passed + 1) c.in-Some.mv d) (read_difference model takes lists c.args.rest c.requires.well_formed c.requires.holds.valid c.in-Some.mv c.in-Some-tried.difference some)
+    ∙ sym (found_at model takes lists c.args.rest c.step.new.passed c.in-Some.mv c.step.new.self c.in-Some-tried.difference some under)
+    ∙ ap (scan_end model lists) (ap (λ k. scan_from k acceptable c.args.rest (c.in-Some.mv ∷ c.step.new.self)) at ∙ (ap (scan_from go.at acceptable c.args.rest) (sym t.first) ∙ (sym go.ends ∙ c.loop-mv.invariant.ends)))
+
+pub returns-then-place-rest-2-clause-ends : goal.returns-then-place-rest-2-clause-ends
+returns-then-place-rest-2-clause-ends g c =
+    let model = c.args.model.now in
+    let takes = g.A.Accept.takes c.args.accept.now in
+    let lists = c.args.routes.now.lists in
+    let acceptable = is_acceptable model takes lists in
+    let t = c.in_default.ensures in
+    let go = goes_on model takes lists c.args.rest c.args.known.now c.requires.known c.requires.tries c.loop-mv.list t.behind c.loop-mv.place c.step.new.passed (omega (arith, c.loop-mv.invariant.within, c.ranges.rest)) c.loop-mv.invariant.moves t.passes in
+    let real = go.real in
+    let most = capped_most go.at in
+    let far : c.args.rest < go.at = omega (arith, real, most, c.if-place-rest-2.true) in
+    ap (scan_end model lists) (sym (cut_at_end acceptable c.args.rest go.at far)
+    ∙ (ap (scan_from go.at acceptable c.args.rest) (sym t.first.0) ∙ (sym go.ends ∙ c.loop-mv.invariant.ends)))
+
+pub returns-clause-ends : goal.returns-clause-ends
+returns-clause-ends g c =
+    let model = c.args.model.now in
+    let takes = g.A.Accept.takes c.args.accept.now in
+    let lists = c.args.routes.now.lists in
+    let acceptable = is_acceptable model takes lists in
+    let t = c.in_default.ensures in
+    let go = goes_on model takes lists c.args.rest c.args.known.now c.requires.known c.requires.tries c.loop-mv.list t.behind c.loop-mv.place c.step.new.passed (omega (arith, c.loop-mv.invariant.within, c.ranges.rest)) c.loop-mv.invariant.moves t.passes in
+    let real = go.real in
+    let under = c.if-place-rest-2.false in
+    let at : c.step.new.passed ≡ go.at = go.exact (omega (arith, under)) in
+    let low : go.at ≤ c.args.rest = omega (arith, at, under) in
+    ap (λ k. Complete k) at
+    ∙ ap (scan_end model lists) (sym (ends_here acceptable c.args.rest go.at low) ∙ (ap (scan_from go.at acceptable c.args.rest) (sym t.first.0) ∙ (sym go.ends ∙ c.loop-mv.invariant.ends)))
