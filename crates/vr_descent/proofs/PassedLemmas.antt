@@ -1,6 +1,5 @@
 -- A scan over moves that are passed over, and what stands in front of the move that a scan accepts.
-use Rattle.std.proofs.Common.{◌≡◌, ◌∙◌, ℕ, suc, ◌+◌, ◌-◌, ◌<◌, ◌≤◌, ◌^◌, Bool, true, false, cond, List, [], ◌∷◌, ◌++◌, length, refl, sym, ap, subst, arith, nat_lt, nat_le, inl, inr}
-use Rattle.std.specs.Prelude.{Option}
+use Rattle.std.proofs.Common.{◌≡◌, ◌∙◌, ℕ, suc, ◌+◌, ◌-◌, ◌<◌, ◌≤◌, ◌^◌, Bool, true, false, cond, List, [], ◌∷◌, ◌++◌, length, refl, sym, ap, arith, nat_lt, nat_le, inl, inr}
 use Rattle.std.specs.List.{list_all}
 use Rattle.std.proofs.lemmas.List.Folds.{list_all-append}
 use Rattle.vr_model.specs.deciding.Testing.{and_left, and_right}
@@ -8,8 +7,7 @@ use Rattle.vr_model.specs.search.Scans.{scan_from}
 use Rattle.vr_model.specs.search.Scans.Scan.{Accepted, Complete, Cut}
 use Rattle.vr_model.specs.declared.neighbours.Move.{Move}
 use Rattle.vr_model.proofs.tables.Members.{In}
-use Rattle.vr_known.specs.Blocks.{Memory}
-use Rattle.vr_known.specs.Passing.{capped, IsFirst, Takes}
+use Rattle.vr_known.specs.Passing.{capped}
 
 pub capped_low : (n : ℕ) → capped n < 2 ^ 64 - 1 → capped n ≡ n
 capped_low n low = Prim.grind arith
@@ -117,7 +115,3 @@ all_left p xs ys h = and_left (list_all p xs) (list_all p ys) (sym (list_all-app
 
 pub all_right : {A : Type 0} (p : A → Bool) (xs ys : List A) → list_all p (xs ++ ys) ≡ true → list_all p ys ≡ true
 all_right p xs ys h = and_right (list_all p xs) (list_all p ys) (sym (list_all-append p xs ys) ∙ h)
-
--- a move was taken where none was passed over
-pub taken_next : (memory : Memory) (whole a b : List Move) (i j : ℕ) (result found : Option Move) → whole ≡ a → IsFirst a found b → result ≡ found → j ≡ capped (i + 0) → Takes memory whole i result b j
-taken_next memory whole a b i j result found is first same counts = subst (λ r. Takes memory whole i r b j) (sym same) (record { behind = a; passes = record { passed = []; split = is; known = refl; counts = counts }; first = first })

@@ -1,11 +1,11 @@
 //! The moves of one neighbourhood, whichever it is.
 
-ghost use Rattle.std.specs.Prelude.{◌≡◌, ◌+◌};
+ghost use Rattle.std.specs.Prelude.{◌≡◌};
 ghost use Rattle.vr_descent.specs.Listing.{left_in};
 ghost use Rattle.vr_model.specs.moves.Moves.{moves_in};
 ghost use Rattle.vr_model.specs.tables.Tables.{visits};
 ghost use Rattle.vr_model.specs.tables.WellFormed.{IsWellFormed};
-ghost use Rattle.vr_known.specs.Passing.{capped, Takes};
+ghost use Rattle.vr_known.specs.Passing.{Takes};
 
 use vr_known::Known;
 use vr_model::{Model, Move, Neighbourhood};
@@ -69,22 +69,12 @@ impl<'a> Generator<'a> {
             Generator::Relocate(moves) => moves.step(known, passed),
             Generator::Exchange(moves) => moves.step(known, passed),
             Generator::Cross(moves) => moves.step(known, passed),
-            Generator::RelocatePair(moves) => unpassed(moves.next(), passed),
-            Generator::PairActive(moves) => unpassed(moves.next(), passed),
-            Generator::PairInactive(moves) => unpassed(moves.next(), passed),
-            Generator::MakeActive(moves) => unpassed(moves.next(), passed),
-            Generator::MakeInactive(moves) => unpassed(moves.next(), passed),
-            Generator::SwapActive(moves) => unpassed(moves.next(), passed),
+            Generator::RelocatePair(moves) => moves.step(known, passed),
+            Generator::PairActive(moves) => moves.step(known, passed),
+            Generator::PairInactive(moves) => moves.step(known, passed),
+            Generator::MakeActive(moves) => moves.step(known, passed),
+            Generator::MakeInactive(moves) => moves.step(known, passed),
+            Generator::SwapActive(moves) => moves.step(known, passed),
         }
     }
-}
-
-// A move was taken, and none was passed over.
-#[inline(always)]
-fn unpassed(found: Option<Move>, passed: &mut u64) -> Option<Move>
-    ensures same { result ≡ found }
-    ensures counts { passed.new ≡ capped (passed.old + 0) }
-{
-    *passed = passed.saturating_add(0);
-    found
 }

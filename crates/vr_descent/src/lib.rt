@@ -2,9 +2,10 @@
 //!
 //! A search is scan after scan. A scan ([`scan`]) tries the moves of all neighbourhoods, in the one order of [`moves`],
 //! up to the first that is acceptable: the lists after it are valid, and [`Accept`] takes it. [`Progress`] makes that
-//! move, counts tries and solutions, and tells the watchers. [`descend`] takes each move that makes the cost less. Moves
-//! that are known to be refused are counted as tries, and nothing is asked about them; at its end a scan notes those that
-//! it refused.
+//! move, counts tries and solutions, and tells the watchers. [`descend`] takes each move that makes the cost less.
+//!
+//! Moves that are known to be refused are counted as tries, and nothing is asked about them (`vr_known`). What a scan
+//! refused is noted at its end, and what a move may have changed is forgotten when it is made.
 //!
 //! Between scans routes and judge hold the same valid lists, whose cost is known, and what the definition tells of the
 //! whole search is what was told already, and behind that what it tells of the search from here. No move of these lists

@@ -35,23 +35,22 @@ impl Known {
         Known { stamps: None }
     }
 
-    /// Nothing is known of the moves of a model. Something is learned where nothing is paid for global spans: only there
-    /// does what a move makes depend on the lists of its vehicles alone.
+    /// Nothing is known of the moves of a model. Something is learned where nothing is paid for global spans: only
+    /// there does what a move makes depend on the lists of its vehicles alone.
     pub fn of(model: &RoutingModel) -> Known
         ensures none { (kind v w : ℕ) → is_known result kind v w ≡ false }
         ensures learns { Learns result → HasNoGlobalSpans model.now }
     {
-        if has_no_global_spans(model) {
-            Known {
-                stamps: Some(Stamps::new()),
-            }
-        } else {
-            Known::none()
+        if !has_no_global_spans(model) {
+            return Known::none();
+        }
+        Known {
+            stamps: Some(Stamps::new()),
         }
     }
 
-    /// Whether no move of a neighbourhood that names these vehicles is acceptable, as far as is known. The neighbourhood
-    /// is one of the five whose moves name their vehicles and change no activity.
+    /// Whether no move of a neighbourhood that names these vehicles is acceptable, as far as is known. The
+    /// neighbourhood is one of the five whose moves name their vehicles and change no activity.
     #[inline(always)]
     pub fn has(&self, neighbourhood: Neighbourhood, v: u32, w: u32) -> bool
         requires kind { kind_at neighbourhood < 5 }

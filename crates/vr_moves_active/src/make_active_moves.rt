@@ -2,6 +2,7 @@
 
 ghost use Rattle.std.specs.Prelude.{◌≡◌, ⊤, ℕ, ◌≤◌, suc, true, length, slice_index, map};
 ghost use Rattle.std.specs.Iterator.{YieldsFirst, item_count};
+ghost use Rattle.vr_known.specs.Passing.{Takes};
 ghost use Rattle.vr_model.specs.tables.Numbers.{each};
 ghost use Rattle.vr_model.specs.tables.Tables.{visits};
 ghost use Rattle.vr_model.specs.routes.Routes.{route, vehicles};
@@ -11,6 +12,7 @@ ghost use Rattle.vr_model.specs.declared.neighbours.Move.TheVariants.{MakeActive
 ghost use Rattle.vr_model.specs.declared.neighbours.Neighbourhood.TheVariants.{MakeActive as MakeActiveKind};
 
 use std::marker::Model;
+use vr_known::Known;
 use vr_known::nests::{Each, Family, Listed, Numbered, Run, next_of};
 use vr_model::Move;
 use vr_routes::Routes;
@@ -116,6 +118,16 @@ impl<'a> Model for MakeActiveMoves<'a> {
     ghost view = { λ s. ⟦<Each<Nodes<'static>> as Listed>⟧.rest s.left };
 
     ghost invariant = { λ s. ⟦<Each<Nodes<'static>> as Listed>⟧.is_sound s.left };
+}
+
+impl<'a> MakeActiveMoves<'a> {
+    /// Takes the first of the moves that are left, behind some that are known, which are counted.
+    #[inline(always)]
+    pub fn step(&mut self, known: &Known, passed: &mut u64) -> Option<Move>
+        ensures { Takes known.now self.old passed.old result self.new passed.new }
+    {
+        self.left.step(known, passed)
+    }
 }
 
 impl<'a> Iterator for MakeActiveMoves<'a> {

@@ -2,6 +2,7 @@
 
 ghost use Rattle.std.specs.Prelude.{◌≡◌, ⊤, ℕ, true, length, map};
 ghost use Rattle.std.specs.Iterator.{YieldsFirst, item_count};
+ghost use Rattle.vr_known.specs.Passing.{Takes};
 ghost use Rattle.vr_model.specs.routes.Routes.{route};
 ghost use Rattle.vr_model.specs.moves.Moves.{places, moves_in};
 ghost use Rattle.vr_model.specs.declared.records.Model.{Model as Defined};
@@ -9,6 +10,7 @@ ghost use Rattle.vr_model.specs.declared.neighbours.Move.TheVariants.{MakeInacti
 ghost use Rattle.vr_model.specs.declared.neighbours.Neighbourhood.TheVariants.{MakeInactive as MakeInactiveKind};
 
 use std::marker::Model;
+use vr_known::Known;
 use vr_known::nests::{Each, Family, Listed, Numbered, Run, next_of};
 use vr_model::Move;
 use vr_routes::Routes;
@@ -78,6 +80,16 @@ impl<'a> Model for MakeInactiveMoves<'a> {
     ghost view = { λ s. ⟦<Each<Vehicles<'static>> as Listed>⟧.rest s.left };
 
     ghost invariant = { λ s. ⟦<Each<Vehicles<'static>> as Listed>⟧.is_sound s.left };
+}
+
+impl<'a> MakeInactiveMoves<'a> {
+    /// Takes the first of the moves that are left, behind some that are known, which are counted.
+    #[inline(always)]
+    pub fn step(&mut self, known: &Known, passed: &mut u64) -> Option<Move>
+        ensures { Takes known.now self.old passed.old result self.new passed.new }
+    {
+        self.left.step(known, passed)
+    }
 }
 
 impl<'a> Iterator for MakeInactiveMoves<'a> {

@@ -2,6 +2,7 @@
 
 ghost use Rattle.std.specs.Prelude.{◌≡◌, ⊤, ℕ, ◌≤◌, suc, true, length, map};
 ghost use Rattle.std.specs.Iterator.{YieldsFirst, item_count};
+ghost use Rattle.vr_known.specs.Passing.{Takes};
 ghost use Rattle.vr_model.specs.tables.Numbers.{each, from_to};
 ghost use Rattle.vr_model.specs.routes.Routes.{route, vehicles};
 ghost use Rattle.vr_model.specs.moves.Moves.{gaps, is_pair_inactive, moves_in};
@@ -10,6 +11,7 @@ ghost use Rattle.vr_model.specs.declared.neighbours.Move.TheVariants.{PairActive
 ghost use Rattle.vr_model.specs.declared.neighbours.Neighbourhood.TheVariants.{PairActive as PairActiveKind};
 
 use std::marker::Model;
+use vr_known::Known;
 use vr_known::nests::{Each, Family, Listed, Numbered, Run, next_of};
 use vr_model::{Model as RoutingModel, Move};
 use vr_routes::{Routes, is_pair_inactive};
@@ -152,6 +154,16 @@ impl<'a> Model for PairActiveMoves<'a> {
     ghost view = { λ s. ⟦<Each<Pairs<'static>> as Listed>⟧.rest s.left };
 
     ghost invariant = { λ s. ⟦<Each<Pairs<'static>> as Listed>⟧.is_sound s.left };
+}
+
+impl<'a> PairActiveMoves<'a> {
+    /// Takes the first of the moves that are left, behind some that are known, which are counted.
+    #[inline(always)]
+    pub fn step(&mut self, known: &Known, passed: &mut u64) -> Option<Move>
+        ensures { Takes known.now self.old passed.old result self.new passed.new }
+    {
+        self.left.step(known, passed)
+    }
 }
 
 impl<'a> Iterator for PairActiveMoves<'a> {

@@ -2,12 +2,14 @@
 
 ghost use Rattle.std.specs.Prelude.{◌≡◌, ⊤, ℕ, length};
 ghost use Rattle.std.specs.Iterator.{YieldsFirst, item_count};
+ghost use Rattle.vr_known.specs.Passing.{Takes};
 ghost use Rattle.vr_model.specs.moves.Moves.{is_pair_together, moves_in};
 ghost use Rattle.vr_model.specs.tables.WellFormed.{IsWellFormed};
 ghost use Rattle.vr_model.specs.declared.neighbours.Move.TheVariants.{PairInactive};
 ghost use Rattle.vr_model.specs.declared.neighbours.Neighbourhood.TheVariants.{PairInactive as PairInactiveKind};
 
 use std::marker::Model;
+use vr_known::Known;
 use vr_known::nests::{Listed, Numbered, Run, next_of};
 use vr_model::{Model as RoutingModel, Move};
 use vr_routes::{Routes, is_pair_together};
@@ -55,6 +57,16 @@ impl<'a> Model for PairInactiveMoves<'a> {
     ghost view = { λ s. ⟦<Run<Pairs<'static>> as Listed>⟧.rest s.left };
 
     ghost invariant = { λ s. ⟦<Run<Pairs<'static>> as Listed>⟧.is_sound s.left };
+}
+
+impl<'a> PairInactiveMoves<'a> {
+    /// Takes the first of the moves that are left, behind some that are known, which are counted.
+    #[inline(always)]
+    pub fn step(&mut self, known: &Known, passed: &mut u64) -> Option<Move>
+        ensures { Takes known.now self.old passed.old result self.new passed.new }
+    {
+        self.left.step(known, passed)
+    }
 }
 
 impl<'a> Iterator for PairInactiveMoves<'a> {

@@ -2,6 +2,7 @@
 
 ghost use Rattle.std.specs.Prelude.{◌≡◌, ⊤, ℕ, ◌<◌, ◌≤◌, suc, true, length, map, filter};
 ghost use Rattle.std.specs.Iterator.{YieldsFirst, item_count};
+ghost use Rattle.vr_known.specs.Passing.{Takes};
 ghost use Rattle.vr_model.specs.tables.Numbers.{each, from_to};
 ghost use Rattle.vr_model.specs.routes.Routes.{route, vehicles};
 ghost use Rattle.vr_model.specs.tables.Tables.{pair_at};
@@ -13,6 +14,7 @@ ghost use Rattle.vr_routes.specs.Pairs.{ArePlaces, is_elsewhere};
 ghost use Rattle.vr_moves_pair.specs.Putting.{puts_into};
 
 use std::marker::Model;
+use vr_known::Known;
 use vr_known::nests::{Each, Family, Listed, Numbered, Run, next_of};
 use vr_model::{Model as RoutingModel, Move};
 use vr_routes::{PairPlaces, Routes, is_elsewhere, pair_served, rest_len};
@@ -173,6 +175,16 @@ impl<'a> Model for RelocatePairMoves<'a> {
     ghost view = { λ s. ⟦<Each<Pairs<'static>> as Listed>⟧.rest s.left };
 
     ghost invariant = { λ s. ⟦<Each<Pairs<'static>> as Listed>⟧.is_sound s.left };
+}
+
+impl<'a> RelocatePairMoves<'a> {
+    /// Takes the first of the moves that are left, behind some that are known, which are counted.
+    #[inline(always)]
+    pub fn step(&mut self, known: &Known, passed: &mut u64) -> Option<Move>
+        ensures { Takes known.now self.old passed.old result self.new passed.new }
+    {
+        self.left.step(known, passed)
+    }
 }
 
 impl<'a> Iterator for RelocatePairMoves<'a> {
