@@ -17,3 +17,5 @@ pub mod GuidedLemmas
 pub mod StartLemmas
 pub mod AnswerLemmas
 pub mod BoundLemmas
+pub mod SpareLemmas
+pub mod GuidedStay

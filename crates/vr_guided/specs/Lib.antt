@@ -7,6 +7,7 @@ pub mod Named
 pub mod Guides
 pub mod Standing
 pub mod Worths
+pub mod Sparing
 pub mod Walks
 pub mod Nexts
 pub mod Answering

@@ -1,21 +1,25 @@
 //! A round: one more on each used arc of the greatest worth.
 
-ghost use Rattle.std.specs.Prelude.{◌≡◌, ◌<◌, ◌≤◌, ◌+◌, ◌*◌, IsTrue, All, length};
+ghost use Rattle.std.specs.Prelude.{◌≡◌, ◌<◌, ◌≤◌, ◌+◌, ◌*◌, ℕ, false, IsTrue, All, List, length};
 ghost use Rattle.vr_guided.specs.Counts.{AtMost, counted};
+ghost use Rattle.vr_guided.specs.Sparing.{SparesKnown};
 ghost use Rattle.vr_guided.specs.Worths.{greatest, raised_in_turn, raised_once, worth_of, worthless};
-ghost use Rattle.vr_model.specs.search.GuidedSearches.{has_costly_arc, raised};
-ghost use Rattle.vr_model.specs.routes.Routes.{arcs_of, used_arcs};
+ghost use Rattle.vr_known.specs.Blocks.{Learns, is_known};
+ghost use Rattle.vr_model.specs.search.GuidedSearches.{has_costly_arc, raised, Penalties as Raised};
+ghost use Rattle.vr_model.specs.routes.Routes.{arcs_of, route, used_arcs};
 ghost use Rattle.vr_model.specs.routes.Rules.{is_valid};
 ghost use Rattle.vr_model.specs.tables.WellFormed.{IsWellFormed};
 
 use crate::penalties::Penalties;
 use crate::worths::Worth;
+use vr_known::Known;
 use vr_model::Model;
 use vr_routes::Routes;
 
 impl Penalties {
-    /// One more on each used arc of the greatest worth: its cost over one more than its penalty. Takes no memory.
-    pub fn raise(&mut self, model: &Model, routes: &Routes)
+    /// One more on each used arc of the greatest worth: its cost over one more than its penalty. No move is known any
+    /// more that names a vehicle whose arcs were raised. Takes no memory.
+    pub fn raise(&mut self, model: &Model, routes: &Routes, known: &mut Known)
         requires well_formed { IsWellFormed model.now }
         requires valid { IsTrue (is_valid model.now routes.now.lists) }
         requires costly { IsTrue (has_costly_arc model.now routes.now.lists) }
@@ -23,10 +27,44 @@ impl Penalties {
         requires few { AtMost 1000000000 (counted self.old) }
         ensures nodes { self.new.nodes ≡ self.old.nodes }
         ensures raised { counted self.new ≡ raised model.now (counted self.old) routes.now.lists }
+        ensures fewer { (k u w : ℕ) → IsTrue (is_known known.new k u w) → IsTrue (is_known known.old k u w) }
+        ensures spares { SparesKnown routes.now.lists (counted self.old) (counted self.new) known.new }
+        ensures learns { Learns known.new → Learns known.old }
     {
         let greatest = self.greatest(model, routes);
         for vehicle in 0..model.vehicles.len() as u32 {
-            self.raise_route(model, vehicle, routes.list(vehicle), &greatest);
+            self.raise_vehicle(model, vehicle, routes.list(vehicle), &greatest, known);
+        }
+    }
+
+    // One more on each arc of a vehicle that is worth as much as the greatest. Where there is one, no move is known any
+    // more that names the vehicle.
+    fn raise_vehicle(
+        &mut self,
+        model: &Model,
+        vehicle: u32,
+        list: &[u32],
+        greatest: &Worth,
+        known: &mut Known,
+    )
+        requires well_formed { IsWellFormed model.now }
+        requires vehicle { vehicle < length model.now.vehicles }
+        requires nodes { All (λ node. node < model.now.nodes) list.now }
+        requires short { length list.now ≤ 1000 }
+        requires covers { self.old.nodes ≡ model.now.nodes }
+        requires few { AtMost (1000000000 + 1001 * vehicle) (counted self.old) }
+        ensures covers { self.new.nodes ≡ self.old.nodes }
+        ensures few { AtMost (1000000000 + 1001 * (vehicle + 1)) (counted self.new) }
+        ensures raised { counted self.new
+            ≡ raised_in_turn model.now greatest.now (counted self.old) (arcs_of model.now vehicle list.now) }
+        ensures fewer { (k u w : ℕ) → IsTrue (is_known known.new k u w) → IsTrue (is_known known.old k u w) }
+        ensures spares { (lists : List (List ℕ)) (first : Raised) → list.now ≡ route lists vehicle
+            → SparesKnown lists first (counted self.old) known.old
+            → SparesKnown lists first (counted self.new) known.new }
+        ensures learns { Learns known.new → Learns known.old }
+    {
+        if self.raise_route(model, vehicle, list, greatest) {
+            known.forget(vehicle);
         }
     }
 
@@ -87,8 +125,8 @@ impl Penalties {
         }
     }
 
-    // One more on each arc of a vehicle that is worth as much as the greatest.
-    fn raise_route(&mut self, model: &Model, vehicle: u32, list: &[u32], greatest: &Worth)
+    // One more on each arc of a vehicle that is worth as much as the greatest; whether there was one.
+    fn raise_route(&mut self, model: &Model, vehicle: u32, list: &[u32], greatest: &Worth) -> bool
         requires well_formed { IsWellFormed model.now }
         requires vehicle { vehicle < length model.now.vehicles }
         requires nodes { All (λ node. node < model.now.nodes) list.now }
@@ -99,22 +137,31 @@ impl Penalties {
         ensures few { AtMost (1000000000 + 1001 * (vehicle + 1)) (counted self.new) }
         ensures raised { counted self.new
             ≡ raised_in_turn model.now greatest.now (counted self.old) (arcs_of model.now vehicle list.now) }
+        ensures same { result ≡ false → counted self.new ≡ counted self.old }
     {
         if list.is_empty() {
-            return;
+            return false;
         }
         let ends = model.vehicles.get(vehicle as usize);
         let mut at = ends.start;
+        let mut any = false;
         for &node in list {
-            self.raise_arc(model, vehicle, at, node, greatest);
+            any |= self.raise_arc(model, vehicle, at, node, greatest);
             at = node;
         }
-        self.raise_arc(model, vehicle, at, ends.end, greatest);
+        any | self.raise_arc(model, vehicle, at, ends.end, greatest)
     }
 
-    // One more on an arc if it is worth as much as the greatest.
+    // One more on an arc if it is worth as much as the greatest; whether it is.
     #[inline]
-    fn raise_arc(&mut self, model: &Model, vehicle: u32, origin: u32, target: u32, greatest: &Worth)
+    fn raise_arc(
+        &mut self,
+        model: &Model,
+        vehicle: u32,
+        origin: u32,
+        target: u32,
+        greatest: &Worth,
+    ) -> bool
         requires well_formed { IsWellFormed model.now }
         requires vehicle { vehicle < length model.now.vehicles }
         requires origin { origin < model.now.nodes }
@@ -125,10 +172,13 @@ impl Penalties {
         ensures raised { counted self.new
             ≡ raised_once model.now greatest.now (counted self.old)
             (record { vehicle = vehicle; origin = origin; target = target }) }
+        ensures same { result ≡ false → counted self.new ≡ counted self.old }
     {
         let worth = self.worth(model, vehicle, origin, target);
         if greatest.is_no_more(&worth) {
             self.increase(origin, target);
+            return true;
         }
+        false
     }
 }

@@ -17,6 +17,7 @@ use crate::route_sums::AllRouteSums;
 use std::alloc::Global;
 use std::sync::ledger::Ledger;
 use vr_descent::{Progress, ScanEnd};
+use vr_known::Known;
 use vr_model::{End, Kind, Lambda, Limit, Model, NoMemory, Report, Steps};
 use vr_routes::{Judge, Routes};
 use vr_watch::{Watch, note_all};
@@ -40,6 +41,9 @@ pub struct Guided {
 /// The only refusal is want of memory. Routes and judge then hold the same valid lists, the judge was asked about no
 /// more moves than the limit has tries, and the watchers have been told the events up to there: of the event in hand,
 /// the first few. Memory is taken once at the beginning, and then by the judge and the watchers alone.
+///
+/// A move that was refused is not asked about again as long as the lists of its vehicles stay and none of their arcs is
+/// penalised once more, where no dimension has a cost of its global span.
 pub fn guide<J: Judge, L: Ledger>(
     alloc: Global,
     model: &Model,
@@ -159,6 +163,7 @@ fn improve<J: Judge, L: Ledger>(
         (from_state model.now limit lambda routes.old.lists state.old).events) }
     ensures asked_at_most { OnErr result (J.asked judge.new + state.old.at.used ≤ J.asked judge.old + limit.tries) }
 {
+    let mut known = Known::of(model);
     state.route_sums.write(model, &state.penalties, routes);
     'scans: while state.at.found != limit.solutions {
         let guiding = Guiding {
@@ -167,9 +172,9 @@ fn improve<J: Judge, L: Ledger>(
             penalties: &state.penalties,
             route_sums: &state.route_sums,
         };
-        let ended = state
-            .at
-            .advance(model, judge, routes, &guiding, limit, watch, steps)?;
+        let ended = state.at.advance(
+            model, judge, routes, &guiding, limit, watch, steps, &mut known,
+        )?;
         match ended {
             ScanEnd::Accepted { mv, .. } => {
                 state.route_sums.follow(model, &state.penalties, routes, mv);
@@ -179,7 +184,7 @@ fn improve<J: Judge, L: Ledger>(
                 if is_stuck(model, routes, length) {
                     return Ok(End::Optimum);
                 }
-                state.penalties.raise(model, routes);
+                state.penalties.raise(model, routes, &mut known);
                 state.route_sums.write(model, &state.penalties, routes);
                 note_all(watch, state.at.event(Kind::Round))?;
             }

@@ -223,13 +223,12 @@ fn filter_count(
     count
 }
 
-// Whether a judge is asked so often in so many tries: by rebuilding of each move in a descent, where guided search
-// rules some out itself; by filters not of each.
-fn is_asked_enough(by: By, search: Search, asked: u64, tries: u64) -> bool {
-    match (by, search) {
-        (By::Rebuilding, Search::Descent) => asked > 0 && asked == tries,
-        (By::Rebuilding, Search::Guided) => asked > 0 && asked <= tries,
-        (By::Filters, _) => asked > 0 && asked < tries,
+// Whether a judge is asked so often in so many tries: by rebuilding of no more moves, since some are known to be
+// refused, and guided search rules some out itself; by filters of fewer.
+fn is_asked_enough(by: By, asked: u64, tries: u64) -> bool {
+    match by {
+        By::Rebuilding => asked > 0 && asked <= tries,
+        By::Filters => asked > 0 && asked < tries,
     }
 }
 
@@ -258,7 +257,7 @@ pub(crate) fn finds(
     };
     let tries = count.report.tries;
     Ok(
-        is_asked_enough(by, search, count.asked, tries)
+        is_asked_enough(by, count.asked, tries)
             && tries == wanted.tries
             && count.report.solutions == wanted.solutions
             && has_list(routes, wanted.list),

@@ -21,6 +21,9 @@ use Rattle.vr_guided.specs.Guides.{makes_less}
 use Rattle.vr_guided.specs.RouteSums.{AreAllRouteSums}
 use Rattle.vr_guided.specs.Standing.{IsBest, from_here, from_state, standing}
 use Rattle.vr_guided.proofs.GuidedLemmas.{after_scan, as_many, at_end, at_round, better, costly_of, ends_so, enough, few_more, few_raised, kept_lists, kept_no_dearer, left_after, scan_in_part, some_moves}
+use Rattle.vr_descent.proofs.RefusedLemmas.{nothing_refused}
+use Rattle.vr_guided.proofs.GuidedStay.{guided_stays}
+use Rattle.vr_guided.proofs.SpareLemmas.{still_refused}
 use Rattle.vr_guided.proofs.searching.improve.Goals as goal
 
 pub invariant_of-guiding : goal.invariant_of-guiding
@@ -56,6 +59,8 @@ scans-init g c =
       asked = omega arith;
       no_dearer = omega (arith, ints);
       goes = record { told = []; outcome = refl; heard = told_nothing (λ w. (goal.Watch-dyn g (w.vtable, w.value)).after w.value) _ };
+      known = nothing_refused c.args.model.now (makes_less c.args.model.now c.args.lambda (counted c.args.state.now.penalties)) c.args.routes.now.lists c.of-known.result c.of-known.ensures.none;
+      learns = c.of-known.ensures.learns;
     }
 
 pub advance-requires-clause-judge_model : goal.advance-requires-clause-judge_model
@@ -154,6 +159,8 @@ scans-preserved-in-Accepted g c =
           (subst (λ p. Goes (λ w. (goal.Watch-dyn g (w.vtable, w.value)).after w.value) (from_state c.args.model.now c.args.limit c.args.lambda c.args.routes.now.lists c.args.state.now) (from_here c.args.model.now c.args.limit c.args.lambda (counted c.scans.state.penalties) c.advance.new.routes.lists (cheaper c.args.model.now c.scans.state.best.routes.lists (apply c.args.model.now c.scans.routes.lists c.in-Accepted.mv)) p.used p.found) c.args.watch.now.items c.advance.new.watch.items) (sym at_new)
           (subst (λ r. Goes (λ w. (goal.Watch-dyn g (w.vtable, w.value)).after w.value) (from_state c.args.model.now c.args.limit c.args.lambda c.args.routes.now.lists c.args.state.now) (from_here c.args.model.now c.args.limit c.args.lambda (counted c.scans.state.penalties) r.lists (cheaper c.args.model.now c.scans.state.best.routes.lists (apply c.args.model.now c.scans.routes.lists c.in-Accepted.mv)) (c.scans.state.at.used + c.in-Accepted.place) (c.scans.state.at.found + 1)) c.args.watch.now.items c.advance.new.watch.items) (sym routes_new)
           (goes_as (λ w. (goal.Watch-dyn g (w.vtable, w.value)).after w.value) (from_state c.args.model.now c.args.limit c.args.lambda c.args.routes.now.lists c.args.state.now) _ _ _ _ (ap (left_after c.args.model.now c.args.limit c.args.lambda (counted c.scans.state.penalties) c.scans.routes.lists c.scans.state.best.routes.lists c.scans.state.at.used c.scans.state.at.found) at.scanned) after)));
+      known = c.in_ok-ended.ensures.known;
+      learns = λ h. c.scans.invariant.learns (c.in_ok-ended.ensures.learns h);
     }
 
 pub is_stuck-requires-clause-valid : goal.is_stuck-requires-clause-valid
@@ -270,6 +277,9 @@ scans-preserved g c =
           (subst (λ r. Goes (λ w. (goal.Watch-dyn g (w.vtable, w.value)).after w.value) (from_state c.args.model.now c.args.limit c.args.lambda c.args.routes.now.lists c.args.state.now) (from_here c.args.model.now c.args.limit c.args.lambda (raised c.args.model.now (counted c.scans.state.penalties) c.scans.routes.lists) r.lists c.scans.state.best.routes.lists (c.scans.state.at.used + c.in-Complete.length) c.scans.state.at.found) c.args.watch.now.items c.note_all.new.watch.items) (sym routes_new)
           (goes_more (λ w. (goal.Watch-dyn g (w.vtable, w.value)).after w.value) (from_state c.args.model.now c.args.limit c.args.lambda c.args.routes.now.lists c.args.state.now) (from_here c.args.model.now c.args.limit c.args.lambda (raised c.args.model.now (counted c.scans.state.penalties) c.scans.routes.lists) c.scans.routes.lists c.scans.state.best.routes.lists (c.scans.state.at.used + c.in-Complete.length) c.scans.state.at.found) (event_at c.args.model.now (tried (standing c.scans.routes.lists c.scans.state.best.routes.lists c.scans.state.at.used c.scans.state.at.found) c.in-Complete.length) kind.Round ∷ []) _ _ _ at_event
           (subst (λ event. Told (λ w. (goal.Watch-dyn g (w.vtable, w.value)).after w.value) c.advance.new.watch.items c.note_all.new.watch.items (event ∷ [])) round c.in_ok-note_all-in-Complete.ensures.told))));
+      known = still_refused c.args.model.now c.requires.well_formed c.args.lambda (counted c.scans.state.penalties) (counted c.raise.new.self) c.advance.new.routes.lists c.in_ok-ended.ensures.holds.valid
+          c.advance.new.known c.raise.new.known c.raise.ensures.fewer c.raise.ensures.spares c.in_ok-ended.ensures.known;
+      learns = λ h. c.scans.invariant.learns (c.in_ok-ended.ensures.learns (c.raise.ensures.learns h));
     }
 
 pub returns-then-is_stuck-clause-outcome : goal.returns-then-is_stuck-clause-outcome
@@ -427,3 +437,11 @@ returns-clause-judge_model g c =
 pub returns-clause-holds : goal.returns-clause-holds
 returns-clause-holds g c =
     c.scans.invariant.stands.holds
+
+pub advance-requires-clause-known : goal.advance-requires-clause-known
+advance-requires-clause-known g c =
+    c.scans.invariant.known
+
+pub advance-requires-clause-stays : goal.advance-requires-clause-stays
+advance-requires-clause-stays g c h =
+    guided_stays c.args.model.now c.requires.well_formed (c.scans.invariant.learns h) c.args.lambda (counted c.scans.state.penalties)

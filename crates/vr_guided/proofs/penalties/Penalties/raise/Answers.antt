@@ -1,4 +1,4 @@
-use Rattle.std.proofs.Common.{◌∙◌, ◌-◌, ◌+◌, ◌<◌, ℕ, List, length, sym, ap, arith}
+use Rattle.std.proofs.Common.{◌∙◌, ◌-◌, ◌+◌, ◌<◌, ℕ, List, length, refl, sym, ap, arith}
 use Rattle.std.specs.List.{range_with_len}
 use Rattle.vr_model.specs.tables.Numbers.{each}
 use Rattle.vr_model.specs.routes.Routes.{UsedArc, arcs_of, route, used_arcs}
@@ -20,16 +20,19 @@ loop-vehicle-init c =
           ∙ raised_all model old lists c.requires.costly);
       nodes = c.requires.covers;
       few = at_most_more old 1000000000 _ (omega arith) c.requires.few;
+      fewer = λ k u w h. h;
+      spares = λ k u w h origin target from to. refl;
+      learns = λ h. h;
     }
 
 pub list-requires : goal.list-requires
 list-requires c = record { vehicle = has_list c.args.model.now c.args.routes.now.lists c.requires.valid c.loop-vehicle-test.true c.len-vehicle-end.ensures }
 
-pub raise_route-requires-clause-nodes : goal.raise_route-requires-clause-nodes
-raise_route-requires-clause-nodes c = list_below c.args.model.now c.args.routes.now.lists c.requires.valid c.loop-vehicle.vehicle c.list.ensures.value
+pub raise_vehicle-requires-clause-nodes : goal.raise_vehicle-requires-clause-nodes
+raise_vehicle-requires-clause-nodes c = list_below c.args.model.now c.args.routes.now.lists c.requires.valid c.loop-vehicle.vehicle c.list.ensures.value
 
-pub raise_route-requires-clause-short : goal.raise_route-requires-clause-short
-raise_route-requires-clause-short c = list_short c.args.model.now c.args.routes.now.lists c.requires.valid c.requires.well_formed c.loop-vehicle.vehicle c.list.ensures.value
+pub raise_vehicle-requires-clause-short : goal.raise_vehicle-requires-clause-short
+raise_vehicle-requires-clause-short c = list_short c.args.model.now c.args.routes.now.lists c.requires.valid c.requires.well_formed c.loop-vehicle.vehicle c.list.ensures.value
 
 pub loop-vehicle-preserved : goal.loop-vehicle-preserved
 loop-vehicle-preserved c =
@@ -41,11 +44,14 @@ loop-vehicle-preserved c =
     let before = counted c.loop-vehicle.self in
     let rest = each (range_with_len (v + 1) (n - (v + 1))) arcs in
     let low : v < n = omega (arith, c.loop-vehicle-test.true, c.len-vehicle-end.ensures) in
-    let here = c.raise_route.ensures.raised ∙ ap (λ xs. raised_in_turn model best before (arcs_of model v xs)) c.list.ensures.value in
+    let here = c.raise_vehicle.ensures.raised ∙ ap (λ xs. raised_in_turn model best before (arcs_of model v xs)) c.list.ensures.value in
     record {
       goes = ap (λ q. raised_in_turn model best q rest) here
           ∙ (sym (in_turn_more model best before (arcs v) rest)
           ∙ (sym (ap (raised_in_turn model best before) (each_onward arcs v n low)) ∙ c.loop-vehicle.invariant.goes));
-      nodes = c.raise_route.ensures.covers ∙ c.loop-vehicle.invariant.nodes;
-      few = c.raise_route.ensures.few;
+      nodes = c.raise_vehicle.ensures.covers ∙ c.loop-vehicle.invariant.nodes;
+      few = c.raise_vehicle.ensures.few;
+      fewer = λ k u w h. c.loop-vehicle.invariant.fewer k u w (c.raise_vehicle.ensures.fewer k u w h);
+      spares = c.raise_vehicle.ensures.spares c.args.routes.now.lists (counted c.args.self.now) c.list.ensures.value c.loop-vehicle.invariant.spares;
+      learns = λ h. c.loop-vehicle.invariant.learns (c.raise_vehicle.ensures.learns h);
     }

@@ -1,4 +1,4 @@
-use Rattle.std.proofs.Common.{◌≡◌, ◌<◌, ◌+◌, ◌*◌, ◌++◌, ◌∷◌, [], drop}
+use Rattle.std.proofs.Common.{false, ◌≡◌, ◌<◌, ◌+◌, ◌*◌, ◌++◌, ◌∷◌, [], drop}
 use Rattle.vr_model.specs.routes.Routes.{arcs_from}
 use Rattle.vr_guided.specs.Counts.{AtMost, counted}
 use Rattle.vr_guided.specs.Worths.{raised_in_turn}
@@ -12,4 +12,5 @@ invariant-loop-node l = record {
   at : l.at < l.model.nodes;
   nodes : l.self.nodes ≡ l.model.nodes;
   few : AtMost (1000000000 + 1001 * l.vehicle + l.node-index) (counted l.self);
+  same : l.any ≡ false → counted l.self ≡ counted l.initial.self;
 }
