@@ -1,0 +1,8 @@
+pub mod LeftLemmas
+pub mod ChainLemmas
+pub mod CutLemmas
+pub mod RoundLemmas
+pub mod BoundLemmas
+pub mod GoingOn
+pub mod SearchLemmas
+pub mod AnswerLemmas

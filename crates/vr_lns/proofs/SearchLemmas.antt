@@ -1,0 +1,69 @@
+-- The search, from where it stands.
+use Rattle.std.proofs.Common.{◌≡◌, ◌∙◌, ℕ, suc, ◌+◌, ◌-◌, ◌<◌, ◌≤◌, true, false, List, [], ◌∷◌, refl, ap, arith}
+use Rattle.std.specs.Prelude.{◌==◌, IsTrue}
+use Rattle.vr_model.specs.search.Outcomes.{SearchState, Outcome, tried, with_event, event_at, ended, begun}
+use Rattle.vr_model.specs.declared.records.Model.{Model}
+use Rattle.vr_model.specs.declared.records.End.TheVariants.{Optimum, Tries, Solutions}
+use Rattle.vr_model.specs.declared.search.Event.{Event}
+use Rattle.vr_model.specs.declared.search.Limit.{Limit}
+use Rattle.vr_model.specs.declared.search.Kind.TheVariants as kind
+use Rattle.vr_watch.proofs.ToldLemmas.{told_nothing}
+use Rattle.vr_lns.specs.Cuts.{improves}
+use Rattle.vr_lns.specs.Rounds.{Round}
+use Rattle.vr_lns.specs.Rounds.Round.{Accepted, Complete, Short}
+use Rattle.vr_lns.specs.PathLns.{after_round, cut_made, path_lns, path_lns_from}
+use Rattle.vr_lns.specs.Standing.{cut_event, events_after, round_at}
+use Rattle.vr_lns.proofs.BoundLemmas.{bound_unmet, enough, rounded, told_by_round, Tells}
+use Rattle.vr_lns.proofs.GoingOn.{behind, Goes}
+
+module _ (model : Model) (most : ℕ) (limit : Limit) where
+  -- where a search stands: the best lists are the last
+  abbrev pub standing : List (List ℕ) → ℕ → ℕ → SearchState
+  standing lists used found = record { lists = lists; best = lists; used = used; found = found }
+
+  -- the search from there, by one round more than there are tries left
+  abbrev pub from_here : List (List ℕ) → ℕ → ℕ → Outcome
+  from_here lists used found = path_lns_from model most limit (suc (limit.tries - used)) (standing lists used found)
+
+  -- the whole search
+  pub at_start : (lists : List (List ℕ)) → path_lns model lists limit most ≡ behind (event_at model (begun lists) kind.First ∷ []) (from_here lists 0 1)
+  unfolding path_lns
+  at_start lists = let all : limit.tries ≡ limit.tries - 0 = omega arith in
+      ap (λ tries. with_event (event_at model (begun lists) kind.First) (path_lns_from model most limit (suc tries) (begun lists))) all
+
+  -- nothing was told yet
+  pub begins : {W : Type 0} (after : W → List Event → List ℕ) (lists : List (List ℕ)) (ws : List W) → Goes after (path_lns model lists limit most) (path_lns model lists limit most) ws ws
+  begins after lists ws = record { told = []; outcome = refl; heard = told_nothing after ws }
+
+  module _ (lists : List (List ℕ)) (used found : ℕ) where
+    -- what is left of the search after a round
+    abbrev pub left_after : Round → Outcome
+    left_after (Accepted n after) = from_here after (used + n) (found + 1)
+    left_after (Complete n) = ended (tried (standing lists used found) n) Optimum
+    left_after Short = ended (tried (standing lists used found) (limit.tries - used)) Tries
+
+    -- the search is the events of a round, and what is left after it
+    pub on_round : (found == limit.solutions) ≡ false → from_here lists used found ≡ behind (events_after model used (round_at model most limit lists used)) (left_after (round_at model most limit lists used))
+    on_round e = rounded model most limit (limit.tries - used) (standing lists used found) e ∙ go (round_at model most limit lists used) (told_by_round model most lists (limit.tries - used))
+      where
+        go : (r : Round) → Tells (λ after. IsTrue (improves model lists after)) (limit.tries - used) 0 r
+            → after_round model limit (path_lns_from model most limit (limit.tries - used)) (standing lists used found) r ≡ behind (events_after model used r) (left_after r)
+        go (Accepted n after) h = ap (with_event (cut_event model after (used + n))) (ap (path_lns_from model most limit (limit.tries - used)) same ∙ fewer h.0 h.1)
+          where
+            same : cut_made (standing lists used found) n after ≡ standing after (used + n) (found + 1)
+            same = let one : suc found ≡ found + 1 = omega arith in ap (standing after (used + n)) one
+
+            fewer : 0 < n → n ≤ limit.tries - used → path_lns_from model most limit (limit.tries - used) (standing after (used + n) (found + 1)) ≡ from_here after (used + n) (found + 1)
+            fewer one low = let rounds = suc (limit.tries - (used + n)) in let more = (limit.tries - used) - suc (limit.tries - (used + n)) in
+                let sum : limit.tries - used ≡ rounds + more = omega (arith, one, low) in
+                ap (λ k. path_lns_from model most limit k (standing after (used + n) (found + 1))) sum
+                ∙ bound_unmet model most limit rounds more (standing after (used + n) (found + 1)) (omega arith)
+        go (Complete n) h = refl
+        go Short h = refl
+
+    -- enough solutions were found
+    pub on_enough : (found == limit.solutions) ≡ true → from_here lists used found ≡ ended (standing lists used found) Solutions
+    on_enough e = enough model most limit (limit.tries - used) (standing lists used found) e
+
+pub same_count : (a b : ℕ) → a ≡ b → (a == b) ≡ true
+same_count a b e = Prim.grind arith

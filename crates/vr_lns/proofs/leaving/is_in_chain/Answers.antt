@@ -1,0 +1,14 @@
+use Rattle.std.proofs.Common.{◌≡◌, ◌∙◌, ◌+◌, ap}
+use Rattle.std.specs.Prelude.{min}
+use Rattle.vr_lns.specs.Chains.{end_of, is_between}
+use Rattle.vr_lns.proofs.ChainLemmas.{by_seat, none_there}
+use Rattle.vr_lns.proofs.leaving.is_in_chain.Goals as goal
+
+pub returns-in-Some : goal.returns-in-Some
+returns-in-Some c =
+    let end : c.min-end.result ≡ end_of c.args.most c.args.routes.now.lists c.args.at = c.min-end.ensures ∙ ap (min (c.args.at.place + c.args.most)) c.len-length.ensures.value in
+    c.is_between.ensures ∙ ap (λ e. is_between c.args.at e c.in-Some.seat) end
+    ∙ by_seat c.args.most c.args.routes.now.lists c.args.at c.requires.vehicle c.args.node c.in-Some.seat c.know_once.ensures c.in-Some.ensures
+
+pub returns-in-None : goal.returns-in-None
+returns-in-None c = none_there c.args.most c.args.routes.now.lists c.args.at c.requires.vehicle c.args.node c.in-None.ensures

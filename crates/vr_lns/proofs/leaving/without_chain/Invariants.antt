@@ -1,0 +1,7 @@
+use Rattle.std.proofs.Common.{◌≡◌, take}
+use Rattle.vr_lns.specs.Cuts.{chain_of, without_chain}
+use Rattle.vr_lns.proofs.leaving.without_chain.Given as goal
+
+-- what is left of the nodes so far
+abbrev pub invariant-loop-node : goal.invariant-loop-node
+invariant-loop-node l = l.left ≡ without_chain l.lookups (chain_of l.most l.routes.lists l.at) (take l.node-index l.list)

@@ -1,0 +1,13 @@
+-- Where the chain of a cut lies.
+use Rattle.std.specs.Prelude.{ℕ, ◌+◌, Bool, ◌&&◌, ◌==◌, List, length, min, nat_le, nat_lt}
+use Rattle.vr_model.specs.routes.Routes.{route}
+use Rattle.vr_routes.specs.declared.seats.Seat.{Seat}
+use Rattle.vr_lns.specs.declared.cutting.Cut.{Cut}
+
+-- the place behind the chain of a cut
+abbrev pub end_of : ℕ → List (List ℕ) → Cut → ℕ
+end_of most lists at = min (at.place + most) (length (route lists at.vehicle))
+
+-- a seat lies in the chain of a cut that ends before place `end`
+abbrev pub is_between : Cut → ℕ → Seat → Bool
+is_between at end seat = ((seat.vehicle == at.vehicle) && nat_le at.place seat.place) && nat_lt seat.place end

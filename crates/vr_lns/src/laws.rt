@@ -1,0 +1,9 @@
+//! Laws over the definitions. A call has no code: its contract is the law, and a proof that needs the law calls it.
+
+ghost use Rattle.vr_lns.specs.Answering.{PathLnsIsSound};
+
+/// The lists of a search by cuts from valid lists are valid and cost no more than these, and its tries and its
+/// solutions are within the limit.
+pub fn path_lns_is_sound()
+    ensures { PathLnsIsSound }
+{}

@@ -1,0 +1,112 @@
+//! The search by cuts.
+
+ghost use Rattle.std.specs.Prelude.{◌≡◌, ◌+◌, ◌≤◌, ◌≤ℤ◌, IsTrue, IfOk, OnOk, OnErr};
+ghost use Rattle.vr_lns.specs.Ending.{EndsAs};
+ghost use Rattle.vr_lns.specs.PathLns.{path_lns};
+ghost use Rattle.vr_lns.specs.Standing.{HoldValid};
+ghost use Rattle.vr_model.specs.routes.Costs.{cost};
+ghost use Rattle.vr_model.specs.routes.Rules.{is_valid};
+ghost use Rattle.vr_model.specs.tables.Tables.{visits};
+ghost use Rattle.vr_model.specs.tables.WellFormed.{IsWellFormed};
+ghost use Rattle.vr_watch.specs.Told.{Told, ToldInPart};
+
+use crate::Rebuild;
+use crate::cutting::Cutting;
+use crate::rounds::RoundEnd;
+use crate::standing::Standing;
+use std::alloc::Global;
+use vr_model::{End, Kind, Limit, Model, NoMemory, Report};
+use vr_routes::Routes;
+use vr_watch::{Watch, note_all};
+
+/// Makes the first cut whose result costs less, again and again, and tells the watchers of the first solution and of
+/// each cut. A cut takes a chain of at most `cut` visits, from 1 to 100, out of a list, and with each of them the other
+/// node of its pair; its result is what is left, rebuilt, where that is open. The routes then hold the last lists, which
+/// are the best. `limit` allows up to 10^9 tries, which are cuts, and from 1 to 10^9 solutions.
+///
+/// The report's end is `Solutions` where as many solutions were found as the limit allows, which is asked first; else
+/// `Optimum` where no cut of the last lists gives valid lists that cost less, and `Tries` where the tries ran out before
+/// that was known.
+///
+/// The only refusal is want of memory. The routes then hold valid lists, no more was rebuilt than the limit has tries,
+/// and the watchers have been told the events up to there: of the event in hand, the first few.
+pub fn lns<R: Rebuild>(
+    alloc: Global,
+    model: &Model,
+    rebuild: &mut R,
+    routes: &mut Routes,
+    limit: Limit,
+    cut: u32,
+    watch: &mut Vec<Box<dyn Watch>>,
+) -> Result<Report, NoMemory>
+    requires well_formed { IsWellFormed model.now }
+    requires of_model { routes.old.visits ≡ visits model.now }
+    requires valid { IsTrue (is_valid model.now routes.old.lists) }
+    requires tries { limit.tries ≤ 1000000000 }
+    requires one_solution { 1 ≤ limit.solutions }
+    requires solutions { limit.solutions ≤ 1000000000 }
+    requires one_visit { 1 ≤ cut }
+    requires few_visits { cut ≤ 100 }
+    ensures report { IfOk result (λ report. report ≡ (path_lns model.now routes.old.lists limit cut).report) }
+    ensures last { OnOk result (routes.new.lists ≡ (path_lns model.now routes.old.lists limit cut).last) }
+    ensures best { OnOk result (routes.new.lists ≡ (path_lns model.now routes.old.lists limit cut).best) }
+    ensures told { OnOk result (Told (λ w later. after w later) watch.old.items watch.new.items
+        (path_lns model.now routes.old.lists limit cut).events) }
+    ensures made { IfOk result (λ report. R.made rebuild.new ≤ R.made rebuild.old + report.tries) }
+
+    ensures no_more_tries { IfOk result (λ report. report.tries ≤ limit.tries) }
+    ensures some_solution { IfOk result (λ report. 1 ≤ report.solutions) }
+    ensures no_more_solutions { IfOk result (λ report. report.solutions ≤ limit.solutions) }
+    ensures no_dearer { OnOk result (cost model.now routes.new.lists ≤ℤ cost model.now routes.old.lists) }
+
+    ensures of_model { routes.new.visits ≡ routes.old.visits }
+    ensures valid { IsTrue (is_valid model.now routes.new.lists) }
+    ensures told_in_part { OnErr result (ToldInPart (λ w later. after w later) watch.old.items watch.new.items
+        (path_lns model.now routes.old.lists limit cut).events) }
+    ensures made_at_most { OnErr result (R.made rebuild.new ≤ R.made rebuild.old + limit.tries) }
+{
+    let mut cutting = Cutting::open(alloc, model, cut)?;
+    search(&mut cutting, rebuild, routes, limit, watch)
+}
+
+// The search by cuts that are made and tried so.
+fn search<R: Rebuild>(
+    cutting: &mut Cutting<'_>,
+    rebuild: &mut R,
+    routes: &mut Routes,
+    limit: Limit,
+    watch: &mut Vec<Box<dyn Watch>>,
+) -> Result<Report, NoMemory>
+    requires well_formed { IsWellFormed cutting.old.model }
+    requires of_model { routes.old.visits ≡ visits cutting.old.model }
+    requires valid { IsTrue (is_valid cutting.old.model routes.old.lists) }
+    requires tries { limit.tries ≤ 1000000000 }
+    requires one_solution { 1 ≤ limit.solutions }
+    requires solutions { limit.solutions ≤ 1000000000 }
+    ensures ends { IfOk result (EndsAs (λ w later. after w later)
+        (path_lns cutting.old.model routes.old.lists limit cutting.old.most) routes.new.lists
+        watch.old.items watch.new.items) }
+    ensures made { IfOk result (λ report. R.made rebuild.new ≤ R.made rebuild.old + report.tries) }
+    ensures of_model { routes.new.visits ≡ routes.old.visits }
+    ensures valid { IsTrue (is_valid cutting.old.model routes.new.lists) }
+    ensures told_in_part { OnErr result (ToldInPart (λ w later. after w later) watch.old.items watch.new.items
+        (path_lns cutting.old.model routes.old.lists limit cutting.old.most).events) }
+    ensures made_at_most { OnErr result (R.made rebuild.new ≤ R.made rebuild.old + limit.tries) }
+{
+    let cost = cutting.total(routes)?;
+    let mut at = Standing {
+        used: 0,
+        found: 1,
+        cost,
+    };
+    note_all(watch, at.event(Kind::First))?;
+    'rounds: while at.found != limit.solutions {
+        let ended = at.advance(cutting, rebuild, routes, limit, watch)?;
+        match ended {
+            RoundEnd::Accepted { .. } => {}
+            RoundEnd::Complete { .. } => return Ok(at.report(End::Optimum)),
+            RoundEnd::Short => return Ok(at.report(End::Tries)),
+        }
+    }
+    Ok(at.report(End::Solutions))
+}
