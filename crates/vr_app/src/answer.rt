@@ -11,6 +11,7 @@ ghost use Rattle.vr_replies.specs.Found.{answer as wanted, events_of, found_from
 ghost use Rattle.vr_replies.specs.Input.{max_input, model_of};
 ghost use Rattle.vr_replies.specs.Reply as replies;
 ghost use Rattle.vr_replies.specs.Reports.{joined};
+ghost use Rattle.vr_replies.specs.Runs.{IsQuestion};
 
 use crate::first::first_routes;
 use crate::search::search;
@@ -118,11 +119,11 @@ fn answer_value(
     ensures reply { let reports = joined (λ w later. after w later) watch.old.items in
         IfOk result (AnswersReply (replies.reply_to_tree task reports (view value))) }
     ensures status { IfOk result (λ a. IsOfShort a.status) }
-    ensures not_met_only { IfOk result (λ a. a.status ≡ Status.NotMet → task ≡ Task.Check) }
+    ensures not_met_only { IfOk result (λ a. a.status ≡ Status.NotMet → IsQuestion task) }
 {
     match task {
         Task::Find(mode) => answer_solved(alloc, mode, value, watch),
-        Task::Check => answer_checked(alloc, value),
+        Task::Ask(question) => answer_checked(alloc, question, value),
     }
 }
 
@@ -137,7 +138,7 @@ pub(crate) fn answer_input(
     ensures reply { let reports = joined (λ w later. after w later) watch.old.items in
         length bytes.items ≤ max_input → IfOk result (AnswersReply (replies.reply_to_input task reports bytes.items)) }
     ensures status { IfOk result (λ a. IsOfShort a.status) }
-    ensures not_met_only { IfOk result (λ a. a.status ≡ Status.NotMet → task ≡ Task.Check) }
+    ensures not_met_only { IfOk result (λ a. a.status ≡ Status.NotMet → IsQuestion task) }
 {
     match parse_owned(alloc, bytes)? {
         None => not_json(alloc),

@@ -1,22 +1,24 @@
 //! What the program does with the source and the sink.
 
 ghost use Rattle.std.specs.Prelude.{◌≡◌, ◌≢◌, ◌⊎◌, ◌↔◌, ◌≤◌, List, ℕ, [], Some, IfOk, IsErrOf, length};
+ghost use Rattle.serde_json.specs.Data.{Data};
 ghost use Rattle.vr_io.specs.Edges.{Rose, Took};
 ghost use Rattle.vr_io.specs.Whole.{TookFront};
 ghost use Rattle.vr_json.specs.Trees.{line_of};
 ghost use Rattle.vr_json.specs.declared.fault.Fault.{Fault};
-ghost use Rattle.vr_replies.specs.Answers.{AnswersReply, IsOfAnswer, IsOfInput};
-ghost use Rattle.vr_replies.specs.Causes.{HasFault, HasFirst, HasNoFirst, IsAnsweredBy, IsNotJson, IsRefused};
-ghost use Rattle.vr_replies.specs.Causes.{IsTooLong};
+ghost use Rattle.vr_replies.specs.Answers.{AnswersReply, IsOfAnswer, IsOfFile, IsOfInput};
+ghost use Rattle.vr_replies.specs.Causes.{HasFault, HasFirst, HasFlaw, HasNoFirst, IsAnsweredBy, IsFile, IsFlawed};
+ghost use Rattle.vr_replies.specs.Causes.{IsImportedAs, IsNotJson, IsRefused, IsTooLong};
 ghost use Rattle.vr_replies.specs.Checked.{checked_of};
 ghost use Rattle.vr_replies.specs.Ended.{Ran};
 ghost use Rattle.vr_replies.specs.Input.{max_input, model_of};
-ghost use Rattle.vr_replies.specs.Met.{IsBrokenBy, IsMet, IsMetBy, IsNotMet};
+ghost use Rattle.vr_replies.specs.Met.{IsBrokenBy, IsMet, IsMetBy, IsNotMet, IsSpannedBy};
 ghost use Rattle.vr_replies.specs.Reply as replies;
 ghost use Rattle.vr_replies.specs.Reply.{Replies};
 ghost use Rattle.vr_replies.specs.Reports.{joined};
-ghost use Rattle.vr_replies.specs.Runs.{IsAskedFor, IsChecked, IsNotAccepted, IsRead, IsSettled, IsSolved, IsUnread};
-ghost use Rattle.vr_replies.specs.Runs.{WhereAnswered, WhereChecked, WhereSolved, WhereTold, bytes_of};
+ghost use Rattle.vr_replies.specs.Runs.{Imports, IsAskedFor, IsAsking, IsChecked, IsNotAccepted, IsQuestion, IsRead};
+ghost use Rattle.vr_replies.specs.Runs.{IsSettled, IsSolved, IsSpanned, IsUnread, ReadsJson, WhereAnswered, WhereAsked};
+ghost use Rattle.vr_replies.specs.Runs.{WhereImported, WhereSolved, WhereTold, bytes_of};
 ghost use Rattle.vr_replies.specs.Status.{IsStatus};
 ghost use Rattle.vr_replies.specs.Texts as texts;
 ghost use Rattle.vr_replies.specs.declared.words.Mode.{Mode as Asked};
@@ -28,7 +30,9 @@ use vr_guided::Watchers;
 use vr_io::{ReadError, Sink, Source, read_all, write_all};
 use vr_model::NoMemory;
 use vr_model::limits::MOST_INPUT_BYTES;
-use vr_replies::{Answer, Request, Status, Task, generated, request_of, too_long, usage};
+use vr_replies::{
+    Answer, Request, Status, Task, answer_file, generated, request_of, too_long, usage,
+};
 use vr_watch::Watch;
 
 // Why there is no answer to write.
@@ -61,11 +65,30 @@ fn respond_to_input<S: Source>(
     ensures emptied { IfOk result (λ a. a.status ≢ Status.TooLong
         → WhereTold (S.left source.old) (λ bytes. S.left source.new ≡ Some [])) }
     ensures status { IfOk result (λ a. IsOfInput a.status) }
-    ensures not_met_only { IfOk result (λ a. a.status ≡ Status.NotMet → task ≡ Task.Check) }
+    ensures not_met_only { IfOk result (λ a. a.status ≡ Status.NotMet → IsQuestion task) }
     ensures fault { IsErrOf result Stop.ReadFault → Rose (S.faults source.old) (S.faults source.new) }
 {
     match read_all(alloc, source, MOST_INPUT_BYTES) {
         Ok(bytes) => Ok(answer_input(alloc, task, bytes, watch)?),
+        Err(ReadError::TooLong) => Ok(too_long(alloc)?),
+        Err(ReadError::ReadFault) => Err(Stop::ReadFault),
+        Err(ReadError::NoMemory) => Err(Stop::NoMemory),
+    }
+}
+
+// The answer to the file that the source gives.
+fn respond_to_file<S: Source>(alloc: Global, vehicles: u32, source: &mut S) -> Result<Answer, Stop>
+    requires some { 1 ≤ vehicles }
+    requires few { vehicles ≤ 100 }
+    ensures reply { IfOk result (λ a. WhereTold (S.left source.old) (λ bytes.
+        AnswersReply (replies.reply_to_file vehicles bytes) a)) }
+    ensures emptied { IfOk result (λ a. a.status ≢ Status.TooLong
+        → WhereTold (S.left source.old) (λ bytes. S.left source.new ≡ Some [])) }
+    ensures status { IfOk result (λ a. IsOfFile a.status ⊎ (a.status ≡ Status.TooLong)) }
+    ensures fault { IsErrOf result Stop.ReadFault → Rose (S.faults source.old) (S.faults source.new) }
+{
+    match read_all(alloc, source, MOST_INPUT_BYTES) {
+        Ok(bytes) => Ok(answer_file(alloc, vehicles, bytes)?),
         Err(ReadError::TooLong) => Ok(too_long(alloc)?),
         Err(ReadError::ReadFault) => Err(Stop::ReadFault),
         Err(ReadError::NoMemory) => Err(Stop::NoMemory),
@@ -86,7 +109,7 @@ fn respond<S: Source>(
         IfOk result (λ a. IsUnread (bytes_of words.now) → (bytes : List ℕ)
         → AnswersReply (replies.reply reports (bytes_of words.now) bytes) a) }
     ensures usage_only { IfOk result (λ a. a.status ≡ Status.Usage → IsNotAccepted (bytes_of words.now)) }
-    ensures not_met_only { IfOk result (λ a. a.status ≡ Status.NotMet → IsChecked (bytes_of words.now)) }
+    ensures not_met_only { IfOk result (λ a. a.status ≡ Status.NotMet → IsAsking (bytes_of words.now)) }
     ensures untouched { IsUnread (bytes_of words.now) → source.new ≡ source.old }
     ensures emptied { IfOk result (λ a. IsRead (bytes_of words.now) → a.status ≢ Status.TooLong
         → WhereTold (S.left source.old) (λ bytes. S.left source.new ≡ Some [])) }
@@ -97,6 +120,7 @@ fn respond<S: Source>(
     match request_of(words) {
         None => Ok(usage(alloc)?),
         Some(Request::Read(task)) => respond_to_input(alloc, task, source, watch),
+        Some(Request::Import(vehicles)) => respond_to_file(alloc, vehicles, source),
         Some(Request::Generate(number)) => Ok(generated(alloc, number)?),
         Some(Request::Demo(number)) => Ok(demo(alloc, number)?),
     }
@@ -136,11 +160,13 @@ fn run_watched<S: Source, K: Sink>(
 /// | `solve` | a model | the line of the best solution that the model's search finds from there |
 /// | `solve --log` | a model | the same, and behind it what each watcher reports of the search, in order |
 /// | `check` | an object of a `model` and a `solution` | `{"cost":C,"status":"MEETS"}` |
+/// | `spans` | the same | the line of how short each of its routes could be |
+/// | `import K` | a TSPLIB file of type CVRP | the line of its model with K vehicles |
 /// | `generate N` | nothing | the line of the model of number N |
 /// | `demo N` | nothing | the line of a summary of the whole search of that model |
 ///
-/// N is written in decimal digits, with no 0 in front of others, and is at most 2^64 - 1. What is read is the source to
-/// its end. C is the cost of the solution, which keeps all rules of its model.
+/// N and K are written in decimal digits, with no 0 in front of others; N is at most 2^64 - 1, and K is 1 to 100. What
+/// is read is the source to its end. C is the cost of the solution, which keeps all rules of its model.
 ///
 /// | status | comes | written |
 /// |---|---|---|
@@ -148,25 +174,28 @@ fn run_watched<S: Source, K: Sink>(
 /// | 1 | exactly where the words are not accepted; nothing is read | `{"status":"USAGE"}` |
 /// | 2 | only where the source failed in this call | nothing |
 /// | 3 | only where the sink failed in this call; it stands in place of the status of the text | a front of the text |
-/// | 4 | exactly where the input is no JSON | `{"status":"NOT_JSON"}` |
+/// | 4 | of all but `import`, exactly where the input is no JSON | `{"status":"NOT_JSON"}` |
 /// | 5 | exactly where reading finds a fault | `{"code":C,"path":"P","status":"ROUTING_INVALID"}` |
 /// | 6 | of `first` and `solve`, exactly where the model has no first solution | `{"status":"ROUTING_FAIL"}` |
 /// | 7 | want of memory; nothing in the contract ties it to a refused growth | nothing |
 /// | 8 | exactly where the input has more than 67108864 bytes | `{"status":"TOO_LONG"}` |
-/// | 9 | of `check`, exactly where a rule is broken | `{"place":K,"rule":"R","status":"NOT_MET","vehicle":V}` |
+/// | 9 | of `check`, `spans` exactly where a rule is broken | `{"place":K,"rule":"R","status":"NOT_MET","vehicle":V}` |
 ///
 /// An input is JSON where it is UTF-8 and `serde_json` reads a value from it, which may nest at most 127 deep. `first`
-/// and `solve` ask for a model with a first solution: the lists at which its construction ends are valid. `check` asks
-/// for a solution that keeps all rules of the model beside it. With 5, C is the code and P the path of the first fault
-/// of reading; with 9, R is the first rule (`vr_check::Rule`) that is broken, with its vehicle and place. The causes of
-/// 4, 5 and 8 are said of the words that read.
+/// and `solve` ask for a model with a first solution: the lists at which its construction ends are valid. `check` and
+/// `spans` ask for a solution that keeps all rules of the model beside it. Of each used vehicle `spans` tells, in each
+/// dimension in which no vehicle has breaks, the least span of all schedules of its line and the printed one, and of
+/// the schedules of the least span the one whose cumuls, compared from the start on, are least. With 5, C is the code
+/// and P the path of the first fault of reading, of `import` the number of the line; with 9, R is the first rule
+/// (`vr_check::Rule`) that is broken, with its vehicle and place. The causes of 4, 5 and 8 are said of the words that
+/// read.
 ///
 /// Only with `--log` is an event of the search noted, to every watcher in order; a watcher that finds no memory for it
 /// ends the run with status 7. All watchers are dropped at the end.
 ///
 /// The words are looked at first, then the source is read, then come the length, the JSON, the model, the construction
-/// or the check, and the writing; the first that fails gives the status. "Exactly where" is said of calls that end with
-/// none of 2, 3 and 7.
+/// or the check, and the writing; of `import` the file comes behind the length, and then the writing. The first that
+/// fails gives the status. "Exactly where" is said of calls that end with none of 2, 3 and 7.
 pub fn run<S: Source, K: Sink>(
     alloc: Global,
     words: &[String],
@@ -192,18 +221,34 @@ pub fn run<S: Source, K: Sink>(
         (text : List ℕ) × IsAnsweredBy asked reports bytes text
         × Took (K.written sink.old) (K.written sink.new) text) }
 
-    // Of `check`, 0 comes exactly where the solution in the input meets the rules of its model, and then it keeps them:
-    // valid lists, schedules, the parts of their cost. 9 comes of `check` alone, exactly where it breaks one; the text
-    // tells the first.
-    ensures met { WhereChecked (bytes_of words.now) (S.left source.old) result (λ bytes.
+    // Of `check` and `spans`, 0 comes exactly where the solution in the input meets the rules of its model, and then it
+    // keeps them: valid lists, schedules, the parts of their cost. `spans` tells of each line without breaks the least
+    // span of all its schedules, with the first schedule of this span. 9 comes of these two alone, exactly where the
+    // solution breaks a rule; the text tells the first.
+    ensures met { WhereAsked (bytes_of words.now) (S.left source.old) result (λ bytes.
         (result ≡ 0) ↔ IsMet bytes) }
     ensures kept { result ≡ 0 → IsChecked (bytes_of words.now) → WhereTold (S.left source.old) (λ bytes.
         (text : List ℕ) × IsMetBy bytes text × Took (K.written sink.old) (K.written sink.new) text) }
-    ensures not_met { WhereChecked (bytes_of words.now) (S.left source.old) result (λ bytes.
+    ensures spans { result ≡ 0 → IsSpanned (bytes_of words.now) → WhereTold (S.left source.old) (λ bytes.
+        (text : List ℕ) × IsSpannedBy bytes text × Took (K.written sink.old) (K.written sink.new) text) }
+    ensures not_met { WhereAsked (bytes_of words.now) (S.left source.old) result (λ bytes.
         (result ≡ 9) ↔ IsNotMet bytes) }
     ensures broken { result ≡ 9 → WhereTold (S.left source.old) (λ bytes.
         (text : List ℕ) × IsBrokenBy bytes text × Took (K.written sink.old) (K.written sink.new) text) }
-    ensures not_met_only { result ≡ 9 → IsChecked (bytes_of words.now) }
+    ensures not_met_only { result ≡ 9 → IsAsking (bytes_of words.now) }
+
+    // Of `import`, 0 comes exactly where the file has no fault, and then its model is written. 5 comes exactly where it
+    // has one; the text tells the first.
+    ensures imported { WhereImported (bytes_of words.now) (S.left source.old) result (λ vehicles bytes.
+        (result ≡ 0) ↔ IsFile vehicles bytes) }
+    ensures model { result ≡ 0 → (vehicles : ℕ) → Imports vehicles (bytes_of words.now)
+        → WhereTold (S.left source.old) (λ bytes. (tree : Data) × IsImportedAs vehicles bytes tree
+        × Took (K.written sink.old) (K.written sink.new) (line_of tree)) }
+    ensures flawed { WhereImported (bytes_of words.now) (S.left source.old) result (λ vehicles bytes.
+        (result ≡ 5) ↔ IsFlawed vehicles bytes) }
+    ensures flaw { result ≡ 5 → (vehicles : ℕ) → Imports vehicles (bytes_of words.now)
+        → WhereTold (S.left source.old) (λ bytes. (fault : Fault) → HasFlaw vehicles bytes fault
+        → Took (K.written sink.old) (K.written sink.new) (line_of (texts.refused_tree fault))) }
 
     // Of words that read nothing the reply is the same whatever the source has, with status 0 where they are accepted.
     ensures unread { let reports = joined (λ w later. after w later) watch.items in
@@ -232,20 +277,21 @@ pub fn run<S: Source, K: Sink>(
         TookFront (K.written sink.old) (K.written sink.new)
         (replies.reply reports (bytes_of words.now) bytes).text) }
 
-    // Of words that read, 8, 4 and 5 come exactly where the input is too long, is no JSON, or is refused; 5 tells code
-    // and path. 6 comes exactly where a solution is asked for and the input is a model without a first solution.
+    // Of words that read, 8 comes exactly where the input is too long; of all of them but `import`, 4 and 5 come where
+    // it is no JSON, or is refused, and only there; 5 tells code and path. 6 comes exactly where a solution is asked
+    // for and the input is a model without a first solution.
     ensures too_long { WhereAnswered (bytes_of words.now) (S.left source.old) result (λ bytes.
         (result ≡ 8) ↔ IsTooLong bytes) }
     ensures not_json { WhereAnswered (bytes_of words.now) (S.left source.old) result (λ bytes.
-        (result ≡ 4) ↔ IsNotJson bytes) }
+        (result ≡ 4) ↔ (ReadsJson (bytes_of words.now) × IsNotJson bytes)) }
     ensures refused { WhereSolved (bytes_of words.now) (S.left source.old) result (λ bytes.
         (result ≡ 5) ↔ IsRefused model_of bytes) }
     ensures refusal { result ≡ 5 → IsSolved (bytes_of words.now) → WhereTold (S.left source.old) (λ bytes.
         (fault : Fault) → HasFault model_of bytes fault
         → Took (K.written sink.old) (K.written sink.new) (line_of (texts.refused_tree fault))) }
-    ensures check_refused { WhereChecked (bytes_of words.now) (S.left source.old) result (λ bytes.
+    ensures check_refused { WhereAsked (bytes_of words.now) (S.left source.old) result (λ bytes.
         (result ≡ 5) ↔ IsRefused checked_of bytes) }
-    ensures check_refusal { result ≡ 5 → IsChecked (bytes_of words.now) → WhereTold (S.left source.old) (λ bytes.
+    ensures check_refusal { result ≡ 5 → IsAsking (bytes_of words.now) → WhereTold (S.left source.old) (λ bytes.
         (fault : Fault) → HasFault checked_of bytes fault
         → Took (K.written sink.old) (K.written sink.new) (line_of (texts.refused_tree fault))) }
     ensures none_found { WhereSolved (bytes_of words.now) (S.left source.old) result (λ bytes.

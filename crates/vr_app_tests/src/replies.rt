@@ -27,6 +27,30 @@ const CHECKED: &str = "{\"model\":{\"format\":1,\"nodes\":1,\"matrices\":[[[0]]]
     \"routes\":[{\"dimensions\":[],\"nodes\":[],\"vehicle\":0}],\
     \"solutions\":1,\"status\":\"ROUTING_SUCCESS\",\"stop\":\"first\",\"tries\":0}}";
 
+// A visit that may not begin from 5 to 8: the printed route starts at 1, waits, and is 13 long. A start at 4 does not
+// wait.
+const WAITING: &str = "{\"model\":{\"format\":1,\"nodes\":2,\"matrices\":[[[0,5],[5,0]]],\
+    \"vehicles\":[{\"start\":0,\"end\":0}],\"dimensions\":[{\"name\":\"time\",\
+    \"evaluators\":[{\"matrix\":0}],\"slack_max\":3,\"capacity\":100,\"nodes\":[{\"node\":1,\"forbidden\":[[5,8]]}]}]},\
+    \"solution\":{\"cost\":10,\"dropped\":[],\"first_cost\":10,\
+    \"parts\":{\"arcs\":10,\"fixed\":0,\"global\":0,\"penalty\":0,\"soft\":0,\"span\":0},\
+    \"routes\":[{\"dimensions\":[{\"breaks\":[],\"cumuls\":[1,9,14],\"name\":\"time\",\"slacks\":[3,0]}],\
+    \"nodes\":[0,1,0],\"vehicle\":0}],\
+    \"solutions\":1,\"status\":\"ROUTING_SUCCESS\",\"stop\":\"first\",\"tries\":0}}";
+
+const SPANS: &str =
+    "{\"spans\":[{\"cumuls\":[4,9,14],\"dimension\":\"time\",\"least\":10,\"printed\":13,\
+    \"slacks\":[0,0],\"vehicle\":0}],\"status\":\"SPANS\"}\n";
+
+// A file of three nodes in the plane, and its model with one vehicle.
+const FILE: &str =
+    "NAME : t3\nTYPE : CVRP\nDIMENSION : 3\nEDGE_WEIGHT_TYPE : EUC_2D\nCAPACITY : 10\n\
+    NODE_COORD_SECTION\n1 0 0\n2 3 4\n3 1 1\nDEMAND_SECTION\n1 0\n2 4\n3 5\nDEPOT_SECTION\n1\n-1\nEOF\n";
+
+const IMPORTED: &str = "{\"dimensions\":[{\"capacity\":10,\"evaluators\":[{\"values\":[0,4,5]}],\
+    \"fix_start\":true,\"name\":\"load\",\"slack_max\":0}],\"format\":1,\
+    \"matrices\":[[[0,5,1],[5,0,4],[1,4,0]]],\"nodes\":3,\"vehicles\":[{\"end\":0,\"start\":0}]}\n";
+
 // Words, an input, and the status and the beginning of the text that are wanted.
 type Row<'a> = (&'a str, &'a str, u8, &'a str);
 
@@ -84,11 +108,17 @@ fn each_reply_is_given(rt: HostRuntime) -> Result<(), Fail> {
         ("solve", THREE_NODES, 0, "{\"cost\":18,"),
         ("solve --log", THREE_NODES, 0, "{\"cost\":18,"),
         ("check", CHECKED, 0, "{\"cost\":0,\"status\":\"MEETS\"}\n"),
+        ("spans", CHECKED, 0, "{\"spans\":[],\"status\":\"SPANS\"}\n"),
+        ("spans", WAITING, 0, SPANS),
+        ("import 1", FILE, 0, IMPORTED),
         ("generate 7", "", 0, "{\"dimensions\":"),
         ("demo 7", "", 0, "{\"cost\":"),
         ("last", "", 1, "{\"status\":\"USAGE\"}\n"),
+        ("import", FILE, 1, "{\"status\":\"USAGE\"}\n"),
+        ("import 101", FILE, 1, "{\"status\":\"USAGE\"}\n"),
         ("first", "[", 4, "{\"status\":\"NOT_JSON\"}\n"),
         ("first", "[]", 5, "{\"code\":11,\"path\":\"\","),
+        ("import 1", "TYPE : TSP", 5, "{\"code\":42,\"path\":\"/1\","),
         ("first", NONE, 6, "{\"status\":\"ROUTING_FAIL\"}\n"),
         (
             "check",

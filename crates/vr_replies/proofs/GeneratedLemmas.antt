@@ -19,11 +19,11 @@ use Rattle.vr_replies.specs.declared.words.Request.{Request}
 use Rattle.vr_replies.specs.declared.words.Request.TheVariants as request
 use Rattle.vr_replies.proofs.ReplyLemmas.{IsPrintable}
 
-no_float_items : {A : Type 0} (f : A → Data) → ((x : A) → has_float (f x) ≡ false) → (xs : List A) → items_have_float (items_of (map f xs)) ≡ false
+pub no_float_items : {A : Type 0} (f : A → Data) → ((x : A) → has_float (f x) ≡ false) → (xs : List A) → items_have_float (items_of (map f xs)) ≡ false
 no_float_items f h [] = refl
 no_float_items f h (x ∷ xs) = rw (h x) (no_float_items f h xs)
 
-depth_items : {A : Type 0} (f : A → Data) (n : ℕ) → ((x : A) → depth (f x) ≤ n) → (xs : List A) → items_depth (items_of (map f xs)) ≤ n
+pub depth_items : {A : Type 0} (f : A → Data) (n : ℕ) → ((x : A) → depth (f x) ≤ n) → (xs : List A) → items_depth (items_of (map f xs)) ≤ n
 depth_items f n h [] = omega arith
 depth_items f n h (x ∷ xs) = omega (arith, h x, depth_items f n h xs)
 
@@ -90,14 +90,14 @@ generated-printable n = record {
 -- ---- the replies to numbers
 
 -- the model of a number is read and solved, so its search can be told of
-demo-done : (n : ℕ) → (reply_of_demo n).status ≡ 0
+pub demo-done : (n : ℕ) → (reply_of_demo n).status ≡ 0
 unfolding reply_of_demo
 demo-done n =
     let solved = generated_models_are_solved n [] in
     ap (λ m. (summary_of_model n m).status) solved.is_read
     ∙ ap (λ o. (summary_of_found n solved.model (option_map (found_from mode.Solve solved.model) o)).status) solved.are_first
 
-generated-done : (n : ℕ) → (reply_generated n).status ≡ 0
+pub generated-done : (n : ℕ) → (reply_generated n).status ≡ 0
 unfolding reply_generated
 generated-done n = refl
 
@@ -112,5 +112,6 @@ unread-done reports words bytes unread = by (request_of words) unread
     by : (o : Option Request) → is_read o ≡ false → (o ≡ None) ⊎ ((reply_in reports o bytes).status ≡ 0)
     by None h = inl refl
     by (Some (request.Read asked)) h = absurd cc
+    by (Some (request.Import vehicles)) h = absurd cc
     by (Some (request.Generate n)) h = inr (generated-done n)
     by (Some (request.Demo n)) h = inr (demo-done n)

@@ -6,4 +6,7 @@ pub mod SolutionLemmas
 pub mod ReplyLemmas
 pub mod GeneratedLemmas
 pub mod NumberLemmas
+pub mod ShortestLemmas
+pub mod SpanLemmas
+pub mod FileLemmas
 pub mod RunLemmas

@@ -1,5 +1,5 @@
--- What the reply to a check says of the input.
-use Rattle.std.proofs.Common.{◌≡◌, ◌∙◌, ◌≤◌, ◌↔◌, ℕ, List, [], true, false, Option, Some, None, Result, Ok, Err, refl, ap, sym, subst, arith, length}
+-- What the reply to a question about a solution says of the input.
+use Rattle.std.proofs.Common.{◌≡◌, ◌∙◌, ◌≤◌, ◌↔◌, ℕ, ℤ, List, [], Bool, true, false, Option, Some, None, Result, Ok, Err, refl, ap, sym, subst, arith, length}
 use Rattle.std.specs.Prelude.{IsTrue, codes}
 use Rattle.serde_json.specs.Data.{Data}
 use Rattle.vr_json.specs.Trees.{line_of}
@@ -14,24 +14,36 @@ use Rattle.vr_model.specs.tables.WellFormed.{IsWellFormed}
 use Rattle.vr_read.specs.Models.{read_model}
 use Rattle.vr_read.proofs.WellFormedModels.{well_formed_from_read}
 use Rattle.vr_check.proofs.AllMet.{met_keeps_all_rules}
+use Rattle.vr_check.specs.Laws.{KeepsAllRules}
 use Rattle.vr_check.specs.declared.finding.Finding.{Finding}
 use Rattle.vr_check.specs.declared.finding.Finding.TheVariants.{Meets, Broken}
+use Rattle.vr_replies.specs.Answers.{AnswersReply, replied}
+use Rattle.vr_replies.specs.declared.answer.Answer.{Answer}
 use Rattle.vr_replies.specs.Causes.{HasFault, IsNotJson, IsReadAs, IsTooLong}
 use Rattle.vr_replies.specs.Checked.{Checked, checked_at, checked_of, found_in, is_met}
 use Rattle.vr_replies.specs.Input.{max_input, value_of}
-use Rattle.vr_replies.specs.Met.{IsBrokenBy, IsMetBy}
-use Rattle.vr_replies.specs.Reply.{Reply, not_json, refused, reply, reply_in, reply_to_checked, reply_to_finding, reply_to_input, reply_to_value, too_long}
-use Rattle.vr_replies.specs.Runs.{IsChecked, IsRead}
+use Rattle.vr_printed.specs.Printed.{assignment_of}
+use Rattle.vr_printed.specs.Shape.{printed_in}
+use Rattle.vr_printed.specs.declared.printed.Printed.{Printed}
+use Rattle.vr_replies.specs.Met.{IsBrokenBy, IsMetBy, IsSpannedBy}
+use Rattle.vr_replies.specs.Spans.{printed_assignment, spans_of, spans_tree}
+use Rattle.vr_replies.specs.Reply.{Reply, answer_tree, not_json, refused, reply, reply_in, reply_to_checked, reply_to_finding, reply_to_input, reply_to_question, reply_to_value, too_long}
+use Rattle.vr_replies.specs.Runs.{Asks, IsRead, ReadsJson}
 use Rattle.vr_replies.specs.Status.{number_of}
 use Rattle.vr_replies.specs.Texts.{refused_tree}
 use Rattle.vr_replies.specs.declared.status.Status.{Status}
 use Rattle.vr_replies.specs.declared.status.Status.TheVariants as all
-use Rattle.vr_replies.specs.Words.{is_read, request_of}
+use Rattle.vr_replies.specs.Words.{is_read, reads_json, request_of}
+use Rattle.vr_replies.specs.declared.words.Question.{Question}
+use Rattle.vr_replies.specs.declared.words.Question.TheVariants as question
 use Rattle.vr_replies.specs.declared.words.Request.{Request}
 use Rattle.vr_replies.specs.declared.words.Request.TheVariants as request
 use Rattle.vr_replies.specs.declared.words.Task.TheVariants as task
 use Rattle.vr_replies.proofs.CauseLemmas.{Tells, done-tells, fault-tells, input-tells, long-tells, no_value-tells, undone-tells}
+use Rattle.vr_replies.proofs.FileLemmas.{file-tells}
+use Rattle.vr_replies.proofs.GeneratedLemmas.{demo-done, generated-done}
 use Rattle.vr_replies.proofs.InputLemmas.{of_input, reply-short}
+use Rattle.vr_replies.proofs.SpanLemmas.{tells_shortest}
 
 -- ---- what is read
 
@@ -76,14 +88,21 @@ checked_ensures d =
 pub checked-well_formed : (d : Data) (it : Checked) → checked_of d ≡ Ok it → IsWellFormed it.model
 checked-well_formed d it is = (checked_ensures d).of_value it is
 
--- what was found, or the first fault, is the reply
-pub found-replies : (m : Result Checked Fault) (f : Finding) → seen found_in m ≡ Ok f → reply_to_finding f ≡ reply_to_checked m
-found-replies (Ok it) f e = let k : found_in it ≡ f = cc in ap reply_to_finding (sym k)
-found-replies (Err fault) f e = absurd cc
+-- an answer and the reply that it is
+pub reply_same : (r : Reply) (a : Answer) → AnswersReply r a → replied a ≡ r
+reply_same r a is = let status = is.status_is in let text = is.text_is in λ i. record { status = status i; text = text i }
 
-pub fault-replies : (m : Result Checked Fault) (fault : Fault) → seen found_in m ≡ Err fault → refused fault ≡ reply_to_checked m
-fault-replies (Ok it) fault e = absurd cc
-fault-replies (Err other) fault e = let k : other ≡ fault = cc in ap refused (sym k)
+pub answers_its_reply : (a : Answer) → AnswersReply (replied a) a
+answers_its_reply a = record { status_is = refl; text_is = refl }
+
+-- what was answered, or the first fault, is the reply
+pub found-replies : (asked : Question) (m : Result Checked Fault) (r : Reply) → seen (reply_to_question asked) m ≡ Ok r → r ≡ reply_to_checked asked m
+found-replies asked (Ok it) r e = let k : reply_to_question asked it ≡ r = cc in sym k
+found-replies asked (Err fault) r e = absurd cc
+
+pub fault-replies : (asked : Question) (m : Result Checked Fault) (fault : Fault) → seen (reply_to_question asked) m ≡ Err fault → refused fault ≡ reply_to_checked asked m
+fault-replies asked (Ok it) fault e = absurd cc
+fault-replies asked (Err other) fault e = let k : other ≡ fault = cc in ap refused (sym k)
 
 -- ---- which inputs have a status
 
@@ -96,41 +115,52 @@ breaks it = is_met (found_in it) ≡ false
 abbrev pub TellsMet : List ℕ → ℕ → Type 0
 TellsMet bytes status = Tells checked_of 9 meets breaks bytes status
 
-module _ (reports : List Event → List ℕ) (bytes : List ℕ) where
+module _ (asked : Question) (reports : List Event → List ℕ) (bytes : List ℕ) where
   module _ (d : Data) (short : length bytes ≤ max_input) (some : value_of bytes ≡ Some d) where
-    finding-tells : (it : Checked) → checked_of d ≡ Ok it → (f : Finding) → found_in it ≡ f → TellsMet bytes (reply_to_finding f).status
+    finding-tells : (it : Checked) → checked_of d ≡ Ok it → (f : Finding) → found_in it ≡ f → TellsMet bytes (reply_to_finding asked it f).status
     finding-tells it is (Meets cost) e =
         done-tells checked_of 9 meets breaks (omega arith) (λ e. absurd (omega arith)) bytes d short some it is (ap is_met e) (λ h. let k = sym (ap is_met e) ∙ h in absurd cc)
     finding-tells it is (Broken rule vehicle place) e =
         undone-tells checked_of 9 meets breaks (omega arith) (λ e. absurd (omega arith)) bytes d short some it is (ap is_met e) (λ h. let k = sym (ap is_met e) ∙ h in absurd cc)
 
-    checked-tells : (m : Result Checked Fault) → checked_of d ≡ m → TellsMet bytes (reply_to_checked m).status
+    checked-tells : (m : Result Checked Fault) → checked_of d ≡ m → TellsMet bytes (reply_to_checked asked m).status
     checked-tells (Err fault) is = fault-tells checked_of 9 meets breaks (omega arith) (λ e. absurd (omega arith)) bytes d short some fault is
     checked-tells (Ok it) is = finding-tells it is (found_in it) refl
 
-  check-tells : TellsMet bytes (reply_to_input task.Check reports bytes).status
-  check-tells = of_input task.Check reports bytes (λ reply. TellsMet bytes reply.status)
+  check-tells : TellsMet bytes (reply_to_input (task.Ask asked) reports bytes).status
+  check-tells = of_input (task.Ask asked) reports bytes (λ reply. TellsMet bytes reply.status)
       (long-tells checked_of 9 meets breaks (omega arith) (λ e. absurd (omega arith)) bytes)
       (no_value-tells checked_of 9 meets breaks (omega arith) (λ e. absurd (omega arith)) bytes)
       (λ d short some. checked-tells d short some (checked_of d) refl)
 
-  check-refused : (fault : Fault) → HasFault checked_of bytes fault → (reply_to_input task.Check reports bytes).text ≡ line_of (refused_tree fault)
+  check-refused : (fault : Fault) → HasFault checked_of bytes fault → (reply_to_input (task.Ask asked) reports bytes).text ≡ line_of (refused_tree fault)
   check-refused fault r =
-      ap (λ reply. reply.text) (reply-short task.Check reports bytes r.short ∙ ap (reply_to_value task.Check reports) r.is_value ∙ ap reply_to_checked r.is_fault)
+      ap (λ reply. reply.text) (reply-short (task.Ask asked) reports bytes r.short ∙ ap (reply_to_value (task.Ask asked) reports) r.is_value ∙ ap (reply_to_checked asked) r.is_fault)
 
 -- ---- what the text tells
 
--- a reply tells the cost of a solution that keeps all rules, or the rule that is broken
-pub record Finds (bytes : List ℕ) (answer : Reply) : Type 0 where
-  pub met : answer.status ≡ 0 → IsMetBy bytes answer.text
+-- the solution keeps all rules of its model, and the text answers the question about it
+pub record IsKeptBy (asked : Question) (bytes text : List ℕ) : Type 0 where
+  pub it : Checked
+  pub printed : Printed
+  pub cost : ℤ
+  pub is_read : IsReadAs checked_of bytes it
+  pub is_found : found_in it ≡ Meets cost
+  pub is_printed : printed_in it.model it.solution ≡ Some printed
+  pub keeps : KeepsAllRules it.model printed cost
+  pub text_is : text ≡ line_of (answer_tree asked it cost)
+
+-- a reply answers the question about a solution that keeps all rules, or tells the rule that is broken
+pub record Finds (asked : Question) (bytes : List ℕ) (answer : Reply) : Type 0 where
+  pub met : answer.status ≡ 0 → IsKeptBy asked bytes answer.text
   pub broken : answer.status ≡ 9 → IsBrokenBy bytes answer.text
 
 -- so does one of another status
-finds_none : (bytes : List ℕ) (answer : Reply) → (answer.status ≡ 0 → ⊥) → (answer.status ≡ 9 → ⊥) → Finds bytes answer
-finds_none bytes answer not_0 not_9 = record { met = λ e. absurd (not_0 e); broken = λ e. absurd (not_9 e) }
+finds_none : (asked : Question) (bytes : List ℕ) (answer : Reply) → (answer.status ≡ 0 → ⊥) → (answer.status ≡ 9 → ⊥) → Finds asked bytes answer
+finds_none asked bytes answer not_0 not_9 = record { met = λ e. absurd (not_0 e); broken = λ e. absurd (not_9 e) }
 
-module _ (reports : List Event → List ℕ) (bytes : List ℕ) where
-  finding-finds : (it : Checked) → IsWellFormed it.model → IsReadAs checked_of bytes it → (f : Finding) → found_in it ≡ f → Finds bytes (reply_to_finding f)
+module _ (asked : Question) (reports : List Event → List ℕ) (bytes : List ℕ) where
+  finding-finds : (it : Checked) → IsWellFormed it.model → IsReadAs checked_of bytes it → (f : Finding) → found_in it ≡ f → Finds asked bytes (reply_to_finding asked it f)
   finding-finds it well is (Meets cost) e =
       let k = met_keeps_all_rules it.model it.solution cost well e in record {
         met = λ zero. record { it = it; printed = k.0; cost = cost; is_read = is; is_found = e; is_printed = k.1; keeps = k.2; text_is = refl };
@@ -141,27 +171,45 @@ module _ (reports : List Event → List ℕ) (bytes : List ℕ) where
     broken = λ nine. record { it = it; rule = rule; vehicle = vehicle; place = place; is_read = is; is_found = e; text_is = refl };
   }
 
-  checked-finds : (d : Data) → length bytes ≤ max_input → value_of bytes ≡ Some d → (m : Result Checked Fault) → checked_of d ≡ m → Finds bytes (reply_to_checked m)
-  checked-finds d short some (Err fault) is = finds_none bytes _ (λ e. absurd (omega arith)) (λ e. absurd (omega arith))
+  checked-finds : (d : Data) → length bytes ≤ max_input → value_of bytes ≡ Some d → (m : Result Checked Fault) → checked_of d ≡ m → Finds asked bytes (reply_to_checked asked m)
+  checked-finds d short some (Err fault) is = finds_none asked bytes _ (λ e. absurd (omega arith)) (λ e. absurd (omega arith))
   checked-finds d short some (Ok it) is =
       finding-finds it (checked-well_formed d it is) (record { short = short; value = d; is_value = some; is_read = is }) (found_in it) refl
 
-  check-finds : Finds bytes (reply_to_input task.Check reports bytes)
-  check-finds = of_input task.Check reports bytes (Finds bytes)
-      (λ long. finds_none bytes too_long (λ e. absurd (omega arith)) (λ e. absurd (omega arith)))
-      (λ short none. finds_none bytes not_json (λ e. absurd (omega arith)) (λ e. absurd (omega arith)))
+  check-finds : Finds asked bytes (reply_to_input (task.Ask asked) reports bytes)
+  check-finds = of_input (task.Ask asked) reports bytes (Finds asked bytes)
+      (λ long. finds_none asked bytes too_long (λ e. absurd (omega arith)) (λ e. absurd (omega arith)))
+      (λ short none. finds_none asked bytes not_json (λ e. absurd (omega arith)) (λ e. absurd (omega arith)))
       (λ d short some. checked-finds d short some (checked_of d) refl)
 
-module _ (reports : List Event → List ℕ) (words : List (List ℕ)) (bytes : List ℕ) where
-  pub checked_words-tell : IsChecked words → TellsMet bytes (reply reports words bytes).status
-  checked_words-tell h = let P : Option Request → Type 0 = λ o. TellsMet bytes (reply_in reports o bytes).status in subst P (sym h) (check-tells reports bytes)
+-- what is so of `check`, and of `spans`
+pub kept-met : (bytes text : List ℕ) → IsKeptBy question.Check bytes text → IsMetBy bytes text
+kept-met bytes text is = record { it = is.it; printed = is.printed; cost = is.cost; is_read = is.is_read; is_found = is.is_found; is_printed = is.is_printed; keeps = is.keeps; text_is = is.text_is }
 
-  pub checked_words-find : IsChecked words → Finds bytes (reply reports words bytes)
-  checked_words-find h = let P : Option Request → Type 0 = λ o. Finds bytes (reply_in reports o bytes) in subst P (sym h) (check-finds reports bytes)
+pub kept-spanned : (bytes text : List ℕ) → IsKeptBy question.Spans bytes text → IsSpannedBy bytes text
+unfolding spans_of
+kept-spanned bytes text is = record {
+  it = is.it;
+  printed = is.printed;
+  cost = is.cost;
+  is_read = is.is_read;
+  is_found = is.is_found;
+  is_printed = is.is_printed;
+  keeps = is.keeps;
+  shortest = tells_shortest is.it.model (assignment_of is.printed.routes) is.keeps.plans_are_schedules;
+  text_is = is.text_is ∙ ap (λ printed. line_of (spans_tree is.it.model (printed_assignment printed))) is.is_printed;
+}
+
+module _ (asked : Question) (reports : List Event → List ℕ) (words : List (List ℕ)) (bytes : List ℕ) (asks : Asks asked words) where
+  pub asked_words-tell : TellsMet bytes (reply reports words bytes).status
+  asked_words-tell = let P : Option Request → Type 0 = λ o. TellsMet bytes (reply_in reports o bytes).status in subst P (sym asks) (check-tells asked reports bytes)
+
+  pub asked_words-find : Finds asked bytes (reply reports words bytes)
+  asked_words-find = let P : Option Request → Type 0 = λ o. Finds asked bytes (reply_in reports o bytes) in subst P (sym asks) (check-finds asked reports bytes)
 
   -- a refusal tells the fault
-  pub checked_words-refused : (fault : Fault) → IsChecked words → HasFault checked_of bytes fault → (reply reports words bytes).text ≡ line_of (refused_tree fault)
-  checked_words-refused fault h r = ap (λ o. (reply_in reports o bytes).text) h ∙ check-refused reports bytes fault r
+  pub asked_words-refused : (fault : Fault) → HasFault checked_of bytes fault → (reply reports words bytes).text ≡ line_of (refused_tree fault)
+  asked_words-refused fault r = ap (λ o. (reply_in reports o bytes).text) asks ∙ check-refused asked reports bytes fault r
 
 -- the status of number 9
 pub nine : (status : Status) → number_of status ≡ 9 → status ≡ all.NotMet
@@ -178,17 +226,29 @@ nine all.NotMet e = refl
 
 -- ---- words that read
 
--- which inputs are too long or no JSON, whatever is asked of them
-pub record TellsText (bytes : List ℕ) (status : ℕ) : Type 0 where
+-- which inputs are too long or no JSON, whatever these words ask of them
+pub record TellsText (words : List (List ℕ)) (bytes : List ℕ) (status : ℕ) : Type 0 where
   pub too_long : (status ≡ 8) ↔ IsTooLong bytes
-  pub not_json : (status ≡ 4) ↔ IsNotJson bytes
+  pub not_json : (status ≡ 4) ↔ (ReadsJson words × IsNotJson bytes)
 
-pub read-tells : (reports : List Event → List ℕ) (words : List (List ℕ)) (bytes : List ℕ) → IsRead words → TellsText bytes (reply reports words bytes).status
-read-tells reports words bytes h = by (request_of words) h
+pub read-tells : (reports : List Event → List ℕ) (words : List (List ℕ)) (bytes : List ℕ) → IsRead words → TellsText words bytes (reply reports words bytes).status
+read-tells reports words bytes h = record { too_long = long (request_of words) h; not_json = json (request_of words) }
   where
-    by : (o : Option Request) → is_read o ≡ true → TellsText bytes (reply_in reports o bytes).status
-    by None h = absurd cc
-    by (Some (request.Read (task.Find asked))) h = let t = input-tells asked reports bytes in record { too_long = t.too_long; not_json = t.not_json }
-    by (Some (request.Read task.Check)) h = let t = check-tells reports bytes in record { too_long = t.too_long; not_json = t.not_json }
-    by (Some (request.Generate n)) h = absurd cc
-    by (Some (request.Demo n)) h = absurd cc
+    long : (o : Option Request) → is_read o ≡ true → ((reply_in reports o bytes).status ≡ 8) ↔ IsTooLong bytes
+    long None h = absurd cc
+    long (Some (request.Read (task.Find asked))) h = (input-tells asked reports bytes).too_long
+    long (Some (request.Read (task.Ask asked))) h = (check-tells asked reports bytes).too_long
+    long (Some (request.Import vehicles)) h = (file-tells vehicles bytes).too_long
+    long (Some (request.Generate n)) h = absurd cc
+    long (Some (request.Demo n)) h = absurd cc
+
+    with_json : {A B : Type 0} (b : Bool) → b ≡ true → A ↔ B → A ↔ ((b ≡ true) × B)
+    with_json b e same = (λ a. (e, same.0 a), λ h. same.1 h.1)
+
+    json : (o : Option Request) → ((reply_in reports o bytes).status ≡ 4) ↔ ((reads_json o ≡ true) × IsNotJson bytes)
+    json None = (λ e. absurd (omega arith), λ h. absurd (let k = h.0 in cc))
+    json (Some (request.Read (task.Find asked))) = with_json true refl (input-tells asked reports bytes).not_json
+    json (Some (request.Read (task.Ask asked))) = with_json true refl (check-tells asked reports bytes).not_json
+    json (Some (request.Import vehicles)) = (λ e. absurd ((file-tells vehicles bytes).json e), λ h. absurd (let k = h.0 in cc))
+    json (Some (request.Generate n)) = (λ e. absurd (omega (arith, e, generated-done n)), λ h. absurd (let k = h.0 in cc))
+    json (Some (request.Demo n)) = (λ e. absurd (omega (arith, e, demo-done n)), λ h. absurd (let k = h.0 in cc))

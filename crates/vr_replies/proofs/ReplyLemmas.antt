@@ -46,7 +46,7 @@ pub refused-printable : (fault : Fault) → IsPrintable (refused_tree fault)
 unfolding refused_tree
 refused-printable fault = record { whole = refl; nested = omega arith }
 
-is_float-whole : (z : ℤ) → is_float (of_integer z) ≡ false
+pub is_float-whole : (z : ℤ) → is_float (of_integer z) ≡ false
 is_float-whole (pos n) = refl
 is_float-whole (negsuc n) = refl
 

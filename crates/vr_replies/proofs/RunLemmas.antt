@@ -3,17 +3,18 @@ use Rattle.std.proofs.Common.{◌≡◌, ◌∙◌, ◌⊎◌, ℕ, List, [], Op
 use Rattle.std.specs.Prelude.{◌≢◌}
 use Rattle.vr_io.specs.Edges.{Rose, Took}
 use Rattle.vr_io.specs.Whole.{TookFront}
+use Rattle.serde_json.specs.Data.{Data}
 use Rattle.vr_json.specs.Trees.{line_of}
 use Rattle.vr_json.specs.declared.fault.Fault.{Fault}
 use Rattle.vr_model.specs.declared.search.Event.{Event}
 use Rattle.vr_replies.specs.Answers.{AnswersReply, IsOfAnswer}
-use Rattle.vr_replies.specs.Causes.{HasFault, IsAnsweredBy}
+use Rattle.vr_replies.specs.Causes.{HasFault, HasFlaw, IsAnsweredBy, IsImportedAs}
 use Rattle.vr_replies.specs.Checked.{checked_of}
 use Rattle.vr_replies.specs.Ended.{Ends, IsCut, IsSilent, IsAnswered, Ran, Responds}
 use Rattle.vr_replies.specs.Input.{model_of}
-use Rattle.vr_replies.specs.Met.{IsBrokenBy, IsMetBy}
-use Rattle.vr_replies.specs.Reply.{Replies, Reply, reply, reply_in}
-use Rattle.vr_replies.specs.Runs.{IsAskedFor, IsChecked, IsNotAccepted, IsRead, IsSettled, IsSolved, IsUnread, WhereAnswered, WhereChecked, WhereSolved, WhereTold}
+use Rattle.vr_replies.specs.Met.{IsBrokenBy, IsMetBy, IsSpannedBy}
+use Rattle.vr_replies.specs.Reply.{Replies, Reply, reply, reply_in, reply_to_file}
+use Rattle.vr_replies.specs.Runs.{Imports, IsAskedFor, IsAsking, IsChecked, IsNotAccepted, IsRead, IsSettled, IsSolved, IsSpanned, IsUnread, WhereAnswered, WhereAsked, WhereImported, WhereSolved, WhereTold}
 use Rattle.vr_replies.specs.Status.{number_of}
 use Rattle.vr_replies.specs.Texts.{refused_tree}
 use Rattle.vr_replies.specs.Words.{is_read}
@@ -21,9 +22,12 @@ use Rattle.vr_replies.specs.declared.answer.Answer.{Answer}
 use Rattle.vr_replies.specs.declared.status.Status.{Status}
 use Rattle.vr_replies.specs.declared.status.Status.TheVariants as all
 use Rattle.vr_replies.specs.declared.words.Mode.{Mode}
+use Rattle.vr_replies.specs.declared.words.Question.TheVariants as question
+use Rattle.vr_replies.specs.declared.words.Request.{Request}
 use Rattle.vr_replies.proofs.CauseLemmas.{TellsFirst, solved-refused, solved-tells}
 use Rattle.vr_replies.proofs.GeneratedLemmas.{or-else, unread-done}
-use Rattle.vr_replies.proofs.MetLemmas.{TellsMet, TellsText, checked_words-find, checked_words-refused, checked_words-tell, nine, read-tells}
+use Rattle.vr_replies.proofs.FileLemmas.{TellsFile, file-refused, file-tells, file-told}
+use Rattle.vr_replies.proofs.MetLemmas.{TellsMet, TellsText, asked_words-find, asked_words-refused, asked_words-tell, kept-met, kept-spanned, nine, read-tells}
 use Rattle.vr_replies.proofs.ReplyLemmas.{reply-answered}
 
 -- ---- statuses
@@ -138,14 +142,19 @@ module _ {K : Type 0} {written : K → Option (List ℕ)} {faults : K → ℕ} {
   unread settled none bytes = let is = is_written settled in written-replies is (is.responds.unread none bytes)
 
   -- which inputs have the status
-  pub tells-text : WhereAnswered words left status (λ bytes. TellsText bytes status)
-  tells-text settled reads bytes told = subst (TellsText bytes) (sym (replies settled bytes told).status) (read-tells reports words bytes reads)
+  pub tells-text : WhereAnswered words left status (λ bytes. TellsText words bytes status)
+  tells-text settled reads bytes told = subst (TellsText words bytes) (sym (replies settled bytes told).status) (read-tells reports words bytes reads)
 
   pub tells-first : WhereSolved words left status (λ bytes. TellsFirst bytes status)
   tells-first settled solves bytes told = subst (TellsFirst bytes) (sym (replies settled bytes told).status) (solved-tells reports words bytes solves)
 
-  pub tells-met : WhereChecked words left status (λ bytes. TellsMet bytes status)
-  tells-met settled checks bytes told = subst (TellsMet bytes) (sym (replies settled bytes told).status) (checked_words-tell reports words bytes checks)
+  pub tells-met : WhereAsked words left status (λ bytes. TellsMet bytes status)
+  tells-met settled asks bytes told = subst (TellsMet bytes) (sym (replies settled bytes told).status) (asked_words-tell asks.0 reports words bytes asks.1)
+
+  pub tells-file : WhereImported words left status (λ vehicles bytes. TellsFile vehicles bytes status)
+  tells-file settled vehicles imports bytes told =
+      let P : Option Request → Type 0 = λ o. TellsFile vehicles bytes (reply_in reports o bytes).status in
+      subst (TellsFile vehicles bytes) (sym (replies settled bytes told).status) (subst P (sym imports) (file-tells vehicles bytes))
 
   -- which texts are written
   pub solution : status ≡ 0 → (asked : Mode) → IsAskedFor asked words → WhereTold left (λ bytes. (text : List ℕ) × IsAnsweredBy asked reports bytes text × Took (written old) (written new) text)
@@ -156,24 +165,42 @@ module _ {K : Type 0} {written : K → Option (List ℕ)} {faults : K → ℕ} {
   pub kept : status ≡ 0 → IsChecked words → WhereTold left (λ bytes. (text : List ℕ) × IsMetBy bytes text × Took (written old) (written new) text)
   kept e checks bytes told =
       let r = replies (settled_by settled_0 e) bytes told in
-      ((reply reports words bytes).text, (checked_words-find reports words bytes checks).met (sym r.status ∙ e), r.written)
+      ((reply reports words bytes).text, kept-met bytes _ ((asked_words-find question.Check reports words bytes checks).met (sym r.status ∙ e)), r.written)
+
+  pub spans : status ≡ 0 → IsSpanned words → WhereTold left (λ bytes. (text : List ℕ) × IsSpannedBy bytes text × Took (written old) (written new) text)
+  spans e asks bytes told =
+      let r = replies (settled_by settled_0 e) bytes told in
+      ((reply reports words bytes).text, kept-spanned bytes _ ((asked_words-find question.Spans reports words bytes asks).met (sym r.status ∙ e)), r.written)
+
+  pub model : status ≡ 0 → (vehicles : ℕ) → Imports vehicles words → WhereTold left (λ bytes. (tree : Data) × IsImportedAs vehicles bytes tree × Took (written old) (written new) (line_of tree))
+  model e vehicles imports bytes told =
+      let r = replies (settled_by settled_0 e) bytes told in
+      let same : reply reports words bytes ≡ reply_to_file vehicles bytes = ap (λ o. reply_in reports o bytes) imports in
+      let is = file-told vehicles bytes (sym (ap (λ reply. reply.status) same) ∙ sym r.status ∙ e) in
+      (is.0, is.1, subst (Took (written old) (written new)) (ap (λ reply. reply.text) same ∙ is.2) r.written)
+
+  pub flaw : status ≡ 5 → (vehicles : ℕ) → Imports vehicles words → WhereTold left (λ bytes. (fault : Fault) → HasFlaw vehicles bytes fault → Took (written old) (written new) (line_of (refused_tree fault)))
+  flaw e vehicles imports bytes told fault has =
+      let same : reply reports words bytes ≡ reply_to_file vehicles bytes = ap (λ o. reply_in reports o bytes) imports in
+      subst (Took (written old) (written new)) (ap (λ reply. reply.text) same ∙ file-refused vehicles bytes fault has) (replies (settled_by settled_5 e) bytes told).written
 
   pub usage_only : status ≡ 1 → IsNotAccepted words
   usage_only e = let is = is_written (settled_by settled_1 e) in is.responds.usage_only (one is.answer.status (sym is.status_is ∙ e))
 
-  pub not_met_only : status ≡ 9 → IsChecked words
+  pub not_met_only : status ≡ 9 → IsAsking words
   not_met_only e = let is = is_written (settled_by settled_9 e) in is.responds.not_met_only (nine is.answer.status (sym is.status_is ∙ e))
 
   pub broken : status ≡ 9 → WhereTold left (λ bytes. (text : List ℕ) × IsBrokenBy bytes text × Took (written old) (written new) text)
   broken e bytes told =
       let r = replies (settled_by settled_9 e) bytes told in
-      ((reply reports words bytes).text, (checked_words-find reports words bytes (not_met_only e)).broken (sym r.status ∙ e), r.written)
+      let asks = not_met_only e in
+      ((reply reports words bytes).text, (asked_words-find asks.0 reports words bytes asks.1).broken (sym r.status ∙ e), r.written)
 
   pub refusal : status ≡ 5 → IsSolved words → WhereTold left (λ bytes. (fault : Fault) → HasFault model_of bytes fault → Took (written old) (written new) (line_of (refused_tree fault)))
   refusal e solves bytes told fault has = subst (Took (written old) (written new)) (solved-refused reports words bytes fault solves has) (replies (settled_by settled_5 e) bytes told).written
 
-  pub check_refusal : status ≡ 5 → IsChecked words → WhereTold left (λ bytes. (fault : Fault) → HasFault checked_of bytes fault → Took (written old) (written new) (line_of (refused_tree fault)))
-  check_refusal e checks bytes told fault has = subst (Took (written old) (written new)) (checked_words-refused reports words bytes fault checks has) (replies (settled_by settled_5 e) bytes told).written
+  pub check_refusal : status ≡ 5 → IsAsking words → WhereTold left (λ bytes. (fault : Fault) → HasFault checked_of bytes fault → Took (written old) (written new) (line_of (refused_tree fault)))
+  check_refusal e asks bytes told fault has = subst (Took (written old) (written new)) (asked_words-refused asks.0 reports words bytes asks.1 fault has) (replies (settled_by settled_5 e) bytes told).written
 
   -- of words that read nothing
   pub usage : IsSettled status → IsNotAccepted words → status ≡ 1

@@ -16,6 +16,14 @@ pub record AnswersReply (reply : Reply) (answer : Answer) : Type 0 where
   pub status_is : number_of answer.status ≡ reply.status
   pub text_is : answer.text ≡ reply.text
 
+-- the reply that an answer is
+abbrev pub replied : Answer → Reply
+replied answer = record { status = number_of answer.status; text = answer.text }
+
+-- the status of an answer to a file
+abbrev pub IsOfFile : Status → Type 0
+IsOfFile status = (status ≡ all.Done) ⊎ (status ≡ all.Refused)
+
 -- the status of an answer to a model
 abbrev pub IsOfModel : Status → Type 0
 IsOfModel status = (status ≡ all.Done) ⊎ (status ≡ all.NoneFound)
@@ -24,7 +32,7 @@ IsOfModel status = (status ≡ all.Done) ⊎ (status ≡ all.NoneFound)
 abbrev pub IsOfSolving : Status → Type 0
 IsOfSolving status = IsOfModel status ⊎ (status ≡ all.Refused)
 
--- the status of an answer to a value whose solution is checked
+-- the status of an answer to a value about whose solution something is asked
 abbrev pub IsOfChecking : Status → Type 0
 IsOfChecking status = (status ≡ all.Done) ⊎ (status ≡ all.NotMet) ⊎ (status ≡ all.Refused)
 

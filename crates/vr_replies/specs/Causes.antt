@@ -10,6 +10,7 @@ use Rattle.vr_replies.specs.Found.{Found, answer, line_of_found}
 use Rattle.vr_replies.specs.Reply.{with_reports}
 use Rattle.vr_replies.specs.Solutions.{PrintsSolution}
 use Rattle.vr_replies.specs.declared.words.Mode.{Mode}
+use Rattle.vr_tsplib.specs.Imported.{imported}
 
 -- it has too many bytes
 abbrev pub IsTooLong : List ℕ → Type 0
@@ -37,6 +38,24 @@ pub record IsReadAs {A : Type 0} (read : Data → Result A Fault) (bytes : List 
 -- it is JSON whose value is refused
 abbrev pub IsRefused : {A : Type 0} → (Data → Result A Fault) → List ℕ → Type 0
 IsRefused read bytes = (fault : Fault) × HasFault read bytes fault
+
+-- it is a file, and this is its first fault
+pub record HasFlaw (vehicles : ℕ) (bytes : List ℕ) (fault : Fault) : Type 0 where
+  pub short : length bytes ≤ max_input
+  pub is_fault : imported vehicles bytes ≡ Err fault
+
+-- it is a file, and this is the tree of its model with so many vehicles
+pub record IsImportedAs (vehicles : ℕ) (bytes : List ℕ) (tree : Data) : Type 0 where
+  pub short : length bytes ≤ max_input
+  pub is_tree : imported vehicles bytes ≡ Ok tree
+
+-- it is a file with a fault
+abbrev pub IsFlawed : ℕ → List ℕ → Type 0
+IsFlawed vehicles bytes = (fault : Fault) × HasFlaw vehicles bytes fault
+
+-- it is a file without a fault
+abbrev pub IsFile : ℕ → List ℕ → Type 0
+IsFile vehicles bytes = (tree : Data) × IsImportedAs vehicles bytes tree
 
 -- it is this model
 abbrev pub IsModel : List ℕ → Model → Type 0

@@ -1,4 +1,4 @@
--- What `check` reads, and what it finds.
+-- What `check` and `spans` read, and what a check finds of it.
 use Rattle.std.specs.Prelude.{ℕ, Bool, true, false, List, [], ◌∷◌, codes, Result, Ok}
 use Rattle.serde_json.specs.Data.{Data}
 use Rattle.vr_json.specs.Reading.{◌>>=◌, ReaderOf, required, known}
@@ -14,6 +14,10 @@ pub record Checked : Type 0 where
   pub model : Model
   pub solution : Data
 
+-- a model and a tree beside it
+abbrev pub checked_pair : Model → Data → Checked
+checked_pair model solution = record { model = model; solution = solution }
+
 -- any tree, as it stands
 abbrev pub any_tree : ReaderOf Data
 any_tree path d = Ok d
@@ -27,7 +31,7 @@ abbrev pub checked_with : Model → ReaderOf Checked
 checked_with model path d = do
   solution ← required (codes "solution") any_tree path d
   others ← known checked_fields path d
-  Ok (record { model = model; solution = solution })
+  Ok (checked_pair model solution)
 
 -- what is checked, or the first fault: those of the model at its place, then those behind it
 unfoldable pub checked_at : ReaderOf Checked

@@ -5,7 +5,7 @@ use Rattle.vr_io.specs.Whole.{TookFront}
 use Rattle.vr_model.specs.declared.search.Event.{Event}
 use Rattle.vr_replies.specs.Answers.{AnswersReply, IsOfAnswer}
 use Rattle.vr_replies.specs.Reply.{reply}
-use Rattle.vr_replies.specs.Runs.{IsChecked, IsNotAccepted, IsRead, IsUnread, WhereTold}
+use Rattle.vr_replies.specs.Runs.{IsAsking, IsNotAccepted, IsRead, IsUnread, WhereTold}
 use Rattle.vr_replies.specs.Status.{number_of}
 use Rattle.vr_replies.specs.declared.answer.Answer.{Answer}
 use Rattle.vr_replies.specs.declared.status.Status.{Status}
@@ -17,7 +17,7 @@ pub record Responds (reports : List Event → List ℕ) (words : List (List ℕ)
   pub replies : WhereTold left (λ bytes. AnswersReply (reply reports words bytes) answer)
   pub unread : IsUnread words → (bytes : List ℕ) → AnswersReply (reply reports words bytes) answer
   pub usage_only : answer.status ≡ all.Usage → IsNotAccepted words
-  pub not_met_only : answer.status ≡ all.NotMet → IsChecked words
+  pub not_met_only : answer.status ≡ all.NotMet → IsAsking words
   pub emptied : IsRead words → answer.status ≢ all.TooLong → WhereTold left (λ bytes. rest ≡ Some [])
   pub settled : IsOfAnswer answer.status
 

@@ -5,6 +5,9 @@ pub mod Found
 pub mod Bests
 pub mod Checked
 pub mod Texts
+pub mod Shortest
+pub mod Spans
+pub mod Told
 pub mod Reports
 pub mod Reply
 pub mod Solutions

@@ -1,5 +1,5 @@
 -- What the program answers.
-use Rattle.std.specs.Prelude.{◌≡◌, ◌++◌, ℕ, List, Option, Some, None, Result, Ok, Err, codes, nat_lt, length}
+use Rattle.std.specs.Prelude.{◌≡◌, ◌++◌, ℕ, ℤ, List, Option, Some, None, Result, Ok, Err, codes, nat_lt, length}
 use Rattle.std.specs.Prelude.{if◌then◌else◌}
 use Rattle.serde_json.specs.Data.{Data}
 use Rattle.vr_json.specs.Trees.{line_of}
@@ -9,18 +9,23 @@ use Rattle.vr_model.specs.declared.search.Event.{Event}
 use Rattle.vr_io.specs.Edges.{Took}
 use Rattle.vr_check.specs.declared.finding.Finding.{Finding}
 use Rattle.vr_check.specs.declared.finding.Finding.TheVariants.{Meets, Broken}
+use Rattle.vr_check.specs.declared.finding.Rule.{Rule}
 use Rattle.vr_replies.specs.Words.{request_of}
 use Rattle.vr_replies.specs.Input.{max_input, value_of, model_of}
 use Rattle.vr_replies.specs.Texts.{status_tree, refused_tree, met_tree, not_met_tree, summary_of, summary_tree}
 use Rattle.vr_replies.specs.Checked.{Checked, checked_of, found_in}
+use Rattle.vr_replies.specs.Spans.{spans_of}
 use Rattle.vr_replies.specs.Found.{Found, answer, line_of_found}
 use Rattle.vr_replies.specs.declared.words.Mode.{Mode}
 use Rattle.vr_replies.specs.declared.words.Mode.TheVariants as mode
+use Rattle.vr_replies.specs.declared.words.Question.{Question}
+use Rattle.vr_replies.specs.declared.words.Question.TheVariants as question
 use Rattle.vr_replies.specs.declared.words.Request.{Request}
 use Rattle.vr_replies.specs.declared.words.Request.TheVariants as request
 use Rattle.vr_replies.specs.declared.words.Task.{Task}
 use Rattle.vr_replies.specs.declared.words.Task.TheVariants as task
 use Rattle.vr_gen.specs.Generated.{generated}
+use Rattle.vr_tsplib.specs.Imported.{imported}
 
 -- a status and a text
 pub record Reply : Type 0 where
@@ -72,21 +77,33 @@ abbrev pub reply_to_model : Mode → (List Event → List ℕ) → Result Model 
 reply_to_model asked reports (Err fault) = refused fault
 reply_to_model asked reports (Ok model) = reply_to_found asked reports model (answer asked model)
 
--- the reply to what a check finds
-abbrev pub reply_to_finding : Finding → Reply
-reply_to_finding (Meets cost) = done (line_of (met_tree cost))
-reply_to_finding (Broken rule vehicle place) =
-    record { status = 9; text = line_of (not_met_tree rule vehicle place) }
+-- the tree that answers a question about a solution that meets the rules of its model and costs so much
+abbrev pub answer_tree : Question → Checked → ℤ → Data
+answer_tree question.Check it cost = met_tree cost
+answer_tree question.Spans it cost = spans_of it
 
--- the reply to a model and the solution that is checked against it, or to the first fault
-abbrev pub reply_to_checked : Result Checked Fault → Reply
-reply_to_checked (Err fault) = refused fault
-reply_to_checked (Ok it) = reply_to_finding (found_in it)
+-- the solution breaks this rule of its model, there
+abbrev pub broken : Rule → ℤ → ℤ → Reply
+broken rule vehicle place = record { status = 9; text = line_of (not_met_tree rule vehicle place) }
+
+-- the reply to a question, by what the check of the solution finds
+abbrev pub reply_to_finding : Question → Checked → Finding → Reply
+reply_to_finding asked it (Meets cost) = done (line_of (answer_tree asked it cost))
+reply_to_finding asked it (Broken rule vehicle place) = broken rule vehicle place
+
+-- the reply to a question about a model and a solution
+abbrev pub reply_to_question : Question → Checked → Reply
+reply_to_question asked it = reply_to_finding asked it (found_in it)
+
+-- the same, or the reply to the first fault
+abbrev pub reply_to_checked : Question → Result Checked Fault → Reply
+reply_to_checked asked (Err fault) = refused fault
+reply_to_checked asked (Ok it) = reply_to_question asked it
 
 -- the reply to a tree
 abbrev pub reply_to_tree : Task → (List Event → List ℕ) → Data → Reply
 reply_to_tree (task.Find asked) reports d = reply_to_model asked reports (model_of d)
-reply_to_tree task.Check reports d = reply_to_checked (checked_of d)
+reply_to_tree (task.Ask asked) reports d = reply_to_checked asked (checked_of d)
 
 -- the reply to a value, if there is one
 abbrev pub reply_to_value : Task → (List Event → List ℕ) → Option Data → Reply
@@ -97,6 +114,16 @@ reply_to_value it reports (Some d) = reply_to_tree it reports d
 unfoldable pub reply_to_input : Task → (List Event → List ℕ) → List ℕ → Reply
 reply_to_input it reports bytes =
     if nat_lt max_input (length bytes) then too_long else reply_to_value it reports (value_of bytes)
+
+-- the reply to what is imported of a file
+abbrev pub reply_to_imported : Result Data Fault → Reply
+reply_to_imported (Err fault) = refused fault
+reply_to_imported (Ok tree) = done (line_of tree)
+
+-- the reply to the bytes of a file, with so many vehicles
+unfoldable pub reply_to_file : ℕ → List ℕ → Reply
+reply_to_file vehicles bytes =
+    if nat_lt max_input (length bytes) then too_long else reply_to_imported (imported vehicles bytes)
 
 -- the reply that is the model of a number
 unfoldable pub reply_generated : ℕ → Reply
@@ -118,6 +145,7 @@ reply_of_demo n = summary_of_model n (model_of (generated n))
 abbrev pub reply_in : (List Event → List ℕ) → Option Request → List ℕ → Reply
 reply_in reports None bytes = usage
 reply_in reports (Some (request.Read it)) bytes = reply_to_input it reports bytes
+reply_in reports (Some (request.Import vehicles)) bytes = reply_to_file vehicles bytes
 reply_in reports (Some (request.Generate n)) bytes = reply_generated n
 reply_in reports (Some (request.Demo n)) bytes = reply_of_demo n
 

@@ -1,20 +1,25 @@
-//! The answer to a model with a solution beside it: whether this keeps the rules of that.
+//! The answer to a question about a model and a solution beside it: whether this keeps the rules of that, or how short
+//! its routes could be.
 
-ghost use Rattle.std.specs.Prelude.{IfOk, codes};
+ghost use Rattle.std.specs.Prelude.{◌≡◌, IfOk, codes};
 ghost use Rattle.serde_json.specs.View.{view};
+ghost use Rattle.vr_check.specs.Check.{finding};
+ghost use Rattle.vr_check.specs.declared.finding.Finding.TheVariants.{Meets};
 ghost use Rattle.vr_json.specs.Reading.{Answers, required as field_of, seen};
 ghost use Rattle.vr_model.specs.tables.WellFormed.{IsWellFormed};
 ghost use Rattle.vr_read.specs.Models.{read_model as model_at};
-ghost use Rattle.vr_replies.specs.Answers.{AnswersReply, IsOfChecking};
-ghost use Rattle.vr_replies.specs.Checked.{any_tree, checked_at, checked_of, checked_with, found_in};
+ghost use Rattle.vr_replies.specs.Answers.{AnswersReply, IsOfChecking, replied};
+ghost use Rattle.vr_replies.specs.Checked.{any_tree, checked_at, checked_of, checked_pair, checked_with};
 ghost use Rattle.vr_replies.specs.Reply as replies;
 
 use crate::answer::{Answer, line, refused};
+use crate::spans::spans_tree;
 use crate::status::Status;
 use crate::texts::{met_tree, not_met_tree};
+use crate::words::Question;
 use serde_json::Value;
 use std::alloc::Global;
-use vr_check::{Finding, check};
+use vr_check::{Finding, Rule, check};
 use vr_json::{Cause, Path, Place, ReadFail, Reader, field, known, required, settle};
 use vr_model::{Model, NoMemory};
 use vr_read::read_model;
@@ -63,77 +68,126 @@ fn solution_in<'a>(alloc: Global, value: &'a Value, path: &Path) -> Result<&'a V
     }
 }
 
-// What the check of a model finds of the solution beside it, in an object of these two.
-fn finding_with(
+// The answer to a question about a solution that meets the rules of its model, and costs so much.
+fn answer_met(
     alloc: Global,
+    question: Question,
     model: &Model,
-    value: &Value,
-    path: &Path,
-) -> Result<Finding, ReadFail>
-    requires { IsWellFormed model.now }
-    ensures { Answers result (seen found_in (checked_with model.now path.now (view value.now))) }
-{
-    let solution = solution_in(alloc, value, path)?;
-    known(alloc, value, &["model", "solution"], path)?;
-    let found = check(alloc, model, solution)?;
-    Ok(found)
-}
-
-// What the check of a model and a solution finds, in an object of these two.
-fn finding_in(alloc: Global, value: &Value, path: &Path) -> Result<Finding, ReadFail>
-    ensures { Answers result (seen found_in (checked_at path.now (view value.now))) }
-{
-    let model = model_in(alloc, value, path)?;
-    finding_with(alloc, &model, value, path)
-}
-
-// The same, where that object is the whole input.
-fn finding_of(alloc: Global, value: &Value) -> Result<Finding, ReadFail>
-    ensures { Answers result (seen found_in (checked_of (view value.now))) }
-{
-    let path = Path::root(alloc);
-    let found = finding_in(alloc, value, &path)?;
-    Ok(found)
-}
-
-// The answer that tells what a check finds.
-fn told(alloc: Global, found: Finding) -> Result<Answer, NoMemory>
-    ensures reply { IfOk result (AnswersReply (replies.reply_to_finding found)) }
+    solution: &Value,
+    cost: i64,
+) -> Result<Answer, NoMemory>
+    requires well_formed { IsWellFormed model.now }
+    requires meets { finding model.now (view solution.now) ≡ Meets cost }
+    ensures reply { let it = checked_pair model.now (view solution.now) in
+        IfOk result (AnswersReply (replies.reply_to_finding question it (Meets cost))) }
     ensures status { IfOk result (λ a. IsOfChecking a.status) }
 {
-    match found {
-        Finding::Meets { cost } => {
+    match question {
+        Question::Check => {
             let tree = met_tree(alloc, cost)?;
             line(alloc, Status::Done, &tree)
         }
-        Finding::Broken {
-            rule,
-            vehicle,
-            place,
-        } => {
-            let tree = not_met_tree(alloc, rule, vehicle, place)?;
-            line(alloc, Status::NotMet, &tree)
+        Question::Spans => {
+            let tree = spans_tree(alloc, model, solution)?;
+            line(alloc, Status::Done, &tree)
         }
     }
 }
 
-// The answer to a value whose solution is checked.
-fn answer_borrowed(alloc: Global, value: &Value) -> Result<Answer, NoMemory>
-    ensures reply { IfOk result (AnswersReply (replies.reply_to_checked (checked_of (view value.now)))) }
+// The answer that tells of the first rule that a solution breaks.
+fn answer_broken(alloc: Global, rule: Rule, vehicle: i64, place: i64) -> Result<Answer, NoMemory>
+    ensures reply { IfOk result (AnswersReply (replies.broken rule vehicle place)) }
     ensures status { IfOk result (λ a. IsOfChecking a.status) }
 {
-    match finding_of(alloc, value) {
-        Ok(found) => told(alloc, found),
+    let tree = not_met_tree(alloc, rule, vehicle, place)?;
+    line(alloc, Status::NotMet, &tree)
+}
+
+// The answer to a question about a solution of a model.
+fn answer_pair(
+    alloc: Global,
+    question: Question,
+    model: &Model,
+    solution: &Value,
+) -> Result<Answer, NoMemory>
+    requires { IsWellFormed model.now }
+    ensures reply { let it = checked_pair model.now (view solution.now) in
+        IfOk result (AnswersReply (replies.reply_to_question question it)) }
+    ensures status { IfOk result (λ a. IsOfChecking a.status) }
+{
+    match check(alloc, model, solution)? {
+        Finding::Meets { cost } => answer_met(alloc, question, model, solution, cost),
+        Finding::Broken {
+            rule,
+            vehicle,
+            place,
+        } => answer_broken(alloc, rule, vehicle, place),
+    }
+}
+
+// The answer to a question about the solution beside a model that was read, in an object of these two.
+fn answer_with(
+    alloc: Global,
+    question: Question,
+    model: &Model,
+    value: &Value,
+    path: &Path,
+) -> Result<Answer, ReadFail>
+    requires { IsWellFormed model.now }
+    ensures reply { let reading = checked_with model.now path.now (view value.now) in
+        Answers (seen replied result) (seen (replies.reply_to_question question) reading) }
+    ensures status { IfOk result (λ a. IsOfChecking a.status) }
+{
+    let solution = solution_in(alloc, value, path)?;
+    known(alloc, value, &["model", "solution"], path)?;
+    let answer = answer_pair(alloc, question, model, solution)?;
+    Ok(answer)
+}
+
+// The answer to a question about a model and a solution, in an object of these two.
+fn answer_in(
+    alloc: Global,
+    question: Question,
+    value: &Value,
+    path: &Path,
+) -> Result<Answer, ReadFail>
+    ensures reply { let reading = checked_at path.now (view value.now) in
+        Answers (seen replied result) (seen (replies.reply_to_question question) reading) }
+    ensures status { IfOk result (λ a. IsOfChecking a.status) }
+{
+    let model = model_in(alloc, value, path)?;
+    answer_with(alloc, question, &model, value, path)
+}
+
+// The same, where that object is the whole input.
+fn answer_of(alloc: Global, question: Question, value: &Value) -> Result<Answer, ReadFail>
+    ensures reply { let reading = checked_of (view value.now) in
+        Answers (seen replied result) (seen (replies.reply_to_question question) reading) }
+    ensures status { IfOk result (λ a. IsOfChecking a.status) }
+{
+    let path = Path::root(alloc);
+    let answer = answer_in(alloc, question, value, &path)?;
+    Ok(answer)
+}
+
+// The answer to a question about a value.
+fn answer_borrowed(alloc: Global, question: Question, value: &Value) -> Result<Answer, NoMemory>
+    ensures reply { IfOk result (AnswersReply (replies.reply_to_checked question (checked_of (view value.now)))) }
+    ensures status { IfOk result (λ a. IsOfChecking a.status) }
+{
+    match answer_of(alloc, question, value) {
+        Ok(answer) => Ok(answer),
         Err(ReadFail::Refused(fault)) => refused(alloc, &fault),
         Err(ReadFail::NoMemory) => Err(NoMemory),
     }
 }
 
-/// The answer to a value whose solution is checked against the model beside it. The value is let go at the end.
-/// `NoMemory` where there was no memory.
-pub fn answer_checked(alloc: Global, value: Value) -> Result<Answer, NoMemory>
-    ensures reply { IfOk result (AnswersReply (replies.reply_to_checked (checked_of (view value)))) }
+/// The answer to a question about a value, an object of a model and a solution: what is asked where the solution keeps
+/// all rules of the model, else the first rule that it breaks; or the first fault of the value. The value is let go at
+/// the end. `NoMemory` where there was no memory.
+pub fn answer_checked(alloc: Global, question: Question, value: Value) -> Result<Answer, NoMemory>
+    ensures reply { IfOk result (AnswersReply (replies.reply_to_checked question (checked_of (view value)))) }
     ensures status { IfOk result (λ a. IsOfChecking a.status) }
 {
-    answer_borrowed(alloc, &value)
+    answer_borrowed(alloc, question, &value)
 }

@@ -16,6 +16,21 @@ returns-clause-met g c = λ settled checks bytes told. (run.tells-met c.run_watc
 pub returns-clause-kept : goal.returns-clause-kept
 returns-clause-kept g c = run.kept c.run_watched.ensures.ran
 
+pub returns-clause-spans : goal.returns-clause-spans
+returns-clause-spans g c = run.spans c.run_watched.ensures.ran
+
+pub returns-clause-imported : goal.returns-clause-imported
+returns-clause-imported g c = λ settled vehicles imports bytes told. (run.tells-file c.run_watched.ensures.ran settled vehicles imports bytes told).done
+
+pub returns-clause-model : goal.returns-clause-model
+returns-clause-model g c = run.model c.run_watched.ensures.ran
+
+pub returns-clause-flawed : goal.returns-clause-flawed
+returns-clause-flawed g c = λ settled vehicles imports bytes told. (run.tells-file c.run_watched.ensures.ran settled vehicles imports bytes told).flawed
+
+pub returns-clause-flaw : goal.returns-clause-flaw
+returns-clause-flaw g c = run.flaw c.run_watched.ensures.ran
+
 pub returns-clause-not_met : goal.returns-clause-not_met
 returns-clause-not_met g c = λ settled checks bytes told. (run.tells-met c.run_watched.ensures.ran settled checks bytes told).undone
 
