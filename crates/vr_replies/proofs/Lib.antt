@@ -10,3 +10,7 @@ pub mod ShortestLemmas
 pub mod SpanLemmas
 pub mod FileLemmas
 pub mod RunLemmas
+pub mod ImportedFiles
+pub mod ImportedMatrices
+pub mod ImportedTables
+pub mod ImportedModels

@@ -17,3 +17,4 @@ pub mod Answers
 pub mod Runs
 pub mod Ended
 pub mod Printing
+pub mod ImportLaws

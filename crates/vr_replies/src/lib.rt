@@ -27,7 +27,7 @@ pub use answer::{Answer, none_found, not_json, refused, too_long, usage};
 pub use checked::answer_checked;
 pub use files::answer_file;
 pub use input::{parse_owned, read_owned};
-pub use laws::printed_meets;
+pub use laws::{imported_trees_are_models, printed_meets};
 pub use logs::done;
 pub use numbered::{generated, summarised};
 pub use status::Status;
