@@ -21,7 +21,7 @@ use Rattle.vr_printed.specs.Printed.{no_route, visits_of, lists_of, assignment_o
 use Rattle.vr_printed.specs.Shape.{plan_in, are_routes_shaped, is_route_shaped}
 use Rattle.vr_printed.specs.declared.printed.PrintedRoute.{PrintedRoute}
 use Rattle.vr_printed.proofs.Shaped.{lengths_of, plans_there, visits_long, route_shaped}
-use Rattle.vr_check.specs.Parts.{soft_at, soft_along, soft_in, first_cumul, last_cumul, span_in, widened, ends_with, span_of_ends}
+use Rattle.vr_check.specs.Terms.{soft_at, soft_along, soft_in, first_cumul, last_cumul, span_in, widened, ends_with, span_of_ends}
 use Rattle.vr_check.specs.declared.spans.Ends.{Ends}
 use Rattle.vr_check.proofs.PrintedLists.{route_is}
 use Rattle.vr_check.proofs.Scheduled.{plan_is_printed, long_enough}

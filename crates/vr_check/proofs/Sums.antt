@@ -5,7 +5,7 @@ use Rattle.std.proofs.Math.IntN.{zero-*ℤ, suc_ℤ-*ℤ}
 use Rattle.std.proofs.lemmas.Int.{ints}
 use Rattle.vr_model.specs.tables.Limits.{greatest_cost}
 use Rattle.vr_model.specs.tables.WellFormed.{IsIn}
-use Rattle.vr_check.specs.Parts.{IsAround}
+use Rattle.vr_check.specs.Terms.{IsAround}
 
 -- n times a number that lies within 2^66
 scaled : (n : ℕ) (b : ℤ) → IsAround (2 ^ 66) b → IsAround (2 ^ 66 * n) (pos n *ℤ b)

@@ -13,7 +13,7 @@ use Rattle.vr_model.specs.deciding.Testing.{and_right}
 use Rattle.vr_model.specs.declared.records.Pair.{Pair}
 use Rattle.vr_model.specs.declared.records.Policy.{Policy}
 use Rattle.vr_model.specs.declared.records.Policy.TheVariants.{Any, Lifo, Fifo}
-use Rattle.vr_check.specs.Pairs.{places_of, are_in_order, is_in_order}
+use Rattle.vr_check.specs.Terms.{places_of, are_in_order, is_in_order}
 
 -- the rest of a list, as a slice is said
 pub rest_of : (xs : List ℕ) (k : ℕ) → take (length xs - k) (drop k xs) ≡ drop k xs

@@ -1,9 +1,9 @@
 -- The rules on printed plans: cumuls, slacks and breaks.
-use Rattle.std.specs.Prelude.{ℕ, suc, ◌-◌, Bool, not, ◌&&◌, List, length, ℤ, pos, ◌-ℤ◌, int_le, slice_index_or, Option}
+use Rattle.std.specs.Prelude.{ℕ, suc, ◌-◌, Bool, not, ◌&&◌, List, length, pos, int_le, slice_index_or, Option}
 use Rattle.std.specs.List.{list_all}
 use Rattle.vr_model.specs.tables.Numbers.{below, within}
 use Rattle.vr_model.specs.schedules.Lines.{Line, line}
-use Rattle.vr_model.specs.schedules.Schedules.{Plan, both_sides, allows, cumul, slack, arc_at, break_at}
+use Rattle.vr_model.specs.schedules.Schedules.{Plan, both_sides, allows, cumul, slack, break_at}
 use Rattle.vr_model.specs.schedules.Schedules.{break_start, break_end, break_time}
 use Rattle.vr_model.specs.deciding.ScheduleTests.{slack_is, is_placed}
 use Rattle.vr_model.specs.declared.records.Model.{Model}
@@ -21,10 +21,6 @@ cumul_broken_at line v plan k = where_wrong (not (allows line k (cumul plan k)))
 -- where a stop does not allow its cumul
 abbrev pub cumul_broken : Line → ℕ → Plan → Option Spot
 cumul_broken line v plan = first_of (cumul_broken_at line v plan) (below (length plan.cumuls))
-
--- what the cumuls of arc k leave over its transit
-abbrev pub left_over : Line → Plan → ℕ → ℤ
-left_over line plan k = (cumul plan (suc k) -ℤ cumul plan k) -ℤ (arc_at line k).transit
 
 -- a slack is what its cumuls leave over the transit, and in 0..=slack_max
 abbrev pub is_right_slack : Line → Plan → ℕ → Bool

@@ -1,5 +1,5 @@
 -- The rules on which visits are active.
-use Rattle.std.specs.Prelude.{ℕ, Bool, not, ◌&&◌, ◌==◌, nat_lt, List, length, slice_index_or, None, Option, []}
+use Rattle.std.specs.Prelude.{ℕ, Bool, not, ◌&&◌, List, length, slice_index_or, None, Option, []}
 use Rattle.vr_model.specs.tables.Numbers.{below}
 use Rattle.vr_model.specs.tables.Tables.{is_visit}
 use Rattle.vr_model.specs.routes.Routes.{is_same, is_active, inactive}
@@ -16,10 +16,6 @@ dropped_broken model lists dropped = where_wrong (not (is_same dropped (inactive
 -- the node is an inactive visit
 abbrev pub is_inactive : Model → List (List ℕ) → ℕ → Bool
 is_inactive model lists node = is_visit model node && not (is_active lists node)
-
--- the node stands at place k of a list
-abbrev pub is_next : List ℕ → ℕ → ℕ → Bool
-is_next list k node = nat_lt k (length list) && (slice_index_or list k 0 == node)
 
 -- the node is an inactive visit in no group
 abbrev pub is_missing : Model → List (List ℕ) → ℕ → Bool

@@ -8,7 +8,7 @@ ghost use Rattle.vr_model.specs.routes.Rules.{active_in};
 ghost use Rattle.vr_model.specs.tables.Tables.{is_visit, vehicle_at};
 ghost use Rattle.vr_model.specs.tables.Limits.{greatest_cost};
 ghost use Rattle.vr_model.specs.tables.WellFormed.{IsIn, IsWellFormed, WherePresent};
-ghost use Rattle.vr_check.specs.Parts.{IsAround};
+ghost use Rattle.vr_check.specs.Terms.{IsAround};
 
 use crate::numbers::times;
 use crate::visits::active_in as count_active;

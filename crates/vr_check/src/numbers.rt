@@ -9,9 +9,9 @@ ghost use Rattle.vr_model.specs.routes.Routes.{are_lists};
 ghost use Rattle.vr_printed.specs.Printed.{lists_of};
 ghost use Rattle.vr_printed.specs.Shape.{are_routes_shaped};
 ghost use Rattle.vr_check.specs.Findings as findings;
-ghost use Rattle.vr_check.specs.Parts.{IsAround, cost_broken, first_cost_broken, limits_broken, part_broken};
-ghost use Rattle.vr_check.specs.Parts.{parts_broken};
 ghost use Rattle.vr_check.specs.Parts as part_rules;
+ghost use Rattle.vr_check.specs.Parts.{cost_broken, first_cost_broken, limits_broken, part_broken, parts_broken};
+ghost use Rattle.vr_check.specs.Terms.{IsAround};
 
 use crate::costs::{arcs_of, fixed_of, penalty_of};
 use crate::finding::Spot;

@@ -6,7 +6,9 @@ ghost use Rattle.vr_model.specs.moves.Moves as moves;
 ghost use Rattle.vr_model.specs.routes.Rules as rules;
 ghost use Rattle.vr_model.specs.routes.Rules.{pairs_in};
 ghost use Rattle.vr_check.specs.Pairs as pairs;
-ghost use Rattle.vr_check.specs.Pairs.{allowed_broken, allowed_broken_of, pair_broken, policy_broken, places_of};
+ghost use Rattle.vr_check.specs.Pairs.{allowed_broken, allowed_broken_of, pair_broken, policy_broken};
+ghost use Rattle.vr_check.specs.Terms as terms;
+ghost use Rattle.vr_check.specs.Terms.{places_of};
 
 use crate::finding::Spot;
 use crate::held::holds;
@@ -90,7 +92,7 @@ fn places_in(alloc: Global, model: &Model, list: &[u32]) -> Result<Seq<Places>, 
 
 // Whether a policy lets two pairs stand at these places.
 fn are_in_order(policy: Policy, x: Places, y: Places) -> bool
-    ensures { result ≡ pairs.are_in_order policy x y }
+    ensures { result ≡ terms.are_in_order policy x y }
 {
     match policy {
         Policy::Any => true,
@@ -103,14 +105,14 @@ fn are_in_order(policy: Policy, x: Places, y: Places) -> bool
 
 // Whether a policy lets a pair and each of some others stand at their places.
 fn is_in_order(policy: Policy, x: Places, places: &[Places]) -> bool
-    ensures { result ≡ pairs.is_in_order policy places.now x }
+    ensures { result ≡ terms.is_in_order policy places.now x }
 {
     places.iter().all(|&y| are_in_order(policy, x, y))
 }
 
 // Whether a policy lets each two of some pairs stand at their places.
 fn all_in_order(policy: Policy, places: &[Places]) -> bool
-    ensures { result ≡ list_all (pairs.is_in_order policy places.now) places.now }
+    ensures { result ≡ list_all (terms.is_in_order policy places.now) places.now }
 {
     places.iter().all(|&x| is_in_order(policy, x, places))
 }

@@ -12,6 +12,7 @@ ghost use Rattle.vr_check.specs.Asked.{FitsLine, IsAsked, line_of};
 ghost use Rattle.vr_check.specs.Plans as plans;
 ghost use Rattle.vr_check.specs.Plans.{break_broken, cumul_broken, plan_broken, route_broken, routes_broken};
 ghost use Rattle.vr_check.specs.Plans.{slack_broken};
+ghost use Rattle.vr_check.specs.Terms as terms;
 ghost use Rattle.vr_printed.specs.Printed.{lists_of, plan_of, visits_of};
 ghost use Rattle.vr_printed.specs.Shape.{are_routes_shaped, is_route_shaped};
 
@@ -65,7 +66,7 @@ fn left_over(asked: Asked<'_>, plan: &PrintedPlan, k: usize) -> i128
     requires asked { IsAsked asked }
     requires fits { FitsLine asked plan.now }
     requires arc { k < length plan.now.slacks }
-    ensures { result ≡ plans.left_over (line_of asked.entry) (plan_of plan.now) k }
+    ensures { result ≡ terms.left_over (line_of asked.entry) (plan_of plan.now) k }
 {
     let span = i128::from(cumul_at(plan, k + 1)) - i128::from(cumul_at(plan, k));
     span - i128::from(asked.transit(k))

@@ -13,7 +13,7 @@ ghost use Rattle.vr_model.specs.routes.Routes.{are_lists};
 ghost use Rattle.vr_printed.specs.Printed.{assignment_of, lists_of, visits_of};
 ghost use Rattle.vr_printed.specs.Shape.{are_routes_shaped, is_route_shaped};
 ghost use Rattle.vr_check.specs.Asked.{FitsLine, IsAsked, stop_rows_of};
-ghost use Rattle.vr_check.specs.Parts.{IsAround, soft_along, soft_in};
+ghost use Rattle.vr_check.specs.Terms.{IsAround, soft_along, soft_in};
 
 use crate::asked::Asked;
 use crate::numbers::times;

@@ -8,8 +8,8 @@ ghost use Rattle.vr_model.specs.tables.Tables.{dimension_at};
 ghost use Rattle.vr_model.specs.routes.Costs.{global_part, global_span, span_part};
 ghost use Rattle.vr_printed.specs.Printed.{assignment_of};
 ghost use Rattle.vr_printed.specs.Shape.{are_routes_shaped, is_route_shaped, plan_in};
-ghost use Rattle.vr_check.specs.Parts as parts;
-ghost use Rattle.vr_check.specs.Parts.{IsAround, span_along, span_in};
+ghost use Rattle.vr_check.specs.Terms as terms;
+ghost use Rattle.vr_check.specs.Terms.{IsAround, span_along, span_in};
 
 use crate::numbers::times;
 use crate::plans::cumul_at;
@@ -19,7 +19,7 @@ use vr_printed::{PrintedPlan, PrintedRoute};
 // The first cumul.
 fn first_of(plan: &PrintedPlan) -> i64
     requires { 0 < length plan.now.cumuls }
-    ensures { result ≡ parts.first_cumul plan.now.cumuls }
+    ensures { result ≡ terms.first_cumul plan.now.cumuls }
 {
     cumul_at(plan, 0)
 }
@@ -27,7 +27,7 @@ fn first_of(plan: &PrintedPlan) -> i64
 // The last cumul.
 fn last_of(plan: &PrintedPlan) -> i64
     requires { 0 < length plan.now.cumuls }
-    ensures { result ≡ parts.last_cumul plan.now.cumuls }
+    ensures { result ≡ terms.last_cumul plan.now.cumuls }
 {
     cumul_at(plan, plan.cumuls.len() - 1)
 }
@@ -103,7 +103,7 @@ pub(crate) struct Ends {
 
 // The ends with a further start and end.
 fn widened(ends: Option<Ends>, first: i64, last: i64) -> Ends
-    ensures { result ≡ parts.widened ends first last }
+    ensures { result ≡ terms.widened ends first last }
 {
     match ends {
         None => Ends { first, last },
@@ -117,7 +117,7 @@ fn widened(ends: Option<Ends>, first: i64, last: i64) -> Ends
 // The ends with a further route, where it is used.
 fn ends_with(ends: Option<Ends>, route: &PrintedRoute, d: usize) -> Option<Ends>
     requires { d < length route.now.plans → 0 < length (plan_in route.now d).cumuls }
-    ensures { result ≡ parts.ends_with d ends route.now }
+    ensures { result ≡ terms.ends_with d ends route.now }
 {
     if d < route.plans.len() {
         let plan = route.plans.get(d);
@@ -129,7 +129,7 @@ fn ends_with(ends: Option<Ends>, route: &PrintedRoute, d: usize) -> Option<Ends>
 
 // From the least start to the greatest end, 0 where there is no route.
 fn span_of_ends(ends: Option<Ends>) -> i128
-    ensures value { result ≡ parts.span_of_ends ends }
+    ensures value { result ≡ terms.span_of_ends ends }
     ensures range { IsAround (2 ^ 66) result }
 {
     match ends {
@@ -167,7 +167,7 @@ fn global_cost(model: &Model, routes: &[PrintedRoute], d: usize) -> i128
     requires well_formed { IsWellFormed model.now }
     requires dimension { d < length model.now.dimensions }
     requires shaped { IsTrue (are_routes_shaped model.now routes.now) }
-    ensures value { result ≡ parts.global_cost model.now (assignment_of routes.now) d }
+    ensures value { result ≡ terms.global_cost model.now (assignment_of routes.now) d }
     ensures range { IsAround (2 ^ 106) result }
 {
     let coefficient = global_coefficient(model, d);

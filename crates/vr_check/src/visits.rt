@@ -2,6 +2,7 @@
 
 ghost use Rattle.std.specs.Prelude.{◌≡◌, ◌≤◌, length};
 ghost use Rattle.vr_model.specs.routes.Rules as rules;
+ghost use Rattle.vr_check.specs.Terms as terms;
 ghost use Rattle.vr_check.specs.Visits as visits;
 ghost use Rattle.vr_check.specs.Visits.{dropped_broken, group_broken, required_broken};
 
@@ -18,7 +19,7 @@ fn is_inactive(model: &Model, lists: &[Seq<u32>], node: u32) -> bool
 
 // Whether a node stands at a place of a list.
 fn is_next(list: &[u32], k: usize, node: u32) -> bool
-    ensures { result ≡ visits.is_next list.now k node }
+    ensures { result ≡ terms.is_next list.now k node }
 {
     k < list.len() && list[k] == node
 }

@@ -1,6 +1,6 @@
 use Rattle.std.proofs.Common.{◌≡◌, ◌*◌, ◌^◌, take}
 use Rattle.vr_model.specs.tables.Numbers.{total_by}
-use Rattle.vr_check.specs.Parts.{IsAround}
+use Rattle.vr_check.specs.Terms.{IsAround}
 use Rattle.vr_check.proofs.Totalling.{group_cost}
 use Rattle.vr_check.proofs.costs.penalty_of.Given as goal
 

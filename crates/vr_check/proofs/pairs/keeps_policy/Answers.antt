@@ -3,7 +3,7 @@ use Rattle.std.specs.List.{list_all}
 use Rattle.vr_model.specs.tables.Tables.{no_vehicle, vehicle_at}
 use Rattle.vr_model.specs.routes.Rules.{pairs_in}
 use Rattle.vr_model.specs.declared.records.Policy.{Policy}
-use Rattle.vr_check.specs.Pairs.{is_in_order}
+use Rattle.vr_check.specs.Terms.{is_in_order}
 use Rattle.vr_check.specs.declared.pairs.Places.{Places}
 use Rattle.vr_check.proofs.Walks.{policy_by_places}
 use Rattle.vr_check.proofs.pairs.keeps_policy.Goals as goal

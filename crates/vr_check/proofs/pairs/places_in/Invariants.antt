@@ -1,7 +1,7 @@
 use Rattle.std.proofs.Common.{◌≡◌, map, take}
 use Rattle.std.specs.Prelude.{filter}
 use Rattle.vr_model.specs.routes.Routes.{holds}
-use Rattle.vr_check.specs.Pairs.{places_of}
+use Rattle.vr_check.specs.Terms.{places_of}
 use Rattle.vr_check.proofs.pairs.places_in.Given as goal
 
 abbrev pub invariant-loop-pair : goal.invariant-loop-pair

@@ -11,7 +11,7 @@ use Rattle.vr_printed.proofs.Shaped.{route_shaped, routes_count}
 use Rattle.std.specs.List.{list_all}
 use Rattle.vr_model.specs.tables.Tables.{is_visit}
 use Rattle.vr_model.proofs.routes.Lists.{route-visits, route-few}
-use Rattle.vr_check.specs.Parts.{soft_in}
+use Rattle.vr_check.specs.Terms.{soft_in}
 use Rattle.vr_check.proofs.PlanSums.{over_printed, soft_is}
 use Rattle.vr_check.proofs.softs.soft_of.Goals as goal
 

@@ -1,7 +1,6 @@
 use Rattle.std.proofs.Common.{◌≡◌, ◌*◌, ◌^◌}
 use Rattle.vr_model.specs.tables.Numbers.{total_by, below}
-use Rattle.vr_check.specs.Parts.{IsAround}
-use Rattle.vr_check.specs.Parts.{soft_in}
+use Rattle.vr_check.specs.Terms.{IsAround, soft_in}
 use Rattle.vr_check.proofs.PlanSums.{over_printed}
 use Rattle.vr_check.proofs.softs.soft_of.Given as goal
 

@@ -2,7 +2,7 @@ use Rattle.std.proofs.Common.{◌≡◌, ◌∙◌, ◌<◌, arith, ap₂}
 use Rattle.std.proofs.lemmas.Int.{ints}
 use Rattle.vr_model.proofs.tables.Totals.{total_by-more}
 use Rattle.vr_check.specs.Asked.{stop_rows_of}
-use Rattle.vr_check.specs.Parts.{soft_at}
+use Rattle.vr_check.specs.Terms.{soft_at}
 use Rattle.vr_model.specs.routes.Costs.{row_cost}
 use Rattle.vr_check.proofs.Widths.{narrow}
 use Rattle.vr_check.proofs.softs.soft_of_plan.Goals as goal

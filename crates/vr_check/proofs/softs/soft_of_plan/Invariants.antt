@@ -1,8 +1,7 @@
 use Rattle.std.proofs.Common.{◌≡◌, ◌*◌, ◌^◌}
 use Rattle.vr_model.specs.tables.Numbers.{total_by, below}
-use Rattle.vr_check.specs.Parts.{IsAround}
+use Rattle.vr_check.specs.Terms.{IsAround, soft_at}
 use Rattle.vr_check.specs.Asked.{stop_rows_of}
-use Rattle.vr_check.specs.Parts.{soft_at}
 use Rattle.vr_check.proofs.softs.soft_of_plan.Given as goal
 
 abbrev pub invariant-loop-k : goal.invariant-loop-k

@@ -5,7 +5,7 @@ use Rattle.vr_model.specs.tables.Tables.{dimension_at}
 use Rattle.vr_model.specs.schedules.Lines.{stop_rows}
 use Rattle.vr_printed.specs.Shape.{no_printed_plan, plan_in}
 use Rattle.vr_printed.proofs.Shaped.{lengths_of, plans_few, visits_long}
-use Rattle.vr_check.specs.Parts.{soft_along, soft_in}
+use Rattle.vr_check.specs.Terms.{soft_along, soft_in}
 use Rattle.vr_check.proofs.softs.soft_of_route.Goals as goal
 
 pub soft_of_plan-total-requires-clause-asked : goal.soft_of_plan-total-requires-clause-asked

@@ -2,7 +2,7 @@ use Rattle.std.proofs.Common.{◌≡◌, arith}
 use Rattle.std.proofs.lemmas.Int.{ints}
 use Rattle.vr_model.proofs.tables.Totals.{total_by-more}
 use Rattle.vr_printed.specs.Printed.{assignment_of}
-use Rattle.vr_check.specs.Parts.{global_cost}
+use Rattle.vr_check.specs.Terms.{global_cost}
 use Rattle.vr_check.proofs.spans.global_of.Goals as goal
 
 pub loop-d-preserved : goal.loop-d-preserved

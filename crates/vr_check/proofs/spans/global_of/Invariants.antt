@@ -1,8 +1,7 @@
 use Rattle.std.proofs.Common.{◌≡◌, ◌*◌, ◌^◌}
 use Rattle.vr_model.specs.tables.Numbers.{total_by, below}
-use Rattle.vr_check.specs.Parts.{IsAround}
+use Rattle.vr_check.specs.Terms.{IsAround, global_cost}
 use Rattle.vr_printed.specs.Printed.{assignment_of}
-use Rattle.vr_check.specs.Parts.{global_cost}
 use Rattle.vr_check.proofs.spans.global_of.Given as goal
 
 abbrev pub invariant-loop-d : goal.invariant-loop-d

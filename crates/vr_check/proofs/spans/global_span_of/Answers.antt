@@ -5,7 +5,7 @@ use Rattle.vr_model.specs.tables.Numbers.{from_to}
 use Rattle.vr_printed.specs.Printed.{no_route, assignment_of}
 use Rattle.vr_printed.specs.Shape.{plan_in}
 use Rattle.vr_printed.specs.declared.printed.PrintedRoute.{PrintedRoute}
-use Rattle.vr_check.specs.Parts.{ends_with}
+use Rattle.vr_check.specs.Terms.{ends_with}
 use Rattle.vr_check.proofs.Widths.{wide}
 use Rattle.vr_check.proofs.PlanSums.{is_used, span_from, span_begins, span_next, span_done, cumuls_there}
 use Rattle.vr_check.proofs.spans.global_span_of.Goals as goal

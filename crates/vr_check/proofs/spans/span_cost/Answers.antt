@@ -1,7 +1,7 @@
 use Rattle.std.proofs.Common.{◌∙◌, sym, ap, ap₂}
 use Rattle.std.specs.Prelude.{◌*ℤ◌}
 use Rattle.vr_printed.specs.Shape.{no_printed_plan}
-use Rattle.vr_check.specs.Parts.{span_along}
+use Rattle.vr_check.specs.Terms.{span_along}
 use Rattle.vr_check.proofs.Widths.{narrow, wide}
 use Rattle.vr_check.proofs.spans.span_cost.Goals as goal
 

@@ -8,7 +8,7 @@ use Rattle.vr_printed.specs.Printed.{no_route}
 use Rattle.vr_printed.specs.Shape.{is_route_shaped}
 use Rattle.vr_printed.specs.declared.printed.PrintedRoute.{PrintedRoute}
 use Rattle.vr_printed.proofs.Shaped.{route_shaped, routes_count}
-use Rattle.vr_check.specs.Parts.{span_in}
+use Rattle.vr_check.specs.Terms.{span_in}
 use Rattle.vr_check.proofs.PlanSums.{over_printed, span_is}
 use Rattle.vr_check.proofs.spans.span_of.Goals as goal
 

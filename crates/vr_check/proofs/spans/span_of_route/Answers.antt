@@ -2,7 +2,7 @@ use Rattle.std.proofs.Common.{◌≡◌, ◌<◌, ◌≤◌, arith}
 use Rattle.std.proofs.lemmas.Int.{ints}
 use Rattle.vr_model.proofs.tables.Totals.{total_by-more}
 use Rattle.vr_printed.proofs.Shaped.{lengths_of, plans_few}
-use Rattle.vr_check.specs.Parts.{span_in}
+use Rattle.vr_check.specs.Terms.{span_in}
 use Rattle.vr_check.proofs.spans.span_of_route.Goals as goal
 
 pub span_cost-total-requires-clause-dimension : goal.span_cost-total-requires-clause-dimension
