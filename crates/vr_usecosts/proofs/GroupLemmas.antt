@@ -1,6 +1,6 @@
 -- What a change adds to the penalties of groups.
 use Rattle.std.proofs.Common.{◌≡◌, ◌∙◌, ℕ, zero, suc, ◌+◌, ◌*◌, ◌<◌, ◌≤◌, Bool, true, false, cond, List, [], ◌∷◌, length, drop, drop-cons, add-one, sum_by, refl, sym, ap, subst, inl, inr, arith}
-use Rattle.std.specs.Prelude.{All, IsTrue, reverse, slice_range, slice_index_or, Option, Some, None, ℤ, pos, negsuc, ◌+ℤ◌, ◌-ℤ◌, ◌*ℤ◌}
+use Rattle.std.specs.Prelude.{All, IsTrue, nat_lt, reverse, slice_range, slice_index_or, Option, Some, None, ℤ, pos, negsuc, ◌+ℤ◌, ◌-ℤ◌, ◌*ℤ◌}
 use Rattle.std.specs.List.{list_all}
 use Rattle.std.proofs.lemmas.Bool.{cases_lt}
 use Rattle.std.proofs.lemmas.Int.{ints}
@@ -20,6 +20,7 @@ use Rattle.vr_model.specs.deciding.Testing.{and_left, and_right}
 use Rattle.vr_model.specs.routes.Costs.{penalty_for, penalty_part}
 use Rattle.vr_model.specs.declared.records.Model.{Model}
 use Rattle.vr_model.specs.declared.records.Group.{Group}
+use Rattle.vr_model.proofs.tables.Bounds.{none_at}
 use Rattle.vr_model.proofs.tables.Tests.{all-from_list_all, fails}
 use Rattle.vr_model.proofs.moves.Times.{times, times_append, times_of_distinct}
 use Rattle.vr_model.proofs.routes.Lists.{place_of_held, visit_below}
@@ -29,7 +30,7 @@ use Rattle.vr_routes.specs.Pieces.{nodes_of}
 use Rattle.vr_routes.specs.Seats.{IsOnce}
 use Rattle.vr_balance.specs.Balances.{Turnover, IsBalance, over_pieces}
 use Rattle.vr_balance.proofs.ActiveLemmas.{active-count, sum-same, sum-none, sum-plus, times-held}
-use Rattle.vr_usecosts.specs.Groups.{pay, saved_by, saved_in, AreSaved, AreFew}
+use Rattle.vr_usecosts.specs.Groups.{pay, has_penalty, is_some_paid, saved_by, saved_in, AreSaved, AreFew}
 
 -- ---- one group
 
@@ -90,8 +91,11 @@ unpaid lists later (q ∷ qs) present none =
     let come : pay q.penalty * active_in later q ≡ 0 = ap (λ n. n * active_in later q) zero_is ∙ omega arith in
     omega (arith, ints, rest, here, gone, come)
 
-pub penalties-stay : (model : Model) → IsWellFormed model → (lists later : List (List ℕ)) → All (λ group. pay group.penalty ≡ 0) model.groups → pos 0 ≡ penalty_part model later -ℤ penalty_part model lists
-penalties-stay model well_formed lists later none = sym (unpaid lists later model.groups (λ k group low. (well_formed.each_group k group low).penalty_in_range) none)
+pub penalties-stay : (model : Model) → IsWellFormed model → (lists later : List (List ℕ)) → is_some_paid model ≡ false → pos 0 ≡ penalty_part model later -ℤ penalty_part model lists
+penalties-stay model well_formed lists later none = sym (unpaid lists later model.groups (λ k group low. (well_formed.each_group k group low).penalty_in_range) (λ k group low. zero_of (pay (slice_index_or model.groups k group).penalty) (none_at has_penalty model.groups k group none low)))
+  where
+    zero_of : (n : ℕ) → nat_lt 0 n ≡ false → n ≡ 0
+    zero_of n e = Prim.grind arith
 
 -- ---- sums over groups and over nodes
 

@@ -1,6 +1,7 @@
 -- The penalties of groups.
-use Rattle.std.specs.Prelude.{◌≡◌, ℕ, ◌<◌, Bool, false, All, IsTrue, cond, List, [], ◌∷◌, length, Option, Some, None}
+use Rattle.std.specs.Prelude.{◌≡◌, ℕ, ◌<◌, Bool, nat_lt, IsTrue, cond, List, [], ◌∷◌, length, Option, Some, None}
 use Rattle.std.specs.Prelude.{ℤ, pos, negsuc}
+use Rattle.std.specs.List.{list_any}
 use Rattle.vr_model.specs.tables.Numbers.{number_at, total_by}
 use Rattle.vr_model.specs.tables.Tables.{visits}
 use Rattle.vr_model.specs.routes.Routes.{holds}
@@ -19,6 +20,14 @@ abbrev pub pay : Option ℤ → ℕ
 pay None = 0
 pay (Some (pos penalty)) = penalty
 pay (Some (negsuc n)) = 0
+
+-- a group has a penalty that is not 0
+abbrev pub has_penalty : Group → Bool
+has_penalty group = nat_lt 0 (pay group.penalty)
+
+-- some group has a penalty that is not 0
+abbrev pub is_some_paid : Model → Bool
+is_some_paid model = list_any has_penalty model.groups
 
 -- what a node saves where it is active: the penalty of the first group that has it, 0 where there is none
 abbrev pub saved_by : List Group → ℕ → ℕ
@@ -53,12 +62,12 @@ IsForPieces = IsUpTo 18000
 abbrev pub saved_in : List ℤ → List (List ℕ) → List Piece → ℤ
 saved_in saved lists pieces = total_by (λ piece. total_by (number_at saved) (nodes_of lists piece)) pieces
 
--- these are valid lists of the model, each node has what it saves, where it is said that none pays, each group has a
--- penalty of 0 or none, and the total is what the groups cost
+-- these are valid lists of the model, each node has what it saves, it is said whether some group has a penalty, and the
+-- total is what the groups cost
 pub record StandsGroups (kept : KeptGroups) (tours : Tours) : Type 0 where
   pub well_formed : IsWellFormed kept.model
   pub of_model : tours.visits ≡ visits kept.model
   pub valid : IsTrue (is_valid kept.model tours.lists)
   pub saved_are : AreSaved kept.model kept.saved
-  pub none_pays : kept.pays ≡ false → All (λ group. pay group.penalty ≡ 0) kept.model.groups
+  pub pays_is : kept.pays ≡ is_some_paid kept.model
   pub total_is : kept.total ≡ penalty_part kept.model tours.lists

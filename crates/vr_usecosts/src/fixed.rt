@@ -1,7 +1,7 @@
 //! The fixed costs of used vehicles.
 
 ghost use Rattle.std.specs.Prelude.{◌≡◌, ◌<◌, ◌≤◌, ◌-ℤ◌, All, IsTrue, IfOk, IsOk};
-ghost use Rattle.std.specs.Prelude.{OnOk, OnErr, ℕ, List, false, nat_lt, length, pos};
+ghost use Rattle.std.specs.Prelude.{OnOk, OnErr, ℕ, List, nat_lt, not, length};
 ghost use Rattle.vr_model.specs.routes.Costs.{fixed_part};
 ghost use Rattle.vr_model.specs.routes.Routes.{route};
 ghost use Rattle.vr_model.specs.tables.Tables.{visits};
@@ -10,6 +10,7 @@ ghost use Rattle.vr_model.specs.tables.WellFormed.{IsWellFormed};
 ghost use Rattle.vr_routes.specs.Pieces.{changed, joined, nodes_of, IsWithin};
 ghost use Rattle.vr_routes.specs.Changes.{IsMadeOn};
 ghost use Rattle.vr_parts.specs.Parts.{CostAlike, NothingReady};
+ghost use Rattle.vr_usecosts.specs.Fixed as fixed_costs;
 ghost use Rattle.vr_usecosts.specs.Fixed.{fixed_with, StandsFixed};
 ghost use Rattle.vr_parts.specs.Bounds.{IsAddedByChange};
 ghost use Rattle.vr_sums.specs.Sums.{IsUpTo};
@@ -37,14 +38,13 @@ impl<'m> Model for FixedCost<'m> {
 
 // Whether some vehicle has a fixed cost that is not 0.
 fn is_some_fixed(model: &RoutingModel) -> bool
-    ensures { result ≡ false → All (λ vehicle. vehicle.fixed ≡ pos 0) model.now.vehicles }
+    ensures { result ≡ fixed_costs.is_some_fixed model.now }
 {
-    for v in 0..model.vehicles.len() {
-        if model.vehicles.get(v).fixed != 0 {
-            return true;
-        }
-    }
-    false
+    model
+        .vehicles
+        .as_slice()
+        .iter()
+        .any(|vehicle| vehicle.fixed != 0)
 }
 
 impl<'m> FixedCost<'m> {
@@ -93,7 +93,8 @@ impl<'m> FixedCost<'m> {
     /// Whether no vehicle has a fixed cost: all lists cost the same then.
     pub fn is_idle(&self, _routes: &Routes) -> bool
         requires stands { StandsFixed self.now _routes.now }
-        ensures { IsTrue result → CostAlike fixed_part self.now.model }
+        ensures idle { result ≡ not (fixed_costs.is_some_fixed self.now.model) }
+        ensures alike { IsTrue result → CostAlike fixed_part self.now.model }
     {
         !self.pays
     }

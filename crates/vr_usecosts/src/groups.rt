@@ -1,6 +1,6 @@
 //! The penalties of groups.
 
-ghost use Rattle.std.specs.Prelude.{◌≡◌, ◌≢◌, ◌<◌, ◌≤◌, ◌-ℤ◌, ◌*ℤ◌, ◌≤ℤ◌, ℕ, ℤ, false, pos};
+ghost use Rattle.std.specs.Prelude.{◌≡◌, ◌≢◌, ◌<◌, ◌≤◌, ◌-ℤ◌, ◌*ℤ◌, ◌≤ℤ◌, ℕ, ℤ, not, pos};
 ghost use Rattle.std.specs.Prelude.{All, IsTrue, IfOk, IsOk, OnOk, OnErr, length};
 ghost use Rattle.vr_model.specs.tables.Numbers.{number_at, total_by};
 ghost use Rattle.vr_model.specs.tables.Tables.{visits};
@@ -14,6 +14,7 @@ ghost use Rattle.vr_routes.specs.Pieces.{changed, nodes_of, IsWithin};
 ghost use Rattle.vr_parts.specs.Bounds.{IsAddedByChange};
 ghost use Rattle.vr_parts.specs.Parts.{CostAlike, NothingReady};
 ghost use Rattle.vr_sums.specs.Sums.{IsUpTo};
+ghost use Rattle.vr_usecosts.specs.Groups as penalties_of;
 ghost use Rattle.vr_usecosts.specs.Groups.{pay, saved_by, saved_in as saved_in_of, AreSaved, AreFew};
 ghost use Rattle.vr_usecosts.specs.Groups.{IsForNodes, IsForPieces, StandsGroups};
 
@@ -97,17 +98,25 @@ fn savings(alloc: Global, model: &RoutingModel) -> Result<Seq<i64>, NoMemory>
     Ok(saved)
 }
 
+// Whether a group has a penalty that is not 0.
+fn has_penalty(group: &Group) -> bool
+    ensures { result ≡ penalties_of.has_penalty group.now }
+{
+    match group.penalty {
+        Some(penalty) => penalty > 0,
+        None => false,
+    }
+}
+
 // Whether some group has a penalty that is not 0.
 fn is_some_paid(model: &RoutingModel) -> bool
-    requires well_formed { IsWellFormed model.now }
-    ensures { result ≡ false → All (λ group. pay group.penalty ≡ 0) model.now.groups }
+    ensures { result ≡ penalties_of.is_some_paid model.now }
 {
-    for g in 0..model.groups.len() {
-        if penalty(model.groups.get(g)) != 0 {
-            return true;
-        }
-    }
-    false
+    model
+        .groups
+        .as_slice()
+        .iter()
+        .any(|group| has_penalty(group))
 }
 
 // What a node saves.
@@ -236,7 +245,8 @@ impl<'m> GroupCost<'m> {
     /// Whether no group has a penalty: all lists cost the same then.
     pub fn is_idle(&self, _routes: &Routes) -> bool
         requires stands { StandsGroups self.now _routes.now }
-        ensures { IsTrue result → CostAlike penalty_part self.now.model }
+        ensures idle { result ≡ not (penalties_of.is_some_paid self.now.model) }
+        ensures alike { IsTrue result → CostAlike penalty_part self.now.model }
     {
         !self.pays
     }

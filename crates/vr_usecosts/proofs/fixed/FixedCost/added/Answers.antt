@@ -22,7 +22,7 @@ returns-then-not-self-clause-exact c =
     let later = changed lists c.args.change.now in
     let h = c.requires.stands in
     let s = small model h.well_formed lists h.valid in
-    let none = h.none_pays (ap (λ k. k.pays) (sym c.self.view_is) ∙ c.if-not-self.true) in
+    let none = sym h.pays_is ∙ (ap (λ k. k.pays) (sym c.self.view_is) ∙ c.if-not-self.true) in
     let x = none-fixed model none lists s.many in
     let y = none-fixed model none later (as_many_lists lists c.args.change.now ∙ s.many) in
     omega (arith, ints, x, y)

@@ -9,7 +9,7 @@ use Rattle.vr_usecosts.proofs.groups.GroupCost.added.Goals as goal
 pub returns-then-not-self-clause-exact : goal.returns-then-not-self-clause-exact
 returns-then-not-self-clause-exact c =
     let s = c.requires.stands in
-    penalties-stay c.args.self.now.model s.well_formed c.args.routes.now.lists (changed c.args.routes.now.lists c.args.change.now) (s.none_pays (ap (λ k. k.pays) (sym c.self.view_is) ∙ c.if-not-self.true))
+    penalties-stay c.args.self.now.model s.well_formed c.args.routes.now.lists (changed c.args.routes.now.lists c.args.change.now) (sym s.pays_is ∙ (ap (λ k. k.pays) (sym c.self.view_is) ∙ c.if-not-self.true))
 
 pub saved_in-gone-requires-clause-few : goal.saved_in-gone-requires-clause-few
 saved_in-gone-requires-clause-few c =
