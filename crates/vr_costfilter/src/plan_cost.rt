@@ -24,8 +24,9 @@ use vr_routes::{Change, Routes};
 
 /// What soft upper bounds and spans cost (`SetCumulVarSoftUpperBound` and `SetSpanCostCoefficientForVehicle` in
 /// OR-Tools). A change is told by the floors and cumuls that are kept of the committed lists: along what it puts in, in
-/// front of that until a floor is as it was, and behind it until a cumul is; only where they do not tell it are the
-/// schedules of the changed lists built, in the dimensions where they may cost anything.
+/// front of that until a floor is as it was, and behind it until a cumul is; and of tight vehicles along their whole
+/// lists. Only where they are not told so are the schedules of the changed lists built, in the dimensions where they
+/// may cost anything.
 #[derive(Drop)]
 pub struct PlanCost<'m> {
     rules: PlanRules<'m>,

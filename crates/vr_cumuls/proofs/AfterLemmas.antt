@@ -1,16 +1,16 @@
 -- What a change makes of a list is timed by what it keeps.
 use Rattle.std.proofs.Common.{◌≡◌, ◌∙◌, ◌+◌, ◌<◌, ◌≤◌, ◌++◌, ℕ, List, [], Some, length, reverse, take, drop, ap, ap₂, sym, subst, arith, to_z, of_z, w64}
 use Rattle.std.specs.Prelude.{All, slice_index_or}
-use Rattle.std.proofs.lemmas.Int.{ints}
 use Rattle.std.proofs.lemmas.List.{drop-map, get_or-drop, map-append, reverse-append, reverse-reverse, take-append-drop}
 use Rattle.std.proofs.lemmas.List.Elements.{All-append}
 use Rattle.vr_model.specs.schedules.ChosenLaws.{ChosenIsLeast}
+use Rattle.vr_model.specs.schedules.Lines.{line}
+use Rattle.vr_model.specs.schedules.Narrowed.{narrowed}
+use Rattle.vr_model.specs.tables.Tables.{vehicle_at}
 use Rattle.vr_model.specs.tables.WellFormed.{IsWellFormed}
 use Rattle.vr_model.specs.declared.records.Model.{Model}
+use Rattle.vr_model.specs.declared.records.ScheduleRule.TheVariants.{Earliest}
 use Rattle.vr_walks.specs.Lists.{IsUsed}
-use Rattle.vr_timings.specs.Timings.{IsTiming, IsTimingOf}
-use Rattle.vr_timings.specs.declared.timings.Timing.{Timing}
-use Rattle.vr_timings.proofs.BoundLemmas.{read-cumul}
 use Rattle.vr_cumuls.specs.Floors.{end_step, first_of, AreAimed, IsVisitStep, WentBack}
 use Rattle.vr_cumuls.specs.Kept.{AreSteps, HasMet}
 use Rattle.vr_cumuls.specs.Runs.{Runs, AreRuns}
@@ -20,12 +20,8 @@ use Rattle.vr_cumuls.specs.declared.kept.Outset.{Outset}
 use Rattle.vr_cumuls.specs.declared.trails.Step.{Step}
 use Rattle.vr_cumuls.proofs.FloorLemmas.{aimed-append, aimed-right, first-append}
 use Rattle.vr_cumuls.proofs.StageLemmas.{along-append, whole-append}
-use Rattle.vr_cumuls.proofs.TimingLemmas.{first-range, is-timing, last-range, soft-high, soft-low, timing-range}
-
--- what the chosen schedule of a list comes to, and its numbers
-pub record IsTimed (model : Model) (d v : ℕ) (list : List ℕ) (timing : Timing) : Type 0 where
-  pub is_timing : IsTiming model d v list timing
-  pub range : IsTimingOf (length list + 2) timing
+use Rattle.vr_cumuls.proofs.RunLemmas.{line-allows}
+use Rattle.vr_cumuls.proofs.TimingLemmas.{timed, IsTimed}
 
 -- what is on a trail, back along the middle of a list and then along a part of its front
 trail-is : (model : Model) (d v : ℕ) (runs : Runs) (nodes middle : List ℕ) (next first : Step) (between trail : List Step) (met : Outset) (back : WentBack model d v runs middle next [] between first) (meets : HasMet model d v runs nodes first between trail met)
@@ -79,21 +75,8 @@ module _ (model : Model) (d v : ℕ) (runs : Runs) (old : List ℕ) (steps : Lis
       ∙ whole-append model d v runs (along model d v runs (Some met.stage) meets.steps) back.steps (drop behind steps)
       ∙ ap (λ o. whole model d v runs o (drop behind steps)) (sym (along-append model d v runs (Some met.stage) meets.steps back.steps) ∙ ap (along model d v runs (Some met.stage)) (sym (trail-is model d v runs (take front old) middle next first between trail met back meets)) ∙ anew) ∙ rest
 
-  module _ (law : ChosenIsLeast) (well : IsWellFormed model) (dimension : d < length model.dimensions) (are : AreRuns model d v runs) (used : IsUsed model new) (few : length new ≤ 1000) where
-    soft-read : to_z w64 (of_z w64 end.soft) ≡ end.soft
-    soft-read =
-        let a = soft-low model well d v dimension runs are new used.tour (kept ++ left) new-steps law used meets.first end out whole-is in
-        let b = soft-high model well d v dimension runs are new used.tour (kept ++ left) new-steps law used meets.first end out whole-is in
-        omega (arith, ints, a, b, few)
-
-    last-read : to_z w64 (of_z w64 end.cumul) ≡ end.cumul
-    last-read = read-cumul end.cumul (last-range model well d v dimension runs are new used.tour (kept ++ left) new-steps law used meets.first end out whole-is)
-
-    start-read : to_z w64 (of_z w64 met.start) ≡ meets.first.cumul
-    start-read = ap (λ x. to_z w64 (of_z w64 x)) meets.start ∙ read-cumul meets.first.cumul (first-range model well d v dimension runs are new used.tour (kept ++ left) new-steps law used meets.first end out whole-is)
-
-    pub after-timed : IsTimed model d v new (record { soft = to_z w64 (of_z w64 end.soft); start = to_z w64 (of_z w64 met.start); last = to_z w64 (of_z w64 end.cumul) })
-    after-timed = record {
-      is_timing = is-timing model well d v dimension runs are new used.tour (kept ++ left) new-steps law used meets.first end out whole-is _ soft-read start-read last-read;
-      range = timing-range model well d v dimension runs are new used.tour (kept ++ left) new-steps law used meets.first end out whole-is _ soft-read start-read last-read;
-    }
+  pub after-timed : ChosenIsLeast → IsWellFormed model → d < length model.dimensions → AreRuns model d v runs → (vehicle_at model v).schedule ≡ Earliest → IsUsed model new → length new ≤ 1000
+      → IsTimed model d v new (record { soft = to_z w64 (of_z w64 end.soft); start = to_z w64 (of_z w64 met.start); last = to_z w64 (of_z w64 end.cumul) })
+  after-timed law well dimension are rule used few =
+      timed model well d v dimension runs new (line model d v new) (line-allows model d v runs are new used.tour) (kept ++ left) new-steps law (ap (λ r. narrowed r (line model d v new)) rule)
+      meets.first end out whole-is few met.start meets.start

@@ -1,21 +1,21 @@
 -- What is kept of lists, written stage by stage, and after a list is replaced.
-use Rattle.std.proofs.Common.{◌≡◌, ◌∙◌, inl, inr, ℕ, zero, suc, ◌+◌, ◌<◌, ◌≤◌, List, [], ◌∷◌, ◌++◌, length, length-set, reverse, take, drop, refl, sym, ap, subst, add-one, arith, Option, Some, None}
+use Rattle.std.proofs.Common.{◌≡◌, ◌∙◌, inl, inr, ℕ, zero, suc, false, true, ◌+◌, ◌<◌, ◌≤◌, List, [], ◌∷◌, ◌++◌, length, length-set, reverse, take, drop, refl, sym, ap, subst, add-one, arith, Option, Some, None}
 use Rattle.std.specs.Prelude.{All, IsTrue, ℤ, pos, option_map, slice_index_or, slice_set}
 use Rattle.std.specs.List.{list_all}
-use Rattle.std.proofs.lemmas.Bool.{and_parts, cases_lt}
+use Rattle.std.proofs.lemmas.Bool.{and_parts, cases_lt, false≢true}
 use Rattle.std.proofs.lemmas.List.{take-append-drop, get_or_append_left, get_or_push, length-reverse, take_all}
 use Rattle.std.proofs.lemmas.List.Elements.{All-take}
 use Rattle.std.proofs.lemmas.List.Sums.{fold_more}
 use Rattle.std.specs.Option.{option_and_then}
 use Rattle.vr_model.specs.moves.Moves.{with_route}
-use Rattle.vr_model.specs.tables.Tables.{is_visit, vehicle_at}
+use Rattle.vr_model.specs.tables.Tables.{dimension_at, is_visit, vehicle_at}
 use Rattle.vr_model.specs.declared.records.Model.{Model}
 use Rattle.vr_model.proofs.routes.Lists.{route_set_other}
 use Rattle.vr_parts.proofs.RowLemmas.{set-at}
 use Rattle.vr_cumuls.specs.Floors.{end_step, first_of, floor_of, AreAimed, IsVisitStep}
 use Rattle.vr_cumuls.specs.Runs.{Runs, AreRuns}
 use Rattle.vr_cumuls.specs.Stages.{along, setting_out, standing, to_end, to_visit, visit_more, whole, IsStageOf}
-use Rattle.vr_cumuls.specs.Kept.{steps_of, AreAllStages, AreKept, AreStages, AreSteps, IsKept}
+use Rattle.vr_cumuls.specs.Kept.{steps_of, AreAllStages, AreKept, AreStages, AreSteps, CostsNoSoft, IsKept}
 use Rattle.vr_cumuls.specs.declared.guides.Stage.{Stage}
 use Rattle.vr_cumuls.specs.declared.kept.Kept.{Kept}
 use Rattle.vr_cumuls.specs.declared.trails.Step.{Step}
@@ -120,8 +120,8 @@ all-visits model (x ∷ xs) all (suc k) other low = all-visits model xs (and_par
 all-visits model [] all k other low = absurd (omega (arith, low))
 
 -- what is kept by one table is kept by each
-pub kept-so : (model : Model) (d v : ℕ) (runs : Runs) → AreRuns model d v runs → (list : List ℕ) (kept : Kept) → AreAllStages model d v runs list (steps_of kept) kept.stages.items → IsKept model d v list kept
-kept-so model d v runs of_these list kept are = record { told = λ many others of_others. by_others many others of_others }
+pub kept-so : (model : Model) (d v : ℕ) (runs : Runs) → AreRuns model d v runs → (list : List ℕ) (kept : Kept) → AreAllStages model d v runs list (steps_of kept) kept.stages.items → kept.soft ≡ true → IsKept model d v list kept
+kept-so model d v runs of_these list kept are soft = record { told = λ many others of_others. by_others many others of_others; soft = λ none. absurd (false≢true (sym none ∙ soft)) }
   where
     none : Stage
     none = record { at = 0; cumul = pos 0; soft = pos 0 }
@@ -155,8 +155,8 @@ kept-so model d v runs of_these list kept are = record { told = λ many others o
         }
 
 -- nothing is told where there are too few stages
-pub kept-none : (model : Model) (d v : ℕ) (list : List ℕ) (kept : Kept) → length kept.stages.items ≤ suc (length list) → IsKept model d v list kept
-kept-none model d v list kept few = record { told = λ many. absurd (omega (arith, few, many)) }
+pub kept-none : (model : Model) (d v : ℕ) (list : List ℕ) (kept : Kept) → length kept.stages.items ≤ suc (length list) → (kept.soft ≡ false → CostsNoSoft (dimension_at model d)) → IsKept model d v list kept
+kept-none model d v list kept few soft = record { told = λ many. absurd (omega (arith, few, many)); soft = soft }
 
 -- ---- a list is replaced
 

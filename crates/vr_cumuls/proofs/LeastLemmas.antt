@@ -10,22 +10,22 @@ use Rattle.vr_model.specs.tables.Numbers.{horizon, number_at, within}
 use Rattle.vr_model.specs.tables.Tables.{dimension_at, transit, vehicle_at}
 use Rattle.vr_model.specs.tables.WellFormed.{IsIn}
 use Rattle.vr_model.specs.declared.records.Model.{Model}
-use Rattle.vr_model.specs.schedules.Lines.{Line, line, line_arc}
-use Rattle.vr_model.specs.schedules.Schedules.{Plan, IsSchedule, allows, arc_at, cumul}
+use Rattle.vr_model.specs.schedules.Lines.{Arc, Line, line_arc}
+use Rattle.vr_model.specs.schedules.Schedules.{Plan, IsSchedule, allows, arc_at, cumul, no_arc}
 use Rattle.vr_model.proofs.schedules.LineArcs.{arcs_of_line}
 use Rattle.vr_steps.specs.declared.hops.Hop.{Hop}
 use Rattle.vr_steps.specs.Lines.{hop_of}
-use Rattle.vr_steps.proofs.LineLemmas.{visit_below}
 use Rattle.vr_walks.specs.Early.{AreEarly, slack_left}
-use Rattle.vr_walks.specs.Lists.{node_at_stop, IsTour}
+use Rattle.vr_walks.specs.Lists.{node_at_stop}
 use Rattle.vr_walks.specs.VisitRuns.{IsAllowedRun}
 use Rattle.vr_walks.proofs.EarlyLemmas.{at_new}
-use Rattle.vr_walks.proofs.LineParts.{end_allows_run, end_node, hop_between_stops, stops_of_line, visit_allows_run}
-use Rattle.vr_cumuls.specs.Runs.{Runs, AreRuns, no_run}
+use Rattle.vr_walks.proofs.LineParts.{end_node, hop_between_stops}
+use Rattle.vr_cumuls.specs.Runs.{Runs, AllowsRuns, no_run}
 use Rattle.vr_cumuls.specs.Floors.{end_step, floor_of}
 use Rattle.vr_cumuls.specs.Kept.{AreSteps}
 use Rattle.vr_cumuls.specs.declared.trails.Step.{Step}
 use Rattle.vr_cumuls.proofs.FloorLemmas.{before-had, floor-had, many-steps, node-of}
+use Rattle.vr_cumuls.proofs.RunLemmas.{stop-last, stop-visit}
 
 -- ---- what a stop allows
 
@@ -100,29 +100,51 @@ module _ (line : Line) (stops : length line.allowed ≡ suc (length line.arcs)) 
           let high = slack.at_most in
           record { at_least = omega (arith, ints, last, a, low); at_most = omega (arith, ints, last, a, high) }
 
--- ---- along the line of a list
+-- ---- along a line that allows runs
 
-module _ (model : Model) (d v : ℕ) (runs : Runs) (are : AreRuns model d v runs) (list : List ℕ) (tour : IsTour model list) (steps : List Step) (steps_are : AreSteps model d v runs list steps) where
-  abbrev L : Line
-  L = line model d v list
+module _ (model : Model) (d v : ℕ) (runs : Runs) (list : List ℕ) (L : Line) (by : AllowsRuns model d v runs list L) where
+  pub arcs-many : length L.arcs ≡ suc (length list)
+  arcs-many = ap length by.arcs ∙ arcs_of_line model d v list
 
+  -- the transit of an arc of the line
+  pub arc-transit : (k origin target : ℕ) → k ≤ length list → origin ≡ node_at_stop model v list k → target ≡ node_at_stop model v list (k + 1) → transit model d v origin target ≡ (arc_at L k).transit
+  arc-transit k origin target le from to =
+      let hop = hop_between_stops model d v list k origin target (hop_of (dimension_at model d).slack_max (line_arc model d v (record { vehicle = v; origin = origin; target = target }))) le from to refl in
+      ap (λ (h : Hop). h.transit) hop ∙ ap (λ (arcs : List Arc). (slice_index_or arcs k no_arc).transit) (sym by.arcs)
+
+  pub node-behind : (k : ℕ) → k < length list → slice_index_or list k 0 ≡ node_at_stop model v list (k + 1)
+  node-behind k low = sym (get_or_append_left list ((vehicle_at model v).end ∷ []) 0 k low) ∙ ap (node_at_stop model v list) (let e : suc k ≡ k + 1 = omega arith in e)
+
+  -- the run that the start allows
+  pub start-allows : IsAllowedRun L 0 runs.start
+  start-allows = by.has.each 0 (omega arith)
+
+  -- the run that visit k allows
+  pub visit-allows : (k : ℕ) → k < length list → IsAllowedRun L (k + 1) (slice_index_or runs.visits (slice_index_or list k 0) no_run)
+  visit-allows k low =
+      let next : suc k ≡ k + 1 = omega arith in
+      let there = by.has.each (suc k) (let n = arcs-many in omega (arith, n, low)) in
+      subst (λ i. IsAllowedRun L i (slice_index_or runs.visits (slice_index_or list k 0) no_run)) next (subst (IsAllowedRun L (suc k)) (stop-visit runs list k low) there)
+
+  -- the run that the end allows
+  pub end-allows : (k : ℕ) → k ≡ length list → IsAllowedRun L (k + 1) runs.finish
+  end-allows k at =
+      let next : suc (length list) ≡ k + 1 = omega (arith, at) in
+      let there = by.has.each (suc (length list)) (let n = arcs-many in omega (arith, n)) in
+      subst (λ i. IsAllowedRun L i runs.finish) next (subst (IsAllowedRun L (suc (length list))) (stop-last runs list) there)
+
+module _ (model : Model) (d v : ℕ) (runs : Runs) (list : List ℕ) (L : Line) (by : AllowsRuns model d v runs list L) (steps : List Step) (steps_are : AreSteps model d v runs list steps) where
   abbrev end : Step
   end = end_step model v runs
 
-  pub stops-and-arcs : length (line model d v list).allowed ≡ suc (length (line model d v list).arcs)
-  stops-and-arcs = let n = stops_of_line model d v list in let m = arcs_of_line model d v list in omega (arith, n, m)
+  stops-and-arcs : length L.allowed ≡ suc (length L.arcs)
+  stops-and-arcs = by.has.stops
 
-  -- the transit of an arc of the line
-  pub arc-transit : (k origin target : ℕ) → k ≤ length list → origin ≡ node_at_stop model v list k → target ≡ node_at_stop model v list (k + 1) → transit model d v origin target ≡ (arc_at (line model d v list) k).transit
-  arc-transit k origin target le from to =
-      let hop = hop_between_stops model d v list k origin target (hop_of (dimension_at model d).slack_max (line_arc model d v (record { vehicle = v; origin = origin; target = target }))) le from to refl in
-      ap (λ (h : Hop). h.transit) hop
+  all-arcs : length L.arcs ≡ suc (length list)
+  all-arcs = arcs-many model d v runs list L by
 
   many : length steps ≡ length list
   many = many-steps model d v runs list steps steps_are
-
-  node-behind : (k : ℕ) → k < length list → slice_index_or list k 0 ≡ node_at_stop model v list (k + 1)
-  node-behind k low = sym (get_or_append_left list ((vehicle_at model v).end ∷ []) 0 k low) ∙ ap (node_at_stop model v list) (let e : suc k ≡ k + 1 = omega arith in e)
 
   end-at : (k : ℕ) → length list ≤ k → slice_index_or steps k end ≡ end
   end-at k le = get_or_past steps k end (let n = many in omega (arith, n, le))
@@ -130,41 +152,40 @@ module _ (model : Model) (d v : ℕ) (runs : Runs) (are : AreRuns model d v runs
   -- the node of each step, also of the end
   pub step-node : (k : ℕ) → k ≤ length list → (slice_index_or steps k (end_step model v runs)).node ≡ node_at_stop model v list (k + 1)
   step-node k le = elim (either k le) [
-    | inl low ↦ node-of model d v runs list steps steps_are k end low ∙ node-behind k low
+    | inl low ↦ node-of model d v runs list steps steps_are k end low ∙ node-behind model d v runs list L by k low
     | inr last ↦ ap (λ (s : Step). s.node) (end-at k (omega (arith, last))) ∙ sym (end_node model v list k last)
   ]
     where
       either : (k : ℕ) → k ≤ length list → (k < length list) ⊎ (k ≡ length list)
       either k le = Prim.grind arith
 
-  -- the run that visit k allows
-  pub run-of : (k : ℕ) (other : Step) → k < length list → IsAllowedRun (line model d v list) (k + 1) (slice_index_or runs.visits (slice_index_or steps k other).node no_run)
+  -- the run of the visit to which a step leads
+  pub run-of : (k : ℕ) (other : Step) → k < length list → IsAllowedRun L (k + 1) (slice_index_or runs.visits (slice_index_or steps k other).node no_run)
   run-of k other low =
-      let node = node-of model d v runs list steps steps_are k other low in
-      let known : slice_index_or list k 0 < length runs.visits = (let n = are.visits.long in let h = visit_below model list k 0 tour.visits low in omega (arith, n, h)) in
-      visit_allows_run model d v list k runs.visits (slice_index_or runs.visits (slice_index_or steps k other).node no_run) no_run are.visits tour low known (ap (λ i. slice_index_or runs.visits i no_run) node)
+      subst (λ i. IsAllowedRun L (k + 1) (slice_index_or runs.visits i no_run)) (sym (node-of model d v runs list steps steps_are k other low)) (visit-allows model d v runs list L by k low)
 
   -- a floor before a stop where no schedule is earlier than the floor there
-  floor-least : (k : ℕ) (allowed : Run) (node : ℕ) (next : Step) (it : ℤ) → k ≤ length list → IsAllowedRun (line model d v list) k allowed → node ≡ node_at_stop model v list k → next.node ≡ node_at_stop model v list (k + 1)
-      → floor_of model d v node allowed next ≡ Some it → (plan : Plan) → IsSchedule (line model d v list) plan → next.floor ≤ℤ cumul plan (suc k) → it ≤ℤ cumul plan k
+  floor-least : (k : ℕ) (allowed : Run) (node : ℕ) (next : Step) (it : ℤ) → k ≤ length list → IsAllowedRun L k allowed → node ≡ node_at_stop model v list k → next.node ≡ node_at_stop model v list (k + 1)
+      → floor_of model d v node allowed next ≡ Some it → (plan : Plan) → IsSchedule L plan → next.floor ≤ℤ cumul plan (suc k) → it ≤ℤ cumul plan k
   floor-least k allowed node next it le is from to e plan s there =
-      let n = arcs_of_line model d v list in
+      let n = all-arcs in
       let low : k < length L.arcs = omega (arith, n, le) in
       let floor = floor-had next.floor (transit model d v node next.node) (dimension_at model d).slack_max allowed it e in
-      let way = arc-transit k node next.node le from to in
+      let way = arc-transit model d v runs list L by k node next.node le from to in
       let here = not-below L k allowed (cumul plan k) is (s.cumuls_allowed k (let m = stops-and-arcs in omega (arith, m, low))) in
       let left = s.slacks_left k low in
       let most = (s.slacks_bounded k low).1 in
+      let slack = by.slack_max in
       let m = int_max_is ((next.floor -ℤ transit model d v node next.node) -ℤ (dimension_at model d).slack_max) allowed.lo in
       let f = floor.is in
-      omega (arith, ints, f, m, way, here, left, most, there)
+      omega (arith, ints, f, m, way, here, left, most, slack, there)
 
   -- no schedule comes to a visit, or to the end, before its floor
-  pub floors-least : (plan : Plan) → IsSchedule (line model d v list) plan → (j k : ℕ) → j + k ≡ length list → (slice_index_or steps k (end_step model v runs)).floor ≤ℤ cumul plan (k + 1)
+  pub floors-least : (plan : Plan) → IsSchedule L plan → (j k : ℕ) → j + k ≡ length list → (slice_index_or steps k (end_step model v runs)).floor ≤ℤ cumul plan (k + 1)
   floors-least plan s zero k at =
       let last : k ≡ length list = omega (arith, at) in
-      let n = arcs_of_line model d v list in
-      let run = end_allows_run model d v list k runs.finish are.finish last in
+      let n = all-arcs in
+      let run = end-allows model d v runs list L by k last in
       let here = not-below L (k + 1) runs.finish (cumul plan (k + 1)) run (s.cumuls_allowed (k + 1) (let m = stops-and-arcs in omega (arith, m, n, last))) in
       subst (λ (x : Step). x.floor ≤ℤ cumul plan (k + 1)) (sym (end-at k (omega (arith, last)))) here
   floors-least plan s (suc j) k at =
@@ -178,9 +199,9 @@ module _ (model : Model) (d v : ℕ) (runs : Runs) (are : AreRuns model d v runs
       (step-node (suc k) (omega (arith, low)) ∙ ap (λ i. node_at_stop model v list (i + 1)) f) is.floor plan s (subst (λ i. (slice_index_or steps (suc k) end).floor ≤ℤ cumul plan i) e next)
 
   -- no schedule begins before the floor of its start
-  pub start-least : (it : ℤ) → floor_of model d v (vehicle_at model v).start runs.start (slice_index_or steps 0 (end_step model v runs)) ≡ Some it → (plan : Plan) → IsSchedule (line model d v list) plan → it ≤ℤ cumul plan 0
+  pub start-least : (it : ℤ) → floor_of model d v (vehicle_at model v).start runs.start (slice_index_or steps 0 (end_step model v runs)) ≡ Some it → (plan : Plan) → IsSchedule L plan → it ≤ℤ cumul plan 0
   start-least it e plan s =
       let first = floors-least plan s (length list) 0 (omega arith) in
       let f : 0 + 1 ≡ suc 0 = omega arith in
-      floor-least 0 runs.start (vehicle_at model v).start (slice_index_or steps 0 end) it (omega arith) (record { exact = are.start.exact; ends = are.start.ends }) refl (step-node 0 (omega arith))
+      floor-least 0 runs.start (vehicle_at model v).start (slice_index_or steps 0 end) it (omega arith) (start-allows model d v runs list L by) refl (step-node 0 (omega arith))
       e plan s (subst (λ i. (slice_index_or steps 0 end).floor ≤ℤ cumul plan i) f first)

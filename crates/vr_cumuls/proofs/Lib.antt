@@ -5,6 +5,11 @@ pub mod StageLemmas
 pub mod RunLemmas
 pub mod LeastLemmas
 pub mod TimingLemmas
+pub mod EndLemmas
+pub mod WayLemmas
+pub mod BetweenLemmas
+pub mod TightLemmas
 pub mod KeptLemmas
 pub mod MetLemmas
 pub mod AfterLemmas
+pub mod AlongLemmas

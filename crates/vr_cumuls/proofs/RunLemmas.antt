@@ -1,5 +1,5 @@
 -- The runs of stops, and what is gone by them, are the same by whatever table they were looked up.
-use Rattle.std.proofs.Common.{◌≡◌, ◌∙◌, ℕ, suc, ◌<◌, List, [], ◌∷◌, length, refl, sym, ap, ap₂, arith, Option, Some, None}
+use Rattle.std.proofs.Common.{◌≡◌, ◌∙◌, ℕ, zero, suc, ◌+◌, ◌<◌, ◌≤◌, ◌⊎◌, inl, inr, List, [], ◌∷◌, ◌++◌, length, map, refl, sym, ap, ap₂, subst, arith, Option, Some, None}
 use Rattle.std.specs.Prelude.{ℤ, ◌+ℤ◌, ◌-ℤ◌, ◌≤ℤ◌, All, IsTrue, option_map, slice_index_or}
 use Rattle.std.specs.Option.{option_and_then}
 use Rattle.std.proofs.lemmas.Int.{ints, int_max_is}
@@ -7,15 +7,68 @@ use Rattle.std.proofs.lemmas.Option.{option_and_then_some}
 use Rattle.vr_spans.specs.declared.runs.Run.{Run}
 use Rattle.vr_spans.specs.Runs.{in_run}
 use Rattle.vr_model.specs.tables.Tables.{dimension_at, is_visit, row_of, transit, vehicle_at}
+use Rattle.vr_model.specs.schedules.Lines.{line}
 use Rattle.vr_model.specs.declared.records.Model.{Model}
+use Rattle.vr_model.proofs.schedules.LineArcs.{arcs_of_line, stops_of_line}
 use Rattle.vr_model.proofs.routes.Lists.{visit_below}
+use Rattle.vr_steps.proofs.LineLemmas.{visit_below as place_below}
+use Rattle.vr_walks.specs.Lists.{IsTour}
+use Rattle.vr_walks.specs.VisitRuns.{IsAllowedRun}
+use Rattle.vr_walks.proofs.LineParts.{end_allows_run, visit_allows_run}
 use Rattle.vr_cumuls.specs.Floors.{before, end_step, floor_of, AreAimed, IsVisitStep}
-use Rattle.vr_cumuls.specs.Runs.{Runs, AreRuns, no_run}
+use Rattle.vr_cumuls.specs.Runs.{Runs, AllowsRuns, AreRuns, no_run, run_at, stop_runs}
 use Rattle.vr_cumuls.specs.Stages.{along, go_on, raised, setting_out, standing, to_end, visit_more}
 use Rattle.vr_cumuls.specs.declared.guides.Stage.{Stage}
 use Rattle.vr_cumuls.specs.declared.trails.Step.{Step}
 use Rattle.vr_cumuls.proofs.FloorLemmas.{aimed-rest, before-had, floor-had}
 use Rattle.vr_cumuls.proofs.StageLemmas.{gone}
+
+-- ---- the runs of the stops of a list
+
+map-at : (f : ℕ → Run) (list : List ℕ) (last : Run) (k : ℕ) → k < length list → run_at (map f list ++ last ∷ []) k ≡ f (slice_index_or list k 0)
+map-at f [] last k low = absurd (omega (arith, low))
+map-at f (x ∷ xs) last zero low = refl
+map-at f (x ∷ xs) last (suc k) low = map-at f xs last k (omega (arith, low))
+
+map-last : (f : ℕ → Run) (list : List ℕ) (last : Run) → run_at (map f list ++ last ∷ []) (length list) ≡ last
+map-last f [] last = refl
+map-last f (x ∷ xs) last = map-last f xs last
+
+pub stop-visit : (runs : Runs) (list : List ℕ) (k : ℕ) → k < length list → run_at (stop_runs runs list) (suc k) ≡ slice_index_or runs.visits (slice_index_or list k 0) no_run
+stop-visit runs list k low = map-at (λ node. slice_index_or runs.visits node no_run) list runs.finish k low
+
+pub stop-last : (runs : Runs) (list : List ℕ) → run_at (stop_runs runs list) (suc (length list)) ≡ runs.finish
+stop-last runs list = map-last (λ node. slice_index_or runs.visits node no_run) list runs.finish
+
+-- the line of a list allows them
+pub line-allows : (model : Model) (d v : ℕ) (runs : Runs) → AreRuns model d v runs → (list : List ℕ) → IsTour model list → AllowsRuns model d v runs list (line model d v list)
+line-allows model d v runs are list tour = record {
+  arcs = refl;
+  slack_max = refl;
+  has = record { stops = stops_of_line model d v list; no_breaks = are.no_breaks; each = each };
+}
+  where
+    either : (k : ℕ) → suc k ≤ suc (length list) → (k < length list) ⊎ (k ≡ length list)
+    either k le = Prim.grind arith
+
+    each : (k : ℕ) → k ≤ length (line model d v list).arcs → IsAllowedRun (line model d v list) k (run_at (stop_runs runs list) k)
+    each zero le = record { exact = are.start.exact; ends = are.start.ends }
+    each (suc k) le = elim (either k (let n = arcs_of_line model d v list in omega (arith, n, le))) [
+      | inl low ↦ (
+          let known : slice_index_or list k 0 < length runs.visits = (let n = are.visits.long in let h = place_below model list k 0 tour.visits low in omega (arith, n, h)) in
+          let run : Run = slice_index_or runs.visits (slice_index_or list k 0) no_run in
+          let there = visit_allows_run model d v list k runs.visits run no_run are.visits tour low known refl in
+          let next : k + 1 ≡ suc k = omega arith in
+          subst (IsAllowedRun (line model d v list) (suc k)) (sym (stop-visit runs list k low)) (subst (λ i. IsAllowedRun (line model d v list) i run) next there))
+      | inr last ↦ (
+          let there = end_allows_run model d v list (length list) runs.finish are.finish refl in
+          let next : length list + 1 ≡ suc (length list) = omega arith in
+          let end : IsAllowedRun (line model d v list) (suc (length list)) (run_at (stop_runs runs list) (suc (length list))) =
+          subst (IsAllowedRun (line model d v list) (suc (length list))) (sym (stop-last runs list)) (subst (λ i. IsAllowedRun (line model d v list) i runs.finish) next there) in
+          subst (λ i. IsAllowedRun (line model d v list) (suc i) (run_at (stop_runs runs list) (suc i))) (sym last) end)
+    ]
+
+-- ---- runs of the same numbers
 
 inside : (r : Run) (x : ℤ) → r.lo ≤ℤ x → x ≤ℤ r.hi → IsTrue (in_run r x)
 inside r x low high = grind (arith, ints, low, high)

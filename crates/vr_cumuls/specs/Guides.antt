@@ -4,14 +4,16 @@ use Rattle.vr_model.specs.tables.Numbers.{horizon}
 use Rattle.vr_model.specs.tables.Tables.{dimension_at, evaluator_of, vehicle_at}
 use Rattle.vr_model.specs.tables.WellFormed.{IsIn, IsWellFormed}
 use Rattle.vr_timings.specs.Tables.{IsTable}
-use Rattle.vr_cumuls.specs.Runs.{Runs, AreRuns}
+use Rattle.vr_walks.specs.VisitRuns.{AreVisitRuns, HasCumulEnds}
+use Rattle.vr_cumuls.specs.Runs.{Runs}
 use Rattle.vr_cumuls.specs.declared.guides.Guide.{Guide}
 
 -- the runs that a guide has
 abbrev pub runs_of : Guide → Runs
 runs_of guide = record { start = guide.start; visits = guide.visits.now; finish = guide.finish.allowed }
 
--- a guide has the table of its dimension of a well formed model, and of its vehicle the evaluator and the runs
+-- a guide has the table of its dimension of a well formed model, and of its vehicle the evaluator, the runs of visits,
+-- and a run of cumuls for each of its ends
 pub record IsGuide (guide : Guide) : Type 0 where
   pub well_formed : IsWellFormed guide.model.now
   pub dimension : guide.d < length guide.model.now.dimensions
@@ -20,5 +22,7 @@ pub record IsGuide (guide : Guide) : Type 0 where
   pub evaluator_is : guide.evaluator.now ≡ evaluator_of (dimension_at guide.model.now guide.d) guide.v
   pub slack_is : guide.slack ≡ (dimension_at guide.model.now guide.d).slack_max
   pub slack_range : IsIn (pos 0) horizon guide.slack
-  pub runs_are : AreRuns guide.model.now guide.d guide.v (runs_of guide)
+  pub start : HasCumulEnds guide.start
+  pub visits : AreVisitRuns guide.model.now guide.d guide.v guide.visits.now
+  pub finish : HasCumulEnds guide.finish.allowed
   pub end_is : guide.finish.node ≡ (vehicle_at guide.model.now guide.v).end

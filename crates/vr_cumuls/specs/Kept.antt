@@ -1,7 +1,11 @@
 -- What is kept of committed lists.
-use Rattle.std.specs.Prelude.{◌≡◌, ◌<◌, ◌≤◌, ◌++◌, ℕ, suc, All, List, Some, length, reverse, slice_index_or, take}
+use Rattle.std.specs.Prelude.{◌≡◌, ◌<◌, ◌≤◌, ◌++◌, ℕ, ℤ, suc, false, pos, All, List, Some, length, reverse, take}
+use Rattle.std.specs.Prelude.{slice_index_or}
 use Rattle.vr_model.specs.routes.Routes.{route}
+use Rattle.vr_model.specs.tables.Tables.{dimension_at}
+use Rattle.vr_model.specs.declared.records.Dimension.{Dimension}
 use Rattle.vr_model.specs.declared.records.Model.{Model}
+use Rattle.vr_timings.specs.Timings.{soft_of}
 use Rattle.vr_cumuls.specs.Runs.{Runs, AreRuns}
 use Rattle.vr_cumuls.specs.Floors.{end_step, first_of, nodes_in, AreAimed, IsVisitStep}
 use Rattle.vr_cumuls.specs.Stages.{along, setting_out, whole, IsStageOf}
@@ -41,10 +45,16 @@ pub record AreAllStages (model : Model) (d v : ℕ) (runs : Runs) (list : List �
 abbrev pub steps_of : Kept → List Step
 steps_of kept = reverse kept.trail.steps.items
 
--- where there are as many as stops, these are the stages of a list of vehicle v, and the steps are those to its visits
+-- no list of any vehicle costs anything by soft upper bounds in a dimension, whatever its cumuls are
+abbrev pub CostsNoSoft : Dimension → Type 0
+CostsNoSoft dimension = (v : ℕ) (list : List ℕ) (cumuls : List ℤ) → soft_of dimension v list cumuls ≡ pos 0
+
+-- where there are as many as stops, these are the stages of a list of vehicle v, and the steps are those to its visits;
+-- where it is said that soft upper bounds cost nothing, they do not
 pub record IsKept (model : Model) (d v : ℕ) (list : List ℕ) (kept : Kept) : Type 0 where
   pub told : length kept.stages.items ≡ suc (suc (length list)) → (runs : Runs) → AreRuns model d v runs
       → AreAllStages model d v runs list (steps_of kept) kept.stages.items
+  pub soft : kept.soft ≡ false → CostsNoSoft (dimension_at model d)
 
 -- of the steps to these nodes, before the next step, the last ones were put on a trail, and a stage is met behind the
 -- first ones

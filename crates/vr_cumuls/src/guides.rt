@@ -11,7 +11,6 @@ ghost use Rattle.std.specs.Option.{option_copied};
 ghost use Rattle.vr_model.specs.tables.Numbers.{horizon};
 ghost use Rattle.vr_model.specs.tables.Tables.{dimension_at, is_visit, row_of as row_of_key, transit, vehicle_at};
 ghost use Rattle.vr_model.specs.tables.WellFormed.{IsIn, IsStopRow, IsWellFormed, WherePresent};
-ghost use Rattle.vr_model.specs.declared.records.ScheduleRule.TheVariants.{Earliest};
 ghost use Rattle.vr_routes.specs.Pieces.{joined, nodes_of, IsWithin};
 ghost use Rattle.vr_timings.specs.Bounds.{cumul_cost};
 ghost use Rattle.vr_timings.specs.Tables.{IsTable};
@@ -19,11 +18,12 @@ ghost use Rattle.vr_walks.specs.VisitRuns.{HasCumulEnds};
 ghost use Rattle.vr_cumuls.specs.Floors.{before as before_by, end_step as end_step_by, floor_of as floor_by};
 ghost use Rattle.vr_cumuls.specs.Floors.{IsStep, IsVisitStep, WentBack};
 ghost use Rattle.vr_cumuls.specs.Guides.{runs_of, IsGuide};
+ghost use Rattle.vr_cumuls.specs.Runs.{AreRuns};
 ghost use Rattle.vr_cumuls.specs.Stages.{along, go_on as go_on_by, standing as standing_by};
 ghost use Rattle.vr_cumuls.specs.Stages.{to_end as to_end_by, to_visit as to_visit_by, IsStageOf};
 
 use crate::trails::{Step, Trail};
-use vr_model::{Evaluator, Model, ScheduleRule, StopRow};
+use vr_model::{Evaluator, Model, StopRow};
 use vr_routes::{Piece, Routes};
 use vr_spans::Run;
 use vr_timings::{Table, row_cost, row_of};
@@ -53,8 +53,7 @@ pub struct Guide<'m> {
 }
 
 impl<'m> Guide<'m> {
-    /// What is looked up once, nothing where the vehicle does not choose its earliest schedule, has breaks, or a stop
-    /// allows several runs of cumuls.
+    /// What is looked up once, nothing where the vehicle has breaks, or a stop allows several runs of cumuls.
     #[inline]
     pub fn of(model: &'m Model, table: &'m Table, d: u32, v: u32) -> Option<Guide<'m>>
         requires well_formed { IsWellFormed model.now }
@@ -62,14 +61,11 @@ impl<'m> Guide<'m> {
         requires vehicle { v < length model.now.vehicles }
         requires table { IsTable model.now d table.now }
         ensures guide { IfSome result IsGuide }
+        ensures runs { IfSome result (λ guide. AreRuns guide.model.now guide.d guide.v (runs_of guide)) }
         ensures model { IfSome result (λ guide. guide.model.now ≡ model.now) }
         ensures dimension { IfSome result (λ guide. guide.d ≡ d) }
         ensures vehicle { IfSome result (λ guide. guide.v ≡ v) }
     {
-        let vehicle = model.vehicles.get(v as usize);
-        if !is_earliest(vehicle.schedule) {
-            return None;
-        }
         let runs = single_runs(model, d, v, &table.stops)?;
         Some(Guide {
             model,
@@ -357,19 +353,9 @@ impl<'m> Guide<'m> {
     }
 }
 
-// Whether a rule chooses the earliest schedule.
-fn is_earliest(rule: ScheduleRule) -> bool
-    ensures { IsTrue result → rule ≡ Earliest }
-{
-    match rule {
-        ScheduleRule::Earliest => true,
-        ScheduleRule::Tight => false,
-    }
-}
-
-// Node `k` of a chain, or of the chain backwards.
+/// Node `k` of a chain, or of the chain backwards.
 #[inline(always)]
-fn node_in(chain: &[u32], reversed: bool, k: usize) -> u32
+pub fn node_in(chain: &[u32], reversed: bool, k: usize) -> u32
     requires { k < length chain.now }
     ensures { result ≡ slice_index_or (cond reversed (reverse chain.now) chain.now) k 0 }
 {

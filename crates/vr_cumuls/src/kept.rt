@@ -1,16 +1,19 @@
 //! What is kept of committed lists, and what a change makes of them.
 
 ghost use Rattle.std.specs.Prelude.{◌*◌, ◌-ℤ◌, pos};
-ghost use Rattle.std.specs.Prelude.{◌≡◌, ◌<◌, ◌≤◌, ◌+◌, All, ℕ, List, IfOk, IfSome, IsTrue, Some, drop, length};
-ghost use Rattle.std.specs.Prelude.{slice_index_or, take};
+ghost use Rattle.std.specs.Prelude.{◌≡◌, ◌<◌, ◌≤◌, ◌+◌, All, ℕ, List, IfOk, IfSome, IsTrue, Some, drop, false, length};
+ghost use Rattle.std.specs.Prelude.{slice_index_or, take, true};
 ghost use Rattle.std.specs.List.{list_all};
 ghost use Rattle.vr_model.specs.moves.Moves.{with_route};
 ghost use Rattle.vr_model.specs.routes.Routes.{route};
 ghost use Rattle.vr_model.specs.routes.Rules.{is_valid};
-ghost use Rattle.vr_model.specs.tables.Tables.{is_visit};
+ghost use Rattle.vr_model.specs.schedules.Lines.{line};
+ghost use Rattle.vr_model.specs.schedules.Schedules.{IsFeasible};
+ghost use Rattle.vr_model.specs.tables.Tables.{is_visit, vehicle_at};
 ghost use Rattle.vr_model.specs.tables.Numbers.{horizon};
 ghost use Rattle.vr_model.specs.tables.WellFormed.{IsIn, IsWellFormed};
 ghost use Rattle.vr_model.specs.declared.records.Model.{Model as Defined};
+ghost use Rattle.vr_model.specs.declared.records.ScheduleRule.TheVariants.{Earliest};
 ghost use Rattle.vr_routes.specs.Pieces.{joined, IsWithin};
 ghost use Rattle.vr_timings.specs.Bounds.{cumul_cost};
 ghost use Rattle.vr_timings.specs.Tables.{IsTable};
@@ -18,16 +21,18 @@ ghost use Rattle.vr_timings.specs.Timings.{IsTiming, IsTimingOf};
 ghost use Rattle.vr_walks.specs.Lists.{IsUsed};
 ghost use Rattle.vr_cumuls.specs.Guides.{runs_of, IsGuide};
 ghost use Rattle.vr_cumuls.specs.Floors.{end_step, first_of, IsStep, IsVisitStep};
-ghost use Rattle.vr_cumuls.specs.Kept.{steps_of, AreKept, AreSteps, HasMet, IsKept};
+ghost use Rattle.vr_cumuls.specs.Runs.{AreRuns};
+ghost use Rattle.vr_cumuls.specs.Kept.{steps_of, AreKept, AreSteps, CostsNoSoft, HasMet, IsKept};
 ghost use Rattle.vr_cumuls.specs.Stages.{paid_more, setting_out, standing, whole, IsStageOf};
 
 use crate::guides::{Guide, Stage};
+use crate::soft::has_soft_bounds;
 use crate::trails::{Step, Trail};
 use arrayvec::ArrayVec;
 use std::alloc::Global;
 use std::marker::Model;
 use vr_balance::strip;
-use vr_model::{Model as RoutingModel, NoMemory, laws};
+use vr_model::{Dimension, Model as RoutingModel, NoMemory, ScheduleRule, laws};
 use vr_routes::{Piece, Routes};
 use vr_timings::{Table, Timing};
 
@@ -36,8 +41,11 @@ use vr_timings::{Table, Timing};
 pub struct Kept {
     // the steps to its visits, from the last one to the first
     trail: Trail,
-    // the stages at the start, at each visit and at the end; fewer where there is no schedule
+    // the stages at the start, at each visit and at the end; fewer where there is no schedule, and none where the
+    // vehicle chooses its tight one
     stages: ArrayVec<Stage, 1002>,
+    // whether soft upper bounds may cost it anything, where it chooses its tight schedule
+    soft: bool,
 }
 
 /// Where a walk along new steps begins: the stage there, and the cumul at the start.
@@ -53,24 +61,37 @@ impl Kept {
         Kept {
             trail: Trail::new(),
             stages: ArrayVec::new(),
+            soft: true,
         }
     }
 
     // Forgets the stages.
     fn forget(&mut self)
-        ensures { length self.new.stages.items ≡ 0 }
+        ensures none { length self.new.stages.items ≡ 0 }
+        ensures soft { self.new.soft ≡ true }
     {
         self.stages.clear();
+        self.soft = true;
+    }
+
+    // Writes what is kept of a list of a tight vehicle: whether soft upper bounds may cost anything.
+    fn write_tight(&mut self, dimension: &Dimension)
+        ensures none { length self.new.stages.items ≡ 0 }
+        ensures soft { self.new.soft ≡ false → CostsNoSoft dimension.now }
+    {
+        self.stages.clear();
+        self.soft = has_soft_bounds(dimension);
     }
 
     // Writes the steps and the stages of a list, as far as there are any.
     fn write(&mut self, guide: &Guide, list: &[u32])
         requires guide { IsGuide guide.now }
+        requires runs { AreRuns guide.now.model.now guide.now.d guide.now.v (runs_of guide.now) }
         requires few { length list.now ≤ 1000 }
         requires visits { All (λ node. IsTrue (is_visit guide.now.model.now node)) list.now }
         ensures { IsKept guide.now.model.now guide.now.d guide.now.v list.now self.new }
     {
-        self.stages.clear();
+        self.forget();
         self.trail.steps.clear();
         let end = guide.end_step();
         if let Some(first) = guide.back_along_chain(list, false, end, &mut self.trail) {
@@ -81,8 +102,10 @@ impl Kept {
     // Writes the stages along the steps, of which `first` is the first one.
     fn write_stages(&mut self, guide: &Guide, list: &[u32], first: Step)
         requires guide { IsGuide guide.now }
+        requires runs { AreRuns guide.now.model.now guide.now.d guide.now.v (runs_of guide.now) }
         requires few { length list.now ≤ 1000 }
         requires none { length self.old.stages.items ≡ 0 }
+        requires soft { self.old.soft ≡ true }
         requires steps { AreSteps guide.now.model.now guide.now.d guide.now.v (runs_of guide.now) list.now
             (steps_of self.old) }
         requires known { All (IsVisitStep guide.now.model.now) (steps_of self.old) }
@@ -137,6 +160,7 @@ impl Kept {
         trail: &mut Trail,
     ) -> Option<Outset>
         requires guide { IsGuide guide.now }
+        requires runs { AreRuns guide.now.model.now guide.now.d guide.now.v (runs_of guide.now) }
         requires kept { IsKept guide.now.model.now guide.now.d guide.now.v list.now self.now }
         requires told { length self.now.stages.items ≡ length list.now + 2 }
         requires few { length list.now ≤ 1000 }
@@ -169,6 +193,7 @@ impl Kept {
     // The stage at the start before another step, nothing where the start allows no cumul from its floor on.
     fn set_out(&self, guide: &Guide, list: &[u32], next: Step) -> Option<Outset>
         requires guide { IsGuide guide.now }
+        requires runs { AreRuns guide.now.model.now guide.now.d guide.now.v (runs_of guide.now) }
         requires kept { IsKept guide.now.model.now guide.now.d guide.now.v list.now self.now }
         requires told { length self.now.stages.items ≡ length list.now + 2 }
         requires few { length list.now ≤ 1000 }
@@ -188,6 +213,7 @@ impl Kept {
     // The stage at the start at a cumul, the kept one where it is the same.
     fn start_stage(&self, guide: &Guide, _list: &[u32], cumul: i64) -> Stage
         requires guide { IsGuide guide.now }
+        requires runs { AreRuns guide.now.model.now guide.now.d guide.now.v (runs_of guide.now) }
         requires kept { IsKept guide.now.model.now guide.now.d guide.now.v _list.now self.now }
         requires told { length self.now.stages.items ≡ length _list.now + 2 }
         requires few { length _list.now ≤ 1000 }
@@ -206,6 +232,7 @@ impl Kept {
     // Once it comes to a cumul that is kept, all that follows is as kept.
     fn end_behind(&self, guide: &Guide, list: &[u32], behind: usize, stage: Stage) -> Option<Stage>
         requires guide { IsGuide guide.now }
+        requires runs { AreRuns guide.now.model.now guide.now.d guide.now.v (runs_of guide.now) }
         requires kept { IsKept guide.now.model.now guide.now.d guide.now.v list.now self.now }
         requires told { length self.now.stages.items ≡ length list.now + 2 }
         requires few { length list.now ≤ 1000 }
@@ -228,7 +255,7 @@ impl Kept {
         guide.to_end(gone)
     }
 
-    // What the chosen schedule of the list that pieces are joined to comes to.
+    // What the earliest schedule of the list that pieces are joined to comes to.
     fn timing_after(
         &self,
         guide: &Guide,
@@ -237,6 +264,8 @@ impl Kept {
         trail: &mut Trail,
     ) -> Option<Timing>
         requires guide { IsGuide guide.now }
+        requires runs { AreRuns guide.now.model.now guide.now.d guide.now.v (runs_of guide.now) }
+        requires rule { (vehicle_at guide.now.model.now guide.now.v).schedule ≡ Earliest }
         requires known { guide.now.v < length routes.now.lists }
         requires kept { IsKept guide.now.model.now guide.now.d guide.now.v (route routes.now.lists guide.now.v)
             self.now }
@@ -352,10 +381,10 @@ impl KeptCumuls {
     }
 
     /// What the chosen schedule of the list that pieces are joined to comes to, for vehicle `v` in dimension `d`.
-    /// Nothing where it is not told so: where nothing is kept, the vehicle does not choose its earliest schedule or has
-    /// breaks, a stop allows several runs of cumuls, or there is no schedule. What the change keeps of the front of the
-    /// list is walked as far back as it gets another floor, and of its end as much as gets another cumul. The trail is
-    /// written over.
+    /// Nothing where it is not told so: where nothing is kept, the vehicle has breaks, or a stop allows several runs of
+    /// cumuls. Of an earliest schedule what the change keeps of the front of the list is walked as far back as it gets
+    /// another floor, and of its end as much as gets another cumul; for a tight one the whole list is walked. The trail
+    /// is written over.
     pub fn timing_after(
         &self,
         model: &RoutingModel,
@@ -376,6 +405,7 @@ impl KeptCumuls {
         requires within { All (IsWithin routes.now.lists) pieces.now }
         requires used { IsUsed model.now (joined routes.now.lists pieces.now) }
         requires few { length (joined routes.now.lists pieces.now) ≤ 1000 }
+        requires feasible { IsFeasible (line model.now d v (joined routes.now.lists pieces.now)) }
         ensures timing { IfSome result (IsTiming model.now d v (joined routes.now.lists pieces.now)) }
         ensures range { IfSome result (IsTimingOf (length (joined routes.now.lists pieces.now) + 2)) }
     {
@@ -383,13 +413,40 @@ impl KeptCumuls {
             return None;
         }
         let guide = Guide::of(model, table, d, v)?;
-        let timing = self.lists[v as usize].timing_after(&guide, routes, pieces, trail)?;
-        Some(timing)
+        let kept = &self.lists[v as usize];
+        let vehicle = model.vehicles.get(v as usize);
+        match vehicle.schedule {
+            ScheduleRule::Earliest => kept.timing_after(&guide, routes, pieces, trail),
+            ScheduleRule::Tight => guide.tight_timing(routes, pieces, kept.soft, trail),
+        }
     }
 }
 
 // Writes what is kept of a list of vehicle `v` in dimension `d`.
 fn write_list(model: &RoutingModel, table: &Table, d: u32, v: u32, list: &[u32], kept: &mut Kept)
+    requires well_formed { IsWellFormed model.now }
+    requires dimension { d < length model.now.dimensions }
+    requires vehicle { v < length model.now.vehicles }
+    requires table { IsTable model.now d table.now }
+    requires few { length list.now ≤ 1000 }
+    requires visits { IsTrue (list_all (is_visit model.now) list.now) }
+    ensures { IsKept model.now d v list.now kept.new }
+{
+    match model.vehicles.get(v as usize).schedule {
+        ScheduleRule::Earliest => write_earliest(model, table, d, v, list, kept),
+        ScheduleRule::Tight => kept.write_tight(model.dimensions.get(d as usize)),
+    }
+}
+
+// The same, where it chooses its earliest schedule.
+fn write_earliest(
+    model: &RoutingModel,
+    table: &Table,
+    d: u32,
+    v: u32,
+    list: &[u32],
+    kept: &mut Kept,
+)
     requires well_formed { IsWellFormed model.now }
     requires dimension { d < length model.now.dimensions }
     requires vehicle { v < length model.now.vehicles }

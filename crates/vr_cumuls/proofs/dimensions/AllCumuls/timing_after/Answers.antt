@@ -1,9 +1,11 @@
 use Rattle.std.proofs.Common.{◌≤◌, ◌+◌, ℕ, List, length, sym, subst, arith}
+use Rattle.vr_model.specs.schedules.Lines.{line}
+use Rattle.vr_model.specs.schedules.Schedules.{IsFeasible}
 use Rattle.vr_routes.specs.Pieces.{joined, no_part, part_at}
 use Rattle.vr_timings.specs.Timings.{IsTiming, IsTimingOf}
 use Rattle.vr_walks.specs.Lists.{IsUsed}
 use Rattle.vr_parts.proofs.PartLemmas.{small}
-use Rattle.vr_cumuls.proofs.PartLemmas.{list-after, list-of, used-after}
+use Rattle.vr_cumuls.proofs.PartLemmas.{feasible-after, list-after, list-of, used-after}
 use Rattle.vr_cumuls.proofs.dimensions.AllCumuls.timing_after.Goals as goal
 
 pub timing_after-requires-clause-vehicle : goal.timing_after-requires-clause-vehicle
@@ -29,6 +31,15 @@ timing_after-requires-clause-few c =
     let lists : List (List ℕ) = c.args.routes.now.lists in
     let part = list-after m c.requires.well_formed lists c.args.change.now c.requires.made.makes.parts_are c.requires.valid c.args.k c.requires.part in
     subst (λ ps. length (joined lists ps) ≤ 1000) (sym c.pieces.ensures.value) part.few
+
+pub timing_after-requires-clause-feasible : goal.timing_after-requires-clause-feasible
+timing_after-requires-clause-feasible c =
+    let m = c.args.model.now in
+    let lists : List (List ℕ) = c.args.routes.now.lists in
+    let parts = c.args.change.now in
+    let a = feasible-after m lists parts c.requires.made.makes.parts_are c.requires.valid c.args.k c.requires.part c.args.d c.requires.dimension c.requires.some in
+    let b = subst (λ v. IsFeasible (line m c.args.d v (joined lists (part_at parts c.args.k).pieces))) (sym c.vehicle.ensures) a in
+    subst (λ ps. IsFeasible (line m c.args.d c.vehicle.result (joined lists ps))) (sym c.pieces.ensures.value) b
 
 pub returns-clause-timing : goal.returns-clause-timing
 returns-clause-timing c =

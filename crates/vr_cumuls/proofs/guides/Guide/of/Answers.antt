@@ -3,8 +3,7 @@ use Rattle.std.specs.Prelude.{All, pos}
 use Rattle.vr_model.specs.tables.Numbers.{horizon}
 use Rattle.vr_model.specs.tables.WellFormed.{IsIn}
 use Rattle.vr_model.specs.declared.records.Dimension.{Dimension}
-use Rattle.vr_model.specs.declared.records.Vehicle.{Vehicle}
-use Rattle.vr_model.specs.tables.Tables.{evaluator_of, no_dimension, no_vehicle}
+use Rattle.vr_model.specs.tables.Tables.{evaluator_of, no_dimension}
 use Rattle.vr_timings.proofs.BoundLemmas.{read-cumul}
 use Rattle.vr_cumuls.proofs.guides.Guide.of.Goals as goal
 
@@ -22,7 +21,6 @@ pub returns-clause-guide : goal.returns-clause-guide
 returns-clause-guide c =
     let r = c.in_ok-runs.ensures in
     let slack = read-cumul c.slack_of.result c.slack_of.ensures.range in
-    let rule = ap (λ (x : Vehicle). x.schedule) (c.get-vehicle.ensures.value no_vehicle) ∙ c.is_earliest.ensures c.if-not-is_earliest.false in
     record {
       well_formed = c.requires.well_formed;
       dimension = c.requires.dimension;
@@ -31,6 +29,13 @@ returns-clause-guide c =
       evaluator_is = c.evaluator_of.ensures ∙ ap (λ x. evaluator_of x c.args.v) (sym (c.get.ensures.value no_dimension));
       slack_is = slack ∙ c.slack_of.ensures.value;
       slack_range = subst (IsIn (pos 0) horizon) (sym slack) c.slack_of.ensures.range;
-      runs_are = record { rule = rule; no_breaks = r.no_breaks; start = r.start; visits = r.visits; finish = r.finish.allowed };
+      start = r.start.ends;
+      visits = r.visits;
+      finish = r.finish.allowed.ends;
       end_is = r.finish.node;
     }
+
+pub returns-clause-runs : goal.returns-clause-runs
+returns-clause-runs c =
+    let r = c.in_ok-runs.ensures in
+    record { no_breaks = r.no_breaks; start = r.start; visits = r.visits; finish = r.finish.allowed }

@@ -25,11 +25,11 @@ first_run = record { lo = pos 0; hi = pos 0 }
 
 -- the run of a visit is there
 known : (guide : Guide) (step : Step) → IsGuide guide → IsVisitStep guide.model.now step → step.node < length guide.visits.now
-known guide step h is = let low = visit_below guide.model.now step.node is.visit in let n = h.runs_are.visits.long in omega (arith, low, n)
+known guide step h is = let low = visit_below guide.model.now step.node is.visit in let n = h.visits.long in omega (arith, low, n)
 
 -- its last cumul is one
 last : (guide : Guide) (step : Step) → IsGuide guide → IsVisitStep guide.model.now step → IsIn (pos 0) horizon (slice_index_or guide.visits.now step.node first_run).hi
-last guide step h is = (h.runs_are.visits.each step.node first_run (known guide step h is) is.visit).ends.hi
+last guide step h is = (h.visits.each step.node first_run (known guide step h is) is.visit).ends.hi
 
 pub go_on-requires-clause-allowed : goal.go_on-requires-clause-allowed
 go_on-requires-clause-allowed c =

@@ -39,7 +39,7 @@ to_end-requires-clause-stage c =
 pub resumed-requires-clause-end : goal.resumed-requires-clause-end
 resumed-requires-clause-end c =
     let g = c.args.guide.now in
-    let told = c.requires.kept.told (let n = c.requires.told in omega (arith, n)) (runs_of g) c.requires.guide.runs_are in
+    let told = c.requires.kept.told (let n = c.requires.told in omega (arith, n)) (runs_of g) c.requires.runs in
     let r = end-small g.model.now g.d g.v (runs_of g) c.args.list.now (steps_of c.args.self.now) c.args.self.now.stages.items c.deref-then-gone-kept.result.now told c.deref-then-gone-kept.ensures.0 c.requires.few no_stage in
     let b = r.bound in
     record { at_least = r.not_negative; at_most = omega (arith, ints, b) }
@@ -47,14 +47,14 @@ resumed-requires-clause-end c =
 pub resumed-requires-clause-cumul : goal.resumed-requires-clause-cumul
 resumed-requires-clause-cumul c =
     let g = c.args.guide.now in
-    let told = c.requires.kept.told (let n = c.requires.told in omega (arith, n)) (runs_of g) c.requires.guide.runs_are in
+    let told = c.requires.kept.told (let n = c.requires.told in omega (arith, n)) (runs_of g) c.requires.runs in
     (end-small g.model.now g.d g.v (runs_of g) c.args.list.now (steps_of c.args.self.now) c.args.self.now.stages.items c.deref-then-gone-kept.result.now told c.deref-then-gone-kept.ensures.0 c.requires.few no_stage).cumul
 
 pub resumed-requires-clause-kept : goal.resumed-requires-clause-kept
 resumed-requires-clause-kept c =
     let g = c.args.guide.now in
     let low = c.loop-k-test.true in
-    let told = c.requires.kept.told (let n = c.requires.told in omega (arith, n)) (runs_of g) c.requires.guide.runs_are in
+    let told = c.requires.kept.told (let n = c.requires.told in omega (arith, n)) (runs_of g) c.requires.runs in
     let r = kept-small g.model.now g.d g.v (runs_of g) c.args.list.now (steps_of c.args.self.now) c.args.self.now.stages.items c.deref-in-loop-k.result.now told c.deref-in-loop-k.ensures.0 c.requires.few (c.loop-k.k + 1) no_stage (omega (arith, low)) in
     let b = r.bound in
     record { at_least = r.not_negative; at_most = omega (arith, ints, b) }
@@ -70,7 +70,7 @@ resumed-requires-clause-gone c =
 pub bounds-deref-list : goal.bounds-deref-list
 bounds-deref-list c =
     let g = c.args.guide.now in
-    let told = c.requires.kept.told (let n = c.requires.told in omega (arith, n)) (runs_of g) c.requires.guide.runs_are in
+    let told = c.requires.kept.told (let n = c.requires.told in omega (arith, n)) (runs_of g) c.requires.runs in
     let many = items-many g.model.now g.d g.v (runs_of g) c.args.list.now c.args.self.now.trail.steps.items told.steps_are in
     let read = ap length c.deref.ensures.0 in
     let low = c.loop-k-test.true in
@@ -79,7 +79,7 @@ bounds-deref-list c =
 pub to_visit-requires-clause-step : goal.to_visit-requires-clause-step
 to_visit-requires-clause-step c =
     let g = c.args.guide.now in
-    let told = c.requires.kept.told (let n = c.requires.told in omega (arith, n)) (runs_of g) c.requires.guide.runs_are in
+    let told = c.requires.kept.told (let n = c.requires.told in omega (arith, n)) (runs_of g) c.requires.runs in
     let items : List Step = c.args.self.now.trail.steps.items in
     let many = items-many g.model.now g.d g.v (runs_of g) c.args.list.now items told.steps_are in
     let long = length-reverse items in
@@ -103,7 +103,7 @@ returns-then-gone-kept c =
     let list : List ℕ = c.args.list.now in
     let low = c.loop-k-test.true in
     let stages : List Stage = c.args.self.now.stages.items in
-    let told = c.requires.kept.told (let n = c.requires.told in omega (arith, n)) (runs_of g) c.requires.guide.runs_are in
+    let told = c.requires.kept.told (let n = c.requires.told in omega (arith, n)) (runs_of g) c.requires.runs in
     let old : Stage = slice_index_or stages (k + 1) no_stage in
     let end : Stage = slice_index_or stages (suc (length list)) no_stage in
     let read : Stage = slice_index_or c.deref-in-loop-k.result.now (k + 1) no_stage in
@@ -127,7 +127,7 @@ loop-k-preserved c =
     let g = c.args.guide.now in
     let k = c.loop-k.k in
     record {
-      value = gone-next g c.args.self.now c.args.list.now c.deref.result.now k (c.requires.kept.told (let n = c.requires.told in omega (arith, n)) (runs_of g) c.requires.guide.runs_are) c.deref.ensures.0 c.loop-k-test.true c.loop-k.gone c.in-Some.next c.in-Some.ensures.value ∙ c.loop-k.invariant.value;
+      value = gone-next g c.args.self.now c.args.list.now c.deref.result.now k (c.requires.kept.told (let n = c.requires.told in omega (arith, n)) (runs_of g) c.requires.runs) c.deref.ensures.0 c.loop-k-test.true c.loop-k.gone c.in-Some.next c.in-Some.ensures.value ∙ c.loop-k.invariant.value;
       range = stage-more g.model.now (2002 + k + 1) (2002 + (k + 1)) c.in-Some.next (omega arith) (c.in-Some.ensures.range (2002 + k) c.loop-k.invariant.range);
     }
 
@@ -135,7 +135,7 @@ pub returns : goal.returns
 returns c =
     let g = c.args.guide.now in
     let steps : List Step = steps_of c.args.self.now in
-    let told = c.requires.kept.told (let n = c.requires.told in omega (arith, n)) (runs_of g) c.requires.guide.runs_are in
+    let told = c.requires.kept.told (let n = c.requires.told in omega (arith, n)) (runs_of g) c.requires.runs in
     let long = many-steps g.model.now g.d g.v (runs_of g) c.args.list.now steps told.steps_are in
     let done = c.loop-k-test.false in
     let none : drop c.loop-k.k steps ≡ [] = drop_all c.loop-k.k steps (omega (arith, long, done)) in

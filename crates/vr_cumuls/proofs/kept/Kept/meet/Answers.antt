@@ -38,7 +38,7 @@ loop-k-init c =
 pub bounds-deref-list : goal.bounds-deref-list
 bounds-deref-list c =
     let g = c.args.guide.now in
-    let told = c.requires.kept.told (let n = c.requires.told in omega (arith, n)) (runs_of g) c.requires.guide.runs_are in
+    let told = c.requires.kept.told (let n = c.requires.told in omega (arith, n)) (runs_of g) c.requires.runs in
     let many = items-many g.model.now g.d g.v (runs_of g) c.args.list.now c.args.self.now.trail.steps.items told.steps_are in
     let read = ap length c.deref.ensures.0 in
     let le = c.requires.place in
@@ -48,7 +48,7 @@ bounds-deref-list c =
 pub before-requires-clause-node : goal.before-requires-clause-node
 before-requires-clause-node c =
     let g = c.args.guide.now in
-    let told = c.requires.kept.told (let n = c.requires.told in omega (arith, n)) (runs_of g) c.requires.guide.runs_are in
+    let told = c.requires.kept.told (let n = c.requires.told in omega (arith, n)) (runs_of g) c.requires.runs in
     let items : List Step = c.args.self.now.trail.steps.items in
     let many = items-many g.model.now g.d g.v (runs_of g) c.args.list.now items told.steps_are in
     let long = length-reverse items in
@@ -69,7 +69,7 @@ returns-then-step-kept c =
     let stages : List Stage = c.args.self.now.stages.items in
     let steps : List Step = steps_of c.args.self.now in
     let end : Step = end_step g.model.now g.v (runs_of g) in
-    let told = c.requires.kept.told (let n = c.requires.told in omega (arith, n)) (runs_of g) c.requires.guide.runs_are in
+    let told = c.requires.kept.told (let n = c.requires.told in omega (arith, n)) (runs_of g) c.requires.runs in
     let many = items-many g.model.now g.d g.v (runs_of g) list items told.steps_are in
     let long = length-reverse items in
     let le = c.requires.place in
@@ -111,7 +111,7 @@ loop-k-preserved c =
     let place : ℕ = front - 1 - k in
     let items : List Step = c.args.self.now.trail.steps.items in
     let nodes : List ℕ = take front list in
-    let told = c.requires.kept.told (let n = c.requires.told in omega (arith, n)) (runs_of g) c.requires.guide.runs_are in
+    let told = c.requires.kept.told (let n = c.requires.told in omega (arith, n)) (runs_of g) c.requires.runs in
     let many = items-many g.model.now g.d g.v (runs_of g) list items told.steps_are in
     let le = c.requires.place in
     let low = c.loop-k-test.true in

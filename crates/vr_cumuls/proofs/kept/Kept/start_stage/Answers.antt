@@ -16,14 +16,14 @@ no_stage = record { at = 0; cumul = pos 0; soft = pos 0 }
 pub returns-then-kept-cumul-clause-range : goal.returns-then-kept-cumul-clause-range
 returns-then-kept-cumul-clause-range c =
     let g = c.args.guide.now in
-    let told = c.requires.kept.told (let n = c.requires.told in omega (arith, n)) (runs_of g) c.requires.guide.runs_are in
+    let told = c.requires.kept.told (let n = c.requires.told in omega (arith, n)) (runs_of g) c.requires.runs in
     kept-small g.model.now g.d g.v (runs_of g) c.args._list.now (steps_of c.args.self.now) c.args.self.now.stages.items c.deref.result.now told c.deref.ensures.0 c.requires.few 0 no_stage (omega arith)
 
 pub returns-then-kept-cumul-clause-value : goal.returns-then-kept-cumul-clause-value
 returns-then-kept-cumul-clause-value c =
     let g = c.args.guide.now in
     let stages : List Stage = c.args.self.now.stages.items in
-    let told = c.requires.kept.told (let n = c.requires.told in omega (arith, n)) (runs_of g) c.requires.guide.runs_are in
+    let told = c.requires.kept.told (let n = c.requires.told in omega (arith, n)) (runs_of g) c.requires.runs in
     let first : Step = first_of (steps_of c.args.self.now) (end_step g.model.now g.v (runs_of g)) in
     let out = kept-out g.model.now g.d g.v (runs_of g) c.args._list.now (steps_of c.args.self.now) stages told no_stage in
     let read = ap (λ (l : List Stage). slice_index_or l 0 no_stage) c.deref.ensures.0 in

@@ -5,7 +5,8 @@ use Rattle.vr_model.specs.routes.Routes.{route}
 use Rattle.vr_routes.specs.Pieces.{joined}
 use Rattle.vr_routes.proofs.JoinedPieces.{all_left, all_right}
 use Rattle.vr_cumuls.specs.Floors.{WentBack}
-use Rattle.vr_cumuls.specs.Guides.{runs_of, IsGuide}
+use Rattle.vr_cumuls.specs.Guides.{runs_of}
+use Rattle.vr_cumuls.specs.Runs.{AreRuns}
 use Rattle.vr_cumuls.specs.Kept.{steps_of, AreAllStages, HasMet, IsKept}
 use Rattle.vr_cumuls.specs.declared.guides.Guide.{Guide}
 use Rattle.vr_cumuls.specs.declared.kept.Kept.{Kept}
@@ -14,23 +15,23 @@ use Rattle.vr_cumuls.proofs.AfterLemmas.{after-timed, trail-known}
 use Rattle.vr_cumuls.proofs.kept.Kept.timing_after.Goals as goal
 
 -- what is kept is told
-told : (guide : Guide) (kept : Kept) (list read : List ℕ) → IsGuide guide → IsKept guide.model.now guide.d guide.v list kept → read ≡ list → length kept.stages.items ≡ length read + 2
+told : (guide : Guide) (kept : Kept) (list read : List ℕ) → AreRuns guide.model.now guide.d guide.v (runs_of guide) → IsKept guide.model.now guide.d guide.v list kept → read ≡ list → length kept.stages.items ≡ length read + 2
     → AreAllStages guide.model.now guide.d guide.v (runs_of guide) list (steps_of kept) kept.stages.items
-told guide kept list read h is same test = is.told (let n = ap length same in omega (arith, test, n)) (runs_of guide) h.runs_are
+told guide kept list read h is same test = is.told (let n = ap length same in omega (arith, test, n)) (runs_of guide) h
 
 pub step_behind-next-requires-clause-many : goal.step_behind-next-requires-clause-many
 step_behind-next-requires-clause-many c =
     let g = c.args.guide.now in
     let list : List ℕ = route c.args.routes.now.lists g.v in
     let test = c.if-len-list.false in
-    let is = told g c.args.self.now list c.list-list.result.now c.requires.guide c.requires.kept c.list-list.ensures.value (let n = c.len.ensures.value in omega (arith, test, n)) in
+    let is = told g c.args.self.now list c.list-list.result.now c.requires.runs c.requires.kept c.list-list.ensures.value (let n = c.len.ensures.value in omega (arith, test, n)) in
     items-many g.model.now g.d g.v (runs_of g) list c.args.self.now.trail.steps.items is.steps_are ∙ ap length (sym c.list-list.ensures.value)
 
 pub step_behind-next-requires-clause-known : goal.step_behind-next-requires-clause-known
 step_behind-next-requires-clause-known c =
     let g = c.args.guide.now in
     let test = c.if-len-list.false in
-    (told g c.args.self.now (route c.args.routes.now.lists g.v) c.list-list.result.now c.requires.guide c.requires.kept c.list-list.ensures.value (let n = c.len.ensures.value in omega (arith, test, n))).known
+    (told g c.args.self.now (route c.args.routes.now.lists g.v) c.list-list.result.now c.requires.runs c.requires.kept c.list-list.ensures.value (let n = c.len.ensures.value in omega (arith, test, n))).known
 
 pub back_along_pieces-requires-clause-visits : goal.back_along_pieces-requires-clause-visits
 back_along_pieces-requires-clause-visits c =
@@ -58,7 +59,7 @@ returns c =
     let lists : List (List ℕ) = c.args.routes.now.lists in
     let list : List ℕ = route lists g.v in
     let test = c.if-len-list.false in
-    let is = told g c.args.self.now list c.list-list.result.now h c.requires.kept c.list-list.ensures.value (let n = c.len.ensures.value in omega (arith, test, n)) in
+    let is = told g c.args.self.now list c.list-list.result.now c.requires.runs c.requires.kept c.list-list.ensures.value (let n = c.len.ensures.value in omega (arith, test, n)) in
     let ends = c.strip-ends.result in
     let between = c.back_along_pieces.new.trail.steps.items in
     let trail = c.meet.new.trail.steps.items in
@@ -69,5 +70,5 @@ returns c =
     let back = subst (λ l. WentBack g.model.now g.d g.v (runs_of g) middle next l between first) c.clear.ensures c.in_ok-first.ensures.back in
     let meets = subst (λ (l : List ℕ). HasMet g.model.now g.d g.v (runs_of g) (take ends.front l) first between trail met) c.list-list.ensures.value c.in_ok-met.ensures in
     let timed = after-timed g.model.now g.d g.v (runs_of g) list (steps_of c.args.self.now) is.steps_are (joined lists c.args.pieces.now) ends.front ends.behind middle c.strip-ends.ensures.joins next first between trail c.step_behind-next.ensures.value back
-    met meets c.in_ok-gone.gone c.in_ok-end.end c.in_ok-gone.ensures.value c.in_ok-end.ensures c.chosen_is_least.ensures h.well_formed h.dimension h.runs_are c.requires.used c.requires.few in
+    met meets c.in_ok-gone.gone c.in_ok-end.end c.in_ok-gone.ensures.value c.in_ok-end.ensures c.chosen_is_least.ensures h.well_formed h.dimension c.requires.runs c.requires.rule c.requires.used c.requires.few in
     record { timing = timed.is_timing; range = timed.range }

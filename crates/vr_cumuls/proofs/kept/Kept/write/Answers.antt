@@ -8,5 +8,5 @@ use Rattle.vr_cumuls.proofs.kept.Kept.write.Goals as goal
 pub write_stages-requires-clause-known : goal.write_stages-requires-clause-known
 write_stages-requires-clause-known c =
     let w = c.in-Some.ensures.back in
-    let same = ap reverse (w.trail ∙ ap (λ (l : List Step). l ++ reverse w.steps) c.clear-2.ensures) ∙ reverse-reverse w.steps in
+    let same = ap reverse (w.trail ∙ ap (λ (l : List Step). l ++ reverse w.steps) c.clear.ensures) ∙ reverse-reverse w.steps in
     subst (All (IsVisitStep c.args.guide.now.model.now)) (sym same) w.known

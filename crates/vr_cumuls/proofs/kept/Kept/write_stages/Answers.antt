@@ -59,6 +59,7 @@ loop-k-init c =
       last = λ other. ap (λ (l : List Stage). slice_index_or l 0 other) items;
       range = c.standing-stage.ensures.range;
       trail = refl;
+      soft = refl;
     }
   where
     nothing : (l : List Stage) → length l ≡ 0 → l ≡ []
@@ -91,6 +92,7 @@ loop-k-preserved c =
       last = λ other. ap (λ (l : List Stage). slice_index_or l (k + 1) other) items ∙ get_or_push old next other (k + 1) (omega (arith, many));
       range = range;
       trail = i.trail;
+      soft = i.soft;
     }
 
 pub returns-in-Some-to_end : goal.returns-in-Some-to_end
@@ -110,4 +112,4 @@ returns-in-Some-to_end c =
     let whole = stages-whole g.model.now g.d g.v (runs_of g) list steps c.requires.steps c.requires.known old new c.in-Some-to_end.end long many (subst (λ k. AreStages g.model.now g.d g.v (runs_of g) steps k old) all i.stages) c.push-in-Some-to_end.ensures.items
     (λ other. ap (to_end g.model.now g.d g.v (runs_of g)) (ap (λ k. slice_index_or old k other) (sym all) ∙ i.last other) ∙ e.value)
     (stage-more g.model.now (suc c.loop-k.k + 1) (suc (suc (length list))) c.in-Some-to_end.end (omega (arith, all)) (e.range (suc c.loop-k.k) i.range)) in
-    kept-so g.model.now g.d g.v (runs_of g) c.requires.guide.runs_are list _ (subst (λ (t : Trail). AreAllStages g.model.now g.d g.v (runs_of g) list (reverse t.steps.items) new) (sym i.trail) whole)
+    kept-so g.model.now g.d g.v (runs_of g) c.requires.runs list _ (subst (λ (t : Trail). AreAllStages g.model.now g.d g.v (runs_of g) list (reverse t.steps.items) new) (sym i.trail) whole) (i.soft ∙ c.requires.soft)

@@ -13,4 +13,5 @@ invariant-loop-k l = record {
   last : (other : Stage) → slice_index_or l.self.stages.items l.k other ≡ l.stage;
   range : IsStageOf l.guide.model.now (suc l.k) l.stage;
   trail : l.self.trail ≡ l.fn.self.trail;
+  soft : l.self.soft ≡ l.fn.self.soft;
 }

@@ -1,0 +1,44 @@
+use Rattle.std.proofs.Common.{◌∙◌, ℕ, List, ap, subst, arith}
+use Rattle.vr_routes.specs.Pieces.{joined}
+use Rattle.vr_timings.proofs.BoundLemmas.{read-cumul}
+use Rattle.vr_cumuls.specs.Floors.{WentBack}
+use Rattle.vr_cumuls.specs.Guides.{runs_of}
+use Rattle.vr_cumuls.specs.Stages.{standing}
+use Rattle.vr_cumuls.proofs.AlongLemmas.{along-known, along-timed}
+use Rattle.vr_cumuls.proofs.KeptLemmas.{all-visits}
+use Rattle.vr_cumuls.proofs.StageLemmas.{stage-more}
+use Rattle.vr_cumuls.proofs.guides.Guide.timing_along.Goals as goal
+
+pub back_along_pieces-requires-clause-visits : goal.back_along_pieces-requires-clause-visits
+back_along_pieces-requires-clause-visits c = all-visits c.args.self.now.model.now (joined c.args.routes.now.lists c.args.pieces.now) c.requires.visits
+
+pub along_trail-requires-clause-steps : goal.along_trail-requires-clause-steps
+along_trail-requires-clause-steps c =
+    let g = c.args.self.now in
+    let list : List ℕ = joined c.args.routes.now.lists c.args.pieces.now in
+    let next = c.end_step-next.result in
+    let first = c.in_ok-first.first in
+    let trail = c.back_along_pieces.new.trail.steps.items in
+    let back = subst (λ l. WentBack g.model.now g.d g.v (runs_of g) list next l trail first) c.clear.ensures c.in_ok-first.ensures.back in
+    along-known g.model.now g.d g.v (runs_of g) list next first trail c.end_step-next.ensures.value back
+
+pub along_trail-requires-clause-stage : goal.along_trail-requires-clause-stage
+along_trail-requires-clause-stage c = stage-more c.args.self.now.model.now 1 1002 c.standing-stage.result (omega arith) c.standing-stage.ensures.range
+
+pub to_end-requires-clause-stage : goal.to_end-requires-clause-stage
+to_end-requires-clause-stage c = stage-more c.args.self.now.model.now 2002 4000 c.in_ok-gone.gone (omega arith) c.in_ok-gone.ensures.range
+
+pub returns : goal.returns
+returns c =
+    let g = c.args.self.now in
+    let h = c.requires.guide in
+    let list : List ℕ = joined c.args.routes.now.lists c.args.pieces.now in
+    let next = c.end_step-next.result in
+    let first = c.in_ok-first.first in
+    let trail = c.back_along_pieces.new.trail.steps.items in
+    let back = subst (λ l. WentBack g.model.now g.d g.v (runs_of g) list next l trail first) c.clear.ensures c.in_ok-first.ensures.back in
+    let floor = c.in_ok-floor.floor in
+    let stage = c.standing-stage.ensures.value ∙ ap (standing g.model.now g.d g.v) (read-cumul floor c.in_ok-floor.ensures.range) in
+    let timed = along-timed g.model.now g.d g.v (runs_of g) list next first trail c.end_step-next.ensures.value back floor c.in_ok-floor.ensures.value c.standing-stage.result c.in_ok-gone.gone c.in_ok-end.end stage
+    c.in_ok-gone.ensures.value c.in_ok-end.ensures.value c.chosen_is_least.ensures h.well_formed h.dimension c.requires.allows c.requires.few in
+    record { timing = timed.is_timing; range = timed.range }
