@@ -10,3 +10,4 @@ pub mod RunLemmas
 pub mod SingleLemmas
 pub mod EarlyLemmas
 pub mod ProbeLemmas
+pub mod TryLemmas

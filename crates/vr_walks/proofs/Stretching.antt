@@ -12,6 +12,7 @@ use Rattle.vr_model.specs.declared.records.Model.{Model}
 use Rattle.vr_walks.specs.Lists.{IsTour}
 use Rattle.vr_walks.specs.declared.stretches.Stretch.{Stretch}
 use Rattle.vr_walks.specs.Stretches.{SharesFront, IsStretch}
+use Rattle.vr_walks.specs.Tries.{list_tries, tries_between}
 
 -- nodes are shared up to the first that differ
 prefix_is : (xs ys : List ℕ) (a : ℕ) → a ≤ length xs → a ≤ length ys → ((j : ℕ) → j < a → get_or xs j 0 ≡ get_or ys j 0) → (a < length xs → a < length ys → get_or xs a 0 ≢ get_or ys a 0) → shared_front xs ys ≡ a
@@ -141,19 +142,29 @@ goes_on old new a shares (inr other) = inl (let le = shares.within_old in less a
     less : (m n : ℕ) → m ≤ n → (m ≡ n → ⊥) → m < n
     less m n le other = grind arith
 
--- the weight of a list that changed is that of the walk through its stretch
-pub weight_is : (model : Model) (d v : ℕ) (old new : List ℕ) (stretch : Stretch) → IsStretch old new stretch → is_empty new ≡ false → IsTour model old → IsTour model new → stretch.front < length old ⊎ stretch.front < length new
-    → list_weight model d v old new ≡ walk_weight (line model d v new) stretch.front (length new - stretch.back + 1)
-weight_is model d v old new stretch is some tour tour_too changed =
+-- what is told of a list that changed, by where it leaves the one before and meets it again, is told of its stretch
+changed_is : (told : ℕ → ℕ → ℕ) (model : Model) (old new : List ℕ) (stretch : Stretch) → IsStretch old new stretch → is_empty new ≡ false → IsTour model old → IsTour model new → stretch.front < length old ⊎ stretch.front < length new
+    → cond (is_empty new || is_same old new) 0 (told (shared_front old new) (length new + 1 - shared_back old new)) ≡ told stretch.front (length new - stretch.back + 1)
+changed_is told model old new stretch is some tour tour_too changed =
     let differ : is_same old new ≡ false = fails (is_same old new) (λ t. same_lists (same_of_test old new t)) in
     let front = front_is old new stretch is in
     let back = back_is old new stretch is tour.distinct tour_too.distinct changed in
     let last : length new + 1 - shared_back old new ≡ length new - stretch.back + 1 = (let le = is.back.within_new in omega (arith, back, le)) in
-    ap₂ (λ b t. cond (b || t) 0 (walk_weight (line model d v new) (shared_front old new) (length new + 1 - shared_back old new))) some differ
-    ∙ ap₂ (λ a e. walk_weight (line model d v new) a e) front last
+    ap₂ (λ b t. cond (b || t) 0 (told (shared_front old new) (length new + 1 - shared_back old new))) some differ
+    ∙ ap₂ told front last
   where
     same_lists : old ≡ new → ⊥
     same_lists e = elim changed [
       | inl low ↦ is.front_most low (subst (λ l. stretch.front < length l) e low) (ap (λ l. get_or l stretch.front 0) e)
       | inr low ↦ is.front_most (subst (λ l. stretch.front < length l) (sym e) low) low (ap (λ l. get_or l stretch.front 0) e)
     ]
+
+-- the weight of a list that changed is that of the walk through its stretch
+pub weight_is : (model : Model) (d v : ℕ) (old new : List ℕ) (stretch : Stretch) → IsStretch old new stretch → is_empty new ≡ false → IsTour model old → IsTour model new → stretch.front < length old ⊎ stretch.front < length new
+    → list_weight model d v old new ≡ walk_weight (line model d v new) stretch.front (length new - stretch.back + 1)
+weight_is model d v old new = changed_is (walk_weight (line model d v new)) model old new
+
+-- and walks without a break go through its stretch
+pub tries_are : (model : Model) (d v : ℕ) (old new : List ℕ) (stretch : Stretch) → IsStretch old new stretch → is_empty new ≡ false → IsTour model old → IsTour model new → stretch.front < length old ⊎ stretch.front < length new
+    → list_tries model d v old new ≡ tries_between (line model d v new) stretch.front (length new - stretch.back + 1)
+tries_are model d v old new = changed_is (tries_between (line model d v new)) model old new

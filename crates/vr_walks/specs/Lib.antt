@@ -4,6 +4,7 @@ pub mod VisitSets
 pub mod VisitRuns
 pub mod Singles
 pub mod Counts
+pub mod Tries
 pub mod Stops
 pub mod Stretches
 pub mod KnownRows

@@ -1,6 +1,6 @@
 //! Walks without a break, which often tell whether a list of a vehicle with breaks is feasible.
 
-ghost use Rattle.std.specs.Prelude.{◌≡◌, ◌<◌, ◌≤◌, suc, IfSome, IsTrue, length};
+ghost use Rattle.std.specs.Prelude.{◌≡◌, ◌+◌, ◌-◌, ◌*◌, ◌<◌, ◌≤◌, suc, IfSome, IsTrue, length};
 ghost use Rattle.vr_model.specs.schedules.Choices.{is_feasible};
 ghost use Rattle.vr_model.specs.schedules.Lines.{line};
 ghost use Rattle.vr_model.specs.schedules.Schedules.{IsFeasible};
@@ -9,20 +9,22 @@ ghost use Rattle.vr_steps.specs.Levels.{AreLevels};
 ghost use Rattle.vr_steps.specs.Reached.{AreReached, AreReachingEnd};
 ghost use Rattle.vr_walks.specs.Lists.{IsUsed};
 ghost use Rattle.vr_walks.specs.Stops.{AreEndsOf};
+ghost use Rattle.vr_walks.specs.Tries.{tries_between};
 ghost use Rattle.vr_walks.specs.VisitRuns.{AreVisitRuns, IsFinish};
 
 use crate::ends::Ends;
 use crate::runs::shares_with;
 use crate::single::{Ahead, carry_run, finish_of, run_at};
 use crate::spliced::Spliced;
-use std::sync::ledger::{Blank, Ledger};
+use std::sync::ledger::Ledger;
 use vr_model::{Model, Steps, laws};
 use vr_spans::Run;
 use vr_steps::Levels;
 
 // Whether the line of a list is feasible, where walks without a break on the way tell, and no visit allows more than
 // one run: it is not where what is reached with no break taken misses all from which the end is reached with all of
-// them taken, and it is where a walk with some number of breaks taken before it serves. Nobody counts the steps.
+// them taken, and it is where a walk with some number of breaks taken before it serves. It counts a try for each arc
+// that such a walk goes over.
 pub(crate) fn told_without_breaks<L: Ledger>(
     model: &Model,
     d: u32,
@@ -34,11 +36,8 @@ pub(crate) fn told_without_breaks<L: Ledger>(
     last: usize,
     from: &Levels,
     to: &Levels,
-    blank: Blank,
+    tries: &mut Steps<L>,
 ) -> Option<bool>
-    requires name { blank.name ≡ L.name }
-    requires parts { blank.parts ≡ L.parts }
-    requires some { 0 < blank.parts }
     requires well_formed { IsWellFormed model.now }
     requires dimension { d < length model.now.dimensions }
     requires vehicle { v < length model.now.vehicles }
@@ -51,16 +50,16 @@ pub(crate) fn told_without_breaks<L: Ledger>(
     requires from { AreReached (line model.now d v list.now) begin from.now }
     requires to_form { AreLevels ends.now.breaks to.now }
     requires to { AreReachingEnd (line model.now d v list.now) last to.now }
-    ensures { IfSome result (λ passed. passed ≡ is_feasible (line model.now d v list.now)) }
+    ensures told { IfSome result (λ passed. passed ≡ is_feasible (line model.now d v list.now)) }
+    ensures count { tries.new ≤ tries.old + tries_between (line model.now d v list.now) begin last }
 {
     laws::lines_are_sound();
     laws::chosen_where_feasible();
     laws::feasible_where_levels_meet();
     let finish = finish_of(model, d, v, ends)?;
     let begun = run_at(from, 0)?;
-    let mut steps = Steps::<L>::new(blank);
     let run = carry_run(
-        model, d, v, runs, finish, list, begin, last, 0, begun, &mut steps,
+        model, d, v, runs, finish, list, begin, last, 0, begun, tries,
     );
     let all = to.len() - 1;
     if !shares_with(run, to.level(all)) {
@@ -71,7 +70,7 @@ pub(crate) fn told_without_breaks<L: Ledger>(
         return Some(true);
     }
     let goes = goes_with_some(
-        model, d, v, runs, finish, list, begin, last, from, to, &mut steps,
+        model, d, v, runs, finish, list, begin, last, from, to, tries,
     );
     if goes {
         return Some(true);
@@ -91,7 +90,7 @@ fn goes_with_some<L: Ledger>(
     last: usize,
     from: &Levels,
     to: &Levels,
-    steps: &mut Steps<L>,
+    tries: &mut Steps<L>,
 ) -> bool
     requires well_formed { IsWellFormed model.now }
     requires dimension { d < length model.now.dimensions }
@@ -105,11 +104,12 @@ fn goes_with_some<L: Ledger>(
     requires from { AreReached (line model.now d v list.now) begin from.now }
     requires to_form { AreLevels (line model.now d v list.now).breaks to.now }
     requires to { AreReachingEnd (line model.now d v list.now) last to.now }
-    ensures { IsTrue result → IsFeasible (line model.now d v list.now) }
+    ensures goes { IsTrue result → IsFeasible (line model.now d v list.now) }
+    ensures count { tries.new ≤ tries.old + length (line model.now d v list.now).breaks * (last - begin) }
 {
     for taken in 1..from.len() {
         if goes_with(
-            model, d, v, runs, finish, list, begin, last, taken, from, to, steps,
+            model, d, v, runs, finish, list, begin, last, taken, from, to, tries,
         ) {
             return true;
         }
@@ -130,7 +130,7 @@ fn goes_with<L: Ledger>(
     taken: usize,
     from: &Levels,
     to: &Levels,
-    steps: &mut Steps<L>,
+    tries: &mut Steps<L>,
 ) -> bool
     requires well_formed { IsWellFormed model.now }
     requires dimension { d < length model.now.dimensions }
@@ -145,7 +145,8 @@ fn goes_with<L: Ledger>(
     requires from { AreReached (line model.now d v list.now) begin from.now }
     requires to_form { AreLevels (line model.now d v list.now).breaks to.now }
     requires to { AreReachingEnd (line model.now d v list.now) last to.now }
-    ensures { IsTrue result → IsFeasible (line model.now d v list.now) }
+    ensures goes { IsTrue result → IsFeasible (line model.now d v list.now) }
+    ensures count { tries.new ≤ tries.old + (last - begin) }
 {
     laws::lines_are_sound();
     laws::feasible_where_levels_meet();
@@ -153,7 +154,7 @@ fn goes_with<L: Ledger>(
         return false;
     };
     let run = carry_run(
-        model, d, v, runs, finish, list, begin, last, taken, begun, steps,
+        model, d, v, runs, finish, list, begin, last, taken, begun, tries,
     );
     let goes = shares_with(run, to.level(taken));
     goes

@@ -1,6 +1,6 @@
 //! Walks that carry one run of cumuls from stop to stop.
 
-ghost use Rattle.std.specs.Prelude.{◌≡◌, ◌+◌, ◌<◌, ◌≤◌, ◌^◌, suc, All, IfSome, length, []};
+ghost use Rattle.std.specs.Prelude.{◌≡◌, ◌+◌, ◌-◌, ◌<◌, ◌≤◌, ◌^◌, suc, All, IfSome, length, []};
 ghost use Rattle.std.specs.Prelude.{pos, neg_ℤ, ◌+ℤ◌, ◌≤ℤ◌};
 ghost use Rattle.std.specs.Int.{int_max, int_min};
 ghost use Rattle.vr_model.specs.schedules.Choices.{is_feasible};
@@ -152,7 +152,8 @@ pub(crate) fn walk_by_runs<L: Ledger>(
 }
 
 // The run that is reached at stop `last` by a walk without breaks from stop `begin`, where this run is reached with
-// `taken` breaks taken. It has no number where nothing is reached on the way; then the walk stops there.
+// `taken` breaks taken. It has no number where nothing is reached on the way; then the walk stops there. It counts a
+// step for each arc.
 pub(crate) fn carry_run<L: Ledger>(
     model: &Model,
     d: u32,
@@ -180,6 +181,7 @@ pub(crate) fn carry_run<L: Ledger>(
     ensures cumuls { result.lo ≤ℤ result.hi → IsCumulRun result }
     ensures reached { IsReachedRun (line model.now d v list.now) last taken result }
     ensures count { taken ≡ 0 → steps.new ≤ steps.old + steps_between (line model.now d v list.now) begin last }
+    ensures arcs { steps.new ≤ steps.old + (last - begin) }
 {
     laws::lines_are_sound();
     laws::reached_by_crossing();

@@ -1,6 +1,6 @@
 //! Walks along a list, and through what changed in one.
 
-ghost use Rattle.std.specs.Prelude.{◌≡◌, ◌+◌, ◌-◌, ◌<◌, ◌≤◌, suc, false, IsTrue, length, IfOk, IfSome};
+ghost use Rattle.std.specs.Prelude.{◌≡◌, ◌+◌, ◌-◌, ◌<◌, ◌≤◌, suc, false, IsTrue, length, IfOk, IfSome, None};
 ghost use Rattle.std.specs.List.{list_all};
 ghost use Rattle.vr_model.specs.tables.Tables.{is_visit};
 ghost use Rattle.vr_model.specs.tables.WellFormed.{IsWellFormed};
@@ -15,6 +15,7 @@ ghost use Rattle.vr_walks.specs.Lists.{is_feasible_list, IsTour, IsUsed};
 ghost use Rattle.vr_walks.specs.KnownRows.{AreRowsIfUsed};
 ghost use Rattle.vr_walks.specs.Spliced.{spliced};
 ghost use Rattle.vr_walks.specs.Stops.{AreEndsOf, AreStops};
+ghost use Rattle.vr_walks.specs.Tries.{list_tries, tries_between};
 ghost use Rattle.vr_walks.specs.VisitRuns.{AreVisitRuns};
 ghost use Rattle.vr_walks.specs.VisitSets.{AreVisitSets};
 
@@ -33,8 +34,8 @@ use vr_steps::Levels;
 
 // Whether the line of a list is feasible, found by a walk from stop `begin`, which is reached at the levels `from`, to
 // stop `last`, from which the end is reached at the levels `to`. The walk carries one run where that is all there is;
-// else, where no visit allows more, walks without a break are asked first, whose steps nobody counts.
-fn walk_through<L: Ledger>(
+// else, where no visit allows more, walks without a break are asked first, whose arcs are counted as tries.
+fn walk_through<L: Ledger, M: Ledger>(
     model: &Model,
     d: u32,
     v: u32,
@@ -48,6 +49,7 @@ fn walk_through<L: Ledger>(
     to: &Levels,
     walk: &mut Walk,
     steps: &mut Steps<L>,
+    tries: &mut Steps<M>,
 ) -> Result<bool, NoMemory>
     requires well_formed { IsWellFormed model.now }
     requires dimension { d < length model.now.dimensions }
@@ -64,32 +66,59 @@ fn walk_through<L: Ledger>(
     requires to { AreReachingEnd (line model.now d v list.now) last to.now }
     ensures exact { IfOk result (λ passed. passed ≡ is_feasible (line model.now d v list.now)) }
     ensures count { steps.new ≤ steps.old + walk_weight (line model.now d v list.now) begin last }
+    ensures tries { tries.new ≤ tries.old + tries_between (line model.now d v list.now) begin last }
 {
-    if let Some(runs) = runs {
-        if let Some(between) = one_run_each(model, d, v, ends, from, to) {
-            let passed = walk_by_runs(model, d, v, runs, between, list, begin, last, steps);
-            return Ok(passed);
-        }
-        if let Some(passed) = told_without_breaks::<Brand>(
-            model,
-            d,
-            v,
-            ends,
-            runs,
-            list,
-            begin,
-            last,
-            from,
-            to,
-            Blank::new(1),
-        ) {
-            return Ok(passed);
-        }
+    let told = told_by_runs(
+        model, d, v, ends, runs, list, begin, last, from, to, steps, tries,
+    );
+    if let Some(passed) = told {
+        return Ok(passed);
     }
     let passed = walk_by_sets(
         model, d, v, ends, visits, list, begin, last, from, to, walk, steps,
     )?;
     Ok(passed)
+}
+
+// The same, where walks that carry one run tell.
+fn told_by_runs<L: Ledger, M: Ledger>(
+    model: &Model,
+    d: u32,
+    v: u32,
+    ends: &Ends,
+    runs: Option<&[Run]>,
+    list: &Spliced,
+    begin: usize,
+    last: usize,
+    from: &Levels,
+    to: &Levels,
+    steps: &mut Steps<L>,
+    tries: &mut Steps<M>,
+) -> Option<bool>
+    requires well_formed { IsWellFormed model.now }
+    requires dimension { d < length model.now.dimensions }
+    requires vehicle { v < length model.now.vehicles }
+    requires ends { AreEndsOf model.now d v ends.now }
+    requires runs { IfSome runs (λ found. AreVisitRuns model.now d v found.now) }
+    requires used { IsUsed model.now list.now }
+    requires order { begin < last }
+    requires within { last ≤ suc (length list.now) }
+    requires from_form { AreLevels ends.now.breaks from.now }
+    requires from { AreReached (line model.now d v list.now) begin from.now }
+    requires to_form { AreLevels ends.now.breaks to.now }
+    requires to { AreReachingEnd (line model.now d v list.now) last to.now }
+    ensures told { IfSome result (λ passed. passed ≡ is_feasible (line model.now d v list.now)) }
+    ensures untold { result ≡ None → steps.new ≡ steps.old }
+    ensures count { steps.new ≤ steps.old + walk_weight (line model.now d v list.now) begin last }
+    ensures tries { tries.new ≤ tries.old + tries_between (line model.now d v list.now) begin last }
+{
+    let runs = runs?;
+    if let Some(between) = one_run_each(model, d, v, ends, from, to) {
+        let passed = walk_by_runs(model, d, v, runs, between, list, begin, last, steps);
+        return Some(passed);
+    }
+    let told = told_without_breaks(model, d, v, ends, runs, list, begin, last, from, to, tries)?;
+    Some(told)
 }
 
 // The same, carrying the sets of each number of breaks.
@@ -147,11 +176,12 @@ fn walk_by_sets<L: Ledger>(
 /// the definitions give the changed list. Afterwards nothing is said of where the walk stands.
 ///
 /// Where no visit allows more than one run, it carries one run in place of sets; of a vehicle with breaks, walks
-/// without a break are tried before, which tell of most moves and count nothing.
+/// without a break are tried before, one for each number of breaks taken before it, which tell of most moves. They
+/// count a try for each arc that they go over, none of which lies outside the changed stretch.
 ///
 /// `NoMemory` where there was no memory: it is taken only where a set has more than four runs, or a vehicle more breaks
 /// than any before.
-pub fn passes_along<L: Ledger>(
+pub fn passes_along<L: Ledger, M: Ledger>(
     model: &Model,
     d: u32,
     v: u32,
@@ -163,6 +193,7 @@ pub fn passes_along<L: Ledger>(
     middle: &[u32],
     walk: &mut Walk,
     steps: &mut Steps<L>,
+    tries: &mut Steps<M>,
 ) -> Result<bool, NoMemory>
     requires well_formed { IsWellFormed model.now }
     requires dimension { d < length model.now.dimensions }
@@ -178,6 +209,8 @@ pub fn passes_along<L: Ledger>(
         ≡ is_feasible_list model.now d v (spliced old.now front behind middle.now)) }
     ensures count { steps.new
         ≤ steps.old + list_weight model.now d v old.now (spliced old.now front behind middle.now) }
+    ensures tries { tries.new
+        ≤ tries.old + list_tries model.now d v old.now (spliced old.now front behind middle.now) }
 {
     let new = Spliced::of(old, front, behind, middle);
     let n = new.len();
@@ -212,6 +245,7 @@ pub fn passes_along<L: Ledger>(
         to,
         walk,
         steps,
+        tries,
     )?;
     Ok(passed)
 }
@@ -258,7 +292,7 @@ pub fn goes_through(
     Ok(goes)
 }
 
-// The same as `walk_through`, where nobody counts steps.
+// The same as `walk_through`, where nobody counts steps or tries.
 pub(crate) fn walk_uncounted<L: Ledger>(
     model: &Model,
     d: u32,
@@ -292,10 +326,65 @@ pub(crate) fn walk_uncounted<L: Ledger>(
     requires to { AreReachingEnd (line model.now d v list.now) last to.now }
     ensures { IfOk result (λ goes. goes ≡ is_feasible (line model.now d v list.now)) }
 {
-    let whole = Spliced::whole(list);
     let mut steps = Steps::<L>::new(blank);
+    let goes = walk_untried::<L, Brand>(
+        model,
+        d,
+        v,
+        ends,
+        visits,
+        runs,
+        list,
+        begin,
+        last,
+        from,
+        to,
+        walk,
+        &mut steps,
+        Blank::new(1),
+    )?;
+    Ok(goes)
+}
+
+// The same as `walk_through`, where nobody counts tries.
+fn walk_untried<L: Ledger, M: Ledger>(
+    model: &Model,
+    d: u32,
+    v: u32,
+    ends: &Ends,
+    visits: &[Spans],
+    runs: Option<&[Run]>,
+    list: &[u32],
+    begin: usize,
+    last: usize,
+    from: &Levels,
+    to: &Levels,
+    walk: &mut Walk,
+    steps: &mut Steps<L>,
+    blank: Blank,
+) -> Result<bool, NoMemory>
+    requires name { blank.name ≡ M.name }
+    requires parts { blank.parts ≡ M.parts }
+    requires some { 0 < blank.parts }
+    requires well_formed { IsWellFormed model.now }
+    requires dimension { d < length model.now.dimensions }
+    requires vehicle { v < length model.now.vehicles }
+    requires ends { AreEndsOf model.now d v ends.now }
+    requires visits { AreVisitSets model.now d v visits.now }
+    requires runs { IfSome runs (λ found. AreVisitRuns model.now d v found.now) }
+    requires used { IsUsed model.now list.now }
+    requires order { begin < last }
+    requires within { last ≤ suc (length list.now) }
+    requires from_form { AreLevels ends.now.breaks from.now }
+    requires from { AreReached (line model.now d v list.now) begin from.now }
+    requires to_form { AreLevels ends.now.breaks to.now }
+    requires to { AreReachingEnd (line model.now d v list.now) last to.now }
+    ensures { IfOk result (λ goes. goes ≡ is_feasible (line model.now d v list.now)) }
+{
+    let whole = Spliced::whole(list);
+    let mut tries = Steps::<M>::new(blank);
     let goes = walk_through(
-        model, d, v, ends, visits, runs, &whole, begin, last, from, to, walk, &mut steps,
+        model, d, v, ends, visits, runs, &whole, begin, last, from, to, walk, steps, &mut tries,
     )?;
     Ok(goes)
 }

@@ -7,8 +7,8 @@ use Rattle.vr_walks.proofs.LineParts.{sound_line}
 use Rattle.vr_walks.proofs.ProbeLemmas.{accepted}
 use Rattle.vr_walks.proofs.probing.goes_with.Goals as goal
 
-pub returns : goal.returns
-returns g c = λ goes.
+pub returns-clause-goes : goal.returns-clause-goes
+returns-clause-goes g c = λ goes.
     let m = c.args.model.now in
     let list = c.args.list.now in
     let L = line m c.args.d c.args.v list in

@@ -7,10 +7,16 @@ use Rattle.vr_steps.specs.Levels.{level_at}
 use Rattle.vr_steps.proofs.LevelLemmas.{level_is}
 use Rattle.vr_walks.proofs.LineParts.{feasible_as_tested, sound_line}
 use Rattle.vr_walks.proofs.ProbeLemmas.{accepted, refused}
+use Rattle.vr_walks.proofs.SingleLemmas.{run_reached}
+use Rattle.vr_walks.proofs.TryLemmas.{first_try, all_tries}
 use Rattle.vr_walks.proofs.probing.told_without_breaks.Goals as goal
 
-pub returns-then-not-shares_with : goal.returns-then-not-shares_with
-returns-then-not-shares_with g c =
+pub carry_run-run-requires-clause-from : goal.carry_run-run-requires-clause-from
+carry_run-run-requires-clause-from g c =
+    run_reached (line c.args.model.now c.args.d c.args.v c.args.list.now) c.args.begin 0 c.args.from.now c.in_ok-begun.begun (omega arith) c.requires.from c.in_ok-begun.ensures
+
+pub returns-then-not-shares_with-clause-told : goal.returns-then-not-shares_with-clause-told
+returns-then-not-shares_with-clause-told g c =
     let m = c.args.model.now in
     let list = c.args.list.now in
     let L = line m c.args.d c.args.v list in
@@ -26,8 +32,8 @@ returns-then-not-shares_with g c =
           (λ shared. let served = c.shares_with.ensures.1 (subst (ShareANumber (run ∷ [])) there shared) in clash c.shares_with.result served c.if-not-shares_with.true) feasible),
     )
 
-pub returns-then-goes : goal.returns-then-goes
-returns-then-goes g c =
+pub returns-then-goes-clause-told : goal.returns-then-goes-clause-told
+returns-then-goes-clause-told g c =
     let m = c.args.model.now in
     let list = c.args.list.now in
     let L = line m c.args.d c.args.v list in
@@ -41,6 +47,22 @@ returns-then-goes g c =
       λ feasible. refl,
     )
 
-pub returns-then-goes-2 : goal.returns-then-goes-2
-returns-then-goes-2 g c =
-    feasible_as_tested c.chosen_where_feasible.ensures (line c.args.model.now c.args.d c.args.v c.args.list.now) true (λ t. c.goes_with_some-goes.ensures c.if-goes-2.true, λ feasible. refl)
+pub returns-then-goes-2-clause-told : goal.returns-then-goes-2-clause-told
+returns-then-goes-2-clause-told g c =
+    feasible_as_tested c.chosen_where_feasible.ensures (line c.args.model.now c.args.d c.args.v c.args.list.now) true (λ t. c.goes_with_some-goes.ensures.goes c.if-goes-2.true, λ feasible. refl)
+
+pub returns-then-not-shares_with-clause-count : goal.returns-then-not-shares_with-clause-count
+returns-then-not-shares_with-clause-count g c =
+    first_try (length (line c.args.model.now c.args.d c.args.v c.args.list.now).breaks) (c.args.last - c.args.begin) c.args.tries.now c.carry_run-run.ensures.arcs
+
+pub returns-then-goes-clause-count : goal.returns-then-goes-clause-count
+returns-then-goes-clause-count g c =
+    first_try (length (line c.args.model.now c.args.d c.args.v c.args.list.now).breaks) (c.args.last - c.args.begin) c.args.tries.now c.carry_run-run.ensures.arcs
+
+pub returns-then-goes-2-clause-count : goal.returns-then-goes-2-clause-count
+returns-then-goes-2-clause-count g c =
+    all_tries (length (line c.args.model.now c.args.d c.args.v c.args.list.now).breaks) (c.args.last - c.args.begin) c.args.tries.now c.carry_run-run.ensures.arcs c.goes_with_some-goes.ensures.count
+
+pub returns-clause-count : goal.returns-clause-count
+returns-clause-count g c =
+    all_tries (length (line c.args.model.now c.args.d c.args.v c.args.list.now).breaks) (c.args.last - c.args.begin) c.args.tries.now c.carry_run-run.ensures.arcs c.goes_with_some-goes.ensures.count

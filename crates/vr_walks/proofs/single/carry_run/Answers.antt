@@ -21,9 +21,18 @@ returns-then-run-clause-count g c = λ none.
     c.args.steps.now (steps_between L c.args.begin c.args.last) c.loop-k.steps c.tick.new.self (c.loop-k.invariant.count none) c.tick.ensures in
     omega (arith, n)
 
+pub returns-then-run-clause-arcs : goal.returns-then-run-clause-arcs
+returns-then-run-clause-arcs g c =
+    let arcs = c.loop-k.invariant.arcs in
+    let begun = c.loop-k.invariant.begun in
+    let low = c.loop-k-test.true in
+    let one = c.tick.ensures in
+    omega (arith, arcs, begun, low, one)
+
 pub loop-k-preserved : goal.loop-k-preserved
 loop-k-preserved g c =
     let L = line c.args.model.now c.args.d c.args.v c.args.list.now in record {
+      begun = let begun = c.loop-k.invariant.begun in omega (arith, begun);
       within = omega arith;
       origin = c.stop_ahead-ahead.ensures.node;
       below = c.stop_ahead-ahead.ensures.below;
@@ -31,7 +40,15 @@ loop-k-preserved g c =
       reached = c.cross_by_run-run.ensures.reached;
       count = λ none. arc_counted c.runs_are_counted.ensures c.reached_as_tested.ensures L c.loop-k.k c.args.last c.args.taken c.loop-k.run c.loop-k-test.true c.loop-k.invariant.cumuls c.loop-k.invariant.reached none
           c.args.steps.now (steps_between L c.args.begin c.args.last) c.loop-k.steps c.tick.new.self (c.loop-k.invariant.count none) c.tick.ensures;
+      arcs = let arcs = c.loop-k.invariant.arcs in let one = c.tick.ensures in omega (arith, arcs, one);
     }
+
+pub returns-clause-arcs : goal.returns-clause-arcs
+returns-clause-arcs g c =
+    let arcs = c.loop-k.invariant.arcs in
+    let begun = c.loop-k.invariant.begun in
+    let within = c.loop-k.invariant.within in
+    omega (arith, arcs, begun, within)
 
 pub returns-clause-reached : goal.returns-clause-reached
 returns-clause-reached g c =

@@ -8,10 +8,12 @@ use Rattle.vr_walks.proofs.single.carry_run.Given as goal
 -- the run is reached at stop k; what was counted and what is left are within the whole
 abbrev pub invariant-loop-k : goal.invariant-loop-k
 invariant-loop-k g l = record {
+  begun : l.begin ≤ l.k;
   within : l.k ≤ l.last;
   origin : l.origin ≡ node_at_stop l.model l.v l.list l.k;
   below : l.origin < l.model.nodes;
   cumuls : IsCumulRun l.run;
   reached : IsReachedRun (line l.model l.d l.v l.list) l.k l.taken l.run;
   count : l.taken ≡ 0 → l.steps + steps_between (line l.model l.d l.v l.list) l.k l.last ≤ l.fn.steps + steps_between (line l.model l.d l.v l.list) l.begin l.last;
+  arcs : l.steps + l.begin ≤ l.fn.steps + l.k;
 }

@@ -6,8 +6,9 @@ use Rattle.vr_model.specs.schedules.Lines.{line}
 use Rattle.vr_model.specs.schedules.Choices.{is_feasible}
 use Rattle.vr_walks.specs.Spliced.{spliced}
 use Rattle.vr_walks.specs.Stretches.{SharesFront, SharesBack}
+use Rattle.vr_walks.specs.Tries.{list_tries, tries_between}
 use Rattle.vr_walks.proofs.Splicing.{shares_back}
-use Rattle.vr_walks.proofs.Stretching.{goes_on, weight_is}
+use Rattle.vr_walks.proofs.Stretching.{goes_on, tries_are, weight_is}
 use Rattle.vr_walks.proofs.Transfer.{as_many_rows, left_at, met_at, not_empty}
 use Rattle.std.proofs.Common.{ℕ, List}
 use Rattle.vr_model.specs.declared.records.Model.{Model}
@@ -86,3 +87,23 @@ returns-clause-count g c =
     ∙ (sym (weight_is c.args.model.now c.args.d c.args.v c.args.old.now c.of-new.result c.of-stretch.result c.of-stretch.ensures used_here.some c.requires.old_tour used_here.tour changed)
     ∙ ap (list_weight c.args.model.now c.args.d c.args.v c.args.old.now) c.of-new.ensures))
     c.walk_through.ensures.count
+
+pub returns-in_err-passed-clause-tries : goal.returns-in_err-passed-clause-tries
+returns-in_err-passed-clause-tries g c =
+    let used_here = used c.args.model.now (spliced c.args.old.now c.args.front c.args.behind c.args.middle.now) c.of-new.result c.of-new.ensures c.requires.tour c.len-n.result c.len-n.ensures.value c.if-n-eq0.false in
+    let changed = goes_on c.args.old.now c.of-new.result c.of-stretch.result.front c.of-stretch.ensures.front (told_apart (length c.args.old.now) c.len-n.ensures.value c.else-stretch-old.either) in
+    subst (λ n. c.walk_through.new.tries ≤ c.args.tries.now + n)
+    (ap (λ n. tries_between (line c.args.model.now c.args.d c.args.v c.of-new.result) c.of-stretch.result.front (n - c.of-stretch.result.back + 1)) c.len-n.ensures.value
+    ∙ (sym (tries_are c.args.model.now c.args.d c.args.v c.args.old.now c.of-new.result c.of-stretch.result c.of-stretch.ensures used_here.some c.requires.old_tour used_here.tour changed)
+    ∙ ap (list_tries c.args.model.now c.args.d c.args.v c.args.old.now) c.of-new.ensures))
+    c.walk_through.ensures.tries
+
+pub returns-clause-tries : goal.returns-clause-tries
+returns-clause-tries g c =
+    let used_here = used c.args.model.now (spliced c.args.old.now c.args.front c.args.behind c.args.middle.now) c.of-new.result c.of-new.ensures c.requires.tour c.len-n.result c.len-n.ensures.value c.if-n-eq0.false in
+    let changed = goes_on c.args.old.now c.of-new.result c.of-stretch.result.front c.of-stretch.ensures.front (told_apart (length c.args.old.now) c.len-n.ensures.value c.else-stretch-old.either) in
+    subst (λ n. c.walk_through.new.tries ≤ c.args.tries.now + n)
+    (ap (λ n. tries_between (line c.args.model.now c.args.d c.args.v c.of-new.result) c.of-stretch.result.front (n - c.of-stretch.result.back + 1)) c.len-n.ensures.value
+    ∙ (sym (tries_are c.args.model.now c.args.d c.args.v c.args.old.now c.of-new.result c.of-stretch.result c.of-stretch.ensures used_here.some c.requires.old_tour used_here.tour changed)
+    ∙ ap (list_tries c.args.model.now c.args.d c.args.v c.args.old.now) c.of-new.ensures))
+    c.walk_through.ensures.tries
