@@ -8,8 +8,8 @@
 //! Between cuts the routes hold valid lists, whose cost is known, and what the definition tells of the whole search is
 //! what was told already, and behind that what it tells of the search from here.
 //!
-//! Who rebuilds is handed in ([`Rebuild`]), so that the crate does not stand on the construction that inserts items. The
-//! search asks it once for each cut that leaves open lists, and no more often than the limit allows tries.
+//! Who rebuilds is handed in ([`Rebuild`]), so that the crate does not stand on the construction that inserts items.
+//! The search asks it once for each cut that leaves open lists, and no more often than the limit allows tries.
 #![tactic(auto)]
 
 mod cutting;

@@ -21,12 +21,12 @@ use vr_watch::{Watch, note_all};
 
 /// Makes the first cut whose result costs less, again and again, and tells the watchers of the first solution and of
 /// each cut. A cut takes a chain of at most `cut` visits, from 1 to 100, out of a list, and with each of them the other
-/// node of its pair; its result is what is left, rebuilt, where that is open. The routes then hold the last lists, which
-/// are the best. `limit` allows up to 10^9 tries, which are cuts, and from 1 to 10^9 solutions.
+/// node of its pair; its result is what is left, rebuilt, where that is open. The routes then hold the last lists,
+/// which are the best. `limit` allows up to 10^9 tries, which are cuts, and from 1 to 10^9 solutions.
 ///
 /// The report's end is `Solutions` where as many solutions were found as the limit allows, which is asked first; else
-/// `Optimum` where no cut of the last lists gives valid lists that cost less, and `Tries` where the tries ran out before
-/// that was known.
+/// `Optimum` where no cut of the last lists gives valid lists that cost less, and `Tries` where the tries ran out
+/// before that was known.
 ///
 /// The only refusal is want of memory. The routes then hold valid lists, no more was rebuilt than the limit has tries,
 /// and the watchers have been told the events up to there: of the event in hand, the first few.
