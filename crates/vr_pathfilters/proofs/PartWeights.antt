@@ -7,9 +7,7 @@ use Rattle.std.proofs.lemmas.List.Sums.{sum_by-cons, sum_by_more, sum_by-take-le
 use Rattle.vr_model.specs.deciding.Testing.{eq_of_test, test_of_eq}
 use Rattle.vr_model.proofs.tables.Tests.{fails}
 use Rattle.vr_model.specs.tables.Numbers.{below}
-use Rattle.vr_model.specs.routes.Routes.{route}
-use Rattle.vr_model.specs.schedules.Weights.{list_weight, weight}
-use Rattle.vr_model.specs.declared.records.Model.{Model}
+use Rattle.vr_model.specs.routes.Routes.{route, vehicles}
 use Rattle.vr_routes.specs.Pieces.{ListAfter, joined, changed, part_at, no_part}
 use Rattle.vr_routes.specs.Changes.{AreParts}
 use Rattle.vr_routes.proofs.CommitLemmas.{as_many_lists}
@@ -75,20 +73,40 @@ over_parts f n (p ∷ ps) apart each =
     by : (fv less : ℕ) {whole all tail tail' : ℕ} → whole ≡ fv + tail → tail' ≡ tail → tail' ≤ less → less + fv ≡ all → whole ≤ all
     by fv less a b c d = omega (arith, a, b, c, d)
 
--- what a list of the vehicle after a change weighs
-abbrev pub weight_after : Model → ℕ → List (List ℕ) → List ListAfter → ℕ → ℕ
-weight_after model d lists parts v = list_weight model d v (route lists v) (route (changed lists parts) v)
+-- what is told of the list of a vehicle and of the one that a change gives it
+abbrev pub told_after : (ℕ → List ℕ → List ℕ → ℕ) → List (List ℕ) → List ListAfter → ℕ → ℕ
+told_after told lists parts v = told v (route lists v) (route (changed lists parts) v)
 
-module _ (model : Model) (d : ℕ) (lists : List (List ℕ)) (parts : List ListAfter) (are : AreParts lists parts) where
-  pub weight_of_part : (k : ℕ) → k < length parts → list_weight model d (part_at parts k).vehicle (route lists (part_at parts k).vehicle) (joined lists (part_at parts k).pieces) ≡ weight_after model d lists parts (part_at parts k).vehicle
-  weight_of_part k low = ap (list_weight model d (part_at parts k).vehicle (route lists (part_at parts k).vehicle)) (sym (part_is lists parts are k low))
+-- the same of all vehicles
+abbrev pub told_of_all : (ℕ → List ℕ → List ℕ → ℕ) → List (List ℕ) → List (List ℕ) → ℕ
+told_of_all told lists after = sum_by (λ v. told v (route lists v) (route after v)) (vehicles after)
 
-  pub parts_within : sum_by (λ p. weight_after model d lists parts p.vehicle) parts ≤ weight model d lists (changed lists parts)
-  parts_within = over_parts (weight_after model d lists parts) (length (changed lists parts)) parts are.apart (λ k e low. let n = as_many_lists lists parts in let h = are.each_vehicle k e low in omega (arith, n, h))
+module _ (told : ℕ → List ℕ → List ℕ → ℕ) (lists : List (List ℕ)) (parts : List ListAfter) (are : AreParts lists parts) where
+  told_of_part : (k : ℕ) → k < length parts → told (part_at parts k).vehicle (route lists (part_at parts k).vehicle) (joined lists (part_at parts k).pieces) ≡ told_after told lists parts (part_at parts k).vehicle
+  told_of_part k low = ap (told (part_at parts k).vehicle (route lists (part_at parts k).vehicle)) (sym (part_is lists parts are k low))
+
+  parts_within : sum_by (λ p. told_after told lists parts p.vehicle) parts ≤ told_of_all told lists (changed lists parts)
+  parts_within = over_parts (told_after told lists parts) (length (changed lists parts)) parts are.apart (λ k e low. let n = as_many_lists lists parts in let h = are.each_vehicle k e low in omega (arith, n, h))
 
   -- the parts before place k, with part k
-  pub part_more : (k : ℕ) → k < length parts → sum_by (λ p. weight_after model d lists parts p.vehicle) (take (k + 1) parts) ≡ sum_by (λ p. weight_after model d lists parts p.vehicle) (take k parts) + weight_after model d lists parts (part_at parts k).vehicle
-  part_more k low = sum_by_more (λ p. weight_after model d lists parts p.vehicle) parts k no_part low
+  part_more : (k : ℕ) → k < length parts → sum_by (λ p. told_after told lists parts p.vehicle) (take (k + 1) parts) ≡ sum_by (λ p. told_after told lists parts p.vehicle) (take k parts) + told_after told lists parts (part_at parts k).vehicle
+  part_more k low = sum_by_more (λ p. told_after told lists parts p.vehicle) parts k no_part low
 
-  pub some_within : (k : ℕ) → sum_by (λ p. weight_after model d lists parts p.vehicle) (take k parts) ≤ weight model d lists (changed lists parts)
-  some_within k = let h = sum_by-take-le (λ p. weight_after model d lists parts p.vehicle) parts k in let all = parts_within in omega (arith, h, all)
+  -- what is counted of the parts before place k, and then of part k
+  pub count_more : (k : ℕ) → k < length parts → (start : ℕ) {now new : ℕ} → now ≤ start + sum_by (λ p. told_after told lists parts p.vehicle) (take k parts)
+      → new ≤ now + told (part_at parts k).vehicle (route lists (part_at parts k).vehicle) (joined lists (part_at parts k).pieces)
+      → new ≤ start + sum_by (λ p. told_after told lists parts p.vehicle) (take (k + 1) parts)
+  count_more k low start before here =
+      more start (sum_by (λ p. told_after told lists parts p.vehicle) (take k parts)) (told_after told lists parts (part_at parts k).vehicle) before here (told_of_part k low) (part_more k low)
+    where
+      more : (start before here : ℕ) {now new sum part : ℕ} → now ≤ start + before → new ≤ now + part → part ≡ here → sum ≡ before + here → new ≤ start + sum
+      more start before here a b c d = omega (arith, a, b, c, d)
+
+  -- and it is within that of all lists
+  pub count_within : (k start : ℕ) {new : ℕ} → new ≤ start + sum_by (λ p. told_after told lists parts p.vehicle) (take k parts) → new ≤ start + told_of_all told lists (changed lists parts)
+  count_within k start is =
+      let some = sum_by-take-le (λ p. told_after told lists parts p.vehicle) parts k in
+      within start (sum_by (λ p. told_after told lists parts p.vehicle) (take k parts)) (sum_by (λ p. told_after told lists parts p.vehicle) parts) (told_of_all told lists (changed lists parts)) is some parts_within
+    where
+      within : (start some all whole : ℕ) {new : ℕ} → new ≤ start + some → some ≤ all → all ≤ whole → new ≤ start + whole
+      within start some all whole a b c = omega (arith, a, b, c)

@@ -8,3 +8,4 @@ pub mod Pairs
 pub mod Turns
 pub mod Replaced
 pub mod Counted
+pub mod Tries

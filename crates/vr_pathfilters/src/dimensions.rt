@@ -10,19 +10,22 @@ ghost use Rattle.vr_model.specs.tables.WellFormed.{IsWellFormed, WherePresent};
 ghost use Rattle.vr_routes.specs.Changes.{IsMadeOn};
 ghost use Rattle.vr_routes.specs.Pieces.{ListAfter, changed, joined, part_at};
 ghost use Rattle.vr_routes.specs.Tours.{Tours};
-ghost use Rattle.vr_filter.specs.Filters.{after};
+ghost use Rattle.vr_filter.specs.Filters.{after, IsSameRule, IsSameWeight, NothingReady};
 ghost use Rattle.vr_walks.specs.KnownRows.{AreRowsIfUsed};
 ghost use Rattle.vr_walks.specs.Lists.{is_feasible_list, IsTour};
 ghost use Rattle.vr_walks.specs.Stops.{AreStops};
+ghost use Rattle.vr_walks.specs.Tries.{list_tries};
 ghost use Rattle.vr_pathfilters.specs.Lists.{holds_of_each};
 ghost use Rattle.vr_pathfilters.specs.TourLists.{AreTours};
 ghost use Rattle.vr_pathfilters.specs.Known.{AreKnown, StandsAt, IsReady, AreRowsOfPart, with_part};
 ghost use Rattle.vr_pathfilters.specs.Known.{KnowsLoads, KnowsRows};
+ghost use Rattle.vr_pathfilters.specs.Tries.{tries_in};
 
 use crate::loads::{all_carried, loads_of, put_list};
 use std::alloc::Global;
+use std::marker::Brand;
 use std::mem;
-use std::sync::ledger::Ledger;
+use std::sync::ledger::{Blank, Ledger};
 use vr_balance::strip;
 use vr_filter::PathFilter;
 use vr_loads::Loads;
@@ -96,6 +99,81 @@ impl<'m> DimensionFilter<'m> {
             is_prepared: false,
         })
     }
+
+    /// The same as `passes`, where tries are counted too: the arcs that walks without a break go over, which are asked
+    /// first of a vehicle with breaks. They go along what a change changes alone, at most once for each number of
+    /// breaks that may be taken before it.
+    pub fn passes_within<L: Ledger, M: Ledger>(
+        &mut self,
+        routes: &Routes,
+        change: &Change,
+        steps: &mut Steps<L>,
+        tries: &mut Steps<M>,
+    ) -> Result<bool, NoMemory>
+        requires stands { StandsAt self.old.model.now self.old.d self.old.stops self.old.loads self.old.known.items
+            routes.now }
+        requires made { IsMadeOn routes.now change.now }
+        ensures answer { IfOk result (λ passed. passed
+            ≡ holds_of_each (is_feasible_list self.old.model.now self.old.d) (changed routes.now.lists change.now)) }
+        ensures stands { StandsAt self.new.model.now self.new.d self.new.stops self.new.loads self.new.known.items
+            routes.now }
+        ensures model { self.new.model.now ≡ self.old.model.now }
+        ensures dimension { self.new.d ≡ self.old.d }
+        ensures unready { self.new.is_prepared ≡ false }
+        ensures count { steps.new ≤ steps.old
+            + weight_in self.old.model.now self.old.d routes.now.lists (changed routes.now.lists change.now) }
+        ensures tries { tries.new ≤ tries.old
+            + tries_in self.old.model.now self.old.d routes.now.lists (changed routes.now.lists change.now) }
+    {
+        self.is_prepared = false;
+        match &self.loads {
+            Some(loads) => Ok(all_carried(self.model, self.d, loads, routes, change)),
+            None => {
+                let passed = all_pass(
+                    self.model,
+                    self.d,
+                    &self.stops,
+                    &self.known,
+                    routes,
+                    change,
+                    &mut self.list,
+                    &mut self.walk,
+                    steps,
+                    tries,
+                )?;
+                Ok(passed)
+            }
+        }
+    }
+
+    // The same, where nobody counts tries.
+    fn passes_untried<L: Ledger, M: Ledger>(
+        &mut self,
+        routes: &Routes,
+        change: &Change,
+        steps: &mut Steps<L>,
+        blank: Blank,
+    ) -> Result<bool, NoMemory>
+        requires name { blank.name ≡ M.name }
+        requires parts { blank.parts ≡ M.parts }
+        requires some { 0 < blank.parts }
+        requires stands { StandsAt self.old.model.now self.old.d self.old.stops self.old.loads self.old.known.items
+            routes.now }
+        requires made { IsMadeOn routes.now change.now }
+        ensures answer { IfOk result (λ passed. passed
+            ≡ holds_of_each (is_feasible_list self.old.model.now self.old.d) (changed routes.now.lists change.now)) }
+        ensures stands { StandsAt self.new.model.now self.new.d self.new.stops self.new.loads self.new.known.items
+            routes.now }
+        ensures model { self.new.model.now ≡ self.old.model.now }
+        ensures dimension { self.new.d ≡ self.old.d }
+        ensures unready { self.new.is_prepared ≡ false }
+        ensures count { steps.new ≤ steps.old
+            + weight_in self.old.model.now self.old.d routes.now.lists (changed routes.now.lists change.now) }
+    {
+        let mut tries = Steps::<M>::new(blank);
+        let passed = self.passes_within(routes, change, steps, &mut tries)?;
+        Ok(passed)
+    }
 }
 
 impl<'m> PathFilter for DimensionFilter<'m> {
@@ -114,24 +192,8 @@ impl<'m> PathFilter for DimensionFilter<'m> {
         change: &Change,
         steps: &mut Steps<L>,
     ) -> Result<bool, NoMemory> {
-        self.is_prepared = false;
-        match &self.loads {
-            Some(loads) => Ok(all_carried(self.model, self.d, loads, routes, change)),
-            None => {
-                let passed = all_pass(
-                    self.model,
-                    self.d,
-                    &self.stops,
-                    &self.known,
-                    routes,
-                    change,
-                    &mut self.list,
-                    &mut self.walk,
-                    steps,
-                )?;
-                Ok(passed)
-            }
-        }
+        let passed = self.passes_untried::<L, Brand>(routes, change, steps, Blank::new(1))?;
+        Ok(passed)
     }
 
     fn prepare(&mut self, routes: &Routes, change: &Change) -> Result<(), NoMemory> {
@@ -311,7 +373,7 @@ fn know_all(
 }
 
 // Whether the lists of all parts of a change are empty or their lines feasible.
-fn all_pass<L: Ledger>(
+fn all_pass<L: Ledger, M: Ledger>(
     model: &Model,
     d: u32,
     stops: &Stops,
@@ -321,6 +383,7 @@ fn all_pass<L: Ledger>(
     list: &mut Row,
     walk: &mut Walk,
     steps: &mut Steps<L>,
+    tries: &mut Steps<M>,
 ) -> Result<bool, NoMemory>
     requires stands { StandsAt model.now d stops.now None known.now routes.now }
     requires made { IsMadeOn routes.now change.now }
@@ -328,9 +391,14 @@ fn all_pass<L: Ledger>(
         ≡ holds_of_each (is_feasible_list model.now d) (changed routes.now.lists change.now)) }
     ensures count { steps.new
         ≤ steps.old + weight_in model.now d routes.now.lists (changed routes.now.lists change.now) }
+    ensures tries { tries.new
+        ≤ tries.old + tries_in model.now d routes.now.lists (changed routes.now.lists change.now) }
 {
     for k in 0..change.parts() {
-        if !part_passes(model, d, stops, known, routes, change, k, list, walk, steps)? {
+        let passed = part_passes(
+            model, d, stops, known, routes, change, k, list, walk, steps, tries,
+        )?;
+        if !passed {
             return Ok(false);
         }
     }
@@ -338,7 +406,7 @@ fn all_pass<L: Ledger>(
 }
 
 // Whether the list of one part of a change is empty or its line feasible.
-fn part_passes<L: Ledger>(
+fn part_passes<L: Ledger, M: Ledger>(
     model: &Model,
     d: u32,
     stops: &Stops,
@@ -349,6 +417,7 @@ fn part_passes<L: Ledger>(
     list: &mut Row,
     walk: &mut Walk,
     steps: &mut Steps<L>,
+    tries: &mut Steps<M>,
 ) -> Result<bool, NoMemory>
     requires stands { StandsAt model.now d stops.now None known.now routes.now }
     requires made { IsMadeOn routes.now change.now }
@@ -356,6 +425,9 @@ fn part_passes<L: Ledger>(
     ensures answer { IfOk result (λ passed. passed ≡ is_feasible_list model.now d (part_at change.now k).vehicle
         (joined routes.now.lists (part_at change.now k).pieces)) }
     ensures count { steps.new ≤ steps.old + list_weight model.now d (part_at change.now k).vehicle
+        (route routes.now.lists (part_at change.now k).vehicle)
+        (joined routes.now.lists (part_at change.now k).pieces) }
+    ensures tries { tries.new ≤ tries.old + list_tries model.now d (part_at change.now k).vehicle
         (route routes.now.lists (part_at change.now k).vehicle)
         (joined routes.now.lists (part_at change.now k).pieces) }
 {
@@ -374,6 +446,7 @@ fn part_passes<L: Ledger>(
         list.as_slice(),
         walk,
         steps,
+        tries,
     )?;
     Ok(passed)
 }

@@ -2,18 +2,18 @@ use Rattle.std.proofs.Common.{◌≡◌, ◌∙◌, ℕ, ◌+◌, ◌<◌, ◌�
 use Rattle.std.specs.Prelude.{IsTrue}
 use Rattle.vr_model.specs.routes.Routes.{route}
 use Rattle.vr_model.specs.schedules.Weights.{list_weight}
-use Rattle.vr_model.specs.declared.records.Model.{Model}
 use Rattle.vr_walks.specs.Lists.{IsTour, is_feasible_list}
 use Rattle.vr_walks.specs.KnownRows.{AreRowsIfUsed}
+use Rattle.vr_walks.specs.Tries.{list_tries}
 use Rattle.vr_pathfilters.proofs.PartEnds.{part_between, part_vehicle, part_within}
 use Rattle.vr_pathfilters.proofs.PartTours.{tour_of, rule_at}
 use Rattle.vr_pathfilters.proofs.dimensions.part_passes.Goals as goal
 
--- the weight of a list of a vehicle and of the one that it becomes, where both are known by other names
-weights_are : (model : Model) (d : ℕ) (lists : List (List ℕ)) {v w : ℕ} {list new after : List ℕ} → v ≡ w → list ≡ route lists v → new ≡ after
-    → list_weight model d v list new ≡ list_weight model d w (route lists w) after
-weights_are model d lists {v} {w} {list} {new} {after} same old is =
-    ap₂ (λ u l. list_weight model d u l new) same (old ∙ ap (route lists) same) ∙ ap (list_weight model d w (route lists w)) is
+-- what is told of a list of a vehicle and of the one that it becomes, where both are known by other names
+told_same : (told : ℕ → List ℕ → List ℕ → ℕ) (lists : List (List ℕ)) {v w : ℕ} {list new after : List ℕ} → v ≡ w → list ≡ route lists v → new ≡ after
+    → told v list new ≡ told w (route lists w) after
+told_same told lists {v} {w} {list} {new} {after} same old is =
+    ap₂ (λ u l. told u l new) same (old ∙ ap (route lists) same) ∙ ap (told w (route lists w)) is
 
 pub passes_along-requires-clause-rows : goal.passes_along-requires-clause-rows
 passes_along-requires-clause-rows g c =
@@ -63,7 +63,7 @@ pub returns-in_err-passed-clause-count : goal.returns-in_err-passed-clause-count
 returns-in_err-passed-clause-count g c =
     let between = part_between c.requires.stands.well_formed c.requires.stands.tours_are c.requires.made c.args.k c.requires.part c.pieces.ensures.value c.strip-ends.ensures c.list.ensures.value (c.as_slice.ensures.value ∙ c.join_into.ensures) in
     subst (λ n. c.passes_along.new.steps ≤ c.args.steps.now + n)
-    (weights_are c.args.model.now c.args.d c.args.routes.now.lists c.vehicle-v.ensures c.list.ensures.value between.whole) c.passes_along.ensures.count
+    (told_same (list_weight c.args.model.now c.args.d) c.args.routes.now.lists c.vehicle-v.ensures c.list.ensures.value between.whole) c.passes_along.ensures.count
 
 pub returns-clause-answer : goal.returns-clause-answer
 returns-clause-answer g c =
@@ -74,4 +74,16 @@ pub returns-clause-count : goal.returns-clause-count
 returns-clause-count g c =
     let between = part_between c.requires.stands.well_formed c.requires.stands.tours_are c.requires.made c.args.k c.requires.part c.pieces.ensures.value c.strip-ends.ensures c.list.ensures.value (c.as_slice.ensures.value ∙ c.join_into.ensures) in
     subst (λ n. c.passes_along.new.steps ≤ c.args.steps.now + n)
-    (weights_are c.args.model.now c.args.d c.args.routes.now.lists c.vehicle-v.ensures c.list.ensures.value between.whole) c.passes_along.ensures.count
+    (told_same (list_weight c.args.model.now c.args.d) c.args.routes.now.lists c.vehicle-v.ensures c.list.ensures.value between.whole) c.passes_along.ensures.count
+
+pub returns-in_err-passed-clause-tries : goal.returns-in_err-passed-clause-tries
+returns-in_err-passed-clause-tries g c =
+    let between = part_between c.requires.stands.well_formed c.requires.stands.tours_are c.requires.made c.args.k c.requires.part c.pieces.ensures.value c.strip-ends.ensures c.list.ensures.value (c.as_slice.ensures.value ∙ c.join_into.ensures) in
+    subst (λ n. c.passes_along.new.tries ≤ c.args.tries.now + n)
+    (told_same (list_tries c.args.model.now c.args.d) c.args.routes.now.lists c.vehicle-v.ensures c.list.ensures.value between.whole) c.passes_along.ensures.tries
+
+pub returns-clause-tries : goal.returns-clause-tries
+returns-clause-tries g c =
+    let between = part_between c.requires.stands.well_formed c.requires.stands.tours_are c.requires.made c.args.k c.requires.part c.pieces.ensures.value c.strip-ends.ensures c.list.ensures.value (c.as_slice.ensures.value ∙ c.join_into.ensures) in
+    subst (λ n. c.passes_along.new.tries ≤ c.args.tries.now + n)
+    (told_same (list_tries c.args.model.now c.args.d) c.args.routes.now.lists c.vehicle-v.ensures c.list.ensures.value between.whole) c.passes_along.ensures.tries
