@@ -19,11 +19,11 @@ returns-then-is_idle-3 c idle =
       | else-is_idle-2 w ↦ not-both _ three (w.value-is ∙ w.if-is_idle-2.false)
     ] in
     let fixed : CostAlike fixed_part model = elim c.if-is_idle.branch [
-      | then-is_idle w ↦ c.is_idle.ensures w.if-is_idle.true
+      | then-is_idle w ↦ c.is_idle.ensures.alike w.if-is_idle.true
       | else-is_idle w ↦ not-both _ two (w.value-is ∙ w.if-is_idle.false)
     ] in
     let groups : CostAlike penalty_part model = elim c.if-is_idle.branch [
-      | then-is_idle w ↦ subst (CostAlike penalty_part) c.requires.groups_model (w.is_idle-then-is_idle.ensures cc)
+      | then-is_idle w ↦ subst (CostAlike penalty_part) c.requires.groups_model (w.is_idle-then-is_idle.ensures.alike cc)
       | else-is_idle w ↦ not-both _ two (w.value-is ∙ w.if-is_idle.false)
     ] in
     let plans : CostAlike soft_and_span model = elim c.if-is_idle-2.branch [

@@ -27,6 +27,13 @@ prepare-requires-clause-passes g c =
     let valid : IsTrue (is_valid model (apply model lists c.args.mv)) = subst (λ m. IsTrue (is_valid m (apply m lists c.args.mv))) same c.requires.valid in
     c.self.invariant.rules after ∙ (tested ∙ (ap (is_valid model) makes ∙ valid))
 
+pub commit-requires-clause-stands : goal.commit-requires-clause-stands
+commit-requires-clause-stands g c =
+    let same : c.args.routes.now ≡ c.self.inside.held = ap₂ {C = Tours} (λ vs ls. record { visits = vs; lists = ls })
+    (c.requires.holds.of_model ∙ (ap (λ h. visits h.model) (sym c.self.view_is) ∙ sym c.self.invariant.of_model))
+    (sym c.requires.holds.same ∙ ap (λ h. h.lists) (sym c.self.view_is)) in
+    subst (λ t. StandsCosts c.self.inside.costs t) (sym same) c.self.invariant.costs_stand
+
 pub invariant_of-self-in_err-commit : goal.invariant_of-self-in_err-commit
 invariant_of-self-in_err-commit g c =
     let same : c.args.routes.now ≡ c.self.inside.held = ap₂ {C = Tours} (λ vs ls. record { visits = vs; lists = ls })

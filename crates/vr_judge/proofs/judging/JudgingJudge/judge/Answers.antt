@@ -30,6 +30,13 @@ returns-then-not-branch-clause-verdict g c =
     (refused model lists after c.args.mv c.write.ensures.lists_are
     (sym tested ∙ (sym (c.self.invariant.rules after) ∙ (sym c.in_ok-passes.ensures.answer ∙ c.if-not-branch.true))))
 
+pub difference-requires-clause-stands : goal.difference-requires-clause-stands
+difference-requires-clause-stands g c =
+    let same : c.args.routes.now ≡ c.self.inside.held = ap₂ {C = Tours} (λ vs ls. record { visits = vs; lists = ls })
+    (c.requires.holds.of_model ∙ (ap (λ h. visits h.model) (sym c.self.view_is) ∙ sym c.self.invariant.of_model))
+    (sym c.requires.holds.same ∙ ap (λ h. h.lists) (sym c.self.view_is)) in
+    subst (λ t. StandsCosts c.self.inside.costs t) (sym same) c.self.invariant.costs_stand
+
 pub difference-requires-clause-valid : goal.difference-requires-clause-valid
 difference-requires-clause-valid g c =
     let model : Model = c.self.inside.model.now in
