@@ -1,14 +1,9 @@
 -- The rounded root of a number, and the one number that is its root rounded down.
-use Rattle.std.proofs.Common.{◌≡◌, ◌∙◌, ◌⊎◌, ℕ, zero, suc, ◌+◌, ◌-◌, ◌*◌, ◌<◌, ◌≤◌, Bool, true, false, inl, inr, refl, sym, ap, arith}
-use Rattle.std.specs.Prelude.{nat_le, nat_lt, if◌then◌else◌}
-use Rattle.std.proofs.lemmas.Bool.{cases_order, leb-true, leb-false, lt-ltb, le-ltb}
+use Rattle.std.proofs.Common.{◌≡◌, ◌⊎◌, ℕ, zero, suc, ◌+◌, ◌*◌, ◌<◌, ◌≤◌, Bool, true, false, inl, inr, refl, ap, arith}
+use Rattle.std.specs.Prelude.{nat_le, if◌then◌else◌}
+use Rattle.std.proofs.lemmas.Bool.{cases_order, leb-true, leb-false}
 use Rattle.std.proofs.lemmas.Nat.{mul-le}
-use Rattle.vr_tsplib.specs.Roots.{floor_root, rounded, nearest}
-
--- r is the root of n, rounded down
-pub record IsFloorRoot (n r : ℕ) : Type 0 where
-  pub square_low : r * r ≤ n
-  pub next_high : n < (r + 1) * (r + 1)
+use Rattle.vr_tsplib.specs.Roots.{IsFloorRoot, floor_root, rounded, nearest}
 
 -- there is one
 pub same_root : (n r s : ℕ) → IsFloorRoot n r → IsFloorRoot n s → r ≡ s
@@ -35,12 +30,6 @@ pub floor_root_is : (n : ℕ) → IsFloorRoot n (floor_root n)
 unfolding floor_root
 floor_root_is zero = record { square_low = omega arith; next_high = omega arith }
 floor_root_is (suc n) = next_root n (floor_root n) (floor_root_is n) (nat_le ((floor_root n + 1) * (floor_root n + 1)) (suc n)) refl
-
-pub rounded_up : (n r : ℕ) → r < n - r * r → rounded n r ≡ r + 1
-rounded_up n r h = ap (λ b. if b then r + 1 else r) (lt-ltb r (n - r * r) h)
-
-pub rounded_down : (n r : ℕ) → n - r * r ≤ r → rounded n r ≡ r
-rounded_down n r h = ap (λ b. if b then r + 1 else r) (le-ltb r (n - r * r) h)
 
 pub rounded_is_nearest : (n r : ℕ) → IsFloorRoot n r → rounded n r ≡ nearest n
 unfolding nearest

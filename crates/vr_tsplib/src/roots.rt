@@ -1,19 +1,45 @@
 //! Square roots, rounded to the nearest whole number.
 
 ghost use Rattle.std.specs.Prelude.{◌≡◌, ◌≤◌, ◌<◌, ◌+◌, ◌*◌, ℕ};
-ghost use Rattle.vr_tsplib.specs.Roots.{nearest, rounded};
+ghost use Rattle.vr_tsplib.specs.Roots as roots;
+ghost use Rattle.vr_tsplib.specs.Roots.{IsFloorRoot, nearest};
 
-/// The whole number nearest to the square root of `n`. The root is never halfway between two whole numbers. It takes
-/// no memory.
-pub fn nearest_root(n: u64) -> u64
+use std::num::saturating_f64_to_u64;
+
+// The greatest root that is asked for.
+const GREATEST_ROOT: u64 = 2_828_427;
+
+// The square root, rounded down. It is guessed in floating point, and looked for where that guess is another number.
+fn floor_root(n: u64) -> u64
     requires { n ≤ 8000000000000 }
-    ensures root { (r : ℕ) → r * r ≤ n → n < (r + 1) * (r + 1) → result ≡ rounded n r }
-    ensures value { result ≡ nearest n }
+    ensures { IsFloorRoot n result }
 {
-    let root = n.isqrt();
+    let guess = saturating_f64_to_u64((n as f64).sqrt());
+    if guess <= GREATEST_ROOT && guess * guess <= n && n - guess * guess <= 2 * guess {
+        return guess;
+    }
+    n.isqrt()
+}
+
+// The root rounded to the nearest whole number, by the root rounded down.
+fn rounded(n: u64, root: u64) -> u64
+    requires few { n ≤ 8000000000000 }
+    requires root { IsFloorRoot n root }
+    ensures { result ≡ roots.rounded n root }
+{
     if n - root * root > root {
         root + 1
     } else {
         root
     }
+}
+
+/// The whole number nearest to the square root of `n`. The root is never halfway between two whole numbers. It takes
+/// no memory.
+pub fn nearest_root(n: u64) -> u64
+    requires { n ≤ 8000000000000 }
+    ensures root { (r : ℕ) → r * r ≤ n → n < (r + 1) * (r + 1) → result ≡ roots.rounded n r }
+    ensures value { result ≡ nearest n }
+{
+    rounded(n, floor_root(n))
 }
