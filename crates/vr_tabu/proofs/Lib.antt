@@ -1,0 +1,11 @@
+pub mod BeforeLemmas
+pub mod PlaceLemmas
+pub mod ChangedLemmas
+pub mod ForbidLemmas
+pub mod PartFacts
+pub mod CandidateLemmas
+pub mod RoundLemmas
+pub mod SearchLemmas
+pub mod AdvanceLemmas
+pub mod StartLemmas
+pub mod AnswerLemmas

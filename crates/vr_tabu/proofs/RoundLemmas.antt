@@ -1,0 +1,94 @@
+-- A round, move by move.
+use Rattle.std.proofs.Common.{◌≡◌, ◌∙◌, ℕ, suc, ◌+◌, ◌≤◌, Bool, true, false, cond, List, [], ◌∷◌, length, Option, Some, None, refl, sym, ap, ap₂, arith, inl, inr}
+use Rattle.std.specs.Prelude.{IsTrue, IfSome, ◌&&◌, nat_lt, fold, filter}
+use Rattle.std.specs.List.{list_all}
+use Rattle.vr_model.specs.moves.Moves.{apply, moves, moves_in, moves_over, all_neighbourhoods}
+use Rattle.vr_model.specs.moves.MoveTests.{is_move}
+use Rattle.vr_model.specs.routes.Costs.{cost}
+use Rattle.vr_model.specs.first.Choosing.{better}
+use Rattle.vr_model.specs.declared.records.Model.{Model}
+use Rattle.vr_model.specs.declared.neighbours.Move.{Move}
+use Rattle.vr_model.specs.declared.neighbours.Neighbourhood.{Neighbourhood}
+use Rattle.vr_model.proofs.moves.MoveMembers.{in_all, moves_as_tested}
+use Rattle.vr_model.proofs.tables.Members.{In, from_each, to_contains, to_each}
+use Rattle.vr_tabu.specs.Rounds.{IsKnown, better_with, end_with, move_of, round_end, tries_of}
+use Rattle.vr_tabu.specs.TabuSearches.{TabuList, is_candidate, least_candidate, round_of, round_with}
+use Rattle.vr_tabu.specs.TabuSearches.Round.{Cut}
+use Rattle.vr_tabu.specs.declared.rounds.Candidate.{Candidate}
+use Rattle.vr_tabu.specs.declared.rounds.RoundEnd.TheVariants as code
+
+-- ---- the moves of a list are moves
+
+pub one_move : (model : Model) (some : List Neighbourhood) (lists : List (List ℕ)) (mv : Move) → In (moves_over model some lists) mv → IsTrue (is_move model lists mv)
+unfolding moves_over
+one_move model some lists mv h = (moves_as_tested model lists mv).0 (to_contains _ mv
+    (from_each (moves_in model lists) some mv h λ neighbourhood known found. to_each (moves_in model lists) all_neighbourhoods neighbourhood mv (in_all neighbourhood) found))
+
+every : {A : Type 0} (test : A → Bool) (xs : List A) → ((x : A) → In xs x → test x ≡ true) → list_all test xs ≡ true
+every test [] h = refl
+every test (x ∷ xs) h = ap (λ b. b && list_all test xs) (h x (inl refl)) ∙ every test xs (λ y g. h y (inr g))
+
+pub all_moves : (model : Model) (lists : List (List ℕ)) → list_all (is_move model lists) (moves model lists) ≡ true
+all_moves model lists = every (is_move model lists) (moves model lists) (λ mv h. one_move model model.search.neighbourhoods lists mv h)
+
+-- ---- the best of the moves that are left and the best so far
+
+fold_one : {A B : Type 0} (f : B → A → B) (b : B) (x : A) (xs : List A) (c : Bool) → fold f b (cond c (x ∷ xs) xs) ≡ fold f (cond c (f b x) b) xs
+fold_one f b x xs true = refl
+fold_one f b x xs false = refl
+
+module _ (model : Model) (tabus : TabuList) (best lists : List (List ℕ)) where
+  abbrev choose : Option Move → Move → Option Move
+  choose = better (λ mv. cost model (apply model lists mv) ∷ [])
+
+  abbrev test : Move → Bool
+  test = is_candidate model tabus best lists
+
+  -- the best of a list of moves and of one that was found
+  abbrev pub best_of : Option Move → List Move → Option Move
+  best_of found ms = fold choose found (filter test ms)
+
+  -- one move more was tried
+  pub one_tried : (found next : Option Candidate) (mv : Move) (ms rest : List Move) → ms ≡ mv ∷ rest → move_of next ≡ better_with model tabus best lists (move_of found) mv
+      → best_of (move_of found) ms ≡ least_candidate model tabus best lists → best_of (move_of next) rest ≡ least_candidate model tabus best lists
+  one_tried found next mv ms rest split tried left =
+      ap (λ m. best_of m rest) tried ∙ (sym (fold_one choose (move_of found) mv (filter test rest) (test mv)) ∙ (ap (best_of (move_of found)) (sym split) ∙ left))
+
+  -- a move is left, and no try
+  pub cut_off : (n rest : ℕ) (mv : Move) (ms left : List Move) → ms ≡ mv ∷ left → n + length ms ≡ length (moves model lists) → n ≡ rest → code.Cut ≡ round_end model lists (round_of model tabus best lists rest)
+  cut_off n rest mv ms left split counted e = sym (ap (λ b. round_end model lists (cond b Cut (round_with (length (moves model lists)) (least_candidate model tabus best lists)))) more)
+    where
+      over : (k all : ℕ) → n + suc k ≡ all → nat_lt rest all ≡ true
+      over k all h = Prim.grind arith
+
+      more : nat_lt rest (length (moves model lists)) ≡ true
+      more = over (length left) (length (moves model lists)) (ap (λ l. n + length l) (sym split) ∙ counted)
+
+  with_known : (n : ℕ) (found : Option Candidate) → IfSome found (IsKnown model lists) → end_with n found ≡ round_end model lists (round_with n (move_of found))
+  with_known n None known = refl
+  with_known n (Some c) known = ap (λ d. code.Best n (record { mv = c.mv; difference = d })) known
+
+  -- no move is left
+  pub all_tried : (n rest : ℕ) (found : Option Candidate) (ms : List Move) → ms ≡ [] → n + length ms ≡ length (moves model lists) → n ≤ rest → IfSome found (IsKnown model lists)
+      → best_of (move_of found) ms ≡ least_candidate model tabus best lists → end_with n found ≡ round_end model lists (round_of model tabus best lists rest)
+  all_tried n rest found ms none counted low known left =
+      with_known n found known ∙ (ap₂ (λ k m. round_end model lists (round_with k m)) same (ap (best_of (move_of found)) (sym none) ∙ left)
+      ∙ sym (ap (λ b. round_end model lists (cond b Cut (round_with (length (moves model lists)) (least_candidate model tabus best lists)))) (within n rest (length (moves model lists)) same low)))
+    where
+      no_more : (a b : ℕ) → a ≡ b + 0 → a ≡ b
+      no_more a b e = omega (arith, e)
+
+      same : n ≡ length (moves model lists)
+      same = sym (no_more (length (moves model lists)) n (sym counted ∙ ap (λ l. n + length l) none))
+
+      within : (n rest all : ℕ) → n ≡ all → n ≤ rest → nat_lt rest all ≡ false
+      within n rest all e low = Prim.grind arith
+
+-- the tries of a round that came to the end of its list
+pub tries_end : (rest n : ℕ) (found : Option Candidate) → tries_of rest (end_with n found) ≡ n
+tries_end rest n None = refl
+tries_end rest n (Some c) = refl
+
+-- one move more was counted
+pub one_more : (n left all : ℕ) → n + suc left ≡ all → (n + 1) + left ≡ all
+one_more n left all e = omega (arith, e)

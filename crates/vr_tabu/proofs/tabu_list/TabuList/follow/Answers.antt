@@ -1,0 +1,81 @@
+use Rattle.std.proofs.Common.{◌≡◌, ◌∙◌, ◌<◌, ◌≤◌, ◌+◌, ℕ, suc, cond, length, ap, subst, sym, arith}
+use Rattle.std.specs.Prelude.{All}
+use Rattle.std.specs.List.{list_any}
+use Rattle.vr_model.specs.routes.Routes.{route}
+use Rattle.vr_model.specs.tables.Numbers.{from_to}
+use Rattle.vr_model.proofs.tables.Ranges.{first_left, none_left}
+use Rattle.vr_routes.specs.Pieces.{changed, joined, part_at}
+use Rattle.vr_tabu.specs.Changed.{is_changed}
+use Rattle.vr_tabu.specs.Parts.{IsListChange, changes}
+use Rattle.vr_tabu.specs.Tabus.{until_at}
+use Rattle.vr_tabu.proofs.ChangedLemmas.{change_of, changed_by_parts}
+use Rattle.vr_tabu.proofs.ForbidLemmas.{part_step}
+use Rattle.vr_tabu.proofs.PartFacts.{list_change, new_below, new_below_room, old_below, seen_as}
+use Rattle.vr_tabu.proofs.tabu_list.TabuList.follow.Goals as goal
+
+pub write-requires-clause-visits : goal.write-requires-clause-visits
+write-requires-clause-visits c =
+    let low : c.loop-k.k < length c.args.change.now = omega (arith, c.loop-k-test.true, c.parts-k-end.ensures.value) in
+    new_below_room c.args.model.now c.args.routes.now.lists c.args.change.now c.requires.made.makes.parts_are c.requires.are_lists c.requires.after c.requires.well_formed c.loop-k.k low
+
+pub invariant_of-list : goal.invariant_of-list
+invariant_of-list c =
+    let low : c.loop-k.k < length c.args.change.now = omega (arith, c.loop-k-test.true, c.parts-k-end.ensures.value) in
+    let lists = c.args.routes.now.lists in
+    subst (λ new. IsListChange lists c.vehicle-vehicle.result new) (sym c.write.ensures)
+    (subst (λ v. IsListChange lists v (joined lists (part_at c.args.change.now c.loop-k.k).pieces)) (sym c.vehicle-vehicle.ensures)
+    (list_change c.args.model.now lists c.args.change.now c.requires.made.makes.parts_are c.requires.are_lists c.requires.after c.requires.well_formed c.loop-k.k low))
+
+pub forbid-requires-clause-old_visits : goal.forbid-requires-clause-old_visits
+forbid-requires-clause-old_visits c =
+    let lists = c.args.routes.now.lists in
+    let room : length c.loop-k.self.until.items ≡ c.args.model.now.nodes = c.loop-k.invariant.covers ∙ c.requires.covers in
+    subst (λ n. All (λ visit. visit < n) (route lists c.vehicle-vehicle.result)) (sym room)
+    (subst (λ v. All (λ visit. visit < c.args.model.now.nodes) (route lists v)) (sym c.vehicle-vehicle.ensures)
+    (old_below c.args.model.now lists c.args.change.now c.requires.made.makes.parts_are c.requires.are_lists c.requires.after c.requires.well_formed c.loop-k.k))
+
+pub forbid-requires-clause-new_visits : goal.forbid-requires-clause-new_visits
+forbid-requires-clause-new_visits c =
+    let low : c.loop-k.k < length c.args.change.now = omega (arith, c.loop-k-test.true, c.parts-k-end.ensures.value) in
+    let room : length c.loop-k.self.until.items ≡ c.args.model.now.nodes = c.loop-k.invariant.covers ∙ c.requires.covers in
+    subst (λ n. All (λ visit. visit < n) c.write.new.self) (sym room)
+    (subst (λ list. All (λ visit. visit < c.args.model.now.nodes) list) (sym c.write.ensures)
+    (new_below c.args.model.now c.args.routes.now.lists c.args.change.now c.requires.made.makes.parts_are c.requires.are_lists c.requires.after c.requires.well_formed c.loop-k.k low))
+
+pub loop-k-preserved : goal.loop-k-preserved
+loop-k-preserved c =
+    let low : c.loop-k.k < length c.args.change.now = omega (arith, c.loop-k-test.true, c.parts-k-end.ensures.value) in
+    let model = c.args.model.now in
+    let lists = c.args.routes.now.lists in
+    let parts = c.args.change.now in
+    let k = c.loop-k.k in
+    let seen = seen_as model lists parts k c.start_of.result c.vehicle-vehicle.result c.write.new.self c.vehicle-vehicle.ensures c.start_of.ensures c.write.ensures in
+    let until = (c.args.self.now.round + 1) + c.args.tenure in
+    record {
+      round = c.forbid.ensures.round ∙ c.loop-k.invariant.round;
+      covers = c.forbid.ensures.covers ∙ c.loop-k.invariant.covers;
+      left = λ visit.
+          ap (λ now. cond (list_any (λ j. changes (change_of model lists parts j) visit) (from_to (k + 1) (length parts))) until now) (c.forbid.ensures.until visit)
+          ∙ (ap (λ list. cond (list_any (λ j. changes (change_of model lists parts j) visit) (from_to (k + 1) (length parts))) until (cond (changes list visit) until (until_at c.loop-k.self visit))) seen
+          ∙ (part_step (changes (change_of model lists parts k) visit) (list_any (λ j. changes (change_of model lists parts j) visit) (from_to (k + 1) (length parts))) until (until_at c.loop-k.self visit)
+          ∙ (sym (first_left k (length parts) low (λ ks. cond (list_any (λ j. changes (change_of model lists parts j) visit) ks) until (until_at c.loop-k.self visit)))
+          ∙ c.loop-k.invariant.left visit)));
+    }
+
+pub returns-clause-next : goal.returns-clause-next
+returns-clause-next c =
+    let model = c.args.model.now in
+    let lists = c.args.routes.now.lists in
+    let parts = c.args.change.now in
+    let k = c.loop-k.k in
+    let high : length parts ≤ k = omega (arith, c.loop-k-test.false, c.parts-k-end.ensures.value) in
+    let first = c.args.self.now.round in
+    let until = (first + 1) + c.args.tenure in
+    let same : until ≡ suc first + c.args.tenure = omega arith in
+    let rounds : c.loop-k.self.round + 1 ≡ suc first = omega (arith, c.loop-k.invariant.round) in
+    let each : (visit : ℕ) → until_at c.loop-k.self visit ≡ cond (is_changed model lists (changed lists parts) visit) (suc first + c.args.tenure) (until_at c.args.self.now visit) = λ visit.
+    sym (ap (λ ks. cond (list_any (λ j. changes (change_of model lists parts j) visit) ks) until (until_at c.loop-k.self visit)) (none_left k (length parts) high))
+    ∙ (c.loop-k.invariant.left visit
+    ∙ (ap (λ b. cond b until (until_at c.args.self.now visit)) (changed_by_parts model lists parts c.requires.made.makes.parts_are visit)
+    ∙ ap (λ x. cond (is_changed model lists (changed lists parts) visit) x (until_at c.args.self.now visit)) same)) in
+    λ i. record { round = rounds i; until = λ visit. each visit i }

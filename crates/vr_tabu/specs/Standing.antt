@@ -1,0 +1,107 @@
+-- Where tabu search in code stands.
+use Rattle.std.specs.Prelude.{◌≡◌, ℕ, suc, ◌++◌, ◌-◌, ◌≤◌, cond, List, [], ◌∷◌, length, Option, Some, None, IsTrue, ℤ}
+use Rattle.std.specs.Prelude.{int_lt}
+use Rattle.vr_model.specs.routes.Costs.{cost}
+use Rattle.vr_model.specs.routes.Rules.{is_valid}
+use Rattle.vr_model.specs.search.Outcomes.{SearchState, Outcome, accepted, ended, event_at}
+use Rattle.vr_model.specs.tables.Tables.{visits}
+use Rattle.vr_model.specs.tables.WellFormed.{IsWellFormed}
+use Rattle.vr_model.specs.declared.records.Model.{Model}
+use Rattle.vr_model.specs.declared.records.End.{End}
+use Rattle.vr_model.specs.declared.search.Event.{Event}
+use Rattle.vr_model.specs.declared.search.Kind.TheVariants as kind
+use Rattle.vr_descent.specs.declared.progress.Progress.{Progress}
+use Rattle.vr_routes.specs.Tours.{Tours}
+use Rattle.vr_routes.specs.Judging.{HoldSame}
+use Rattle.vr_tabu.specs.TabuSearches.{TabuList, Round, none_tabu, round_of, tabu_from}
+use Rattle.vr_tabu.specs.TabuSearches.Round.{Best, Stuck, Cut}
+use Rattle.vr_tabu.specs.Tabus.{tabus_of}
+use Rattle.vr_tabu.specs.declared.searching.State.{State}
+use Rattle.vr_tabu.specs.declared.searching.Bounds.{Bounds}
+use Rattle.vr_tabu.specs.declared.incumbent.Incumbent.{Incumbent}
+
+-- the cheaper of two, the first of equally cheap ones
+abbrev pub kept : Incumbent → Tours → ℤ → Incumbent
+kept best routes cost = cond (int_lt cost best.cost) (record { routes = routes; cost = cost }) best
+
+-- the bounds of a search are in their ranges
+pub record AreBounds (bounds : Bounds) : Type 0 where
+  pub tries : bounds.limit.tries ≤ 1000000000
+  pub solutions : bounds.limit.solutions ≤ 1000000000
+  pub tenure : bounds.tenure ≤ 1000
+
+-- the best routes are valid, and their cost is known
+pub record IsBest (model : Model) (visits : List ℕ) (best : Incumbent) : Type 0 where
+  pub costs : best.cost ≡ cost model best.routes.lists
+  pub valid : IsTrue (is_valid model best.routes.lists)
+  pub same_visits : best.routes.visits ≡ visits
+
+-- what tabu search begins with: these routes are the best, they cost what is known there, and no visit is tabu
+pub record IsBegun (model : Model) (routes : Tours) (at : Progress) (state : State) : Type 0 where
+  pub at_is : state.at ≡ at
+  pub best_is : state.best ≡ record { routes = routes; cost = at.cost }
+  pub none : tabus_of state.tabus ≡ none_tabu
+  pub covers : length state.tabus.until.items ≡ model.nodes
+
+-- the lists of routes are valid, and their cost and that of the best ones are known
+pub record IsKnownState (model : Model) (routes : Tours) (state : State) : Type 0 where
+  pub well_formed : IsWellFormed model
+  pub of_model : routes.visits ≡ visits model
+  pub valid : IsTrue (is_valid model routes.lists)
+  pub costs : state.at.cost ≡ cost model routes.lists
+  pub best : IsBest model routes.visits state.best
+
+-- routes and judge hold the same valid lists; their cost, the tries, the solutions and the rounds are counted; the best
+-- routes are valid; and it is known of each node how long it is tabu
+pub record Stands (model : Model) (bounds : Bounds) (committed : List (List ℕ)) (routes : Tours) (state : State) :
+    Type 0 where
+  pub holds : HoldSame model committed routes
+  pub costs : state.at.cost ≡ cost model routes.lists
+  pub used : state.at.used ≤ bounds.limit.tries
+  pub some : 1 ≤ state.at.found
+  pub found : state.at.found ≤ bounds.limit.solutions
+  pub best : IsBest model routes.visits state.best
+  pub round : suc state.tabus.round ≤ state.at.found
+  pub covers : length state.tabus.until.items ≡ model.nodes
+
+-- where the definition stands
+abbrev pub standing : List (List ℕ) → List (List ℕ) → ℕ → ℕ → SearchState
+standing lists best used found = record { lists = lists; best = best; used = used; found = found }
+
+-- tabu search from there, by one round more than there are tries left
+abbrev pub from_here : Model → Bounds → TabuList → List (List ℕ) → List (List ℕ) → ℕ → ℕ → Outcome
+from_here model bounds tabus lists best used found =
+    tabu_from model bounds.limit bounds.tenure (suc (bounds.limit.tries - used)) tabus
+    (standing lists best used found)
+
+-- the same from where the code stands
+abbrev pub from_state : Model → Bounds → List (List ℕ) → State → Outcome
+from_state model bounds lists state =
+    from_here model bounds (tabus_of state.tabus) lists state.best.routes.lists state.at.used state.at.found
+
+-- the round of the search from where the code stands
+abbrev pub next_of : Model → Bounds → List (List ℕ) → State → Round
+next_of model bounds lists state =
+    round_of model (tabus_of state.tabus) state.best.routes.lists lists (bounds.limit.tries - state.at.used)
+
+-- the events of a round
+abbrev pub events_of : Model → SearchState → Round → List Event
+events_of model state (Best n mv) = event_at model (accepted model state n mv) kind.Move ∷ []
+events_of model state (Stuck n) = []
+events_of model state Cut = []
+
+-- the events of the round from where the code stands
+abbrev pub next_events : Model → Bounds → List (List ℕ) → State → List Event
+next_events model bounds lists state =
+    events_of model (standing lists state.best.routes.lists state.at.used state.at.found)
+    (next_of model bounds lists state)
+
+-- some events, and then an outcome
+abbrev pub behind : List Event → Outcome → Outcome
+behind told rest = record rest { events = told ++ rest.events }
+
+-- what is left of the search where the code stands: it goes on, or it has ended
+abbrev pub left_of : Model → Bounds → List (List ℕ) → State → Option End → Outcome
+left_of model bounds lists state None = from_state model bounds lists state
+left_of model bounds lists state (Some stop) =
+    ended (standing lists state.best.routes.lists state.at.used state.at.found) stop

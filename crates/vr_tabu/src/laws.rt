@@ -1,0 +1,9 @@
+//! Laws over the definitions. A call has no code: its contract is the law, and a proof that needs the law calls it.
+
+ghost use Rattle.vr_tabu.specs.Answering.{TabuIsSound};
+
+/// The best lists of a tabu search from valid lists are valid and cost no more than these, the last ones are valid, and
+/// its tries and its solutions are within the limit.
+pub fn tabu_is_sound()
+    ensures { TabuIsSound }
+{}

@@ -1,0 +1,25 @@
+//! Tabu search in whole numbers, over any judge of moves.
+//!
+//! [`tabu`] goes on in rounds. A round tries all moves of the lists and makes the best of them, also where it costs
+//! more; the visits that it changes are then tabu for some rounds (`tabu_list`): a move that changes no other visit is
+//! passed over, unless it leads to lists that cost less than any before. Which visits a move changes is told by the
+//! lists that its change makes (`new_list`, `list_change`), without memory.
+//!
+//! Between rounds routes and judge hold the same valid lists of known cost, the best lists so far are valid and of
+//! known cost, and what the definition tells of the whole search is what was told already, and behind that what it
+//! tells of the search from here.
+//!
+//! Who improves a first solution as its model asks calls [`tabu`] for `TABU_SEARCH`.
+#![tactic(auto)]
+
+mod incumbent;
+mod laws;
+mod list_change;
+mod new_list;
+mod rounds;
+mod searching;
+mod tabu_list;
+
+pub use laws::tabu_is_sound;
+pub use searching::{TabuAnswer, tabu};
+pub use vr_model::Limit;

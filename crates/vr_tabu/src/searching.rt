@@ -1,0 +1,339 @@
+//! Tabu search.
+
+ghost use Rattle.std.specs.Prelude.{◌≡◌, ◌≢◌, ◌+◌, ◌-◌, ◌<◌, ◌≤◌, ◌^◌, ◌+ℤ◌, ◌≤ℤ◌, pos, ◌∷◌, [], length};
+ghost use Rattle.std.specs.Prelude.{Some, None, IsTrue, IfOk, OnOk, OnErr};
+ghost use Rattle.vr_model.specs.moves.MoveTests.{is_move};
+ghost use Rattle.vr_model.specs.moves.Moves.{apply};
+ghost use Rattle.vr_model.specs.routes.Costs.{cost};
+ghost use Rattle.vr_model.specs.routes.Rules.{is_valid};
+ghost use Rattle.vr_model.specs.tables.Tables.{visits};
+ghost use Rattle.vr_model.specs.tables.WellFormed.{IsWellFormed};
+ghost use Rattle.vr_descent.specs.Searching.{after_move, move_event};
+ghost use Rattle.vr_routes.specs.Judging.{HoldSame, moved};
+ghost use Rattle.vr_watch.specs.Told.{Told, ToldInPart};
+ghost use Rattle.vr_tabu.specs.Rounds.{IsKnown, round_end, tries_of};
+ghost use Rattle.vr_tabu.specs.Standing.{AreBounds, IsBegun, IsBest, IsKnownState, Stands};
+ghost use Rattle.vr_tabu.specs.Standing.{behind, from_state, kept, left_of, next_events};
+ghost use Rattle.vr_tabu.specs.TabuSearches.{next_round, round_of, tabu_search};
+ghost use Rattle.vr_tabu.specs.Tabus.{tabus_of};
+
+use crate::incumbent::Incumbent;
+use crate::new_list::NewList;
+use crate::rounds::{Candidate, Round, RoundEnd};
+use crate::tabu_list::TabuList;
+use std::alloc::Global;
+use std::sync::ledger::Ledger;
+use vr_descent::Progress;
+use vr_model::{End, Kind, Limit, Model, Move, NoMemory, Report, Steps};
+use vr_routes::{Change, Judge, Routes};
+use vr_watch::{Watch, note_all};
+
+/// How tabu search ends.
+#[derive(Drop)]
+pub struct TabuAnswer {
+    pub report: Report,
+    /// The first routes of the least cost.
+    pub best: Routes,
+}
+
+/// How far tabu search may go, and for how many rounds visits are tabu.
+#[derive(Clone, Copy)]
+pub struct Bounds {
+    pub limit: Limit,
+    pub tenure: u32,
+}
+
+/// Tries all moves of the lists in each round and makes the one of least cost, also where it costs more
+/// (`TABU_SEARCH` in OR-Tools). The visits that it changes are tabu for the next `tenure` rounds: those whose vehicle
+/// or whose node just before is another. A move that changes only visits that are tabu is passed over, unless it leads
+/// to lists that cost less than any before. Routes and judge then hold the last lists; the answer has the first lists
+/// of the least cost. `limit` allows up to 10^9 tries and from 1 to 10^9 solutions, and `tenure` is in 1..=1000.
+///
+/// The report's end is `Solutions` where as many solutions were found as the limit allows, which is asked first; else
+/// `Tries` where there are more moves than tries left, which then count as used; and `Optimum` where no move may be
+/// made.
+///
+/// The only refusal is want of memory. Routes and judge then hold the same valid lists, the judge was asked about no
+/// more moves than the limit has tries, and the watchers have been told the events up to there: of the event in hand,
+/// the first few. Memory is taken once at the beginning, and then by the judge and the watchers alone.
+pub fn tabu<J: Judge, L: Ledger>(
+    alloc: Global,
+    model: &Model,
+    judge: &mut J,
+    routes: &mut Routes,
+    first_cost: i64,
+    limit: Limit,
+    tenure: u32,
+    watch: &mut Vec<Box<dyn Watch>>,
+    steps: &mut Steps<L>,
+) -> Result<TabuAnswer, NoMemory>
+    requires well_formed { IsWellFormed model.now }
+    requires judge_model { J.model judge.old ≡ model.now }
+    requires holds { HoldSame model.now (J.committed judge.old) routes.old }
+    requires first_cost { first_cost ≡ cost model.now routes.old.lists }
+    requires tries { limit.tries ≤ 1000000000 }
+    requires one_solution { 1 ≤ limit.solutions }
+    requires solutions { limit.solutions ≤ 1000000000 }
+    requires tenure_from_one { 1 ≤ tenure }
+    requires tenure_to_1000 { tenure ≤ 1000 }
+    ensures report { IfOk result (λ answer. answer.report
+        ≡ (tabu_search model.now routes.old.lists limit tenure).report) }
+    ensures last { OnOk result (routes.new.lists ≡ (tabu_search model.now routes.old.lists limit tenure).last) }
+    ensures best { IfOk result (λ answer. answer.best.lists
+        ≡ (tabu_search model.now routes.old.lists limit tenure).best) }
+    ensures told { OnOk result (Told (λ w later. after w later) watch.old.items watch.new.items
+        (tabu_search model.now routes.old.lists limit tenure).events) }
+    ensures asked { IfOk result (λ answer. J.asked judge.new ≤ J.asked judge.old + answer.report.tries) }
+
+    ensures no_more_tries { IfOk result (λ answer. answer.report.tries ≤ limit.tries) }
+    ensures some_solution { IfOk result (λ answer. 1 ≤ answer.report.solutions) }
+    ensures no_more_solutions { IfOk result (λ answer. answer.report.solutions ≤ limit.solutions) }
+    ensures best_is_valid { IfOk result (λ answer. IsTrue (is_valid model.now answer.best.lists)) }
+    ensures same_visits { IfOk result (λ answer. answer.best.visits ≡ routes.old.visits) }
+    ensures no_dearer { IfOk result (λ answer. cost model.now answer.best.lists ≤ℤ cost model.now routes.old.lists) }
+
+    ensures judge_model { J.model judge.new ≡ model.now }
+    ensures holds { HoldSame model.now (J.committed judge.new) routes.new }
+    ensures told_in_part { OnErr result (ToldInPart (λ w later. after w later) watch.old.items watch.new.items
+        (tabu_search model.now routes.old.lists limit tenure).events) }
+    ensures asked_at_most { OnErr result (J.asked judge.new ≤ J.asked judge.old + limit.tries) }
+{
+    let at = Progress {
+        used: 0,
+        found: 1,
+        cost: first_cost,
+    };
+    let bounds = Bounds { limit, tenure };
+    note_all(watch, at.event(Kind::First))?;
+    let mut state = State::open(alloc, model, routes, at)?;
+    let end = search(model, judge, routes, bounds, &mut state, watch, steps)?;
+    Ok(TabuAnswer {
+        report: state.at.report(end),
+        best: state.best.routes,
+    })
+}
+
+/// Where tabu search stands.
+#[derive(Drop)]
+pub struct State {
+    pub at: Progress,
+    pub best: Incumbent,
+    pub tabus: TabuList,
+}
+
+impl State {
+    // At the beginning these routes are the best, and no visit is tabu. The routes are copied last, so that where
+    // memory is wanting they are not to be let go.
+    fn open(alloc: Global, model: &Model, routes: &Routes, at: Progress) -> Result<State, NoMemory>
+        ensures { IfOk result (IsBegun model.now routes.now at) }
+    {
+        let tabus = TabuList::new(alloc, model.nodes)?;
+        let best = Incumbent {
+            routes: routes.copy(alloc)?,
+            cost: at.cost,
+        };
+        Ok(State { at, best, tabus })
+    }
+
+    // One round: the best candidate is made and told to the watchers, and the visits that it changes are tabu; or the
+    // search ends. The tries are counted.
+    fn advance<J: Judge, L: Ledger>(
+        &mut self,
+        model: &Model,
+        judge: &mut J,
+        routes: &mut Routes,
+        bounds: Bounds,
+        watch: &mut Vec<Box<dyn Watch>>,
+        steps: &mut Steps<L>,
+    ) -> Result<Option<End>, NoMemory>
+        requires well_formed { IsWellFormed model.now }
+        requires judge_model { J.model judge.old ≡ model.now }
+        requires bounds { AreBounds bounds }
+        requires stands { Stands model.now bounds (J.committed judge.old) routes.old self.old }
+        requires more { self.old.at.found ≢ bounds.limit.solutions }
+        ensures outcome { IfOk result (λ stop. from_state model.now bounds routes.old.lists self.old
+            ≡ behind (next_events model.now bounds routes.old.lists self.old)
+            (left_of model.now bounds routes.new.lists self.new stop)) }
+        ensures told { OnOk result (Told (λ w later. after w later) watch.old.items watch.new.items
+            (next_events model.now bounds routes.old.lists self.old)) }
+        ensures asked { OnOk result (J.asked judge.new + self.old.at.used ≤ J.asked judge.old + self.new.at.used) }
+        ensures stands { OnOk result (Stands model.now bounds (J.committed judge.new) routes.new self.new) }
+        ensures no_dearer { OnOk result (self.new.best.cost ≤ℤ self.old.best.cost) }
+        ensures further { IfOk result (λ stop. stop ≡ None → self.old.at.used < self.new.at.used) }
+
+        ensures judge_model { J.model judge.new ≡ model.now }
+        ensures holds { HoldSame model.now (J.committed judge.new) routes.new }
+        ensures told_in_part { OnErr result (ToldInPart (λ w later. after w later) watch.old.items watch.new.items
+            (next_events model.now bounds routes.old.lists self.old)) }
+        ensures asked_at_most { OnErr result (J.asked judge.new + self.old.at.used
+            ≤ J.asked judge.old + bounds.limit.tries) }
+    {
+        let rest = bounds.limit.tries - self.at.used;
+        let ended = run_round(model, judge, routes, self, rest, steps)?;
+        match ended {
+            RoundEnd::Best { length, candidate } => {
+                self.forbid(model, routes, candidate.mv, bounds.tenure);
+                self.take(model, judge, routes, watch, length, candidate)?;
+                Ok(None)
+            }
+            RoundEnd::Stuck { length } => {
+                self.at.used += length;
+                Ok(Some(End::Optimum))
+            }
+            RoundEnd::Cut => {
+                self.at.used = bounds.limit.tries;
+                Ok(Some(End::Tries))
+            }
+        }
+    }
+
+    // The visits that a move changes are tabu from the next round on.
+    fn forbid(&mut self, model: &Model, routes: &Routes, mv: Move, tenure: u32)
+        requires well_formed { IsWellFormed model.now }
+        requires of_model { routes.now.visits ≡ visits model.now }
+        requires valid { IsTrue (is_valid model.now routes.now.lists) }
+        requires mv { IsTrue (is_move model.now routes.now.lists mv) }
+        requires round { self.old.tabus.round ≤ 1000000000 }
+        requires covers { length self.old.tabus.until.items ≡ model.now.nodes }
+        ensures next { tabus_of self.new.tabus ≡ next_round model.now tenure routes.now.lists
+            (apply model.now routes.now.lists mv) (tabus_of self.old.tabus) }
+        ensures covers { length self.new.tabus.until.items ≡ model.now.nodes }
+        ensures at { self.new.at ≡ self.old.at }
+        ensures best { self.new.best ≡ self.old.best }
+    {
+        let mut change = Change::blank();
+        let mut after = NewList::new();
+        Change::write(model, routes, mv, &mut change);
+        self.tabus
+            .follow(model, routes, &change, tenure, &mut after);
+    }
+
+    // Makes the best candidate of a round of so many moves, and tells the watchers. Where memory is wanting, routes and
+    // judge hold the same lists all the same.
+    fn take<J: Judge>(
+        &mut self,
+        model: &Model,
+        judge: &mut J,
+        routes: &mut Routes,
+        watch: &mut Vec<Box<dyn Watch>>,
+        length: u64,
+        candidate: Candidate,
+    ) -> Result<(), NoMemory>
+        requires well_formed { IsWellFormed model.now }
+        requires judge_model { J.model judge.old ≡ model.now }
+        requires holds { HoldSame model.now (J.committed judge.old) routes.old }
+        requires mv { IsTrue (is_move model.now routes.old.lists candidate.mv) }
+        requires valid { IsTrue (is_valid model.now (apply model.now routes.old.lists candidate.mv)) }
+        requires cost { self.old.at.cost ≡ cost model.now routes.old.lists }
+        requires known { IsKnown model.now routes.old.lists candidate }
+        requires tries { self.old.at.used + length < 2 ^ 64 }
+        requires found { self.old.at.found + 1 < 2 ^ 64 }
+        requires best { IsBest model.now routes.old.visits self.old.best }
+        ensures at { OnOk result (self.new.at ≡ after_move model.now routes.old.lists candidate.mv length
+            self.old.at) }
+        ensures best { OnOk result (self.new.best ≡ kept self.old.best routes.new
+            (cost model.now routes.new.lists)) }
+        ensures tabus { self.new.tabus ≡ self.old.tabus }
+        ensures routes { OnOk result (routes.new ≡ moved model.now routes.old candidate.mv) }
+        ensures holds { HoldSame model.now (J.committed judge.new) routes.new }
+        ensures judge_model { J.model judge.new ≡ model.now }
+        ensures asked { J.asked judge.new ≡ J.asked judge.old }
+        ensures told { OnOk result (Told (λ w later. after w later) watch.old.items watch.new.items
+            (move_event model.now routes.old.lists candidate.mv (self.old.at.used + length) ∷ [])) }
+        ensures told_in_part { OnErr result (ToldInPart (λ w later. after w later) watch.old.items watch.new.items
+            (move_event model.now routes.old.lists candidate.mv (self.old.at.used + length) ∷ [])) }
+    {
+        judge.commit(routes, candidate.mv)?;
+        self.follow(routes, length, candidate.difference);
+        note_all(watch, self.at.event(Kind::Move))?;
+        Ok(())
+    }
+
+    // Counts the tries of a round and the solution that it found, and keeps that if it is the best.
+    fn follow(&mut self, routes: &Routes, tries: u64, difference: i64)
+        requires tries { self.old.at.used + tries < 2 ^ 64 }
+        requires found { self.old.at.found + 1 < 2 ^ 64 }
+        requires low { pos 0 ≤ℤ (self.old.at.cost +ℤ difference) }
+        requires high { (self.old.at.cost +ℤ difference) ≤ℤ pos (2 ^ 63 - 1) }
+        requires visits { self.old.best.routes.visits ≡ routes.now.visits }
+        requires many { length self.old.best.routes.lists ≡ length routes.now.lists }
+        ensures at { self.new.at ≡ record {
+          used = self.old.at.used + tries;
+          found = self.old.at.found + 1;
+          cost = self.old.at.cost +ℤ difference;
+        } }
+        ensures best { self.new.best ≡ kept self.old.best routes.now (self.old.at.cost +ℤ difference) }
+        ensures tabus { self.new.tabus ≡ self.old.tabus }
+    {
+        self.at.used += tries;
+        self.at.found += 1;
+        self.at.cost += difference;
+        self.best.offer(routes, &self.at);
+    }
+}
+
+// One round from where a search stands, in which at most `rest` moves may be tried.
+fn run_round<J: Judge, L: Ledger>(
+    model: &Model,
+    judge: &mut J,
+    routes: &Routes,
+    state: &State,
+    rest: u64,
+    steps: &mut Steps<L>,
+) -> Result<RoundEnd, NoMemory>
+    requires known { IsKnownState model.now routes.now state.now }
+    requires judge_model { J.model judge.old ≡ model.now }
+    requires committed { J.committed judge.old ≡ routes.now.lists }
+    ensures ends { IfOk result (λ ended. ended ≡ round_end model.now routes.now.lists
+        (round_of model.now (tabus_of state.now.tabus) state.now.best.routes.lists routes.now.lists rest)) }
+    ensures model { J.model judge.new ≡ J.model judge.old }
+    ensures committed { J.committed judge.new ≡ J.committed judge.old }
+    ensures asked { IfOk result (λ ended. J.asked judge.new ≤ J.asked judge.old + tries_of rest ended) }
+    ensures asked_at_most { OnErr result (J.asked judge.new ≤ J.asked judge.old + rest) }
+{
+    let round = Round {
+        model,
+        routes,
+        state,
+    };
+    round.run(judge, rest, steps)
+}
+
+// Searches on from where it stands, and says why it ended.
+fn search<J: Judge, L: Ledger>(
+    model: &Model,
+    judge: &mut J,
+    routes: &mut Routes,
+    bounds: Bounds,
+    state: &mut State,
+    watch: &mut Vec<Box<dyn Watch>>,
+    steps: &mut Steps<L>,
+) -> Result<End, NoMemory>
+    requires well_formed { IsWellFormed model.now }
+    requires judge_model { J.model judge.old ≡ model.now }
+    requires bounds { AreBounds bounds }
+    requires stands { Stands model.now bounds (J.committed judge.old) routes.old state.old }
+    ensures outcome { IfOk result (λ stop. from_state model.now bounds routes.old.lists state.old
+        ≡ behind (from_state model.now bounds routes.old.lists state.old).events
+        (left_of model.now bounds routes.new.lists state.new (Some stop))) }
+    ensures told { OnOk result (Told (λ w later. after w later) watch.old.items watch.new.items
+        (from_state model.now bounds routes.old.lists state.old).events) }
+    ensures asked { OnOk result (J.asked judge.new + state.old.at.used ≤ J.asked judge.old + state.new.at.used) }
+    ensures stands { OnOk result (Stands model.now bounds (J.committed judge.new) routes.new state.new) }
+    ensures no_dearer { OnOk result (state.new.best.cost ≤ℤ state.old.best.cost) }
+
+    ensures judge_model { J.model judge.new ≡ model.now }
+    ensures holds { HoldSame model.now (J.committed judge.new) routes.new }
+    ensures told_in_part { OnErr result (ToldInPart (λ w later. after w later) watch.old.items watch.new.items
+        (from_state model.now bounds routes.old.lists state.old).events) }
+    ensures asked_at_most { OnErr result (J.asked judge.new + state.old.at.used
+        ≤ J.asked judge.old + bounds.limit.tries) }
+{
+    'rounds: while state.at.found != bounds.limit.solutions {
+        let stop = state.advance(model, judge, routes, bounds, watch, steps)?;
+        if let Some(end) = stop {
+            return Ok(end);
+        }
+    }
+    Ok(End::Solutions)
+}

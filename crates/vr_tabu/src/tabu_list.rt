@@ -1,0 +1,182 @@
+//! Which visits are tabu.
+
+ghost use Rattle.std.specs.Prelude.{◌≡◌, ◌<◌, ◌≤◌, ◌+◌, ◌==◌, ◌&&◌, ℕ, All, IsTrue, IfOk, cond, length};
+ghost use Rattle.std.specs.List.{list_any};
+ghost use Rattle.vr_model.specs.routes.Routes.{are_lists, holds};
+ghost use Rattle.vr_model.specs.tables.Tables.{vehicle_at};
+ghost use Rattle.vr_model.specs.tables.WellFormed.{IsWellFormed};
+ghost use Rattle.vr_routes.specs.Changes.{IsMadeOn};
+ghost use Rattle.vr_routes.specs.Pieces.{changed, joined, part_at};
+ghost use Rattle.vr_tabu.specs.Parts.{changes, frees, is_freed};
+ghost use Rattle.vr_tabu.specs.Tabus.{tabus_of, until_at};
+ghost use Rattle.vr_tabu.specs.TabuSearches.{is_tabu, is_tabu_visit, next_round, none_tabu};
+
+use crate::list_change::ListChange;
+use crate::new_list::NewList;
+use std::alloc::Global;
+use vr_model::{Model, NoMemory};
+use vr_routes::{Change, Routes};
+
+/// The number of the round, and the round before which each visit is tabu.
+#[derive(Drop)]
+pub struct TabuList {
+    pub round: u64,
+    // by node
+    pub until: Vec<u64>,
+}
+
+impl TabuList {
+    /// In the first round no visit is tabu.
+    pub fn new(alloc: Global, nodes: u32) -> Result<TabuList, NoMemory>
+        ensures none { IfOk result (λ tabus. tabus_of tabus ≡ none_tabu) }
+        ensures covers { IfOk result (λ tabus. length tabus.until.items ≡ nodes) }
+    {
+        let until = vec![in alloc; 0; nodes as usize]?;
+        Ok(TabuList { round: 0, until })
+    }
+
+    // Whether a visit is tabu in this round.
+    #[inline]
+    fn is_tabu_visit(&self, visit: u32) -> bool
+        ensures { result ≡ is_tabu_visit (tabus_of self.now) visit }
+    {
+        if (visit as usize) < self.until.len() {
+            return self.round < self.until[visit as usize];
+        }
+        false
+    }
+
+    // Whether a change of a list changes one of some visits that is not tabu.
+    #[inline]
+    fn frees_one(&self, list: &ListChange<'_>, visits: &[u32]) -> bool
+        ensures { result ≡ list_any (is_freed (tabus_of self.now) list.now) visits.now }
+    {
+        visits
+            .iter()
+            .any(|&visit| !self.is_tabu_visit(visit) && list.changes(visit))
+    }
+
+    // Whether a part of a change changes a visit that is not tabu.
+    #[inline]
+    fn frees(&self, list: &ListChange<'_>) -> bool
+        ensures { result ≡ frees (tabus_of self.now) list.now }
+    {
+        self.frees_one(list, list.new_visits()) || self.frees_one(list, list.old_visits())
+    }
+
+    /// Whether a change is tabu in this round: each visit that it changes is. The list is written over. Takes no
+    /// memory.
+    pub fn is_tabu(
+        &self,
+        model: &Model,
+        routes: &Routes,
+        change: &Change,
+        after: &mut NewList,
+    ) -> bool
+        requires well_formed { IsWellFormed model.now }
+        requires are_lists { IsTrue (are_lists model.now routes.now.lists) }
+        requires made { IsMadeOn routes.now change.now }
+        requires after { IsTrue (are_lists model.now (changed routes.now.lists change.now)) }
+        ensures { result
+            ≡ is_tabu model.now (tabus_of self.now) routes.now.lists (changed routes.now.lists change.now) }
+    {
+        for k in 0..change.parts() {
+            after.write(routes, change, k);
+            let vehicle = change.vehicle(k);
+            let list = ListChange {
+                routes,
+                vehicle,
+                start: start_of(model, vehicle),
+                after,
+            };
+            if self.frees(&list) {
+                return false;
+            }
+        }
+        true
+    }
+
+    // Those of some visits that a change of a list changes are tabu before a round.
+    fn forbid_some(&mut self, list: &ListChange<'_>, visits: &[u32], until: u64)
+        requires visits { All (λ visit. visit < length self.old.until.items) visits.now }
+        ensures until { (visit : ℕ) → until_at self.new visit
+            ≡ cond (holds visits.now visit && changes list.now visit) until (until_at self.old visit) }
+        ensures round { self.new.round ≡ self.old.round }
+        ensures covers { length self.new.until.items ≡ length self.old.until.items }
+    {
+        for k in 0..visits.len() {
+            self.forbid_one(list, visits[k], until);
+        }
+    }
+
+    // A visit that a change of a list changes is tabu before a round.
+    #[inline]
+    fn forbid_one(&mut self, list: &ListChange<'_>, visit: u32, until: u64)
+        requires visit { visit < length self.old.until.items }
+        ensures until { (other : ℕ) → until_at self.new other
+            ≡ cond ((other == visit) && changes list.now visit) until (until_at self.old other) }
+        ensures round { self.new.round ≡ self.old.round }
+        ensures covers { length self.new.until.items ≡ length self.old.until.items }
+    {
+        if list.changes(visit) {
+            self.until[visit as usize] = until;
+        }
+    }
+
+    // The visits that a part of a change changes are tabu before a round.
+    fn forbid(&mut self, list: &ListChange<'_>, until: u64)
+        requires old_visits { All (λ visit. visit < length self.old.until.items) list.now.old }
+        requires new_visits { All (λ visit. visit < length self.old.until.items) list.now.new }
+        ensures until { (visit : ℕ) → until_at self.new visit
+            ≡ cond (changes list.now visit) until (until_at self.old visit) }
+        ensures round { self.new.round ≡ self.old.round }
+        ensures covers { length self.new.until.items ≡ length self.old.until.items }
+    {
+        self.forbid_some(list, list.new_visits(), until);
+        self.forbid_some(list, list.old_visits(), until);
+    }
+
+    /// Goes on to the next round: the visits that a change of these lists changes are tabu for `tenure` rounds from
+    /// then on. The list is written over. Takes no memory.
+    pub fn follow(
+        &mut self,
+        model: &Model,
+        routes: &Routes,
+        change: &Change,
+        tenure: u32,
+        after: &mut NewList,
+    )
+        requires well_formed { IsWellFormed model.now }
+        requires are_lists { IsTrue (are_lists model.now routes.now.lists) }
+        requires made { IsMadeOn routes.now change.now }
+        requires after { IsTrue (are_lists model.now (changed routes.now.lists change.now)) }
+        requires round { self.old.round ≤ 1000000000 }
+        requires covers { length self.old.until.items ≡ model.now.nodes }
+        ensures next { tabus_of self.new ≡ next_round model.now tenure routes.now.lists
+            (changed routes.now.lists change.now) (tabus_of self.old) }
+        ensures covers { length self.new.until.items ≡ model.now.nodes }
+    {
+        let until = self.round + 1 + tenure as u64;
+        for k in 0..change.parts() {
+            after.write(routes, change, k);
+            let vehicle = change.vehicle(k);
+            let list = ListChange {
+                routes,
+                vehicle,
+                start: start_of(model, vehicle),
+                after,
+            };
+            self.forbid(&list, until);
+        }
+        self.round += 1;
+    }
+}
+
+// Where a vehicle starts.
+#[inline]
+fn start_of(model: &Model, v: u32) -> u32
+    requires vehicle { v < length model.now.vehicles }
+    ensures { result ≡ (vehicle_at model.now v).start }
+{
+    model.vehicles.get(v as usize).start
+}
