@@ -60,6 +60,8 @@ search_ensures path d =
     after (optional_ensures (codes "lambda") (pos 1, pos 10) (default_in_range.p_in_range, default_in_range.q_in_range) (two_entries_ensure (whole_ensures (pos 1) (pos 1000))) path d) λ lambda lambda_ok.
     after (optional_ensures {P = AreNeighbourhoods} (codes "neighbourhoods") all_neighbourhoods (record { at_most_all = omega arith; no_neighbourhood_twice = refl })
     (λ p e. weaker (λ chosen h. record { at_most_all = h.0.at_most; no_neighbourhood_twice = h.1.1 }) (numbered_array_ensures number_of 0 11 neighbourhood_ensures p e)) path d) λ neighbourhoods chosen_ok.
+    after (optional_ensures (codes "cut") 10 (omega arith, omega arith) (count_ensures 1 100) path d) λ cut cut_ok.
+    after (optional_ensures (codes "tenure") 10 (omega arith, omega arith) (count_ensures 1 1000) path d) λ tenure tenure_ok.
     after any_value λ others _.
     gives (record {
       tries_in_range = limits_ok.tries_in_range;
@@ -68,6 +70,6 @@ search_ensures path d =
       q_in_range = lambda_ok.1;
       number_of_neighbourhoods = chosen_ok.at_most_all;
       no_neighbourhood_twice = chosen_ok.no_neighbourhood_twice;
-      cut_in_range = (omega arith, omega arith);
-      tenure_in_range = (omega arith, omega arith);
+      cut_in_range = cut_ok;
+      tenure_in_range = tenure_ok;
     })

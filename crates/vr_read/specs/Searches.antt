@@ -27,7 +27,8 @@ strategies =
 abbrev pub improvements : List (List ℕ × Improve)
 improvements =
     (codes "NONE", improve.None) ∷ (codes "GREEDY_DESCENT", improve.GreedyDescent)
-    ∷ (codes "GUIDED_LOCAL_SEARCH", improve.GuidedLocalSearch) ∷ []
+    ∷ (codes "GUIDED_LOCAL_SEARCH", improve.GuidedLocalSearch) ∷ (codes "PATH_LNS", improve.PathLns)
+    ∷ (codes "TABU_SEARCH", improve.TabuSearch) ∷ []
 
 -- what the words of `neighbourhoods` stand for
 abbrev pub neighbourhood_words : List (List ℕ × Neighbourhood)
@@ -71,14 +72,16 @@ choices path d = do
 abbrev pub search_fields : List (List ℕ)
 search_fields =
     codes "first" ∷ codes "improve" ∷ codes "tries" ∷ codes "solutions" ∷ codes "lambda"
-    ∷ codes "neighbourhoods" ∷ []
+    ∷ codes "neighbourhoods" ∷ codes "cut" ∷ codes "tenure" ∷ []
 
--- the search; cut and tenure are 10
+-- the search
 unfoldable pub search_row : ReaderOf SearchRow
 search_row path d = do
   chosen ← choices path d
   lambda ← optional (codes "lambda") (pos 1, pos 10) (two_entries (whole (pos 1) (pos 1000))) path d
   neighbourhoods ← optional (codes "neighbourhoods") all_neighbourhoods (array 0 11 neighbourhood) path d
+  cut ← optional (codes "cut") 10 (count 1 100) path d
+  tenure ← optional (codes "tenure") 10 (count 1 1000) path d
   others ← known search_fields path d
   Ok (record {
     first = chosen.first;
@@ -88,6 +91,6 @@ search_row path d = do
     p = lambda.0;
     q = lambda.1;
     neighbourhoods = neighbourhoods;
-    cut = 10;
-    tenure = 10;
+    cut = cut;
+    tenure = tenure;
   })

@@ -26,10 +26,12 @@ const STRATEGIES: [(&str, First); 3] = [
 ];
 
 // The words for improvements.
-const IMPROVEMENTS: [(&str, Improve); 3] = [
+const IMPROVEMENTS: [(&str, Improve); 5] = [
     ("NONE", Improve::None),
     ("GREEDY_DESCENT", Improve::GreedyDescent),
     ("GUIDED_LOCAL_SEARCH", Improve::GuidedLocalSearch),
+    ("PATH_LNS", Improve::PathLns),
+    ("TABU_SEARCH", Improve::TabuSearch),
 ];
 
 // The words for neighbourhoods.
@@ -54,10 +56,10 @@ const TRIES: u32 = 100_000;
 // say how many.
 const MOST: u32 = 1_000_000_000;
 
-// How many visits a cut takes out of a path at most.
+// How many visits a cut takes out of a path at most, where a model does not say it.
 const CUT: u32 = 10;
 
-// For how many rounds a changed visit is tabu.
+// For how many rounds a changed visit is tabu, where a model does not say it.
 const TENURE: u32 = 10;
 
 /// A neighbourhood, named by a word that stands nowhere earlier in its array.
@@ -158,7 +160,7 @@ fn choices(alloc: Global, value: &Value, path: &Path) -> Result<SearchChoices, R
 }
 
 /// The search: its strategy for the first solution, its improvement, its limits, the weight of
-/// penalties, and its neighbourhoods; cut and tenure are 10.
+/// penalties, its neighbourhoods, how long its cuts are, and for how long changed visits are tabu.
 #[derive(Clone, Copy)]
 pub struct SearchTable;
 
@@ -189,6 +191,10 @@ impl Reader for SearchTable {
         };
         let all = Neighbourhood::all(alloc)?;
         let neighbourhoods = optional(alloc, value, "neighbourhoods", &path, all, &words)?;
+        let count = Count { lo: 1, hi: 100 };
+        let cut = optional(alloc, value, "cut", &path, CUT, &count)?;
+        let count = Count { lo: 1, hi: 1000 };
+        let tenure = optional(alloc, value, "tenure", &path, TENURE, &count)?;
         known(alloc, value, &FIELDS, &path)?;
         Ok(SearchRow {
             first: choices.first,
@@ -198,18 +204,20 @@ impl Reader for SearchTable {
             p: lambda.0,
             q: lambda.1,
             neighbourhoods,
-            cut: CUT,
-            tenure: TENURE,
+            cut,
+            tenure,
         })
     }
 }
 
 // The fields of a search.
-const FIELDS: [&str; 6] = [
+const FIELDS: [&str; 8] = [
     "first",
     "improve",
     "tries",
     "solutions",
     "lambda",
     "neighbourhoods",
+    "cut",
+    "tenure",
 ];

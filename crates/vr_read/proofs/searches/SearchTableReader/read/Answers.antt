@@ -15,10 +15,18 @@ pub returns-in_err-neighbourhoods : goal.returns-in_err-neighbourhoods
 unfolding search_row
 returns-in_err-neighbourhoods c = rw (← c.in_ok-path.ensures) (then _ c.in_ok-choices.ensures (then _ c.in_ok-lambda.ensures (stops _ _ (otherwise _ _ _ _ c.in_ok-all.ensures c.in_err-neighbourhoods.ensures) c.from_residual-in_err-neighbourhoods.ensures.1)))
 
+pub returns-in_err-cut : goal.returns-in_err-cut
+unfolding search_row
+returns-in_err-cut c = rw (← c.in_ok-path.ensures) (then _ c.in_ok-choices.ensures (then _ c.in_ok-lambda.ensures (then _ (otherwise _ _ _ _ c.in_ok-all.ensures c.in_ok-neighbourhoods.ensures) (stops _ _ c.in_err-cut.ensures c.from_residual-in_err-cut.ensures.1))))
+
+pub returns-in_err-tenure : goal.returns-in_err-tenure
+unfolding search_row
+returns-in_err-tenure c = rw (← c.in_ok-path.ensures) (then _ c.in_ok-choices.ensures (then _ c.in_ok-lambda.ensures (then _ (otherwise _ _ _ _ c.in_ok-all.ensures c.in_ok-neighbourhoods.ensures) (then _ c.in_ok-cut.ensures (stops _ _ c.in_err-tenure.ensures c.from_residual-in_err-tenure.ensures.1)))))
+
 pub returns-in_err-known : goal.returns-in_err-known
 unfolding search_row
-returns-in_err-known c = rw (← c.in_ok-path.ensures) (then _ c.in_ok-choices.ensures (then _ c.in_ok-lambda.ensures (then _ (otherwise _ _ _ _ c.in_ok-all.ensures c.in_ok-neighbourhoods.ensures) (stops _ _ c.in_err-known.ensures c.from_residual-in_err-known.ensures.1))))
+returns-in_err-known c = rw (← c.in_ok-path.ensures) (then _ c.in_ok-choices.ensures (then _ c.in_ok-lambda.ensures (then _ (otherwise _ _ _ _ c.in_ok-all.ensures c.in_ok-neighbourhoods.ensures) (then _ c.in_ok-cut.ensures (then _ c.in_ok-tenure.ensures (stops _ _ c.in_err-known.ensures c.from_residual-in_err-known.ensures.1))))))
 
 pub returns : goal.returns
 unfolding search_row
-returns c = rw (← c.in_ok-path.ensures) (then _ c.in_ok-choices.ensures (then _ c.in_ok-lambda.ensures (then _ (otherwise _ _ _ _ c.in_ok-all.ensures c.in_ok-neighbourhoods.ensures) (then _ c.in_ok-known.ensures (gives (search rules))))))
+returns c = rw (← c.in_ok-path.ensures) (then _ c.in_ok-choices.ensures (then _ c.in_ok-lambda.ensures (then _ (otherwise _ _ _ _ c.in_ok-all.ensures c.in_ok-neighbourhoods.ensures) (then _ c.in_ok-cut.ensures (then _ c.in_ok-tenure.ensures (then _ c.in_ok-known.ensures (gives (search rules))))))))
