@@ -17,7 +17,7 @@ use crate::first::first_routes;
 use crate::search::search;
 use serde_json::Value;
 use std::alloc::Global;
-use vr_guided::Watchers;
+use vr_improve::Watchers;
 use vr_json::ReadFail;
 use vr_model::{Model, NoMemory, Seq};
 use vr_print::solution_line;

@@ -26,7 +26,7 @@ ghost use Rattle.vr_replies.specs.declared.words.Mode.{Mode as Asked};
 use crate::answer::answer_input;
 use crate::numbered::demo;
 use std::alloc::Global;
-use vr_guided::Watchers;
+use vr_improve::Watchers;
 use vr_io::{ReadError, Sink, Source, read_all, write_all};
 use vr_model::NoMemory;
 use vr_model::limits::MOST_INPUT_BYTES;

@@ -7,14 +7,15 @@ ghost use Rattle.vr_model.specs.tables.Tables.{visits};
 ghost use Rattle.vr_model.specs.tables.WellFormed.{IsWellFormed};
 ghost use Rattle.vr_routes.specs.Judging.{HoldSame};
 ghost use Rattle.vr_watch.specs.Told.{Told};
-ghost use Rattle.vr_guided.specs.Endings.{EndsAs};
-ghost use Rattle.vr_guided.specs.Improved as how;
+ghost use Rattle.vr_improve.specs.Endings.{EndsAs};
+ghost use Rattle.vr_improve.specs.Improved as how;
 ghost use Rattle.vr_replies.specs.Found as found;
 
+use crate::insertion::Insertion;
 use std::alloc::Global;
 use std::marker::Brand;
 use std::sync::ledger::{Blank, Ledger};
-use vr_guided::{Best, Watchers, improve, untried};
+use vr_improve::{Best, FirstSolution, Watchers, improve, untried};
 use vr_judge::FilterJudge;
 use vr_model::{Model, NoMemory, Steps};
 use vr_replies::Mode;
@@ -58,9 +59,20 @@ fn improve_judged<L: Ledger>(
         OnOk result (Told (λ w later. after w later) watch.old.items watch.new.items outcome.events) }
 {
     let mut judge = judge_of(alloc, model, &first)?;
+    let mut rebuild = Insertion::new(alloc);
     let mut steps = Steps::<L>::new(blank);
+    let first = FirstSolution {
+        routes: first,
+        cost: first_cost,
+    };
     let best = improve(
-        alloc, model, &mut judge, first, first_cost, watch, &mut steps,
+        alloc,
+        model,
+        &mut judge,
+        &mut rebuild,
+        first,
+        watch,
+        &mut steps,
     );
     judge.close();
     best

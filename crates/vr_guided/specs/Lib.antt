@@ -12,5 +12,3 @@ pub mod Walks
 pub mod Nexts
 pub mod Answering
 pub mod Bounding
-pub mod Improved
-pub mod Endings

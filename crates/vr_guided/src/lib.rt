@@ -1,10 +1,9 @@
-//! Guided local search, and the improvement of a first solution by whichever search a model names: nothing, greedy
-//! descent or guided local search.
+//! Guided local search.
 //!
-//! [`improve`] is the entry of all searches, over any judge of moves. [`guide`] scans as a descent does, by the cost
-//! with penalties: at each local optimum a penalty rises on those used arcs whose cost is greatest beside what they
-//! were penalised already, which leads the search away. What a move makes of the penalised arc costs is told by the
-//! stretches that its change touches (`changing`), with sums along the lists of vehicles (`route_sums`).
+//! [`guide`] scans as a descent does, by the cost with penalties: at each local optimum a penalty rises on those used
+//! arcs whose cost is greatest beside what they were penalised already, which leads the search away. What a move makes
+//! of the penalised arc costs is told by the stretches that its change touches (`changing`), with sums along the lists
+//! of vehicles (`route_sums`).
 //!
 //! A move that a scan refused is known to be refused until a commit changes a list that it names, or a round penalises
 //! an arc of such a list: what it makes of the penalised arc costs is told by arcs of these lists alone (`raising`).
@@ -12,14 +11,12 @@
 //! Between scans the sums are those of the lists and the penalties, no arc was penalised more often than a move was
 //! tried, and the best lists so far are valid and of known cost; routes and judge stand as in `vr_descent`.
 //!
-//! `vr_app` calls [`improve`]; `vr_replies` defines its replies by `specs/Improved`.
+//! `vr_improve` calls [`guide`] for `GUIDED_LOCAL_SEARCH`.
 #![tactic(auto)]
 
-mod best;
 mod changing;
 mod costly;
 mod guiding;
-mod improving;
 mod incumbent;
 mod laws;
 mod penalties;
@@ -31,8 +28,6 @@ mod two_vehicles;
 mod walks;
 mod worths;
 
-pub use best::{Best, untried};
-pub use improving::{Watchers, improve};
 pub use laws::{augmented_costs_are_bounded, guided_is_sound};
 pub use searching::{Guided, guide};
 pub use vr_model::Lambda;

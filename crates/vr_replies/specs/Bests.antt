@@ -3,8 +3,8 @@ use Rattle.std.specs.Prelude.{◌≡◌, ℤ}
 use Rattle.vr_model.specs.routes.Costs.{cost}
 use Rattle.vr_model.specs.tables.Tables.{visits}
 use Rattle.vr_model.specs.declared.records.Model.{Model}
-use Rattle.vr_guided.specs.Endings.{EndsAs}
-use Rattle.vr_guided.specs.declared.best.Best.{Best}
+use Rattle.vr_improve.specs.Endings.{EndsAs}
+use Rattle.vr_improve.specs.declared.best.Best.{Best}
 use Rattle.vr_replies.specs.Found.{Found}
 
 -- the best is that of the search that was found for a model, whose first solution costs so much

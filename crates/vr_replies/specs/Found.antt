@@ -7,7 +7,7 @@ use Rattle.vr_model.specs.routes.Costs.{cost}
 use Rattle.vr_model.specs.search.Outcomes.{Outcome}
 use Rattle.vr_model.specs.declared.records.Model.{Model}
 use Rattle.vr_model.specs.declared.search.Event.{Event}
-use Rattle.vr_guided.specs.Improved.{improved, untried}
+use Rattle.vr_improve.specs.Improved.{improved, untried}
 use Rattle.vr_print.specs.Solution.{solution_tree}
 use Rattle.vr_replies.specs.declared.words.Mode.{Mode}
 use Rattle.vr_replies.specs.declared.words.Mode.TheVariants as mode

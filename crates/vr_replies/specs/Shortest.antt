@@ -22,7 +22,7 @@ pub record IsShortest (line : Line) (plan : Plan) : Type 0 where
 abbrev pub ShortestFound : Line → Type 0
 ShortestFound line = ((plan : Plan) × IsShortest line plan) ⊎ ¬ IsFeasible line
 
--- ---- no span is below that of a plan from the horizon to 0
+-- ---- spans lie in -horizon..=horizon
 
 in_range : (cs : List ℤ) → ((k : ℕ) → k < length cs → IsTrue (within (pos 0) horizon (number_at cs k))) → (k : ℕ)
     → (pos 0 ≤ℤ number_at cs k) × (number_at cs k ≤ℤ horizon)
@@ -51,6 +51,7 @@ span_high line plan is =
 
 -- ---- a schedule of the least span
 
+-- no schedule has a lesser span
 abbrev pub IsOfLeastSpan : Line → Plan → Type 0
 IsOfLeastSpan line plan =
     IsSchedule line plan × ((other : Plan) → IsSchedule line other → span line plan ≤ℤ span line other)
@@ -61,7 +62,7 @@ shorter x y n h low = Prim.grind (arith, ints)
 no_shorter : (x y : ℤ) → (IsTrue (int_lt x y) → ⊥) → y ≤ℤ x
 no_shorter x y h = Prim.grind (arith, ints)
 
--- from a schedule that is at most n longer than any can be
+-- from a schedule whose span is at most n above -horizon: each shorter one that is found takes one of the n at least
 least_from : (line : Line) (n : ℕ) (plan : Plan) → IsSchedule line plan → span line plan ≤ℤ (pos n -ℤ horizon)
     → (best : Plan) × IsOfLeastSpan line best
 least_from line zero plan is low =
@@ -75,6 +76,7 @@ least_from line (suc n) plan is low =
       )
     ]
 
+-- from any schedule: its span is at most twice the horizon above -horizon
 least_of : (line : Line) (plan : Plan) → IsSchedule line plan → (best : Plan) × IsOfLeastSpan line best
 least_of line plan is =
     let b = span_high line plan is in least_from line 137438953472 plan is (omega (arith, ints, b))
@@ -92,9 +94,11 @@ lex_front (x ∷ xs) (y ∷ ys) ends others e h = elim (or_cases (int_lt x y) _ 
       (lex_front xs ys ends others (omega (arith, e)) (and_right (int_le x y) _ same)))
 ]
 
+-- the plan has this span
 abbrev has_span : Line → ℤ → Plan → Bool
 has_span line w plan = is_same_number w (span line plan)
 
+-- the least plan of the span of a schedule of the least span is the shortest schedule
 shortest_from : (line : Line) (best : Plan) → IsOfLeastSpan line best
     → (((plan : Plan) × IsLeastPlan both_sides (has_span line (span line best)) line plan)
     ⊎ NoPlan both_sides (has_span line (span line best)) line) → (plan : Plan) × IsShortest line plan

@@ -8,7 +8,7 @@ ghost use Rattle.vr_replies.specs.Reports.{joined};
 use crate::answer::Answer;
 use crate::status::Status;
 use crate::words::Mode;
-use vr_guided::Watchers;
+use vr_improve::Watchers;
 use vr_model::{NoMemory, Seq};
 use vr_watch::Watch;
 

@@ -14,7 +14,7 @@ use crate::status::Status;
 use crate::texts::{Summary, summary_tree};
 use std::alloc::Global;
 use vr_gen::generate;
-use vr_guided::Best;
+use vr_improve::Best;
 use vr_model::{Model, NoMemory};
 use vr_routes::Routes;
 use vr_rules::total;

@@ -1,7 +1,7 @@
 //! What a search gives.
 
-ghost use Rattle.vr_guided.specs.Endings.{EndsAs};
-ghost use Rattle.vr_guided.specs.Improved as improved;
+ghost use Rattle.vr_improve.specs.Endings.{EndsAs};
+ghost use Rattle.vr_improve.specs.Improved as improved;
 
 use vr_model::{End, Report};
 use vr_routes::Routes;

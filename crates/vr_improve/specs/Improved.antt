@@ -9,6 +9,8 @@ use Rattle.vr_model.specs.declared.records.Improve.TheVariants as improve
 use Rattle.vr_model.specs.declared.records.Model.{Model}
 use Rattle.vr_model.specs.declared.search.Lambda.{Lambda}
 use Rattle.vr_model.specs.declared.search.Limit.{Limit}
+use Rattle.vr_lns.specs.PathLns.{path_lns}
+use Rattle.vr_tabu.specs.TabuSearches.{tabu_search}
 
 -- where no move is tried, the search ends at the first solution
 abbrev pub untried : List (List ℕ) → Outcome
@@ -22,11 +24,10 @@ limit_of model = record { tries = model.search.tries; solutions = model.search.s
 abbrev pub lambda_of : Model → Lambda
 lambda_of model = record { p = model.search.p; q = model.search.q }
 
--- how a first solution is improved. Reading offers no word for path LNS or tabu search, so no model that is read asks
--- for them, and both end at the first solution.
+-- how a first solution is improved
 abbrev pub improved : Improve → Model → List (List ℕ) → Outcome
 improved improve.None model lists = untried lists
 improved improve.GreedyDescent model lists = descent model lists (limit_of model)
 improved improve.GuidedLocalSearch model lists = guided model lists (limit_of model) (lambda_of model)
-improved improve.PathLns model lists = untried lists
-improved improve.TabuSearch model lists = untried lists
+improved improve.PathLns model lists = path_lns model lists (limit_of model) model.search.cut
+improved improve.TabuSearch model lists = tabu_search model lists (limit_of model) model.search.tenure

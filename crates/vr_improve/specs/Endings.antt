@@ -1,7 +1,7 @@
 -- The end of a search in code beside its definition.
 use Rattle.std.specs.Prelude.{◌≡◌, ℕ, List}
 use Rattle.vr_model.specs.search.Outcomes.{Outcome}
-use Rattle.vr_guided.specs.declared.best.Best.{Best}
+use Rattle.vr_improve.specs.declared.best.Best.{Best}
 
 -- the best routes and the report are those of an outcome, and the routes have these visits
 pub record EndsAs (visits : List ℕ) (outcome : Outcome) (best : Best) : Type 0 where
