@@ -1,5 +1,5 @@
 //! Kept cumuls: what a change makes of a list is told by them, whatever slacks may be, so that no schedule is looked
-//! for; so it is by what is kept once a change is committed.
+//! for; so it is by what is kept once a change is committed. The schedules of tight vehicles are told too.
 
 ghost use Rattle.std.specs.Prelude.{◌≡◌, ◌<◌, IsTrue, OnOk, length};
 ghost use Rattle.vr_cumuls.specs.Kept.{AreAllKept};
@@ -10,7 +10,7 @@ ghost use Rattle.vr_routes.specs.Changes.{IsMadeOn};
 ghost use Rattle.vr_routes.specs.Pieces.{changed};
 ghost use Rattle.vr_timings.specs.Tables.{AreTables};
 
-use crate::models::LATE;
+use crate::models::{LATE, LATE_TIGHT};
 use crate::rows::{Asks, Row, assert_rows, stays_valid};
 use std::alloc::Global;
 use vr_cumuls::{AllCumuls, Paid, Trail};
@@ -132,6 +132,26 @@ const ROWS: &[Row] = &[
     Row {
         name: "a visit leaves, and then the front is turned, where global spans cost something",
         text: LATE,
+        lists: LATE_LISTS,
+        asks: Asks::Kept(
+            Paid::Together,
+            Move::MakeInactive { v: 0, a: 4 },
+            Move::TwoOpt { v: 0, a: 0, b: 1 },
+        ),
+    },
+    Row {
+        name: "a stretch is turned, and then the front, of a tight vehicle, where each span costs something",
+        text: LATE_TIGHT,
+        lists: LATE_LISTS,
+        asks: Asks::Kept(
+            Paid::Alone,
+            Move::TwoOpt { v: 0, a: 1, b: 3 },
+            Move::TwoOpt { v: 0, a: 0, b: 1 },
+        ),
+    },
+    Row {
+        name: "a visit of a tight vehicle leaves, and then the front is turned, where global spans cost something",
+        text: LATE_TIGHT,
         lists: LATE_LISTS,
         asks: Asks::Kept(
             Paid::Together,

@@ -86,6 +86,19 @@ pub(crate) const LATE: &str =
 {"node":6,"window":[400,450],"soft":{"bound":401,"coefficient":6}}],
 "ends":[{"vehicle":0,"soft":{"bound":180,"coefficient":1}}]}]}"#;
 
+/// The same day, where the first two vehicles choose tight schedules.
+pub(crate) const LATE_TIGHT: &str =
+    r#"{"format":2,"nodes":7,"matrices":[[[0,10,20,30,40,50,60],[13,0,10,20,30,40,50],
+[23,13,0,10,20,30,40],[33,23,13,0,10,20,30],[43,33,23,13,0,10,20],[53,43,33,23,13,0,10],[63,53,43,33,23,13,0]]],
+"vehicles":[{"start":0,"end":0,"schedule":"tight"},{"start":0,"end":0,"schedule":"tight"},{"start":0,"end":0}],
+"groups":[{"nodes":[3],"penalty":5},{"nodes":[5],"penalty":7},{"nodes":[6],"penalty":9}],
+"dimensions":[{"name":"time","evaluators":[{"matrix":0}],"capacity":1000,"slack_max":5,"span_cost":2,
+"global_span_cost":3,"starts":[{"vehicle":0,"soft":{"bound":60,"coefficient":4}}],
+"nodes":[{"node":1,"soft":{"bound":20,"coefficient":3}},{"node":2,"window":[0,220]},{"node":3,"window":[100,210]},
+{"node":4,"window":[0,250],"soft":{"bound":125,"coefficient":2}},{"node":5,"window":[150,300]},
+{"node":6,"window":[400,450],"soft":{"bound":401,"coefficient":6}}],
+"ends":[{"vehicle":0,"soft":{"bound":180,"coefficient":1}}]}]}"#;
+
 /// Three nodes all 5 apart, two vehicles, and a cost of the time from the first start to the last end.
 pub(crate) const TWO_VANS: &str = r#"{"format":1,"nodes":3,"matrices":[[[0,5,5],[5,0,5],[5,5,0]]],
 "vehicles":[{"start":0,"end":0},{"start":0,"end":0}],
@@ -123,3 +136,20 @@ pub(crate) const DAY: &str =
 {"name":"load","evaluators":[{"values":[0,3,-2,2,4,-4,1,2]}],"slack_max":0,"capacity":[7,9],"fix_start":true}],
 "groups":[{"nodes":[2,1],"penalty":40,"max":2},{"nodes":[7],"penalty":30}],
 "pairs":[{"pickup":1,"delivery":2},{"pickup":4,"delivery":5}],"allowed":[{"node":6,"vehicles":[0]}]}"#;
+
+/// Two visits, and costs that depend on the direction.
+pub(crate) const ONE_WAY: &str = r#"{"format":1,"nodes":3,"matrices":[[[0,1,2],[1,0,9],[9,1,0]]],
+"vehicles":[{"start":0,"end":0}]}"#;
+
+/// A pair, and two vehicles of which the first is the cheaper one.
+pub(crate) const TWO_FARES: &str =
+    r#"{"format":1,"nodes":3,"matrices":[[[0,9,9],[9,0,9],[9,9,0]],[[0,1,1],[1,0,1],[1,1,0]]],
+"vehicles":[{"start":0,"end":0,"costs":1},{"start":0,"end":0,"costs":0}],"pairs":[{"pickup":1,"delivery":2}]}"#;
+
+/// Three visits without waiting, each at a time of its own: node 3, then node 1, then node 2, which may also come
+/// first, and then keeps the others out.
+pub(crate) const ON_TIME: &str =
+    r#"{"format":1,"nodes":4,"matrices":[[[0,1,1,3],[9,0,4,9],[1,9,0,9],[9,3,1,0]]],
+"vehicles":[{"start":0,"end":0}],
+"dimensions":[{"name":"time","evaluators":[{"matrix":0}],"capacity":100,"slack_max":0,"fix_start":true,
+"nodes":[{"node":1,"window":[6,6]},{"node":2,"window":[1,10],"forbidden":[[2,9]]},{"node":3,"window":[3,3]}]}]}"#;

@@ -8,6 +8,7 @@ ghost use Rattle.vr_model.specs.tables.WellFormed.{IsWellFormed};
 ghost use Rattle.vr_routes.specs.Changes.{IsChange, IsMadeOn};
 ghost use Rattle.vr_routes.specs.Pieces.{changed};
 
+use crate::cuts::{self, Cuts};
 use crate::filters::{self, Filter};
 use crate::judges::{self, Said};
 use crate::parts::{self, Part};
@@ -41,6 +42,8 @@ pub(crate) enum Asks {
     Judge(By, &'static [Said]),
     /// What a search finds.
     Search(By, Search, &'static Wanted),
+    /// What the search by cuts finds.
+    Cuts(&'static Cuts),
     /// That a watcher which refuses ends the descent.
     Stopper,
 }
@@ -99,6 +102,7 @@ fn of_routes(
         Asks::Search(by, search, wanted) => searches::finds(
             alloc, model, routes, by, search, wanted,
         ),
+        Asks::Cuts(cuts) => cuts::finds(alloc, model, routes, cuts),
         Asks::Stopper => stopped::ends_between_watchers(alloc, model, routes),
     }
 }

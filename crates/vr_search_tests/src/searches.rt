@@ -232,8 +232,8 @@ fn is_asked_enough(by: By, asked: u64, tries: u64) -> bool {
     }
 }
 
-// Whether this is the list of the first vehicle.
-fn has_list(routes: &Routes, list: &[u32]) -> bool {
+/// Whether this is the list of the first vehicle.
+pub(crate) fn has_list(routes: &Routes, list: &[u32]) -> bool {
     routes.vehicles() > 0 && routes.list(0) == list
 }
 
