@@ -68,6 +68,7 @@ fn each_read_may_fail(rt: HostRuntime) -> Result<(), Fail> {
     let calls = THREE_NODES.len().div_ceil(10) + 1;
     for call in 0..calls {
         assert_failing(&rt, rt.alloc(), "first", (call as u64, 99, 2, ""))?;
+        assert_failing(&rt, rt.alloc(), "import 1", (call as u64, 99, 2, ""))?;
     }
     assert_failing(&rt, rt.alloc(), "first", (calls as u64, 99, 0, FIRST))
 }

@@ -132,12 +132,16 @@ fn each_reply_is_given(rt: HostRuntime) -> Result<(), Fail> {
     Ok(())
 }
 
-// One byte more than is read: 64 MiB of spaces, and another.
+// Asserts what is said of one byte more than is read: 64 MiB of spaces, and another.
+fn assert_too_long(rt: &impl Abort, alloc: Global, line: &str) -> Result<(), Fail> {
+    let words = words_of(alloc, line)?;
+    let mut source = PureSource::new(Vec::from_elem(alloc, b' ', 67108865)?);
+    let row = (line, "64 MiB and 1", 8, "{\"status\":\"TOO_LONG\"}\n");
+    assert_source(rt, alloc, &words, &mut source, row)
+}
+
 #[test]
 fn a_long_input_is_told(rt: HostRuntime) -> Result<(), Fail> {
-    let alloc = rt.alloc();
-    let words = words_of(alloc, "first")?;
-    let mut source = PureSource::new(Vec::from_elem(alloc, b' ', 67108865)?);
-    let row = ("first", "64 MiB and 1", 8, "{\"status\":\"TOO_LONG\"}\n");
-    assert_source(&rt, alloc, &words, &mut source, row)
+    assert_too_long(&rt, rt.alloc(), "first")?;
+    assert_too_long(&rt, rt.alloc(), "import 1")
 }
