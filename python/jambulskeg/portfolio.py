@@ -1,8 +1,8 @@
 """Many searches of one model, the cheapest checked answer kept.
 
-A portfolio runs constructions times searches times lambdas, each a process of its own, on an engine of `engines`. All
-are run to their ends, and among equal costs the one that stands first is kept: the same arguments give the same answer,
-whatever the order in which they end.
+A portfolio runs constructions times searches, guided ones with several lambdas, each a process of its own, on an
+engine of `engines`. All are run to their ends, and among equal costs the one that stands first is kept: the same
+arguments give the same answer, whatever the order in which they end.
 
     found = portfolio(model, OwnProcesses(4))
     print(found.solution.cost, found.outcomes[found.number].name)
@@ -17,7 +17,7 @@ from .engines import Answer, Engine, OwnProcesses
 from .errors import JambulskegError, NoFirstSolution, NotMet, Refused
 from .model import meets
 from .program import ProgramLike
-from .records import First, Improve, Model, Search
+from .records import First, Improve, Model, Search, moves_of, tries_for
 from .rescue import ALIKE, as_own
 from .solution import Solution
 
@@ -25,6 +25,11 @@ __all__ = ["Incomplete", "LAMBDAS", "Outcome", "Portfolio", "collected", "portfo
 
 LAMBDAS: Sequence[Tuple[int, int]] = ((1, 10), (1, 5), (1, 3), (1, 20))
 """The weights of penalties that guided searches are run with."""
+
+NUMBERS = {
+    Improve.GUIDED_LOCAL_SEARCH: ", lambda {}/{}", Improve.PATH_LNS: ", cut {}", Improve.TABU_SEARCH: ", tenure {}"
+}
+"""The numbers of a search in words."""
 
 
 class Incomplete(JambulskegError):
@@ -51,8 +56,7 @@ class Outcome:
     def name(self) -> str:
         """The search in words."""
         words = f"{self.search.first.value}, {self.search.improve.value}"
-        guided = self.search.improve is Improve.GUIDED_LOCAL_SEARCH
-        return words + (", lambda {}/{}".format(*self.search.lambda_) if guided else "")
+        return words + NUMBERS.get(self.search.improve, "").format(*numbers_of(self.search))
 
     @property
     def is_accident(self) -> bool:
@@ -74,20 +78,33 @@ class Portfolio:
 def variants(
     model: Model, tries: Optional[int] = None, lambdas: Sequence[Tuple[int, int]] = LAMBDAS
 ) -> List[Search]:
-    """The searches of a portfolio: the model's own first, then each construction with a descent and with a guided
-    search of each lambda. `tries` takes the place of the model's."""
+    """The searches of a portfolio: the model's own first, then each construction with a descent, with a guided search
+    of each lambda, with path LNS and with tabu search. `tries` takes the place of the model's; path LNS, whose tries
+    are cuts, gets so many that it takes about as long as the others."""
     own = model.search if tries is None else replace(model.search, tries=tries)
+    moves = moves_of(own)
     out = [own]
     for first in First:
-        out.append(replace(own, first=first, improve=Improve.GREEDY_DESCENT))
-        out += [replace(own, first=first, improve=Improve.GUIDED_LOCAL_SEARCH, lambda_=weight) for weight in lambdas]
+        by_moves = replace(own, first=first, improve=Improve.GREEDY_DESCENT, tries=moves)
+        out.append(by_moves)
+        out += [replace(by_moves, improve=Improve.GUIDED_LOCAL_SEARCH, lambda_=weight) for weight in lambdas]
+        out.append(replace(by_moves, improve=Improve.PATH_LNS, tries=tries_for(Improve.PATH_LNS, moves)))
+        out.append(replace(by_moves, improve=Improve.TABU_SEARCH))
     return [search for place, search in enumerate(out) if key_of(search) not in map(key_of, out[:place])]
 
 
+def numbers_of(search: Search) -> Tuple[int, ...]:
+    """The numbers of a search that no other kind of search looks at."""
+    numbers = {
+        Improve.GUIDED_LOCAL_SEARCH: tuple(search.lambda_), Improve.PATH_LNS: (search.cut,),
+        Improve.TABU_SEARCH: (search.tenure,),
+    }
+    return numbers.get(search.improve, ())
+
+
 def key_of(search: Search) -> Tuple[First, Improve, Tuple[int, ...]]:
-    """What a search depends on; the lambda of one that is not guided is not looked at."""
-    guided = search.improve is Improve.GUIDED_LOCAL_SEARCH
-    return search.first, search.improve, tuple(search.lambda_) if guided else ()
+    """What a search depends on."""
+    return search.first, search.improve, numbers_of(search)
 
 
 def portfolio(

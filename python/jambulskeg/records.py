@@ -28,6 +28,8 @@ GREATEST_ENTRY = 2**40
 GREATEST_TRANSIT = 2**30
 GREATEST_COEFFICIENT = 10000
 MOST_TRIES = 10**9
+MOVES_OF_A_CUT = 1000
+"""A cut of path LNS takes about as long as so many moves, and on large days longer."""
 
 NODE = Whole(0, MOST_NODES - 1)
 VEHICLE = Whole(0, MOST_VEHICLES - 1)
@@ -66,6 +68,8 @@ class Improve(Enum):
     NONE = "NONE"
     GREEDY_DESCENT = "GREEDY_DESCENT"
     GUIDED_LOCAL_SEARCH = "GUIDED_LOCAL_SEARCH"
+    PATH_LNS = "PATH_LNS"
+    TABU_SEARCH = "TABU_SEARCH"
 
 
 class Neighbourhood(Enum):
@@ -274,10 +278,12 @@ class Allowed(Record):
 
 @dataclass(frozen=True)
 class Search(Record):
-    """How a solution is looked for: construction, search, the most moves tried, the most solutions, and the weight
-    `lambda_` = (p, q), p/q, of penalties in guided local search.
+    """How a solution is looked for: construction, search, the most moves tried, the most solutions, the weight
+    `lambda_` = (p, q), p/q, of penalties in guided local search, how many visits path LNS takes out of a route at most
+    (`cut`), and for how many rounds a visit that was changed stays so in tabu search (`tenure`).
 
     About 10^6 tries are a beginning, 10^7 give a plan to print; the default stops most searches of 100 visits early.
+    In path LNS a try is a cut, which takes about as long as `MOVES_OF_A_CUT` moves.
     """
 
     first: Annotated[First, Word(First)] = First.PATH_CHEAPEST_ARC
@@ -288,10 +294,22 @@ class Search(Record):
     neighbourhoods: Annotated[
         Optional[Sequence[Neighbourhood]], Maybe(Row(Word(Neighbourhood), 0, len(Neighbourhood)))
     ] = None
+    cut: Annotated[int, Whole(1, 100)] = 10
+    tenure: Annotated[int, Whole(1, 1000)] = 10
 
     def own_faults(self) -> Iterator[Fault]:
         words = list(Neighbourhood)
         yield from repeated([words.index(word) for word in self.neighbourhoods or ()], "/neighbourhoods")
+
+
+def moves_of(search: Search) -> int:
+    """How many moves take about as long as the tries of a search."""
+    return min(search.tries * MOVES_OF_A_CUT, MOST_TRIES) if search.improve is Improve.PATH_LNS else search.tries
+
+
+def tries_for(improve: Improve, moves: int) -> int:
+    """The tries with which a search takes about as long as one that tries so many moves."""
+    return -(-moves // MOVES_OF_A_CUT) if improve is Improve.PATH_LNS else moves
 
 
 @dataclass(frozen=True, repr=False)

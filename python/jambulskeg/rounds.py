@@ -13,7 +13,7 @@ from typing import Any, Callable, List, Optional, Tuple
 from .errors import ProgramSlow
 from .model import meets, solve
 from .program import Program, ProgramLike, program_of
-from .records import MOST_TRIES, Model
+from .records import MOST_TRIES, Model, tries_for
 from .solution import Solution, Stop
 
 __all__ = [
@@ -21,7 +21,8 @@ __all__ = [
 ]
 
 FIRST_TRIES = 50000
-"""The tries of the first round; each further one has twice as many."""
+"""The tries of the first round, of path LNS so many fewer that it takes about as long; each further one has twice as
+many."""
 
 
 @dataclass(frozen=True)
@@ -62,9 +63,10 @@ def to_terminal(found: Round) -> None:
 
 def solve_for(
     model: Model, time_limit: float, program: ProgramLike = None, *, checked: bool = True,
-    progress: Optional[Progress] = None, tries: int = FIRST_TRIES,
+    progress: Optional[Progress] = None, tries: Optional[int] = None,
 ) -> Solved:
-    """The cheapest solution of rounds with `tries`, twice as many, four times as many .. within `time_limit` seconds.
+    """The cheapest solution of rounds with `tries` (or those of `FIRST_TRIES`), twice as many, four times as many ..
+    within `time_limit` seconds.
 
     The first round is always run to its end; a later one that the limit ends gives nothing. Ends early where a search
     has nothing left to do, or has tried as many moves as a model may ask for. `progress` is told of each round; where
@@ -72,7 +74,8 @@ def solve_for(
     """
     found = program_of(program)
     tell = progress or (to_terminal if sys.stderr.isatty() else lambda told: None)
-    best, rounds = run_rounds(model, time_limit, found, tell, tries)
+    begin = tries_for(model.search.improve, FIRST_TRIES) if tries is None else tries
+    best, rounds = run_rounds(model, time_limit, found, tell, begin)
     if checked:
         meets(best.model, best.solution, found)
     return replace(best, rounds=tuple(rounds))

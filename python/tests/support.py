@@ -34,6 +34,13 @@ def need(words: str) -> None:
         raise unittest.SkipTest(f"the program at hand does not know the words '{words}': {find()}")
 
 
+def need_searches() -> None:
+    """Skips a test where the program at hand does not know path LNS and tabu search."""
+    for improve in ("PATH_LNS", "TABU_SEARCH"):
+        if ask("first", json.dumps(tree_with(format=1, search={"improve": improve})))[0] == 5:
+            raise unittest.SkipTest(f"the program at hand does not know {improve}: {find()}")
+
+
 class Fake:
     """A program in Python: `with Fake("sys.exit(3)") as path`. The real one is `REAL`, the input is `text`."""
 

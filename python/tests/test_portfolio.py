@@ -23,7 +23,7 @@ from jambulskeg.model import Improve, Model, check, read_model, solve
 from jambulskeg.portfolio import LAMBDAS, Incomplete, Outcome, Portfolio, collected, portfolio, variants
 from jambulskeg.program import find
 
-from .support import EXAMPLES, THREE, Fake
+from .support import EXAMPLES, THREE, Fake, need_searches
 
 KILLS = "if '\"lambda\":[1,5]' in text: os.kill(os.getpid(), 9)\n"
 RUNS = "sys.exit(subprocess.run([REAL, *sys.argv[1:]], input=text.encode()).returncode)"
@@ -104,12 +104,27 @@ class PortfolioTests(unittest.TestCase):
     def test_variants(self) -> None:
         model = small(improve=Improve.GUIDED_LOCAL_SEARCH)
         found = variants(model)
-        self.assertEqual(len(found), 3 * (1 + len(LAMBDAS)))
+        self.assertEqual(len(found), 3 * (3 + len(LAMBDAS)))
         self.assertEqual(found[0], model.search)
-        self.assertEqual({search.tries for search in variants(model, 77)}, {77})
-        self.assertEqual(len(variants(small(improve=Improve.NONE), lambdas=[(2, 3)])), 7)
+        self.assertEqual(len(variants(small(improve=Improve.NONE), lambdas=[(2, 3)])), 13)
+        self.assertEqual(len(variants(small(improve=Improve.TABU_SEARCH, tenure=3), lambdas=[])), 9)
+
+    def test_a_cut_stands_for_many_moves(self) -> None:
+        model = small(improve=Improve.GUIDED_LOCAL_SEARCH)
+        for tries, cuts in ((0, 0), (77, 1), (20000, 20), (20001, 21)):
+            found = {search.improve: search.tries for search in variants(model, tries)}
+            self.assertEqual((found.pop(Improve.PATH_LNS), set(found.values())), (cuts, {tries}))
+        found = {search.improve: search.tries for search in variants(small(improve=Improve.PATH_LNS, tries=3))}
+        self.assertEqual((found.pop(Improve.PATH_LNS), set(found.values())), (3, {3000}))
+
+    def test_searches_in_words(self) -> None:
+        names = [Outcome(search).name for search in variants(small(cut=7, tenure=3), lambdas=[(2, 3)])]
+        self.assertIn("SAVINGS, GUIDED_LOCAL_SEARCH, lambda 2/3", names)
+        self.assertEqual(names[-2:], ["SAVINGS, PATH_LNS, cut 7", "SAVINGS, TABU_SEARCH, tenure 3"])
+        self.assertEqual(len(set(names)), len(names))
 
     def test_the_cheapest_is_kept_whatever_the_order(self) -> None:
+        need_searches()
         model = small("service-day", tries=2000)
         engines: List[Engine] = [OwnProcesses(1), OwnProcesses(4), Backwards()]
         found = [portfolio(model, engine) for engine in engines]
@@ -119,7 +134,6 @@ class PortfolioTests(unittest.TestCase):
         self.assertEqual(found[0].solution.cost, min(costs))
         self.assertEqual(found[0].number, costs.index(min(costs)))
         self.assertEqual(check(model, found[0].solution).cost, min(costs))
-        self.assertIn("lambda", found[0].outcomes[-1].name)
         self.assertFalse(Outcome(model.search, found[0].solution).is_accident)
 
     def test_more_tries_than_the_model_has(self) -> None:
@@ -139,6 +153,7 @@ class PortfolioTests(unittest.TestCase):
         self.assertEqual(found.solution.cost, portfolio(model).solution.cost)
 
     def test_no_answer(self) -> None:
+        need_searches()
         nowhere = Model.of({**THREE, "groups": [{"nodes": [1, 2]}], "pairs": [{"pickup": 1, "delivery": 2}]})
         with self.assertRaises(NoFirstSolution):
             portfolio(nowhere)
@@ -148,6 +163,7 @@ class PortfolioTests(unittest.TestCase):
         self.assertEqual(caught.exception.code, 20)
 
     def test_vehicles_that_differ_leave_savings_out(self) -> None:
+        need_searches()
         model = Model.of({**THREE, "vehicles": [{"start": 0, "end": 0}, {"start": 0, "end": 0, "fixed": 3}]})
         found = portfolio(model)
         codes = {outcome.problem.code for outcome in found.outcomes if isinstance(outcome.problem, Refused)}
@@ -221,6 +237,7 @@ class EngineTests(unittest.TestCase):
 
 class BatchTests(unittest.TestCase):
     def test_each_model_has_the_answer_of_its_portfolio(self) -> None:
+        need_searches()
         models = {"a": small(), "b": small("pickups"), "c": Model.of({**THREE, "groups": [{"nodes": [1, 2]}],
                                                                       "pairs": [{"pickup": 1, "delivery": 2}]})}
         found = batch(models, OwnProcesses(2))

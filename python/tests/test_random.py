@@ -16,7 +16,7 @@ from jambulskeg.model import Model, check, first, solve, solve_with_log
 from jambulskeg.rescue import Way, rescue
 from jambulskeg.routing import pywrapcp
 
-from .support import ask, in_format_2, mutated, random_tree
+from .support import ask, in_format_2, mutated, need_searches, random_tree
 
 MODELS = 40
 LEFT_TO_THE_PROGRAM = (20, 21, 22, 23)
@@ -60,6 +60,25 @@ class RandomTests(unittest.TestCase):
             self.assertEqual(first(model).text() + "\n", ask("first", text)[1], number)
             self.assertEqual(solve_with_log(model)[0], solve(model))
             self.by_hand(model)
+        self.assertGreater(solved, MODELS // 4)
+
+    def test_path_lns_and_tabu_search_answer_as_the_program(self) -> None:
+        need_searches()
+        solved = 0
+        for number in range(MODELS):
+            rng = random.Random(5000 + number)
+            tree = random_tree(rng)
+            improve, word, most = rng.choice([("PATH_LNS", "cut", 100), ("TABU_SEARCH", "tenure", 1000)])
+            tree["search"].update({"improve": improve, word: rng.choice([1, 2, 3, most, 0, most + 1])})
+            text = json.dumps(tree)
+            status, line = ask("solve", text)
+            if status == 5:
+                self.assertEqual(refusal(tree), (14, f"/search/{word}"), number)
+            elif status == 0:
+                model = Model.of(tree)
+                self.assertEqual(solve(model).text() + "\n", line, number)
+                self.assertEqual(solve_with_log(model)[0], solve(model))
+                solved += 1
         self.assertGreater(solved, MODELS // 4)
 
     def test_a_faulty_model_is_refused_as_by_the_program(self) -> None:

@@ -56,6 +56,15 @@ class RecordTests(unittest.TestCase):
         self.refused(17, "/schedule", lambda: Vehicle(0, 0, schedule="loose"))  # type: ignore[arg-type]
         self.refused(14, "/format", lambda: Model(1, [[[0]]], [Vehicle(0, 0)], format=3))
 
+    def test_cuts_and_tenures(self) -> None:
+        for search, tree in (
+            (Search(improve=Improve.PATH_LNS, cut=100), {"improve": "PATH_LNS", "cut": 100}),
+            (Search(improve=Improve.TABU_SEARCH, tenure=1000), {"improve": "TABU_SEARCH", "tenure": 1000}),
+            (Search(improve=Improve.TABU_SEARCH, cut=10, tenure=10), {"improve": "TABU_SEARCH"}),
+        ):
+            self.assertEqual(search.tree(), tree)
+            self.assertEqual(Search.of(tree), search)
+
     def test_a_field_is_checked_where_it_is_written(self) -> None:
         self.refused(14, "/fixed", lambda: Vehicle(0, 1, fixed=-1))
         self.refused(11, "/start", lambda: Vehicle("0", 1))  # type: ignore[arg-type]
@@ -79,6 +88,11 @@ class RecordTests(unittest.TestCase):
         self.refused(14, "/tries", lambda: Search(tries=10**9 + 1))
         self.refused(15, "/lambda", lambda: Search(lambda_=(1,)))
         self.refused(16, "/neighbourhoods/1", lambda: Search(neighbourhoods=[Neighbourhood.CROSS] * 2))
+        for number in (0, 101):
+            self.refused(14, "/cut", lambda: Search(cut=number))
+        for number in (0, 1001):
+            self.refused(14, "/tenure", lambda: Search(tenure=number))
+        self.refused(11, "/tenure", lambda: Search(tenure="10"))  # type: ignore[arg-type]
 
     def test_a_dimension_is_checked(self) -> None:
         def made(**fields: Any) -> Dimension:

@@ -19,7 +19,7 @@ from jambulskeg.rescue import (
 )
 from jambulskeg.rounds import to_terminal
 
-from .support import EXAMPLES, THREE, Fake, example
+from .support import EXAMPLES, THREE, Fake, example, need_searches
 
 DAY = read_model(os.path.join(EXAMPLES, "service-day.json"))
 
@@ -159,6 +159,13 @@ class RoundTests(unittest.TestCase):
     def test_a_descent_ends_early(self) -> None:
         model = with_search(DAY, improve=Improve.GREEDY_DESCENT)
         self.assertEqual(len(solve_for(model, 60).rounds), 1)
+
+    def test_a_first_round_of_cuts_is_as_long_as_one_of_moves(self) -> None:
+        need_searches()
+        for improve, tries in ((Improve.PATH_LNS, FIRST_TRIES // 1000), (Improve.TABU_SEARCH, FIRST_TRIES)):
+            found = solve_for(with_search(DAY, improve=improve), 0)
+            self.assertEqual([entry.tries for entry in found.rounds], [tries])
+            self.assertLess(found.solution.cost, found.solution.first_cost)
 
     def test_a_round_that_the_limit_ends_gives_nothing(self) -> None:
         body = (

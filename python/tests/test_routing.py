@@ -400,6 +400,9 @@ class ParameterTests(RoutingTest):
         self.assertEqual((search.first, search.improve, search.tries, search.solutions, search.lambda_),
                          (First.SAVINGS, Improve.GUIDED_LOCAL_SEARCH, 10**6, 5, (1, 4)))
         self.assertIs(parameters.log_search, True)
+        parameters.local_search_metaheuristic = routing_enums_pb2.LocalSearchMetaheuristic.TABU_SEARCH
+        self.assertEqual(parameters.search().tree()["improve"], "TABU_SEARCH")
+        self.assertEqual(parameters.search().tries, 10**6)
         parameters.time_limit.seconds = 3
         parameters.time_limit.nanos = 500000000
         self.assertEqual(parameters.time_limit.total(), 3.5)
@@ -421,6 +424,7 @@ class ParameterTests(RoutingTest):
         self.unsupported("CHRISTOFIDES", setting("first_solution_strategy", strategies.CHRISTOFIDES))
         self.unsupported("first_solution_strategy", setting("first_solution_strategy", 99))
         self.unsupported("SIMULATED_ANNEALING", setting("local_search_metaheuristic", heuristics.SIMULATED_ANNEALING))
+        self.unsupported("GENERIC_TABU", setting("local_search_metaheuristic", heuristics.GENERIC_TABU_SEARCH))
         self.unsupported("lns_time_limit", setting("lns_time_limit", 1))
         self.unsupported("local_search_operators", lambda: parameters.local_search_operators)
         self.unsupported("use_cp_sat", setting("use_cp_sat", True))

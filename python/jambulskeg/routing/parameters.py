@@ -11,7 +11,7 @@ from .routing_enums_pb2 import FirstSolutionStrategy, LocalSearchMetaheuristic
 from .transits import as_whole
 
 GUIDED_TRIES = 1000000
-"""The tries of guided local search where neither a time limit nor `tries` is set."""
+"""The tries of guided local search and tabu search where neither a time limit nor `tries` is set."""
 
 FIRST = {
     FirstSolutionStrategy.UNSET: First.PATH_CHEAPEST_ARC,
@@ -25,6 +25,7 @@ IMPROVE = {
     LocalSearchMetaheuristic.AUTOMATIC: Improve.GREEDY_DESCENT,
     LocalSearchMetaheuristic.GREEDY_DESCENT: Improve.GREEDY_DESCENT,
     LocalSearchMetaheuristic.GUIDED_LOCAL_SEARCH: Improve.GUIDED_LOCAL_SEARCH,
+    LocalSearchMetaheuristic.TABU_SEARCH: Improve.TABU_SEARCH,
 }
 
 
@@ -88,7 +89,7 @@ class RoutingSearchParameters(Named):
         improve = IMPROVE[self.local_search_metaheuristic]
         tries = self.tries
         if tries is None:
-            tries = GUIDED_TRIES if improve is Improve.GUIDED_LOCAL_SEARCH else MOST_TRIES
+            tries = MOST_TRIES if improve is Improve.GREEDY_DESCENT else GUIDED_TRIES
         return Search(
             FIRST[self.first_solution_strategy], improve, tries, min(self.solution_limit, MOST_TRIES),
             (weight.numerator, weight.denominator),
