@@ -378,4 +378,4 @@ class Model(Record):
 class FirstModel(Model):
     """A model of format 1, as a file has it: in it `schedule` is a field that no vehicle has."""
 
-    vehicles: Annotated[Sequence[FirstVehicle], Row(Inner(FirstVehicle), 1, MOST_VEHICLES)]
+    vehicles: Annotated[Sequence[Vehicle], Row(Inner(FirstVehicle), 1, MOST_VEHICLES)]

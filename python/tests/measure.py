@@ -1,4 +1,4 @@
-"""python3 tests/measure.py, by hand: seconds and megabytes of a day of 1000 places, as README.md has them."""
+"""python3 tests/measure.py, by hand: processor seconds and megabytes of a day of 1000 places, as README.md has them."""
 
 from __future__ import annotations
 
@@ -7,8 +7,7 @@ import os
 import random
 import resource
 import sys
-import time
-from typing import Any, Callable
+from typing import Any, Callable, Sequence
 
 sys.path.insert(0, os.path.dirname(os.path.dirname(os.path.abspath(__file__))))
 
@@ -19,12 +18,20 @@ from jambulskeg.places import Place, Roads, Van, model_of
 from jambulskeg.routing import pywrapcp
 
 
+def processor_seconds() -> float:
+    """The seconds of a processor that this process and the programs that it ran have taken, which other work on the
+    machine changes little."""
+    used = [resource.getrusage(who) for who in (resource.RUSAGE_SELF, resource.RUSAGE_CHILDREN)]
+    return sum(entry.ru_utime + entry.ru_stime for entry in used)
+
+
 def timed(name: str, call: Callable[[], Any]) -> Any:
-    """What a call gives; prints its seconds and the most memory so far."""
-    began = time.monotonic()
+    """What a call gives; prints its processor seconds and the most memory of this process so far."""
+    began = processor_seconds()
     found = call()
-    seconds, memory = time.monotonic() - began, resource.getrusage(resource.RUSAGE_SELF).ru_maxrss // 1024
-    print(f"{name}: {seconds:.1f} s, {memory} MB")
+    seconds = processor_seconds() - began
+    memory = resource.getrusage(resource.RUSAGE_SELF).ru_maxrss // 1024
+    print(f"{name}: {seconds:.2f} s, {memory} MB", flush=True)
     return found
 
 
@@ -41,7 +48,7 @@ def day() -> Model:
     return model_of(places, vans, Roads(slack_max=3000), Search(First.PARALLEL_CHEAPEST_INSERTION))
 
 
-def script(matrix: Any) -> Model:
+def script(matrix: Sequence[Sequence[int]]) -> Model:
     """The model of a script whose callback looks into a matrix."""
     manager = pywrapcp.RoutingIndexManager(len(matrix), 60, 0)
     routing = pywrapcp.RoutingModel(manager)

@@ -1,16 +1,14 @@
-"""python3 tests/measure_many.py [FOLDER], by hand: seconds and megabytes of reading, portfolio and pictures of a day of
-1000 places and 100 vehicles, as README.md has them. The day and its pages are left in the folder where one is named."""
+"""python3 tests/measure_many.py [FOLDER], by hand: processor seconds and megabytes of reading, portfolio and pictures of
+a day of 1000 places and 100 vehicles, as README.md has them. The day and its pages are left in the folder where one is
+named."""
 
 from __future__ import annotations
 
 import json
 import os
 import random
-import resource
 import sys
 import tempfile
-import time
-from typing import Any, Callable
 
 sys.path.insert(0, os.path.dirname(os.path.dirname(os.path.abspath(__file__))))
 
@@ -19,17 +17,9 @@ from jambulskeg.model import First, Model, Search, read_model
 from jambulskeg.places import Place, Roads, Van, model_of
 from jambulskeg.portfolio import portfolio
 from jambulskeg.view import day_of, drawing, page
+from tests.measure import timed
 
 NODES, VEHICLES = 1000, 100
-
-
-def timed(name: str, call: Callable[[], Any]) -> Any:
-    """What a call gives; prints its seconds and the most memory of this process so far."""
-    began = time.monotonic()
-    found = call()
-    memory = resource.getrusage(resource.RUSAGE_SELF).ru_maxrss // 1024
-    print(f"{name}: {time.monotonic() - began:.2f} s, {memory} MB")
-    return found
 
 
 def places() -> "list[Place]":

@@ -7,7 +7,7 @@ import json
 import random
 import unittest
 from dataclasses import replace
-from typing import Any, Dict, Tuple
+from typing import Any, Dict, List, Tuple
 
 from jambulskeg.complete import complete, leave_later, shape_faults
 from jambulskeg.doubts import doubts
@@ -100,7 +100,7 @@ class RandomTests(unittest.TestCase):
         self.assertGreater(refused, MODELS)
 
     def test_a_schedule_in_format_1_is_refused_as_by_the_program(self) -> None:
-        values = ["tight", "earliest", "Tight", "", None, True, 1, [], {}]
+        values: List[Any] = ["tight", "earliest", "Tight", "", None, True, 1, [], {}]
         for number, value in enumerate(values * 4):
             rng = random.Random(4000 + number)
             tree = random_tree(rng)
@@ -174,7 +174,7 @@ class ScriptTests(unittest.TestCase):
 
         def between(matrix: Any) -> int:
             return int(routing.RegisterTransitCallback(
-                lambda tail, head: matrix[manager.IndexToNode(tail)][manager.IndexToNode(head)]
+                lambda tail, head: int(matrix[manager.IndexToNode(tail)][manager.IndexToNode(head)])
             ))
 
         routing.SetArcCostEvaluatorOfAllVehicles(between(tree["matrices"][0]))

@@ -27,7 +27,7 @@ def made(vehicles: int = 2, *ends: Any, matrix: Any = None) -> Any:
     manager = pywrapcp.RoutingIndexManager(len(table), vehicles, *(ends or (0,)))
     routing = pywrapcp.RoutingModel(manager)
     number = routing.RegisterTransitCallback(
-        lambda tail, head: table[manager.IndexToNode(tail)][manager.IndexToNode(head)]
+        lambda tail, head: int(table[manager.IndexToNode(tail)][manager.IndexToNode(head)])
     )
     routing.SetArcCostEvaluatorOfAllVehicles(number)
     return manager, routing, number

@@ -38,10 +38,12 @@ def random_file(rng: random.Random) -> Tuple[bytes, Model]:
     space = rng.choice([" ", "\t", "  "])
     rows = [space.join(map(str, (node + 1, x, y))) for node, (x, y) in enumerate(places)]
     loads = [space.join(map(str, (node + 1, demand))) for node, demand in enumerate(demands)]
-    text = rng.choice(["\n", "\r\n", "\n\n"]).join([
+    gap = rng.choice(["\n", "\r\n", "\n\n"])
+    end: List[str] = rng.choice([["EOF"], [], ["EOF", "text"]])
+    text = gap.join([
         "NAME : x", "TYPE : CVRP", f"DIMENSION : {nodes}", "EDGE_WEIGHT_TYPE : EUC_2D", "CAPACITY : 20",
         "NODE_COORD_SECTION", *rng.sample(rows, nodes), "DEMAND_SECTION", *rng.sample(loads, nodes), "DEPOT_SECTION",
-        str(depot + 1), "-1", *rng.choice([["EOF"], [], ["EOF", "text"]]),
+        str(depot + 1), "-1", *end,
     ])
     load = Dimension("load", [Evaluator(values=demands)], slack_max=0, capacity=20, fix_start=True)
     return text.encode(), Model(nodes, [matrix], [Vehicle(depot, depot)] * 3, [load])
