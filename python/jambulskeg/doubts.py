@@ -35,6 +35,7 @@ class DoubtKind(Enum):
     DRIVE_ABOVE_WINDOWS = "drive above every window"
     UNITS = "units"
     PAID_TWICE = "paid twice"
+    PENALTY_BELOW_ARCS = "penalty below every arc"
 
 
 @dataclass(frozen=True)
@@ -50,9 +51,9 @@ Look = Callable[[Model, int], Iterator[Doubt]]
 
 
 def doubts(model: Model) -> List[Doubt]:
-    """What looks wrong in a model, dimension by dimension, and then in its pairs."""
+    """What looks wrong in a model, dimension by dimension, and then in its pairs and groups."""
     found = [doubt for number in range(len(model.dimensions)) for look in LOOKS for doubt in look(model, number)]
-    return found + list(pair_doubts(model))
+    return [*found, *pair_doubts(model), *penalty_doubts(model)]
 
 
 def loads(model: Model, number: int) -> Iterator[Doubt]:
@@ -219,3 +220,28 @@ def pair_doubts(model: Model) -> Iterator[Doubt]:
                 f"of pair {number} one node stands in a group and the other in none, so both must be made: give the "
                 "other a group with the penalty 0",
             )
+
+
+def cheapest_arcs(model: Model) -> List[int]:
+    """For each node the least that an arc from or to another node costs some vehicle."""
+    used = [model.matrices[number] for number in {vehicle.costs for vehicle in model.vehicles}]
+    return [
+        min(min([*row[:node], *row[node + 1:]], default=0) for row in rows)
+        for node, rows in enumerate(zip(*used, *(zip(*matrix) for matrix in used)))
+    ]
+
+
+def penalty_doubts(model: Model) -> Iterator[Doubt]:
+    """Penalties beside which each arc is dear, so that whoever they belong to is hardly visited at all."""
+    arcs = cheapest_arcs(model) if any(group.penalty for group in model.groups) else []
+    cheap = [
+        (number, group.penalty, min(arcs[node] for node in group.nodes)) for number, group in enumerate(model.groups)
+        if group.penalty and group.penalty < min(arcs[node] for node in group.nodes)
+    ]
+    if cheap:
+        number, penalty, arc = cheap[0]
+        yield Doubt(
+            DoubtKind.PENALTY_BELOW_ARCS, f"/groups/{number}/penalty",
+            f"to leave a visit of group {number} out costs {penalty}, and each arc to it {arc} or more (so of "
+            f"{len(cheap)} of {len(model.groups)} groups): are penalties and arcs in one unit?",
+        )

@@ -29,6 +29,19 @@ class DoubtTests(unittest.TestCase):
             model = read_model(path.replace(".solved.json", ".json"))
             self.assertEqual([kind for kind in kinds(model) if kind is not DoubtKind.PAID_TWICE], [], path)
 
+    def test_penalties(self) -> None:
+        groups: Any = [{"nodes": [1], "penalty": 3}, {"nodes": [2], "penalty": 4}]
+        found = doubts(Model.of({**THREE, "groups": groups}))
+        self.assertEqual([(doubt.kind, doubt.path) for doubt in found],
+                         [(DoubtKind.PENALTY_BELOW_ARCS, "/groups/0/penalty")])
+        self.assertIn("costs 3, and each arc to it 4 or more (so of 1 of 2 groups)", found[0].sentence)
+        free: Any = [{"nodes": [1], "penalty": 0}, {"nodes": [2]}]
+        self.assertEqual(kinds(Model.of({**THREE, "groups": free})), [])
+        both: Any = [{"nodes": [1, 2], "penalty": 3, "max": 2}]
+        self.assertEqual(kinds(Model.of({**THREE, "groups": both})), [DoubtKind.PENALTY_BELOW_ARCS])
+        one_way: Any = [[0, 5, 9], [5, 0, 4], [2, 4, 0]]
+        self.assertEqual(kinds(Model.of({**THREE, "matrices": [one_way], "groups": groups[1:]})), [])
+
     def test_loads(self) -> None:
         load: Dict[str, Any] = {"name": "load", "evaluators": [{"values": [0, 7, -1]}], "slack_max": 0, "capacity": 5}
         self.assertEqual(kinds(Model.of({**THREE, "dimensions": [load]})),

@@ -152,7 +152,7 @@ def compare_portfolios(folder: str, names: Sequence[str]) -> None:
             tables.add(ran.stderr)
             seconds = time.monotonic() - began
             best = [line for line in ran.stderr.splitlines() if line.startswith("*")] or [ran.stderr]
-            told = f"status {ran.returncode}, {seconds:.1f} s; {best[0].strip()}"
+            told = f"status {ran.returncode}, {seconds:.1f} s; {' '.join(best[0].split())}"
             print(f"portfolio {name} {shown(words, folder)}: {told}")
         print(f"answers of {name} that differ: {len(answers) - 1}; tables of searches: {len(tables) - 1}")
 
@@ -193,7 +193,8 @@ def accidents(folder: str) -> None:
             ran = package(*base, *words, folder=folder)
             lines = ran.stderr.splitlines()
             said = ([line for line in lines if line.startswith("*")] or lines[-1:] or ["nothing"])[0]
-            print(f"{engine} {' '.join(words)}: status {ran.returncode}; {said}".replace(folder, "FOLDER"))
+            line = f"{engine} {' '.join(words)}: status {ran.returncode}; {' '.join(said.split())}"
+            print(line.replace(folder, "FOLDER"))
 
 
 def stopped(folder: str) -> None:

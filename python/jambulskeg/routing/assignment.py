@@ -58,9 +58,10 @@ class IntervalVarContainer(Named):
 class Assignment(Named):
     """A solution as a script asks for it.
 
-    `solution` is the solution itself, and `model` the model that it was found to meet. `Value` tells its schedule, the
-    earliest one. `Min` and `Max` of a cumul tell how early and how late the stop may come where its vehicle starts and
-    ends when it does. What is left out, and a vehicle that is not used, has the least cumul that it may have.
+    `solution` is the solution itself, and `model` the model that it was found to meet. `Value` tells its schedule, by
+    the rule of `RoutingModel.schedule`. `Min` and `Max` of a cumul tell how early and how late the stop may come where
+    its vehicle starts and ends when it does. What is left out, and a vehicle that is not used, has the least cumul that
+    it may have.
     """
 
     def __init__(

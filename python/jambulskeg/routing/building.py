@@ -4,7 +4,7 @@ from __future__ import annotations
 
 from typing import Any, Dict, List, Optional, Tuple
 
-from ..records import Allowed, Group, Model, Pair, Policy, Search, Vehicle
+from ..records import Allowed, Group, Model, Pair, Policy, ScheduleRule, Search, Vehicle
 from .dimension import MatrixPool, RoutingDimension
 from .manager import RoutingIndexManager
 from .refused import refuse
@@ -32,8 +32,11 @@ class Said:
         node = self.manager.IndexToNode(index)
         return self.visits.setdefault(node, VisitRules(self.manager.GetNumberOfVehicles()))
 
-    def to_model(self, search: Search) -> Model:
-        """The model. Raises `Unsupported` at what it cannot say, `Refused` at a value that it cannot have."""
+    def to_model(self, search: Search, schedule: ScheduleRule) -> Model:
+        """The model, whose vehicles choose their schedules by the rule `schedule`.
+
+        Raises `Unsupported` at what it cannot say, `Refused` at a value that it cannot have.
+        """
         self._check_same()
         self._check_ordered()
         self._check_required()
@@ -44,7 +47,7 @@ class Said:
         ends = zip(self.manager.starts(), self.manager.ends(), costs, self.fixed, self.policies)
         return Model(
             nodes=len(size),
-            vehicles=[Vehicle(*entry) for entry in ends],
+            vehicles=[Vehicle(*entry, schedule) for entry in ends],
             dimensions=[dimension.to_record(self.transits, pool) for dimension in self.dimensions.values()],
             matrices=pool.matrices,
             groups=[Group(nodes, None if penalty < 0 else penalty, most) for nodes, penalty, most in self.groups],
@@ -54,6 +57,7 @@ class Said:
                 if len(rules.vehicles()) < len(vehicles)
             ],
             search=search,
+            format=1 if schedule is ScheduleRule.EARLIEST else 2,
         )
 
     def breaks(self) -> List[Tuple[int, int, IntervalVar]]:

@@ -8,7 +8,7 @@ from ..complete import CannotBeDriven, complete
 from ..errors import Fault, NoFirstSolution, NotMet, Refused
 from ..model import meets, solve
 from ..program import ProgramLike, program_of
-from ..records import Model, Policy
+from ..records import Model, Policy, ScheduleRule
 from ..rescue import Rescue, Solver as ModelSolver, rescue, timed_solver
 from ..rounds import Solved, to_terminal
 from .assignment import Assignment, as_assignment
@@ -30,7 +30,8 @@ class RoutingModel(Named):
 
     What the program cannot do is refused by name (`jambulskeg.errors.Unsupported`), what it refuses raises `Refused`.
     `program` is the program or its path, None to have it found; `checked` says whether each answer is put to the
-    proved check; `rescued` tells after a search which way it went.
+    proved check; `schedule` is the rule by which all vehicles choose their schedules; `rescued` tells after a search
+    which way it went.
     """
 
     PICKUP_AND_DELIVERY_NO_ORDER = 0
@@ -52,6 +53,7 @@ class RoutingModel(Named):
             raise refuse("RoutingModel(manager, parameters)", "a model has no parameters")
         self.program: ProgramLike = None
         self.checked = True
+        self.schedule = ScheduleRule.EARLIEST
         self.rescued: Optional[Rescue] = None
         self._manager = index_manager
         self._said = Said(index_manager)
@@ -312,7 +314,7 @@ class RoutingModel(Named):
         return index
 
     def AddVariableMinimizedByFinalizer(self, variable: IntVar) -> None:
-        """Takes a cumul, since the schedule has the least cumuls from the start on."""
+        """Takes a cumul, since the schedule has the least cumuls that its rule leaves."""
         if not isinstance(variable, CumulVar):
             raise refuse("RoutingModel.AddVariableMinimizedByFinalizer", "it is had for cumuls alone")
 
@@ -333,7 +335,7 @@ class RoutingModel(Named):
 
     def to_model(self, parameters: Optional[RoutingSearchParameters] = None) -> Model:
         """The model that was said, for `jambulskeg.model`. Raises `Unsupported` at a constraint that it cannot say."""
-        return self._said.to_model((parameters or DefaultRoutingSearchParameters()).search())
+        return self._said.to_model((parameters or DefaultRoutingSearchParameters()).search(), self.schedule)
 
     def status(self) -> int:
         """What the last search came to: `ROUTING_NOT_SOLVED`, `ROUTING_SUCCESS`, or `ROUTING_FAIL`."""

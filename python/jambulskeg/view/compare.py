@@ -20,7 +20,7 @@ def costs_beside(days: Tuple[Day, Day], titles: Tuple[str, str]) -> str:
     rows.append(row(["all", one.total(), other.total(), signed(other.total() - one.total())], ' class="sum"'))
     rows.append(row(["vehicles that leave", *(len(day.routes()) for day in days),
                      signed(len(days[1].routes()) - len(days[0].routes()))]))
-    heads = ["part", f"#{titles[0]}", f"#{titles[1]}", "second less first"]
+    heads = ["part", f"#{titles[0]}", f"#{titles[1]}", "change"]
     return table("Both costs", heads, ["<tbody>", *rows, "</tbody>"])
 
 

@@ -1,0 +1,70 @@
+"""What README.md shows in Python can be copied: each piece runs, one after the other."""
+
+from __future__ import annotations
+
+import contextlib
+import io
+import os
+import re
+import tempfile
+import unittest
+from typing import Any, Dict, List
+from unittest import mock
+
+from jambulskeg.model import read_model, read_solution
+from jambulskeg.places import read_places
+from jambulskeg.program import find
+
+from .support import EXAMPLES
+
+README = os.path.join(os.path.dirname(os.path.dirname(os.path.abspath(__file__))), "README.md")
+BLOCK = re.compile(r"(?:^    .*\n(?:\n(?=    ))*)+", re.MULTILINE)
+
+
+def blocks() -> List[str]:
+    """The pieces of README.md that may be copied."""
+    with open(README, encoding="utf-8") as file:
+        found = BLOCK.findall(file.read())
+    return [re.sub("^    ", "", block, flags=re.MULTILINE) for block in found]
+
+
+def write(path: str, text: str) -> None:
+    with open(path, "w", encoding="utf-8") as file:
+        file.write(text)
+
+
+class ReadmeTests(unittest.TestCase):
+    def setUp(self) -> None:
+        folder = tempfile.TemporaryDirectory()
+        self.addCleanup(folder.cleanup)
+        self.addCleanup(os.chdir, os.getcwd())
+        names = mock.patch.dict(os.environ, {"VR_CLI": os.path.abspath(find())})
+        names.start()
+        self.addCleanup(names.stop)
+        os.chdir(folder.name)
+        os.symlink(EXAMPLES, "examples")
+        places, vehicles = next(block for block in blocks() if block.startswith("name,x,y")).split("\n\n")
+        write("places.csv", places)
+        write("vehicles.csv", vehicles)
+
+    def test_each_piece_runs(self) -> None:
+        pieces = [block for block in blocks() if block.startswith("from ")]
+        self.assertEqual(len(pieces), 7)
+        model = read_model(os.path.join(EXAMPLES, "service-day.json"))
+        solution = read_solution(os.path.join(EXAMPLES, "service-day.solved.json"))
+        write("model.json", model.text())
+        write("solution.json", solution.text())
+        names: Dict[str, Any] = {"places": ()}
+        with contextlib.redirect_stdout(io.StringIO()) as out:
+            for piece in pieces:
+                exec(piece.replace("timed_solver(10)", "timed_solver(0)"), names)
+                names.update(lists=solution.lists(), tree=solution.tree())
+        said = out.getvalue()
+        self.assertIn("by the construction that the model asks for (PATH_CHEAPEST_ARC)", said)
+        self.assertIn("1338 [[1, 6, 11, 3, 16, 8], [2, 7, 12, 4, 9, 14], [], [13, 5, 10, 15]]", said)
+        self.assertEqual(said.splitlines()[-1], "321")
+        self.assertEqual([place.name for place in read_places("places.csv")], ["yard", "Ada", "Ben"])
+
+
+if __name__ == "__main__":
+    unittest.main()
