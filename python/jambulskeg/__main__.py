@@ -11,8 +11,9 @@ import sys
 from typing import List, Optional, Sequence, Tuple
 
 from .batch import Found, batch, read_folder
+from .complete import shape_faults
 from .engines import Engine, GnuParallel, OwnProcesses, Slurm
-from .errors import JambulskegError
+from .errors import JambulskegError, NotMet
 from .model import meets, read_model, read_solution
 from .places import Place, read_places, read_vans, whole
 from .portfolio import LAMBDAS, Outcome, Portfolio, portfolio
@@ -130,7 +131,8 @@ def run_view(asked: argparse.Namespace) -> int:
     files: List[str] = asked.compare or [asked.solution]
     solutions = [read_solution(file) for file in files]
     if not asked.unchecked:
-        solutions = [meets(model, solution) for solution in solutions]
+        for file, solution in zip(files, solutions):
+            check_file(model, file, solution)
     days = days_of(asked, model, solutions)
     titles = titles_of(asked, files)
     found = "The proved check was not asked." if asked.unchecked else (
@@ -139,6 +141,16 @@ def run_view(asked: argparse.Namespace) -> int:
     )
     write(asked.output, text_of(asked, days, titles, found))
     return 0
+
+
+def check_file(model: Model, file: str, solution: Solution) -> None:
+    """Raises `ValueError` where the solution of a file does not meet the model, of its form with the first fault."""
+    try:
+        meets(model, solution)
+    except NotMet as broken:
+        faults = shape_faults(model, solution.tree()) if broken.rule == "shape" else []
+        why = f"it is no solution of this model, {faults[0].sentence}" if faults else broken
+        raise ValueError(f"{file}: {why}") from None
 
 
 def text_of(asked: argparse.Namespace, days: Sequence[Day], titles: Sequence[str], found: str) -> str:

@@ -75,7 +75,7 @@ class DeviceFailed(JambulskegError):
 
 
 class NotJson(JambulskegError, ValueError):
-    """Status 4: the input is no JSON text in UTF-8, nests too deep, or has a number that no reader takes."""
+    """Status 4, or a file: the text is no JSON in UTF-8, nests too deep, or has a number that no reader takes."""
 
 
 class TooLong(JambulskegError, ValueError):

@@ -11,9 +11,9 @@ import json
 import operator
 import os
 from dataclasses import dataclass
-from typing import List, Optional, Sequence, Tuple, Union
+from typing import Any, Callable, List, Optional, Sequence, Tuple, Union
 
-from .errors import CAUSES, Fault, NotMet, ProgramFailed, Refused
+from .errors import CAUSES, Fault, NotJson, NotMet, ProgramFailed, Refused
 from .findings import Finding, explain
 from .kinds import Whole
 from .program import ProgramLike, lines_of, program_of, tree_of
@@ -198,13 +198,19 @@ def at_line(fault: Fault) -> Fault:
 
 
 def read_model(path: str) -> Model:
-    """The model of a file. Raises `OSError`, `Refused`, and `ValueError` where the file is no JSON."""
-    with open(path, encoding="utf-8") as file:
-        return Model.of(json.load(file))
+    """The model of a file. Raises `OSError`, `Refused`, and `NotJson` where the file is no JSON."""
+    return Model.of(json_of(path, json.loads))
 
 
 def read_solution(path: str) -> Solution:
     """The solution in the first line of a file. Raises as `read_model` does."""
-    with open(path, encoding="utf-8") as file:
-        text = file.read()
-    return Solution.of(json.JSONDecoder().raw_decode(text.lstrip())[0])
+    return Solution.of(json_of(path, lambda text: json.JSONDecoder().raw_decode(text.lstrip())[0]))
+
+
+def json_of(path: str, read: Callable[[str], Any]) -> Any:
+    """What a file has, read from its text. Raises `NotJson` with the place, `OSError`."""
+    try:
+        with open(path, encoding="utf-8") as file:
+            return read(file.read())
+    except (ValueError, RecursionError) as fault:
+        raise NotJson(f"{path} is no JSON text in UTF-8: {fault}") from None

@@ -100,17 +100,19 @@ class CommandTests(unittest.TestCase):
         self.assertEqual(called("portfolio", model, "-o", self.at("a.json"))[0], 0)
         tree = json.loads(self.read("a.json"))
         self.write("false.json", json.dumps({**tree, "cost": 1}))
+        self.write("two.json", json.dumps({**tree, "routes": tree["routes"] * 2}))
         self.write("no.csv", "name,x,y\na,1,2\n")
         page = ["-o", self.at("page.html")]
         for words, said in (
             (["view", model, *page], "SOLUTION, or --compare"),
             (["view", model, solution, *page], "a required field is absent"),
-            (["view", model, self.at("false.json"), *page], "the cost is not the sum"),
+            (["view", model, self.at("false.json"), *page], "false.json: the cost is not the sum"),
+            (["view", model, self.at("two.json"), *page], "two.json: it is no solution of this model, /routes: there"),
             (["view", model, self.at("none.json"), *page], "none.json: No such file"),
             (["view", model, self.at("a.json"), *page, "--places", self.at("no.csv")], "1 places"),
             (["view", model, self.at("a.json"), *page, "--time", "hours"], "no dimension has the name"),
             (["view", model, self.at("a.json"), *page, "--vehicles", self.at("no.csv")], "asks for --places"),
-            (["portfolio", self.write("bad.json", "{")], "Expecting property name"),
+            (["portfolio", self.write("bad.json", "{")], "bad.json is no JSON text in UTF-8: Expecting property name"),
             (["portfolio", model, "--sshlogin", "a"], "--sshlogin belongs to --with parallel"),
             (["portfolio", model, "--folder", "a", "--with", "parallel"], "--folder belongs to --with slurm"),
         ):

@@ -18,7 +18,8 @@ from jambulskeg.errors import (
     ProgramMissing, ProgramSlow, Refused, TooLong,
 )
 from jambulskeg.model import (
-    Event, Finding, Model, Parts, Route, SearchLog, Status, Stop, check, first, generate, meets, solve, solve_with_log,
+    Event, Finding, Model, Parts, Route, SearchLog, Status, Stop, check, first, generate, meets, read_model, read_solution,
+    solve, solve_with_log,
 )
 from jambulskeg.program import Program, ProgramLike, answer, find, lines_of, program_of, told_by, tree_of
 
@@ -59,6 +60,18 @@ class FindingTests(unittest.TestCase):
                 env=environment(PYTHONPATH=package, VR_CLI=find()),
             )
         self.assertEqual(ran.stdout.split(), [b"0"])
+
+
+class FileTests(unittest.TestCase):
+    def test_a_file_that_is_no_json_is_named(self) -> None:
+        with tempfile.TemporaryDirectory() as folder:
+            for name, data in (("cut", b'{"format":1,'), ("latin", b'"\xe9"'), ("deep", b"[" * 100000)):
+                path = os.path.join(folder, name)
+                with open(path, "wb") as file:
+                    file.write(data)
+                self.assertRaisesRegex(NotJson, f"{name} is no JSON text", lambda: read_model(path))
+                self.assertRaisesRegex(NotJson, f"{name} is no JSON text", lambda: read_solution(path))
+            self.assertRaises(OSError, lambda: read_model(os.path.join(folder, "none")))
 
 
 class StatusTests(unittest.TestCase):
