@@ -62,7 +62,7 @@ class ReadmeTests(unittest.TestCase):
         said = out.getvalue()
         self.assertIn("by the construction that the model asks for (PATH_CHEAPEST_ARC)", said)
         self.assertIn("1338 [[1, 6, 11, 3, 16, 8], [2, 7, 12, 4, 9, 14], [], [13, 5, 10, 15]]", said)
-        self.assertEqual(said.splitlines()[-1], "321")
+        self.assertEqual(said.splitlines()[-3:], ["321 GUIDED_LOCAL_SEARCH", "321 PATH_LNS", "321 TABU_SEARCH"])
         self.assertEqual([place.name for place in read_places("places.csv")], ["yard", "Ada", "Ben"])
 
 
