@@ -7,7 +7,9 @@ of places and one of vehicles: `model_from_csv("places.csv", "vehicles.csv")`.
 from __future__ import annotations
 
 import csv
+import io
 import math
+import re
 from dataclasses import dataclass
 from enum import Enum
 from typing import Callable, Dict, Iterator, List, Mapping, Optional, Sequence, Tuple, TypeVar
@@ -22,6 +24,8 @@ __all__ = [
 
 EARTH = 6371008.8
 """The mean radius of the Earth in metres."""
+TIME = re.compile(r"(\d+):([0-5]\d)(?::00)?")
+"""A time of day in whole minutes, as people and spreadsheets write it."""
 T = TypeVar("T")
 
 
@@ -49,11 +53,12 @@ class Rounding(Enum):
 
 
 class BadTable(JambulskegError, ValueError):
-    """A CSV file that cannot be read: the `file`, the `line` from 1, the `column`, and why."""
+    """A CSV file that cannot be read: the `file`, the `line` from 1, the `column` (empty for the line), and why."""
 
     def __init__(self, file: str, line: int, column: str, why: str) -> None:
         self.file, self.line, self.column = file, line, column
-        super().__init__(f"{file}, line {line}, column '{column}': {why}")
+        place = f", column '{column}'" if column else ""
+        super().__init__(f"{file}, line {line}{place}: {why}")
 
 
 @dataclass(frozen=True)
@@ -135,20 +140,19 @@ def scaled(ways: Sequence[Sequence[float]], rounding: Rounding, scale: float) ->
 
 
 def whole(text: str) -> int:
-    """A whole number, also as a time of day: 8:30 is 510 minutes."""
-    hours, colon, minutes = text.partition(":")
-    if colon and len(minutes) == 2 and int(minutes) < 60:
-        return 60 * int(hours) + int(minutes)
-    return int(text)
+    """A whole number, also as a time of day: 8:30, or 8:30:00, is 510 minutes."""
+    time = TIME.fullmatch(text)
+    return 60 * int(time[1]) + int(time[2]) if time else int(text)
 
 
 @dataclass(frozen=True)
 class TableLine:
-    """A line of a CSV file, which says where it stands when a cell is faulty."""
+    """A line of a CSV file, which says where it stands when a cell is faulty; `point` is its decimal point."""
 
     file: str
     number: int
     cells: Mapping[str, str]
+    point: str = "."
 
     def text(self, column: str, default: Optional[str] = None) -> str:
         """The text of a cell that has one, else the default. Raises `BadTable` where there is neither."""
@@ -176,7 +180,7 @@ class TableLine:
     def real(self, column: str) -> float:
         """The number of a cell that must have one."""
         self.text(column)
-        return self.read(column, finite, "number", 0.0)
+        return self.read(column, lambda text: finite(text.replace(self.point, ".")), "number", 0.0)
 
     def window(self, low: str, high: str) -> Optional[Tuple[int, int]]:
         """The interval of two cells, None where both are empty. Raises `BadTable` where one is, or they are turned."""
@@ -203,21 +207,32 @@ VAN_COLUMNS = ("name", "start", "end", "capacity", "fixed", "from", "to")
 
 
 def lines_of(path: str, columns: Sequence[str]) -> Iterator[TableLine]:
-    """The lines of a CSV file whose first line names its columns, with commas, semicolons or tabs between cells.
+    """The lines of a CSV file whose first line names its columns, with commas, semicolons or tabs between cells. Where
+    these are no commas, a comma is a decimal point.
 
-    Raises `BadTable` at a column that is unknown, and at a line with too many cells.
+    Raises `BadTable` at a column that is unknown, at a line with too many cells, and at bytes that are no UTF-8.
     """
-    with open(path, encoding="utf-8-sig", newline="") as file:
-        head = file.readline()
-        file.seek(0)
-        reader = csv.DictReader(file, delimiter=max(DELIMITERS, key=head.count))
-        for column in reader.fieldnames or ():
-            if column not in columns:
-                raise BadTable(path, 1, column, f"there is no such column; there are {', '.join(columns)}")
-        for cells in reader:
-            if None in cells:
-                raise BadTable(path, reader.line_num, columns[-1], "the line has more cells than there are columns")
-            yield TableLine(path, reader.line_num, cells)
+    text = text_of(path)
+    delimiter = max(DELIMITERS, key=text.split("\n", 1)[0].count)
+    reader = csv.DictReader(io.StringIO(text, newline=""), delimiter=delimiter)
+    for column in reader.fieldnames or ():
+        if column not in columns:
+            raise BadTable(path, 1, column, f"there is no such column; there are {', '.join(columns)}")
+    for cells in reader:
+        if None in cells:
+            raise BadTable(path, reader.line_num, columns[-1], "the line has more cells than there are columns")
+        yield TableLine(path, reader.line_num, cells, "." if delimiter == "," else ",")
+
+
+def text_of(path: str) -> str:
+    """The text of a CSV file. Raises `BadTable` at the line that is no UTF-8, `OSError`."""
+    with open(path, "rb") as file:
+        data = file.read()
+    try:
+        return data.decode("utf-8-sig")
+    except UnicodeDecodeError as fault:
+        line = data.count(b"\n", 0, fault.start) + 1
+        raise BadTable(path, line, "", "this is no text in UTF-8; save the file as 'CSV UTF-8'") from None
 
 
 def read_places(path: str) -> List[Place]:

@@ -83,6 +83,19 @@ class TableTests(unittest.TestCase):
         self.assertEqual(read_vans(self.file("v.csv", "start\nyard\n"), read_places(path)),
                          [Van("vehicle 0", "yard", "yard")])
 
+    def test_files_as_spreadsheets_write_them(self) -> None:
+        text = "name;x;y;open;close\r\nyard;11,5;-0,25;;\r\nAda;1.5;2;08:30:00;9:00\r\n"
+        self.assertEqual(read_places(self.file("p.csv", text)),
+                         [Place("yard", 11.5, -0.25), Place("Ada", 1.5, 2.0, window=(510, 540))])
+        for cell in ("8:60", "8:5", "8:30:15", "8:30:00:00", ":30", "a:30"):
+            self.bad("open", 2, lambda: read_places(self.file("p.csv", f"name,x,y,open,close\na,1,1,{cell},9:00\n")))
+        self.bad("x", 2, lambda: read_places(self.file("p.csv", 'name,x,y\na,"1,5",1\n')))
+        self.bad("x", 2, lambda: read_places(self.file("p.csv", "name;x;y\na;1.234,5;1\n")))
+        path = self.file("latin.csv", "")
+        with open(path, "wb") as file:
+            file.write("name,x,y\nyard,1,2\nJörg,3,4\n".encode("latin-1"))
+        self.bad("", 3, lambda: read_places(path), "latin.csv, line 3: this is no text in UTF-8")
+
     def bad(self, column: str, line: int, call: Callable[[], object], why: Optional[str] = None) -> None:
         with self.assertRaises(BadTable) as caught:
             call()
