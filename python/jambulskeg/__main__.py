@@ -1,4 +1,4 @@
-"""python -m jambulskeg: pictures of a day, many searches of a model, many models.
+"""python -m jambulskeg: pictures of a day, what looks wrong in a model, many searches of it, many models.
 
 Ends with 0 where there is an answer, with 1 and a sentence where there is none, with 2 where the words are unknown.
 """
@@ -12,6 +12,7 @@ from typing import List, Optional, Sequence, Tuple
 
 from .batch import Found, batch, read_folder
 from .complete import shape_faults
+from .doubts import doubts
 from .engines import Engine, GnuParallel, OwnProcesses, Slurm
 from .errors import JambulskegError, NotMet
 from .model import meets, read_model, read_solution
@@ -56,8 +57,11 @@ def failed(sentence: str) -> int:
 def parser() -> argparse.ArgumentParser:
     """The words that are taken."""
     out = argparse.ArgumentParser(prog="python -m jambulskeg", description="Vehicle routing by the program vr_cli.")
-    commands = out.add_subparsers(required=True, metavar="view|portfolio|batch")
+    commands = out.add_subparsers(required=True, metavar="view|doubts|portfolio|batch")
     add_view(commands.add_parser("view", help="a page (or an SVG) of a day, or of two side by side"))
+    look = commands.add_parser("doubts", help="what a model may say and looks wrong, a line each")
+    look.add_argument("model", metavar="MODEL", help="the model file")
+    look.set_defaults(run=run_doubts)
     one = commands.add_parser("portfolio", help="many searches of a model, the cheapest checked answer kept")
     one.add_argument("model", metavar="MODEL", help="the model file")
     one.add_argument("-o", "--output", metavar="SOLUTION", help="where it is written; else to standard output")
@@ -190,6 +194,13 @@ def write(path: str, text: str) -> None:
     """Writes a file."""
     with open(path, "w", encoding="utf-8") as file:
         file.write(text)
+
+
+def run_doubts(asked: argparse.Namespace) -> int:
+    """Writes the path and the sentence of each doubt."""
+    for doubt in doubts(read_model(asked.model)):
+        print(f"{doubt.path}: {doubt.sentence}")
+    return 0
 
 
 def engine_of(asked: argparse.Namespace) -> Engine:

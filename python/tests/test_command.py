@@ -80,6 +80,13 @@ class CommandTests(unittest.TestCase):
         self.assertEqual(called("view", model, *pair, "-o", self.at("b.svg"), "--svg", "--unchecked")[0], 0)
         xml.dom.minidom.parse(self.at("b.svg"))
 
+    def test_doubts(self) -> None:
+        self.assertEqual(called("doubts", self.write("three.json", Model.of(THREE).text())), (0, "", ""))
+        status, out, _ = called("doubts", os.path.join(EXAMPLES, "service-day.json"))
+        self.assertEqual((status, out.splitlines()), (0, [
+            "/vehicles/0/costs: the arcs of vehicle 0 cost matrix 0, and 'span_cost' of 'time' pays the same once more"
+        ]))
+
     def test_batch(self) -> None:
         for name in ("breaks-day", "pickups"):
             self.write(f"{name}.json", read_model(os.path.join(EXAMPLES, f"{name}.json")).text())

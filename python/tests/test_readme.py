@@ -3,6 +3,7 @@
 from __future__ import annotations
 
 import contextlib
+import inspect
 import io
 import os
 import re
@@ -11,6 +12,8 @@ import unittest
 from typing import Any, Dict, List
 from unittest import mock
 
+from jambulskeg import complete, engines, errors, places, portfolio, view
+from jambulskeg.errors import JambulskegError
 from jambulskeg.model import read_model, read_solution
 from jambulskeg.places import read_places
 from jambulskeg.program import find
@@ -18,6 +21,8 @@ from jambulskeg.program import find
 from .support import EXAMPLES
 
 README = os.path.join(os.path.dirname(os.path.dirname(os.path.abspath(__file__))), "README.md")
+MODULES = (complete, engines, errors, places, portfolio, view)
+"""The modules that hand out exceptions."""
 BLOCK = re.compile(r"(?:^    .*\n(?:\n(?=    ))*)+", re.MULTILINE)
 
 
@@ -33,6 +38,12 @@ def write(path: str, text: str) -> None:
         file.write(text)
 
 
+def raised() -> List[str]:
+    """The names of all exceptions that modules hand out."""
+    named = [(name, getattr(module, name)) for module in MODULES for name in module.__all__]
+    return sorted(name for name, value in named if inspect.isclass(value) and issubclass(value, JambulskegError))
+
+
 class ReadmeTests(unittest.TestCase):
     def setUp(self) -> None:
         folder = tempfile.TemporaryDirectory()
@@ -43,9 +54,15 @@ class ReadmeTests(unittest.TestCase):
         self.addCleanup(names.stop)
         os.chdir(folder.name)
         os.symlink(EXAMPLES, "examples")
-        places, vehicles = next(block for block in blocks() if block.startswith("name,x,y")).split("\n\n")
-        write("places.csv", places)
-        write("vehicles.csv", vehicles)
+        first, second = next(block for block in blocks() if block.startswith("name,x,y")).split("\n\n")
+        write("places.csv", first)
+        write("vehicles.csv", second)
+
+    def test_each_exception_is_told(self) -> None:
+        with open(README, encoding="utf-8") as file:
+            text = file.read()
+        self.assertEqual(len(raised()), 18)
+        self.assertEqual([name for name in raised() if f"`{name}`" not in text], [])
 
     def test_each_piece_runs(self) -> None:
         pieces = [block for block in blocks() if block.startswith("from ")]
