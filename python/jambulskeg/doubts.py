@@ -12,7 +12,7 @@ from enum import Enum
 from typing import Callable, Iterator, List, Optional, Sequence, Tuple
 
 from .intervals import Numbers, common
-from .records import Dimension, Model, NodeRow
+from .records import Dimension, Evaluator, Model, NodeRow
 from .schedules import chain_of, numbers_of
 
 __all__ = ["Doubt", "DoubtKind", "doubts"]
@@ -30,6 +30,7 @@ class DoubtKind(Enum):
     WINDOW_OUT_OF_REACH = "window out of reach"
     BREAKS_CANNOT_FOLLOW = "breaks cannot follow one another"
     BREAKS_WITHOUT_VISIT = "breaks without visit times"
+    VISIT_WITHOUT_VALUES = "visit times that the way on lacks"
     PAIR_IN_ONE_GROUP = "pair in one group"
     PAIR_HALF_OPTIONAL = "pair half optional"
     DRIVE_ABOVE_WINDOWS = "drive above every window"
@@ -145,6 +146,29 @@ def breaks(model: Model, number: int) -> Iterator[Doubt]:
         )
 
 
+def least_way(model: Model, evaluator: Evaluator, node: int) -> int:
+    """The least transit from a node to another one."""
+    row = () if evaluator.matrix is None else model.matrices[evaluator.matrix][node]
+    return min([*row[:node], *row[node + 1:]], default=0) + (evaluator.values[node] if evaluator.values else 0)
+
+
+def short_ways(model: Model, number: int) -> Iterator[Doubt]:
+    """Visits that take longer than some way from them to a next stop, which should have their time in it."""
+    dimension = model.dimensions[number]
+    if not dimension.visit or not any(dimension.visit):
+        return
+    used = [dimension.evaluators[entry] for entry in set(dimension.vehicle_evaluators or (0,))]
+    ways = [(node, min(least_way(model, evaluator, node) for evaluator in used)) for node in model.visits()]
+    short = [(node, way) for node, way in ways if way < dimension.visit[node]]
+    if short:
+        node, way = short[0]
+        yield Doubt(
+            DoubtKind.VISIT_WITHOUT_VALUES, f"/dimensions/{number}/visit",
+            f"a visit of node {node} takes {dimension.visit[node]} and its way to a next stop {way} in all (so of "
+            f"{len(short)} nodes): 'visit' adds nothing to '{dimension.name}', that is what 'values' do",
+        )
+
+
 def drives(model: Model, number: int) -> List[int]:
     """The way between each two different nodes in a dimension, by the matrices of its vehicles."""
     used = {model.dimensions[number].evaluator_of(vehicle).matrix for vehicle in range(len(model.vehicles))}
@@ -195,7 +219,7 @@ def paid_twice(model: Model, number: int) -> Iterator[Doubt]:
             return
 
 
-LOOKS: Tuple[Look, ...] = (loads, windows, breaks, units, paid_twice)
+LOOKS: Tuple[Look, ...] = (loads, windows, breaks, short_ways, units, paid_twice)
 
 
 def group_of(model: Model, node: int) -> Optional[int]:

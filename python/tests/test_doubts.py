@@ -29,6 +29,16 @@ class DoubtTests(unittest.TestCase):
             model = read_model(path.replace(".solved.json", ".json"))
             self.assertEqual([kind for kind in kinds(model) if kind is not DoubtKind.PAID_TWICE], [], path)
 
+    def test_visits_that_take_no_time(self) -> None:
+        self.assertEqual(kinds(with_time(visit=[0, 4, 5])), [DoubtKind.VISIT_WITHOUT_VALUES])
+        found = doubts(with_time(visit=[9, 5, 4]))
+        self.assertEqual([doubt.path for doubt in found], ["/dimensions/0/visit"])
+        self.assertIn("a visit of node 1 takes 5 and its way to a next stop 4 in all (so of 1 nodes)", found[0].sentence)
+        self.assertEqual(kinds(with_time(visit=[9, 4, 4])), [])
+        evaluators: Any = [{"values": [0, 5, 3]}, {"matrix": 0, "values": [0, 4, 6]}]
+        self.assertEqual(kinds(with_time(visit=[0, 5, 9], evaluators=evaluators, vehicle_evaluators=[1])), [])
+        self.assertEqual(kinds(with_time(visit=[0, 5, 4], evaluators=evaluators)), [DoubtKind.VISIT_WITHOUT_VALUES])
+
     def test_penalties(self) -> None:
         groups: Any = [{"nodes": [1], "penalty": 3}, {"nodes": [2], "penalty": 4}]
         found = doubts(Model.of({**THREE, "groups": groups}))
