@@ -11,7 +11,7 @@ import sys
 from typing import List, Optional, Sequence, Tuple
 
 from .batch import Found, batch, read_folder
-from .complete import shape_faults
+from .complete import shape_faults, shorten
 from .doubts import doubts
 from .engines import Engine, GnuParallel, OwnProcesses, Slurm
 from .errors import JambulskegError, NotMet
@@ -82,6 +82,9 @@ def add_view(command: argparse.ArgumentParser) -> None:
     command.add_argument("model", metavar="MODEL", help="the model file")
     command.add_argument("solution", metavar="SOLUTION", nargs="?", help="the solution, as the program wrote it")
     command.add_argument("--compare", nargs=2, metavar=("A", "B"), help="two solutions of the model, side by side")
+    command.add_argument(
+        "--shorter", action="store_true", help="beside it the same routes, as short as can be where that is no dearer"
+    )
     command.add_argument("-o", "--output", metavar="FILE", required=True, help="the page that is written")
     command.add_argument("--svg", action="store_true", help="an SVG in place of a page")
     command.add_argument("--places", metavar="CSV", help="a place for each node: columns name, x, y and more")
@@ -129,19 +132,21 @@ def weight(text: str) -> Tuple[int, int]:
 
 def run_view(asked: argparse.Namespace) -> int:
     """Writes a page or an SVG."""
-    if (asked.solution is None) == (asked.compare is None):
-        return failed("view takes a SOLUTION, or --compare A B")
+    if (asked.solution is None) == (asked.compare is None) or (asked.compare and asked.shorter):
+        return failed("view takes a SOLUTION, perhaps with --shorter, or --compare A B")
     model = read_model(asked.model)
     files: List[str] = asked.compare or [asked.solution]
     solutions = [read_solution(file) for file in files]
     if not asked.unchecked:
         for file, solution in zip(files, solutions):
             check_file(model, file, solution)
+    if asked.shorter:
+        solutions.append(shorten(model, solutions[0], checked=not asked.unchecked))
     days = days_of(asked, model, solutions)
     titles = titles_of(asked, files)
     found = "The proved check was not asked." if asked.unchecked else (
-        f"The proved check found that {'both keep' if asked.compare else 'this keeps'} all rules of the model and "
-        f"{'cost what they say' if asked.compare else 'costs what it says'}."
+        f"The proved check found that {'both keep' if len(days) == 2 else 'this keeps'} all rules of the model and "
+        f"{'cost what they say' if len(days) == 2 else 'costs what it says'}."
     )
     write(asked.output, text_of(asked, days, titles, found))
     return 0
@@ -173,7 +178,8 @@ def titles_of(asked: argparse.Namespace, files: Sequence[str]) -> List[str]:
         names = [os.path.splitext(os.path.basename(file))[0] for file in files]
     if len(set(names)) < len(names):
         names = [f"{name} ({place})" for place, name in enumerate(names, 1)]
-    return [asked.title] if asked.title and len(names) == 1 else names
+    names = [asked.title] if asked.title and len(names) == 1 else names
+    return [*names, f"{names[0]}, shorter"] if asked.shorter else names
 
 
 def days_of(asked: argparse.Namespace, model: Model, solutions: Sequence[Solution]) -> List[Day]:

@@ -80,6 +80,16 @@ class CommandTests(unittest.TestCase):
         self.assertEqual(called("view", model, *pair, "-o", self.at("b.svg"), "--svg", "--unchecked")[0], 0)
         xml.dom.minidom.parse(self.at("b.svg"))
 
+    def test_view_of_shorter_routes(self) -> None:
+        words = [os.path.join(EXAMPLES, f"windows-day.{end}") for end in ("json", "solved.json")]
+        self.assertEqual(called("view", *words, "--shorter", "-o", self.at("a.html")), (0, "", ""))
+        for said in ("windows-day beside windows-day, shorter", "windows-day: cost 400", "both keep all rules"):
+            self.assertIn(said, self.read("a.html"))
+        self.assertIn("windows-day, shorter: cost 344", self.read("a.html"))
+        pair = ["--compare", words[1], words[1]]
+        status, _, told = called("view", words[0], *pair, "--shorter", "-o", self.at("b.html"))
+        self.assertEqual((status, told.split(", ")[0]), (1, "jambulskeg: view takes a SOLUTION"))
+
     def test_doubts(self) -> None:
         self.assertEqual(called("doubts", self.write("three.json", Model.of(THREE).text())), (0, "", ""))
         status, out, _ = called("doubts", os.path.join(EXAMPLES, "service-day.json"))
@@ -111,7 +121,7 @@ class CommandTests(unittest.TestCase):
         self.write("no.csv", "name,x,y\na,1,2\n")
         page = ["-o", self.at("page.html")]
         for words, said in (
-            (["view", model, *page], "SOLUTION, or --compare"),
+            (["view", model, *page], "view takes a SOLUTION"),
             (["view", model, solution, *page], "a required field is absent"),
             (["view", model, self.at("false.json"), *page], "false.json: the cost is not the sum"),
             (["view", model, self.at("two.json"), *page], "two.json: it is no solution of this model, /routes: there"),
