@@ -18,7 +18,9 @@ from unittest import mock
 
 from jambulskeg.batch import Found, batch, read_folder
 from jambulskeg.engines import Answer, Engine, EngineFailed, GnuParallel, OwnProcesses, Slurm
-from jambulskeg.errors import NoFirstSolution, NotMet, ProgramFailed, ProgramKilled, Refused
+from jambulskeg.errors import (
+    Fault, JambulskegError, NoFirstSolution, NoMemory, NotMet, ProgramFailed, ProgramKilled, Refused,
+)
 from jambulskeg.model import Improve, Model, check, read_model, solve
 from jambulskeg.portfolio import LAMBDAS, Incomplete, Outcome, Portfolio, collected, portfolio, variants
 from jambulskeg.program import find
@@ -180,6 +182,18 @@ class PortfolioTests(unittest.TestCase):
         self.assertIsInstance(found.outcomes[1].problem, NotMet)
         with self.assertRaises(NotMet):
             collected(model, searches[:1], answers[1:])
+
+    def test_a_fault_of_the_model_is_told_before_an_accident(self) -> None:
+        model = small()
+        alike, fault = Refused(Fault(23, "/search/first")), Refused(Fault(20, "/vehicles/0/costs"))
+        out_of_memory = NoMemory("none")
+        cases: List[Tuple[List[Answer], JambulskegError]] = [
+            ([ProgramKilled(9), alike, fault], fault), ([alike, out_of_memory], out_of_memory),
+        ]
+        for answers, problem in cases:
+            with self.assertRaises(type(problem)) as caught:
+                collected(model, variants(model)[:len(answers)], answers, keep_going=True)
+            self.assertIs(caught.exception, problem)
 
 
 class EngineTests(unittest.TestCase):

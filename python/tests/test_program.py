@@ -23,7 +23,7 @@ from jambulskeg.model import (
 )
 from jambulskeg.program import Program, ProgramLike, answer, find, lines_of, program_of, told_by, tree_of
 
-from .support import THREE, Fake, environment
+from .support import THREE, Fake, ask, environment, tree_with
 
 MODEL = Model.of(THREE)
 
@@ -72,6 +72,14 @@ class FileTests(unittest.TestCase):
                 self.assertRaisesRegex(NotJson, f"{name} is no JSON text", lambda: read_model(path))
                 self.assertRaisesRegex(NotJson, f"{name} is no JSON text", lambda: read_solution(path))
             self.assertRaises(OSError, lambda: read_model(os.path.join(folder, "none")))
+
+    def test_a_solution_is_the_first_line_of_a_file(self) -> None:
+        text = json.dumps(tree_with(format=1))
+        with tempfile.TemporaryDirectory() as folder:
+            path = os.path.join(folder, "logged")
+            with open(path, "w", encoding="utf-8") as file:
+                file.write(ask("solve --log", text)[1])
+            self.assertEqual(read_solution(path), solve(Model.of(json.loads(text))))
 
 
 class StatusTests(unittest.TestCase):

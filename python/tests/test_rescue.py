@@ -68,6 +68,35 @@ class RescueTests(unittest.TestCase):
         self.assertEqual((solution.dropped, solution.parts.penalty, solution.tries), ((), 0, 0))
         self.assertEqual(solution.cost, found.solved.solution.cost)
 
+    def test_the_fewest_stay_out_and_then_the_cheapest_is_taken(self) -> None:
+        model = impossible()
+        relaxed, _ = relax(model)
+        fewest = by_penalties(model, lambda asked: Solved(asked, solve(asked)), 100).solved.solution
+        more = replace(fewest, dropped=(1, 2), cost=1)
+        answers = [Solved(relaxed, answer) for answer in (more, fewest, replace(fewest, cost=fewest.cost - 1))]
+        with mock.patch("jambulskeg.rescue.tried", side_effect=answers):
+            best = by_penalties(model, lambda asked: answers[0], 100)
+        self.assertEqual((best.left_out, best.solved.solution.cost), ((2,), fewest.cost - 1))
+
+    def test_the_tries_over_penalties_are_no_fewer_than_asked(self) -> None:
+        for own, least, asked in ((5000, 2000, 5000), (500, 2000, 2000)):
+            model = with_search(impossible(), improve=Improve.GUIDED_LOCAL_SEARCH, tries=own)
+            self.assertEqual(rescue(model, tries=least).solved.model.search.tries, asked)
+
+    def test_penalties_are_above_those_of_the_model(self) -> None:
+        model = impossible()
+        groups = [Group([1], 1000), Group([2])]
+        self.assertEqual(greatest_cost(replace(model, groups=groups)), greatest_cost(model) + 1000)
+        self.assertEqual([group.penalty for group in relax(replace(model, groups=groups))[0].groups],
+                         [1000, greatest_cost(model) + 1001])
+
+    def test_all_models_share_the_time_limit(self) -> None:
+        with mock.patch("jambulskeg.rescue.solve_for") as run, mock.patch("time.monotonic", side_effect=[0, 3, 12]):
+            solver = timed_solver(10)
+            solver(DAY)
+            solver(DAY)
+        self.assertEqual([call.args[1] for call in run.call_args_list], [7, -2])
+
     @staticmethod
     def only_relaxed(solver: Any, model: Model, is_asked: bool) -> Any:
         return tried(solver, model, is_asked) if model.groups else None

@@ -136,6 +136,19 @@ class SolvingTests(RoutingTest):
         self.unsupported("Assignment.Value", lambda: solution.Value(3))
         self.unsupported("Assignment.Save", lambda: solution.Save("x"))
 
+    def test_a_vehicle_that_is_not_used_has_its_least_cumuls(self) -> None:
+        _, routing, number = made()
+        routing.AddDimension(number, 100, 100, False, "way")
+        way = routing.GetDimensionOrDie("way")
+        ends = [(way.CumulVar(routing.Start(vehicle)), way.CumulVar(routing.End(vehicle))) for vehicle in (0, 1)]
+        for start, end in ends:
+            start.SetRange(2, 9)
+            end.SetRange(30, 40)
+        solution = routing.Solve()
+        start, end = ends[1 if routing.IsVehicleUsed(solution, 0) else 0]
+        self.assertEqual([(found.Min(one), found.Max(one)) for found in [solution] for one in (start, end)],
+                         [(2, 2), (30, 30)])
+
     def read_breaks(self, solution: Any, used: int, start: int) -> None:
         breaks = solution.IntervalVarContainer()
         self.assertEqual(breaks.Size(), 2)

@@ -23,7 +23,7 @@ from jambulskeg.view.loads import levels_of
 from jambulskeg.view.route_map import projected
 from jambulskeg.view.svg import told, told_json
 from jambulskeg.view.tables import left_table, stops_table, visits_table
-from jambulskeg.view.timeline import axis_of
+from jambulskeg.view.timeline import axis_of, timeline
 
 from .support import EXAMPLES, THREE, random_tree
 
@@ -83,17 +83,36 @@ def random_days(count: int) -> List[Day]:
     return found
 
 
+def day_with_a_break(begin: int, **fields: Any) -> Day:
+    """A day of one visit of 10 minutes from 130 on, an hour away, with a break of 20 minutes at a time."""
+    model = Model.of({
+        "format": 1, "nodes": 2, "matrices": [[[0, 60], [60, 0]]], "vehicles": [{"start": 0, "end": 0}],
+        "dimensions": [{
+            "name": "time", "evaluators": [{"matrix": 0, "values": [0, 10]}], "slack_max": 30, "capacity": 480,
+            "nodes": [{"node": 1, "window": [130, 250]}],
+            "breaks": [{"vehicle": 0, "breaks": [{"from": begin, "to": begin, "duration": 20}]}], **fields,
+        }],
+    })
+    return day_of(model, complete(model, [[1]]))
+
+
 class PieceTests(unittest.TestCase):
+    def test_a_visit_is_interrupted_by_a_break_where_visit_is_absent(self) -> None:
+        drawn = day_with_a_break(136)
+        self.assertEqual([(piece.kind, piece.low, piece.high) for piece in drawn.pieces(drawn.routes()[0])], [
+            ("travel", 40, 100), ("wait", 100, 130), ("visit", 130, 136), ("break", 136, 156), ("visit", 156, 160),
+            ("travel", 160, 220),
+        ])
+        self.assertIn("<td>160</td><td>break 20 136 to 156, drives 60</td>", stops_table(drawn))
+        read(page(drawn, "break", ""))
+
+    def test_a_break_belongs_to_the_stop_that_has_begun(self) -> None:
+        for begin, stop in ((60, 0), (129, 0), (130, 1), (131, 1), (150, 1)):
+            drawn = day_with_a_break(begin)
+            self.assertEqual([piece.stop for piece in drawn.breaks(drawn.routes()[0])], [stop], begin)
+
     def test_a_drive_is_interrupted_by_a_break_and_then_waits(self) -> None:
-        model = Model.of({
-            "format": 1, "nodes": 2, "matrices": [[[0, 60], [60, 0]]], "vehicles": [{"start": 0, "end": 0}],
-            "dimensions": [{
-                "name": "time", "evaluators": [{"matrix": 0, "values": [0, 10]}], "slack_max": 30, "capacity": 480,
-                "visit": [0, 10], "nodes": [{"node": 1, "window": [130, 250]}],
-                "breaks": [{"vehicle": 0, "breaks": [{"from": 60, "to": 60, "duration": 20}]}],
-            }],
-        })
-        drawn = day_of(model, complete(model, [[1]]))
+        drawn = day_with_a_break(60, visit=[0, 10])
         route = drawn.routes()[0]
         self.assertEqual([(piece.kind, piece.low, piece.high) for piece in drawn.pieces(route)], [
             ("travel", 40, 60), ("break", 60, 80), ("travel", 80, 120), ("wait", 120, 130), ("visit", 130, 140),
@@ -128,7 +147,9 @@ class PieceTests(unittest.TestCase):
             for number in drawn.loads():
                 for route in drawn.routes():
                     levels = levels_of(drawn, number, route)
-                    self.assertEqual([level for _, level in levels[::3]], list(route.dimensions[number].cumuls))
+                    cumuls = list(route.dimensions[number].cumuls)
+                    self.assertEqual([level for _, level in levels[::3]], cumuls)
+                    self.assertEqual([level for _, level in levels[2::3]], cumuls[1:])
                     self.assertEqual([at for at, _ in levels], sorted(at for at, _ in levels))
 
 
@@ -241,6 +262,7 @@ class PageTests(unittest.TestCase):
         self.assertIn("delivered at node 2", visits_table(day("pickups")))
         self.assertIn("Every visit is made", left_table(drawn))
         self.assertIn("break 30 90 to 120", stops_table(day("breaks-day")))
+        self.assertEqual(timeline(drawn, axis_of([drawn])).body.count("may not begin from 180 to 240"), 1)
         optional = day("optional-visits")
         for entry in optional.penalties():
             self.assertIn(f'<td class="number">{entry.cost}</td>', left_table(optional))

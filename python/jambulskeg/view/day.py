@@ -143,12 +143,10 @@ class Day:
         stops, breaks = self.stops(route), self.breaks(route)
         out = [piece for piece in breaks if piece.high <= stops[0]]
         for arc in range(len(stops) - 1):
-            left = stops[arc] + self.service(route, arc)
-            if self.service(route, arc):
-                out.append(Piece("visit", stops[arc], left, arc))
-            inside = [piece for piece in breaks if left <= piece.low and piece.high <= stops[arc + 1]]
-            out += between(left, stops[arc + 1], self.drive(route, arc), inside, arc)
-        return out + [piece for piece in breaks if piece.low >= stops[-1] and piece not in out]
+            inside = [piece for piece in breaks if stops[arc] <= piece.low and piece.high <= stops[arc + 1]]
+            work = (("visit", self.service(route, arc)), ("travel", self.drive(route, arc)))
+            out += between(stops[arc], stops[arc + 1], work, inside, arc)
+        return out + [piece for piece in breaks if piece.low >= stops[-1]]
 
     def drive(self, route: Route, arc: int) -> int:
         """How long the drive of an arc takes, without the visit before it."""
@@ -193,13 +191,21 @@ class Day:
         return out
 
 
-def between(low: int, high: int, drive: int, breaks: Sequence[Piece], stop: int) -> List[Piece]:
-    """What lies between leaving a stop and beginning the next: the drive first, interrupted by breaks, then waiting."""
+def between(
+    low: int, high: int, work: Sequence[Tuple[str, int]], breaks: Sequence[Piece], stop: int
+) -> List[Piece]:
+    """What lies from the beginning of a stop to that of the next: the work, each kind for so long and interrupted by
+    the breaks, then waiting."""
     out: List[Piece] = []
     for piece in (*breaks, Piece("end", high, high, stop)):
-        turn = min(piece.low, low + drive)
-        out += [Piece("travel", low, turn, stop), Piece("wait", turn, piece.low, stop), piece]
-        drive, low = drive - max(0, turn - low), max(low, piece.high)
+        left = []
+        for kind, length in work:
+            turn = min(piece.low, low + length)
+            out.append(Piece(kind, low, turn, stop))
+            left.append((kind, length - (turn - low)))
+            low = turn
+        out += [Piece("wait", low, piece.low, stop), piece]
+        work, low = left, piece.high
     return [piece for piece in out[:-1] if piece.low < piece.high]
 
 

@@ -165,13 +165,13 @@ def stops_table(day: Day) -> str:
 def stop_rows(day: Day, route: Route, loads: Sequence[int]) -> Iterator[str]:
     """The rows of a route, one for each stop."""
     stops, then = day.stops(route), told_pieces(day, route)
+    until = {piece.stop: piece.high for piece in day.pieces(route) if piece.kind == "visit"}
     if then.get(-1):
         yield row(["before the start", "", "", then[-1], *("" for _ in loads)])
     for stop, node in enumerate(route.nodes):
         cells: List[Any] = [day.names.node(node), clock_cell(day, stops[stop]) if day.is_timed else stops[stop]]
         if day.is_timed:
-            service = day.service(route, stop)
-            cells += [day.names.time(stops[stop] + service) if service else "", then.get(stop, "")]
+            cells += [day.names.time(until[stop]) if stop in until else "", then.get(stop, "")]
         yield row([*cells, *(route.dimensions[number].cumuls[stop] for number in loads)])
 
 
