@@ -228,13 +228,13 @@ def run_portfolio(asked: argparse.Namespace) -> int:
     found = portfolio(
         model, engine, tries=asked.tries, lambdas=asked.lambdas or LAMBDAS, keep_going=asked.keep_going
     )
-    for number, outcome in enumerate(found.outcomes):
-        sys.stderr.write(f"{'*' if number == found.number else ' '} {told_outcome(outcome)}\n")
     text = found.solution.text() + "\n"
     if asked.output:
         write(asked.output, text)
     else:
         sys.stdout.write(text)
+    for number, outcome in enumerate(found.outcomes):
+        sys.stderr.write(f"{'*' if number == found.number else ' '} {told_outcome(outcome)}\n")
     return 0
 
 

@@ -15,7 +15,7 @@ from enum import Enum
 from typing import Callable, Dict, Iterator, List, Mapping, Optional, Sequence, Tuple, TypeVar
 
 from .errors import JambulskegError
-from .records import Dimension, Evaluator, Group, Model, NodeRow, Search, Vehicle, VehicleRow
+from .records import HORIZON, Dimension, Evaluator, Group, Model, NodeRow, Search, Vehicle, VehicleRow
 
 __all__ = [
     "BadTable", "Measure", "Place", "Roads", "Rounding", "Van", "from_places", "great_circle", "model_from_csv",
@@ -322,7 +322,7 @@ def time_of(places: Sequence[Place], vans: Sequence[Van], ends: "set[str]", slac
     """The dimension of times: drives and service times, windows of visits, shifts of vehicles."""
     service = [place.service for place in places]
     shifts = [VehicleRow(vehicle, van.shift) for vehicle, van in enumerate(vans) if van.shift]
-    latest = [2**36 if van.shift is None else van.shift[1] for van in vans]
+    latest = [HORIZON if van.shift is None else van.shift[1] for van in vans]
     return Dimension(
         name="time",
         evaluators=[Evaluator(matrix=1, values=service)],

@@ -130,13 +130,10 @@ def collected(
     accidents = [outcome for outcome in outcomes if outcome.is_accident]
     if accidents and not keep_going:
         raise Incomplete(accidents)
-    ranked = sorted(
-        (outcome.solution.cost, number) for number, outcome in enumerate(outcomes) if outcome.solution is not None
-    )
-    for _, number in ranked:
+    found = [(number, outcome.solution) for number, outcome in enumerate(outcomes) if outcome.solution is not None]
+    for number, solution in sorted(found, key=lambda entry: entry[1].cost):
         try:
-            solution = meets(model, fitted(model, outcomes[number].solution), program)
-            return Portfolio(model, solution, number, tuple(outcomes))
+            return Portfolio(model, meets(model, fitted(model, solution), program), number, tuple(outcomes))
         except NotMet as broken:
             outcomes[number] = replace(outcomes[number], solution=None, problem=broken)
     raise why_none(outcomes)
@@ -147,9 +144,8 @@ def outcome_of(search: Search, found: Answer) -> Outcome:
     return Outcome(search, problem=found) if isinstance(found, JambulskegError) else Outcome(search, found)
 
 
-def fitted(model: Model, solution: Optional[Solution]) -> Solution:
+def fitted(model: Model, solution: Solution) -> Solution:
     """A solution that another search of the model found, with as many tries and solutions as the model's may have."""
-    assert solution is not None
     within = solution.tries <= model.search.tries and solution.solutions <= model.search.solutions
     return solution if within else as_own(solution)
 

@@ -65,6 +65,12 @@ class CommandTests(unittest.TestCase):
         self.assertIn("<h1>A &lt;day&gt;</h1>", self.read("a.html"))
         self.assertIn("The proved check found", self.read("a.html"))
 
+    def test_the_answer_is_written_before_it_is_told(self) -> None:
+        model = self.write("three.json", Model.of(THREE).text())
+        with mock.patch("jambulskeg.__main__.told_outcome", side_effect=BrokenPipeError(32, "Broken pipe")):
+            self.assertEqual(called("portfolio", model, "-o", self.at("a.json"))[0], 1)
+        self.assertEqual(read_solution(self.at("a.json")).cost, 18)
+
     def test_view_with_places_and_names(self) -> None:
         model = self.write("three.json", Model.of(THREE).text())
         self.assertEqual(called("portfolio", model, "-o", self.at("a.json"))[0], 0)

@@ -34,6 +34,7 @@ class InstallTests(unittest.TestCase):
             names = wheel.namelist()
         self.assertIn("jambulskeg/routing/pywrapcp.py", names)
         self.assertIn("jambulskeg/py.typed", names)
+        self.assertIn("jambulskeg/view/page.css", names)
         self.assertFalse([name for name in names if "__pycache__" in name])
         self.assertEqual(backend.field("version"), jambulskeg.__version__)
         self.assertTrue(backend.build_editable(self.folder).endswith("none-any.whl"))

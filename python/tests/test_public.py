@@ -7,6 +7,8 @@ import glob
 import inspect
 import os
 import re
+import shutil
+import subprocess
 import unittest
 from types import ModuleType
 from typing import Iterator, List, Tuple, Union
@@ -73,6 +75,14 @@ class PublicTests(unittest.TestCase):
             if isinstance(node, ast.FunctionDef) and (node.end_lineno or 0) - node.lineno >= MOST_LINES
         ]
         self.assertEqual(long, [])
+
+    @unittest.skipIf(shutil.which("mypy") is None, "no type checker is at hand")
+    def test_types_are_right(self) -> None:
+        ran = subprocess.run(
+            ["mypy", "--strict", f"--cache-dir={os.devnull}", "-p", "jambulskeg"], cwd=os.path.dirname(PACKAGE),
+            check=False, stdout=subprocess.PIPE, text=True,
+        )
+        self.assertEqual(ran.returncode, 0, ran.stdout)
 
     def test_lines_are_short(self) -> None:
         wide = [f"{path}:{number}" for path in sources() for number, line in enumerate(read(path).split("\n"), 1)

@@ -3,7 +3,7 @@
 from __future__ import annotations
 
 import unittest
-from typing import List, Tuple
+from typing import Any, Callable, List, Tuple
 
 from jambulskeg.errors import Unsupported
 from jambulskeg.model import Policy, solve
@@ -41,6 +41,23 @@ class ManagerTests(RoutingTest):
             self.assertRaises(IndexError, lambda: call(9))
             self.assertRaises(IndexError, lambda: call(-1))
         self.unsupported("RoutingIndexManager.num_unique_depots", lambda: manager.num_unique_depots)
+
+    def test_a_vehicle_that_is_not_there(self) -> None:
+        manager, routing, number = made()
+        routing.AddDimension(number, 0, 100, True, "way")
+        way = routing.GetDimensionOrDie("way")
+        calls: List[Callable[[int], Any]] = [
+            manager.known_vehicle, manager.GetStartIndex, manager.GetEndIndex, routing.Start, routing.End,
+            routing.GetFixedCostOfVehicle, lambda vehicle: routing.SetFixedCostOfVehicle(1, vehicle),
+            lambda vehicle: routing.SetArcCostEvaluatorOfVehicle(number, vehicle),
+            lambda vehicle: routing.GetArcCostForVehicle(0, 1, vehicle),
+            lambda vehicle: routing.SetPickupAndDeliveryPolicyOfVehicle(1, vehicle),
+            lambda vehicle: way.SetSpanCostCoefficientForVehicle(1, vehicle),
+            lambda vehicle: way.SetBreakIntervalsOfVehicle([], vehicle, [0] * routing.Size()),
+        ]
+        for call in calls:
+            for vehicle in (-1, 2):
+                self.assertRaisesRegex(IndexError, f"there is no vehicle {vehicle}", call, vehicle)
 
 
 class CallbackTests(RoutingTest):

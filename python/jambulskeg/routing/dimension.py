@@ -73,8 +73,8 @@ class RoutingDimension(Named):
         self._span_costs = [coefficient] * len(self._span_costs)
 
     def SetSpanCostCoefficientForVehicle(self, coefficient: int, vehicle: int) -> None:
-        """The same for one vehicle."""
-        self._span_costs[vehicle] = coefficient
+        """The same for one vehicle. Raises `IndexError` where there is no such vehicle."""
+        self._span_costs[self._manager.known_vehicle(vehicle)] = coefficient
 
     def span_cost(self, vehicle: int) -> int:
         """The span cost of a vehicle."""
@@ -99,6 +99,7 @@ class RoutingDimension(Named):
         """The breaks of a vehicle, which takes all of them in this order; none begins before the visit is over.
 
         `node_visit_transits` has by index how long the visit takes, the same for every vehicle of the dimension.
+        Raises `IndexError` where there is no such vehicle.
         """
         name = "RoutingDimension.SetBreakIntervalsOfVehicle"
         if delays or not hasattr(node_visit_transits, "__len__"):
@@ -109,7 +110,7 @@ class RoutingDimension(Named):
         if self._visit not in (None, visit):
             raise refuse(name, "the visit times are those of another vehicle too")
         self._visit = visit
-        self.breaks[vehicle] = list(breaks)
+        self.breaks[self._manager.known_vehicle(vehicle)] = list(breaks)
 
     def _visit_times(self, by_index: Sequence[int], name: str) -> Tuple[int, ...]:
         """Visit times by node. Raises `Unsupported` where two indices of one node have other times."""

@@ -76,13 +76,19 @@ class RoutingIndexManager(Named):
         """How many indices there are, those of ends among them."""
         return len(self._index_to_node)
 
+    def known_vehicle(self, vehicle: int) -> int:
+        """The number of a vehicle, from 0. Raises `IndexError` where there is no such vehicle."""
+        if not 0 <= vehicle < len(self._starts):
+            raise IndexError(f"there is no vehicle {vehicle}")
+        return vehicle
+
     def GetStartIndex(self, vehicle: int) -> int:
-        """The index of the start of a vehicle."""
-        return self._start_indices[vehicle]
+        """The index of the start of a vehicle. Raises `IndexError` where there is no such vehicle."""
+        return self._start_indices[self.known_vehicle(vehicle)]
 
     def GetEndIndex(self, vehicle: int) -> int:
-        """The index of the end of a vehicle."""
-        return self._end_indices[vehicle]
+        """The index of the end of a vehicle. Raises `IndexError` where there is no such vehicle."""
+        return self._end_indices[self.known_vehicle(vehicle)]
 
     def IndexToNode(self, index: int) -> int:
         """The node of an index. Raises `IndexError` where there is no such index."""

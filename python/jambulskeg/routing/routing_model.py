@@ -120,27 +120,28 @@ class RoutingModel(Named):
         self._said.costs = [number] * len(self._said.costs)
 
     def SetArcCostEvaluatorOfVehicle(self, evaluator: int, vehicle: int) -> None:
-        """The same for one vehicle."""
-        self._said.costs[vehicle] = self._said.transits.known(evaluator, "RoutingModel.SetArcCostEvaluatorOfVehicle")
+        """The same for one vehicle. Raises `IndexError` where there is no such vehicle."""
+        number = self._said.transits.known(evaluator, "RoutingModel.SetArcCostEvaluatorOfVehicle")
+        self._said.costs[self._manager.known_vehicle(vehicle)] = number
 
     def SetFixedCostOfAllVehicles(self, cost: int) -> None:
         """What it costs to use a vehicle at all, 0 to 2^40."""
         self._said.fixed = [cost] * len(self._said.fixed)
 
     def SetFixedCostOfVehicle(self, cost: int, vehicle: int) -> None:
-        """The same for one vehicle."""
-        self._said.fixed[vehicle] = cost
+        """The same for one vehicle. Raises `IndexError` where there is no such vehicle."""
+        self._said.fixed[self._manager.known_vehicle(vehicle)] = cost
 
     def GetFixedCostOfVehicle(self, vehicle: int) -> int:
-        """The fixed cost of a vehicle."""
-        return self._said.fixed[vehicle]
+        """The fixed cost of a vehicle. Raises `IndexError` where there is no such vehicle."""
+        return self._said.fixed[self._manager.known_vehicle(vehicle)]
 
     def GetArcCostForVehicle(self, from_index: int, to_index: int, vehicle: int) -> int:
         """What the arc between two indices costs: by the callback, with the fixed cost on the arc from the start, and
         the span cost of its transits. 0 from a start to an end, and from an index to itself."""
         if from_index == to_index or (self.IsStart(from_index) and self.IsEnd(to_index)):
             return 0
-        number = self._said.costs[vehicle]
+        number = self._said.costs[self._manager.known_vehicle(vehicle)]
         cost = 0 if number is None else self._between(number, from_index, to_index)
         for dimension in self._said.dimensions.values():
             if dimension.span_cost(vehicle):
@@ -278,7 +279,7 @@ class RoutingModel(Named):
         """The order of deliveries on one vehicle: any, last in first out, or first in first out."""
         if policy not in range(len(self.POLICIES)):
             raise refuse(f"pickup and delivery policy {policy!r}", "there are NO_ORDER, LIFO and FIFO")
-        self._said.policies[vehicle] = self.POLICIES[policy]
+        self._said.policies[self._manager.known_vehicle(vehicle)] = self.POLICIES[policy]
 
     def SetAllowedVehiclesForIndex(self, vehicles: Sequence[int], index: int) -> None:
         """The vehicles that may make a visit, where it is made; an empty list allows all, and -1 changes nothing."""

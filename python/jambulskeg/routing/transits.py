@@ -53,11 +53,12 @@ class Transits:
 
     def matrix(self, number: int) -> Table:
         """The matrix by nodes of a callback, also of one of one index."""
-        found = self._table(number)
-        if not self._unary[number]:
-            return found  # type: ignore[no-any-return]
-        size = range(len(found))
-        return tuple(tuple(0 if head == tail else found[tail] for head in size) for tail in size)
+        values = self.values(number)
+        if values is None:
+            table: Table = self._table(number)
+            return table
+        size = range(len(values))
+        return tuple(tuple(0 if head == tail else values[tail] for head in size) for tail in size)
 
     def least(self, number: int) -> int:
         """The least value of a callback."""
