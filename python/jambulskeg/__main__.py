@@ -234,11 +234,11 @@ def run_portfolio(asked: argparse.Namespace) -> int:
     else:
         sys.stdout.write(text)
     for number, outcome in enumerate(found.outcomes):
-        sys.stderr.write(f"{'*' if number == found.number else ' '} {told_outcome(outcome)}\n")
+        sys.stderr.write(f"{'*' if number == found.number else ' '} {outcome_line(outcome)}\n")
     return 0
 
 
-def told_outcome(outcome: Outcome) -> str:
+def outcome_line(outcome: Outcome) -> str:
     """A line for a search."""
     if outcome.solution is None:
         return f"{'-':>12}  {outcome.name}: {outcome.problem}"
@@ -258,13 +258,13 @@ def run_batch(asked: argparse.Namespace) -> int:
     for name, entry in found.items():
         if isinstance(entry, Portfolio):
             write(os.path.join(output, f"{name}.solved.json"), entry.solution.text() + "\n")
-        print(told_model(name, entry))
+        print(model_line(name, entry))
     for name, fault in faulty:
         print(f"{name}: {fault}")
     return 1 if faulty or any(not isinstance(entry, Portfolio) for entry in found.values()) else 0
 
 
-def told_model(name: str, entry: Found) -> str:
+def model_line(name: str, entry: Found) -> str:
     """A line for a model."""
     if not isinstance(entry, Portfolio):
         return f"{name}: {entry}"

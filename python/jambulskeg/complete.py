@@ -13,7 +13,7 @@ from typing import Any, Iterator, List, Mapping, Sequence
 
 from .costs import parts_of
 from .errors import Fault, JambulskegError, Refused
-from .intervals import common, told
+from .intervals import common, in_words
 from .kinds import Row, between
 from .model import meets, spans
 from .program import ProgramLike
@@ -104,7 +104,7 @@ def cannot_be_driven(line: Line, vehicle: int, nodes: Sequence[int]) -> CannotBe
 
 def why_not(line: Line, nodes: Sequence[int], stop: int) -> str:
     """In words, why no cumul is left for a stop."""
-    allows = f"node {nodes[stop]} (stop {stop}) allows {told(line.allowed[stop])}"
+    allows = f"node {nodes[stop]} (stop {stop}) allows {in_words(line.allowed[stop])}"
     if stop == 0:
         return allows
     before = reach_of(line).reached[stop - 1]

@@ -91,9 +91,9 @@ class GnuParallel:
             for model in models:
                 longest = max(longest, texts.write(model.text() + "\n"))
             texts.seek(0)
-            out, told = self.called(longest, texts)
+            out, errors = self.called(longest, texts)
         found = results(out)
-        return [answer_of(found, task, told) for task in range(1, len(models) + 1)]
+        return [answer_of(found, task, errors) for task in range(1, len(models) + 1)]
 
     def called(self, longest: int, texts: IO[str]) -> Tuple[str, str]:
         """What GNU parallel wrote to its two outputs; it is ended where this process is stopped."""
@@ -136,11 +136,11 @@ class Slurm:
             for task, model in enumerate(models):
                 with open(os.path.join(folder, f"{task}.json"), "w", encoding="utf-8") as file:
                     file.write(model.text())
-            told = ""
+            errors = ""
             for begin in range(0, len(models), MOST_TASKS):
-                told += self.submit(folder, begin, min(MOST_TASKS, len(models) - begin))
+                errors += self.submit(folder, begin, min(MOST_TASKS, len(models) - begin))
             end = time.monotonic() + LATE_FILES
-            return [answer_of(results_of(folder, task, end), task, told) for task in range(len(models))]
+            return [answer_of(results_of(folder, task, end), task, errors) for task in range(len(models))]
 
     def submit(self, folder: str, begin: int, tasks: int) -> str:
         """Runs a job array over some of the models, to its end; what sbatch said of it."""
@@ -152,13 +152,13 @@ class Slurm:
         with process:
             job = (process.stdout.readline() if process.stdout else "").strip().split(";")[0]
             try:
-                told = process.communicate()[1]
+                errors = process.communicate()[1]
             except BaseException:
                 started(["scancel", job], folder).wait()
                 raise
         if not job:
-            raise EngineFailed(f"sbatch took no job; it said: {last_of(told)}")
-        return told
+            raise EngineFailed(f"sbatch took no job; it said: {last_of(errors)}")
+        return errors
 
     def script(self, folder: str, begin: int, tasks: int) -> str:
         """The script of a job array."""
@@ -205,9 +205,9 @@ def started(command: Sequence[str], folder: str, text: Optional[IO[str]] = None)
         raise EngineFailed(f"'{command[0]}' could not be started: {problem.strerror}") from problem
 
 
-def last_of(told: str) -> str:
+def last_of(errors: str) -> str:
     """The last line of what a process said."""
-    return (told.strip().splitlines()[-1:] or ["nothing"])[0]
+    return (errors.strip().splitlines()[-1:] or ["nothing"])[0]
 
 
 def results(out: str) -> Results:
@@ -228,10 +228,10 @@ def results_of(folder: str, task: int, end: float) -> Results:
         time.sleep(0.2)
 
 
-def answer_of(found: Results, task: int, told: str) -> Answer:
+def answer_of(found: Results, task: int, errors: str) -> Answer:
     """The solution of a task, or the exception of its status. Raises `EngineFailed` where it wrote nothing."""
     if task not in found:
-        raise EngineFailed(f"a task has no result (number {task}); the engine said: {last_of(told)}")
+        raise EngineFailed(f"a task has no result (number {task}); the engine said: {last_of(errors)}")
     status, text = found[task]
     if status in (126, 127):
         return ProgramFailed(f"where the task was run the program could not be started (status {status} of the shell)")

@@ -40,6 +40,6 @@ def without(numbers: Numbers, forbidden: Iterable[Interval]) -> Numbers:
     return out
 
 
-def told(numbers: Numbers) -> str:
+def in_words(numbers: Numbers) -> str:
     """The set in words."""
     return " or ".join(f"{low} to {high}" if low < high else str(low) for low, high in numbers) or "no number"

@@ -91,14 +91,14 @@ class Program:
             raise ProgramFailed(f"the program {self.path} could not be started: {problem.strerror}") from problem
         with process:
             try:
-                out, told = process.communicate(data, seconds)
+                out, errors = process.communicate(data, seconds)
             except subprocess.TimeoutExpired:
                 process.kill()
                 raise ProgramSlow(seconds or 0) from None
             except BaseException:
                 process.kill()
                 raise
-        return answer(process.returncode, out, told)
+        return answer(process.returncode, out, errors)
 
     def ask(self, words: Sequence[str], text: Union[str, bytes] = "", seconds: Optional[float] = None) -> Any:
         """The JSON object in the first line of what the program writes. Raises as `run` does."""
@@ -121,7 +121,7 @@ def tree_of(text: str) -> Any:
         raise ProgramFailed(f"the program wrote no JSON: {text[:80]!r}") from None
 
 
-def answer(status: int, out: bytes, told: bytes) -> str:
+def answer(status: int, out: bytes, errors: bytes) -> str:
     """The text of a run that went well. Raises the exception of its status."""
     if status < 0:
         raise ProgramKilled(-status)
@@ -133,10 +133,10 @@ def answer(status: int, out: bytes, told: bytes) -> str:
     if status in PLAIN:
         kind, sentence = PLAIN[status]
         raise kind(sentence)
-    raise told_by(status, out, told)
+    raise exception_of(status, out, errors)
 
 
-def told_by(status: int, out: bytes, told: bytes) -> JambulskegError:
+def exception_of(status: int, out: bytes, errors: bytes) -> JambulskegError:
     """The exception of a status whose text says more: 5 a refusal, 9 a broken rule; else the run failed."""
     try:
         tree: Dict[str, Any] = json.loads(out)
@@ -146,7 +146,7 @@ def told_by(status: int, out: bytes, told: bytes) -> JambulskegError:
             return NotMet(str(tree["rule"]), int(tree["vehicle"]), int(tree["place"]))
     except (ValueError, KeyError, TypeError):
         pass
-    last = told.decode("utf-8", "replace").strip().splitlines()[-1:] or ["nothing on standard error"]
+    last = errors.decode("utf-8", "replace").strip().splitlines()[-1:] or ["nothing on standard error"]
     return ProgramFailed(f"the program ended with status {status}, which it does not have; it said: {last[0]}")
 
 

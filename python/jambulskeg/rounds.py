@@ -73,7 +73,7 @@ def solve_for(
     it is None, a terminal is. Raises what `solve` raises.
     """
     found = program_of(program)
-    tell = progress or (to_terminal if sys.stderr.isatty() else lambda told: None)
+    tell = progress or (to_terminal if sys.stderr.isatty() else lambda found: None)
     begin = tries_for(model.search.improve, FIRST_TRIES) if tries is None else tries
     best, rounds = run_rounds(model, time_limit, found, tell, begin)
     if checked:

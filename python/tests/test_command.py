@@ -67,7 +67,7 @@ class CommandTests(unittest.TestCase):
 
     def test_the_answer_is_written_before_it_is_told(self) -> None:
         model = self.write("three.json", Model.of(THREE).text())
-        with mock.patch("jambulskeg.__main__.told_outcome", side_effect=BrokenPipeError(32, "Broken pipe")):
+        with mock.patch("jambulskeg.__main__.outcome_line", side_effect=BrokenPipeError(32, "Broken pipe")):
             self.assertEqual(called("portfolio", model, "-o", self.at("a.json"))[0], 1)
         self.assertEqual(read_solution(self.at("a.json")).cost, 18)
 

@@ -21,7 +21,7 @@ from jambulskeg.model import (
     Event, Finding, Model, Parts, Route, SearchLog, Status, Stop, check, first, generate, meets, read_model, read_solution,
     solve, solve_with_log,
 )
-from jambulskeg.program import Program, ProgramLike, answer, find, lines_of, program_of, told_by, tree_of
+from jambulskeg.program import Program, ProgramLike, answer, exception_of, find, lines_of, program_of, tree_of
 
 from .support import THREE, Fake, ask, environment, tree_with
 
@@ -105,9 +105,9 @@ class StatusTests(unittest.TestCase):
         for status, kind in kinds.items():
             with Fake(f"sys.stderr.write('woe'); sys.exit({status})") as path:
                 self.assertRaises(kind, lambda: solve(MODEL, path))
-        self.assertIn("woe", str(told_by(77, b"", b"woe\n")))
+        self.assertIn("woe", str(exception_of(77, b"", b"woe\n")))
         for status, text in ((5, b"{}"), (9, b'{"rule":"x"}'), (5, b"[]"), (9, b"garbage")):
-            self.assertIsInstance(told_by(status, text, b""), ProgramFailed)
+            self.assertIsInstance(exception_of(status, text, b""), ProgramFailed)
         self.assertRaises(ProgramFailed, lambda: answer(0, b"\xff", b""))
         self.assertRaises(ProgramFailed, lambda: tree_of("no tree"))
         self.assertEqual(lines_of("a\nb\n"), ["a", "b"])

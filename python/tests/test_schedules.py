@@ -7,7 +7,7 @@ import random
 import unittest
 from typing import Iterator, List, Optional, Sequence, Set, Tuple
 
-from jambulskeg.intervals import Numbers, common, told, united, without
+from jambulskeg.intervals import Numbers, common, in_words, united, without
 from jambulskeg.model import Break, Model, Plan, ScheduleRule, StopRow
 from jambulskeg.schedules import (
     Line, break_starts, chain_of, chosen, crossing, earliest, line_of, numbers_of, ranges, reach_of, rows_of, tight,
@@ -76,8 +76,8 @@ class IntervalTests(unittest.TestCase):
             self.assertEqual(numbers(common(one, other)), numbers(one) & numbers(other))
             self.assertEqual(numbers(without(one, other)), numbers(one) - numbers(other))
             self.assertTrue(all(high + 1 < low for (_, high), (low, _) in zip(one, one[1:])))
-        self.assertEqual(told([(1, 3), (5, 5)]), "1 to 3 or 5")
-        self.assertEqual(told([]), "no number")
+        self.assertEqual(in_words([(1, 3), (5, 5)]), "1 to 3 or 5")
+        self.assertEqual(in_words([]), "no number")
 
 
 class ScheduleTests(unittest.TestCase):

@@ -21,7 +21,7 @@ from jambulskeg.view.axis import Axis
 from jambulskeg.view.compare import changes_table, signed
 from jambulskeg.view.loads import levels_of
 from jambulskeg.view.route_map import projected
-from jambulskeg.view.svg import told, told_json
+from jambulskeg.view.svg import escaped, script_json
 from jambulskeg.view.tables import left_table, stops_table, visits_table
 from jambulskeg.view.timeline import axis_of, timeline
 
@@ -230,9 +230,9 @@ class PageTests(unittest.TestCase):
         xml.dom.minidom.parseString(texts[2])
         islands = re.findall(r'<script type="application/json"[^>]*>(.*?)</script>', texts[0])
         self.assertEqual(Solution.of(json.loads(islands[0])), drawn.solution)
-        self.assertEqual(told("a<b>\x07"), "a&lt;b&gt;\ufffd")
-        self.assertEqual(json.loads(told_json("</script>&")), "</script>&")
-        self.assertNotIn("<", told_json("</script>"))
+        self.assertEqual(escaped("a<b>\x07"), "a&lt;b&gt;\ufffd")
+        self.assertEqual(json.loads(script_json("</script>&")), "</script>&")
+        self.assertNotIn("<", script_json("</script>"))
 
     def test_a_page_needs_no_network(self) -> None:
         text = page(day("service-day"), "day", "")

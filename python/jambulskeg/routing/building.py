@@ -73,7 +73,7 @@ class Said:
         for relation, indices in self.solver.same:
             one, other = map(self.manager.IndexToNode, indices)
             if (one, other) not in self.pairs and (other, one) not in self.pairs:
-                raise refuse(f"Solver.Add({relation.told()})", "it is had for a pickup and its delivery alone")
+                raise refuse(f"Solver.Add({relation.in_words()})", "it is had for a pickup and its delivery alone")
 
     def _check_ordered(self) -> None:
         """Raises `Unsupported` at an order of two cumuls that no pair says."""
@@ -81,7 +81,7 @@ class Said:
             pair: Any = tuple(map(self.manager.IndexToNode, indices))
             if pair not in self.pairs or min(map(self.transits.least, self.dimensions[name].evaluators)) < 0:
                 raise refuse(
-                    f"Solver.Add({relation.told()})",
+                    f"Solver.Add({relation.in_words()})",
                     "it is had for a pickup and its delivery alone, in a dimension without negative transits",
                 )
 

@@ -56,7 +56,7 @@ class Solver(Named):
         action = ONE.get((relation.left.kind, relation.sign))
         if action is None:
             raise unsaid(relation)
-        action(relation.left, as_whole(relation.right, f"Solver.Add({relation.told()})"))
+        action(relation.left, as_whole(relation.right, f"Solver.Add({relation.in_words()})"))
 
     def FixedDurationIntervalVar(
         self, start_min: Any, start_max: int, duration: Any = None, optional: Any = False, name: str = ""
@@ -80,7 +80,7 @@ class Solver(Named):
 
 def unsaid(relation: Relation) -> Unsupported:
     """The exception that refuses a constraint."""
-    return refuse(f"Solver.Add({relation.told()})", "a model cannot say it")
+    return refuse(f"Solver.Add({relation.in_words()})", "a model cannot say it")
 
 
 ONE: Dict[Tuple[VarKind, str], Callable[[Any, int], None]] = {

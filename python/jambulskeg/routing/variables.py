@@ -28,10 +28,10 @@ class Relation:
     def __init__(self, left: "IntVar", sign: str, right: Any) -> None:
         self.left, self.sign, self.right = left, sign, right
 
-    def told(self) -> str:
+    def in_words(self) -> str:
         """The relation in words."""
-        right = self.right.told() if isinstance(self.right, IntVar) else repr(self.right)
-        return f"{self.left.told()} {self.sign} {right}"
+        right = self.right.in_words() if isinstance(self.right, IntVar) else repr(self.right)
+        return f"{self.left.in_words()} {self.sign} {right}"
 
 
 class IntVar(Named):
@@ -42,13 +42,13 @@ class IntVar(Named):
     def __init__(self, kind: VarKind, index: int, dimension: str = "") -> None:
         self.kind, self.index, self.dimension = kind, index, dimension
 
-    def told(self) -> str:
+    def in_words(self) -> str:
         """The variable in words."""
         return f"{self.kind.value}({self.index})"
 
     def Name(self) -> str:
         """The variable in words."""
-        return self.told()
+        return self.in_words()
 
     def __hash__(self) -> int:
         return hash((self.kind, self.index, self.dimension))
@@ -72,22 +72,22 @@ class IntVar(Named):
         return Relation(self, ">", other)
 
     def __add__(self, other: object) -> Relation:
-        raise refuse(f"{self.told()} + ..", "a model has no sums of variables")
+        raise refuse(f"{self.in_words()} + ..", "a model has no sums of variables")
 
     def __radd__(self, other: object) -> Relation:
-        raise refuse(f".. + {self.told()}", "a model has no sums of variables")
+        raise refuse(f".. + {self.in_words()}", "a model has no sums of variables")
 
     def __sub__(self, other: object) -> Relation:
-        raise refuse(f"{self.told()} - ..", "a model has no differences of variables")
+        raise refuse(f"{self.in_words()} - ..", "a model has no differences of variables")
 
     def __rsub__(self, other: object) -> Relation:
-        raise refuse(f".. - {self.told()}", "a model has no differences of variables")
+        raise refuse(f".. - {self.in_words()}", "a model has no differences of variables")
 
     def __mul__(self, other: object) -> Relation:
-        raise refuse(f"{self.told()} * ..", "a model has no products of variables")
+        raise refuse(f"{self.in_words()} * ..", "a model has no products of variables")
 
     def __rmul__(self, other: object) -> Relation:
-        raise refuse(f".. * {self.told()}", "a model has no products of variables")
+        raise refuse(f".. * {self.in_words()}", "a model has no products of variables")
 
 
 class StopRules:
@@ -123,15 +123,15 @@ class CumulVar(IntVar):
 
     def SetRange(self, low: int, high: int) -> None:
         """The cumul lies in `low` to `high`. Raises `Refused` where no number is left."""
-        self._rules.narrow(as_whole(low, "CumulVar.SetRange"), as_whole(high, "CumulVar.SetRange"), self.told())
+        self._rules.narrow(as_whole(low, "CumulVar.SetRange"), as_whole(high, "CumulVar.SetRange"), self.in_words())
 
     def SetMin(self, low: int) -> None:
         """The cumul is at least `low`."""
-        self._rules.narrow(as_whole(low, "CumulVar.SetMin"), HORIZON, self.told())
+        self._rules.narrow(as_whole(low, "CumulVar.SetMin"), HORIZON, self.in_words())
 
     def SetMax(self, high: int) -> None:
         """The cumul is at most `high`."""
-        self._rules.narrow(0, as_whole(high, "CumulVar.SetMax"), self.told())
+        self._rules.narrow(0, as_whole(high, "CumulVar.SetMax"), self.in_words())
 
     def SetValue(self, value: int) -> None:
         """The cumul is `value`."""
@@ -180,14 +180,14 @@ class VehicleVar(IntVar):
     @property
     def _rules(self) -> VisitRules:
         if self._of_visit is None:
-            raise refuse(self.told(), "starts and ends have the vehicle that they have")
+            raise refuse(self.in_words(), "starts and ends have the vehicle that they have")
         return self._of_visit
 
     def SetValues(self, values: Iterable[int]) -> None:
         """The vehicle is among these; where -1 is not, the visit must be made."""
         found = {as_whole(value, "VehicleVar.SetValues") for value in values}
         self._rules.must_be_made |= -1 not in found
-        self._rules.keep(found, self.told())
+        self._rules.keep(found, self.in_words())
 
     def SetValue(self, value: int) -> None:
         """The vehicle is this one, and the visit must be made."""
@@ -205,7 +205,7 @@ class VehicleVar(IntVar):
         """The vehicle is none of these; without -1 the visit must be made."""
         found = {as_whole(value, "VehicleVar.RemoveValue") for value in values}
         self._rules.must_be_made |= -1 in found
-        self._rules.keep(self._rules.left - found, self.told())
+        self._rules.keep(self._rules.left - found, self.in_words())
 
 
 class IntervalVar(Named):

@@ -10,7 +10,7 @@ from .legend import marks_of
 from .loads import loads
 from .route_map import route_map
 from .style import PATTERNS, picture_style
-from .svg import Picture, number, text, told
+from .svg import Picture, escaped, number, text
 from .tables import PARTS
 from .timeline import LETTER, axis_of, timeline
 
@@ -36,13 +36,13 @@ def drawing(days: Sequence[Day], titles: Sequence[str], in_degrees: bool = False
     size = f"{x:g} {height + 2 * MARGIN:g}"
     return (
         f'<svg xmlns="http://www.w3.org/2000/svg" viewBox="0 0 {size}" width="{x:g}" height="{height + 2 * MARGIN:g}" '
-        f'role="img" aria-labelledby="title words"><title id="title">{told(words)}</title>'
-        f'<desc id="words">{told(timeline(days[0], axis).description)}</desc><style>{told_style()}</style>{PATTERNS}'
+        f'role="img" aria-labelledby="title words"><title id="title">{escaped(words)}</title>'
+        f'<desc id="words">{escaped(timeline(days[0], axis).description)}</desc><style>{xml_style()}</style>{PATTERNS}'
         f'<rect class="even" width="100%" height="100%"/>{"".join(columns)}</svg>\n'
     )
 
 
-def told_style() -> str:
+def xml_style() -> str:
     """The style as XML holds it."""
     return picture_style().replace("&", "&amp;").replace("<", "&lt;")
 

@@ -46,7 +46,7 @@ def loads(day: Day, number: int, axis: Axis) -> Picture:
         if place % EVERY == 0:
             y += HEAD
             body.append(heading(day, axis, y))
-        labels += [name_of(day, route, y + 18), text("note", (21, y + 34), told_most(day, number, route))]
+        labels += [name_of(day, route, y + 18), text("note", (21, y + 34), most_text(day, number, route))]
         bands.append(band(place, y, ROW))
         body.append(row_of(day, number, axis, route, (y, most)))
         y += ROW
@@ -72,7 +72,7 @@ def most_of(day: Day, number: int) -> int:
     return max([top, *(capacity for capacity in capacities if capacity <= FAR * top)])
 
 
-def told_most(day: Day, number: int, route: Route) -> str:
+def most_text(day: Day, number: int, route: Route) -> str:
     """The greatest level of a route beside its capacity, in words."""
     capacity = day.model.dimensions[number].capacity_of(route.vehicle)
     return f"{greatest(day, number, route)}" + (f" of {capacity}" if capacity < HORIZON else "")
@@ -85,7 +85,7 @@ def row_of(day: Day, number: int, axis: Axis, route: Route, where: Tuple[float, 
     points = [(axis.at(at), base - high * max(0, level) / most) for at, level in levels_of(day, number, route)]
     capacity = day.model.dimensions[number].capacity_of(route.vehicle)
     dimension = day.model.dimensions[number].name
-    title = f"{day.names.vehicle(route.vehicle)}: {dimension} at most {told_most(day, number, route)}"
+    title = f"{day.names.vehicle(route.vehicle)}: {dimension} at most {most_text(day, number, route)}"
     marks = [
         line("base", (axis.left, base), (axis.left + axis.width, base)),
         path("area", [(points[0][0], base), *points, (points[-1][0], base)], title),

@@ -11,7 +11,7 @@ from .legend import marks_of
 from .loads import loads
 from .route_map import route_map
 from .style import PATTERNS, page_script, page_style
-from .svg import Picture, told, told_json
+from .svg import Picture, escaped, script_json
 from .tables import PARTS, cost_table, left_table, parts_table, stops_table, visits_table
 from .timeline import axis_of, timeline
 
@@ -24,7 +24,7 @@ def page(day: Day, title: str, found: str, in_degrees: bool = False) -> str:
     """The page of a day. `found` says what was checked."""
     axis = axis_of([day])
     parts = [
-        f"<h1>{told(title)}</h1><p>{told(found)}</p>",
+        f"<h1>{escaped(title)}</h1><p>{escaped(found)}</p>",
         facts(day),
         choice(day),
         "<h2>The day</h2>" + charts(day, axis, in_degrees),
@@ -43,13 +43,13 @@ def compare_page(days: Tuple[Day, Day], titles: Tuple[str, str], found: str, in_
     axis = axis_of(days)
     title = f"{titles[0]} beside {titles[1]}"
     columns = "".join(
-        f"<section><h3>{told(name)}: cost {day.solution.cost}</h3>{facts(day)}{charts(day, axis, in_degrees)}"
+        f"<section><h3>{escaped(name)}: cost {day.solution.cost}</h3>{facts(day)}{charts(day, axis, in_degrees)}"
         f"{details(f'What was left out, {name}', left_table(day))}"
         f"{details(f'Stops of each vehicle, {name}', stops_table(day))}</section>"
         for day, name in zip(days, titles)
     )
     parts = [
-        f"<h1>{told(title)}</h1><p>{told(found)}</p>",
+        f"<h1>{escaped(title)}</h1><p>{escaped(found)}</p>",
         "<h2>What they cost</h2>" + costs_beside(days, titles),
         choice(days[0]),
         "<h2>Both days</h2>" + f'<div class="beside">{columns}</div>',
@@ -61,13 +61,13 @@ def compare_page(days: Tuple[Day, Day], titles: Tuple[str, str], found: str, in_
 def whole(title: str, body: str, days: Sequence[Day]) -> str:
     """The page around its parts; it holds the solutions as JSON too."""
     trees = "".join(
-        f'<script type="application/json" class="solution">{told_json(day.solution.tree())}</script>' for day in days
+        f'<script type="application/json" class="solution">{script_json(day.solution.tree())}</script>' for day in days
     )
     return (
         '<!DOCTYPE html>\n<html lang="en"><head><meta charset="utf-8">'
         f'<meta http-equiv="Content-Security-Policy" content="{POLICY}">'
         '<meta name="viewport" content="width=device-width, initial-scale=1">'
-        f"<title>{told(title)}</title><style>{page_style()}</style></head>"
+        f"<title>{escaped(title)}</title><style>{page_style()}</style></head>"
         f'<body{" class=two" if len(days) > 1 else ""}><a class="skip" href="#tables">To the table of visits</a>'
         f'<svg class="patterns" aria-hidden="true">{PATTERNS}</svg><main>{body}</main>'
         f"{trees}<script>{page_script()}</script></body></html>\n"
@@ -87,7 +87,7 @@ def facts(day: Day) -> str:
 def choice(day: Day) -> str:
     """The choice of a vehicle to bring out."""
     options = "".join(
-        f'<option value="{route.vehicle}">{told(day.names.vehicle(route.vehicle))}</option>' for route in day.routes()
+        f'<option value="{route.vehicle}">{escaped(day.names.vehicle(route.vehicle))}</option>' for route in day.routes()
     )
     return (
         '<div class="tools"><label for="vehicle">Bring out</label>'
@@ -106,7 +106,7 @@ def search() -> str:
 def legend(picture: Picture) -> str:
     """What the marks of a chart mean, as far as it has them."""
     rows = [
-        f'<li><svg viewBox="0 0 34 16" aria-hidden="true">{mark}</svg>{told(words)}</li>'
+        f'<li><svg viewBox="0 0 34 16" aria-hidden="true">{mark}</svg>{escaped(words)}</li>'
         for mark, words in marks_of(picture)
     ]
     return '<ul class="legend">' + "".join(rows) + "</ul>"
@@ -115,10 +115,10 @@ def legend(picture: Picture) -> str:
 def charts(day: Day, axis: Axis, in_degrees: bool) -> str:
     """The charts of a day, and its map where its places are known."""
     picture = timeline(day, axis)
-    parts: List[str] = [f"<p>Along the rows: {told(day.unit)}.</p>{legend(picture)}{chart(picture)}"]
+    parts: List[str] = [f"<p>Along the rows: {escaped(day.unit)}.</p>{legend(picture)}{chart(picture)}"]
     for number in day.loads():
         picture = loads(day, number, axis)
-        name = told(day.model.dimensions[number].name)
+        name = escaped(day.model.dimensions[number].name)
         parts.append(f"<h3>{name}, beside the capacity</h3>{legend(picture)}{chart(picture)}")
     if day.places:
         picture = route_map(day, in_degrees)
@@ -137,20 +137,20 @@ def chart(picture: Picture) -> str:
     body = svg(picture.width, picture, picture.body)
     return (
         f'<figure class="chart" style="{sizes}"><div class="labels">{labels}</div>'
-        f'<div class="scroll" tabindex="0" role="region" aria-label="{told(picture.title)}">'
+        f'<div class="scroll" tabindex="0" role="region" aria-label="{escaped(picture.title)}">'
         f'<div class="body">{body}</div></div></figure>'
     )
 
 
 def svg(width: float, picture: Picture, marks: str) -> str:
     """A drawing as an image with a name and a description."""
-    words = told(f"{picture.title}. {picture.description}")
+    words = escaped(f"{picture.title}. {picture.description}")
     return f'<svg viewBox="0 0 {width:g} {picture.height:g}" role="img" aria-label="{words}">{marks}</svg>'
 
 
 def details(summary: str, content: str) -> str:
     """Something that is shown when it is asked for."""
-    return f"<details><summary>{told(summary)}</summary>{content}</details>"
+    return f"<details><summary>{escaped(summary)}</summary>{content}</details>"
 
 
 def bar(day: Day) -> str:
@@ -163,4 +163,4 @@ def shares(day: Day) -> Iterator[str]:
     for field, name, _ in PARTS:
         value = getattr(day.solution.parts, field)
         if value > 0:
-            yield f'<span class="part-{field}" style="flex:{value} 1 0" title="{told(name)}: {value}"></span>'
+            yield f'<span class="part-{field}" style="flex:{value} 1 0" title="{escaped(name)}: {value}"></span>'

@@ -13,7 +13,7 @@ ROUTES = (
     ("#8a6100", "#e0b84a"), ("#0e7490", "#5fc8dc"), ("#be185d", "#f08cb8"), ("#4d7c0f", "#a8d05a"),
     ("#86198f", "#e29bf5"), ("#b91c1c", "#f58c8c"), ("#0f766e", "#5fd0c0"), ("#57534e", "#c8c2bc"),
 )
-"""The colours of routes, light and dark; each is told apart from the ground at a ratio of 3 at least."""
+"""The colours of routes, light and dark; each is escaped apart from the ground at a ratio of 3 at least."""
 PARTS = {"arcs": 0, "fixed": 1, "span": 2, "global_": 3, "soft": 4, "penalty": 9}
 """Which of these colours the parts of the cost have."""
 PATTERNS = (
@@ -22,7 +22,7 @@ PATTERNS = (
     '<pattern id="dots" width="4" height="4" patternUnits="userSpaceOnUse">'
     '<rect class="dotground" width="4" height="4"/><circle class="dot" cx="2" cy="2" r="1"/></pattern></defs>'
 )
-"""Hatched and dotted grounds, so that breaks and waiting are told apart without colours too."""
+"""Hatched and dotted grounds, so that breaks and waiting are escaped apart without colours too."""
 
 
 @lru_cache(maxsize=None)

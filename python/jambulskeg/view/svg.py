@@ -1,4 +1,4 @@
-"""Marks of a drawing as SVG text. Whatever comes from a model or a file goes through `told` before it is written."""
+"""Marks of a drawing as SVG text. Whatever comes from a model or a file goes through `escaped` before it is written."""
 
 from __future__ import annotations
 
@@ -12,12 +12,12 @@ Point = Tuple[float, float]
 NO_CHARACTER = re.compile("[^\t\n\r\u0020-\ud7ff\ue000-\ufffd\U00010000-\U0010ffff]")
 
 
-def told(value: object) -> str:
+def escaped(value: object) -> str:
     """A value as text of HTML and XML, also within quotes; what neither of them can hold becomes U+FFFD."""
     return html.escape(NO_CHARACTER.sub("\ufffd", str(value)))
 
 
-def told_json(tree: Any) -> str:
+def script_json(tree: Any) -> str:
     """A value as JSON that may stand within a script element."""
     text = json.dumps(tree, separators=(",", ":"), sort_keys=True)
     return text.replace("<", "\\u003c").replace(">", "\\u003e").replace("&", "\\u0026")
@@ -35,7 +35,7 @@ def number(value: float) -> str:
 
 def titled(name: str, marks: str, title: str) -> str:
     """An element, with the title that a pointer shows over it."""
-    return f"<{name} {marks}><title>{told(title)}</title></{name}>" if title else f"<{name} {marks}/>"
+    return f"<{name} {marks}><title>{escaped(title)}</title></{name}>" if title else f"<{name} {marks}/>"
 
 
 def rect(kind: str, corner: Point, size: Point, title: str = "") -> str:
@@ -81,7 +81,7 @@ def circle(kind: str, centre: Point, radius: float, title: str = "") -> str:
 def text(kind: str, at: Point, words: object, anchor: str = "start") -> str:
     """Words at a point: `anchor` says whether they start there, end there, or have their middle there."""
     place = f'x="{number(at[0])}" y="{number(at[1])}"'
-    return f'<text class="{kind}" {place} text-anchor="{anchor}">{told(words)}</text>'
+    return f'<text class="{kind}" {place} text-anchor="{anchor}">{escaped(words)}</text>'
 
 
 def group(kind: str, marks: Iterable[str], vehicle: int = -1) -> str:

@@ -8,7 +8,7 @@ from ..costs import arcs_of, soft_of, span_of
 from ..records import NodeRow
 from ..solution import Parts, Route
 from .day import Day, Penalty
-from .svg import told
+from .svg import escaped
 
 __all__ = ["PARTS", "cost_table", "left_table", "parts_table", "stops_table", "visits_table"]
 
@@ -27,13 +27,13 @@ def table(caption: str, heads: Sequence[str], bodies: Iterable[str], identity: s
     """A table of bodies that are HTML already; the first column has the names of the rows. A head that begins with #
     stands over numbers."""
     cells = "".join(
-        f'<th scope="col" class="number">{told(head[1:])}</th>' if head.startswith("#") else
-        f'<th scope="col">{told(head)}</th>' for head in heads
+        f'<th scope="col" class="number">{escaped(head[1:])}</th>' if head.startswith("#") else
+        f'<th scope="col">{escaped(head)}</th>' for head in heads
     )
     name = f' id="{identity}"' if identity else ""
     return (
-        f'<div class="scroll far" tabindex="0" role="region" aria-label="{told(caption)}">'
-        f"<table{name}><caption>{told(caption)}</caption><thead><tr>{cells}</tr></thead>{''.join(bodies)}</table></div>"
+        f'<div class="scroll far" tabindex="0" role="region" aria-label="{escaped(caption)}">'
+        f"<table{name}><caption>{escaped(caption)}</caption><thead><tr>{cells}</tr></thead>{''.join(bodies)}</table></div>"
     )
 
 
@@ -42,9 +42,9 @@ def row(cells: Sequence[Any], marks: str = "", key: str = "") -> str:
     first, *rest = cells
     colour = f'<i class="key {key}"></i>' if key else ""
     words = "".join(
-        f'<td class="number">{cell}</td>' if isinstance(cell, int) else f"<td>{told(cell)}</td>" for cell in rest
+        f'<td class="number">{cell}</td>' if isinstance(cell, int) else f"<td>{escaped(cell)}</td>" for cell in rest
     )
-    return f'<tr{marks}><th scope="row">{colour}{told(first)}</th>{words}</tr>'
+    return f'<tr{marks}><th scope="row">{colour}{escaped(first)}</th>{words}</tr>'
 
 
 def parts_table(parts: Parts) -> str:
@@ -132,8 +132,8 @@ def time_cells(day: Day, asked: Optional[NodeRow], begins: Optional[int]) -> Lis
         late = f"{begins - asked.soft.bound} at {asked.soft.coefficient} each"
     return [
         "" if begins is None else clock_cell(day, begins),
-        told_range(day, asked.window) if asked is not None and asked.window else "",
-        ", ".join(told_range(day, entry) for entry in asked.forbidden) if asked is not None else "",
+        range_text(day, asked.window) if asked is not None and asked.window else "",
+        ", ".join(range_text(day, entry) for entry in asked.forbidden) if asked is not None else "",
         late,
     ]
 
@@ -143,7 +143,7 @@ def clock_cell(day: Day, value: int) -> Any:
     return value if day.names.clock is None else day.names.time(value)
 
 
-def told_range(day: Day, window: Sequence[int]) -> str:
+def range_text(day: Day, window: Sequence[int]) -> str:
     """An interval of times in words."""
     return f"{day.names.time(window[0])} to {day.names.time(window[1])}"
 
@@ -156,7 +156,7 @@ def stops_table(day: Day) -> str:
     bodies = []
     for route in day.routes():
         name = f"{day.names.vehicle(route.vehicle)}: {len(route.visits)} visits"
-        head = f'<tr><th colspan="{len(heads)}" scope="rowgroup">{told(name)}</th></tr>'
+        head = f'<tr><th colspan="{len(heads)}" scope="rowgroup">{escaped(name)}</th></tr>'
         rows = "".join(stop_rows(day, route, loads))
         bodies.append(f'<tbody data-vehicle="{route.vehicle}">{head}{rows}</tbody>')
     return table("Stops of each vehicle", heads, bodies)
@@ -164,7 +164,7 @@ def stops_table(day: Day) -> str:
 
 def stop_rows(day: Day, route: Route, loads: Sequence[int]) -> Iterator[str]:
     """The rows of a route, one for each stop."""
-    stops, then = day.stops(route), told_pieces(day, route)
+    stops, then = day.stops(route), pieces_text(day, route)
     until = {piece.stop: piece.high for piece in day.pieces(route) if piece.kind == "visit"}
     if then.get(-1):
         yield row(["before the start", "", "", then[-1], *("" for _ in loads)])
@@ -175,7 +175,7 @@ def stop_rows(day: Day, route: Route, loads: Sequence[int]) -> Iterator[str]:
         yield row([*cells, *(route.dimensions[number].cumuls[stop] for number in loads)])
 
 
-def told_pieces(day: Day, route: Route) -> Dict[int, str]:
+def pieces_text(day: Day, route: Route) -> Dict[int, str]:
     """For each stop what the vehicle does behind it, in words."""
     words = {"travel": "drives", "wait": "waits", "break": "break"}
     out: Dict[int, List[str]] = {}
@@ -183,4 +183,4 @@ def told_pieces(day: Day, route: Route) -> Dict[int, str]:
         if piece.kind in words:
             at = f" {day.names.time(piece.low)} to {day.names.time(piece.high)}" if piece.kind == "break" else ""
             out.setdefault(piece.stop, []).append(f"{words[piece.kind]} {piece.high - piece.low}" + at)
-    return {stop: ", ".join(told_ones) for stop, told_ones in out.items()}
+    return {stop: ", ".join(pieces) for stop, pieces in out.items()}
