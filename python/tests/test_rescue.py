@@ -11,8 +11,8 @@ from typing import Any, List
 from unittest import mock
 
 from jambulskeg.errors import NoFirstSolution, NotMet, ProgramSlow, Refused
-from jambulskeg.model import First, Group, Improve, Model, Solution, check, read_model, solve
-from jambulskeg.records import GREATEST_ENTRY
+from jambulskeg.model import First, Group, Improve, Model, Solution, Stop, check, read_model, solve
+from jambulskeg.records import GREATEST_ENTRY, MOST_TRIES
 from jambulskeg.rescue import (
     FIRST_TRIES, RESCUE_TRIES, Progress, Rescue, Round, Solved, Way, as_own, by_penalties, constructions, greatest_cost,
     missing, relax, required_visits, rescue, solve_for, timed_solver, tried, with_search,
@@ -179,6 +179,14 @@ class RoundTests(unittest.TestCase):
         self.assertEqual(solve(found.model), found.solution)
         costs = [entry.cost for entry in told]
         self.assertEqual([entry.best for entry in told], [min(costs[:at + 1]) for at in range(len(told))])
+
+    def test_rounds_end_at_the_most_tries_and_the_first_of_equal_ones_is_kept(self) -> None:
+        cut_short = replace(solve(with_search(DAY, tries=100)), stop=Stop.TRIES)
+        with mock.patch("jambulskeg.rounds.solve", return_value=cut_short):
+            found = solve_for(DAY, 60, checked=False, tries=MOST_TRIES // 3)
+        self.assertEqual([entry.tries for entry in found.rounds],
+                         [MOST_TRIES // 3, 2 * (MOST_TRIES // 3), MOST_TRIES])
+        self.assertEqual(found.model.search.tries, MOST_TRIES // 3)
 
     def test_no_time_gives_one_round(self) -> None:
         found = solve_for(DAY, 0, tries=500)

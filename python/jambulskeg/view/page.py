@@ -87,7 +87,8 @@ def facts(day: Day) -> str:
 def choice(day: Day) -> str:
     """The choice of a vehicle to bring out."""
     options = "".join(
-        f'<option value="{route.vehicle}">{escaped(day.names.vehicle(route.vehicle))}</option>' for route in day.routes()
+        f'<option value="{route.vehicle}">{escaped(day.names.vehicle(route.vehicle))}</option>'
+        for route in day.routes()
     )
     return (
         '<div class="tools"><label for="vehicle">Bring out</label>'

@@ -33,7 +33,8 @@ def table(caption: str, heads: Sequence[str], bodies: Iterable[str], identity: s
     name = f' id="{identity}"' if identity else ""
     return (
         f'<div class="scroll far" tabindex="0" role="region" aria-label="{escaped(caption)}">'
-        f"<table{name}><caption>{escaped(caption)}</caption><thead><tr>{cells}</tr></thead>{''.join(bodies)}</table></div>"
+        f"<table{name}><caption>{escaped(caption)}</caption><thead><tr>{cells}</tr></thead>{''.join(bodies)}</table>"
+        "</div>"
     )
 
 
