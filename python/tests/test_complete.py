@@ -104,6 +104,24 @@ class LaterTests(unittest.TestCase):
         self.assertEqual(list(solution.routes[0].dimensions[0].cumuls), [0, 5, 30])
         self.assertEqual(list(later.routes[0].dimensions[0].cumuls), [1, 6, 30])
 
+    def test_where_nobody_pays_for_waiting_they_leave_later_too(self) -> None:
+        time = replace(DAY.dimensions[0], span_cost=0)
+        model = replace(DAY, dimensions=[time, *DAY.dimensions[1:]])
+        early = complete(model, [[4, 9, 14], [], [], []])
+        later = leave_later(model, early)
+        self.assertEqual(later.cost, early.cost)
+        self.assertLess(early.routes[0].dimensions[0].cumuls[0], later.routes[0].dimensions[0].cumuls[0])
+
+    def test_a_late_stop_comes_no_later(self) -> None:
+        model = Model.of({**THREE, "dimensions": [{
+            "name": "time", "evaluators": [{"matrix": 0}], "slack_max": 20, "capacity": 60, "span_cost": 1,
+            "nodes": [{"node": 1, "soft": {"bound": 6, "coefficient": 1}}, {"node": 2, "window": [12, 60]}],
+        }]})
+        early = complete(model, [[2, 1]])
+        later = leave_later(model, early)
+        self.assertEqual([list(plan.routes[0].dimensions[0].cumuls) for plan in (early, later)],
+                         [[0, 12, 16, 21], [3, 12, 16, 21]])
+
     def test_a_solution_that_does_not_meet(self) -> None:
         self.assertRaises(NotMet, lambda: leave_later(DAY, replace(SOLVED, cost=1)))
 

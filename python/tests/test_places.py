@@ -74,6 +74,7 @@ class TableTests(unittest.TestCase):
         model = model_of(places, [Van("v", "a", "b")])
         self.assertEqual((model.dimensions, model.groups, model.visits()), ((), (), []))
         self.assertEqual(load_of(places, [Van("v", "a", "a", 7)]).capacity, (7,))
+        self.assertEqual(model_of([Place("yard", 0, 0, penalty=5)], [Van("v", "yard", "yard")]).groups, ())
         self.assertEqual(time_of(places, [Van("v", "a", "a", shift=(5, 9))], {"a"}, 3).capacity, (9,))
 
     def test_an_optional_file(self) -> None:

@@ -4,6 +4,7 @@ from __future__ import annotations
 
 import unittest
 from typing import Any, Callable, List, Tuple
+from unittest import mock
 
 from jambulskeg.errors import Unsupported
 from jambulskeg.model import Policy, solve
@@ -78,6 +79,16 @@ class CallbackTests(RoutingTest):
         self.assertEqual(len(asked), len(set(asked)))
         self.assertEqual(len(asked), 3 * 2 + 2 * 3 + 3 * 2)
         self.assertEqual(model.matrices, (((0, 1, 1, 1), (1, 0, 1, 1), (1, 1, 0, 1), (1, 1, 1, 0)),))
+
+    def test_no_arc_leads_from_a_start_to_an_end(self) -> None:
+        manager = pywrapcp.RoutingIndexManager(4, 2, [0, 1], [3, 3])
+        routing = pywrapcp.RoutingModel(manager)
+        callback = mock.Mock(return_value=1)
+        routing.SetArcCostEvaluatorOfAllVehicles(routing.RegisterTransitCallback(callback))
+        routing.CloseModel()
+        asked = [call.args for call in callback.call_args_list]
+        self.assertEqual([pair for pair in asked if routing.IsStart(pair[0]) and routing.IsEnd(pair[1])], [])
+        self.assertEqual(len(asked), 2 + 2)
 
     def test_equal_matrices_are_shared(self) -> None:
         _, routing, number = made()

@@ -137,7 +137,10 @@ class PieceTests(unittest.TestCase):
                 self.assertEqual(len([p for p in drawn.pieces(route) if p.kind == "break"]), len(drawn.breaks(route)))
 
     def test_penalties_are_those_of_the_cost(self) -> None:
-        for drawn in random_days(60):
+        group = Model.of({**THREE, "groups": [{"nodes": [1, 2], "penalty": 50}]})
+        groups = [day_of(group, complete(group, lists)) for lists in ([[]], [[1]])]
+        self.assertEqual([entry.short for drawn in groups for entry in drawn.penalties()], [1, 0])
+        for drawn in [*random_days(60), *groups]:
             self.assertEqual(sum(entry.cost for entry in drawn.penalties()), drawn.solution.parts.penalty)
             left = {node for entry in drawn.penalties() for node in entry.left}
             self.assertEqual(sorted(left), list(drawn.solution.dropped))
