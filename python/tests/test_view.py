@@ -138,7 +138,7 @@ class PieceTests(unittest.TestCase):
 
     def test_penalties_are_those_of_the_cost(self) -> None:
         group = Model.of({**THREE, "groups": [{"nodes": [1, 2], "penalty": 50}]})
-        groups = [day_of(group, complete(group, lists)) for lists in ([[]], [[1]])]
+        groups = [day_of(group, complete(group, [list(range(1, end))])) for end in (1, 2)]
         self.assertEqual([entry.short for drawn in groups for entry in drawn.penalties()], [1, 0])
         for drawn in [*random_days(60), *groups]:
             self.assertEqual(sum(entry.cost for entry in drawn.penalties()), drawn.solution.parts.penalty)
