@@ -1,6 +1,6 @@
 //! The pairs of one list: each is served in order, and as the policy of the vehicle asks.
 
-ghost use Rattle.std.specs.Prelude.{◌≡◌, ◌<◌, ◌≤◌, ◌&&◌, All, IsTrue, length};
+ghost use Rattle.std.specs.Prelude.{◌≡◌, ◌↔◌, ◌<◌, ◌≤◌, ◌&&◌, All, IsTrue, length};
 ghost use Rattle.std.specs.List.{list_all};
 ghost use Rattle.vr_model.specs.tables.Tables.{is_visit};
 ghost use Rattle.vr_model.specs.routes.Routes.{is_distinct};
@@ -101,7 +101,7 @@ fn allows_pairs(model: &Model, policy: Policy, list: &[u32], places: &[u32]) -> 
 
 // Whether a policy asks nothing of two pairs.
 fn asks_nothing(policy: Policy) -> bool
-    ensures { IsTrue result → policy ≡ Any }
+    ensures { IsTrue result ↔ policy ≡ Any }
 {
     match policy {
         Policy::Any => true,

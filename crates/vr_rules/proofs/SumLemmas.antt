@@ -1,28 +1,43 @@
 -- What chosen schedules come to, one vehicle further.
 use Rattle.std.proofs.Common.{◌≡◌, ◌∙◌, ◌<◌, ◌≤◌, ◌+◌, ◌*◌, ◌++◌, ℕ, List, [], ◌∷◌, true, false, length, take, drop, refl, ap, ap₂, sym, subst, arith, Option, Some, None}
-use Rattle.std.specs.Prelude.{ℤ, pos, ◌+ℤ◌, ◌-ℤ◌, ◌*ℤ◌, ◌≤ℤ◌, ◌&&◌, IfSome, IsSome, MatchOption}
+use Rattle.std.specs.Prelude.{ℤ, pos, ◌+ℤ◌, ◌-ℤ◌, ◌*ℤ◌, ◌≤ℤ◌, ◌&&◌, not, IfSome, IsSome, MatchOption}
+use Rattle.std.specs.Ordering.{int_eq}
 use Rattle.std.specs.List.{concat, list_all}
 use Rattle.std.proofs.lemmas.Int.{ints}
 use Rattle.std.proofs.lemmas.List.{append-nil, length-append, take_more, take-append-drop}
 use Rattle.std.proofs.lemmas.List.Folds.{concat-append}
+use Rattle.vr_model.specs.declared.records.Dimension.{Dimension}
 use Rattle.vr_model.specs.declared.records.Model.{Model}
 use Rattle.vr_model.specs.tables.Numbers.{number_at, total_by}
 use Rattle.vr_model.specs.tables.Tables.{dimension_at, is_visit}
 use Rattle.vr_model.specs.routes.Routes.{route, is_empty, is_distinct, are_lists}
 use Rattle.vr_model.specs.deciding.Testing.{and_left, and_right}
+use Rattle.vr_model.proofs.tables.Tests.{or-false_left, or-false_right}
 use Rattle.vr_model.proofs.tables.Totals.{total_by-append}
 use Rattle.vr_timings.specs.Bounds.{cumul_cost, IsAround}
+use Rattle.vr_timings.specs.Paying.{may_pay_alone}
 use Rattle.vr_timings.specs.Timings.{soft_with, start_with, last_with, span_with, IsTiming, IsTimingOf}
 use Rattle.vr_timings.specs.Extents.{used_below, IsExtent, IsExtentInRange, IsWider}
 use Rattle.vr_timings.specs.declared.timings.Timing.{Timing}
 use Rattle.vr_timings.specs.declared.extents.Extent.{Extent}
 use Rattle.vr_timings.proofs.ExtentLemmas.{used_below-same, used_below-push, times-none, extent-range, extent-wider}
-use Rattle.vr_rules.specs.Sums.{AreSums, PaysNothingToo}
+use Rattle.vr_timings.proofs.PayingLemmas.{pays_nothing_where, zero_where}
+use Rattle.vr_rules.specs.Sums.{may_pay, AreSums, PaysNothingToo}
 use Rattle.vr_rules.specs.declared.sums.Sums.{Sums}
 use Rattle.vr_lists.proofs.VisitLists.{visits-few}
 
 total_by-push : (f : ℕ → ℤ) (xs : List ℕ) (x : ℕ) → total_by f (xs ++ x ∷ []) ≡ total_by f xs +ℤ f x
 total_by-push f xs x = total_by-append f xs (x ∷ []) ∙ omega (arith, ints)
+
+-- a list that may pay nothing does so
+pub pays_nothing_too : (dimension : Dimension) (v : ℕ) (list : List ℕ) → may_pay dimension v list ≡ false → PaysNothingToo dimension v list
+pays_nothing_too dimension v list none =
+    let global = not (int_eq dimension.global_span_cost (pos 0)) in
+    let alone = may_pay_alone dimension v list in
+    record {
+      global = zero_where dimension.global_span_cost (or-false_left global alone none);
+      alone = pays_nothing_where dimension v list (or-false_right global alone none);
+    }
 
 -- ---- how many visits there are
 

@@ -1,6 +1,7 @@
 -- What the chosen schedules of lists come to, added up over vehicles and over dimensions.
-use Rattle.std.specs.Prelude.{◌≡◌, ℕ, ◌+◌, ◌*◌, List, [], length, take, pos, ◌≤ℤ◌, MatchOption, IfSome}
+use Rattle.std.specs.Prelude.{◌≡◌, ℕ, ◌+◌, ◌*◌, Bool, not, ◌||◌, List, [], length, take, pos, ◌≤ℤ◌, MatchOption, IfSome}
 use Rattle.std.specs.List.{concat}
+use Rattle.std.specs.Ordering.{int_eq}
 use Rattle.vr_model.specs.tables.Numbers.{total_by}
 use Rattle.vr_model.specs.tables.Tables.{dimension_at}
 use Rattle.vr_model.specs.routes.Routes.{route}
@@ -8,7 +9,7 @@ use Rattle.vr_model.specs.declared.records.Model.{Model}
 use Rattle.vr_model.specs.declared.records.Dimension.{Dimension}
 use Rattle.vr_timings.specs.Bounds.{cumul_cost, IsAround}
 use Rattle.vr_timings.specs.Extents.{used_below, IsExtent, IsExtentInRange}
-use Rattle.vr_timings.specs.Paying.{PaysNothing}
+use Rattle.vr_timings.specs.Paying.{may_pay_alone, PaysNothing}
 use Rattle.vr_timings.specs.Timings.{soft_with, span_with}
 use Rattle.vr_rules.specs.declared.sums.Sums.{Sums}
 
@@ -22,6 +23,10 @@ pub record AreSums (model : Model) (lists : List (List ℕ)) (d n : ℕ) (sums :
   pub soft_bound : sums.soft ≤ℤ pos (cumul_cost * (length (concat (take n lists)) + 2 * n))
   pub span_in_range : IsAround (cumul_cost * n) sums.span
   pub extent_in_range : IfSome sums.extent IsExtentInRange
+
+-- schedules of a list may cost something: the global span has a coefficient, or they may by themselves
+abbrev pub may_pay : Dimension → ℕ → List ℕ → Bool
+may_pay dimension v list = not (int_eq dimension.global_span_cost (pos 0)) || may_pay_alone dimension v list
 
 -- no schedule of the list costs anything in this dimension, by itself or beside others
 pub record PaysNothingToo (dimension : Dimension) (v : ℕ) (list : List ℕ) : Type 0 where

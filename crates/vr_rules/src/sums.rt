@@ -1,7 +1,7 @@
 //! What the chosen schedules of routes cost in one dimension, added up over the vehicles.
 
 ghost use Rattle.std.specs.Prelude.{◌≡◌, ◌<◌, ◌+◌, ◌*◌, ◌+ℤ◌, ◌*ℤ◌, ◌-ℤ◌, ◌≤ℤ◌};
-ghost use Rattle.std.specs.Prelude.{pos, All, IfOk, IfSome, IsSome, IsTrue, false, length};
+ghost use Rattle.std.specs.Prelude.{pos, All, IfOk, IfSome, IsSome, IsTrue, length};
 ghost use Rattle.std.specs.List.{list_all};
 ghost use Rattle.vr_model.specs.tables.Numbers.{number_at};
 ghost use Rattle.vr_model.specs.tables.Tables.{dimension_at, is_visit};
@@ -11,7 +11,7 @@ ghost use Rattle.vr_timings.specs.Bounds.{cumul_cost, IsAround};
 ghost use Rattle.vr_timings.specs.Extents.{IsWider};
 ghost use Rattle.vr_timings.specs.Tables.{IsTable};
 ghost use Rattle.vr_timings.specs.Timings.{IsTimingOf};
-ghost use Rattle.vr_rules.specs.Sums.{AreSums, PaysNothingToo};
+ghost use Rattle.vr_rules.specs.Sums.{may_pay, AreSums};
 
 use vr_model::{Dimension, Model, NoMemory};
 use vr_routes::Routes;
@@ -34,7 +34,7 @@ fn may_pay(model: &Model, table: &Table, d: u32, v: u32, list: &[u32]) -> bool
     requires vehicle { v < length model.now.vehicles }
     requires visits { IsTrue (list_all (is_visit model.now) list.now) }
     requires table { IsTable model.now d table.now }
-    ensures { result ≡ false → PaysNothingToo (dimension_at model.now d) v list.now }
+    ensures { result ≡ may_pay (dimension_at model.now d) v list.now }
 {
     if model.dimensions.get(d as usize).global_span_cost != 0 {
         return true;

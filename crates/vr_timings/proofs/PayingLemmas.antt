@@ -1,7 +1,9 @@
 -- Where no stop has a soft bound, nothing is paid for soft bounds.
-use Rattle.std.proofs.Common.{◌≡◌, ◌<◌, ℕ, zero, suc, List, [], ◌∷◌, ◌++◌, Bool, true, false, cond, not, length, map, get_or, refl, ap, ap₂, arith, Option, Some, None}
-use Rattle.std.specs.Prelude.{ℤ, pos, ◌&&◌, ◌==◌, is_some, slice_index}
-use Rattle.std.specs.List.{list_all, zip}
+use Rattle.std.proofs.Common.{◌≡◌, ◌∙◌, ◌<◌, ℕ, zero, suc, List, [], ◌∷◌, ◌++◌, Bool, true, false, cond, not, length, map, get_or, refl, ap, ap₂, sym, arith, Option, Some, None}
+use Rattle.std.specs.Prelude.{ℤ, pos, ◌&&◌, ◌||◌, ◌==◌, is_some, slice_index}
+use Rattle.std.specs.List.{list_all, list_any, zip}
+use Rattle.std.specs.Ordering.{int_eq}
+use Rattle.std.proofs.lemmas.Bool.Decides.{Decides-int_eq}
 use Rattle.std.proofs.lemmas.Int.{ints}
 use Rattle.vr_model.specs.declared.records.Dimension.{Dimension}
 use Rattle.vr_model.specs.declared.records.StopRow.{StopRow}
@@ -11,8 +13,8 @@ use Rattle.vr_model.specs.tables.Tables.{row_of}
 use Rattle.vr_model.specs.routes.Costs.{row_cost, soft_cost}
 use Rattle.vr_model.specs.schedules.Lines.{stop_rows}
 use Rattle.vr_model.specs.deciding.Testing.{and_left, and_right}
-use Rattle.vr_model.proofs.tables.Tests.{fails_not}
-use Rattle.vr_timings.specs.Paying.{has_soft, PaysNothing}
+use Rattle.vr_model.proofs.tables.Tests.{all-from_list_all, fails_not, or-false_left, or-false_right}
+use Rattle.vr_timings.specs.Paying.{are_free, are_zero, has_soft, is_free, may_pay_alone, visits_soft, PaysNothing}
 
 no_cost : (row : Option StopRow) (x : ℤ) → has_soft row ≡ false → row_cost row x ≡ pos 0
 no_cost None x h = refl
@@ -58,3 +60,55 @@ pub none_read : (xs : List ℤ) → ((k : ℕ) → k < length xs → number_at x
 none_read [] zeros k = refl
 none_read (x ∷ xs) zeros zero = zeros 0 (omega arith)
 none_read (x ∷ xs) zeros (suc k) = none_read xs (λ j low. zeros (suc j) (omega (arith, low))) k
+
+-- ---- the tests of what may be to pay
+
+none_at : (p : ℕ → Bool) (xs : List ℕ) → list_any p xs ≡ false → (k : ℕ) → k < length xs → p (slice_index xs k) ≡ false
+none_at p [] none k low = absurd (omega (arith, low))
+none_at p (x ∷ xs) none zero low = or-false_left (p x) (list_any p xs) none
+none_at p (x ∷ xs) none (suc k) low = none_at p xs (or-false_right (p x) (list_any p xs) none) k (omega (arith, low))
+
+none_of : {A : Type 0} (p : A → Bool) → ((x : A) → p x ≡ false) → (xs : List A) → list_any p xs ≡ false
+none_of p none [] = refl
+none_of p none (x ∷ xs) = ap (λ b. b || list_any p xs) (none x) ∙ none_of p none xs
+
+-- a number that is tested to be 0 is
+pub zero_where : (x : ℤ) → not (int_eq x (pos 0)) ≡ false → x ≡ pos 0
+zero_where x h = (Decides-int_eq x (pos 0)).0 (by (int_eq x (pos 0)) h)
+  where
+    by : (b : Bool) → not b ≡ false → b ≡ true
+    by true h = refl
+    by false h = sym h
+
+-- a list that may pay nothing by itself does so
+pub pays_nothing_where : (dimension : Dimension) (v : ℕ) (list : List ℕ) → may_pay_alone dimension v list ≡ false → PaysNothing dimension v list
+pays_nothing_where dimension v list none =
+    let cost = not (int_eq (number_at dimension.span_costs v) (pos 0)) in
+    let start = has_soft (row_of dimension.starts v) in
+    let last = has_soft (row_of dimension.ends v) in
+    let visits = visits_soft dimension list in
+    let ends = or-false_left (cost || start || last) visits none in
+    let front = or-false_left (cost || start) last ends in
+    pays_nothing dimension v list (zero_where (number_at dimension.span_costs v) (or-false_left cost start front)) (or-false_right cost start front) (or-false_right (cost || start) last ends)
+    (none_at (λ node. has_soft (row_of dimension.nodes node)) list (or-false_right (cost || start || last) visits none))
+
+-- where nothing is to pay in a dimension, no list may pay anything by itself
+pub free_pays : (dimension : Dimension) → is_free dimension ≡ true → (v : ℕ) (list : List ℕ) → may_pay_alone dimension v list ≡ false
+free_pays dimension free v list =
+    let zeros = are_zero dimension.span_costs in
+    let starts = are_free dimension.starts in
+    let nodes = are_free dimension.nodes in
+    let last = are_free dimension.ends in
+    let rest = and_left (zeros && starts && nodes) last free in
+    let front = and_left (zeros && starts) nodes rest in
+    let span = (Decides-int_eq (number_at dimension.span_costs v) (pos 0)).1 (none_read dimension.span_costs (zero_at dimension.span_costs (and_left zeros starts front)) v) in
+    let start = row_free dimension.starts (free_at dimension.starts (and_right zeros starts front)) v in
+    let visits = none_of (λ node. has_soft (row_of dimension.nodes node)) (row_free dimension.nodes (free_at dimension.nodes (and_right (zeros && starts) nodes rest))) list in
+    let end = row_free dimension.ends (free_at dimension.ends (and_right (zeros && starts && nodes) last free)) v in
+    ap₂ (λ a b. a || b) (ap₂ (λ a b. a || b) (ap₂ (λ a b. not a || b) span start) end) visits
+  where
+    zero_at : (xs : List ℤ) → are_zero xs ≡ true → (k : ℕ) → k < length xs → number_at xs k ≡ pos 0
+    zero_at xs all k low = (Decides-int_eq (number_at xs k) (pos 0)).0 (all-from_list_all (λ x. int_eq x (pos 0)) xs all k (pos 0) low)
+
+    free_at : (rows : List StopRow) → are_free rows ≡ true → (k : ℕ) (d : StopRow) → k < length rows → is_some (get_or rows k d).soft ≡ false
+    free_at rows all k d low = fails_not (is_some (get_or rows k d).soft) (all-from_list_all (λ (row : StopRow). not (is_some row.soft)) rows all k d low)

@@ -49,3 +49,8 @@ cumuls-seen (Some plan) found e = sym (ap (λ o. unwrap_or o []) e)
 pub plan-cumuls : (model : Model) (d v : ℕ) (list : List ℕ) (rule : ScheduleRule) (cumuls : List ℤ) → (vehicle_at model v).schedule ≡ rule → Some cumuls ≡ option_map cumuls_of (chosen_under rule (line model d v list)) → (plan_of model d v list).cumuls ≡ cumuls
 plan-cumuls model d v list rule cumuls is found =
     ap (λ r. (unwrap_or (chosen_under r (line model d v list)) no_plan).cumuls) is ∙ cumuls-seen (chosen_under rule (line model d v list)) (Some cumuls) found
+
+-- where none were chosen, its plan has none
+pub no-cumuls : (model : Model) (d v : ℕ) (list : List ℕ) (rule : ScheduleRule) → (vehicle_at model v).schedule ≡ rule → None ≡ option_map cumuls_of (chosen_under rule (line model d v list)) → (plan_of model d v list).cumuls ≡ []
+no-cumuls model d v list rule is found =
+    ap (λ r. (unwrap_or (chosen_under r (line model d v list)) no_plan).cumuls) is ∙ cumuls-seen (chosen_under rule (line model d v list)) None found

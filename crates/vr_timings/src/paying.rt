@@ -1,12 +1,11 @@
 //! Whether the schedules of a list may cost anything.
 
-ghost use Rattle.std.specs.Prelude.{◌≡◌, ◌<◌, ℕ, List, All, IsTrue, pos, false, length};
+ghost use Rattle.std.specs.Prelude.{◌≡◌, ◌<◌, All, IsTrue, length};
 ghost use Rattle.std.specs.List.{list_all};
 ghost use Rattle.std.specs.Option.{option_copied};
-ghost use Rattle.vr_model.specs.tables.Numbers.{number_at};
-ghost use Rattle.vr_model.specs.tables.Tables.{dimension_at, is_visit, row_of};
+ghost use Rattle.vr_model.specs.tables.Tables.{dimension_at, is_visit};
 ghost use Rattle.vr_model.specs.tables.WellFormed.{IsWellFormed};
-ghost use Rattle.vr_timings.specs.Paying.{has_soft, AreFree, PaysNothing};
+ghost use Rattle.vr_timings.specs.Paying.{are_free, are_zero, has_soft, is_free, may_pay_alone, visits_soft};
 ghost use Rattle.vr_lists.specs.Places.{ArePlaces};
 ghost use Rattle.vr_timings.specs.Tables.{keys_of, IsTable};
 
@@ -21,7 +20,7 @@ pub fn may_pay_alone(model: &Model, table: &Table, d: u32, v: u32, list: &[u32])
     requires vehicle { v < length model.now.vehicles }
     requires visits { IsTrue (list_all (is_visit model.now) list.now) }
     requires table { IsTable model.now d table.now }
-    ensures { result ≡ false → PaysNothing (dimension_at model.now d) v list.now }
+    ensures { result ≡ may_pay_alone (dimension_at model.now d) v list.now }
 {
     if table.is_free {
         return false;
@@ -31,42 +30,29 @@ pub fn may_pay_alone(model: &Model, table: &Table, d: u32, v: u32, list: &[u32])
 
 // Whether no schedule of any list may cost anything by itself in a dimension.
 pub(crate) fn is_free(dimension: &Dimension) -> bool
-    ensures { IsTrue result → (v : ℕ) (list : List ℕ) → PaysNothing dimension.now v list }
+    ensures { result ≡ is_free dimension.now }
 {
-    if !are_zero(&dimension.span_costs) {
-        return false;
-    }
-    if !are_free(&dimension.starts) {
-        return false;
-    }
-    if !are_free(&dimension.nodes) {
-        return false;
-    }
-    are_free(&dimension.ends)
+    are_zero(&dimension.span_costs)
+        && are_free(&dimension.starts)
+        && are_free(&dimension.nodes)
+        && are_free(&dimension.ends)
 }
 
 // Whether all coefficients are 0.
 fn are_zero(coefficients: &Seq<i64>) -> bool
-    ensures { IsTrue result → (v : ℕ) → number_at coefficients.now v ≡ pos 0 }
+    ensures { result ≡ are_zero coefficients.now }
 {
-    for v in 0..coefficients.len() {
-        if *coefficients.get(v) != 0 {
-            return false;
-        }
-    }
-    true
+    coefficients
+        .as_slice()
+        .iter()
+        .all(|&coefficient| coefficient == 0)
 }
 
 // Whether no row of stops has a soft upper bound.
 fn are_free(rows: &Seq<StopRow>) -> bool
-    ensures { IsTrue result → (key : ℕ) → has_soft (row_of rows.now key) ≡ false }
+    ensures { result ≡ are_free rows.now }
 {
-    for k in 0..rows.len() {
-        if has_soft(Some(rows.get(k))) {
-            return false;
-        }
-    }
-    true
+    rows.as_slice().iter().all(|row| row.soft.is_none())
 }
 
 // Whether the row of a stop has a soft upper bound.
@@ -83,7 +69,7 @@ fn has_soft(row: Option<&StopRow>) -> bool
 fn visits_soft(dimension: &Dimension, places: &[u32], list: &[u32]) -> bool
     requires places { ArePlaces (length places.now) (keys_of dimension.now.nodes) places.now }
     requires list { All (λ node. node < length places.now) list.now }
-    ensures { result ≡ false → AreFree dimension.now list.now }
+    ensures { result ≡ visits_soft dimension.now list.now }
 {
     for &node in list {
         if has_soft(row_of(&dimension.nodes, places, node)) {
@@ -98,7 +84,7 @@ fn list_pays(dimension: &Dimension, places: &[u32], v: u32, list: &[u32]) -> boo
     requires vehicle { v < length dimension.now.span_costs }
     requires places { ArePlaces (length places.now) (keys_of dimension.now.nodes) places.now }
     requires list { All (λ node. node < length places.now) list.now }
-    ensures { result ≡ false → PaysNothing dimension.now v list.now }
+    ensures { result ≡ may_pay_alone dimension.now v list.now }
 {
     if *dimension.span_costs.get(v as usize) != 0 {
         return true;

@@ -1,15 +1,17 @@
 //! What the chosen schedule of a list comes to in one dimension.
 
-ghost use Rattle.std.specs.Prelude.{◌≡◌, suc, ◌<◌, ◌≤◌, ◌+◌, ◌*◌, ◌≤ℤ◌, ◌*ℤ◌, ◌-ℤ◌, pos, All, IsTrue, IfOk, length};
+ghost use Rattle.std.specs.Prelude.{◌≡◌, ◌↔◌, suc, ◌<◌, ◌≤◌, ◌+◌, ◌*◌, ◌≤ℤ◌, ◌*ℤ◌, ◌-ℤ◌, pos, All, IsTrue, IfOk};
+ghost use Rattle.std.specs.Prelude.{length};
 ghost use Rattle.std.specs.List.{list_all};
 ghost use Rattle.std.specs.Option.{option_copied};
 ghost use Rattle.vr_model.specs.tables.Numbers.{horizon, number_at};
-ghost use Rattle.vr_model.specs.tables.Tables.{dimension_at, is_visit};
+ghost use Rattle.vr_model.specs.tables.Tables.{dimension_at, is_visit, vehicle_at};
+ghost use Rattle.vr_model.specs.declared.records.ScheduleRule.TheVariants.{Earliest};
 ghost use Rattle.vr_model.specs.routes.Routes.{is_distinct};
 ghost use Rattle.vr_model.specs.routes.Costs.{row_cost};
 ghost use Rattle.vr_model.specs.tables.WellFormed.{IsWellFormed, IsStopRow, IsIn, WherePresent};
 ghost use Rattle.vr_model.specs.schedules.Narrowed.{chosen_line};
-ghost use Rattle.vr_walks.specs.Early.{AreChosen};
+ghost use Rattle.vr_walks.specs.Early.{AreChosen, CanBeFoundInTurn};
 ghost use Rattle.vr_walks.specs.Lists.{IsUsed};
 ghost use Rattle.vr_timings.specs.Bounds.{cumul_cost, IsAround};
 ghost use Rattle.vr_timings.specs.Tables.{keys_of, IsTable};
@@ -114,6 +116,8 @@ fn write_early(
     requires table { IsTable model.now d table.now }
     requires used { IsUsed model.now list.now }
     requires few { length list.now ≤ 1000 }
+    ensures found { IsTrue result
+        ↔ (((vehicle_at model.now v).schedule ≡ Earliest) × CanBeFoundInTurn model.now d v list.now) }
     ensures chosen { IsTrue result → AreChosen (chosen_line model.now d v list.now) cumuls.new.items }
     ensures stops { IsTrue result → length cumuls.new.items ≡ suc (suc (length list.now)) }
     ensures range { IsTrue result → All (IsIn (pos 0) horizon) cumuls.new.items }

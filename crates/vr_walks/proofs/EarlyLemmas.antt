@@ -41,14 +41,14 @@ lex_by_each (x ∷ xs) (y ∷ ys) long each =
 
 -- ---- the cumuls of one stop more
 
-at_old : (cumuls : List ℤ) (x : ℤ) (i : ℕ) → i < length cumuls → number_at (cumuls ++ x ∷ []) i ≡ number_at cumuls i
+pub at_old : (cumuls : List ℤ) (x : ℤ) (i : ℕ) → i < length cumuls → number_at (cumuls ++ x ∷ []) i ≡ number_at cumuls i
 at_old cumuls x i low = get_or_append_left cumuls (x ∷ []) (pos 0) i low
 
 pub at_new : (cumuls : List ℤ) (x : ℤ) (k : ℕ) → length cumuls ≡ k → number_at (cumuls ++ x ∷ []) k ≡ x
 at_new cumuls x k long = let e : length cumuls + 0 ≡ k = omega (arith, long) in ap (number_at (cumuls ++ x ∷ [])) (sym e) ∙ get_or-append-add cumuls (x ∷ []) 0 (pos 0)
 
 -- a number of the run that a stop allows is a cumul that it allows
-allowed_in : (line : Line) (k : ℕ) (run : Run) (x : ℤ) → IsAllowedRun line k run → run.lo ≤ℤ x → x ≤ℤ run.hi → IsTrue (allows line k x)
+pub allowed_in : (line : Line) (k : ℕ) (run : Run) (x : ℤ) → IsAllowedRun line k run → run.lo ≤ℤ x → x ≤ℤ run.hi → IsTrue (allows line k x)
 allowed_in line k run x is low high =
     let lo = is.ends.lo.at_least in
     let hi = is.ends.hi.at_most in
@@ -56,7 +56,7 @@ allowed_in line k run x is low high =
     and_from _ _ (grind (arith, ints, low, high, lo, hi)) (sym (is.exact x) ∙ there)
 
 -- what a stop allows is not below its run
-not_below : (line : Line) (k : ℕ) (run : Run) (x : ℤ) → IsAllowedRun line k run → IsTrue (allows line k x) → run.lo ≤ℤ x
+pub not_below : (line : Line) (k : ℕ) (run : Run) (x : ℤ) → IsAllowedRun line k run → IsTrue (allows line k x) → run.lo ≤ℤ x
 not_below line k run x is there =
     let inside : IsTrue (in_run run x) = is.exact x ∙ (and_parts (within (pos 0) horizon x) (slice_index_or line.allowed k (λ _. false) x) there).1 in
     grind (arith, ints, inside)

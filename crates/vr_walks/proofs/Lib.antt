@@ -8,6 +8,8 @@ pub mod StandingLemmas
 pub mod Splicing
 pub mod RunLemmas
 pub mod SingleLemmas
+pub mod AloneLemmas
 pub mod EarlyLemmas
+pub mod FoundLemmas
 pub mod ProbeLemmas
 pub mod TryLemmas

@@ -5,9 +5,9 @@ use Rattle.std.specs.List.{list_all}
 use Rattle.std.proofs.lemmas.Bool.{and_parts}
 use Rattle.std.proofs.lemmas.List.{length-append}
 use Rattle.vr_spans.specs.declared.runs.Run.{Run}
-use Rattle.vr_model.specs.tables.Tables.{vehicle_at, dimension_at, breaks_of, is_visit}
+use Rattle.vr_model.specs.tables.Tables.{vehicle_at, dimension_at, breaks_of, is_visit, transit}
 use Rattle.vr_model.specs.schedules.Lines.{Line, line, line_arc}
-use Rattle.vr_model.specs.schedules.Schedules.{IsFeasible, no_arc}
+use Rattle.vr_model.specs.schedules.Schedules.{IsFeasible, arc_at, no_arc}
 use Rattle.vr_model.specs.schedules.Choices.{is_feasible}
 use Rattle.vr_model.specs.schedules.SoundLines.{IsSound, LinesAreSound}
 use Rattle.vr_model.specs.schedules.ChosenLaws.{ChosenWhereFeasible}
@@ -37,6 +37,11 @@ hop_between_stops model d v list k origin target hop le from to is =
     let to_ts : target ≡ get_or ts k 0 = to ∙ ap (node_at_stop model v list) next in
     is ∙ ap (hop_of (dimension_at model d).slack_max) (ap₂ (λ o t. line_arc model d v (record { vehicle = v; origin = o; target = t })) from to_ts ∙ sym arc)
 
+-- what arc k takes
+pub way_of : (model : Model) (d v : ℕ) (list : List ℕ) (k origin target : ℕ) → k ≤ length list → origin ≡ node_at_stop model v list k → target ≡ node_at_stop model v list (k + 1) → (t : ℤ) → t ≡ transit model d v origin target → t ≡ (arc_at (line model d v list) k).transit
+way_of model d v list k origin target le from to t is =
+    is ∙ ap (λ (h : Hop). h.transit) (hop_between_stops model d v list k origin target (hop_of (dimension_at model d).slack_max (line_arc model d v (record { vehicle = v; origin = origin; target = target }))) le from to refl)
+
 read_map : {B : Type 0} (f : ℕ → B) (list : List ℕ) (rest : List B) (j : ℕ) (none : B) → j < length list → get_or (map f list ++ rest) j none ≡ f (get_or list j 0)
 read_map f [] rest j none lt = absurd (omega (arith, lt))
 read_map f (x ∷ xs) rest zero none lt = refl
@@ -58,7 +63,7 @@ visit_allows model d v list zero sets set are tour some le is = absurd (omega (a
 visit_allows model d v list (suc j) sets set are tour some le is =
     let before : suc j - 1 ≡ j = omega arith in
     let here : set ≡ get_or sets (get_or list j 0) [] = is ∙ ap (λ i. get_or sets (get_or list i 0) []) before in
-    let visit = are.each (get_or list j 0) (visit_of_tour model list j tour.visits (omega (arith, le))) in
+    let visit = (are.each (get_or list j 0)).visit (visit_of_tour model list j tour.visits (omega (arith, le))) in
     subst (IsAllowedSet (line model d v list) (suc j)) (sym here) (record {
       exact = λ x. visit.exact x ∙ ap (λ (test : ℤ → Bool). test x) (sym (read_map _ list _ j (λ _. false) (omega (arith, le))));
       cumuls = visit.cumuls;

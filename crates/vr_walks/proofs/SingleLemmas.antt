@@ -56,16 +56,16 @@ module _ (run allowed new : Run) (t s : ℤ) (order : run.lo ≤ℤ run.hi) (ris
   both : (x : ℤ) → in_run new x ≡ ((int_le (run.lo +ℤ t) x && int_le x (run.hi +ℤ (t +ℤ s))) && in_run allowed x)
   both x = clipped (run.lo +ℤ t) (run.hi +ℤ (t +ℤ s)) allowed.lo allowed.hi new.lo new.hi x lo_is hi_is
 
-  came : (x : ℤ) → IsTrue (in_run new x) → IsTrue (in_run allowed x) × ((y : ℤ) × IsTrue (in_run run y) × ((y +ℤ t) ≤ℤ x) × (x ≤ℤ (y +ℤ (t +ℤ s))))
+  pub came : (x : ℤ) → IsTrue (in_run new x) → IsTrue (in_run allowed x) × ((y : ℤ) × IsTrue (in_run run y) × ((y +ℤ t) ≤ℤ x) × (x ≤ℤ (y +ℤ (t +ℤ s))))
   came x there =
       let parts = and_parts _ _ (sym (both x) ∙ there) in
       let way = in_way run.lo run.hi t s x order rises parts.0 in
       (parts.1, (int_min (x -ℤ t) run.hi, way.0, way.1, way.2))
 
-  goes : (x y : ℤ) → IsTrue (in_run allowed x) → IsTrue (in_run run y) → (y +ℤ t) ≤ℤ x → x ≤ℤ (y +ℤ (t +ℤ s)) → IsTrue (in_run new x)
+  pub goes : (x y : ℤ) → IsTrue (in_run allowed x) → IsTrue (in_run run y) → (y +ℤ t) ≤ℤ x → x ≤ℤ (y +ℤ (t +ℤ s)) → IsTrue (in_run new x)
   goes x y inside from least most = both x ∙ and_from _ _ (along run.lo run.hi t s x y from least most) inside
 
-within_ends : (run : Run) (x : ℤ) → HasCumulEnds run → IsTrue (in_run run x) → IsTrue (within (pos 0) horizon x)
+pub within_ends : (run : Run) (x : ℤ) → HasCumulEnds run → IsTrue (in_run run x) → IsTrue (within (pos 0) horizon x)
 within_ends run x ends there = let lo = ends.lo.at_least in let hi = ends.hi.at_most in grind (arith, ints, lo, hi, there)
 
 module _ (crossing : ReachedByCrossing) (L : Line) (sound : IsSound L) where

@@ -3,6 +3,7 @@ pub mod Spliced
 pub mod VisitSets
 pub mod VisitRuns
 pub mod Singles
+pub mod Alone
 pub mod Counts
 pub mod Tries
 pub mod Stops

@@ -1,13 +1,14 @@
 -- What is reached at a stop of a list.
-use Rattle.std.specs.Prelude.{◌≡◌, ℕ, suc, ◌<◌, ◌≤◌, false, IsTrue, List, length, ℤ}
+use Rattle.std.specs.Prelude.{◌≡◌, ℕ, suc, ◌<◌, ◌≤◌, Bool, false, List, length}
+use Rattle.std.specs.List.{list_all}
 use Rattle.vr_spans.specs.declared.runs.Run.{Run}
-use Rattle.vr_spans.specs.Runs.{has}
 use Rattle.vr_model.specs.tables.Tables.{breaks_of, dimension_at}
 use Rattle.vr_model.specs.tables.WellFormed.{IsWellFormed}
+use Rattle.vr_model.specs.routes.Routes.{is_empty}
 use Rattle.vr_model.specs.schedules.Lines.{line}
 use Rattle.vr_model.specs.schedules.Choices.{is_feasible}
 use Rattle.vr_model.specs.declared.records.Model.{Model}
-use Rattle.vr_steps.specs.Levels.{AreLevels, level_at}
+use Rattle.vr_steps.specs.Levels.{AreLevels}
 use Rattle.vr_steps.specs.Reached.{AreReached}
 use Rattle.vr_walks.specs.Lists.{IsUsed}
 
@@ -16,9 +17,9 @@ pub record IsReachedAt (model : Model) (d v : ℕ) (list : List ℕ) (k : ℕ) (
   pub form : AreLevels (breaks_of (dimension_at model d) v) levels
   pub reached : AreReached (line model d v list) k levels
 
--- no cumul is in the set of any number of breaks
-abbrev pub IsStuck : List (List Run) → Type 0
-IsStuck levels = (b : ℕ) (x : ℤ) → IsTrue (has (level_at levels b) x) → ⊥
+-- the set of each number of breaks is empty
+abbrev pub is_stuck : List (List Run) → Bool
+is_stuck levels = list_all is_empty levels
 
 -- a list that reaches the levels at a stop has no feasible line
 abbrev pub ReachesNoEnd : List (List Run) → Type 0

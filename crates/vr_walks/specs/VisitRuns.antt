@@ -1,14 +1,17 @@
 -- The one run of cumuls that a stop allows, where it allows no more than one.
-use Rattle.std.specs.Prelude.{◌≡◌, ℕ, ◌<◌, Bool, false, IfSome, IsTrue, List, [], Option, None, length, slice_index_or}
-use Rattle.std.specs.Prelude.{ℤ, pos}
+use Rattle.std.specs.Prelude.{◌≡◌, ℕ, ◌<◌, Bool, false, ◌&&◌, nat_le, IfSome, IsTrue, List, [], Option, None, is_some}
+use Rattle.std.specs.Prelude.{length, slice_index_or, ℤ, pos}
+use Rattle.std.specs.List.{list_all}
 use Rattle.vr_spans.specs.declared.runs.Run.{Run}
 use Rattle.vr_spans.specs.Runs.{has, in_run}
 use Rattle.vr_model.specs.tables.Numbers.{horizon}
-use Rattle.vr_model.specs.tables.Tables.{dimension_at, is_visit, row_of, vehicle_at}
+use Rattle.vr_model.specs.tables.Tables.{breaks_of, dimension_at, is_visit, row_of, vehicle_at, visits}
 use Rattle.vr_model.specs.tables.WellFormed.{IsIn}
+use Rattle.vr_model.specs.routes.Routes.{is_empty}
 use Rattle.vr_model.specs.schedules.Lines.{Line, stop_allows}
+use Rattle.vr_model.specs.schedules.Weights.{runs}
 use Rattle.vr_model.specs.declared.records.Model.{Model}
-use Rattle.vr_steps.specs.declared.stops.StopName.TheVariants.{End}
+use Rattle.vr_steps.specs.declared.stops.StopName.TheVariants.{End, Start, Visit}
 use Rattle.vr_steps.specs.Levels.{IsCumuls}
 use Rattle.vr_steps.specs.Stops.{allowed_by}
 use Rattle.vr_walks.specs.declared.single.Ahead.{Ahead}
@@ -30,11 +33,20 @@ pub record AreRunsOf (sets : List (List Run)) (runs : List Run) : Type 0 where
   pub each : (k : ℕ) (other : Run) → k < length sets
       → IsRunOf (slice_index_or sets k []) (slice_index_or runs k other)
 
--- for each table of sets a run for each set, or nothing
+-- the set is of no more than one run
+abbrev pub is_single : List Run → Bool
+is_single set = nat_le (length set) 1
+
+-- a run for each set, known exactly where no set is of more than one
+pub record AreKnownRuns (sets : List (List Run)) (found : Option (List Run)) : Type 0 where
+  pub runs : IfSome found (AreRunsOf sets)
+  pub known : is_some found ≡ list_all is_single sets
+
+-- for each table of sets a run for each set, known exactly where no set is of more than one
 pub record AreRunTables (tables : List (List (List Run))) (found : List (Option (List Run))) : Type 0 where
   pub one_of_each : length found ≡ length tables
   pub each : (k : ℕ) → k < length tables
-      → IfSome (slice_index_or found k None) (AreRunsOf (slice_index_or tables k []))
+      → AreKnownRuns (slice_index_or tables k []) (slice_index_or found k None)
 
 -- the run has the cumuls that pass the test
 pub record IsRunFor (test : ℤ → Bool) (run : Run) : Type 0 where
@@ -60,3 +72,16 @@ IsAllowedRun line k run = IsRunFor (slice_index_or line.allowed k (λ _. false))
 pub record IsFinish (model : Model) (d v : ℕ) (finish : Ahead) : Type 0 where
   pub node : finish.node ≡ (vehicle_at model v).end
   pub allowed : IsRunFor (allowed_by model d v End) finish.allowed
+
+-- no more than one run of cumuls passes the test
+abbrev pub is_one_run : (ℤ → Bool) → Bool
+is_one_run test = nat_le (runs test) 1
+
+-- no visit allows vehicle v more than one run of cumuls
+abbrev pub have_visits_one_run : Model → ℕ → ℕ → Bool
+have_visits_one_run model d v = list_all (λ node. is_one_run (allowed_by model d v (Visit node))) (visits model)
+
+-- vehicle v has no breaks in dimension d, and no stop allows it more than one run of cumuls
+abbrev pub have_stops_one_run : Model → ℕ → ℕ → Bool
+have_stops_one_run model d v = is_empty (breaks_of (dimension_at model d) v)
+    && is_one_run (allowed_by model d v Start) && is_one_run (allowed_by model d v End) && have_visits_one_run model d v

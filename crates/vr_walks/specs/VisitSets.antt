@@ -1,6 +1,7 @@
 -- The cumuls that visits allow, in a table for each capacity.
-use Rattle.std.specs.Prelude.{◌≡◌, ℕ, ◌<◌, Bool, IsTrue, List, [], length, slice_index_or, ℤ}
+use Rattle.std.specs.Prelude.{◌≡◌, ℕ, ◌<◌, Bool, false, IsTrue, List, [], length, slice_index_or, ℤ}
 use Rattle.vr_spans.specs.declared.runs.Run.{Run}
+use Rattle.vr_spans.specs.Runs.{IsNormal}
 use Rattle.vr_model.specs.tables.Numbers.{number_at}
 use Rattle.vr_model.specs.tables.Tables.{dimension_at, is_visit, row_of}
 use Rattle.vr_model.specs.schedules.Lines.{stop_allows}
@@ -8,17 +9,19 @@ use Rattle.vr_model.specs.declared.records.Model.{Model}
 use Rattle.vr_steps.specs.Levels.{HasNumbers, IsCumuls}
 use Rattle.vr_walks.specs.declared.visits.VisitSets.{VisitSets}
 
--- the set has the cumuls that pass the test, which lie in 0..=horizon
+-- the set has the cumuls that pass the test, which lie in 0..=horizon, in its normal form
 pub record IsSetOf (test : ℤ → Bool) (set : List Run) : Type 0 where
   pub exact : HasNumbers test set
   pub cumuls : IsCumuls set
+  pub normal : IsNormal set
 
--- the set of a node has the cumuls that it allows under a capacity, where it is a visit
-abbrev pub IsSetOfNode : Model → ℕ → ℤ → ℕ → List Run → Type 0
-IsSetOfNode model d capacity node set =
-    IsTrue (is_visit model node) → IsSetOf (stop_allows capacity (row_of (dimension_at model d).nodes node)) set
+-- the set of a node has the cumuls that it allows under a capacity, where it is a visit, and none where it is not
+pub record IsSetOfNode (model : Model) (d : ℕ) (capacity : ℤ) (node : ℕ) (set : List Run) : Type 0 where
+  pub visit : IsTrue (is_visit model node)
+      → IsSetOf (stop_allows capacity (row_of (dimension_at model d).nodes node)) set
+  pub other : is_visit model node ≡ false → set ≡ []
 
--- the sets of the nodes have, for each visit, the cumuls that it allows under a capacity
+-- the sets of the nodes have, for each visit, the cumuls that it allows under a capacity, and no others
 pub record AreSetsUnder (model : Model) (d : ℕ) (capacity : ℤ) (sets : List (List Run)) : Type 0 where
   pub long : length sets ≡ model.nodes
   pub each : (node : ℕ) → IsSetOfNode model d capacity node (slice_index_or sets node [])

@@ -1,16 +1,18 @@
 //! The earliest cumuls along a list: where each stop allows one run and there are no breaks, they are chosen.
 
-ghost use Rattle.std.specs.Prelude.{◌≡◌, ◌+◌, ◌<◌, ◌≤◌, ◌≤ℤ◌, ◌^◌, suc, All, IfSome, IsTrue, [], length, neg_ℤ, pos};
+ghost use Rattle.std.specs.Prelude.{◌≡◌, ◌↔◌, ◌+◌, ◌<◌, ◌≤◌, ◌≤ℤ◌, ◌^◌, suc, All, IfSome, IsTrue, is_some, [], length};
+ghost use Rattle.std.specs.Prelude.{List, ℤ, neg_ℤ, pos};
 ghost use Rattle.vr_model.specs.schedules.Lines.{line};
 ghost use Rattle.vr_model.specs.tables.Numbers.{horizon};
 ghost use Rattle.vr_model.specs.tables.Tables.{breaks_of, dimension_at};
 ghost use Rattle.vr_model.specs.tables.WellFormed.{IsIn, IsWellFormed};
 ghost use Rattle.vr_steps.specs.Stops.{allowed_by};
 ghost use Rattle.vr_steps.specs.declared.stops.StopName.TheVariants.{Start};
-ghost use Rattle.vr_walks.specs.Early.{AreChosen, AreEarly, IsEarliestBehind};
+ghost use Rattle.vr_walks.specs.Early.{has_cumul_behind, AreChosen, AreEarly, AreFoundInTurn, CanBeFoundInTurn};
+ghost use Rattle.vr_walks.specs.Early.{IsEarliestBehind};
 ghost use Rattle.vr_walks.specs.Lists.{IsUsed};
 ghost use Rattle.vr_walks.specs.Stops.{AreStops};
-ghost use Rattle.vr_walks.specs.VisitRuns.{AreVisitRuns, HasCumulEnds, IsFinish, IsRunFor};
+ghost use Rattle.vr_walks.specs.VisitRuns.{have_stops_one_run, AreVisitRuns, HasCumulEnds, IsFinish, IsRunFor};
 
 use crate::runs::run_of;
 use crate::single::{Ahead, finish_of, slack_of, stop_ahead};
@@ -34,8 +36,8 @@ pub struct StopRuns<'a> {
     pub finish: Ahead,
 }
 
-/// The run of cumuls that each stop of vehicle `v` allows, nothing where it has breaks or some stop allows more than
-/// one.
+/// The run of cumuls that each stop of vehicle `v` allows, nothing exactly where it has breaks or some stop allows more
+/// than one.
 pub fn single_runs<'a>(model: &Model, d: u32, v: u32, stops: &'a Stops) -> Option<StopRuns<'a>>
     requires vehicle { v < length model.now.vehicles }
     requires stops { AreStops model.now d stops.now }
@@ -43,9 +45,11 @@ pub fn single_runs<'a>(model: &Model, d: u32, v: u32, stops: &'a Stops) -> Optio
     ensures start { IfSome result (λ runs. IsRunFor (allowed_by model.now d v Start) runs.start) }
     ensures visits { IfSome result (λ runs. AreVisitRuns model.now d v runs.visits.now) }
     ensures finish { IfSome result (λ runs. IsFinish model.now d v runs.finish) }
+    ensures known { is_some result ≡ have_stops_one_run model.now d v }
 {
+    vr_steps::laws::runs_are_counted();
     let ends = &stops.ends[v as usize];
-    if !ends.breaks.rows.is_empty() {
+    if !ends.has_no_breaks() {
         return None;
     }
     let start = run_of(&ends.start_set)?;
@@ -60,7 +64,7 @@ pub fn single_runs<'a>(model: &Model, d: u32, v: u32, stops: &'a Stops) -> Optio
 
 /// Writes the cumuls of the earliest schedule of a list over others, where they are found stop by stop, each the least
 /// that the one before leaves: where the vehicle has no breaks, no stop allows more than one run of cumuls, and no
-/// slack would be too great. False where they are not found so, also where there is no schedule.
+/// slack would be too great. False exactly where they are not found so, also where there is no schedule.
 pub fn write_earliest(
     model: &Model,
     d: u32,
@@ -75,6 +79,7 @@ pub fn write_earliest(
     requires stops { AreStops model.now d stops.now }
     requires used { IsUsed model.now list.now }
     requires few { length list.now ≤ 1000 }
+    ensures found { IsTrue result ↔ CanBeFoundInTurn model.now d v list.now }
     ensures chosen { IsTrue result → AreChosen (line model.now d v list.now) cumuls.new.items }
     ensures stops { IsTrue result → length cumuls.new.items ≡ suc (suc (length list.now)) }
     ensures range { IsTrue result → All (IsIn (pos 0) horizon) cumuls.new.items }
@@ -103,7 +108,9 @@ fn drive(model: &Model, d: u32, v: u32, runs: &StopRuns, list: &[u32], cumuls: &
     requires some { runs.now.start.lo ≤ℤ runs.now.start.hi }
     requires visits { AreVisitRuns model.now d v runs.now.visits.now }
     requires finish { IsFinish model.now d v runs.now.finish }
-    ensures { IsTrue result → AreEarly (line model.now d v list.now) (length list.now + 1) cumuls.new.items }
+    ensures found { IsTrue result ↔ ((found : List ℤ)
+        × AreFoundInTurn (line model.now d v list.now) (suc (length list.now)) found) }
+    ensures early { IsTrue result → AreEarly (line model.now d v list.now) (length list.now + 1) cumuls.new.items }
 {
     laws::lines_are_sound();
     let evaluator = model.dimensions.get(d as usize).evaluator_of(v);
@@ -126,8 +133,8 @@ fn drive(model: &Model, d: u32, v: u32, runs: &StopRuns, list: &[u32], cumuls: &
     true
 }
 
-/// The least cumul of a stop behind an arc from a cumul, nothing where the stop allows none that is reached, or where
-/// the slack would be too great. Cumuls are in `0..=2^36`, transits within 2^31.
+/// The least cumul of a stop behind an arc from a cumul, nothing exactly where the stop allows none that is reached, or
+/// where the slack would be too great. Cumuls are in `0..=2^36`, transits within 2^31.
 #[inline]
 pub fn earliest_behind(cumul: i64, transit: i64, slack: i64, allowed: Run) -> Option<i64>
     requires cumul { IsIn (pos 0) horizon cumul }
@@ -137,6 +144,7 @@ pub fn earliest_behind(cumul: i64, transit: i64, slack: i64, allowed: Run) -> Op
     requires allowed { HasCumulEnds allowed }
     ensures exact { IfSome result (IsEarliestBehind cumul transit slack allowed) }
     ensures range { IfSome result (IsIn (pos 0) horizon) }
+    ensures known { is_some result ≡ has_cumul_behind cumul transit slack allowed }
 {
     let reached = cumul + transit;
     let next = reached.max(allowed.lo);

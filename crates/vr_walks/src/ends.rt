@@ -1,6 +1,7 @@
 //! What the start, the end and the breaks of a vehicle ask.
 
 ghost use Rattle.std.specs.Prelude.{◌≡◌, ◌<◌, ℕ, length, slice_index_or, IfOk};
+ghost use Rattle.vr_model.specs.routes.Routes.{is_empty};
 ghost use Rattle.vr_model.specs.tables.WellFormed.{IsWellFormed};
 ghost use Rattle.vr_walks.specs.Stops.{AreEndsOf};
 
@@ -43,6 +44,14 @@ impl Ends {
             end_set,
             end_levels,
         })
+    }
+
+    // Whether the vehicle has no breaks.
+    #[inline]
+    pub(crate) fn has_no_breaks(&self) -> bool
+        ensures { result ≡ is_empty self.now.breaks }
+    {
+        self.breaks.rows.is_empty()
     }
 }
 

@@ -1,12 +1,13 @@
 //! Walks without a break, which often tell whether a list of a vehicle with breaks is feasible.
 
-ghost use Rattle.std.specs.Prelude.{◌≡◌, ◌+◌, ◌-◌, ◌*◌, ◌<◌, ◌≤◌, suc, IfSome, IsTrue, length};
+ghost use Rattle.std.specs.Prelude.{◌≡◌, ◌↔◌, ◌+◌, ◌-◌, ◌*◌, ◌<◌, ◌≤◌, ℕ, suc, IfSome, IsTrue, None, length};
 ghost use Rattle.vr_model.specs.schedules.Choices.{is_feasible};
 ghost use Rattle.vr_model.specs.schedules.Lines.{line};
 ghost use Rattle.vr_model.specs.schedules.Schedules.{IsFeasible};
 ghost use Rattle.vr_model.specs.tables.WellFormed.{IsWellFormed};
 ghost use Rattle.vr_steps.specs.Levels.{AreLevels};
 ghost use Rattle.vr_steps.specs.Reached.{AreReached, AreReachingEnd};
+ghost use Rattle.vr_walks.specs.Alone.{may_go_alone, GoesAlone, IsUntold};
 ghost use Rattle.vr_walks.specs.Lists.{IsUsed};
 ghost use Rattle.vr_walks.specs.Stops.{AreEndsOf};
 ghost use Rattle.vr_walks.specs.Tries.{tries_between};
@@ -51,6 +52,8 @@ pub(crate) fn told_without_breaks<L: Ledger>(
     requires to_form { AreLevels ends.now.breaks to.now }
     requires to { AreReachingEnd (line model.now d v list.now) last to.now }
     ensures told { IfSome result (λ passed. passed ≡ is_feasible (line model.now d v list.now)) }
+    ensures untold { result ≡ None → IsTrue (may_go_alone model.now d v from.now)
+        → IsUntold (line model.now d v list.now) from.now to.now begin last }
     ensures count { tries.new ≤ tries.old + tries_between (line model.now d v list.now) begin last }
 {
     laws::lines_are_sound();
@@ -105,6 +108,8 @@ fn goes_with_some<L: Ledger>(
     requires to_form { AreLevels (line model.now d v list.now).breaks to.now }
     requires to { AreReachingEnd (line model.now d v list.now) last to.now }
     ensures goes { IsTrue result → IsFeasible (line model.now d v list.now) }
+    ensures exact { IsTrue result ↔ ((taken : ℕ) × (1 ≤ taken) × (taken ≤ length (line model.now d v list.now).breaks)
+        × GoesAlone (line model.now d v list.now) from.now to.now begin last taken) }
     ensures count { tries.new ≤ tries.old + length (line model.now d v list.now).breaks * (last - begin) }
 {
     for taken in 1..from.len() {
@@ -146,6 +151,7 @@ fn goes_with<L: Ledger>(
     requires to_form { AreLevels (line model.now d v list.now).breaks to.now }
     requires to { AreReachingEnd (line model.now d v list.now) last to.now }
     ensures goes { IsTrue result → IsFeasible (line model.now d v list.now) }
+    ensures exact { IsTrue result ↔ GoesAlone (line model.now d v list.now) from.now to.now begin last taken }
     ensures count { tries.new ≤ tries.old + (last - begin) }
 {
     laws::lines_are_sound();

@@ -1,8 +1,8 @@
 //! The one run of cumuls that each visit allows, where none allows more than one, and what runs share.
 
-ghost use Rattle.std.specs.Prelude.{IfOk, IfSome, IsTrue, ◌↔◌, ◌≤ℤ◌, [], ◌∷◌};
+ghost use Rattle.std.specs.Prelude.{◌≡◌, IfOk, IfSome, IsTrue, is_some, ◌↔◌, ◌≤ℤ◌, [], ◌∷◌};
 ghost use Rattle.vr_spans.specs.Runs.{ShareANumber};
-ghost use Rattle.vr_walks.specs.VisitRuns.{IsRunOf, AreRunsOf, AreRunTables};
+ghost use Rattle.vr_walks.specs.VisitRuns.{is_single, AreKnownRuns, AreRunTables, IsRunOf};
 
 use std::alloc::Global;
 use vr_model::{NoMemory, Seq};
@@ -24,7 +24,7 @@ pub(crate) fn run_tables(
 
 // The run of each set, nothing where a set is of more than one.
 fn runs_of(alloc: Global, sets: &Seq<Spans>) -> Result<Option<Seq<Run>>, NoMemory>
-    ensures { IfOk result (λ found. IfSome found (AreRunsOf sets.now)) }
+    ensures { IfOk result (AreKnownRuns sets.now) }
 {
     let mut runs = Seq::with_capacity(alloc, sets.len())?;
     for k in 0..sets.len() {
@@ -38,7 +38,8 @@ fn runs_of(alloc: Global, sets: &Seq<Spans>) -> Result<Option<Seq<Run>>, NoMemor
 
 // The run that has the numbers of a set, nothing where the set is of more than one.
 pub(crate) fn run_of(set: &Spans) -> Option<Run>
-    ensures { IfSome result (IsRunOf set.now) }
+    ensures run { IfSome result (IsRunOf set.now) }
+    ensures known { is_some result ≡ is_single set.now }
 {
     let runs = set.len();
     if runs > 1 {

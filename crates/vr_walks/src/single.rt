@@ -1,7 +1,7 @@
 //! Walks that carry one run of cumuls from stop to stop.
 
-ghost use Rattle.std.specs.Prelude.{◌≡◌, ◌+◌, ◌-◌, ◌<◌, ◌≤◌, ◌^◌, suc, All, IfSome, length, []};
-ghost use Rattle.std.specs.Prelude.{pos, neg_ℤ, ◌+ℤ◌, ◌≤ℤ◌};
+ghost use Rattle.std.specs.Prelude.{◌≡◌, ◌+◌, ◌-◌, ◌<◌, ◌≤◌, ◌^◌, suc, All, IfSome, is_some, length, []};
+ghost use Rattle.std.specs.Prelude.{IsTrue, ◌↔◌, ℤ, pos, neg_ℤ, ◌+ℤ◌, ◌≤ℤ◌};
 ghost use Rattle.std.specs.Int.{int_max, int_min};
 ghost use Rattle.vr_model.specs.schedules.Choices.{is_feasible};
 ghost use Rattle.vr_model.specs.schedules.Lines.{line};
@@ -9,12 +9,17 @@ ghost use Rattle.vr_model.specs.schedules.Weights.{walk_weight};
 ghost use Rattle.vr_model.specs.tables.Tables.{dimension_at, evaluator_of, transit};
 ghost use Rattle.vr_model.specs.tables.Numbers.{horizon};
 ghost use Rattle.vr_model.specs.tables.WellFormed.{IsIn, IsWellFormed};
+ghost use Rattle.vr_spans.specs.Runs.{in_run};
 ghost use Rattle.vr_steps.specs.Levels.{AreLevels, IsCumuls, level_at};
+ghost use Rattle.vr_steps.specs.Stops.{allowed_by};
+ghost use Rattle.vr_steps.specs.declared.stops.StopName.TheVariants.{End};
+ghost use Rattle.vr_walks.specs.Alone.{Follows, IsLedTo};
 ghost use Rattle.vr_walks.specs.Counts.{steps_between};
 ghost use Rattle.vr_walks.specs.Lists.{node_at_stop, IsTour, IsUsed};
-ghost use Rattle.vr_walks.specs.Singles.{IsCumulRun, IsOnlyRun, IsReachedRun, IsReachingRun};
+ghost use Rattle.vr_walks.specs.Singles.{is_one_run_each, is_run, IsCumulRun, IsOnlyRun, IsReachedRun};
+ghost use Rattle.vr_walks.specs.Singles.{IsReachingRun};
 ghost use Rattle.vr_walks.specs.Stops.{AreEndsOf};
-ghost use Rattle.vr_walks.specs.VisitRuns.{AreVisitRuns, HasCumulEnds, IsAllowedRun, IsFinish};
+ghost use Rattle.vr_walks.specs.VisitRuns.{is_one_run, AreVisitRuns, HasCumulEnds, IsAllowedRun, IsFinish};
 
 use crate::ends::Ends;
 use crate::runs::{run_of, share};
@@ -59,8 +64,9 @@ pub(crate) fn one_run_each(
     ensures from { IfSome result (λ between. IsOnlyRun (level_at from.now 0) between.from) }
     ensures to { IfSome result (λ between. IsOnlyRun (level_at to.now 0) between.to) }
     ensures finish { IfSome result (λ between. IsFinish model.now d v between.finish) }
+    ensures known { is_some result ≡ is_one_run_each model.now d v from.now to.now }
 {
-    if !ends.breaks.rows.is_empty() {
+    if !ends.has_no_breaks() {
         return None;
     }
     let from = run_at(from, 0)?;
@@ -74,7 +80,8 @@ pub(crate) fn one_run_each(
 pub(crate) fn run_at(levels: &Levels, b: usize) -> Option<Run>
     requires taken { b < length levels.now }
     requires cumuls { All IsCumuls levels.now }
-    ensures { IfSome result (IsOnlyRun (level_at levels.now b)) }
+    ensures run { IfSome result (IsOnlyRun (level_at levels.now b)) }
+    ensures known { is_some result ≡ is_run (level_at levels.now b) }
 {
     let set = levels.level(b);
     if set.len() != 1 {
@@ -87,8 +94,10 @@ pub(crate) fn run_at(levels: &Levels, b: usize) -> Option<Run>
 pub(crate) fn finish_of(model: &Model, d: u32, v: u32, ends: &Ends) -> Option<Ahead>
     requires vehicle { v < length model.now.vehicles }
     requires ends { AreEndsOf model.now d v ends.now }
-    ensures { IfSome result (IsFinish model.now d v) }
+    ensures finish { IfSome result (IsFinish model.now d v) }
+    ensures known { is_some result ≡ is_one_run (allowed_by model.now d v End) }
 {
+    vr_steps::laws::runs_are_counted();
     let allowed = run_of(&ends.end_set)?;
     let node = model.vehicles.get(v as usize).end;
     Some(Ahead { node, allowed })
@@ -180,6 +189,8 @@ pub(crate) fn carry_run<L: Ledger>(
     requires from { IsReachedRun (line model.now d v list.now) begin taken from }
     ensures cumuls { result.lo ≤ℤ result.hi → IsCumulRun result }
     ensures reached { IsReachedRun (line model.now d v list.now) last taken result }
+    ensures led { (y : ℤ) → IsTrue (in_run result y)
+        ↔ IsLedTo (line model.now d v list.now) (in_run from) begin (last - begin) y }
     ensures count { taken ≡ 0 → steps.new ≤ steps.old + steps_between (line model.now d v list.now) begin last }
     ensures arcs { steps.new ≤ steps.old + (last - begin) }
 {
@@ -269,6 +280,8 @@ fn cross_by_run(
     requires target_below { ahead.node < model.now.nodes }
     requires allowed { IsAllowedRun (line model.now d v list.now) (k + 1) ahead.allowed }
     ensures reached { IsReachedRun (line model.now d v list.now) (k + 1) taken result }
+    ensures led { (y : ℤ) → IsTrue (in_run result y)
+        ↔ ((x : ℤ) × IsTrue (in_run run x) × Follows (line model.now d v list.now) k x y) }
     ensures cumuls { result.lo ≤ℤ result.hi → IsCumulRun result }
 {
     laws::lines_are_sound();

@@ -6,7 +6,7 @@ ghost use Rattle.vr_model.specs.schedules.Lines.{line};
 ghost use Rattle.vr_model.specs.schedules.Choices.{is_feasible};
 ghost use Rattle.vr_walks.specs.Lists.{IsUsed};
 ghost use Rattle.vr_walks.specs.KnownRows.{AreRowsIfUsed};
-ghost use Rattle.vr_walks.specs.Standing.{IsReachedAt, IsStuck, ReachesNoEnd};
+ghost use Rattle.vr_walks.specs.Standing.{is_stuck, IsReachedAt, ReachesNoEnd};
 ghost use Rattle.vr_walks.specs.Stops.{AreEndsOf, AreStops};
 ghost use Rattle.vr_walks.specs.Stretches.{SharesFront, SharesBack};
 ghost use Rattle.vr_walks.specs.VisitSets.{AreVisitSets};
@@ -215,7 +215,8 @@ pub fn goes_from(
 /// Whether nothing is reached: no cumul, whatever breaks were taken. Then no list that reaches this at a stop has a
 /// feasible line. It takes no memory.
 pub fn is_stuck(levels: &Levels) -> bool
-    ensures { IsTrue result → ReachesNoEnd levels.now }
+    ensures exact { result ≡ is_stuck levels.now }
+    ensures no_end { IsTrue result → ReachesNoEnd levels.now }
 {
     laws::lines_are_sound();
     laws::chosen_where_feasible();
@@ -225,7 +226,7 @@ pub fn is_stuck(levels: &Levels) -> bool
 
 // Whether the set of each number of breaks is empty.
 fn none_reached(levels: &Levels) -> bool
-    ensures { IsTrue result → IsStuck levels.now }
+    ensures { result ≡ is_stuck levels.now }
 {
     for b in 0..levels.len() {
         if levels.level(b).len() > 0 {

@@ -1,13 +1,13 @@
 //! What the stops of one dimension ask.
 
-ghost use Rattle.std.specs.Prelude.{◌≡◌, ◌+◌, suc, ◌<◌, ◌≤◌, length, IfOk, IfSome};
+ghost use Rattle.std.specs.Prelude.{◌≡◌, ◌+◌, suc, ◌<◌, ◌≤◌, length, IfOk, IfSome, is_some};
 ghost use Rattle.vr_model.specs.schedules.Lines.{line};
 ghost use Rattle.vr_model.specs.tables.WellFormed.{IsWellFormed};
 ghost use Rattle.vr_steps.specs.Arcs.{IsSoundHop};
 ghost use Rattle.vr_steps.specs.Reached.{hop_at, IsAllowedSet};
 ghost use Rattle.vr_walks.specs.Lists.{node_at_stop, IsTour};
 ghost use Rattle.vr_walks.specs.Stops.{AreEndsOf, AreStops};
-ghost use Rattle.vr_walks.specs.VisitRuns.{AreVisitRuns};
+ghost use Rattle.vr_walks.specs.VisitRuns.{have_visits_one_run, AreVisitRuns};
 ghost use Rattle.vr_walks.specs.VisitSets.{AreVisitSets};
 
 use crate::ends::{Ends, ends_of_each};
@@ -47,8 +47,10 @@ impl Stops {
     pub(crate) fn runs_of(&self, model: &Model, d: u32, v: u32) -> Option<&[Run]>
         requires stops { AreStops model.now d self.now }
         requires vehicle { v < length model.now.vehicles }
-        ensures { IfSome result (λ runs. AreVisitRuns model.now d v runs.now) }
+        ensures runs { IfSome result (λ runs. AreVisitRuns model.now d v runs.now) }
+        ensures known { is_some result ≡ have_visits_one_run model.now d v }
     {
+        vr_steps::laws::runs_are_counted();
         let k = *self.visits.table_of.get(v as usize);
         match self.runs.get(k) {
             Some(runs) => Some(runs.as_slice()),

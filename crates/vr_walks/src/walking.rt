@@ -1,6 +1,6 @@
 //! Walks along a list, and through what changed in one.
 
-ghost use Rattle.std.specs.Prelude.{◌≡◌, ◌+◌, ◌-◌, ◌<◌, ◌≤◌, suc, false, IsTrue, length, IfOk, IfSome, None};
+ghost use Rattle.std.specs.Prelude.{◌≡◌, ◌+◌, ◌-◌, ◌<◌, ◌≤◌, suc, false, IsTrue, length, IfOk, IfSome, IsSome, None};
 ghost use Rattle.std.specs.List.{list_all};
 ghost use Rattle.vr_model.specs.tables.Tables.{is_visit};
 ghost use Rattle.vr_model.specs.tables.WellFormed.{IsWellFormed};
@@ -12,7 +12,9 @@ ghost use Rattle.vr_steps.specs.Levels.{AreLevels};
 ghost use Rattle.vr_steps.specs.Reached.{AreReached, AreReachingEnd};
 ghost use Rattle.vr_reach.specs.Rows.{row_at};
 ghost use Rattle.vr_walks.specs.Lists.{is_feasible_list, IsTour, IsUsed};
+ghost use Rattle.vr_walks.specs.Alone.{may_go_alone, IsUntold};
 ghost use Rattle.vr_walks.specs.KnownRows.{AreRowsIfUsed};
+ghost use Rattle.vr_walks.specs.Singles.{is_one_run_each};
 ghost use Rattle.vr_walks.specs.Spliced.{spliced};
 ghost use Rattle.vr_walks.specs.Stops.{AreEndsOf, AreStops};
 ghost use Rattle.vr_walks.specs.Tries.{list_tries, tries_between};
@@ -109,6 +111,9 @@ fn told_by_runs<L: Ledger, M: Ledger>(
     requires to { AreReachingEnd (line model.now d v list.now) last to.now }
     ensures told { IfSome result (λ passed. passed ≡ is_feasible (line model.now d v list.now)) }
     ensures untold { result ≡ None → steps.new ≡ steps.old }
+    ensures given_up { result ≡ None → IsSome runs.entry
+        → (IsTrue (is_one_run_each model.now d v from.now to.now) → ⊥) × (IsTrue (may_go_alone model.now d v from.now)
+        → IsUntold (line model.now d v list.now) from.now to.now begin last) }
     ensures count { steps.new ≤ steps.old + walk_weight (line model.now d v list.now) begin last }
     ensures tries { tries.new ≤ tries.old + tries_between (line model.now d v list.now) begin last }
 {

@@ -15,7 +15,7 @@ pub returns-then-asks_nothing : goal.returns-then-asks_nothing
 returns-then-asks_nothing c =
     let model = c.args.model.now in
     let v = c.args.v in
-    let policy = ap (λ vehicle. vehicle.policy) (c.get.ensures.value no_vehicle) ∙ c.asks_nothing.ensures c.if-asks_nothing.true in
+    let policy = ap (λ vehicle. vehicle.policy) (c.get.ensures.value no_vehicle) ∙ c.asks_nothing.ensures.0 c.if-asks_nothing.true in
     c.if-asks_nothing.true ∙ sym (ap₂ (λ a b. a && b) (sym c.serves_all.ensures ∙ c.if-not-serves_all.false) (keeps-any model v c.args.list.now policy))
 
 pub returns-else-asks_nothing : goal.returns-else-asks_nothing

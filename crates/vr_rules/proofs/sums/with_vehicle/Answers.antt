@@ -10,7 +10,7 @@ use Rattle.vr_model.proofs.routes.Lists.{empty_where, not_empty, route-visits, r
 use Rattle.vr_timings.specs.Bounds.{cumul_cost, IsAround}
 use Rattle.vr_rules.specs.Sums.{PaysNothingToo}
 use Rattle.vr_timings.specs.Timings.{IsTiming, IsTimingOf}
-use Rattle.vr_rules.proofs.SumLemmas.{AreSums-unused, AreSums-unpaid, AreSums-taken, visits-bound}
+use Rattle.vr_rules.proofs.SumLemmas.{AreSums-unused, AreSums-unpaid, AreSums-taken, pays_nothing_too, visits-bound}
 use Rattle.vr_rules.proofs.sums.with_vehicle.Goals as goal
 
 pub timing_of-requires-clause-visits : goal.timing_of-requires-clause-visits
@@ -34,7 +34,7 @@ returns-then-not-may_pay c =
     let v = c.args.v in
     AreSums-unpaid c.args.model.now lists c.args.d v c.requires.vehicle c.args.sums c.requires.sums
     (not_empty (route lists v) (subst (λ list. 0 < length list) c.list-list.ensures.value (some_from_test _ _ c.if-is_empty.false c.is_empty.ensures)))
-    (subst (PaysNothingToo (dimension_at c.args.model.now c.args.d) v) c.list-list.ensures.value (c.may_pay.ensures c.if-not-may_pay.true))
+    (subst (PaysNothingToo (dimension_at c.args.model.now c.args.d) v) c.list-list.ensures.value (pays_nothing_too (dimension_at c.args.model.now c.args.d) v c.list-list.result.now (sym c.may_pay.ensures ∙ c.if-not-may_pay.true)))
 
 pub with_timing-requires-clause-bound : goal.with_timing-requires-clause-bound
 with_timing-requires-clause-bound c =

@@ -1,6 +1,7 @@
-use Rattle.std.proofs.Common.{◌<◌, subst, sym, length}
-use Rattle.vr_model.specs.tables.Tables.{no_dimension}
-use Rattle.vr_timings.specs.Paying.{PaysNothing}
+use Rattle.std.proofs.Common.{◌≡◌, ◌∙◌, ◌<◌, ap, subst, sym, length}
+use Rattle.vr_model.specs.tables.Tables.{dimension_at, no_dimension}
+use Rattle.vr_timings.specs.Paying.{may_pay_alone}
+use Rattle.vr_timings.proofs.PayingLemmas.{free_pays}
 use Rattle.vr_timings.proofs.TableLemmas.{nodes_here, places_here}
 use Rattle.vr_timings.proofs.paying.may_pay_alone.Goals as goal
 
@@ -16,7 +17,7 @@ pub list_pays-requires-clause-list : goal.list_pays-requires-clause-list
 list_pays-requires-clause-list c = nodes_here c.args.model.now c.args.d c.args.table.now c.requires.table c.deref.result.now c.deref.ensures.value c.args.list.now c.requires.visits
 
 pub returns-then-table : goal.returns-then-table
-returns-then-table c _ = c.requires.table.free c.if-table.true c.args.v c.args.list.now
+returns-then-table c = sym (free_pays (dimension_at c.args.model.now c.args.d) (sym c.requires.table.is_free ∙ c.if-table.true) c.args.v c.args.list.now)
 
 pub returns : goal.returns
-returns c idle = subst (λ x. PaysNothing x c.args.v c.args.list.now) (sym (c.get.ensures.value no_dimension)) (c.list_pays.ensures idle)
+returns c = c.list_pays.ensures ∙ ap (λ x. may_pay_alone x c.args.v c.args.list.now) (sym (c.get.ensures.value no_dimension))

@@ -7,7 +7,7 @@ use Rattle.vr_model.specs.tables.Tables.{dimension_at, no_vehicle}
 use Rattle.vr_model.specs.schedules.Lines.{line}
 use Rattle.vr_steps.specs.Levels.{HasNumbers}
 use Rattle.vr_timings.specs.Timings.{soft_of}
-use Rattle.vr_timings.proofs.SoftLemmas.{line-stops, plan-cumuls}
+use Rattle.vr_timings.proofs.SoftLemmas.{line-stops, no-cumuls, plan-cumuls}
 use Rattle.vr_timings.proofs.timings.timing_of.Goals as goal
 
 -- one cumul for each stop
@@ -28,4 +28,18 @@ returns-clause-timing c =
       soft = c.timing_at-2.ensures.soft ∙ ap (soft_of (dimension_at model c.args.d) c.args.v list) cumuls;
       start = c.timing_at-2.ensures.start ∙ ap (λ xs. number_at xs 0) cumuls;
       last = c.timing_at-2.ensures.last ∙ ap (λ xs. number_at xs (suc (length list))) cumuls;
+    }
+
+-- those of a list without a schedule
+pub returns-then-not-branch-clause-timing : goal.returns-then-not-branch-clause-timing
+returns-then-not-branch-clause-timing c =
+    let model = c.args.model.now in
+    let list = c.args.list.now in
+    let rule = ap (λ (x : Vehicle). x.schedule) (c.get.ensures.value no_vehicle) in
+    let found = sym (ap (λ goes. then_some goes c.choose.new.self) c.if-not-branch.true) ∙ c.in_ok-choose.ensures.chosen (line model c.args.d c.args.v list) c.in_ok-write_line.ensures.exact in
+    let cumuls = no-cumuls model c.args.d c.args.v list c.get.result.now.schedule rule found in
+    record {
+      soft = sym (ap (soft_of (dimension_at model c.args.d) c.args.v list) cumuls);
+      start = sym (ap (λ xs. number_at xs 0) cumuls);
+      last = sym (ap (λ xs. number_at xs (suc (length list))) cumuls);
     }

@@ -1,8 +1,11 @@
-use Rattle.std.proofs.Common.{◌≤◌, ◌∷◌, [], length, sym, subst, arith}
+use Rattle.std.proofs.Common.{◌∙◌, ◌≤◌, ◌∷◌, [], length, ap, sym, subst, arith}
+use Rattle.std.specs.Prelude.{is_some}
+use Rattle.std.proofs.lemmas.Bool.{false≢true}
 use Rattle.vr_model.specs.schedules.Lines.{line}
 use Rattle.vr_model.proofs.schedules.LineArcs.{arcs_of_line}
 use Rattle.vr_spans.specs.Runs.{ShareANumber}
 use Rattle.vr_steps.proofs.LevelLemmas.{level_is}
+use Rattle.vr_walks.proofs.AloneLemmas.{alone_where}
 use Rattle.vr_walks.proofs.LineParts.{sound_line}
 use Rattle.vr_walks.proofs.ProbeLemmas.{accepted}
 use Rattle.vr_walks.proofs.probing.goes_with.Goals as goal
@@ -17,3 +20,14 @@ returns-clause-goes g c = λ goes.
     let shared = subst (ShareANumber (run ∷ [])) (sym (level_is c.args.to.now c.args.taken c.level.result.now c.level.ensures)) (c.shares_with-goes.ensures.0 goes) in
     accepted c.feasible_where_levels_meet.ensures L (sound_line c.lines_are_sound.ensures m c.requires.well_formed c.args.d c.args.v c.requires.dimension c.requires.vehicle list c.requires.used)
     c.args.last within c.args.to.now c.requires.to c.args.taken c.requires.taken run c.carry_run-run.ensures.reached shared
+
+pub returns-in_default-clause-exact : goal.returns-in_default-clause-exact
+returns-in_default-clause-exact g c = (λ t. absurd (false≢true t), λ goes. absurd (false≢true (sym (ap is_some c.in_default.is) ∙ c.run_at.ensures.known ∙ goes.one)))
+
+pub returns-clause-exact : goal.returns-clause-exact
+returns-clause-exact g c =
+    let L = line c.args.model.now c.args.d c.args.v c.args.list.now in
+    let run = c.carry_run-run.result in
+    let there = level_is c.args.to.now c.args.taken c.level.result.now c.level.ensures in
+    let all = alone_where L c.args.from.now c.args.to.now c.args.begin c.args.last c.args.taken c.in-Some.begun run (sym c.in-Some.ensures.known) c.in-Some.ensures.run c.carry_run-run.ensures.led in
+    (λ t. all.0 (subst (ShareANumber (run ∷ [])) (sym there) (c.shares_with-goes.ensures.0 t)), λ goes. c.shares_with-goes.ensures.1 (subst (ShareANumber (run ∷ [])) there (all.1 goes)))

@@ -1,4 +1,5 @@
-use Rattle.std.proofs.Common.{◌≡◌, ◌∙◌, ◌-◌, ◌≤◌, ◌∷◌, [], true, false, length, ap, sym, subst, refl, arith}
+use Rattle.std.proofs.Common.{◌≡◌, ◌∙◌, ◌-◌, ◌≤◌, ◌∷◌, [], true, false, length, ap, sym, subst, refl, arith, inl, inr}
+use Rattle.std.proofs.lemmas.Bool.{cases_lt, false≢true}
 use Rattle.vr_model.specs.schedules.Lines.{line}
 use Rattle.vr_model.proofs.tables.Tests.{clash}
 use Rattle.vr_model.proofs.schedules.LineArcs.{arcs_of_line}
@@ -7,13 +8,15 @@ use Rattle.vr_steps.specs.Levels.{level_at}
 use Rattle.vr_steps.proofs.LevelLemmas.{level_is}
 use Rattle.vr_walks.proofs.LineParts.{feasible_as_tested, sound_line}
 use Rattle.vr_walks.proofs.ProbeLemmas.{accepted, refused}
-use Rattle.vr_walks.proofs.SingleLemmas.{run_reached}
+use Rattle.vr_walks.specs.Alone.{GoesAlone}
+use Rattle.vr_walks.proofs.AloneLemmas.{alone_where}
+use Rattle.vr_walks.proofs.SingleLemmas.{alone_in, run_reached}
 use Rattle.vr_walks.proofs.TryLemmas.{first_try, all_tries}
 use Rattle.vr_walks.proofs.probing.told_without_breaks.Goals as goal
 
 pub carry_run-run-requires-clause-from : goal.carry_run-run-requires-clause-from
 carry_run-run-requires-clause-from g c =
-    run_reached (line c.args.model.now c.args.d c.args.v c.args.list.now) c.args.begin 0 c.args.from.now c.in_ok-begun.begun (omega arith) c.requires.from c.in_ok-begun.ensures
+    run_reached (line c.args.model.now c.args.d c.args.v c.args.list.now) c.args.begin 0 c.args.from.now c.in_ok-begun.begun (omega arith) c.requires.from c.in_ok-begun.ensures.run
 
 pub returns-then-not-shares_with-clause-told : goal.returns-then-not-shares_with-clause-told
 returns-then-not-shares_with-clause-told g c =
@@ -66,3 +69,28 @@ returns-then-goes-2-clause-count g c =
 pub returns-clause-count : goal.returns-clause-count
 returns-clause-count g c =
     all_tries (length (line c.args.model.now c.args.d c.args.v c.args.list.now).breaks) (c.args.last - c.args.begin) c.args.tries.now c.carry_run-run.ensures.arcs c.goes_with_some-goes.ensures.count
+
+pub returns-clause-untold : goal.returns-clause-untold
+returns-clause-untold g c = λ none tried.
+    let m = c.args.model.now in
+    let L = line m c.args.d c.args.v c.args.list.now in
+    let to = c.args.to.now in
+    let run = c.carry_run-run.result in
+    let all : length L.breaks ≡ c.len-all.result - 1 = (let n = c.requires.to_form.one_more in let same = ap length c.requires.ends.breaks_are.same in let len = c.len-all.ensures in omega (arith, n, same, len)) in
+    let there = ap (level_at to) all ∙ level_is to (c.len-all.result - 1) c.level.result.now c.level.ensures in
+    let first = level_is to 0 c.level-2.result.now c.level-2.ensures in
+    let shared = subst (ShareANumber (run ∷ [])) (sym there) (c.shares_with.ensures.0 c.if-not-shares_with.false) in
+    let alone = alone_where L c.args.from.now to c.args.begin c.args.last 0 c.in_ok-begun.begun run (sym c.in_ok-begun.ensures.known) c.in_ok-begun.ensures.run c.carry_run-run.ensures.led in
+    record {
+      cumul = shared.0;
+      reached = c.carry_run-run.ensures.reached.reached shared.0 (alone_in run shared.0 shared.1);
+      reaches = (c.requires.to (length L.breaks) (omega arith) shared.0).0 shared.2;
+      none = λ b few goes. elim (cases_lt 0 b) [
+        | inl some ↦ false≢true (sym c.if-goes-2.false ∙ c.goes_with_some-goes.ensures.exact.1 (b, omega (arith, some), few, goes))
+        | inr past ↦ (
+            let here : b ≡ 0 = omega (arith, past) in
+            let served = c.shares_with-goes.ensures.1 (subst (ShareANumber (run ∷ [])) first (alone.1 (subst (GoesAlone L c.args.from.now to c.args.begin c.args.last) here goes))) in
+            false≢true (sym c.if-goes.false ∙ served)
+            )
+      ];
+    }

@@ -1,6 +1,7 @@
-use Rattle.std.proofs.Common.{◌≡◌, ◌<◌, ℕ, [], length, get_or}
+use Rattle.std.proofs.Common.{◌≡◌, ◌<◌, ℕ, [], true, length, take, get_or}
+use Rattle.std.specs.List.{list_all}
 use Rattle.vr_spans.specs.declared.runs.Run.{Run}
-use Rattle.vr_walks.specs.VisitRuns.{IsRunOf}
+use Rattle.vr_walks.specs.VisitRuns.{is_single, IsRunOf}
 use Rattle.vr_walks.proofs.runs.runs_of.Given as goal
 
 -- the runs of the sets so far
@@ -8,4 +9,5 @@ abbrev pub invariant-loop-k : goal.invariant-loop-k
 invariant-loop-k l = record {
   one_of_each : length l.runs ≡ l.k;
   each : (j : ℕ) (other : Run) → j < length l.runs → IsRunOf (get_or l.sets j []) (get_or l.runs j other);
+  single : list_all is_single (take l.k l.sets) ≡ true;
 }

@@ -1,5 +1,8 @@
-use Rattle.std.proofs.Common.{◌≡◌, ◌+◌, ◌<◌, ◌≤◌}
+use Rattle.std.proofs.Common.{◌≡◌, ◌+◌, ◌-◌, ◌<◌, ◌≤◌, ℤ}
+use Rattle.std.specs.Prelude.{IsTrue, ◌↔◌}
+use Rattle.vr_spans.specs.Runs.{in_run}
 use Rattle.vr_model.specs.schedules.Lines.{line}
+use Rattle.vr_walks.specs.Alone.{IsLedTo}
 use Rattle.vr_walks.specs.Counts.{steps_between}
 use Rattle.vr_walks.specs.Lists.{node_at_stop}
 use Rattle.vr_walks.specs.Singles.{IsCumulRun, IsReachedRun}
@@ -14,6 +17,7 @@ invariant-loop-k g l = record {
   below : l.origin < l.model.nodes;
   cumuls : IsCumulRun l.run;
   reached : IsReachedRun (line l.model l.d l.v l.list) l.k l.taken l.run;
+  led : (y : ℤ) → IsTrue (in_run l.run y) ↔ IsLedTo (line l.model l.d l.v l.list) (in_run l.fn.from) l.begin (l.k - l.begin) y;
   count : l.taken ≡ 0 → l.steps + steps_between (line l.model l.d l.v l.list) l.k l.last ≤ l.fn.steps + steps_between (line l.model l.d l.v l.list) l.begin l.last;
   arcs : l.steps + l.begin ≤ l.fn.steps + l.k;
 }

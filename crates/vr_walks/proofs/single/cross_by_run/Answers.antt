@@ -1,6 +1,10 @@
-use Rattle.std.proofs.Common.{◌≡◌, ◌∙◌, ◌+ℤ◌, ◌≤ℤ◌, ℤ, to_z, of_z, w64, pos, neg_ℤ, ◌^◌, ap, ap₂, arith}
+use Rattle.std.proofs.Common.{◌≡◌, ◌∙◌, ◌+ℤ◌, ◌≤ℤ◌, ℤ, to_z, of_z, w64, pos, neg_ℤ, ◌^◌, ap, ap₂, ◌+◌, suc, subst, arith}
 use Rattle.std.specs.Int.{int_max, int_min}
 use Rattle.std.proofs.lemmas.Int.{ints}
+use Rattle.vr_model.specs.schedules.Lines.{line}
+use Rattle.vr_walks.specs.VisitRuns.{IsAllowedRun}
+use Rattle.vr_walks.proofs.AloneLemmas.{crossed}
+use Rattle.vr_walks.proofs.LineParts.{way_of}
 use Rattle.vr_walks.proofs.SingleLemmas.{run_next, cumuls_behind}
 use Rattle.vr_walks.proofs.single.cross_by_run.Goals as goal
 
@@ -35,3 +39,13 @@ returns-clause-reached c =
 
 pub returns-clause-cumuls : goal.returns-clause-cumuls
 returns-clause-cumuls c = λ some. cumuls_behind c.args.run c.args.ahead.allowed c.run_behind.result c.transit_by-transit.result c.args.slack c.requires.allowed.ends (lo_is c) (hi_is c) some
+
+pub returns-clause-led : goal.returns-clause-led
+returns-clause-led c =
+    let m = c.args.model.now in
+    let list = c.args.list.now in
+    let L = line m c.args.d c.args.v list in
+    let next : c.args.k + 1 ≡ suc c.args.k = omega arith in
+    let way = way_of m c.args.d c.args.v list c.args.k c.args.origin c.args.ahead.node c.requires.arc c.requires.origin c.requires.target c.transit_by-transit.result c.transit_by-transit.ensures.value in
+    crossed L c.args.k c.args.run c.args.ahead.allowed c.run_behind.result c.transit_by-transit.result c.args.slack c.requires.cumuls.some c.requires.slack_range.at_least (lo_is c) (hi_is c)
+    (subst (λ i. IsAllowedRun L i c.args.ahead.allowed) next c.requires.allowed) way c.requires.slack

@@ -12,5 +12,5 @@ returns-then-is_stuck c = λ t v list k low used within at.
     let here : List (List Run) = c.index.result.now in
     let low_d : c.loop-d.d < length model.dimensions = omega (arith, c.loop-d-test.true, c.len-d-end.ensures) in
     one_fails (λ d. is_feasible (line model d v list)) (length model.dimensions) c.loop-d.d low_d
-    (c.is_stuck.ensures c.if-is_stuck.true model c.loop-d.d v list k c.requires.well_formed low_d low used within
+    (c.is_stuck.ensures.no_end c.if-is_stuck.true model c.loop-d.d v list k c.requires.well_formed low_d low used within
     (subst (IsReachedAt model c.loop-d.d v list k) (sym c.index.ensures) (at.each c.loop-d.d here low_d)))

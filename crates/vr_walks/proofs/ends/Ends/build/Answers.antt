@@ -13,7 +13,7 @@ returns c =
     let same = c.of-breaks.ensures.exact ∙ ap (λ dimension. breaks_of dimension c.args.v) (sym (c.get.ensures.value no_dimension)) in
     record {
       breaks_are = record { same = same; few = c.of-breaks.ensures.few; valid = c.of-breaks.ensures.valid };
-      start_set_is = record { exact = c.in_ok-start_set.ensures.exact; cumuls = c.in_ok-start_set.ensures.cumuls };
+      start_set_is = record { exact = c.in_ok-start_set.ensures.exact; cumuls = c.in_ok-start_set.ensures.cumuls; normal = c.in_ok-start_set.ensures.normal };
       start_form = c.in_ok-start_levels.ensures.levels;
       start_is = λ list used. c.start_is_reached.ensures (line m c.args.d c.args.v list) (sound_line c.lines_are_sound.ensures m c.requires.well_formed c.args.d c.args.v c.requires.dimension c.requires.vehicle list used)
           c.in_ok-start_set.start_set c.in_ok-start_levels.start_levels (record { exact = c.in_ok-start_set.ensures.exact; cumuls = c.in_ok-start_set.ensures.cumuls })
@@ -26,5 +26,5 @@ returns c =
           c.in_ok-end_set.end_set c.in_ok-end_levels.end_levels
           (subst (λ k. IsAllowedSet (line m c.args.d c.args.v list) k c.in_ok-end_set.end_set) (sym n) (end_allows m c.args.d c.args.v list c.in_ok-end_set.end_set c.in_ok-end_set.ensures.exact c.in_ok-end_set.ensures.cumuls))
           (subst (λ rows. AreEndLevels c.in_ok-end_set.end_set rows c.in_ok-end_levels.end_levels) same c.in_ok-end_levels.ensures.exact));
-      end_set_is = record { exact = c.in_ok-end_set.ensures.exact; cumuls = c.in_ok-end_set.ensures.cumuls };
+      end_set_is = record { exact = c.in_ok-end_set.ensures.exact; cumuls = c.in_ok-end_set.ensures.cumuls; normal = c.in_ok-end_set.ensures.normal };
     }
