@@ -1,47 +1,59 @@
 -- What a change makes of a list is timed by what it keeps.
-use Rattle.std.proofs.Common.{◌≡◌, ◌∙◌, ◌+◌, ◌<◌, ◌≤◌, ◌++◌, ℕ, List, [], Some, length, reverse, take, drop, ap, ap₂, sym, subst, arith, to_z, of_z, w64}
-use Rattle.std.specs.Prelude.{All, slice_index_or}
+use Rattle.std.proofs.Common.{◌≡◌, ◌∙◌, ◌+◌, ◌<◌, ◌≤◌, ◌++◌, ℕ, List, [], Some, length, refl, reverse, take, drop, ap, ap₂, sym, subst, arith, to_z, of_z, w64}
+use Rattle.std.specs.Prelude.{All, FitsSigned, ℤ, neg_ℤ, option_map, pos, slice_index_or, ◌*◌, ◌+ℤ◌, ◌≤ℤ◌}
+use Rattle.std.proofs.lemmas.Int.{ints}
 use Rattle.std.proofs.lemmas.List.{drop-map, get_or-drop, map-append, reverse-append, reverse-reverse, take-append-drop}
 use Rattle.std.proofs.lemmas.List.Elements.{All-append}
 use Rattle.vr_model.specs.schedules.ChosenLaws.{ChosenIsLeast}
-use Rattle.vr_model.specs.schedules.Lines.{line}
-use Rattle.vr_model.specs.schedules.Narrowed.{narrowed}
-use Rattle.vr_model.specs.tables.Tables.{vehicle_at}
-use Rattle.vr_model.specs.tables.WellFormed.{IsWellFormed}
+use Rattle.vr_model.specs.schedules.Narrowed.{chosen_line}
+use Rattle.vr_model.specs.tables.WellFormed.{IsIn, IsWellFormed}
 use Rattle.vr_model.specs.declared.records.Model.{Model}
-use Rattle.vr_model.specs.declared.records.ScheduleRule.TheVariants.{Earliest}
-use Rattle.vr_walks.specs.Lists.{IsUsed}
+use Rattle.vr_spans.specs.declared.runs.Run.{Run}
+use Rattle.vr_timings.specs.Bounds.{cumul_cost}
 use Rattle.vr_cumuls.specs.Floors.{end_step, first_of, AreAimed, IsVisitStep, WentBack}
-use Rattle.vr_cumuls.specs.Kept.{AreSteps, HasMet}
-use Rattle.vr_cumuls.specs.Runs.{Runs, AreRuns}
-use Rattle.vr_cumuls.specs.Stages.{along, setting_out, whole}
+use Rattle.vr_cumuls.specs.Steps.{AreSteps, HasLed, HasSetOut}
+use Rattle.vr_cumuls.specs.Runs.{starting, Runs, AllowsRuns}
+use Rattle.vr_cumuls.specs.Stages.{along, paid_more, setting_out, whole}
 use Rattle.vr_cumuls.specs.declared.guides.Stage.{Stage}
-use Rattle.vr_cumuls.specs.declared.kept.Outset.{Outset}
+use Rattle.vr_cumuls.specs.declared.steps.Lead.{Lead}
+use Rattle.vr_cumuls.specs.declared.steps.Outset.{Outset}
 use Rattle.vr_cumuls.specs.declared.trails.Step.{Step}
 use Rattle.vr_cumuls.proofs.FloorLemmas.{aimed-append, aimed-right, first-append}
-use Rattle.vr_cumuls.proofs.StageLemmas.{along-append, whole-append}
-use Rattle.vr_cumuls.proofs.RunLemmas.{line-allows}
-use Rattle.vr_cumuls.proofs.TimingLemmas.{timed, IsTimed}
+use Rattle.vr_cumuls.proofs.StageLemmas.{along-append, whole-append, whole-shift}
+use Rattle.vr_cumuls.proofs.TimingLemmas.{soft-high, soft-low, timed, IsTimed}
+
+-- what is read of a cost, and of more
+pub record IsRead (soft more : ℤ) : Type 0 where
+  pub fits : FitsSigned w64 (to_z w64 (of_z w64 soft) +ℤ to_z w64 (of_z w64 more))
+  pub read : to_z w64 (of_z w64 (to_z w64 (of_z w64 soft) +ℤ to_z w64 (of_z w64 more))) ≡ to_z w64 (of_z w64 (soft +ℤ more))
+
+pub read-more : (soft more : ℤ) (n : ℕ) → n ≤ 1000 → pos 0 ≤ℤ (soft +ℤ more) → (soft +ℤ more) ≤ℤ pos (cumul_cost * (n + 2)) → IsIn (neg_ℤ (pos (cumul_cost * 1002))) (pos (cumul_cost * 1002)) more → IsRead soft more
+read-more soft more n few low high range =
+    let a = range.at_least in
+    let b = range.at_most in
+    let x : to_z w64 (of_z w64 soft) ≡ soft = omega (arith, ints, few, low, high, a, b) in
+    let y : to_z w64 (of_z w64 more) ≡ more = omega (arith, ints, a, b) in
+    record { fits = omega (arith, ints, x, y, few, low, high); read = ap₂ (λ (p q : ℤ). to_z w64 (of_z w64 (p +ℤ q))) x y }
 
 -- what is on a trail, back along the middle of a list and then along a part of its front
-trail-is : (model : Model) (d v : ℕ) (runs : Runs) (nodes middle : List ℕ) (next first : Step) (between trail : List Step) (met : Outset) (back : WentBack model d v runs middle next [] between first) (meets : HasMet model d v runs nodes first between trail met)
-    → reverse trail ≡ meets.steps ++ back.steps
-trail-is model d v runs nodes middle next first between trail met back meets =
-    ap reverse (meets.trail ∙ ap (λ l. l ++ reverse meets.steps) back.trail) ∙ reverse-append (reverse back.steps) (reverse meets.steps)
-    ∙ ap₂ (λ (xs ys : List Step). xs ++ ys) (reverse-reverse meets.steps) (reverse-reverse back.steps)
+trail-is : (model : Model) (d v : ℕ) (runs : Runs) (kept : List Step) (nodes middle : List ℕ) (next first : Step) (between trail : List Step) (lead : Lead) (back : WentBack model d v runs middle next [] between first) (led : HasLed model d v runs kept nodes first between trail lead)
+    → reverse trail ≡ led.steps ++ back.steps
+trail-is model d v runs kept nodes middle next first between trail lead back led =
+    ap reverse (led.trail ∙ ap (λ l. l ++ reverse led.steps) back.trail) ∙ reverse-append (reverse back.steps) (reverse led.steps)
+    ∙ ap₂ (λ (xs ys : List Step). xs ++ ys) (reverse-reverse led.steps) (reverse-reverse back.steps)
 
-pub trail-known : (model : Model) (d v : ℕ) (runs : Runs) (nodes middle : List ℕ) (next first : Step) (between trail : List Step) (met : Outset) → WentBack model d v runs middle next [] between first → HasMet model d v runs nodes first between trail met
-    → All (IsVisitStep model) (reverse trail)
-trail-known model d v runs nodes middle next first between trail met back meets =
-    subst (All (IsVisitStep model)) (sym (trail-is model d v runs nodes middle next first between trail met back meets)) (All-append (IsVisitStep model) meets.steps back.steps meets.known back.known)
+pub trail-known : (model : Model) (d v : ℕ) (runs : Runs) (kept : List Step) (nodes middle : List ℕ) (next first : Step) (between trail : List Step) (lead : Lead) → WentBack model d v runs middle next [] between first
+    → HasLed model d v runs kept nodes first between trail lead → All (IsVisitStep model) (reverse trail)
+trail-known model d v runs kept nodes middle next first between trail lead back led =
+    subst (All (IsVisitStep model)) (sym (trail-is model d v runs kept nodes middle next first between trail lead back led)) (All-append (IsVisitStep model) led.steps back.steps led.known back.known)
 
 -- a list keeps the front and the end of an old one: new steps were put on a trail back along its middle and along a part of the front, then gone along
 module _ (model : Model) (d v : ℕ) (runs : Runs) (old : List ℕ) (steps : List Step) (steps_are : AreSteps model d v runs old steps) (new : List ℕ) (front behind : ℕ) (middle : List ℕ) (joins : new ≡ take front old ++ (middle ++ drop behind old))
     (next first : Step) (between trail : List Step) (next_is : next ≡ slice_index_or steps behind (end_step model v runs)) (back : WentBack model d v runs middle next [] between first)
-    (met : Outset) (meets : HasMet model d v runs (take front old) first between trail met) (gone end : Stage) (anew : along model d v runs (Some met.stage) (reverse trail) ≡ Some gone)
-    (rest : whole model d v runs (Some gone) (drop behind steps) ≡ Some end) where
-  abbrev kept : List Step
-  kept = meets.kept ++ meets.steps
+    (lead : Lead) (led : HasLed model d v runs steps (take front old) first between trail lead) (start : Run) (met : Outset) (out : HasSetOut model d v runs start steps lead met) (gone end : Stage)
+    (anew : along model d v runs (Some met.stage) (reverse trail) ≡ Some gone) (rest : whole model d v runs (Some gone) (drop behind steps) ≡ Some end) where
+  abbrev fronts : List Step
+  fronts = take lead.place steps ++ led.steps
 
   abbrev left : List Step
   left = back.steps ++ drop behind steps
@@ -49,34 +61,58 @@ module _ (model : Model) (d v : ℕ) (runs : Runs) (old : List ℕ) (steps : Lis
   abbrev last : Step
   last = end_step model v runs
 
+  -- the runs by which it sets out
+  abbrev by : Runs
+  by = starting runs start
+
   next-first : first_of (drop behind steps) last ≡ next
   next-first = get_or-drop behind steps 0 last ∙ ap (λ n. slice_index_or steps n last) (let e : behind + 0 ≡ behind = omega arith in e) ∙ sym next_is
 
   left-first : first_of left last ≡ first
   left-first = first-append back.steps (drop behind steps) last ∙ ap (first_of back.steps) next-first ∙ sym back.first_is
 
-  new-steps : AreSteps model d v runs new (kept ++ left)
+  aimed : AreAimed model d v runs (fronts ++ left) last
+  aimed = aimed-append model d v runs fronts left last (subst (AreAimed model d v runs fronts) (sym left-first) led.aimed)
+      (aimed-append model d v runs back.steps (drop behind steps) last (subst (AreAimed model d v runs back.steps) (sym next-first) back.aimed)
+      (aimed-right model d v runs (take behind steps) (drop behind steps) last (subst (λ l. AreAimed model d v runs l last) (sym (take-append-drop behind steps)) steps_are.aimed)))
+
+  new-steps : AreSteps model d v (starting runs start) new (fronts ++ left)
   new-steps = record {
-    nodes_are = map-append (λ (s : Step). s.node) kept left
-        ∙ ap₂ (λ (xs ys : List ℕ). xs ++ ys) meets.nodes_are (map-append (λ (s : Step). s.node) back.steps (drop behind steps)
+    nodes_are = map-append (λ (s : Step). s.node) fronts left
+        ∙ ap₂ (λ (xs ys : List ℕ). xs ++ ys) led.nodes_are (map-append (λ (s : Step). s.node) back.steps (drop behind steps)
         ∙ ap₂ (λ (xs ys : List ℕ). xs ++ ys) back.nodes_are (sym (drop-map (λ (s : Step). s.node) behind steps) ∙ ap (drop behind) steps_are.nodes_are)) ∙ sym joins;
-    aimed = aimed-append model d v runs kept left last (subst (AreAimed model d v runs kept) (sym left-first) meets.aimed)
-        (aimed-append model d v runs back.steps (drop behind steps) last (subst (AreAimed model d v runs back.steps) (sym next-first) back.aimed)
-        (aimed-right model d v runs (take behind steps) (drop behind steps) last (subst (λ l. AreAimed model d v runs l last) (sym (take-append-drop behind steps)) steps_are.aimed)));
+    aimed = record { each = aimed.each };
   }
 
-  out : setting_out model d v runs (first_of (kept ++ left) (end_step model v runs)) ≡ Some meets.first
-  out = ap (setting_out model d v runs) (first-append kept left last ∙ ap (first_of kept) left-first) ∙ meets.out
+  out-is : setting_out model d v (starting runs start) (first_of (fronts ++ left) (end_step model v (starting runs start))) ≡ Some out.first
+  out-is = ap (setting_out model d v (starting runs start)) (first-append fronts left last ∙ ap (first_of fronts) left-first ∙ sym led.first_is) ∙ out.out
 
-  whole-is : whole model d v runs (setting_out model d v runs (first_of (kept ++ left) (end_step model v runs))) (kept ++ left) ≡ Some end
-  whole-is =
-      ap (λ o. whole model d v runs o (kept ++ left)) out ∙ whole-append model d v runs (Some meets.first) kept left
-      ∙ ap (λ o. whole model d v runs o left) (along-append model d v runs (Some meets.first) meets.kept meets.steps ∙ ap (λ o. along model d v runs o meets.steps) meets.gone)
-      ∙ whole-append model d v runs (along model d v runs (Some met.stage) meets.steps) back.steps (drop behind steps)
-      ∙ ap (λ o. whole model d v runs o (drop behind steps)) (sym (along-append model d v runs (Some met.stage) meets.steps back.steps) ∙ ap (along model d v runs (Some met.stage)) (sym (trail-is model d v runs (take front old) middle next first between trail met back meets)) ∙ anew) ∙ rest
+  -- from the stage that was met
+  behind-met : whole model d v runs (Some met.stage) (led.steps ++ left) ≡ Some end
+  behind-met =
+      whole-append model d v runs (Some met.stage) led.steps left
+      ∙ whole-append model d v runs (along model d v runs (Some met.stage) led.steps) back.steps (drop behind steps)
+      ∙ ap (λ o. whole model d v runs o (drop behind steps)) (sym (along-append model d v runs (Some met.stage) led.steps back.steps) ∙ ap (along model d v runs (Some met.stage)) (sym (trail-is model d v runs steps (take front old) middle next first between trail lead back led)) ∙ anew) ∙ rest
 
-  pub after-timed : ChosenIsLeast → IsWellFormed model → d < length model.dimensions → AreRuns model d v runs → (vehicle_at model v).schedule ≡ Earliest → IsUsed model new → length new ≤ 1000
-      → IsTimed model d v new (record { soft = to_z w64 (of_z w64 end.soft); start = to_z w64 (of_z w64 met.start); last = to_z w64 (of_z w64 end.cumul) })
-  after-timed law well dimension are rule used few =
-      timed model well d v dimension runs new (line model d v new) (line-allows model d v runs are new used.tour) (kept ++ left) new-steps law (ap (λ r. narrowed r (line model d v new)) rule)
-      meets.first end out whole-is few met.start meets.start
+  -- and from the start
+  from-start : whole model d v runs (Some out.first) (fronts ++ left) ≡ Some (paid_more met.more end)
+  from-start =
+      whole-append model d v runs (Some out.first) fronts left
+      ∙ ap (λ o. whole model d v runs o left) (along-append model d v runs (Some out.first) (take lead.place steps) led.steps ∙ ap (λ o. along model d v runs o led.steps) out.paced.gone)
+      ∙ sym (whole-append model d v runs (Some (paid_more met.more met.stage)) led.steps left)
+      ∙ whole-shift model d v runs met.more (Some met.stage) (led.steps ++ left) ∙ ap (option_map (paid_more met.more)) behind-met
+
+  whole-is : whole model d v (starting runs start) (setting_out model d v (starting runs start) (first_of (fronts ++ left) (end_step model v (starting runs start)))) (fronts ++ left) ≡ Some (paid_more met.more end)
+  whole-is = ap (λ o. whole model d v (starting runs start) o (fronts ++ left)) out-is ∙ from-start
+
+  module _ (law : ChosenIsLeast) (well : IsWellFormed model) (dimension : d < length model.dimensions) (allows : AllowsRuns model d v (starting runs start) new (chosen_line model d v new)) where
+    -- what soft upper bounds cost in all
+    pub after-low : pos 0 ≤ℤ (end.soft +ℤ met.more)
+    after-low = soft-low model well d v dimension (starting runs start) new (chosen_line model d v new) allows (fronts ++ left) new-steps law refl out.first (paid_more met.more end) out-is whole-is
+
+    pub after-high : (end.soft +ℤ met.more) ≤ℤ pos (cumul_cost * (length new + 2))
+    after-high = soft-high model well d v dimension (starting runs start) new (chosen_line model d v new) allows (fronts ++ left) new-steps law refl out.first (paid_more met.more end) out-is whole-is
+
+    pub after-timed : length new ≤ 1000 → IsTimed model d v new (record { soft = to_z w64 (of_z w64 (end.soft +ℤ met.more)); start = to_z w64 (of_z w64 met.start); last = to_z w64 (of_z w64 end.cumul) })
+    after-timed few =
+        timed model well d v dimension (starting runs start) new (chosen_line model d v new) allows (fronts ++ left) new-steps law refl out.first (paid_more met.more end) out-is whole-is few met.start out.paced.start

@@ -9,7 +9,7 @@ use Rattle.vr_model.specs.tables.Tables.{vehicle_at}
 use Rattle.vr_model.specs.tables.WellFormed.{IsWellFormed}
 use Rattle.vr_model.specs.declared.records.Model.{Model}
 use Rattle.vr_cumuls.specs.Floors.{end_step, first_of, floor_of, AreAimed, IsVisitStep, WentBack}
-use Rattle.vr_cumuls.specs.Kept.{AreSteps}
+use Rattle.vr_cumuls.specs.Steps.{AreSteps}
 use Rattle.vr_cumuls.specs.Runs.{Runs, AllowsRuns}
 use Rattle.vr_cumuls.specs.Stages.{along, setting_out, standing, to_end, whole}
 use Rattle.vr_cumuls.specs.declared.guides.Stage.{Stage}

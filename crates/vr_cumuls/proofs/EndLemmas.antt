@@ -23,7 +23,7 @@ same-or-sooner k i le = Prim.grind arith
 module _ (line : Line) (runs : List Run) (are : HasRuns line runs) where
   -- ---- what bounds schedules
 
-  bounds : (plan : Plan) → IsSchedule line plan → (k : ℕ) → k ≤ length line.arcs → ((run_at runs k).lo ≤ℤ cumul plan k) × (cumul plan k ≤ℤ (run_at runs k).hi)
+  pub bounds : (plan : Plan) → IsSchedule line plan → (k : ℕ) → k ≤ length line.arcs → ((run_at runs k).lo ≤ℤ cumul plan k) × (cumul plan k ≤ℤ (run_at runs k).hi)
   bounds plan s k le =
       within-run (cumul plan k) (s.cumuls_allowed k (let m = are.stops in omega (arith, m, le)))
     where

@@ -10,7 +10,7 @@ use Rattle.vr_model.specs.declared.records.Model.{Model}
 use Rattle.vr_model.proofs.routes.Lists.{visit_below}
 use Rattle.vr_cumuls.specs.Runs.{Runs, no_run}
 use Rattle.vr_cumuls.specs.Floors.{before, first_of, floor_before, floor_in, floor_of, AreAimed, IsStep, IsVisitStep, WentBack}
-use Rattle.vr_cumuls.specs.Kept.{AreSteps}
+use Rattle.vr_cumuls.specs.Steps.{AreSteps}
 use Rattle.vr_cumuls.specs.declared.trails.Step.{Step}
 
 -- ---- answers, and lists from their ends

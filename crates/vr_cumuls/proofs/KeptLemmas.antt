@@ -1,23 +1,28 @@
 -- What is kept of lists, written stage by stage, and after a list is replaced.
-use Rattle.std.proofs.Common.{◌≡◌, ◌∙◌, inl, inr, ℕ, zero, suc, false, true, ◌+◌, ◌<◌, ◌≤◌, List, [], ◌∷◌, ◌++◌, length, length-set, reverse, take, drop, refl, sym, ap, subst, add-one, arith, Option, Some, None}
+use Rattle.std.proofs.Common.{◌≡◌, ◌∙◌, inl, inr, ℕ, zero, suc, ◌+◌, ◌<◌, ◌≤◌, List, [], ◌∷◌, ◌++◌, length, length-set, reverse, take, drop, refl, sym, ap, subst, add-one, arith, Option, Some, None}
 use Rattle.std.specs.Prelude.{All, IsTrue, ℤ, pos, option_map, slice_index_or, slice_set}
 use Rattle.std.specs.List.{list_all}
-use Rattle.std.proofs.lemmas.Bool.{and_parts, cases_lt, false≢true}
-use Rattle.std.proofs.lemmas.List.{take-append-drop, get_or_append_left, get_or_push, length-reverse, take_all}
+use Rattle.std.proofs.lemmas.Bool.{and_parts, cases_lt}
+use Rattle.std.proofs.lemmas.List.{take-append-drop, get_or-set_same, get_or_append_left, get_or_push, length-reverse, take_all}
 use Rattle.std.proofs.lemmas.List.Elements.{All-take}
 use Rattle.std.proofs.lemmas.List.Sums.{fold_more}
 use Rattle.std.specs.Option.{option_and_then}
 use Rattle.vr_model.specs.moves.Moves.{with_route}
-use Rattle.vr_model.specs.tables.Tables.{dimension_at, is_visit, vehicle_at}
+use Rattle.vr_model.specs.tables.Tables.{is_visit, vehicle_at}
 use Rattle.vr_model.specs.declared.records.Model.{Model}
 use Rattle.vr_model.proofs.routes.Lists.{route_set_other}
+use Rattle.vr_model.specs.declared.records.ScheduleRule.TheVariants.{Earliest, Tight}
 use Rattle.vr_parts.proofs.RowLemmas.{set-at}
 use Rattle.vr_cumuls.specs.Floors.{end_step, first_of, floor_of, AreAimed, IsVisitStep}
-use Rattle.vr_cumuls.specs.Runs.{Runs, AreRuns}
+use Rattle.vr_cumuls.specs.Runs.{between_runs, Runs, AreRuns}
 use Rattle.vr_cumuls.specs.Stages.{along, setting_out, standing, to_end, to_visit, visit_more, whole, IsStageOf}
-use Rattle.vr_cumuls.specs.Kept.{steps_of, AreAllStages, AreKept, AreStages, AreSteps, CostsNoSoft, IsKept}
+use Rattle.vr_cumuls.specs.Ends.{AreEnds, HaveEnds}
+use Rattle.vr_cumuls.specs.Kept.{AreAsMany, AreKept, IsKept}
+use Rattle.vr_cumuls.specs.Steps.{steps_of, AreAllStages, AreStages, AreSteps, HasStages}
+use Rattle.vr_cumuls.specs.declared.ends.KeptEnds.{KeptEnds}
 use Rattle.vr_cumuls.specs.declared.guides.Stage.{Stage}
 use Rattle.vr_cumuls.specs.declared.kept.Kept.{Kept}
+use Rattle.vr_cumuls.specs.declared.steps.KeptSteps.{KeptSteps}
 use Rattle.vr_cumuls.specs.declared.trails.Step.{Step}
 use Rattle.vr_cumuls.proofs.FloorLemmas.{aimed-left, many-steps}
 use Rattle.vr_cumuls.proofs.RunLemmas.{end-some, finish-run, same-aimed, same-along, same-end, same-end-step, same-out, start-run, start-some}
@@ -120,14 +125,14 @@ all-visits model (x ∷ xs) all (suc k) other low = all-visits model xs (and_par
 all-visits model [] all k other low = absurd (omega (arith, low))
 
 -- what is kept by one table is kept by each
-pub kept-so : (model : Model) (d v : ℕ) (runs : Runs) → AreRuns model d v runs → (list : List ℕ) (kept : Kept) → AreAllStages model d v runs list (steps_of kept) kept.stages.items → kept.soft ≡ true → IsKept model d v list kept
-kept-so model d v runs of_these list kept are soft = record { told = λ many others of_others. by_others many others of_others; soft = λ none. absurd (false≢true (sym none ∙ soft)) }
+pub stages-so : (model : Model) (d v : ℕ) (runs others : Runs) → AreRuns model d v runs → AreRuns model d v others → (list : List ℕ) (kept : KeptSteps) → HasStages model d v runs list kept → HasStages model d v others list kept
+stages-so model d v runs others of_these of_others list kept is = record { told = λ many. by_others (is.told many) }
   where
     none : Stage
     none = record { at = 0; cumul = pos 0; soft = pos 0 }
 
-    by_others : length kept.stages.items ≡ suc (suc (length list)) → (others : Runs) → AreRuns model d v others → AreAllStages model d v others list (steps_of kept) kept.stages.items
-    by_others many others of_others =
+    by_others : AreAllStages model d v runs list (steps_of kept) kept.stages.items → AreAllStages model d v others list (steps_of kept) kept.stages.items
+    by_others are =
         let steps : List Step = steps_of kept in
         let end : Step = end_step model v runs in
         let first : Step = first_of steps end in
@@ -154,9 +159,50 @@ kept-so model d v runs of_these list kept are soft = record { told = λ many oth
           end_range = are.end_range;
         }
 
+-- so is what is kept between two cumuls of the ends
+pub stages-between : (model : Model) (d v : ℕ) (runs others : Runs) → AreRuns model d v runs → AreRuns model d v others → (s e : ℤ) (list : List ℕ) (kept : KeptSteps)
+    → HasStages model d v (between_runs runs s e) list kept → HasStages model d v (between_runs others s e) list kept
+stages-between model d v runs others of_these of_others s e list kept is = record { told = λ many. by_others (is.told many) }
+  where
+    by_others : AreAllStages model d v (between_runs runs s e) list (steps_of kept) kept.stages.items → AreAllStages model d v (between_runs others s e) list (steps_of kept) kept.stages.items
+    by_others are =
+        let steps : List Step = steps_of kept in
+        let end : Step = end_step model v (between_runs runs s e) in
+        let out : Option Stage = setting_out model d v (between_runs runs s e) (first_of steps end) in
+        let aimed : AreAimed model d v runs steps end = record { each = are.steps_are.aimed.each } in
+        let aimed_too = same-aimed model d v runs others of_these of_others steps end aimed are.known in
+        let gone : (k : ℕ) → along model d v runs out (take k steps) ≡ along model d v others out (take k steps) =
+        λ k. same-along model d v runs others of_these of_others out (take k steps) (first_of (drop k steps) end)
+        (aimed-left model d v runs (take k steps) (drop k steps) end (subst (λ l. AreAimed model d v runs l end) (sym (take-append-drop k steps)) aimed)) (All-take (IsVisitStep model) k steps are.known) in
+        let all = same-along model d v runs others of_these of_others out steps end aimed are.known in
+        record {
+          steps_are = record { nodes_are = are.steps_are.nodes_are; aimed = record { each = aimed_too.each } };
+          known = are.known;
+          stages_are = record {
+            each = λ k other le. sym (gone k) ∙ are.stages_are.each k other le;
+            at = λ k other less. are.stages_are.at k other less;
+            range = λ k other le. are.stages_are.range k other le;
+          };
+          end = λ other. sym (ap (option_and_then (to_end model d v (between_runs runs s e))) all) ∙ are.end other;
+          end_range = are.end_range;
+        }
+
+-- the two rules are not the same
+pub other-rule : Earliest ≡ Tight → ⊥
+other-rule e = Prim.cc
+
 -- nothing is told where there are too few stages
-pub kept-none : (model : Model) (d v : ℕ) (list : List ℕ) (kept : Kept) → length kept.stages.items ≤ suc (length list) → (kept.soft ≡ false → CostsNoSoft (dimension_at model d)) → IsKept model d v list kept
-kept-none model d v list kept few soft = record { told = λ many. absurd (omega (arith, few, many)); soft = soft }
+pub stages-none : (model : Model) (d v : ℕ) (runs : Runs) (list : List ℕ) (kept : KeptSteps) → length kept.stages.items ≤ suc (length list) → HasStages model d v runs list kept
+stages-none model d v runs list kept few = record { told = λ many. absurd (omega (arith, few, many)) }
+
+-- what is written of a list in place of the first, where there is one
+pub ends-set : (model : Model) (d v : ℕ) (list : List ℕ) (ends : List KeptEnds) (new : KeptEnds) → AreEnds model d v list new → HaveEnds model d v list (slice_set ends 0 new)
+ends-set model d v list ends new is = record {
+  first = λ other low. subst (AreEnds model d v list) (sym (get_or-set_same ends 0 new other (let n = length-set ends 0 new in omega (arith, n, low)))) is;
+}
+
+pub ends-none : (model : Model) (d v : ℕ) (list : List ℕ) (ends : List KeptEnds) → length ends ≡ 0 → HaveEnds model d v list ends
+ends-none model d v list ends none = record { first = λ other low. absurd (omega (arith, none, low)) }
 
 -- ---- a list is replaced
 
@@ -169,4 +215,14 @@ kept-set model d lists kept v list new h known low is =
 pub kept-stays : (model : Model) (d : ℕ) (lists : List (List ℕ)) (kept : List Kept) (v : ℕ) (list : List ℕ) → AreKept model d lists kept → length kept ≤ v → AreKept model d (with_route lists v list) kept
 kept-stays model d lists kept v list h high = record {
   each = λ u other under. subst (λ l. IsKept model d u l (slice_index_or kept u other)) (sym (route_set_other lists v u list (λ e. absurd (omega (arith, e, under, high))))) (h.each u other under);
+}
+
+-- something is kept of as many lists as it was before, and before that
+pub as-many-same : (kept : List (List Kept)) → AreAsMany kept kept
+as-many-same kept = record { many = refl; each = λ d other low. refl }
+
+pub as-many-then : (old next new : List (List Kept)) → AreAsMany old next → AreAsMany next new → AreAsMany old new
+as-many-then old next new first then = record {
+  many = then.many ∙ first.many;
+  each = λ d other low. then.each d other low ∙ first.each d other (let n = then.many in omega (arith, n, low));
 }

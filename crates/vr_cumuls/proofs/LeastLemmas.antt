@@ -22,7 +22,7 @@ use Rattle.vr_walks.proofs.EarlyLemmas.{at_new}
 use Rattle.vr_walks.proofs.LineParts.{end_node, hop_between_stops}
 use Rattle.vr_cumuls.specs.Runs.{Runs, AllowsRuns, no_run}
 use Rattle.vr_cumuls.specs.Floors.{end_step, floor_of}
-use Rattle.vr_cumuls.specs.Kept.{AreSteps}
+use Rattle.vr_cumuls.specs.Steps.{AreSteps}
 use Rattle.vr_cumuls.specs.declared.trails.Step.{Step}
 use Rattle.vr_cumuls.proofs.FloorLemmas.{before-had, floor-had, many-steps, node-of}
 use Rattle.vr_cumuls.proofs.RunLemmas.{stop-last, stop-visit}

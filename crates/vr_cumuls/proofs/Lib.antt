@@ -10,6 +10,8 @@ pub mod WayLemmas
 pub mod BetweenLemmas
 pub mod TightLemmas
 pub mod KeptLemmas
+pub mod RestLemmas
+pub mod EndsLemmas
 pub mod MetLemmas
 pub mod AfterLemmas
 pub mod AlongLemmas

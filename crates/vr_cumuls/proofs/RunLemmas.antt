@@ -143,7 +143,8 @@ module _ (model : Model) (d v : ℕ) (a b : Runs) (of_a : AreRuns model d v a) (
   pub finish-run : a.finish.lo ≤ℤ a.finish.hi → a.finish ≡ b.finish
   finish-run some = run-same a.finish b.finish (λ x. of_a.finish.exact x ∙ sym (of_b.finish.exact x)) some
 
-  visit-run : (node : ℕ) → IsTrue (is_visit model node) → (slice_index_or a.visits node no_run).lo ≤ℤ (slice_index_or a.visits node no_run).hi → slice_index_or a.visits node no_run ≡ slice_index_or b.visits node no_run
+  -- a visit that allows some cumul
+  pub visit-run : (node : ℕ) → IsTrue (is_visit model node) → (slice_index_or a.visits node no_run).lo ≤ℤ (slice_index_or a.visits node no_run).hi → slice_index_or a.visits node no_run ≡ slice_index_or b.visits node no_run
   visit-run node visit some =
       let low = visit_below model node visit in
       let p = of_a.visits.each node no_run (let n = of_a.visits.long in omega (arith, low, n)) visit in

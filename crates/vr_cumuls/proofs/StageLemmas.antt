@@ -1,6 +1,6 @@
 -- Going on along stops, and with another cost behind.
 use Rattle.std.proofs.Common.{◌≡◌, ◌∙◌, ◌+◌, ◌<◌, ◌≤◌, ℕ, drop, length, Bool, true, false, cond, List, [], ◌∷◌, ◌++◌, refl, sym, ap, ap₂, subst, arith, Option, Some, None}
-use Rattle.std.specs.Prelude.{ℤ, ◌+ℤ◌, ◌-ℤ◌, ◌&&◌, IsTrue, int_le, option_map, slice_index_or, unwrap_or}
+use Rattle.std.specs.Prelude.{ℤ, pos, ◌+ℤ◌, ◌-ℤ◌, ◌&&◌, IsTrue, int_le, option_map, slice_index_or, unwrap_or}
 use Rattle.std.specs.Option.{option_and_then}
 use Rattle.std.proofs.lemmas.Bool.{and_parts, and_from}
 use Rattle.std.proofs.lemmas.Int.{ints}
@@ -107,18 +107,28 @@ module _ (model : Model) (d v : ℕ) (runs : Runs) where
   end-shift z None = refl
   end-shift z (Some stage) = go-shift z (transit model d v stage.at (vehicle_at model v).end) (dimension_at model d).slack_max (vehicle_at model v).end runs.finish (row_of (dimension_at model d).ends v) stage
 
-  whole-shift : (z : ℤ) (o : Option Stage) (steps : List Step) → whole model d v runs (option_map (paid_more z) o) steps ≡ option_map (paid_more z) (whole model d v runs o steps)
+  pub whole-shift : (z : ℤ) (o : Option Stage) (steps : List Step) → whole model d v runs (option_map (paid_more z) o) steps ≡ option_map (paid_more z) (whole model d v runs o steps)
   whole-shift z o steps = ap (option_and_then (to_end model d v runs)) (along-shift z o steps) ∙ end-shift z (along model d v runs o steps)
 
-  -- a stage at the same stop and with the same cumul as another one comes to the same end, but for what was paid on the way
+  -- a stage at the same stop and with the same cumul as another one, but for what was paid on the way
+  stage-is : (old new : Stage) → new.at ≡ old.at → new.cumul ≡ old.cumul → (z : ℤ) → new.soft ≡ old.soft +ℤ z → new ≡ paid_more z old
+  stage-is old new a c z x = ap₂ (λ (n : ℕ) (y : ℤ). record { at = n; cumul = y; soft = new.soft }) a c ∙ ap (λ (y : ℤ). record { at = old.at; cumul = old.cumul; soft = y }) x
+
+  -- it comes to the same end
   pub resumed : (steps : List Step) (old end new : Stage) → whole model d v runs (Some old) steps ≡ Some end → new.at ≡ old.at → new.cumul ≡ old.cumul → (z : ℤ) → new.soft ≡ old.soft +ℤ z
       → whole model d v runs (Some new) steps ≡ Some (paid_more z end)
   resumed steps old end new told at cumul z soft =
-      let same : new ≡ paid_more z old = stage-is new at cumul soft in
-      ap (λ (s : Stage). whole model d v runs (Some s) steps) same ∙ whole-shift z (Some old) steps ∙ ap (option_map (paid_more z)) told
-    where
-      stage-is : (s : Stage) → s.at ≡ old.at → s.cumul ≡ old.cumul → s.soft ≡ old.soft +ℤ z → s ≡ paid_more z old
-      stage-is s a c x = ap₂ (λ (n : ℕ) (y : ℤ). record { at = n; cumul = y; soft = s.soft }) a c ∙ ap (λ (y : ℤ). record { at = old.at; cumul = old.cumul; soft = y }) x
+      ap (λ (s : Stage). whole model d v runs (Some s) steps) (stage-is old new at cumul z soft) ∙ whole-shift z (Some old) steps ∙ ap (option_map (paid_more z)) told
+
+  -- and along fewer steps to the same stage
+  pub paced : (steps : List Step) (old there new : Stage) → along model d v runs (Some old) steps ≡ Some there → new.at ≡ old.at → new.cumul ≡ old.cumul → (z : ℤ) → new.soft ≡ old.soft +ℤ z
+      → along model d v runs (Some new) steps ≡ Some (paid_more z there)
+  paced steps old there new told at cumul z soft =
+      ap (λ (s : Stage). along model d v runs (Some s) steps) (stage-is old new at cumul z soft) ∙ along-shift z (Some old) steps ∙ ap (option_map (paid_more z)) told
+
+  -- nothing more was paid
+  pub paid-no-more : (stage : Stage) (z : ℤ) → z ≡ pos 0 → stage ≡ paid_more z stage
+  paid-no-more stage z none = stage-is stage stage refl refl z (omega (arith, ints, none))
 
   -- first along some steps, then along others
   pub along-append : (o : Option Stage) (xs ys : List Step) → along model d v runs o (xs ++ ys) ≡ along model d v runs (along model d v runs o xs) ys

@@ -17,7 +17,7 @@ use Rattle.vr_model.proofs.schedules.LineArcs.{arcs_of_line, stops_of_line}
 use Rattle.vr_model.proofs.schedules.NarrowLines.{end-unique, start-unique}
 use Rattle.vr_model.proofs.schedules.UnderRules.{chosen_under_is_chosen, chosen_under_where_feasible}
 use Rattle.vr_timings.specs.Timings.{plan_of}
-use Rattle.vr_cumuls.specs.Kept.{CostsNoSoft}
+use Rattle.vr_cumuls.specs.Ends.{CostsNoSoft}
 use Rattle.vr_cumuls.proofs.TimingLemmas.{IsTimed}
 
 module _ (model : Model) (d v : ℕ) (list : List ℕ) (rule : (vehicle_at model v).schedule ≡ Tight) (feasible : IsFeasible (line model d v list)) (s e : ℤ) (least : IsLeastEnd (line model d v list) e) (latest : IsLatestStart (line model d v list) e s) where

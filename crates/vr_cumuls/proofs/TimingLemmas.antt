@@ -32,7 +32,7 @@ use Rattle.vr_timings.specs.Timings.{plan_of, soft_of, IsTiming, IsTimingOf}
 use Rattle.vr_timings.specs.declared.timings.Timing.{Timing}
 use Rattle.vr_timings.proofs.BoundLemmas.{max-around, mul-around, mul-sign, read-cumul}
 use Rattle.vr_cumuls.specs.Floors.{end_step, first_of, floor_of}
-use Rattle.vr_cumuls.specs.Kept.{AreSteps}
+use Rattle.vr_cumuls.specs.Steps.{AreSteps}
 use Rattle.vr_cumuls.specs.Runs.{Runs, AllowsRuns, no_run}
 use Rattle.vr_cumuls.specs.Stages.{along, raised, setting_out, standing, to_end, to_visit, visit_more, whole}
 use Rattle.vr_cumuls.specs.declared.guides.Stage.{Stage}

@@ -50,7 +50,7 @@ ordered-long false xs = refl
 ordered-long true xs = length-reverse xs
 
 -- what is read of a way that goes on, r being the transit as it was read
-module _ (model : Model) (way : Way) (allowed : Run) (t r : ℤ) (h : IsWayOf model 2000 way) (ends : HasCumulEnds allowed) (same : r ≡ t) (least : neg_ℤ (pos (2 ^ 31)) ≤ℤ r) (greatest : r ≤ℤ pos (2 ^ 31)) where
+module _ (model : Model) (way : Way) (allowed : Run) (t r : ℤ) (h : IsWayOf model 3000 way) (ends : HasCumulEnds allowed) (same : r ≡ t) (least : neg_ℤ (pos (2 ^ 31)) ≤ℤ r) (greatest : r ≤ℤ pos (2 ^ 31)) where
   sum-read : to_z w64 (of_z w64 (to_z w64 (of_z w64 way.time) +ℤ to_z w64 (of_z w64 r))) ≡ way.time +ℤ t
   sum-read = let early = h.early in let late = h.late in omega (arith, ints, same, least, greatest, early, late)
 
@@ -109,7 +109,7 @@ module _ (model : Model) (way : Way) (allowed : Run) (t r : ℤ) (h : IsWayOf mo
       omega (arith, ints, is, same, least, greatest, low, high, p, q)
 
 -- what is read of a whole way
-module _ (model : Model) (way : Way) (h : IsWayOf model 1001 way) where
+module _ (model : Model) (way : Way) (h : IsWayOf model 3001 way) where
   pub end-read : to_z w64 (of_z w64 way.time) ≡ way.time
   end-read = let early = h.early in let late = h.late in omega (arith, ints, early, late)
 

@@ -1,76 +1,27 @@
 -- What is kept of committed lists.
-use Rattle.std.specs.Prelude.{◌≡◌, ◌<◌, ◌≤◌, ◌++◌, ℕ, ℤ, suc, false, pos, All, List, Some, length, reverse, take}
-use Rattle.std.specs.Prelude.{slice_index_or}
+use Rattle.std.specs.Prelude.{◌≡◌, ◌≢◌, ◌<◌, ℕ, false, pos, List, length, slice_index_or}
 use Rattle.vr_model.specs.routes.Routes.{route}
-use Rattle.vr_model.specs.tables.Tables.{dimension_at}
+use Rattle.vr_model.specs.tables.Tables.{dimension_at, vehicle_at}
 use Rattle.vr_model.specs.declared.records.Dimension.{Dimension}
 use Rattle.vr_model.specs.declared.records.Model.{Model}
-use Rattle.vr_timings.specs.Timings.{soft_of}
-use Rattle.vr_cumuls.specs.Runs.{Runs, AreRuns}
-use Rattle.vr_cumuls.specs.Floors.{end_step, first_of, nodes_in, AreAimed, IsVisitStep}
-use Rattle.vr_cumuls.specs.Stages.{along, setting_out, whole, IsStageOf}
-use Rattle.vr_cumuls.specs.declared.guides.Stage.{Stage}
+use Rattle.vr_model.specs.declared.records.ScheduleRule.TheVariants.{Earliest, Tight}
+use Rattle.vr_timings.specs.declared.tables.Table.{Table}
+use Rattle.vr_cumuls.specs.Ends.{HasCumuls, HaveEnds}
+use Rattle.vr_cumuls.specs.Runs.{between_runs, Runs, AreRuns}
+use Rattle.vr_cumuls.specs.Steps.{HasStages}
+use Rattle.vr_cumuls.specs.declared.dimensions.Paid.{Paid}
+use Rattle.vr_cumuls.specs.declared.dimensions.Paid.TheVariants.{Alone, Together}
 use Rattle.vr_cumuls.specs.declared.kept.Kept.{Kept}
-use Rattle.vr_cumuls.specs.declared.kept.Outset.{Outset}
-use Rattle.vr_cumuls.specs.declared.trails.Step.{Step}
 
--- the steps of vehicle v to the visits of a list, and then to its end
-pub record AreSteps (model : Model) (d v : ℕ) (runs : Runs) (list : List ℕ) (steps : List Step) : Type 0 where
-  pub nodes_are : nodes_in steps ≡ list
-  pub aimed : AreAimed model d v runs steps (end_step model v runs)
-
--- the stages of vehicle v at its start and at the first n visits of these steps
-pub record AreStages (model : Model) (d v : ℕ) (runs : Runs) (steps : List Step) (n : ℕ) (stages : List Stage) :
-    Type 0 where
-  pub each : (k : ℕ) (other : Stage) → k ≤ n
-      → along model d v runs (setting_out model d v runs (first_of steps (end_step model v runs))) (take k steps)
-      ≡ Some (slice_index_or stages k other)
-  pub at : (k : ℕ) (other : Stage) → k < n
-      → (slice_index_or stages (suc k) other).at ≡ (slice_index_or steps k (end_step model v runs)).node
-  pub range : (k : ℕ) (other : Stage) → k ≤ n → IsStageOf model (suc n) (slice_index_or stages k other)
-
--- the same of all visits, and the stage at the end
-pub record AreAllStages (model : Model) (d v : ℕ) (runs : Runs) (list : List ℕ) (steps : List Step)
-    (stages : List Stage) : Type 0 where
-  pub steps_are : AreSteps model d v runs list steps
-  pub known : All (IsVisitStep model) steps
-  pub stages_are : AreStages model d v runs steps (length list) stages
-  pub end : (other : Stage) → whole model d v runs
-      (setting_out model d v runs (first_of steps (end_step model v runs))) steps
-      ≡ Some (slice_index_or stages (suc (length list)) other)
-  pub end_range : (other : Stage)
-      → IsStageOf model (suc (suc (length list))) (slice_index_or stages (suc (length list)) other)
-
--- the steps to visits that are kept
-abbrev pub steps_of : Kept → List Step
-steps_of kept = reverse kept.trail.steps.items
-
--- no list of any vehicle costs anything by soft upper bounds in a dimension, whatever its cumuls are
-abbrev pub CostsNoSoft : Dimension → Type 0
-CostsNoSoft dimension = (v : ℕ) (list : List ℕ) (cumuls : List ℤ) → soft_of dimension v list cumuls ≡ pos 0
-
--- where there are as many as stops, these are the stages of a list of vehicle v, and the steps are those to its visits;
--- where it is said that soft upper bounds cost nothing, they do not
+-- where there are as many as stops, the stages of vehicle v are those of a list, and the steps are those to its visits,
+-- between two cumuls of its ends where it chooses its tight schedule; the ways are those along it
 pub record IsKept (model : Model) (d v : ℕ) (list : List ℕ) (kept : Kept) : Type 0 where
-  pub told : length kept.stages.items ≡ suc (suc (length list)) → (runs : Runs) → AreRuns model d v runs
-      → AreAllStages model d v runs list (steps_of kept) kept.stages.items
-  pub soft : kept.soft ≡ false → CostsNoSoft (dimension_at model d)
-
--- of the steps to these nodes, before the next step, the last ones were put on a trail, and a stage is met behind the
--- first ones
-pub record HasMet (model : Model) (d v : ℕ) (runs : Runs) (nodes : List ℕ) (next : Step) (old new : List Step)
-    (met : Outset) : Type 0 where
-  pub kept : List Step
-  pub steps : List Step
-  pub nodes_are : nodes_in (kept ++ steps) ≡ nodes
-  pub aimed : AreAimed model d v runs (kept ++ steps) next
-  pub known : All (IsVisitStep model) steps
-  pub trail : new ≡ old ++ reverse steps
-  pub first : Stage
-  pub out : setting_out model d v runs (first_of (kept ++ steps) next) ≡ Some first
-  pub start : met.start ≡ first.cumul
-  pub gone : along model d v runs (Some first) kept ≡ Some met.stage
-  pub range : IsStageOf model 1002 met.stage
+  pub earliest : (vehicle_at model v).schedule ≡ Earliest → (runs : Runs) → AreRuns model d v runs
+      → HasStages model d v runs list kept.steps
+  pub tight : (vehicle_at model v).schedule ≡ Tight → (runs : Runs) → AreRuns model d v runs
+      → HasStages model d v (between_runs runs kept.between.start kept.between.last) list kept.steps
+  pub between : HasCumuls kept.between
+  pub ends : HaveEnds model d v list kept.ends.items
 
 -- what is kept in dimension d is of these lists
 pub record AreKept (model : Model) (d : ℕ) (lists : List (List ℕ)) (kept : List Kept) : Type 0 where
@@ -80,3 +31,21 @@ pub record AreKept (model : Model) (d : ℕ) (lists : List (List ℕ)) (kept : L
 pub record AreAllKept (model : Model) (lists : List (List ℕ)) (kept : List (List Kept)) : Type 0 where
   pub many : length kept ≡ length model.dimensions
   pub each : (d : ℕ) (other : List Kept) → d < length kept → AreKept model d lists (slice_index_or kept d other)
+
+-- a dimension has a coefficient of such costs, as its table says of soft upper bounds and of the spans of vehicles
+abbrev pub IsPaid : Paid → Table → Dimension → Type 0
+IsPaid Alone table dimension = table.is_free ≡ false
+IsPaid Together table dimension = dimension.global_span_cost ≢ pos 0
+
+-- in each dimension with such costs something is kept of each of n lists
+pub record AreOfEach (model : Model) (tables : List Table) (paid : Paid) (n : ℕ) (kept : List (List Kept)) :
+    Type 0 where
+  pub each : (d : ℕ) (other : List Kept) (table : Table) → d < length kept
+      → IsPaid paid (slice_index_or tables d table) (dimension_at model d)
+      → length (slice_index_or kept d other) ≡ n
+
+-- in each dimension something is kept of as many lists as before
+pub record AreAsMany (old new : List (List Kept)) : Type 0 where
+  pub many : length new ≡ length old
+  pub each : (d : ℕ) (other : List Kept) → d < length new
+      → length (slice_index_or new d other) ≡ length (slice_index_or old d other)

@@ -3,4 +3,7 @@ pub mod Floors
 pub mod Stages
 pub mod Guides
 pub mod Ways
+pub mod Rests
+pub mod Ends
+pub mod Steps
 pub mod Kept

@@ -1,5 +1,6 @@
 -- The runs of cumuls that the stops of a vehicle allow.
 use Rattle.std.specs.Prelude.{◌≡◌, ◌≤◌, ℕ, List, [], ◌∷◌, ◌++◌, ℤ, length, map, pos, slice_index_or}
+use Rattle.std.specs.Prelude.{Option, None, Some}
 use Rattle.vr_spans.specs.declared.runs.Run.{Run}
 use Rattle.vr_model.specs.tables.Tables.{breaks_of, dimension_at}
 use Rattle.vr_model.specs.schedules.Lines as lines
@@ -55,3 +56,12 @@ only x = record { lo = x; hi = x }
 -- the runs where the start allows s alone, and the end e
 abbrev pub between_runs : Runs → ℤ → ℤ → Runs
 between_runs runs s e = record { start = only s; visits = runs.visits; finish = only e }
+
+-- the same runs, where the start allows another one
+abbrev pub starting : Runs → Run → Runs
+starting runs start = record { start = start; visits = runs.visits; finish = runs.finish }
+
+-- the run of the start, where it may be at one cumul that is given
+abbrev pub start_run : Runs → Option ℤ → Run
+start_run runs None = runs.start
+start_run runs (Some s) = only s

@@ -1,17 +1,17 @@
 //! What is kept in all dimensions.
 
-ghost use Rattle.std.specs.Prelude.{◌≡◌, ◌<◌, ◌≤◌, ◌+◌, ℕ, List, IfOk, IfSome, IsTrue, false, length};
+ghost use Rattle.std.specs.Prelude.{◌≡◌, ◌↔◌, ◌<◌, ◌≤◌, ◌+◌, ℕ, List, IfOk, IfSome, IsTrue, false, length};
 ghost use Rattle.std.specs.List.{list_all};
 ghost use Rattle.vr_model.specs.moves.Moves.{with_route};
 ghost use Rattle.vr_model.specs.routes.Routes.{is_empty};
 ghost use Rattle.vr_model.specs.routes.Rules.{is_valid};
-ghost use Rattle.vr_model.specs.tables.Tables.{is_visit};
+ghost use Rattle.vr_model.specs.tables.Tables.{dimension_at, is_visit};
 ghost use Rattle.vr_model.specs.tables.WellFormed.{IsWellFormed};
 ghost use Rattle.vr_routes.specs.Changes.{IsMadeOn};
 ghost use Rattle.vr_routes.specs.Pieces.{changed, joined, part_at};
 ghost use Rattle.vr_timings.specs.Tables.{AreTables, IsTable};
 ghost use Rattle.vr_timings.specs.Timings.{IsTiming, IsTimingOf};
-ghost use Rattle.vr_cumuls.specs.Kept.{AreAllKept, AreKept};
+ghost use Rattle.vr_cumuls.specs.Kept.{AreAllKept, AreAsMany, AreKept, AreOfEach, IsPaid};
 
 use crate::kept::KeptCumuls;
 use crate::trails::Trail;
@@ -30,8 +30,8 @@ pub enum Paid {
     Together,
 }
 
-/// The cumuls of the chosen schedules of committed lists, in the dimensions where schedules may cost anything.
-/// Contracts see what is kept in each dimension.
+/// What is kept of committed lists, in the dimensions that have a coefficient of the costs for which it is kept; in the
+/// others nothing is. Contracts see what is kept in each dimension.
 #[derive(Drop)]
 pub struct AllCumuls {
     dimensions: Vec<KeptCumuls>,
@@ -60,7 +60,8 @@ impl AllCumuls {
         requires well_formed { IsWellFormed model.now }
         requires valid { IsTrue (is_valid model.now routes.now.lists) }
         requires tables { AreTables model.now tables.now }
-        ensures { IfOk result (AreAllKept model.now routes.now.lists) }
+        ensures kept { IfOk result (AreAllKept model.now routes.now.lists) }
+        ensures each { IfOk result (AreOfEach model.now tables.now paid (length routes.now.lists)) }
     {
         let mut dimensions = Vec::with_capacity(alloc, tables.len())?;
         for d in 0..tables.len() {
@@ -73,7 +74,7 @@ impl AllCumuls {
     }
 
     /// What the chosen schedule of the list comes to that part `k` of a change gives its vehicle, in dimension `d`.
-    /// Nothing where it is not told by what is kept; then it has to be looked for. The trail is room that the caller
+    /// Nothing where it is not known by what is kept; then it has to be looked for. The trail is room that the caller
     /// lends: it is written over.
     pub fn timing_after(
         &self,
@@ -127,7 +128,8 @@ impl AllCumuls {
         requires before { IsTrue (is_valid model.now routes.now.lists) }
         requires made { IsMadeOn routes.now change.now }
         requires valid { IsTrue (is_valid model.now (changed routes.now.lists change.now)) }
-        ensures { AreAllKept model.now (changed routes.now.lists change.now) self.new }
+        ensures kept { AreAllKept model.now (changed routes.now.lists change.now) self.new }
+        ensures many { AreAsMany self.old self.new }
     {
         for k in 0..change.parts() {
             routes.join_into(change.pieces(k), &mut self.row);
@@ -144,7 +146,9 @@ impl AllCumuls {
 
 // Whether a dimension has a coefficient of such costs.
 fn is_paid(model: &RoutingModel, table: &Table, d: u32, paid: Paid) -> bool
-    requires { d < length model.now.dimensions }
+    requires well_formed { IsWellFormed model.now }
+    requires dimension { d < length model.now.dimensions }
+    ensures { IsTrue result ↔ IsPaid paid table.now (dimension_at model.now d) }
 {
     match paid {
         Paid::Alone => !table.is_free,
@@ -165,7 +169,9 @@ fn kept_in(
     requires valid { IsTrue (is_valid model.now routes.now.lists) }
     requires dimension { d < length model.now.dimensions }
     requires table { IsTable model.now d table.now }
-    ensures { IfOk result (AreKept model.now d routes.now.lists) }
+    ensures kept { IfOk result (AreKept model.now d routes.now.lists) }
+    ensures each { IfOk result (λ kept. IsPaid paid table.now (dimension_at model.now d)
+        → length kept ≡ length routes.now.lists) }
 {
     if !is_paid(model, table, d, paid) {
         return Ok(KeptCumuls::none(alloc));
@@ -182,8 +188,9 @@ fn write_list(model: &RoutingModel, tables: &[Table], kept: &mut [KeptCumuls], v
     requires vehicle { v < length model.now.vehicles }
     requires few { length list.now ≤ 1000 }
     requires visits { IsTrue (list_all (is_visit model.now) list.now) }
-    ensures { (lists : List (List ℕ)) → AreAllKept model.now lists kept.old → v < length lists
+    ensures kept { (lists : List (List ℕ)) → AreAllKept model.now lists kept.old → v < length lists
         → AreAllKept model.now (with_route lists v list.now) kept.new }
+    ensures many { AreAsMany kept.old kept.new }
 {
     for d in 0..kept.len() {
         kept[d].write(model, &tables[d], d as u32, v, list);

@@ -38,17 +38,23 @@ pub struct Stage {
     pub soft: i64,
 }
 
-/// What is looked up of vehicle `v` in dimension `d` once for many arcs.
+/// What is looked up once for many arcs of vehicle `v` in dimension `d`, where it has no breaks and each stop allows
+/// one run of cumuls.
 #[derive(Drop)]
 pub struct Guide<'m> {
     pub model: &'m Model,
     pub table: &'m Table,
     pub d: u32,
     pub v: u32,
+    /// What tells its transits.
     pub evaluator: &'m Evaluator,
+    /// The greatest slack, in `0..=2^36`.
     pub slack: i64,
+    /// The run of its start.
     pub start: Run,
+    /// The runs of visits, by their nodes.
     pub visits: &'m [Run],
+    /// Its end.
     pub finish: Ahead,
 }
 
@@ -225,8 +231,23 @@ impl<'m> Guide<'m> {
             self.now.start next ≡ Some floor) }
         ensures range { IfSome result (IsIn (pos 0) horizon) }
     {
-        let start = self.model.vehicles.get(self.v as usize).start;
-        let floor = self.floor_of(start, self.start, next)?;
+        let floor = self.floor_from(self.start, next)?;
+        Some(floor)
+    }
+
+    /// The same, where the start allows another run.
+    #[inline]
+    pub fn floor_from(&self, start: Run, next: Step) -> Option<i64>
+        requires guide { IsGuide self.now }
+        requires start { HasCumulEnds start }
+        requires next { IsStep self.now.model.now next }
+        ensures value { IfSome result (λ floor.
+            floor_by self.now.model.now self.now.d self.now.v (vehicle_at self.now.model.now self.now.v).start
+            start next ≡ Some floor) }
+        ensures range { IfSome result (IsIn (pos 0) horizon) }
+    {
+        let node = self.model.vehicles.get(self.v as usize).start;
+        let floor = self.floor_of(node, start, next)?;
         Some(floor)
     }
 

@@ -1,262 +1,251 @@
 //! What is kept of committed lists, and what a change makes of them.
 
-ghost use Rattle.std.specs.Prelude.{◌*◌, ◌-ℤ◌, pos};
-ghost use Rattle.std.specs.Prelude.{◌≡◌, ◌<◌, ◌≤◌, ◌+◌, All, ℕ, List, IfOk, IfSome, IsTrue, Some, drop, false, length};
-ghost use Rattle.std.specs.Prelude.{slice_index_or, take, true};
+ghost use Rattle.std.specs.Prelude.{◌≡◌, ◌<◌, ◌≤◌, ◌+◌, All, ℕ, List, IfOk, IfSome, IsTrue, length, pos};
+ghost use Rattle.std.specs.Prelude.{slice_index_or};
 ghost use Rattle.std.specs.List.{list_all};
 ghost use Rattle.vr_model.specs.moves.Moves.{with_route};
 ghost use Rattle.vr_model.specs.routes.Routes.{route};
 ghost use Rattle.vr_model.specs.routes.Rules.{is_valid};
 ghost use Rattle.vr_model.specs.schedules.Lines.{line};
+ghost use Rattle.vr_model.specs.schedules.Narrowed.{chosen_line};
 ghost use Rattle.vr_model.specs.schedules.Schedules.{IsFeasible};
 ghost use Rattle.vr_model.specs.tables.Tables.{is_visit, vehicle_at};
 ghost use Rattle.vr_model.specs.tables.Numbers.{horizon};
 ghost use Rattle.vr_model.specs.tables.WellFormed.{IsIn, IsWellFormed};
 ghost use Rattle.vr_model.specs.declared.records.Model.{Model as Defined};
-ghost use Rattle.vr_model.specs.declared.records.ScheduleRule.TheVariants.{Earliest};
+ghost use Rattle.vr_model.specs.declared.records.ScheduleRule.TheVariants.{Earliest, Tight};
 ghost use Rattle.vr_routes.specs.Pieces.{joined, IsWithin};
-ghost use Rattle.vr_timings.specs.Bounds.{cumul_cost};
 ghost use Rattle.vr_timings.specs.Tables.{IsTable};
 ghost use Rattle.vr_timings.specs.Timings.{IsTiming, IsTimingOf};
 ghost use Rattle.vr_walks.specs.Lists.{IsUsed};
+ghost use Rattle.vr_cumuls.specs.Ends.{HasCumuls, HasWays, HaveEnds};
 ghost use Rattle.vr_cumuls.specs.Guides.{runs_of, IsGuide};
-ghost use Rattle.vr_cumuls.specs.Floors.{end_step, first_of, IsStep, IsVisitStep};
-ghost use Rattle.vr_cumuls.specs.Runs.{AreRuns};
-ghost use Rattle.vr_cumuls.specs.Kept.{steps_of, AreKept, AreSteps, CostsNoSoft, HasMet, IsKept};
-ghost use Rattle.vr_cumuls.specs.Stages.{paid_more, setting_out, standing, whole, IsStageOf};
+ghost use Rattle.vr_cumuls.specs.Kept.{AreKept, IsKept};
+ghost use Rattle.vr_cumuls.specs.Runs.{between_runs, AllowsRuns, AreRuns};
+ghost use Rattle.vr_cumuls.specs.Steps.{HasStages};
+ghost use Rattle.vr_cumuls.specs.declared.ends.KeptEnds.{KeptEnds as EndsOf};
 
-use crate::guides::{Guide, Stage};
-use crate::soft::has_soft_bounds;
-use crate::trails::{Step, Trail};
-use arrayvec::ArrayVec;
+use crate::ends::KeptEnds;
+use crate::guides::Guide;
+use crate::steps::KeptSteps;
+use crate::tight::Ends;
+use crate::trails::Trail;
 use std::alloc::Global;
 use std::marker::Model;
-use vr_balance::strip;
-use vr_model::{Dimension, Model as RoutingModel, NoMemory, ScheduleRule, laws};
+use vr_model::{Model as RoutingModel, NoMemory, ScheduleRule, laws};
 use vr_routes::{Piece, Routes};
 use vr_timings::{Table, Timing};
 
 /// What is kept of the list of a vehicle.
 #[derive(Drop)]
 pub struct Kept {
-    // the steps to its visits, from the last one to the first
-    trail: Trail,
-    // the stages at the start, at each visit and at the end; fewer where there is no schedule, and none where the
-    // vehicle chooses its tight one
-    stages: ArrayVec<Stage, 1002>,
-    // whether soft upper bounds may cost it anything, where it chooses its tight schedule
-    soft: bool,
-}
-
-/// Where a walk along new steps begins: the stage there, and the cumul at the start.
-#[derive(Clone, Copy)]
-pub struct Outset {
-    stage: Stage,
-    start: i64,
+    // the steps and the stages of its chosen schedule; none of a tight one that soft upper bounds cost nothing
+    steps: KeptSteps,
+    // the cumuls of its start and of its end, between which they are, where it chooses its tight schedule
+    between: Ends,
+    // the ways to the ends of its list, of a vehicle that chooses its tight schedule one, and else none
+    ends: Vec<KeptEnds>,
 }
 
 impl Kept {
-    // Of no list.
-    fn new() -> Kept {
-        Kept {
-            trail: Trail::new(),
-            stages: ArrayVec::new(),
-            soft: true,
+    // Of no list, with room for what such a rule asks. The only refusal is want of memory.
+    fn new(alloc: Global, rule: ScheduleRule) -> Result<Kept, NoMemory> {
+        let mut ends = Vec::new(alloc);
+        if is_tight(rule) {
+            ends.push(KeptEnds::new())?;
+        }
+        Ok(Kept {
+            steps: KeptSteps::new(),
+            between: Ends { start: 0, last: 0 },
+            ends,
+        })
+    }
+
+    // Forgets the list.
+    fn forget(&mut self)
+        ensures none { length self.new.steps.stages.items ≡ 0 }
+        ensures ends { (model : Defined) (d : ℕ) (v : ℕ) (list : List ℕ)
+            → HaveEnds model d v list self.new.ends.items }
+        ensures between { HasCumuls self.new.between }
+    {
+        self.steps.forget();
+        self.between = Ends { start: 0, last: 0 };
+        if !self.ends.is_empty() {
+            self.ends[0].forget();
         }
     }
 
-    // Forgets the stages.
-    fn forget(&mut self)
-        ensures none { length self.new.stages.items ≡ 0 }
-        ensures soft { self.new.soft ≡ true }
-    {
-        self.stages.clear();
-        self.soft = true;
-    }
-
-    // Writes what is kept of a list of a tight vehicle: whether soft upper bounds may cost anything.
-    fn write_tight(&mut self, dimension: &Dimension)
-        ensures none { length self.new.stages.items ≡ 0 }
-        ensures soft { self.new.soft ≡ false → CostsNoSoft dimension.now }
-    {
-        self.stages.clear();
-        self.soft = has_soft_bounds(dimension);
-    }
-
-    // Writes the steps and the stages of a list, as far as there are any.
-    fn write(&mut self, guide: &Guide, list: &[u32])
+    // Writes what is kept of a list of a vehicle that chooses its earliest schedule.
+    fn write_earliest(&mut self, guide: &Guide, list: &[u32])
         requires guide { IsGuide guide.now }
         requires runs { AreRuns guide.now.model.now guide.now.d guide.now.v (runs_of guide.now) }
+        requires rule { (vehicle_at guide.now.model.now guide.now.v).schedule ≡ Earliest }
         requires few { length list.now ≤ 1000 }
         requires visits { All (λ node. IsTrue (is_visit guide.now.model.now node)) list.now }
         ensures { IsKept guide.now.model.now guide.now.d guide.now.v list.now self.new }
     {
         self.forget();
-        self.trail.steps.clear();
-        let end = guide.end_step();
-        if let Some(first) = guide.back_along_chain(list, false, end, &mut self.trail) {
-            self.write_stages(guide, list, first);
-        }
+        self.steps.write(guide, list);
     }
 
-    // Writes the stages along the steps, of which `first` is the first one.
-    fn write_stages(&mut self, guide: &Guide, list: &[u32], first: Step)
+    // Writes what is kept of a list of a vehicle that chooses its tight schedule.
+    fn write_tight(&mut self, guide: &Guide, list: &[u32])
         requires guide { IsGuide guide.now }
         requires runs { AreRuns guide.now.model.now guide.now.d guide.now.v (runs_of guide.now) }
+        requires rule { (vehicle_at guide.now.model.now guide.now.v).schedule ≡ Tight }
         requires few { length list.now ≤ 1000 }
-        requires none { length self.old.stages.items ≡ 0 }
-        requires soft { self.old.soft ≡ true }
-        requires steps { AreSteps guide.now.model.now guide.now.d guide.now.v (runs_of guide.now) list.now
-            (steps_of self.old) }
-        requires known { All (IsVisitStep guide.now.model.now) (steps_of self.old) }
-        requires first { first ≡ first_of (steps_of self.old) (end_step guide.now.model.now guide.now.v
-            (runs_of guide.now)) }
-        requires range { IsStep guide.now.model.now first }
+        requires visits { All (λ node. IsTrue (is_visit guide.now.model.now node)) list.now }
         ensures { IsKept guide.now.model.now guide.now.d guide.now.v list.now self.new }
     {
-        let Some(floor) = guide.start_floor(first) else {
+        self.forget();
+        if self.ends.is_empty() {
             return;
-        };
-        let mut stage = guide.standing(floor);
-        self.stages.push(stage);
-        for k in 0..list.len() {
-            match guide.to_visit(stage, self.trail.steps[list.len() - 1 - k]) {
-                Some(next) => stage = next,
-                None => return,
-            }
-            self.stages.push(stage);
         }
-        if let Some(end) = guide.to_end(stage) {
-            self.stages.push(end);
-        }
+        self.ends[0].write(guide, list);
+        self.write_between(guide, list);
     }
 
-    // The kept step to the stop behind the first `k` visits of a list of `n`.
-    #[inline]
-    fn step_behind(&self, guide: &Guide, n: usize, k: usize) -> Step
+    // Writes the steps and the stages of a list between its two ends, where soft upper bounds may cost anything.
+    fn write_between(&mut self, guide: &Guide, list: &[u32])
         requires guide { IsGuide guide.now }
-        requires many { length self.now.trail.steps.items ≡ n }
-        requires known { All (IsVisitStep guide.now.model.now) (steps_of self.now) }
-        requires place { k ≤ n }
-        ensures range { IsStep guide.now.model.now result }
-        ensures value { result ≡ slice_index_or (steps_of self.now) k (end_step guide.now.model.now guide.now.v
-            (runs_of guide.now)) }
+        requires few { length list.now ≤ 1000 }
+        requires visits { All (λ node. IsTrue (is_visit guide.now.model.now node)) list.now }
+        requires ends { 0 < length self.old.ends.items }
+        requires ways { (other : EndsOf) → HasWays guide.now.model.now guide.now.d guide.now.v (runs_of guide.now)
+            list.now (slice_index_or self.old.ends.items 0 other) }
+        requires none { length self.old.steps.stages.items ≡ 0 }
+        requires between { HasCumuls self.old.between }
+        ensures stages { HasStages guide.now.model.now guide.now.d guide.now.v
+            (between_runs (runs_of guide.now) self.new.between.start self.new.between.last) list.now self.new.steps }
+        ensures between { HasCumuls self.new.between }
+        ensures ends { self.new.ends.items ≡ self.old.ends.items }
     {
-        if k < n {
-            self.trail.steps[n - 1 - k]
-        } else {
-            guide.end_step()
+        if !self.ends[0].has_soft() {
+            return;
         }
+        let ends = self.ends[0].ends(guide, list);
+        self.between = ends;
+        self.steps.write(&guide.between(ends), list);
     }
 
-    // Back along the first `front` visits of the list, which come before the next step, until a floor is as kept: the
-    // kept stage there. Where all are others, the stage at the start. Nothing where there is no schedule.
-    fn meet(
+    // What the tight schedule of the list that pieces are joined to comes to.
+    fn tight_after(
         &self,
         guide: &Guide,
-        list: &[u32],
-        front: usize,
-        next: Step,
+        routes: &Routes,
+        pieces: &[Piece],
         trail: &mut Trail,
-    ) -> Option<Outset>
+    ) -> Option<Timing>
         requires guide { IsGuide guide.now }
         requires runs { AreRuns guide.now.model.now guide.now.d guide.now.v (runs_of guide.now) }
-        requires kept { IsKept guide.now.model.now guide.now.d guide.now.v list.now self.now }
-        requires told { length self.now.stages.items ≡ length list.now + 2 }
-        requires few { length list.now ≤ 1000 }
-        requires place { front ≤ length list.now }
-        requires next { IsStep guide.now.model.now next }
-        requires room { length trail.old.steps.items + front ≤ 1000 }
-        ensures { IfSome result (HasMet guide.now.model.now guide.now.d guide.now.v (runs_of guide.now)
-            (take front list.now) next trail.old.steps.items trail.new.steps.items) }
+        requires rule { (vehicle_at guide.now.model.now guide.now.v).schedule ≡ Tight }
+        requires known { guide.now.v < length routes.now.lists }
+        requires kept { IsKept guide.now.model.now guide.now.d guide.now.v (route routes.now.lists guide.now.v)
+            self.now }
+        requires short { length (route routes.now.lists guide.now.v) ≤ 1000 }
+        requires within { All (IsWithin routes.now.lists) pieces.now }
+        requires used { IsUsed guide.now.model.now (joined routes.now.lists pieces.now) }
+        requires few { length (joined routes.now.lists pieces.now) ≤ 1000 }
+        requires feasible { IsFeasible (line guide.now.model.now guide.now.d guide.now.v
+            (joined routes.now.lists pieces.now)) }
+        ensures timing { IfSome result (IsTiming guide.now.model.now guide.now.d guide.now.v
+            (joined routes.now.lists pieces.now)) }
+        ensures range { IfSome result (IsTimingOf (length (joined routes.now.lists pieces.now) + 2)) }
     {
-        let mut first = next;
-        for k in 0..front {
-            let place = front - 1 - k;
-            let kept = self.trail.steps[list.len() - 1 - place];
-            let step = match guide.before(kept.node, first) {
-                Some(step) => step,
-                None => return None,
-            };
-            if step.floor == kept.floor {
-                return Some(Outset {
-                    stage: self.stages[place + 1],
-                    start: self.stages[0].cumul,
-                });
-            }
-            trail.steps.push(step);
-            first = step;
+        laws::narrowed_to_ends();
+        if self.ends.is_empty() {
+            return None;
         }
-        self.set_out(guide, list, first)
+        let kept = &self.ends[0];
+        let list = routes.list(guide.v);
+        if !kept.has_ways(list.len()) {
+            return None;
+        }
+        let ends = guide.ends_of(kept, routes, pieces);
+        if !kept.has_soft() {
+            return Some(Timing {
+                soft: 0,
+                start: ends.start,
+                last: ends.last,
+            });
+        }
+        let timing = self.timing_between(guide, ends, routes, pieces, trail)?;
+        Some(timing)
     }
 
-    // The stage at the start before another step, nothing where the start allows no cumul from its floor on.
-    fn set_out(&self, guide: &Guide, list: &[u32], next: Step) -> Option<Outset>
+    // The same between its two ends: by what is kept, where the list ended as it does now.
+    fn timing_between(
+        &self,
+        guide: &Guide,
+        ends: Ends,
+        routes: &Routes,
+        pieces: &[Piece],
+        trail: &mut Trail,
+    ) -> Option<Timing>
         requires guide { IsGuide guide.now }
+        requires allows { AllowsRuns guide.now.model.now guide.now.d guide.now.v
+            (between_runs (runs_of guide.now) ends.start ends.last) (joined routes.now.lists pieces.now)
+            (chosen_line guide.now.model.now guide.now.d guide.now.v (joined routes.now.lists pieces.now)) }
         requires runs { AreRuns guide.now.model.now guide.now.d guide.now.v (runs_of guide.now) }
-        requires kept { IsKept guide.now.model.now guide.now.d guide.now.v list.now self.now }
-        requires told { length self.now.stages.items ≡ length list.now + 2 }
-        requires few { length list.now ≤ 1000 }
-        requires next { IsStep guide.now.model.now next }
-        ensures value { IfSome result (λ met. setting_out guide.now.model.now guide.now.d guide.now.v
-            (runs_of guide.now) next ≡ Some met.stage) }
-        ensures start { IfSome result (λ met. met.start ≡ met.stage.cumul) }
-        ensures range { IfSome result (λ met. IsStageOf guide.now.model.now 1002 met.stage) }
+        requires rule { (vehicle_at guide.now.model.now guide.now.v).schedule ≡ Tight }
+        requires ends { HasCumuls ends }
+        requires known { guide.now.v < length routes.now.lists }
+        requires kept { IsKept guide.now.model.now guide.now.d guide.now.v (route routes.now.lists guide.now.v)
+            self.now }
+        requires short { length (route routes.now.lists guide.now.v) ≤ 1000 }
+        requires within { All (IsWithin routes.now.lists) pieces.now }
+        requires visits { IsTrue (list_all (is_visit guide.now.model.now) (joined routes.now.lists pieces.now)) }
+        requires few { length (joined routes.now.lists pieces.now) ≤ 1000 }
+        ensures timing { IfSome result (IsTiming guide.now.model.now guide.now.d guide.now.v
+            (joined routes.now.lists pieces.now)) }
+        ensures range { IfSome result (IsTimingOf (length (joined routes.now.lists pieces.now) + 2)) }
     {
-        let floor = guide.start_floor(next)?;
-        Some(Outset {
-            stage: self.start_stage(guide, list, floor),
-            start: floor,
-        })
-    }
-
-    // The stage at the start at a cumul, the kept one where it is the same.
-    fn start_stage(&self, guide: &Guide, _list: &[u32], cumul: i64) -> Stage
-        requires guide { IsGuide guide.now }
-        requires runs { AreRuns guide.now.model.now guide.now.d guide.now.v (runs_of guide.now) }
-        requires kept { IsKept guide.now.model.now guide.now.d guide.now.v _list.now self.now }
-        requires told { length self.now.stages.items ≡ length _list.now + 2 }
-        requires few { length _list.now ≤ 1000 }
-        requires cumul { IsIn (pos 0) horizon cumul }
-        ensures value { result ≡ standing guide.now.model.now guide.now.d guide.now.v cumul }
-        ensures range { IsStageOf guide.now.model.now 1002 result }
-    {
-        let kept = self.stages[0];
-        if kept.cumul == cumul {
-            return kept;
-        }
-        guide.standing(cumul)
-    }
-
-    // The stage at the end of a vehicle that goes on along the list from place `behind` on, nothing where it cannot.
-    // Once it comes to a cumul that is kept, all that follows is as kept.
-    fn end_behind(&self, guide: &Guide, list: &[u32], behind: usize, stage: Stage) -> Option<Stage>
-        requires guide { IsGuide guide.now }
-        requires runs { AreRuns guide.now.model.now guide.now.d guide.now.v (runs_of guide.now) }
-        requires kept { IsKept guide.now.model.now guide.now.d guide.now.v list.now self.now }
-        requires told { length self.now.stages.items ≡ length list.now + 2 }
-        requires few { length list.now ≤ 1000 }
-        requires place { behind ≤ length list.now }
-        requires stage { IsStageOf guide.now.model.now 2002 stage }
-        ensures { IfSome result (λ end. whole guide.now.model.now guide.now.d guide.now.v (runs_of guide.now)
-            (Some stage) (drop behind (steps_of self.now)) ≡ Some end) }
-    {
-        let mut gone = stage;
-        for k in behind..list.len() {
-            match guide.to_visit(gone, self.trail.steps[list.len() - 1 - k]) {
-                Some(next) => gone = next,
-                None => return None,
-            }
-            let kept = self.stages[k + 1];
-            if gone.cumul == kept.cumul {
-                return Some(resumed(self.stages[list.len() + 1], kept, gone));
+        let list = routes.list(guide.v);
+        if self.steps.are_of(list.len()) {
+            if self.between.last == ends.last {
+                let timing = self.timing_from(guide, ends.start, routes, pieces, trail)?;
+                return Some(timing);
             }
         }
-        guide.to_end(gone)
+        let timing = guide.timing_between(ends, routes, pieces, trail)?;
+        Some(timing)
+    }
+
+    // The same from another start to the end that is kept.
+    fn timing_from(
+        &self,
+        guide: &Guide,
+        start: i64,
+        routes: &Routes,
+        pieces: &[Piece],
+        trail: &mut Trail,
+    ) -> Option<Timing>
+        requires guide { IsGuide guide.now }
+        requires allows { AllowsRuns guide.now.model.now guide.now.d guide.now.v
+            (between_runs (runs_of guide.now) start self.now.between.last) (joined routes.now.lists pieces.now)
+            (chosen_line guide.now.model.now guide.now.d guide.now.v (joined routes.now.lists pieces.now)) }
+        requires runs { AreRuns guide.now.model.now guide.now.d guide.now.v (runs_of guide.now) }
+        requires rule { (vehicle_at guide.now.model.now guide.now.v).schedule ≡ Tight }
+        requires start { IsIn (pos 0) horizon start }
+        requires many { length self.now.steps.stages.items ≡ length (route routes.now.lists guide.now.v) + 2 }
+        requires known { guide.now.v < length routes.now.lists }
+        requires kept { IsKept guide.now.model.now guide.now.d guide.now.v (route routes.now.lists guide.now.v)
+            self.now }
+        requires short { length (route routes.now.lists guide.now.v) ≤ 1000 }
+        requires within { All (IsWithin routes.now.lists) pieces.now }
+        requires visits { IsTrue (list_all (is_visit guide.now.model.now) (joined routes.now.lists pieces.now)) }
+        requires few { length (joined routes.now.lists pieces.now) ≤ 1000 }
+        ensures timing { IfSome result (IsTiming guide.now.model.now guide.now.d guide.now.v
+            (joined routes.now.lists pieces.now)) }
+        ensures range { IfSome result (IsTimingOf (length (joined routes.now.lists pieces.now) + 2)) }
+    {
+        let kept = guide.between(self.between);
+        let timing = self.steps.after(&kept, Some(start), routes, pieces, trail)?;
+        Some(timing)
     }
 
     // What the earliest schedule of the list that pieces are joined to comes to.
-    fn timing_after(
+    fn earliest_after(
         &self,
         guide: &Guide,
         routes: &Routes,
@@ -277,46 +266,25 @@ impl Kept {
             (joined routes.now.lists pieces.now)) }
         ensures range { IfSome result (IsTimingOf (length (joined routes.now.lists pieces.now) + 2)) }
     {
-        laws::chosen_is_least();
         let list = routes.list(guide.v);
-        if self.stages.len() != list.len() + 2 {
+        if !self.steps.are_of(list.len()) {
             return None;
         }
-        let ends = strip(routes, guide.v, pieces);
-        let front = ends.front as usize;
-        let behind = ends.behind as usize;
-        trail.steps.clear();
-        let next = self.step_behind(guide, list.len(), behind);
-        let first = guide.back_along_pieces(routes, ends.middle, next, trail)?;
-        let met = self.meet(guide, list, front, first, trail)?;
-        let gone = guide.along_trail(trail, met.stage)?;
-        let end = self.end_behind(guide, list, behind, gone)?;
-        Some(Timing {
-            soft: end.soft,
-            start: met.start,
-            last: end.cumul,
-        })
+        let timing = self.steps.after(guide, None, routes, pieces, trail)?;
+        Some(timing)
     }
 }
 
-// The stage at the end, where a vehicle comes to a cumul that is kept and has paid another cost before.
-#[inline]
-fn resumed(end: Stage, kept: Stage, gone: Stage) -> Stage
-    requires end { IsIn (pos 0) (pos (cumul_cost * 1002)) end.soft }
-    requires cumul { IsIn (pos 0) horizon end.cumul }
-    requires kept { IsIn (pos 0) (pos (cumul_cost * 1002)) kept.soft }
-    requires gone { IsIn (pos 0) (pos (cumul_cost * 4000)) gone.soft }
-    ensures { result ≡ paid_more (gone.soft -ℤ kept.soft) end }
-{
-    Stage {
-        at: end.at,
-        cumul: end.cumul,
-        soft: end.soft + (gone.soft - kept.soft),
+// Whether a rule chooses the tight schedule.
+fn is_tight(rule: ScheduleRule) -> bool {
+    match rule {
+        ScheduleRule::Earliest => false,
+        ScheduleRule::Tight => true,
     }
 }
 
-/// The cumuls of the chosen schedules of all vehicles in one dimension, and what soft upper bounds cost up to each
-/// stop; of no vehicle where nothing is to be told. Contracts see what is kept of each.
+/// What is kept of the lists of all vehicles in one dimension; of no list where nothing is to be known. Contracts see
+/// what is kept of each.
 #[derive(Drop)]
 pub struct KeptCumuls {
     lists: Vec<Kept>,
@@ -353,11 +321,12 @@ impl KeptCumuls {
         requires valid { IsTrue (is_valid model.now routes.now.lists) }
         requires dimension { d < length model.now.dimensions }
         requires table { IsTable model.now d table.now }
-        ensures { IfOk result (AreKept model.now d routes.now.lists) }
+        ensures kept { IfOk result (AreKept model.now d routes.now.lists) }
+        ensures each { IfOk result (λ kept. length kept ≡ length routes.now.lists) }
     {
         let mut lists = Vec::new(alloc);
         for v in 0..routes.vehicles() {
-            let mut kept = Kept::new();
+            let mut kept = Kept::new(alloc, model.vehicles.get(v as usize).schedule)?;
             write_list(model, table, d, v, routes.list(v), &mut kept);
             lists.push(kept)?;
         }
@@ -372,8 +341,9 @@ impl KeptCumuls {
         requires table { IsTable model.now d table.now }
         requires few { length list.now ≤ 1000 }
         requires visits { IsTrue (list_all (is_visit model.now) list.now) }
-        ensures { (lists : List (List ℕ)) → AreKept model.now d lists self.old → v < length lists
+        ensures kept { (lists : List (List ℕ)) → AreKept model.now d lists self.old → v < length lists
             → AreKept model.now d (with_route lists v list.now) self.new }
+        ensures many { length self.new ≡ length self.old }
     {
         if (v as usize) < self.lists.len() {
             write_list(model, table, d, v, list, &mut self.lists[v as usize]);
@@ -381,10 +351,11 @@ impl KeptCumuls {
     }
 
     /// What the chosen schedule of the list that pieces are joined to comes to, for vehicle `v` in dimension `d`.
-    /// Nothing where it is not told so: where nothing is kept, the vehicle has breaks, or a stop allows several runs of
-    /// cumuls. Of an earliest schedule what the change keeps of the front of the list is walked as far back as it gets
-    /// another floor, and of its end as much as gets another cumul; for a tight one the whole list is walked. The trail
-    /// is written over.
+    /// Nothing where it is not known so: where nothing is kept, the vehicle has breaks, or a stop allows several runs
+    /// of cumuls. Of an earliest schedule what the change keeps of the front of the list is walked as far back as it
+    /// gets another floor, and of its end as much as gets another cumul. Of a tight one what it keeps is not walked;
+    /// where soft upper bounds may cost anything it is, from the start until a cumul is as kept, and wholly where the
+    /// list ends at another cumul. The trail is written over.
     pub fn timing_after(
         &self,
         model: &RoutingModel,
@@ -416,8 +387,8 @@ impl KeptCumuls {
         let kept = &self.lists[v as usize];
         let vehicle = model.vehicles.get(v as usize);
         match vehicle.schedule {
-            ScheduleRule::Earliest => kept.timing_after(&guide, routes, pieces, trail),
-            ScheduleRule::Tight => guide.tight_timing(routes, pieces, kept.soft, trail),
+            ScheduleRule::Earliest => kept.earliest_after(&guide, routes, pieces, trail),
+            ScheduleRule::Tight => kept.tight_after(&guide, routes, pieces, trail),
         }
     }
 }
@@ -432,31 +403,11 @@ fn write_list(model: &RoutingModel, table: &Table, d: u32, v: u32, list: &[u32],
     requires visits { IsTrue (list_all (is_visit model.now) list.now) }
     ensures { IsKept model.now d v list.now kept.new }
 {
-    match model.vehicles.get(v as usize).schedule {
-        ScheduleRule::Earliest => write_earliest(model, table, d, v, list, kept),
-        ScheduleRule::Tight => kept.write_tight(model.dimensions.get(d as usize)),
-    }
-}
-
-// The same, where it chooses its earliest schedule.
-fn write_earliest(
-    model: &RoutingModel,
-    table: &Table,
-    d: u32,
-    v: u32,
-    list: &[u32],
-    kept: &mut Kept,
-)
-    requires well_formed { IsWellFormed model.now }
-    requires dimension { d < length model.now.dimensions }
-    requires vehicle { v < length model.now.vehicles }
-    requires table { IsTable model.now d table.now }
-    requires few { length list.now ≤ 1000 }
-    requires visits { IsTrue (list_all (is_visit model.now) list.now) }
-    ensures { IsKept model.now d v list.now kept.new }
-{
     match Guide::of(model, table, d, v) {
-        Some(guide) => kept.write(&guide, list),
+        Some(guide) => match model.vehicles.get(v as usize).schedule {
+            ScheduleRule::Earliest => kept.write_earliest(&guide, list),
+            ScheduleRule::Tight => kept.write_tight(&guide, list),
+        },
         None => kept.forget(),
     }
 }

@@ -3,7 +3,7 @@
 ghost use Rattle.std.specs.Prelude.{◌≡◌, ℕ, false};
 ghost use Rattle.vr_model.specs.tables.Tables.{row_of};
 ghost use Rattle.vr_timings.specs.Paying.{has_soft};
-ghost use Rattle.vr_cumuls.specs.Kept.{CostsNoSoft};
+ghost use Rattle.vr_cumuls.specs.Ends.{CostsNoSoft};
 
 use vr_model::{Dimension, Seq, StopRow};
 

@@ -1,30 +1,34 @@
-//! Tight schedules of changed lists. One walk along the stops, where a vehicle waits for the begins of runs alone,
-//! tells how early it can end and how late it can then start. Between these two cumuls the tight schedule is the
-//! earliest one, and is found as that is: by floors from the end backwards, and along them. No cumuls are kept for it.
+//! Tight schedules of changed lists. A walk along the stops, where a vehicle waits for the begins of runs alone, tells
+//! how early it can end and how late it can then start; what is kept of its list is not walked. Between these two
+//! cumuls the tight schedule is the earliest one, and is found as that is: by floors from the end backwards, and along
+//! them.
 
-ghost use Rattle.std.specs.Prelude.{◌≡◌, ◌<◌, ◌≤◌, ◌+◌, All, IfSome, IsTrue, cond, false, length, pos};
-ghost use Rattle.std.specs.Prelude.{reverse};
+ghost use Rattle.std.specs.Prelude.{◌≡◌, ◌<◌, ◌≤◌, ◌+◌, All, IfSome, IsTrue, cond, length, pos};
+ghost use Rattle.std.specs.Prelude.{reverse, ◌-ℤ◌};
+ghost use Rattle.std.specs.Int.{int_min};
 ghost use Rattle.std.specs.List.{list_all};
-ghost use Rattle.vr_model.specs.declared.records.ScheduleRule.TheVariants.{Tight};
+ghost use Rattle.vr_model.specs.routes.Routes.{route};
 ghost use Rattle.vr_model.specs.schedules.Lines.{line};
 ghost use Rattle.vr_model.specs.schedules.Narrowed.{chosen_line};
 ghost use Rattle.vr_model.specs.schedules.Schedules.{IsFeasible};
 ghost use Rattle.vr_model.specs.schedules.Tight.{IsLatestStart, IsLeastEnd};
 ghost use Rattle.vr_model.specs.tables.Numbers.{horizon};
-ghost use Rattle.vr_model.specs.tables.Tables.{dimension_at, is_visit, vehicle_at};
+ghost use Rattle.vr_model.specs.tables.Tables.{is_visit};
 ghost use Rattle.vr_model.specs.tables.WellFormed.{IsIn};
 ghost use Rattle.vr_routes.specs.Pieces.{joined, nodes_of, IsWithin};
 ghost use Rattle.vr_timings.specs.Timings.{IsTiming, IsTimingOf};
 ghost use Rattle.vr_walks.specs.Lists.{IsUsed};
 ghost use Rattle.vr_walks.specs.VisitRuns.{HasCumulEnds};
+ghost use Rattle.vr_cumuls.specs.Ends.{AreWays, HasCumuls};
 ghost use Rattle.vr_cumuls.specs.Guides.{runs_of, IsGuide};
-ghost use Rattle.vr_cumuls.specs.Kept.{CostsNoSoft};
 ghost use Rattle.vr_cumuls.specs.Runs.{between_runs, only as only_of, AllowsRuns, AreRuns};
 ghost use Rattle.vr_cumuls.specs.Ways.{way_along as along_by, way_on as way_on_by, way_out as way_out_by};
 ghost use Rattle.vr_cumuls.specs.Ways.{way_to_visit as way_to_visit_by, IsWayOf};
 
+use crate::ends::KeptEnds;
 use crate::guides::{Guide, node_in};
 use crate::trails::Trail;
+use vr_balance::strip;
 use vr_model::laws;
 use vr_routes::{Piece, Routes};
 use vr_spans::Run;
@@ -50,37 +54,27 @@ pub struct Ends {
 }
 
 impl<'m> Guide<'m> {
-    /// What the tight schedule comes to of the list that pieces are joined to. It is told by its ends alone where soft
-    /// upper bounds cost nothing. The trail is written over.
-    pub fn tight_timing(
+    /// What the chosen schedule comes to of the list that pieces are joined to, between these ends. The whole list is
+    /// walked, and the trail is written over.
+    pub fn timing_between(
         &self,
+        ends: Ends,
         routes: &Routes,
         pieces: &[Piece],
-        soft: bool,
         trail: &mut Trail,
     ) -> Option<Timing>
         requires guide { IsGuide self.now }
-        requires runs { AreRuns self.now.model.now self.now.d self.now.v (runs_of self.now) }
-        requires rule { (vehicle_at self.now.model.now self.now.v).schedule ≡ Tight }
+        requires allows { AllowsRuns self.now.model.now self.now.d self.now.v
+            (between_runs (runs_of self.now) ends.start ends.last) (joined routes.now.lists pieces.now)
+            (chosen_line self.now.model.now self.now.d self.now.v (joined routes.now.lists pieces.now)) }
+        requires ends { HasCumuls ends }
         requires within { All (IsWithin routes.now.lists) pieces.now }
-        requires used { IsUsed self.now.model.now (joined routes.now.lists pieces.now) }
+        requires visits { IsTrue (list_all (is_visit self.now.model.now) (joined routes.now.lists pieces.now)) }
         requires few { length (joined routes.now.lists pieces.now) ≤ 1000 }
-        requires feasible { IsFeasible (line self.now.model.now self.now.d self.now.v
-            (joined routes.now.lists pieces.now)) }
-        requires soft { soft ≡ false → CostsNoSoft (dimension_at self.now.model.now self.now.d) }
         ensures timing { IfSome result (IsTiming self.now.model.now self.now.d self.now.v
             (joined routes.now.lists pieces.now)) }
         ensures range { IfSome result (IsTimingOf (length (joined routes.now.lists pieces.now) + 2)) }
     {
-        laws::narrowed_to_ends();
-        let ends = self.ends_of(routes, pieces);
-        if !soft {
-            return Some(Timing {
-                soft: 0,
-                start: ends.start,
-                last: ends.last,
-            });
-        }
         let guide = self.between(ends);
         let timing = guide.timing_along(routes, pieces, trail)?;
         Some(timing)
@@ -115,11 +109,10 @@ impl<'m> Guide<'m> {
         })
     }
 
-    // The same guide, where the start and the end of the vehicle allow one cumul each.
-    fn between(&self, ends: Ends) -> Guide<'m>
+    /// The same guide, where the start and the end of the vehicle allow one cumul each.
+    pub fn between(&self, ends: Ends) -> Guide<'m>
         requires guide { IsGuide self.now }
-        requires start { IsIn (pos 0) horizon ends.start }
-        requires last { IsIn (pos 0) horizon ends.last }
+        requires ends { HasCumuls ends }
         ensures guide { IsGuide result }
         ensures model { result.model.now ≡ self.now.model.now }
         ensures dimension { result.d ≡ self.now.d }
@@ -144,10 +137,13 @@ impl<'m> Guide<'m> {
         }
     }
 
-    // The ends of the tight schedule of the list that pieces are joined to.
-    fn ends_of(&self, routes: &Routes, pieces: &[Piece]) -> Ends
+    /// The ends of the tight schedule of the list that pieces are joined to. What is kept of the vehicle's list is not
+    /// walked.
+    pub fn ends_of(&self, kept: &KeptEnds, routes: &Routes, pieces: &[Piece]) -> Ends
         requires guide { IsGuide self.now }
         requires runs { AreRuns self.now.model.now self.now.d self.now.v (runs_of self.now) }
+        requires known { self.now.v < length routes.now.lists }
+        requires kept { AreWays self.now.model.now self.now.d self.now.v (route routes.now.lists self.now.v) kept.now }
         requires within { All (IsWithin routes.now.lists) pieces.now }
         requires used { IsUsed self.now.model.now (joined routes.now.lists pieces.now) }
         requires few { length (joined routes.now.lists pieces.now) ≤ 1000 }
@@ -158,17 +154,30 @@ impl<'m> Guide<'m> {
         ensures start { IsLatestStart (line self.now.model.now self.now.d self.now.v
             (joined routes.now.lists pieces.now)) result.last result.start }
     {
-        let way = self.way_along_pieces(routes, pieces, self.way_out());
-        let whole = self.way_on(way, self.finish.node, self.finish.allowed);
+        let ends = strip(routes, self.v, pieces);
+        let front = kept.way(ends.front);
+        let left = kept.rest(ends.behind);
+        let way = self.way_along_pieces(routes, ends.middle, front);
+        let whole = self.way_through(way, left);
+        self.ends_by(whole)
+    }
+
+    /// The ends that a whole way tells.
+    #[inline]
+    pub fn ends_by(&self, whole: Way) -> Ends
+        requires { IsWayOf self.now.model.now 3001 whole }
+        ensures last { result.last ≡ whole.time }
+        ensures start { result.start ≡ int_min whole.latest (whole.time -ℤ whole.transits) }
+    {
         Ends {
             start: whole.latest.min(whole.time - whole.transits),
             last: whole.time,
         }
     }
 
-    // The vehicle stands at its start.
+    /// The vehicle stands at its start.
     #[inline(always)]
-    fn way_out(&self) -> Way
+    pub fn way_out(&self) -> Way
         requires guide { IsGuide self.now }
         ensures value { result ≡ way_out_by self.now.model.now self.now.v (runs_of self.now) }
         ensures range { IsWayOf self.now.model.now 0 result }
@@ -188,10 +197,10 @@ impl<'m> Guide<'m> {
         requires within { All (IsWithin routes.now.lists) pieces.now }
         requires visits { All (λ node. IsTrue (is_visit self.now.model.now node)) (joined routes.now.lists pieces.now) }
         requires few { length (joined routes.now.lists pieces.now) ≤ 1000 }
-        requires way { IsWayOf self.now.model.now 0 way }
+        requires way { IsWayOf self.now.model.now 1000 way }
         ensures value { result ≡ along_by self.now.model.now self.now.d self.now.v (runs_of self.now) way
             (joined routes.now.lists pieces.now) }
-        ensures range { IsWayOf self.now.model.now 1000 result }
+        ensures range { IsWayOf self.now.model.now 2000 result }
     {
         let mut gone = way;
         for k in 0..pieces.len() {
@@ -207,7 +216,7 @@ impl<'m> Guide<'m> {
         requires within { IsWithin routes.now.lists piece }
         requires visits { All (λ node. IsTrue (is_visit self.now.model.now node)) (nodes_of routes.now.lists piece) }
         requires few { length (nodes_of routes.now.lists piece) ≤ 1000 }
-        requires way { IsWayOf self.now.model.now 1000 way }
+        requires way { IsWayOf self.now.model.now 2000 way }
         ensures { result ≡ along_by self.now.model.now self.now.d self.now.v (runs_of self.now) way
             (nodes_of routes.now.lists piece) }
     {
@@ -232,7 +241,7 @@ impl<'m> Guide<'m> {
         requires visits { All (λ node. IsTrue (is_visit self.now.model.now node))
             (cond reversed (reverse chain.now) chain.now) }
         requires few { length (cond reversed (reverse chain.now) chain.now) ≤ 1000 }
-        requires way { IsWayOf self.now.model.now 1000 way }
+        requires way { IsWayOf self.now.model.now 2000 way }
         ensures { result ≡ along_by self.now.model.now self.now.d self.now.v (runs_of self.now) way
             (cond reversed (reverse chain.now) chain.now) }
     {
@@ -243,12 +252,12 @@ impl<'m> Guide<'m> {
         gone
     }
 
-    // It goes on to a visit.
+    /// It goes on to a visit.
     #[inline(always)]
-    fn way_to_visit(&self, way: Way, node: u32) -> Way
+    pub fn way_to_visit(&self, way: Way, node: u32) -> Way
         requires guide { IsGuide self.now }
         requires node { IsTrue (is_visit self.now.model.now node) }
-        requires way { IsWayOf self.now.model.now 2000 way }
+        requires way { IsWayOf self.now.model.now 3000 way }
         ensures { result
             ≡ way_to_visit_by self.now.model.now self.now.d self.now.v (runs_of self.now) way node }
     {
@@ -261,7 +270,7 @@ impl<'m> Guide<'m> {
         requires guide { IsGuide self.now }
         requires node { node < self.now.model.now.nodes }
         requires allowed { HasCumulEnds allowed }
-        requires way { IsWayOf self.now.model.now 2000 way }
+        requires way { IsWayOf self.now.model.now 3000 way }
         ensures { result ≡ way_on_by self.now.model.now self.now.d self.now.v way node allowed }
     {
         let transit = self
@@ -277,9 +286,9 @@ impl<'m> Guide<'m> {
     }
 }
 
-// The run of one cumul.
+/// The run of one cumul.
 #[inline]
-fn only(x: i64) -> Run
+pub fn only(x: i64) -> Run
     requires { IsIn (pos 0) horizon x }
     ensures value { result ≡ only_of x }
     ensures range { HasCumulEnds result }

@@ -166,6 +166,7 @@ impl KeptLists {
 // Of how many lists something is kept in a dimension: of all where anything is paid for spans, and else of none.
 fn how_many(dimension: &Dimension, routes: &Routes) -> u32
     ensures all { result ≢ length routes.now.lists → IsUnpaid dimension.now }
+    ensures none { IsUnpaid dimension.now → result ≡ 0 }
     ensures no_more { result ≤ length routes.now.lists }
 {
     if pays(dimension) {
@@ -177,7 +178,8 @@ fn how_many(dimension: &Dimension, routes: &Routes) -> u32
 
 // Whether anything is paid for spans in a dimension.
 fn pays(dimension: &Dimension) -> bool
-    ensures { result ≡ false → IsUnpaid dimension.now }
+    ensures unpaid { result ≡ false → IsUnpaid dimension.now }
+    ensures none { IsUnpaid dimension.now → result ≡ false }
 {
     for v in 0..dimension.span_costs.len() {
         if *dimension.span_costs.get(v) != 0 {

@@ -1,5 +1,14 @@
 //! How early vehicles can end lists, and how short their spans can be: bounds from below of what the chosen schedules
-//! come to, told by one walk along what a change puts into a list, which builds no schedule.
+//! come to, known by one walk along what a change puts into a list, which builds no schedule.
+//!
+//! At each stop a vehicle is no earlier than the floor of the stop, the least cumul that its row lets, and than the
+//! transits from the stop before let. What is left of a line from a stop on takes a time to the greater of two numbers,
+//! and so do several stops in turn. Of each committed list the ways along its first visits are kept, and what is left
+//! behind each place, where anything is paid for spans; so what a change keeps of a list is not walked.
+//!
+//! What is kept is always of the committed lists, which are valid (`StandsEarliest`): who changes them commits the
+//! change here first. `vr_costfilter` asks before it looks for a schedule, and passes over a change that these bounds
+//! refuse; the law of `laws` says that they are bounds, whatever the rule of the vehicle is.
 #![tactic(auto)]
 
 mod earlies;

@@ -1,7 +1,7 @@
-use Rattle.std.proofs.Common.{◌≡◌, ◌∙◌, inl, inr, ◌<◌, ℕ, List, length, length-set, sym, subst, arith}
+use Rattle.std.proofs.Common.{◌≡◌, ◌∙◌, inl, inr, ◌<◌, ℕ, List, length, length-set, ap, sym, subst, arith}
 use Rattle.std.specs.Prelude.{slice_index_or, slice_set}
 use Rattle.std.proofs.lemmas.Bool.{cases_lt}
-use Rattle.std.proofs.lemmas.List.{get_or-set_same, get_or-set_other}
+use Rattle.std.proofs.lemmas.List.{get_or_default, get_or-set_same, get_or-set_other}
 use Rattle.vr_timings.proofs.TableLemmas.{table_at}
 use Rattle.vr_model.specs.moves.Moves.{with_route}
 use Rattle.vr_cumuls.specs.declared.kept.Kept.{Kept}
@@ -36,8 +36,22 @@ loop-d-preserved c =
         | inr high ↦ (let here : d ≡ at = omega (arith, low, high) in
             subst (λ n. AreKept m n (with_route lists v list) (slice_index_or (slice_set kept at new) n other)) (sym here)
             (subst (AreKept m at (with_route lists v list)) (sym (get_or-set_same kept at new other inside))
-            (c.write.ensures lists (i.left lists all at c.index-kept-d.result (omega arith) inside) known)))
+            (c.write.ensures.kept lists (i.left lists all at c.index-kept-d.result (omega arith) inside) known)))
       ];
       left = λ lists all d other high low.
           subst (AreKept m d lists) (sym (get_or-set_other kept at d new other (λ e. absurd (omega (arith, e, high))))) (i.left lists all d other (omega (arith, high)) (omega (arith, low, many)));
+      as_many = λ d other low.
+          let apart = λ (e : (d ≡ at) → ⊥). ap length (get_or-set_other kept at d new other e) ∙ i.as_many d other (omega (arith, low, many)) in
+          elim (cases_lt d at) [
+            | inl less ↦ apart (λ e. absurd (omega (arith, e, less)))
+            | inr high ↦ elim (cases_lt at d) [
+              | inl more ↦ apart (λ e. absurd (omega (arith, e, more)))
+              | inr least ↦ (
+                  let here : d ≡ at = omega (arith, high, least) in
+                  let there = i.as_many at c.index-kept-d.result inside in
+                  let first : at < length c.args.kept.now = (let n = c.requires.many in omega (arith, n, all_many, inside)) in
+                  let set = ap length (get_or-set_same kept at new other inside) ∙ c.write.ensures.many ∙ there ∙ ap length (get_or_default c.args.kept.now at c.index-kept-d.result other first) in
+                  subst (λ n. length (slice_index_or (slice_set kept at new) n other) ≡ length (slice_index_or c.args.kept.now n other)) (sym here) set)
+            ]
+          ];
     }

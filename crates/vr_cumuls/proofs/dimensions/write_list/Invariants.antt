@@ -12,4 +12,5 @@ invariant-loop-d l = record {
       → (d : ℕ) (other : List Kept) → d < l.d → AreKept l.model d (with_route lists l.v l.list) (slice_index_or l.kept d other);
   left : (lists : List (List ℕ)) → AreAllKept l.model lists l.fn.kept
       → (d : ℕ) (other : List Kept) → l.d ≤ d → d < length l.kept → AreKept l.model d lists (slice_index_or l.kept d other);
+  as_many : (d : ℕ) (other : List Kept) → d < length l.kept → length (slice_index_or l.kept d other) ≡ length (slice_index_or l.fn.kept d other);
 }

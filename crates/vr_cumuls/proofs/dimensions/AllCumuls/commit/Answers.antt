@@ -8,7 +8,8 @@ use Rattle.vr_parts.proofs.PartLemmas.{small}
 use Rattle.vr_parts.proofs.SumLemmas.{upto, upto-many, upto-next}
 use Rattle.vr_parts.proofs.RowLemmas.{written}
 use Rattle.vr_cumuls.specs.declared.kept.Kept.{Kept}
-use Rattle.vr_cumuls.specs.Kept.{AreAllKept}
+use Rattle.vr_cumuls.specs.Kept.{AreAllKept, AreAsMany}
+use Rattle.vr_cumuls.proofs.KeptLemmas.{as-many-same, as-many-then}
 use Rattle.vr_cumuls.proofs.PartLemmas.{list-after}
 use Rattle.vr_cumuls.proofs.dimensions.AllCumuls.commit.Goals as goal
 
@@ -36,7 +37,7 @@ write_list-requires-clause-visits c =
 
 pub loop-k-preserved : goal.loop-k-preserved
 loop-k-preserved c =
-    let i = c.loop-k.invariant in
+    let i = c.loop-k.invariant.kept in
     let m = c.args.model.now in
     let lists : List (List ℕ) = c.args.routes.now.lists in
     let parts = c.args.change.now in
@@ -51,8 +52,18 @@ loop-k-preserved c =
     let known = c.requires.made.makes.parts_are.each_vehicle k no_part low in
     let all_many = upto-many lists parts k in
     let list = c.as_slice.ensures.value ∙ c.join_into.ensures ∙ ap (joined lists) c.pieces.ensures.value in
-    let set = c.write_list.ensures base (subst (AreAllKept m base) (sym c.deref_mut.ensures.value) i) (omega (arith, vehicle, known, all_many)) in
+    let set = c.write_list.ensures.kept base (subst (AreAllKept m base) (sym c.deref_mut.ensures.value) i) (omega (arith, vehicle, known, all_many)) in
     let next : with_route base v c.as_slice.result.now ≡ upto lists parts (k + 1) =
     ap (with_route base v) list ∙ ap (λ w. with_route base w (joined lists part.pieces)) vehicle ∙ sym (ap (upto lists parts) (add-one k) ∙ upto-next lists parts k low) in
-    subst (AreAllKept m (upto lists parts (k + 1))) (sym (written old new c.loop-k.self-inside.dimensions.len (set.many ∙ sym i.many) (sym c.deref_mut.ensures.len ∙ ap length c.deref_mut.ensures.value)))
-    (subst (λ l. AreAllKept m l new) next set)
+    let as_many = as-many-then _ _ _ c.loop-k.invariant.as_many (subst (λ l. AreAsMany l new) c.deref_mut.ensures.value c.write_list.ensures.many) in
+    let all = sym (written old new c.loop-k.self-inside.dimensions.len (set.many ∙ sym i.many) (sym c.deref_mut.ensures.len ∙ ap length c.deref_mut.ensures.value)) in
+    record {
+      kept = subst (AreAllKept m (upto lists parts (k + 1))) all (subst (λ l. AreAllKept m l new) next set);
+      as_many = subst (AreAsMany c.args.self.now) all as_many;
+    }
+
+pub loop-k-init : goal.loop-k-init
+loop-k-init c = record {
+  kept = subst (AreAllKept c.args.model.now c.args.routes.now.lists) (sym c.self.view_is) c.requires.kept;
+  as_many = subst (λ l. AreAsMany l c.self.inside.dimensions.items) c.self.view_is (as-many-same c.self.inside.dimensions.items);
+}

@@ -29,6 +29,6 @@ returns-clause-guide c =
 pub returns-clause-runs : goal.returns-clause-runs
 returns-clause-runs c =
     let g = c.args.self.now in
-    let start = c.only-start.ensures.value ∙ ap only (read-cumul c.args.ends.start c.requires.start) in
-    let last = c.only-last.ensures.value ∙ ap only (read-cumul c.args.ends.last c.requires.last) in
+    let start = c.only-start.ensures.value ∙ ap only (read-cumul c.args.ends.start c.requires.ends.start) in
+    let last = c.only-last.ensures.value ∙ ap only (read-cumul c.args.ends.last c.requires.ends.last) in
     ap₂ (λ (a b : Run). (let runs : Runs = record { start = a; visits = g.visits.now; finish = b } in runs)) start last

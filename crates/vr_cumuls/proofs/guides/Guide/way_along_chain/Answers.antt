@@ -22,9 +22,9 @@ way_to_visit-gone-requires-clause-way c =
     let long = ordered-long c.args.reversed c.args.chain.now in
     let few = c.requires.few in
     let low = c.loop-k-test.true in
-    subst (IsWayOf g.model.now 2000) (sym c.loop-k.invariant)
-    (way-more g.model.now (1000 + k) 2000 (way_along g.model.now g.d g.v (runs_of g) c.args.way (take k nodes)) (omega (arith, few, long, low))
-    (along-part g.model.now h.well_formed g.d g.v h.dimension h.vehicle (runs_of g) h.visits nodes c.requires.visits 1000 c.args.way c.requires.way k (omega (arith, long, low))))
+    subst (IsWayOf g.model.now 3000) (sym c.loop-k.invariant)
+    (way-more g.model.now (2000 + k) 3000 (way_along g.model.now g.d g.v (runs_of g) c.args.way (take k nodes)) (omega (arith, few, long, low))
+    (along-part g.model.now h.well_formed g.d g.v h.dimension h.vehicle (runs_of g) h.visits nodes c.requires.visits 2000 c.args.way c.requires.way k (omega (arith, long, low))))
 
 pub loop-k-preserved : goal.loop-k-preserved
 loop-k-preserved c =

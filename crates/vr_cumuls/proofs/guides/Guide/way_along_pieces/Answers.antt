@@ -40,14 +40,14 @@ way_along_piece-gone-requires-clause-few c =
     omega (arith, next, two, few)
 
 -- the way so far
-gone-way : (g : Guide) → IsGuide g → (lists : List (List ℕ)) (pieces : List Piece) (k : ℕ) → All (λ node. IsTrue (is_visit g.model.now node)) (joined lists pieces) → length (joined lists pieces) ≤ 1000 → (way gone : Way) → IsWayOf g.model.now 0 way
-    → gone ≡ way_along g.model.now g.d g.v (runs_of g) way (joined lists (take k pieces)) → IsWayOf g.model.now 1000 gone
+gone-way : (g : Guide) → IsGuide g → (lists : List (List ℕ)) (pieces : List Piece) (k : ℕ) → All (λ node. IsTrue (is_visit g.model.now node)) (joined lists pieces) → length (joined lists pieces) ≤ 1000 → (way gone : Way) → IsWayOf g.model.now 1000 way
+    → gone ≡ way_along g.model.now g.d g.v (runs_of g) way (joined lists (take k pieces)) → IsWayOf g.model.now 2000 gone
 gone-way g h lists pieces k visits all way gone range is =
     let nodes : List ℕ = joined lists (take k pieces) in
     let few = front-few lists pieces k all in
-    subst (IsWayOf g.model.now 1000) (sym is)
-    (way-more g.model.now (0 + length nodes) 1000 _ (omega (arith, few))
-    (along-way g.model.now h.well_formed g.d g.v h.dimension h.vehicle (runs_of g) h.visits nodes (front-visits (λ node. IsTrue (is_visit g.model.now node)) lists pieces k visits) 0 way range))
+    subst (IsWayOf g.model.now 2000) (sym is)
+    (way-more g.model.now (1000 + length nodes) 2000 _ (omega (arith, few))
+    (along-way g.model.now h.well_formed g.d g.v h.dimension h.vehicle (runs_of g) h.visits nodes (front-visits (λ node. IsTrue (is_visit g.model.now node)) lists pieces k visits) 1000 way range))
 
 pub way_along_piece-gone-requires-clause-way : goal.way_along_piece-gone-requires-clause-way
 way_along_piece-gone-requires-clause-way c =

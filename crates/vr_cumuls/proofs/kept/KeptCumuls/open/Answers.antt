@@ -9,6 +9,13 @@ use Rattle.vr_cumuls.specs.declared.kept.Kept.{Kept}
 use Rattle.vr_parts.proofs.RowLemmas.{each-push}
 use Rattle.vr_cumuls.proofs.kept.KeptCumuls.open.Goals as goal
 
+pub get-requires : goal.get-requires
+get-requires c =
+    let many = are_lists-count c.args.model.now c.args.routes.now.lists (are-lists c.args.model.now c.args.routes.now.lists c.requires.valid) in
+    let end = c.vehicles-v-end.ensures.value in
+    let low = c.loop-v-test.true in
+    omega (arith, many, end, low)
+
 pub write_list-requires-clause-vehicle : goal.write_list-requires-clause-vehicle
 write_list-requires-clause-vehicle c =
     let many = are_lists-count c.args.model.now c.args.routes.now.lists (are-lists c.args.model.now c.args.routes.now.lists c.requires.valid) in

@@ -3,8 +3,8 @@ use Rattle.vr_cumuls.specs.Kept.{AreKept}
 use Rattle.vr_cumuls.proofs.KeptLemmas.{kept-set}
 use Rattle.vr_cumuls.proofs.kept.KeptCumuls.write.Goals as goal
 
-pub returns-then-v-len : goal.returns-then-v-len
-returns-then-v-len c lists h known =
+pub returns-then-v-len-clause-kept : goal.returns-then-v-len-clause-kept
+returns-then-v-len-clause-kept c lists h known =
     let m = c.args.model.now in
     let old = subst (AreKept m c.args.d lists) (sym c.self.view_is) h in
     let len = c.len.ensures in

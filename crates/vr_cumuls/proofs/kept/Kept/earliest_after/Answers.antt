@@ -1,0 +1,28 @@
+use Rattle.std.proofs.Common.{List, ℕ, length, ap, sym, subst, arith}
+use Rattle.vr_model.specs.schedules.Lines.{Line, line}
+use Rattle.vr_model.specs.schedules.Narrowed.{narrowed}
+use Rattle.vr_routes.specs.Pieces.{joined}
+use Rattle.vr_cumuls.specs.Guides.{runs_of}
+use Rattle.vr_cumuls.specs.Runs.{AllowsRuns}
+use Rattle.vr_cumuls.proofs.RunLemmas.{line-allows}
+use Rattle.vr_cumuls.proofs.kept.Kept.earliest_after.Goals as goal
+
+pub after-requires-clause-allows : goal.after-requires-clause-allows
+after-requires-clause-allows c =
+    let g = c.args.guide.now in
+    let new : List ℕ = joined c.args.routes.now.lists c.args.pieces.now in
+    let by = line-allows g.model.now g.d g.v (runs_of g) c.requires.runs new c.requires.used.tour in
+    subst (λ (l : Line). AllowsRuns g.model.now g.d g.v (runs_of g) new l) (sym (ap (λ rule. narrowed rule (line g.model.now g.d g.v new)) c.requires.rule)) by
+
+pub after-requires-clause-stages : goal.after-requires-clause-stages
+after-requires-clause-stages c =
+    let g = c.args.guide.now in
+    let many = c.are_of.ensures c.if-not-are_of.false in
+    let list = ap length c.list-list.ensures.value in
+    (c.requires.kept.earliest c.requires.rule (runs_of g) c.requires.runs).told (omega (arith, many, list))
+
+pub after-requires-clause-many : goal.after-requires-clause-many
+after-requires-clause-many c =
+    let many = c.are_of.ensures c.if-not-are_of.false in
+    let list = ap length c.list-list.ensures.value in
+    omega (arith, many, list)

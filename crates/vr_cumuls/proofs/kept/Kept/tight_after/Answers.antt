@@ -1,0 +1,65 @@
+use Rattle.std.proofs.Common.{◌≡◌, ◌∙◌, ◌<◌, ℕ, List, length, ap, subst, sym, arith, to_z, of_z, w64}
+use Rattle.vr_model.specs.routes.Routes.{route}
+use Rattle.vr_model.specs.schedules.Lines.{Line, line}
+use Rattle.vr_model.specs.schedules.Narrowed.{between, chosen_line, narrowed}
+use Rattle.vr_routes.specs.Pieces.{joined}
+use Rattle.vr_timings.proofs.BoundLemmas.{read-cumul}
+use Rattle.vr_spans.proofs.RunsLemmas.{some_from_test}
+use Rattle.vr_cumuls.specs.Ends.{AreEnds}
+use Rattle.vr_cumuls.specs.Guides.{runs_of}
+use Rattle.vr_cumuls.specs.Runs.{AllowsRuns, between_runs}
+use Rattle.vr_cumuls.proofs.BetweenLemmas.{between-allows, end-in, start-in}
+use Rattle.vr_cumuls.proofs.RunLemmas.{line-allows}
+use Rattle.vr_cumuls.proofs.TightLemmas.{ends-timed}
+use Rattle.vr_cumuls.proofs.kept.Kept.tight_after.Goals as goal
+
+pub ends_of-ends-requires-clause-kept : goal.ends_of-ends-requires-clause-kept
+ends_of-ends-requires-clause-kept c =
+    let g = c.args.guide.now in
+    let many = c.has_ways.ensures c.if-not-has_ways.false in
+    let list = ap length c.list-list.ensures.value in
+    let some : 0 < length c.args.self.now.ends.items = (let some = some_from_test _ _ c.if-is_empty.false c.is_empty.ensures in omega (arith, some)) in
+    let is = subst (AreEnds g.model.now g.d g.v (route c.args.routes.now.lists g.v)) (sym c.index-kept.ensures) (c.requires.kept.ends.first c.index-kept.result.now some) in
+    is.ways (omega (arith, many, list))
+
+pub timing_between-requires-clause-allows : goal.timing_between-requires-clause-allows
+timing_between-requires-clause-allows c =
+    let g = c.args.guide.now in
+    let m = g.model.now in
+    let list : List ℕ = joined c.args.routes.now.lists c.args.pieces.now in
+    let L : Line = line m g.d g.v list in
+    let by = line-allows m g.d g.v (runs_of g) c.requires.runs list c.requires.used.tour in
+    let ends = c.ends_of-ends.result in
+    let told = c.ends_of-ends.ensures in
+    let is : chosen_line m g.d g.v list ≡ between L ends.start ends.last =
+    ap (λ rule. narrowed rule L) c.requires.rule ∙ c.narrowed_to_ends.ensures L by.has.stops ends.start ends.last told.last told.start in
+    let a = between-allows m g.d g.v (runs_of g) list L by ends.start ends.last told.start in
+    subst (λ (l : Line). AllowsRuns m g.d g.v (between_runs (runs_of g) ends.start ends.last) list l) (sym is) a
+
+pub timing_between-requires-clause-ends : goal.timing_between-requires-clause-ends
+timing_between-requires-clause-ends c =
+    let g = c.args.guide.now in
+    let list : List ℕ = joined c.args.routes.now.lists c.args.pieces.now in
+    let L : Line = line g.model.now g.d g.v list in
+    let by = line-allows g.model.now g.d g.v (runs_of g) c.requires.runs list c.requires.used.tour in
+    let ends = c.ends_of-ends.result in
+    let start = c.ends_of-ends.ensures.start in
+    record { start = start-in g.model.now g.d g.v (runs_of g) list L by ends.start ends.last start; last = end-in g.model.now g.d g.v (runs_of g) list L by ends.start ends.last start }
+
+-- told by its ends alone
+pub returns-then-not-has_soft : goal.returns-then-not-has_soft
+returns-then-not-has_soft c =
+    let g = c.args.guide.now in
+    let m = g.model.now in
+    let list : List ℕ = joined c.args.routes.now.lists c.args.pieces.now in
+    let L : Line = line m g.d g.v list in
+    let by = line-allows m g.d g.v (runs_of g) c.requires.runs list c.requires.used.tour in
+    let some : 0 < length c.args.self.now.ends.items = (let some = some_from_test _ _ c.if-is_empty.false c.is_empty.ensures in omega (arith, some)) in
+    let kept = subst (AreEnds m g.d g.v (route c.args.routes.now.lists g.v)) (sym c.index-kept.ensures) (c.requires.kept.ends.first c.index-kept.result.now some) in
+    let ends = c.ends_of-ends.result in
+    let told = c.ends_of-ends.ensures in
+    let start = start-in m g.d g.v (runs_of g) list L by ends.start ends.last told.start in
+    let last = end-in m g.d g.v (runs_of g) list L by ends.start ends.last told.start in
+    let timed = ends-timed m g.d g.v list c.requires.rule c.requires.feasible ends.start ends.last told.last told.start (kept.soft (sym c.has_soft.ensures ∙ c.if-not-has_soft.true)) start last
+    (to_z w64 (of_z w64 ends.start)) (to_z w64 (of_z w64 ends.last)) (read-cumul ends.start start) (read-cumul ends.last last) in
+    record { timing = timed.is_timing; range = timed.range }

@@ -1,0 +1,29 @@
+use Rattle.std.proofs.Common.{sym, subst, arith}
+use Rattle.std.specs.Prelude.{All, IsTrue}
+use Rattle.vr_model.specs.tables.Tables.{is_visit}
+use Rattle.vr_cumuls.specs.Guides.{runs_of}
+use Rattle.vr_cumuls.specs.Runs.{Runs}
+use Rattle.vr_cumuls.specs.Steps.{HasStages}
+use Rattle.vr_cumuls.proofs.KeptLemmas.{stages-none}
+use Rattle.vr_cumuls.proofs.kept.Kept.write_between.Goals as goal
+
+pub returns-then-not-has_soft-clause-stages : goal.returns-then-not-has_soft-clause-stages
+returns-then-not-has_soft-clause-stages c =
+    let g = c.args.guide.now in
+    stages-none g.model.now g.d g.v _ c.args.list.now _ (let n = c.requires.none in omega (arith, n))
+
+pub write-requires-clause-visits : goal.write-requires-clause-visits
+write-requires-clause-visits c = subst (λ model. All (λ node. IsTrue (is_visit model node)) c.args.list.now) (sym c.between.ensures.model) c.requires.visits
+
+pub returns-clause-stages : goal.returns-clause-stages
+returns-clause-stages c =
+    let g = c.args.guide.now in
+    let m = g.model.now in
+    let k = c.between.result in
+    let e = c.between.ensures in
+    let list = c.args.list.now in
+    let kept = c.write.new.self in
+    let a = subst (λ model. HasStages model k.d k.v (runs_of k) list kept) e.model c.write.ensures in
+    let b = subst (λ d. HasStages m d k.v (runs_of k) list kept) e.dimension a in
+    let x = subst (λ v. HasStages m g.d v (runs_of k) list kept) e.vehicle b in
+    subst (λ (r : Runs). HasStages m g.d g.v r list kept) e.runs x

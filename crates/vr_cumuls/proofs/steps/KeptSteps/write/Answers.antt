@@ -1,0 +1,12 @@
+use Rattle.std.proofs.Common.{◌∙◌, ◌++◌, List, ap, sym, subst}
+use Rattle.std.specs.Prelude.{All, reverse}
+use Rattle.std.proofs.lemmas.List.{reverse-reverse}
+use Rattle.vr_cumuls.specs.Floors.{IsVisitStep}
+use Rattle.vr_cumuls.specs.declared.trails.Step.{Step}
+use Rattle.vr_cumuls.proofs.steps.KeptSteps.write.Goals as goal
+
+pub write_stages-requires-clause-known : goal.write_stages-requires-clause-known
+write_stages-requires-clause-known c =
+    let w = c.in-Some.ensures.back in
+    let same = ap reverse (w.trail ∙ ap (λ (l : List Step). l ++ reverse w.steps) c.clear-2.ensures) ∙ reverse-reverse w.steps in
+    subst (All (IsVisitStep c.args.guide.now.model.now)) (sym same) w.known

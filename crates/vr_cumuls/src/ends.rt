@@ -1,0 +1,164 @@
+//! What is kept of committed lists of vehicles that choose their tight schedules, so that the two ends of a changed
+//! list are known by a walk along what the change puts into it alone.
+
+ghost use Rattle.std.specs.Prelude.{◌≡◌, ◌<◌, ◌≤◌, ◌+◌, ◌-◌, All, IsTrue, false, pos, length, slice_index_or, true};
+ghost use Rattle.vr_model.specs.tables.Numbers.{horizon};
+ghost use Rattle.vr_model.specs.tables.Tables.{dimension_at, is_visit};
+ghost use Rattle.vr_model.specs.tables.WellFormed.{IsIn};
+ghost use Rattle.vr_cumuls.specs.Ends.{AreRestsTo, AreWaysTo, CostsNoSoft, HasCumuls, HasWays};
+ghost use Rattle.vr_cumuls.specs.Guides.{runs_of, IsGuide};
+ghost use Rattle.vr_cumuls.specs.Runs.{AreRuns};
+ghost use Rattle.vr_cumuls.specs.declared.rests.Rest.{Rest as RestOf};
+ghost use Rattle.vr_cumuls.specs.declared.tight.Way.{Way as WayOf};
+
+use crate::guides::Guide;
+use crate::rests::Rest;
+use crate::soft::has_soft_bounds;
+use crate::tight::{Ends, Way};
+use arrayvec::ArrayVec;
+use vr_model::limits::HORIZON;
+
+/// What is kept of the list of a vehicle.
+#[derive(Drop)]
+pub struct KeptEnds {
+    // the way along the first visits, for each number of visits; none where the vehicle has breaks, or a stop allows
+    // several runs of cumuls
+    ways: ArrayVec<Way, 1001>,
+    // what is left from each visit on and from the end, from the end backwards
+    rests: ArrayVec<Rest, 1001>,
+    // whether soft upper bounds may cost it anything
+    soft: bool,
+}
+
+impl KeptEnds {
+    /// Of no list.
+    pub fn new() -> KeptEnds {
+        KeptEnds {
+            ways: ArrayVec::new(),
+            rests: ArrayVec::new(),
+            soft: true,
+        }
+    }
+
+    /// Forgets the list.
+    pub fn forget(&mut self)
+        ensures none { length self.new.ways.items ≡ 0 }
+        ensures soft { self.new.soft ≡ true }
+    {
+        self.ways.clear();
+        self.rests.clear();
+        self.soft = true;
+    }
+
+    /// Whether soft upper bounds may cost the vehicle anything.
+    #[inline]
+    pub fn has_soft(&self) -> bool
+        ensures { result ≡ self.now.soft }
+    {
+        self.soft
+    }
+
+    /// Whether the ways along a list of `n` visits are kept.
+    #[inline]
+    pub fn has_ways(&self, n: usize) -> bool
+        requires { n ≤ 1000 }
+        ensures { IsTrue result → length self.now.ways.items ≡ n + 1 }
+    {
+        self.ways.len() == n + 1
+    }
+
+    /// The way along the first `place` visits of the list.
+    #[inline(always)]
+    pub fn way(&self, place: u32) -> Way
+        requires place { place < length self.now.ways.items }
+        ensures { (other : WayOf) → result ≡ slice_index_or self.now.ways.items place other }
+    {
+        self.ways[place as usize]
+    }
+
+    /// What is left from a place of the list on.
+    #[inline(always)]
+    pub fn rest(&self, place: u32) -> Rest
+        requires place { place < length self.now.rests.items }
+        ensures { (other : RestOf)
+            → result ≡ slice_index_or self.now.rests.items (length self.now.rests.items - 1 - place) other }
+    {
+        self.rests[self.rests.len() - 1 - place as usize]
+    }
+
+    /// The ends of the tight schedule of a list whose ways are kept; within the horizon also where it has none.
+    pub fn ends(&self, guide: &Guide, list: &[u32]) -> Ends
+        requires guide { IsGuide guide.now }
+        requires few { length list.now ≤ 1000 }
+        requires visits { All (λ node. IsTrue (is_visit guide.now.model.now node)) list.now }
+        requires ways { HasWays guide.now.model.now guide.now.d guide.now.v (runs_of guide.now) list.now self.now }
+        ensures { HasCumuls result }
+    {
+        let way = self.ways[list.len()];
+        let rest = self.rests[0];
+        let whole = guide.way_through(way, rest);
+        let ends = guide.ends_by(whole);
+        Ends {
+            start: within_horizon(ends.start),
+            last: within_horizon(ends.last),
+        }
+    }
+
+    /// Writes what is kept of a list.
+    pub fn write(&mut self, guide: &Guide, list: &[u32])
+        requires guide { IsGuide guide.now }
+        requires runs { AreRuns guide.now.model.now guide.now.d guide.now.v (runs_of guide.now) }
+        requires few { length list.now ≤ 1000 }
+        requires visits { All (λ node. IsTrue (is_visit guide.now.model.now node)) list.now }
+        ensures ways { HasWays guide.now.model.now guide.now.d guide.now.v (runs_of guide.now) list.now self.new }
+        ensures soft { self.new.soft ≡ false → CostsNoSoft (dimension_at guide.now.model.now guide.now.d) }
+    {
+        self.soft = has_soft_bounds(guide.model.dimensions.get(guide.d as usize));
+        self.write_ways(guide, list);
+        self.write_rests(guide, list);
+    }
+
+    // Writes the ways along a list.
+    fn write_ways(&mut self, guide: &Guide, list: &[u32])
+        requires guide { IsGuide guide.now }
+        requires few { length list.now ≤ 1000 }
+        requires visits { All (λ node. IsTrue (is_visit guide.now.model.now node)) list.now }
+        ensures ways { AreWaysTo guide.now.model.now guide.now.d guide.now.v (runs_of guide.now) list.now
+            (length list.now) self.new.ways.items }
+        ensures soft { self.new.soft ≡ self.old.soft }
+    {
+        let mut way = guide.way_out();
+        self.ways.clear();
+        self.ways.push(way);
+        for k in 0..list.len() {
+            way = guide.way_to_visit(way, list[k]);
+            self.ways.push(way);
+        }
+    }
+
+    // Writes what is left from each stop of a list on.
+    fn write_rests(&mut self, guide: &Guide, list: &[u32])
+        requires guide { IsGuide guide.now }
+        requires few { length list.now ≤ 1000 }
+        requires visits { All (λ node. IsTrue (is_visit guide.now.model.now node)) list.now }
+        ensures rests { AreRestsTo guide.now.model.now guide.now.d guide.now.v (runs_of guide.now) list.now
+            (length list.now) self.new.rests.items }
+        ensures ways { self.new.ways ≡ self.old.ways }
+        ensures soft { self.new.soft ≡ self.old.soft }
+    {
+        let mut rest = guide.rest_at_end();
+        self.rests.clear();
+        self.rests.push(rest);
+        for k in 0..list.len() {
+            rest = guide.rest_before(list[list.len() - 1 - k], rest);
+            self.rests.push(rest);
+        }
+    }
+}
+
+// The cumul that is nearest to a number.
+fn within_horizon(x: i64) -> i64
+    ensures { IsIn (pos 0) horizon result }
+{
+    x.max(0).min(HORIZON)
+}
