@@ -179,16 +179,16 @@ fn run_watched<S: Source, K: Sink>(
 /// | 6 | of `first` and `solve`, exactly where the model has no first solution | `{"status":"ROUTING_FAIL"}` |
 /// | 7 | want of memory; nothing in the contract ties it to a refused growth | nothing |
 /// | 8 | exactly where the input has more than 67108864 bytes | `{"status":"TOO_LONG"}` |
-/// | 9 | of `check`, `spans` exactly where a rule is broken | `{"place":K,"rule":"R","status":"NOT_MET","vehicle":V}` |
+/// | 9 | `check`, `spans`: exactly where a rule is broken | `{"place":L,"rule":"R","status":"NOT_MET","vehicle":V}` |
 ///
 /// An input is JSON where it is UTF-8 and `serde_json` reads a value from it, which may nest at most 127 deep. `first`
 /// and `solve` ask for a model with a first solution: the lists at which its construction ends are valid. `check` and
 /// `spans` ask for a solution that keeps all rules of the model beside it. Of each used vehicle `spans` tells, in each
 /// dimension in which no vehicle has breaks, the least span of all schedules of its line and the printed one, and of
 /// the schedules of the least span the one whose cumuls, compared from the start on, are least. With 5, C is the code
-/// and P the path of the first fault of reading, of `import` the number of the line; with 9, R is the first rule
-/// (`vr_check::Rule`) that is broken, with its vehicle and place. The causes of 4, 5 and 8 are said of the words that
-/// read.
+/// and P the path of the first fault of reading, of `import` a `/` and the number of the line, `/0` for the file as a
+/// whole; with 9, R is the first rule (`vr_check::Rule`) that is broken, with its vehicle V and place L. The causes of
+/// 4, 5 and 8 are said of the words that read.
 ///
 /// Only with `--log` is an event of the search noted, to every watcher in order; a watcher that finds no memory for it
 /// ends the run with status 7. All watchers are dropped at the end.

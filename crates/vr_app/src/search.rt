@@ -21,61 +21,30 @@ use vr_model::{Model, NoMemory, Steps};
 use vr_replies::Mode;
 use vr_routes::Routes;
 
-/// The judge of the moves of a search from these routes, which are valid. The only refusal is want of memory.
-pub(crate) fn judge_of<'m>(
-    alloc: Global,
-    model: &'m Model,
-    first: &Routes,
-) -> Result<FilterJudge<'m>, NoMemory>
-    requires well_formed { IsWellFormed model.now }
-    requires of_model { first.now.visits ≡ visits model.now }
-    requires valid { IsTrue (is_valid model.now first.now.lists) }
-    ensures model { IfOk result (λ judge. judge.model ≡ model.now) }
-    ensures holds { IfOk result (λ judge. HoldSame model.now judge.lists first.now) }
-{
-    let judge = FilterJudge::open(alloc, model, first)?;
-    Ok(judge)
-}
-
-// What the improvement that the model names makes of its first solution, by that judge.
-fn improve_judged<L: Ledger>(
+// What the improvement that the model names makes of its first solution, by a judge that stands at it.
+pub(crate) fn improve_judged<L: Ledger>(
     alloc: Global,
     model: &Model,
-    first: Routes,
-    first_cost: i64,
+    judge: &mut FilterJudge<'_>,
+    first: FirstSolution,
     watch: &mut Watchers,
     blank: Blank,
 ) -> Result<Best, NoMemory>
     requires well_formed { IsWellFormed model.now }
-    requires of_model { first.visits ≡ visits model.now }
-    requires valid { IsTrue (is_valid model.now first.lists) }
-    requires first_cost { first_cost ≡ cost model.now first.lists }
+    requires judge_model { judge.old.model ≡ model.now }
+    requires holds { HoldSame model.now judge.old.lists first.routes }
+    requires first_cost { first.cost ≡ cost model.now first.routes.lists }
     requires name { blank.name ≡ L.name }
     requires parts { blank.parts ≡ L.parts }
     requires some { 0 < blank.parts }
-    ensures ends { let outcome = how.improved model.now.search.improve model.now first.lists in
-        IfOk result (EndsAs first.visits outcome) }
-    ensures told { let outcome = how.improved model.now.search.improve model.now first.lists in
+    ensures ends { let outcome = how.improved model.now.search.improve model.now first.routes.lists in
+        IfOk result (EndsAs first.routes.visits outcome) }
+    ensures told { let outcome = how.improved model.now.search.improve model.now first.routes.lists in
         OnOk result (Told (λ w later. after w later) watch.old.items watch.new.items outcome.events) }
 {
-    let mut judge = judge_of(alloc, model, &first)?;
     let mut rebuild = Insertion::new(alloc);
     let mut steps = Steps::<L>::new(blank);
-    let first = FirstSolution {
-        routes: first,
-        cost: first_cost,
-    };
-    let best = improve(
-        alloc,
-        model,
-        &mut judge,
-        &mut rebuild,
-        first,
-        watch,
-        &mut steps,
-    );
-    judge.close();
-    best
+    improve(alloc, model, judge, &mut rebuild, first, watch, &mut steps)
 }
 
 /// What the search that the model names makes of its first solution, which costs so much. The watchers are told of each
@@ -96,7 +65,14 @@ pub(crate) fn solve(
     ensures told { let outcome = how.improved model.now.search.improve model.now first.lists in
         OnOk result (Told (λ w later. after w later) watch.old.items watch.new.items outcome.events) }
 {
-    improve_judged::<Brand>(alloc, model, first, first_cost, watch, Blank::new(1))
+    let mut judge = FilterJudge::open(alloc, model, &first)?;
+    let first = FirstSolution {
+        routes: first,
+        cost: first_cost,
+    };
+    let best = improve_judged::<Brand>(alloc, model, &mut judge, first, watch, Blank::new(1));
+    judge.close();
+    best
 }
 
 /// The same, where no event is told.

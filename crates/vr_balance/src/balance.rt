@@ -1,13 +1,13 @@
 //! The balance of a change.
 
 ghost use Rattle.std.specs.Prelude.{◌≡◌, ◌+◌, ◌<◌, ◌≤◌, ℕ, List, [], length, All, false};
-ghost use Rattle.std.specs.Prelude.{slice_index_or, slice_range, sum_by};
+ghost use Rattle.std.specs.Prelude.{slice_index_or, slice_range, sum_by, take};
 ghost use Rattle.arrayvec.specs.ArrayVec.{array_vec_len};
 ghost use Rattle.vr_model.specs.routes.Routes.{route};
 ghost use Rattle.vr_routes.specs.Pieces.{changed, joined, nodes_of, IsWithin};
 ghost use Rattle.vr_routes.specs.Changes.{IsMadeOn};
 ghost use Rattle.vr_routes.specs.declared.pieces.Piece.TheVariants.{Chain, Node};
-ghost use Rattle.vr_balance.specs.Balances.{over_pieces, AreWithin, Became, IsBalance};
+ghost use Rattle.vr_balance.specs.Balances.{over_pieces, Became, IsBalance, IsNoneOf, IsTurnover};
 
 use arrayvec::ArrayVec;
 use std::marker::Model;
@@ -30,10 +30,11 @@ impl Model for Balance {
     ghost view = { λ b. record { come = b.come.items; gone = b.gone.items } };
 }
 
-// The place of a piece among others, or how many there are where it is none of them.
+// The first place of a piece among others, or how many there are where it is none of them.
 fn place_of(pieces: &[Piece], piece: Piece) -> usize
     ensures low { result ≤ length pieces.now }
     ensures found { result < length pieces.now → slice_index_or pieces.now result piece ≡ piece }
+    ensures first { IsNoneOf (take result pieces.now) piece }
 {
     for k in 0..pieces.len() {
         if pieces[k] == piece {
@@ -55,6 +56,7 @@ fn enter(side: &mut ArrayVec<Piece, 18>, other: &mut ArrayVec<Piece, 18>, piece:
         → All (IsWithin lists) side.new.items }
     ensures others_within { (lists : List (List ℕ)) → All (IsWithin lists) other.old.items
         → All (IsWithin lists) other.new.items }
+    ensures apart { All (IsNoneOf other.old.items) side.old.items → All (IsNoneOf other.new.items) side.new.items }
 {
     let k = place_of(other.as_slice(), piece);
     if k < other.len() {
@@ -112,10 +114,10 @@ impl Balance {
         requires few { length pieces.now ≤ 8 }
         requires room { length self.old.come ≤ 9 }
         requires room_too { length self.old.gone ≤ 9 }
-        requires within { AreWithin routes.now.lists self.old }
+        requires within { IsTurnover routes.now.lists self.old }
         ensures room { length self.new.come ≤ length self.old.come + 9 }
         ensures room_too { length self.new.gone ≤ length self.old.gone + 9 }
-        ensures within { AreWithin routes.now.lists self.new }
+        ensures within { IsTurnover routes.now.lists self.new }
         ensures became { Became routes.now.lists self.old self.new (route routes.now.lists v)
             (joined routes.now.lists pieces.now) }
     {
@@ -133,12 +135,12 @@ impl Balance {
         requires piece { IsWithin routes.now.lists piece }
         requires room { length self.old.come < 18 }
         requires room_too { length self.old.gone < 18 }
-        requires within { AreWithin routes.now.lists self.old }
+        requires within { IsTurnover routes.now.lists self.old }
         ensures order { place ≤ result }
         ensures low { result ≤ length (route routes.now.lists v) }
         ensures room { length self.new.come ≤ length self.old.come + 1 }
         ensures room_too { length self.new.gone ≤ length self.old.gone + 1 }
-        ensures within { AreWithin routes.now.lists self.new }
+        ensures within { IsTurnover routes.now.lists self.new }
         ensures became { Became routes.now.lists self.old self.new (slice_range (route routes.now.lists v) place result)
             (nodes_of routes.now.lists piece) }
     {
@@ -166,10 +168,10 @@ impl Balance {
     // A node comes, from where it stands or anew.
     fn bring_node(&mut self, routes: &Routes, node: u32)
         requires room { length self.old.come < 18 }
-        requires within { AreWithin routes.now.lists self.old }
+        requires within { IsTurnover routes.now.lists self.old }
         ensures room { length self.new.come ≤ length self.old.come + 1 }
         ensures room_too { length self.new.gone ≤ length self.old.gone }
-        ensures within { AreWithin routes.now.lists self.new }
+        ensures within { IsTurnover routes.now.lists self.new }
         ensures became { Became routes.now.lists self.old self.new [] (nodes_of routes.now.lists (Node node)) }
     {
         match routes.seat(node) {
@@ -186,10 +188,10 @@ impl Balance {
     fn bring(&mut self, _routes: &Routes, v: u32, from: u32, to: u32)
         requires chain { IsWithin _routes.now.lists (Chain v from to false) }
         requires room { length self.old.come < 18 }
-        requires within { AreWithin _routes.now.lists self.old }
+        requires within { IsTurnover _routes.now.lists self.old }
         ensures room { length self.new.come ≤ length self.old.come + 1 }
         ensures room_too { length self.new.gone ≤ length self.old.gone }
-        ensures within { AreWithin _routes.now.lists self.new }
+        ensures within { IsTurnover _routes.now.lists self.new }
         ensures became { Became _routes.now.lists self.old self.new []
             (slice_range (route _routes.now.lists v) from to) }
     {
@@ -208,10 +210,10 @@ impl Balance {
     fn leave(&mut self, _routes: &Routes, v: u32, from: u32, to: u32)
         requires chain { IsWithin _routes.now.lists (Chain v from to false) }
         requires room { length self.old.gone < 18 }
-        requires within { AreWithin _routes.now.lists self.old }
+        requires within { IsTurnover _routes.now.lists self.old }
         ensures room { length self.new.come ≤ length self.old.come }
         ensures room_too { length self.new.gone ≤ length self.old.gone + 1 }
-        ensures within { AreWithin _routes.now.lists self.new }
+        ensures within { IsTurnover _routes.now.lists self.new }
         ensures became { Became _routes.now.lists self.old self.new
             (slice_range (route _routes.now.lists v) from to) [] }
     {

@@ -19,7 +19,7 @@ use Rattle.vr_check.specs.declared.finding.Finding.TheVariants.{Meets}
 use Rattle.vr_printed.specs.declared.printed.Printed.{Printed}
 use Rattle.vr_check.proofs.Nothing.{through, both_none, is_right}
 use Rattle.vr_printed.proofs.Shaped.{routes_count, printed_shaped}
-use Rattle.vr_check.proofs.PrintedLists.{ends_visits}
+use Rattle.vr_check.proofs.PrintedLists.{ends_stops, ends_visits}
 use Rattle.vr_check.proofs.Valid.{route_is_open, lists_valid_from}
 use Rattle.vr_check.proofs.Scheduled.{plans_scheduled, lines_feasible}
 
@@ -65,6 +65,7 @@ keeps model printed cost shaped h =
     let limits = through _ _ _ cost first.1 in
     let count : length lists ≡ length model.vehicles = length-map routes visits_of ∙ routes_count model routes shaped in
     record {
+      nodes_are_stops = ends_stops model routes shaped ends.0;
       dropped_are_inactive = same_of_test printed.dropped (inactive model lists) (is_right (is_same printed.dropped (inactive model lists)) nowhere dropped.0);
       lists_valid = lists_valid_from model lists count (ends_visits model routes ends.0) once.0 required.0 group.0
           (λ v low. route_is_open model lists pair.0 policy.0 allowed.0 v low (λ some d less. lines_feasible model routes shaped cumul.0 slack.0 taken.0 d v less low some));

@@ -45,6 +45,12 @@ is_not_wrong false s h = refl
 pub both_none : {B : Type 0} (o r : Option B) → earlier o r ≡ None → (o ≡ None) × (r ≡ None)
 both_none o r h = (first_is o r h, rest_is o r h)
 
+-- what a choice is whose first test fails and whose second one passes
+pub second_case : (a b x y z : Bool) → (if a then x else (if b then y else z)) ≡ true → a ≡ false → b ≡ true → y ≡ true
+second_case true b x y z h e f = absurd (cc)
+second_case false true x y z h e f = h
+second_case false false x y z h e f = absurd (cc)
+
 -- what is left of a choice whose two first tests fail
 pub third_case : (a b x y z : Bool) → (if a then x else (if b then y else z)) ≡ true → a ≡ false → b ≡ false → z ≡ true
 third_case true b x y z h e f = absurd (cc)

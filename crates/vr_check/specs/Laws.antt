@@ -1,23 +1,26 @@
 -- What it means that a printed solution meets all rules.
-use Rattle.std.specs.Prelude.{◌≡◌, ℤ, ◌≤ℤ◌, IsTrue, Some}
+use Rattle.std.specs.Prelude.{◌≡◌, ◌<◌, ℕ, ℤ, ◌≤ℤ◌, IsTrue, Some, false, length}
 use Rattle.serde_json.specs.Data.{Data}
-use Rattle.vr_model.specs.routes.Routes.{inactive}
+use Rattle.vr_model.specs.routes.Routes.{inactive, is_empty, route, stops}
 use Rattle.vr_model.specs.routes.Rules.{is_valid}
 use Rattle.vr_model.specs.routes.Costs.{parts_at, sum_of}
 use Rattle.vr_model.specs.routes.AssignmentLaws.{MeetsItsLines}
 use Rattle.vr_model.specs.tables.WellFormed.{IsWellFormed}
 use Rattle.vr_model.specs.declared.records.Model.{Model}
-use Rattle.vr_printed.specs.Printed.{lists_of, assignment_of}
+use Rattle.vr_printed.specs.Printed.{lists_of, assignment_of, nodes_at}
 use Rattle.vr_printed.specs.Shape.{printed_in}
 use Rattle.vr_check.specs.Parts.{is_within_limits}
 use Rattle.vr_check.specs.Check.{finding}
 use Rattle.vr_check.specs.declared.finding.Finding.TheVariants.{Meets}
 use Rattle.vr_printed.specs.declared.printed.Printed.{Printed}
 
--- the dropped visits are the inactive ones, ascending; the printed lists are valid, each printed plan is a schedule of
--- its line, the printed parts are those of the assignment, the cost is their sum and at most the cost of the first
--- solution, and tries and solutions are within the limits of the model
+-- each printed route with nodes goes from the start of its vehicle through the list to the end; the dropped visits are
+-- the inactive ones, ascending; the printed lists are valid, each printed plan is a schedule of its line, the printed
+-- parts are those of the assignment, the cost is their sum and at most the cost of the first solution, and tries and
+-- solutions are within the limits of the model
 pub record KeepsAllRules (model : Model) (printed : Printed) (cost : ℤ) : Type 0 where
+  pub nodes_are_stops : (v : ℕ) → v < length printed.routes → is_empty (nodes_at printed.routes v) ≡ false
+      → nodes_at printed.routes v ≡ stops model v (route (lists_of printed.routes) v)
   pub dropped_are_inactive : printed.dropped ≡ inactive model (lists_of printed.routes)
   pub lists_valid : IsTrue (is_valid model (lists_of printed.routes))
   pub plans_are_schedules : MeetsItsLines model (assignment_of printed.routes)

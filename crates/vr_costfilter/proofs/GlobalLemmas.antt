@@ -2,12 +2,16 @@
 use Rattle.std.proofs.Common.{◌≡◌, ◌≢◌, ◌∙◌, ◌+◌, ◌<◌, ◌⊎◌, ◌++◌, ℕ, zero, suc, Bool, true, false, true≢false, not, List, [], ◌∷◌, length, take, Option, Some, None, refl, ap, sym, subst, arith, inl, inr}
 use Rattle.std.specs.Prelude.{pos, ◌==◌, ◌||◌, All, IsTrue, IfSome, fold, slice_index_or}
 use Rattle.std.specs.List.{AllPairs}
+use Rattle.std.proofs.lemmas.Bool.{not-false, not-true}
 use Rattle.std.proofs.lemmas.Bool.Decides.{eqb_tells}
 use Rattle.std.proofs.lemmas.List.{map-append, take_more}
-use Rattle.vr_model.specs.tables.Tables.{dimension_at, visits}
+use Rattle.vr_model.specs.deciding.Testing.{eq_of_tests}
+use Rattle.vr_model.specs.tables.Numbers.{is_same_number}
+use Rattle.vr_model.specs.tables.Tables.{dimension_at, no_dimension, visits}
 use Rattle.vr_model.specs.tables.WellFormed.{IsWellFormed}
 use Rattle.vr_model.specs.routes.Costs.{assigned, global_span}
 use Rattle.vr_model.specs.routes.Rules.{is_valid}
+use Rattle.vr_model.proofs.tables.Bounds.{none_at}
 use Rattle.vr_model.proofs.tables.Totals.{sum_nothing, sum_same}
 use Rattle.vr_model.specs.routes.Routes.{route}
 use Rattle.vr_model.specs.declared.records.Model.{Model}
@@ -23,7 +27,7 @@ use Rattle.vr_costfilter.specs.Orders.{beside, extent_but, IsInRange, IsReach, I
 use Rattle.vr_costfilter.specs.Order.{names}
 use Rattle.vr_costfilter.specs.declared.orders.Orders.{Orders}
 use Rattle.vr_costfilter.proofs.ReachLemmas.{is-not, extent-but-is, reach-all, reach-more, reach-same}
-use Rattle.vr_costfilter.specs.GlobalCosts.{extent_after, global_cost_of, orders_at, span_cost_after, spans_cost_after, told_in, vehicles_of, AreAllOrders, IsRow, AreLike, AreRanged, AreRows, IsGlobalCost, KeptSpans, NonePays, Pays, StandsSpans}
+use Rattle.vr_costfilter.specs.GlobalCosts.{extent_after, global_cost_of, has_global_span, is_some_spanned, orders_at, span_cost_after, spans_cost_after, told_in, vehicles_of, AreAllOrders, IsRow, AreLike, AreRanged, AreRows, IsGlobalCost, KeptSpans, Pays, StandsSpans}
 use Rattle.vr_parts.proofs.SumLemmas.{part-list, route-kept}
 
 -- ---- tests of vehicles
@@ -106,14 +110,14 @@ module _ (model : Model) (lists : List (List ℕ)) (orders : List Orders) (are :
       in_orders = λ d low pays. record { starts = (are.each d low pays).starts.range; ends = (are.each d low pays).ends.range };
       in_rows = λ d low pays k less. (
           let known : k < length parts = (let many = rows.many in omega (arith, many, less)) in
-          told-ranged model d (part_at parts k).vehicle (joined lists (part_at parts k).pieces) (told_in d (slice_index_or next k [])) ((rows.rows k known).each d low pays));
+          told-ranged model d (part_at parts k).vehicle (joined lists (part_at parts k).pieces) (told_in d (slice_index_or next k [])) (((rows.rows k known).each d low).told pays));
     }
 
     -- how far the lists reach after the change
     reach-after : AreParts lists parts → (d : ℕ) → d < length model.dimensions → Pays model d → IsReach model d (changed lists parts) (λ v. true) (extent_after d (vehicles_of parts) next (orders_at orders d))
     reach-after parts_are d low pays =
         reach-fold model d (changed lists parts) parts next (extent_but (vehicles_of parts) (orders_at orders d)) rows.many parts_are.apart
-        (λ k known. subst (λ l. IsTold model d (part_at parts k).vehicle l (told_in d (slice_index_or next k []))) (sym (part-list lists parts parts_are k known)) ((rows.rows k known).each d low pays))
+        (λ k known. subst (λ l. IsTold model d (part_at parts k).vehicle l (told_in d (slice_index_or next k []))) (sym (part-list lists parts parts_are k known)) (((rows.rows k known).each d low).told pays))
         (reach-same model d lists (changed lists parts) (λ v. not (names (vehicles_of parts) v)) (λ v is. route-kept lists parts lists v (away parts v (is-not (names (vehicles_of parts) v) is)))
         (extent_but (vehicles_of parts) (orders_at orders d)) (extent-but-is model d lists (orders_at orders d) (are.each d low pays) (vehicles_of parts)))
 
@@ -137,13 +141,30 @@ pub cost-after : (model : Model) (lists : List (List ℕ)) (orders : List Orders
 cost-after model lists orders are parts parts_are next rows =
     cost-told model (changed lists parts) orders (vehicles_of parts) next (reach-after model lists orders are parts next rows parts_are)
 
+-- no global span has a coefficient
+abbrev pub NonePays : Model → Type 0
+NonePays model = (d : ℕ) → d < length model.dimensions → (dimension_at model d).global_span_cost ≡ pos 0
+
+-- that is so where the test says it
+pub none-pays : (model : Model) → not (is_some_spanned model) ≡ true → NonePays model
+none-pays model none d low =
+    let here = none_at has_global_span model.dimensions d no_dimension (not-true (is_some_spanned model) none) low in
+    eq_of_tests (dimension_at model d).global_span_cost (pos 0) (not-false (is_same_number (dimension_at model d).global_span_cost (pos 0)) here)
+
 -- where no global span pays, none costs anything
 pub none-costs : (model : Model) → NonePays model → (lists : List (List ℕ)) → global_cost_of model lists ≡ pos 0
 none-costs model none lists = sum_nothing (global_in model lists) 0 (length model.dimensions) (λ d _ low. times-none (dimension_at model d).global_span_cost (global_span (assigned model lists) d) (none d (omega (arith, low))))
 
 -- a list of which nothing is told, where no global span pays
 pub none-kept : (model : Model) → NonePays model → (v : ℕ) (list : List ℕ) → IsRow model v list (None ∷ None ∷ None ∷ None ∷ [])
-none-kept model none v list = record { many = refl; each = λ d low pays. absurd (pays (none d low)) }
+none-kept model none v list = record { many = refl; each = λ d low. record { told = λ pays. absurd (pays (none d low)); untold = λ zero. untold d } }
+  where
+    untold : (d : ℕ) → slice_index_or {A = Option Timing} (None ∷ None ∷ None ∷ None ∷ []) d None ≡ None
+    untold zero = refl
+    untold (suc zero) = refl
+    untold (suc (suc zero)) = refl
+    untold (suc (suc (suc zero))) = refl
+    untold (suc (suc (suc (suc d)))) = refl
 
 -- ---- what is kept
 

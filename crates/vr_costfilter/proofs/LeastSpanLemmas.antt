@@ -18,9 +18,9 @@ use Rattle.vr_routes.specs.Pieces.{ListAfter, changed, joined, no_part, part_at}
 use Rattle.vr_routes.specs.Changes.{AreParts}
 use Rattle.vr_routes.proofs.CommitLemmas.{as_many_lists}
 use Rattle.vr_earliest.specs.Ways.{least_span}
-use Rattle.vr_costfilter.specs.PlanCosts.{plans_cost, plans_least, soft_and_span, spans_least, IsIdle}
+use Rattle.vr_costfilter.specs.PlanCosts.{plans_cost, plans_least, soft_and_span, spans_least}
 use Rattle.vr_parts.specs.Sums.{part_less}
-use Rattle.vr_costfilter.proofs.PlanLemmas.{idle-sum, plans-over}
+use Rattle.vr_costfilter.proofs.PlanLemmas.{idle-sum, plans-over, IsIdle}
 use Rattle.vr_parts.proofs.SumLemmas.{changed-sum, part-list, total-more}
 use Rattle.vr_costfilter.proofs.ChosenLemmas.{no-earlier, times-le}
 

@@ -1,10 +1,10 @@
 -- Soft bounds and spans as a sum over the lists of vehicles.
-use Rattle.std.proofs.Common.{◌≡◌, ◌∙◌, ℕ, suc, ◌<◌, Bool, true, false, cond, List, length, refl, ap, sym, subst, arith, to_z, of_z, w64}
-use Rattle.std.specs.Prelude.{IsTrue, ℤ, pos, ◌+ℤ◌, ◌-ℤ◌, ◌*ℤ◌}
-use Rattle.std.specs.List.{range_with_len}
+use Rattle.std.proofs.Common.{◌≡◌, ◌∙◌, ℕ, suc, ◌<◌, Bool, true, false, cond, List, [], ◌∷◌, length, refl, ap, ap₂, sym, subst, arith, to_z, of_z, w64}
+use Rattle.std.specs.Prelude.{IsTrue, ℤ, pos, ◌+ℤ◌, ◌-ℤ◌, ◌*ℤ◌, ◌&&◌, slice_index_or}
+use Rattle.std.specs.List.{list_all, range_with_len}
 use Rattle.std.proofs.lemmas.Int.{ints}
 use Rattle.vr_model.specs.tables.Numbers.{number_at, total_by, below}
-use Rattle.vr_model.specs.tables.Tables.{dimension_at, visits}
+use Rattle.vr_model.specs.tables.Tables.{dimension_at, no_dimension, visits}
 use Rattle.vr_model.specs.tables.WellFormed.{IsWellFormed}
 use Rattle.vr_model.specs.routes.Rules.{is_valid}
 use Rattle.vr_routes.specs.Tours.{Tours}
@@ -13,14 +13,18 @@ use Rattle.vr_model.specs.routes.Routes.{route, is_empty}
 use Rattle.vr_model.specs.schedules.Schedules.{Plan, cumul}
 use Rattle.vr_model.specs.routes.Costs.{plan_at, assigned, over_plans, soft_part, span_part}
 use Rattle.vr_model.specs.declared.records.Model.{Model}
+use Rattle.vr_model.proofs.tables.Tests.{all-from_list_all}
 use Rattle.vr_model.proofs.tables.Totals.{sum_range, sum_nothing, sum_same, total_by-failing, total_by-plus}
-use Rattle.vr_timings.specs.Paying.{PaysNothing}
+use Rattle.vr_timings.specs.Paying.{is_free, PaysNothing}
+use Rattle.vr_timings.specs.Tables.{AreTables}
+use Rattle.vr_timings.specs.declared.tables.Table.{Table}
+use Rattle.vr_timings.proofs.PayingLemmas.{free_pays, pays_nothing_where}
 use Rattle.vr_timings.specs.Timings.{plan_of, soft_of, soft_with, span_with, start_with, last_with}
 use Rattle.vr_timings.proofs.ExtentLemmas.{times-none}
 use Rattle.vr_timings.proofs.PlanLemmas.{plan-at}
 use Rattle.vr_parts.specs.Sums.{over_routes}
 use Rattle.vr_earliest.specs.Ways.{least_span}
-use Rattle.vr_costfilter.specs.PlanCosts.{plans_cost, spans_least, IsIdle, IsPlanCost, KeptPlans, StandsPlans}
+use Rattle.vr_costfilter.specs.PlanCosts.{pays_no_plan, plans_cost, spans_least, IsPlanCost, KeptPlans, StandsPlans}
 
 -- ---- a sum over the lists
 
@@ -89,6 +93,34 @@ idle-spans model v list nothing = by (is_empty list)
     by : (b : Bool) → cond b (pos 0) (total_by (λ d. number_at (dimension_at model d).span_costs v *ℤ least_span model d v list) (below (length model.dimensions))) ≡ pos 0
     by true = refl
     by false = none
+
+-- two tests that agree at each place of two lists agree on the lists
+all-same : {A B : Type 0} (p : A → Bool) (q : B → Bool) (other : B) (xs : List A) (ys : List B) → length xs ≡ length ys
+    → ((k : ℕ) (first : A) → k < length xs → p (slice_index_or xs k first) ≡ q (slice_index_or ys k other)) → list_all p xs ≡ list_all q ys
+all-same p q other [] [] many same = refl
+all-same p q other [] (y ∷ ys) many same = absurd (omega (arith, many))
+all-same p q other (x ∷ xs) [] many same = absurd (omega (arith, many))
+all-same p q other (x ∷ xs) (y ∷ ys) many same =
+    ap₂ (λ a b. a && b) (same 0 x (omega arith)) (all-same p q other xs ys (omega (arith, many)) (λ k first low. same (suc k) first (omega (arith, low))))
+
+-- the tables of a model's dimensions say whether a plan is paid
+pub free-tables : (model : Model) (tables : List Table) → AreTables model tables → list_all (λ table. table.is_free) tables ≡ pays_no_plan model
+free-tables model tables are = all-same (λ table. table.is_free) is_free no_dimension tables model.dimensions are.one_of_each (λ d other low. (are.each d other low).is_free)
+
+-- no list costs anything, and no span does
+pub record IsIdle (model : Model) : Type 0 where
+  pub plans : (v : ℕ) (list : List ℕ) → plans_cost model v list ≡ pos 0
+  pub spans : (v : ℕ) (list : List ℕ) → spans_least model v list ≡ pos 0
+
+-- that is so where no plan is paid
+pub idle-where : (model : Model) → pays_no_plan model ≡ true → IsIdle model
+idle-where model none = record {
+  plans = λ v list. idle-all model v list (λ d low. nothing d low v list);
+  spans = λ v list. idle-spans model v list (λ d low. nothing d low v list);
+}
+  where
+    nothing : (d : ℕ) → d < length model.dimensions → (v : ℕ) (list : List ℕ) → PaysNothing (dimension_at model d) v list
+    nothing d low v list = pays_nothing_where (dimension_at model d) v list (free_pays (dimension_at model d) (all-from_list_all is_free model.dimensions none d no_dimension low) v list)
 
 pub idle-sum : (model : Model) → IsIdle model → (lists : List (List ℕ)) → over_routes (plans_cost model) lists ≡ pos 0
 idle-sum model idle lists = sum_nothing (λ v. plans_cost model v (route lists v)) 0 (length lists) (λ v _ _. idle.plans v (route lists v))

@@ -27,8 +27,8 @@ use Rattle.vr_earliest.specs.declared.earlies.Early.{Early}
 use Rattle.vr_routes.specs.Pieces.{ListAfter, changed, joined, no_part, part_at}
 use Rattle.vr_routes.proofs.CommitLemmas.{as_many_lists}
 use Rattle.vr_routes.specs.Changes.{AreParts}
-use Rattle.vr_costfilter.specs.GlobalCosts.{global_cost_of, vehicles_of, NonePays}
-use Rattle.vr_costfilter.proofs.GlobalLemmas.{away}
+use Rattle.vr_costfilter.specs.GlobalCosts.{global_cost_of, vehicles_of}
+use Rattle.vr_costfilter.proofs.GlobalLemmas.{away, NonePays}
 use Rattle.vr_costfilter.specs.Spreads.{first_start, gives, global_least, global_least_in, last_end, no_spread, spread_after, spread_of_kept, with_changed, with_chosen, with_kept}
 use Rattle.vr_costfilter.specs.Spreads.{IsSpread, IsSpreadInRange}
 use Rattle.vr_costfilter.specs.Order.{names}

@@ -1,11 +1,13 @@
 -- What the global spans cost, by the orders of the used vehicles and what is told of the lists after a change.
-use Rattle.std.specs.Prelude.{◌≡◌, ◌<◌, ◌*◌, Bool, IsTrue, IfSome, ℕ, true, fold}
+use Rattle.std.specs.Prelude.{◌≡◌, ◌<◌, ◌*◌, Bool, IsTrue, IfSome, ℕ, not, true, fold}
 use Rattle.std.specs.Prelude.{List, [], length, map, slice_index_or, ℤ, pos, ◌*ℤ◌, Option, None}
-use Rattle.vr_model.specs.tables.Numbers.{below, total_by}
+use Rattle.std.specs.List.{list_any}
+use Rattle.vr_model.specs.tables.Numbers.{below, is_same_number, total_by}
 use Rattle.vr_model.specs.tables.Tables.{dimension_at, visits}
 use Rattle.vr_model.specs.tables.WellFormed.{IsWellFormed}
 use Rattle.vr_model.specs.routes.Costs.{assigned, global_part}
 use Rattle.vr_model.specs.routes.Rules.{is_valid}
+use Rattle.vr_model.specs.declared.records.Dimension.{Dimension}
 use Rattle.vr_model.specs.declared.records.Model.{Model}
 use Rattle.vr_timings.specs.Bounds.{cumul_cost, IsAround}
 use Rattle.vr_timings.specs.Extents.{length_of}
@@ -28,13 +30,19 @@ global_cost_of model lists = global_part model (assigned model lists)
 abbrev pub Pays : Model → ℕ → Type 0
 Pays model d = (dimension_at model d).global_span_cost ≡ pos 0 → ⊥
 
--- no global span has one
-abbrev pub NonePays : Model → Type 0
-NonePays model = (d : ℕ) → d < length model.dimensions → (dimension_at model d).global_span_cost ≡ pos 0
+-- the global span of a dimension has a coefficient, as a test
+abbrev pub has_global_span : Dimension → Bool
+has_global_span dimension = not (is_same_number dimension.global_span_cost (pos 0))
 
--- what the chosen schedule of a list comes to is told where the dimension pays, and none is of the empty list
-abbrev pub IsToldIfPaid : Model → ℕ → ℕ → List ℕ → Option Timing → Type 0
-IsToldIfPaid model d v list timing = Pays model d → IsTold model d v list timing
+-- some global span has one
+abbrev pub is_some_spanned : Model → Bool
+is_some_spanned model = list_any has_global_span model.dimensions
+
+-- what the chosen schedule of a list comes to is told where the dimension pays, and none is of the empty list; where it
+-- does not pay, nothing is told
+pub record IsToldIfPaid (model : Model) (d v : ℕ) (list : List ℕ) (timing : Option Timing) : Type 0 where
+  pub told : Pays model d → IsTold model d v list timing
+  pub untold : (dimension_at model d).global_span_cost ≡ pos 0 → timing ≡ None
 
 -- the same of each dimension
 pub record IsRow (model : Model) (v : ℕ) (list : List ℕ) (row : List (Option Timing)) : Type 0 where
@@ -89,11 +97,11 @@ pub record AreBlank (model : Model) (orders : List Orders) : Type 0 where
   pub starts : (d : ℕ) → (orders_at orders d).starts ≡ []
   pub ends : (d : ℕ) → (orders_at orders d).ends ≡ []
 
--- the model is well formed, the tables are those of its dimensions, and where it is called idle no global span pays
+-- the model is well formed, the tables are those of its dimensions, and it is called idle where no global span pays
 pub record AreSpanRules (model : Model) (tables : List Table) (idle : Bool) : Type 0 where
   pub well_formed : IsWellFormed model
   pub of_dimensions : AreTables model tables
-  pub none_pays : IsTrue idle → NonePays model
+  pub idle_is : idle ≡ not (is_some_spanned model)
 
 -- what the global spans of a model may cost
 abbrev pub IsGlobalCost : ℤ → Type 0

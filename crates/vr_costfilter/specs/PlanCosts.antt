@@ -1,5 +1,6 @@
 -- What the chosen schedules of a list cost by soft upper bounds and spans.
 use Rattle.std.specs.Prelude.{◌≡◌, ◌<◌, ◌+◌, ◌*◌, IsTrue, ℕ, Bool, true, cond, List, length}
+use Rattle.std.specs.List.{list_all}
 use Rattle.std.specs.Prelude.{ℤ, pos, neg_ℤ, ◌+ℤ◌, ◌*ℤ◌, ◌≤ℤ◌}
 use Rattle.vr_model.specs.tables.Numbers.{number_at, total_by, below}
 use Rattle.vr_model.specs.tables.Tables.{dimension_at, visits}
@@ -9,6 +10,7 @@ use Rattle.vr_model.specs.routes.Costs.{assigned, soft_part, span_part}
 use Rattle.vr_model.specs.routes.Rules.{is_valid}
 use Rattle.vr_model.specs.declared.records.Model.{Model}
 use Rattle.vr_timings.specs.Bounds.{IsAround}
+use Rattle.vr_timings.specs.Paying.{is_free}
 use Rattle.vr_timings.specs.Tables.{AreTables}
 use Rattle.vr_timings.specs.Timings.{soft_with, span_with}
 use Rattle.vr_timings.specs.declared.tables.Table.{Table}
@@ -68,16 +70,15 @@ IsPlanChange = IsAround (list_change * 2)
 abbrev pub plans_least : Model → List (List ℕ) → List ListAfter → ℤ
 plans_least model lists parts = total_by (part_less (spans_least model) (plans_cost model) lists) parts
 
--- no list costs anything, and no span does
-pub record IsIdle (model : Model) : Type 0 where
-  pub plans : (v : ℕ) (list : List ℕ) → plans_cost model v list ≡ pos 0
-  pub spans : (v : ℕ) (list : List ℕ) → spans_least model v list ≡ pos 0
+-- in no dimension has a span a coefficient or a stop a soft upper bound
+abbrev pub pays_no_plan : Model → Bool
+pays_no_plan model = list_all is_free model.dimensions
 
--- the model is well formed, the tables are those of its dimensions, and where it is called idle no list costs anything
+-- the model is well formed, the tables are those of its dimensions, and it is called idle where no plan is paid
 pub record ArePlanRules (model : Model) (tables : List Table) (idle : Bool) : Type 0 where
   pub well_formed : IsWellFormed model
   pub of_dimensions : AreTables model tables
-  pub none_costs : IsTrue idle → IsIdle model
+  pub idle_is : idle ≡ pays_no_plan model
 
 -- what contracts see of what is kept: what each list costs and the lists of a change that is ready, and cumuls of the
 -- chosen schedules

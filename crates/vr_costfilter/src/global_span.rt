@@ -1,6 +1,6 @@
 //! Global spans.
 
-ghost use Rattle.std.specs.Prelude.{◌≡◌, ◌-ℤ◌, ◌≤ℤ◌, ◌<◌, ◌*◌, false, IsTrue};
+ghost use Rattle.std.specs.Prelude.{◌≡◌, ◌-ℤ◌, ◌≤ℤ◌, ◌<◌, ◌*◌, false, not, IsTrue};
 ghost use Rattle.std.specs.Prelude.{IfOk, OnOk, OnErr, length};
 ghost use Rattle.vr_model.specs.tables.Tables.{visits};
 ghost use Rattle.vr_model.specs.tables.WellFormed.{IsWellFormed};
@@ -9,7 +9,7 @@ ghost use Rattle.vr_routes.specs.Pieces.{changed, joined, part_at};
 ghost use Rattle.vr_routes.specs.Changes.{IsMadeOn};
 ghost use Rattle.vr_timings.specs.Bounds.{cumul_cost, IsAround};
 ghost use Rattle.vr_earliest.specs.Earlies.{AreEarlies};
-ghost use Rattle.vr_costfilter.specs.GlobalCosts.{global_cost_of, IsRow, AreLike, AreRows};
+ghost use Rattle.vr_costfilter.specs.GlobalCosts.{global_cost_of, is_some_spanned, IsRow, AreLike, AreRows};
 ghost use Rattle.vr_costfilter.specs.GlobalCosts.{AreSpansReady, IsGlobalCost, StandsSpans};
 ghost use Rattle.vr_parts.specs.Parts.{CostAlike, NothingReady};
 ghost use Rattle.vr_costfilter.specs.Spreads.{global_least};
@@ -99,7 +99,8 @@ impl<'m> GlobalSpan<'m> {
 
     /// Whether no global span has a coefficient: all lists cost the same then.
     pub fn is_idle(&self) -> bool
-        ensures { IsTrue result → CostAlike global_cost_of self.now.model }
+        ensures idle { result ≡ not (is_some_spanned self.now.model) }
+        ensures alike { IsTrue result → CostAlike global_cost_of self.now.model }
     {
         self.rules.is_idle()
     }

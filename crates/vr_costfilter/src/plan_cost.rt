@@ -8,8 +8,8 @@ ghost use Rattle.vr_routes.specs.Pieces.{changed, part_at};
 ghost use Rattle.vr_routes.specs.Changes.{IsMadeOn};
 ghost use Rattle.vr_earliest.specs.Earlies.{AreEarlies};
 ghost use Rattle.vr_parts.specs.Parts.{CostAlike, NothingReady};
-ghost use Rattle.vr_costfilter.specs.PlanCosts.{cost_after, soft_and_span, AreNextCosts, ArePlansReady, IsPlanCost};
-ghost use Rattle.vr_costfilter.specs.PlanCosts.{plans_least, IsPlanChange, StandsPlans};
+ghost use Rattle.vr_costfilter.specs.PlanCosts.{cost_after, pays_no_plan, soft_and_span, AreNextCosts, ArePlansReady};
+ghost use Rattle.vr_costfilter.specs.PlanCosts.{plans_least, IsPlanChange, IsPlanCost, StandsPlans};
 
 use crate::room::Room;
 use crate::schedule_costs::PlanRules;
@@ -84,7 +84,8 @@ impl<'m> PlanCost<'m> {
 
     /// Whether no stop has a soft upper bound that costs and no span does: all lists cost the same then.
     pub fn is_idle(&self) -> bool
-        ensures { IsTrue result → CostAlike soft_and_span self.now.model }
+        ensures idle { result ≡ pays_no_plan self.now.model }
+        ensures alike { IsTrue result → CostAlike soft_and_span self.now.model }
     {
         self.rules.is_idle()
     }

@@ -1,6 +1,6 @@
 //! From where to where the chosen schedules of lists reach, and what that costs.
 
-ghost use Rattle.std.specs.Prelude.{◌≡◌, ◌<◌, ◌≤◌, ◌+◌, ◌*ℤ◌, IsTrue, IfOk, IfSome, length, take};
+ghost use Rattle.std.specs.Prelude.{◌≡◌, ◌<◌, ◌≤◌, ◌+◌, ◌*ℤ◌, IsTrue, IfOk, IfSome, length, not, take};
 ghost use Rattle.std.specs.List.{list_all};
 ghost use Rattle.vr_model.specs.tables.Tables.{dimension_at, is_visit};
 ghost use Rattle.vr_model.specs.tables.WellFormed.{IsWellFormed};
@@ -17,7 +17,7 @@ ghost use Rattle.vr_costfilter.specs.Orders.{AreInRange, AreOrders};
 ghost use Rattle.vr_costfilter.specs.GlobalCosts as reaches;
 ghost use Rattle.vr_costfilter.specs.GlobalCosts.{extent_after, spans_cost_after, AreAllOrders, AreBlank, IsRow};
 ghost use Rattle.vr_costfilter.specs.GlobalCosts.{AreRanged, AreRows, AreTold, AreToldOf, IsGlobalCost, IsToldIfPaid};
-ghost use Rattle.vr_costfilter.specs.GlobalCosts.{NonePays, Pays};
+ghost use Rattle.vr_costfilter.specs.GlobalCosts.{is_some_spanned, Pays};
 ghost use Rattle.vr_costfilter.specs.Spreads.{global_least};
 
 use crate::orders::{Orders, beside};
@@ -67,13 +67,13 @@ impl<'m> SpanRules<'m> {
         Ok(SpanRules {
             model,
             tables,
-            idle: none_pays(model),
+            idle: !is_some_spanned(model),
         })
     }
 
     /// Whether no global span has a coefficient.
     pub fn is_idle(&self) -> bool
-        ensures { IsTrue result → NonePays self.now }
+        ensures { result ≡ not (is_some_spanned self.now) }
     {
         self.idle
     }
@@ -217,16 +217,15 @@ pub fn vehicles_of(change: &Change) -> ArrayVec<u32, 2>
     vehicles
 }
 
-// Whether no global span of a model has a coefficient.
-fn none_pays(model: &RoutingModel) -> bool
-    ensures { IsTrue result → NonePays model.now }
+// Whether some global span of a model has a coefficient.
+fn is_some_spanned(model: &RoutingModel) -> bool
+    ensures { result ≡ is_some_spanned model.now }
 {
-    for d in 0..model.dimensions.len() {
-        if model.dimensions.get(d).global_span_cost != 0 {
-            return false;
-        }
-    }
-    true
+    model
+        .dimensions
+        .as_slice()
+        .iter()
+        .any(|dimension| dimension.global_span_cost != 0)
 }
 
 // What the chosen schedules of a list come to.

@@ -15,8 +15,8 @@ ghost use Rattle.vr_routes.specs.Pieces.{changed, joined, part_at};
 ghost use Rattle.vr_cumuls.specs.Kept.{AreAllKept};
 ghost use Rattle.vr_earliest.specs.Earlies.{AreEarlies};
 ghost use Rattle.vr_earliest.specs.Ways.{least_span};
-ghost use Rattle.vr_costfilter.specs.PlanCosts.{cost_after, plans_cost, spans_least, AreCosts, IsIdle, IsPlanCost};
-ghost use Rattle.vr_costfilter.specs.PlanCosts.{IsPlanCostIn};
+ghost use Rattle.vr_costfilter.specs.PlanCosts.{cost_after, pays_no_plan, plans_cost, spans_least, AreCosts};
+ghost use Rattle.vr_costfilter.specs.PlanCosts.{IsPlanCost, IsPlanCostIn};
 
 use crate::room::Room;
 use std::alloc::Global;
@@ -33,7 +33,7 @@ pub struct PlanRules<'m> {
     model: &'m RoutingModel,
     // what is looked up of each dimension
     tables: Vec<Table>,
-    // whether no list may cost anything
+    // whether no plan is paid
     idle: bool,
 }
 
@@ -55,7 +55,7 @@ impl<'m> PlanRules<'m> {
         ensures { IfOk result (λ rules. rules ≡ model.now) }
     {
         let tables = tables_of(alloc, model)?;
-        let idle = are_idle(model, &tables);
+        let idle = pays_no_plan(model, &tables);
         Ok(PlanRules {
             model,
             tables,
@@ -63,9 +63,9 @@ impl<'m> PlanRules<'m> {
         })
     }
 
-    /// Whether no list may cost anything.
+    /// Whether in no dimension a span has a coefficient or a stop a soft upper bound.
     pub fn is_idle(&self) -> bool
-        ensures { IsTrue result → IsIdle self.now }
+        ensures { result ≡ pays_no_plan self.now }
     {
         self.idle
     }
@@ -340,17 +340,17 @@ fn cost_of_timing(model: &RoutingModel, d: u32, v: u32, timing: Timing) -> i64
     timing.soft + span_cost(dimension, v, timing)
 }
 
-// Whether no list of a model may cost anything by soft upper bounds and spans.
-fn are_idle(model: &RoutingModel, tables: &[Table]) -> bool
-    requires { AreTables model.now tables.now }
-    ensures { IsTrue result → IsIdle model.now }
+// Whether each table says that nothing is paid in its dimension.
+fn are_free(tables: &[Table]) -> bool
+    ensures { result ≡ list_all (λ table. table.is_free) tables.now }
 {
-    // the model is that of the clauses alone
-    let _model = model;
-    for d in 0..tables.len() {
-        if !tables[d].is_free {
-            return false;
-        }
-    }
-    true
+    tables.iter().all(|table| table.is_free)
+}
+
+// Whether in no dimension a span has a coefficient or a stop a soft upper bound.
+fn pays_no_plan(_model: &RoutingModel, tables: &[Table]) -> bool
+    requires { AreTables _model.now tables.now }
+    ensures { result ≡ pays_no_plan _model.now }
+{
+    are_free(tables)
 }

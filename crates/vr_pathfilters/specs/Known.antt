@@ -1,6 +1,6 @@
 -- What a filter of a dimension knows of the lists at which it stands.
 use Rattle.std.specs.Prelude.{◌≡◌, ℕ, ◌<◌, Bool, true, cond, nat_lt, List, length, slice_index_or, IsTrue}
-use Rattle.std.specs.Prelude.{Option, None}
+use Rattle.std.specs.Prelude.{Option, None, is_some}
 use Rattle.vr_model.specs.moves.Moves.{with_route}
 use Rattle.vr_model.specs.routes.Routes.{route}
 use Rattle.vr_model.specs.tables.WellFormed.{IsWellFormed, WherePresent}
@@ -33,13 +33,15 @@ pub record KnowsLoads (model : Model) (d : ℕ) (lists : List (List ℕ)) (carri
   pub load : IsTrue (is_load model d)
   pub carried_are : AreCarried model d lists carried
 
--- a filter of dimension d with these stops, loads or rows stands at the lists: rows are kept where loads are not
+-- a filter of dimension d with these stops, loads or rows stands at the lists: loads are kept where the dimension is a
+-- load, and rows where it is none
 pub record StandsAt (model : Model) (d : ℕ) (stops : Stops) (loads : Option (List Carried)) (known : List BothWays)
     (tours : Tours) : Type 0 where
   pub well_formed : IsWellFormed model
   pub dimension : d < length model.dimensions
   pub stops_are : AreStops model d stops
   pub tours_are : AreTours model tours
+  pub loads_known : is_some loads ≡ is_load model d
   pub loads_are : WherePresent (KnowsLoads model d tours.lists) loads
   pub rows_are : loads ≡ None → KnowsRows model d known tours.lists
   pub rule : IsTrue (holds_of_each (is_feasible_list model d) tours.lists)

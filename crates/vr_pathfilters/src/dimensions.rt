@@ -1,7 +1,8 @@
 //! The filter of the lines of one dimension.
 
 ghost use Rattle.std.specs.Prelude.{◌≡◌, ◌+◌, ◌<◌, ◌≤◌, ℕ, Bool, false, List, length, IsTrue, IfOk, OnOk, OnErr};
-ghost use Rattle.std.specs.Prelude.{None};
+ghost use Rattle.std.specs.Prelude.{None, is_some};
+ghost use Rattle.vr_loads.specs.Loads.{is_load};
 ghost use Rattle.vr_model.specs.tables.Tables.{visits};
 ghost use Rattle.vr_model.specs.schedules.Weights.{weight as weight_in, list_weight};
 ghost use Rattle.vr_model.specs.routes.Routes.{route};
@@ -11,8 +12,7 @@ ghost use Rattle.vr_routes.specs.Changes.{IsMadeOn};
 ghost use Rattle.vr_routes.specs.Pieces.{ListAfter, changed, joined, part_at};
 ghost use Rattle.vr_routes.specs.Tours.{Tours};
 ghost use Rattle.vr_filter.specs.Filters.{after, IsSameRule, IsSameWeight, NothingReady};
-ghost use Rattle.vr_walks.specs.KnownRows.{AreRowsIfUsed};
-ghost use Rattle.vr_walks.specs.Lists.{is_feasible_list, IsTour};
+ghost use Rattle.vr_walks.specs.Lists.{is_feasible_list};
 ghost use Rattle.vr_walks.specs.Stops.{AreStops};
 ghost use Rattle.vr_walks.specs.Tries.{list_tries};
 ghost use Rattle.vr_pathfilters.specs.Lists.{holds_of_each};
@@ -22,6 +22,7 @@ ghost use Rattle.vr_pathfilters.specs.Known.{KnowsLoads, KnowsRows};
 ghost use Rattle.vr_pathfilters.specs.Tries.{tries_in};
 
 use crate::loads::{all_carried, loads_of, put_list};
+use crate::rows::{rows_unless, write_part};
 use std::alloc::Global;
 use std::marker::Brand;
 use std::mem;
@@ -29,11 +30,11 @@ use std::sync::ledger::{Blank, Ledger};
 use vr_balance::strip;
 use vr_filter::PathFilter;
 use vr_loads::Loads;
-use vr_model::{Model, NoMemory, Seq, Steps};
+use vr_model::{Model, NoMemory, Steps};
 use vr_reach::{Rows, Walk};
 use vr_routes::{Change, Routes, Row};
 use vr_steps::Line;
-use vr_walks::{Stops, no_line, passes_along, write_rows};
+use vr_walks::{Stops, no_line, passes_along};
 
 /// Lets a change pass where the line of each used vehicle in one dimension has a schedule afterwards (the path cumul
 /// filter of a `RoutingDimension` in OR-Tools). Of a load it keeps sums of the committed lists, and judges a change by
@@ -83,7 +84,7 @@ impl<'m> DimensionFilter<'m> {
         routes.know_once();
         routes.know_entries();
         let stops = Stops::build(alloc, model, d)?;
-        let (loads, known) = kept_of(alloc, model, d, &stops, routes)?;
+        let (loads, known) = kept_of::<Brand>(alloc, model, d, &stops, routes, Blank::new(1))?;
         Ok(DimensionFilter {
             model,
             d,
@@ -204,7 +205,7 @@ impl<'m> PathFilter for DimensionFilter<'m> {
         }
         let (alloc, model, d) = (self.alloc, self.model, self.d);
         let (stops, list, line) = (&self.stops, &mut self.list, &mut self.line);
-        write_part(
+        write_part::<Brand>(
             alloc,
             model,
             d,
@@ -215,9 +216,10 @@ impl<'m> PathFilter for DimensionFilter<'m> {
             list,
             line,
             &mut self.first,
+            Blank::new(1),
         )?;
         let (stops, list, line) = (&self.stops, &mut self.list, &mut self.line);
-        write_part(
+        write_part::<Brand>(
             alloc,
             model,
             d,
@@ -228,6 +230,7 @@ impl<'m> PathFilter for DimensionFilter<'m> {
             list,
             line,
             &mut self.second,
+            Blank::new(1),
         )?;
         self.is_prepared = true;
         Ok(())
@@ -250,44 +253,6 @@ impl<'m> PathFilter for DimensionFilter<'m> {
     ghost keeps_rule = { λ f tours stands. stands.rule };
 }
 
-// Writes the rows of the list of part `k` of a change over others, where there is that part. After `NoMemory` nothing
-// is said of them.
-fn write_part(
-    alloc: Global,
-    model: &Model,
-    d: u32,
-    stops: &Stops,
-    routes: &Routes,
-    change: &Change,
-    k: usize,
-    list: &mut Row,
-    line: &mut Line,
-    rows: &mut Rows,
-) -> Result<(), NoMemory>
-    requires well_formed { IsWellFormed model.now }
-    requires dimension { d < length model.now.dimensions }
-    requires stops { AreStops model.now d stops.now }
-    requires tours { AreTours model.now routes.now }
-    requires made { IsMadeOn routes.now change.now }
-    ensures { OnOk result (AreRowsOfPart model.now d routes.now.lists change.now k rows.new) }
-{
-    if k >= change.parts() {
-        return Ok(());
-    }
-    routes.write_after(change, k, list);
-    write_rows(
-        alloc,
-        model,
-        d,
-        change.vehicle(k),
-        stops,
-        list.as_slice(),
-        line,
-        rows,
-    )?;
-    Ok(())
-}
-
 // Puts the rows of part `k` of a change in the place of those of its vehicle, where there is that part.
 fn put_part(known: &mut Vec<Rows>, change: &Change, k: usize, rows: &mut Rows)
     requires vehicle { k < length change.now → (part_at change.now k).vehicle < length known.old.items }
@@ -305,71 +270,32 @@ fn put_part(known: &mut Vec<Rows>, change: &Change, k: usize, rows: &mut Rows)
 }
 
 // What is kept of the lists of all vehicles: loads where the dimension is one, else rows.
-fn kept_of(
+fn kept_of<L: Ledger>(
     alloc: Global,
     model: &Model,
     d: u32,
     stops: &Stops,
     routes: &Routes,
+    blank: Blank,
 ) -> Result<(Option<Loads>, Vec<Rows>), NoMemory>
+    requires name { blank.name ≡ L.name }
+    requires parts { blank.parts ≡ L.parts }
+    requires some { 0 < blank.parts }
     requires well_formed { IsWellFormed model.now }
     requires dimension { d < length model.now.dimensions }
     requires stops { AreStops model.now d stops.now }
     requires tours { AreTours model.now routes.now }
+    ensures loads_known { IfOk result (λ kept. is_some kept.0 ≡ is_load model.now d) }
     ensures loads { IfOk result (λ kept. WherePresent (KnowsLoads model.now d routes.now.lists) kept.0) }
     ensures known { IfOk result (λ kept. kept.0 ≡ None → KnowsRows model.now d kept.1.items routes.now.lists) }
 {
     let loads = loads_of(alloc, model, d, routes)?;
     let mut line = no_line(alloc);
-    let known = rows_unless(&loads, alloc, model, d, stops, routes, &mut line)?;
+    let mut lists = Steps::<L>::new(blank);
+    let known = rows_unless(
+        &loads, alloc, model, d, stops, routes, &mut line, &mut lists,
+    )?;
     Ok((loads, known))
-}
-
-// The rows of each vehicle with its list, unless loads are kept.
-fn rows_unless(
-    loads: &Option<Loads>,
-    alloc: Global,
-    model: &Model,
-    d: u32,
-    stops: &Stops,
-    routes: &Routes,
-    line: &mut Line,
-) -> Result<Vec<Rows>, NoMemory>
-    requires well_formed { IsWellFormed model.now }
-    requires dimension { d < length model.now.dimensions }
-    requires stops { AreStops model.now d stops.now }
-    requires tours { AreTours model.now routes.now }
-    ensures { IfOk result (λ known. loads.now ≡ None → KnowsRows model.now d known.items routes.now.lists) }
-{
-    if loads.is_some() {
-        return Ok(Vec::new(alloc));
-    }
-    let known = know_all(alloc, model, d, stops, routes, line)?;
-    Ok(known)
-}
-
-// The rows of each vehicle with its list.
-fn know_all(
-    alloc: Global,
-    model: &Model,
-    d: u32,
-    stops: &Stops,
-    routes: &Routes,
-    line: &mut Line,
-) -> Result<Vec<Rows>, NoMemory>
-    requires well_formed { IsWellFormed model.now }
-    requires dimension { d < length model.now.dimensions }
-    requires stops { AreStops model.now d stops.now }
-    requires tours { AreTours model.now routes.now }
-    ensures { IfOk result (λ known. KnowsRows model.now d known.items routes.now.lists) }
-{
-    let mut known = Vec::with_capacity(alloc, routes.vehicles() as usize)?;
-    for v in 0..routes.vehicles() {
-        let mut rows = Rows::new(alloc);
-        write_rows(alloc, model, d, v, stops, routes.list(v), line, &mut rows)?;
-        known.push(rows)?;
-    }
-    Ok(known)
 }
 
 // Whether the lists of all parts of a change are empty or their lines feasible.

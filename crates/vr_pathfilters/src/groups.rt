@@ -8,7 +8,7 @@ ghost use Rattle.vr_model.specs.tables.WellFormed.{IsWellFormed};
 ghost use Rattle.vr_routes.specs.Changes.{IsMadeOn};
 ghost use Rattle.vr_routes.specs.Pieces.{ListAfter, changed, nodes_of, IsWithin};
 ghost use Rattle.vr_routes.specs.Tours.{Tours};
-ghost use Rattle.vr_balance.specs.Balances.{IsBalance, AreWithin};
+ghost use Rattle.vr_balance.specs.Balances.{IsBalance, IsTurnover};
 ghost use Rattle.vr_filter.specs.Filters.{after, IsSameRule, IsSameWeight, NothingReady};
 ghost use Rattle.vr_lists.specs.Nodes.{number_of};
 ghost use Rattle.vr_pathfilters.specs.Groups.{keeps_groups, many_of, one_of, IsInPieces};
@@ -115,7 +115,7 @@ fn allows(model: &Model, routes: &Routes, g: u32, come: usize, gone: usize) -> b
 // Whether the groups of some nodes allow what comes and goes.
 fn nodes_allow(filter: &GroupFilter<'_>, routes: &Routes, nodes: &[u32]) -> bool
     requires well_formed { IsWellFormed filter.now.model.now }
-    requires within { AreWithin routes.now.lists filter.now.balance }
+    requires within { IsTurnover routes.now.lists filter.now.balance }
     ensures { result ≡ list_all
         (allows_node filter.now.model.now filter.now.numbers routes.now.lists filter.now.balance) nodes.now }
 {
@@ -133,7 +133,7 @@ fn nodes_allow(filter: &GroupFilter<'_>, routes: &Routes, nodes: &[u32]) -> bool
 // Whether the groups of the nodes of a piece do.
 fn piece_allows(filter: &GroupFilter<'_>, routes: &Routes, piece: Piece) -> bool
     requires well_formed { IsWellFormed filter.now.model.now }
-    requires within { AreWithin routes.now.lists filter.now.balance }
+    requires within { IsTurnover routes.now.lists filter.now.balance }
     requires piece { IsWithin routes.now.lists piece }
     ensures { result ≡ list_all
         (allows_node filter.now.model.now filter.now.numbers routes.now.lists filter.now.balance)
@@ -157,7 +157,7 @@ fn piece_allows(filter: &GroupFilter<'_>, routes: &Routes, piece: Piece) -> bool
 // Whether the groups of the nodes of some pieces do.
 fn pieces_allow(filter: &GroupFilter<'_>, routes: &Routes, pieces: &[Piece]) -> bool
     requires well_formed { IsWellFormed filter.now.model.now }
-    requires within { AreWithin routes.now.lists filter.now.balance }
+    requires within { IsTurnover routes.now.lists filter.now.balance }
     requires pieces { All (IsWithin routes.now.lists) pieces.now }
     ensures { result ≡ allows_pieces filter.now.model.now filter.now.numbers routes.now.lists filter.now.balance
         pieces.now }
@@ -173,7 +173,7 @@ fn pieces_allow(filter: &GroupFilter<'_>, routes: &Routes, pieces: &[Piece]) -> 
 // Whether the groups of all nodes that come or go do.
 fn all_allow(filter: &GroupFilter<'_>, routes: &Routes) -> bool
     requires stands { KnowsGroups filter.now.model.now filter.now.numbers routes.now }
-    requires within { AreWithin routes.now.lists filter.now.balance }
+    requires within { IsTurnover routes.now.lists filter.now.balance }
     ensures { (parts : List ListAfter) → IsMadeOn routes.now parts
         → IsBalance routes.now.lists (changed routes.now.lists parts) filter.now.balance
         → result ≡ keeps_groups filter.now.model.now (changed routes.now.lists parts) }

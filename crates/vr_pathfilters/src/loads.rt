@@ -1,11 +1,11 @@
 //! What vehicles take along their lists, in a dimension that is a load.
 
-ghost use Rattle.std.specs.Prelude.{◌≡◌, ◌<◌, ◌≤◌, ℕ, List, length, IsTrue, IfOk};
+ghost use Rattle.std.specs.Prelude.{◌≡◌, ◌<◌, ◌≤◌, ℕ, List, length, IsTrue, IfOk, is_some};
 ghost use Rattle.vr_model.specs.tables.WellFormed.{IsWellFormed, WherePresent};
 ghost use Rattle.vr_routes.specs.Changes.{IsMadeOn};
 ghost use Rattle.vr_routes.specs.Pieces.{changed, joined, part_at};
 ghost use Rattle.vr_walks.specs.Lists.{is_feasible_list};
-ghost use Rattle.vr_loads.specs.Loads.{HasLoad};
+ghost use Rattle.vr_loads.specs.Loads.{HasLoad, is_load as is_load_in};
 ghost use Rattle.vr_loads.specs.Kept.{AreCarried};
 ghost use Rattle.vr_pathfilters.specs.Lists.{holds_of_each};
 ghost use Rattle.vr_pathfilters.specs.TourLists.{AreTours};
@@ -16,7 +16,7 @@ use vr_loads::{Loads, is_load};
 use vr_model::{Model, NoMemory};
 use vr_routes::{Change, Routes, Row};
 
-/// What is kept of the lists of all vehicles, where dimension `d` is a load.
+/// What is kept of the lists of all vehicles where dimension `d` is a load, nothing where it is none.
 pub(crate) fn loads_of(
     alloc: Global,
     model: &Model,
@@ -26,7 +26,8 @@ pub(crate) fn loads_of(
     requires well_formed { IsWellFormed model.now }
     requires dimension { d < length model.now.dimensions }
     requires tours { AreTours model.now routes.now }
-    ensures { IfOk result (WherePresent (KnowsLoads model.now d routes.now.lists)) }
+    ensures known { IfOk result (λ loads. is_some loads ≡ is_load_in model.now d) }
+    ensures loads { IfOk result (WherePresent (KnowsLoads model.now d routes.now.lists)) }
 {
     if !is_load(model, d) {
         return Ok(None);

@@ -1,7 +1,7 @@
 -- Trees of least spans: they are printed, and put together row by row.
-use Rattle.std.proofs.Common.{◌≡◌, ◌∙◌, ◌≤◌, ◌<◌, ◌+◌, ◌-◌, ◌++◌, ℕ, ℤ, max, List, [], ◌∷◌, Bool, true, false, cond, Option, Some, refl, sym, ap, subst, arith, map, length}
-use Rattle.std.specs.Prelude.{IsSome, IsTrue, ◌||◌, ◌-ℤ◌, slice_index_or, unwrap_or}
-use Rattle.std.specs.List.{flat_map, list_all}
+use Rattle.std.proofs.Common.{◌≡◌, ◌∙◌, ◌≤◌, ◌<◌, ◌+◌, ◌-◌, ◌++◌, ℕ, ℤ, max, List, [], ◌∷◌, Bool, true, false, cond, not, Option, Some, refl, sym, ap, subst, arith, map, length}
+use Rattle.std.specs.Prelude.{IsSome, IsTrue, ◌==◌, ◌||◌, ◌-ℤ◌, option_map, slice_index_or, unwrap_or}
+use Rattle.std.specs.List.{find, flat_map, list_all, list_any}
 use Rattle.std.proofs.lemmas.Grind.{flat_map-append}
 use Rattle.std.proofs.lemmas.List.{append-nil, length-map, map-append}
 use Rattle.std.proofs.lemmas.List.Elements.{filter-append}
@@ -13,18 +13,22 @@ use Rattle.vr_check.proofs.Lines.{line_arcs, line_stops}
 use Rattle.vr_check.proofs.PrintedLists.{route_is}
 use Rattle.vr_check.proofs.Scheduled.{long_enough, plan_is_printed}
 use Rattle.vr_check.specs.Laws.{KeepsAllRules}
+use Rattle.vr_model.specs.tables.ModelRules.{has_breaks}
 use Rattle.vr_model.specs.tables.Numbers.{below, each, number_at}
-use Rattle.vr_model.specs.tables.Tables.{dimension_at, is_visit}
+use Rattle.vr_model.specs.tables.Tables.{breaks_of, dimension_at, is_visit}
 use Rattle.vr_model.specs.tables.WellFormed.{IsWellFormed}
 use Rattle.vr_model.specs.routes.AssignmentLaws.{MeetsItsLines}
 use Rattle.vr_model.specs.routes.Costs.{Assignment, no_plan, plan_at}
 use Rattle.vr_model.specs.routes.Routes.{is_distinct, is_empty, route, vehicles}
 use Rattle.vr_model.specs.schedules.Lines.{Line, line}
 use Rattle.vr_model.specs.schedules.Schedules.{Plan, IsSchedule, span}
+use Rattle.vr_model.specs.declared.records.BreakRow.{BreakRow}
 use Rattle.vr_model.specs.declared.records.Dimension.{Dimension}
 use Rattle.vr_model.specs.declared.records.Model.{Model}
+use Rattle.vr_model.specs.declared.records.VehicleBreaks.{VehicleBreaks}
 use Rattle.vr_model.proofs.routes.Lists.{are-lists, are_lists-count, route-distinct, route-visits}
 use Rattle.vr_model.proofs.tables.Ranges.{below-more}
+use Rattle.vr_model.proofs.tables.Tests.{or-false_left, or-false_right}
 use Rattle.vr_print.specs.Numbers.{whole}
 use Rattle.vr_printed.proofs.Shaped.{plans_there, printed_shaped, route_shaped, routes_count}
 use Rattle.vr_printed.specs.Printed.{assignment_of, lists_of, no_route, visits_of}
@@ -130,8 +134,12 @@ pub spans_more : (model : Model) (v : ℕ) (list : List ℕ) (plans : ℕ → Pl
     → spans_in model v list plans (below (d + 1)) ≡ spans_in model v list plans (below d) ++ spans_in model v list plans (d ∷ [])
 spans_more model v list plans d =
     ap (spans_in model v list plans) (below-more d)
-    ∙ ap (map (span_at model v list plans)) (filter-append (λ d. is_empty (dimension_at model d).breaks) (below d) (d ∷ []))
+    ∙ ap (map (span_at model v list plans)) (filter-append (λ d. not (has_breaks (dimension_at model d))) (below d) (d ∷ []))
     ∙ map-append (span_at model v list plans) (without_breaks model (below d)) (without_breaks model (d ∷ []))
+
+-- of a dimension in which no vehicle has breaks a row is told
+pub one-told : (model : Model) (v d : ℕ) (list : List ℕ) (plans : ℕ → Plan) → has_breaks (dimension_at model d) ≡ false → spans_in model v list plans (d ∷ []) ≡ span_at model v list plans d ∷ []
+one-told model v d list plans none = ap (λ b. map (span_at model v list plans) (cond (not b) (d ∷ []) [])) none
 
 -- one vehicle more
 pub rows_more : (model : Model) (assignment : Assignment) (v : ℕ) → each (below (v + 1)) (span_rows model assignment) ≡ each (below v) (span_rows model assignment) ++ span_rows model assignment v
@@ -150,6 +158,23 @@ rows_are model routes v r list r_is list_is =
     let plans : (d : ℕ) → printed_plans r d ≡ plan_at (assignment_of routes) d v =
     λ d. ap (λ r. printed_plans r d) r_is ∙ sym (plan_is_printed routes d v) in
     ap (λ list. spans_with model v list (printed_plans r)) list_is ∙ with_plans model v (route (lists_of routes) v) (printed_plans r) (λ d. plan_at (assignment_of routes) d v) plans
+
+-- a dimension in which no vehicle has breaks has none of any vehicle
+pub no-breaks : (dimension : Dimension) → has_breaks dimension ≡ false → (v : ℕ) → breaks_of dimension v ≡ []
+no-breaks dimension none v = go dimension.breaks none
+  where
+    empty : (rows : List BreakRow) → not (is_empty rows) ≡ false → rows ≡ []
+    empty [] h = refl
+    empty (row ∷ rows) h = absurd cc
+
+    here : (b : Bool) (entry : VehicleBreaks) (found : Option VehicleBreaks) → entry.rows ≡ [] → unwrap_or (option_map (λ entry. entry.rows) found) [] ≡ []
+        → unwrap_or (option_map (λ entry. entry.rows) (cond b (Some entry) found)) [] ≡ []
+    here true entry found first rest = first
+    here false entry found first rest = rest
+
+    go : (entries : List VehicleBreaks) → list_any (λ entry. not (is_empty entry.rows)) entries ≡ false → unwrap_or (option_map (λ entry. entry.rows) (find (λ entry. entry.vehicle == v) entries)) [] ≡ []
+    go [] h = refl
+    go (entry ∷ entries) h = here (entry.vehicle == v) entry (find (λ entry. entry.vehicle == v) entries) (empty entry.rows (or-false_left _ _ h)) (go entries (or-false_right (not (is_empty entry.rows)) _ h))
 
 -- ---- a solution that meets the rules has schedules
 

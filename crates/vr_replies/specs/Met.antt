@@ -20,8 +20,8 @@ IsMet bytes = (it : Checked) × IsReadAs checked_of bytes it × IsTrue (is_met (
 abbrev pub IsNotMet : List ℕ → Type 0
 IsNotMet bytes = (it : Checked) × IsReadAs checked_of bytes it × (is_met (found_in it) ≡ false)
 
--- its solution keeps all rules of its model: valid lists, plans that are schedules, the parts of their cost, and
--- limits; and the text tells the cost
+-- its solution keeps all rules of its model: routes from start to end, valid lists, plans that are schedules, the parts
+-- of their cost, and limits; and the text tells the cost
 pub record IsMetBy (bytes text : List ℕ) : Type 0 where
   pub it : Checked
   pub printed : Printed

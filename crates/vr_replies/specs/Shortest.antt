@@ -22,6 +22,8 @@ pub record IsShortest (line : Line) (plan : Plan) : Type 0 where
 abbrev pub ShortestFound : Line → Type 0
 ShortestFound line = ((plan : Plan) × IsShortest line plan) ⊎ ¬ IsFeasible line
 
+-- ---- how one is found, up to `find_shortest`: a definition that searches has what its search needs beside it
+
 -- ---- spans lie in -horizon..=horizon
 
 in_range : (cs : List ℤ) → ((k : ℕ) → k < length cs → IsTrue (within (pos 0) horizon (number_at cs k))) → (k : ℕ)

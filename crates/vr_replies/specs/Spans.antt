@@ -1,8 +1,9 @@
 -- How short printed routes could be.
-use Rattle.std.specs.Prelude.{◌≡◌, ℕ, ◌<◌, ℤ, Bool, false, if◌then◌else◌, List, [], map, filter, length, codes}
+use Rattle.std.specs.Prelude.{◌≡◌, ℕ, ◌<◌, ℤ, false, not, if◌then◌else◌, List, [], map, filter, length, codes}
 use Rattle.std.specs.Prelude.{Option, Some, None}
 use Rattle.serde_json.specs.Data.{Data, string, array, object, no_members, member}
 use Rattle.serde_json.specs.View.{items_of}
+use Rattle.vr_model.specs.tables.ModelRules.{has_breaks}
 use Rattle.vr_model.specs.tables.Numbers.{below, each}
 use Rattle.vr_model.specs.tables.Tables.{dimension_at}
 use Rattle.vr_model.specs.routes.Costs.{Assignment, plan_at}
@@ -17,10 +18,6 @@ use Rattle.vr_printed.specs.Shape.{printed_in}
 use Rattle.vr_printed.specs.declared.printed.Printed.{Printed}
 use Rattle.vr_replies.specs.Checked.{Checked}
 use Rattle.vr_replies.specs.Shortest.{IsShortest, shortest_plan}
-
--- no vehicle has breaks in the dimension
-abbrev pub has_no_breaks : Dimension → Bool
-has_no_breaks dimension = is_empty dimension.breaks
 
 -- what is told of a vehicle in a dimension: the cumuls and slacks of a plan, the name of the dimension, the least span
 -- and the printed one
@@ -47,7 +44,7 @@ span_at model v list plans d = span_row (dimension_at model d) v (line model d v
 
 -- those of some dimensions in which no vehicle has breaks
 abbrev pub without_breaks : Model → List ℕ → List ℕ
-without_breaks model ds = filter (λ d. has_no_breaks (dimension_at model d)) ds
+without_breaks model ds = filter (λ d. not (has_breaks (dimension_at model d))) ds
 
 -- what is told of a vehicle in some dimensions
 abbrev pub spans_in : Model → ℕ → List ℕ → (ℕ → Plan) → List ℕ → List Data

@@ -1,13 +1,14 @@
 //! How short the routes of a printed solution could be: for each used vehicle, and each dimension in which no vehicle
 //! has breaks, the least span of its line beside the printed one.
 
-ghost use Rattle.std.specs.Prelude.{◌≡◌, ◌++◌, ◌∷◌, ◌<◌, ◌-◌, ◌-ℤ◌, ℕ, [], true, false, map, length, pos};
+ghost use Rattle.std.specs.Prelude.{◌≡◌, ◌++◌, ◌∷◌, ◌<◌, ◌-◌, ◌-ℤ◌, ℕ, [], false, map, length, pos};
 ghost use Rattle.std.specs.Prelude.{IfOk, IsTrue, OnOk};
 ghost use Rattle.std.specs.List.{list_all};
 ghost use Rattle.serde_json.specs.View.{view};
 ghost use Rattle.vr_model.specs.routes.Routes.{is_distinct, is_empty, vehicles};
 ghost use Rattle.vr_model.specs.schedules.Lines as lines;
 ghost use Rattle.vr_model.specs.schedules.Schedules.{IsSchedule};
+ghost use Rattle.vr_model.specs.tables.ModelRules.{has_breaks};
 ghost use Rattle.vr_model.specs.tables.Numbers.{below, each, horizon, number_at};
 ghost use Rattle.vr_model.specs.tables.Tables.{dimension_at, is_visit};
 ghost use Rattle.vr_model.specs.tables.WellFormed.{IsIn, IsWellFormed};
@@ -97,7 +98,7 @@ fn row(
     requires some { 0 < length list.now }
     requires visits { IsTrue (list_all (is_visit model.now) list.now) }
     requires distinct { IsTrue (is_distinct list.now) }
-    requires no_breaks { spans.has_no_breaks (dimension_at model.now d) ≡ true }
+    requires no_breaks { has_breaks (dimension_at model.now d) ≡ false }
     requires schedule { IsSchedule (lines.line model.now d v list.now) (plan_of plan.now) }
     ensures { let its = lines.line model.now d v list.now in
         IfOk result (λ tree. view tree ≡ spans.span_row (dimension_at model.now d) v its (plan_of plan.now)) }
@@ -107,6 +108,17 @@ fn row(
     let printed = span_between(plan.cumuls.as_slice());
     let tree = span_tree(alloc, model.dimensions.get(d as usize), v, &least, printed)?;
     Ok(tree)
+}
+
+// Whether some vehicle has breaks in a dimension.
+fn has_breaks(dimension: &Dimension) -> bool
+    ensures { result ≡ has_breaks dimension.now }
+{
+    dimension
+        .breaks
+        .as_slice()
+        .iter()
+        .any(|entry| !entry.rows.is_empty())
 }
 
 // Puts what is told of a used vehicle in dimension `d` behind the rows, where no vehicle has breaks in it.
@@ -126,7 +138,7 @@ fn push_row(
         OnOk result (map view rows.new.items ≡ map view rows.old.items
         ++ spans.spans_in model.now v list.now plans (d ∷ [])) }
 {
-    if model.dimensions.get(d as usize).breaks.is_empty() {
+    if !has_breaks(model.dimensions.get(d as usize)) {
         let row = row(alloc, model, d, v, list, route.plans.get(d as usize))?;
         rows.push(row)?;
     }

@@ -2,7 +2,6 @@
 use Rattle.std.specs.Prelude.{ℕ, ◌*◌, ◌-◌, ◌/◌, ◌==◌, List, [], ◌∷◌, Bool, true, false, not, find, codes, if◌then◌else◌}
 use Rattle.std.specs.Prelude.{is_some, option_map, unwrap_or, Option, Some, None, Result, Ok, Err}
 use Rattle.std.specs.Option.{ok_or}
-use Rattle.std.specs.Borrow.{Bor}
 use Rattle.std.specs.Str.{bytes_eq}
 use Rattle.vr_json.specs.Reading.{◌>>=◌}
 use Rattle.vr_tsplib.specs.declared.flaws.Flaw.{Flaw}
@@ -23,10 +22,6 @@ use Rattle.vr_tsplib.specs.Numbers.{one_word, one_number, count_in}
 use Rattle.vr_tsplib.specs.Texts.{words, has_byte, before_byte, after_byte}
 
 -- ---- words
-
--- a word of the code, beside what it stands for
-abbrev pub named : {A : Type 0} → Bor (List ℕ) × A → List ℕ × A
-named w = (w.0.now, w.1)
 
 -- what the first word of a table stands for that is this one
 abbrev pub meaning : {A : Type 0} → List (List ℕ × A) → List ℕ → Option A

@@ -2,9 +2,9 @@
 
 ghost use Rattle.std.specs.Prelude.{◌≡◌, option_map, find, map};
 ghost use Rattle.std.specs.Str.{bytes_eq};
+ghost use Rattle.vr_json.specs.Kinds.{named};
 ghost use Rattle.vr_json.specs.Reading.{seen};
 ghost use Rattle.vr_tsplib.specs.Heads as heads;
-ghost use Rattle.vr_tsplib.specs.Heads.{named};
 ghost use Rattle.vr_tsplib.specs.Numbers as numbers;
 ghost use Rattle.vr_tsplib.specs.Texts.{words};
 

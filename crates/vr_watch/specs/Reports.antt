@@ -1,8 +1,9 @@
 -- What watchers report of the events that they noted.
 use Rattle.std.specs.Prelude.{ℕ, ◌+◌, ◌-◌, ◌^◌, Bool, true, false, List, [], ◌∷◌, ◌++◌, length, filter, map}
-use Rattle.std.specs.Prelude.{flat_map, fold, min, codes, decimal, ℤ, pos, Option, Some, None}
+use Rattle.std.specs.Prelude.{flat_map, fold, min, codes, decimal, ℤ, Option, Some, None}
 use Rattle.std.specs.Fmt.{signed_decimal}
 use Rattle.std.specs.Int.{int_min}
+use Rattle.vr_model.specs.routes.Costs.{least}
 use Rattle.vr_model.specs.declared.search.Event.{Event}
 use Rattle.vr_model.specs.declared.search.Kind.{Kind}
 use Rattle.vr_model.specs.declared.search.Kind.TheVariants.{First, Move, Round}
@@ -49,11 +50,6 @@ number is_such events = length (filter (λ event. is_such event.kind) events)
 -- the costs of events in order
 abbrev pub costs : List Event → List ℤ
 costs events = map (λ event. event.cost) events
-
--- the least of some numbers, 0 where there is none
-abbrev pub least : List ℤ → ℤ
-least [] = pos 0
-least (x ∷ xs) = fold int_min x xs
 
 -- the line of a tally: so many moves and rounds, and the least cost
 abbrev pub tally_line : ℕ → ℕ → ℤ → List ℕ

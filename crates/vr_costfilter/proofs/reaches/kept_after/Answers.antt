@@ -1,7 +1,8 @@
-use Rattle.std.proofs.Common.{◌∙◌, ◌<◌, length, ap, sym, subst, arith}
+use Rattle.std.proofs.Common.{◌∙◌, ◌<◌, length, ap, sym, subst, refl, arith}
+use Rattle.std.proofs.lemmas.Int.{ints}
 use Rattle.std.specs.Prelude.{IsTrue}
 use Rattle.std.specs.List.{list_all}
-use Rattle.vr_model.specs.tables.Tables.{is_visit}
+use Rattle.vr_model.specs.tables.Tables.{is_visit, no_dimension}
 use Rattle.vr_model.specs.routes.Routes.{is_distinct}
 use Rattle.vr_model.proofs.routes.Lists.{empty_where, not_empty}
 use Rattle.vr_routes.specs.Pieces.{joined, part_at}
@@ -10,9 +11,18 @@ use Rattle.vr_parts.proofs.PartLemmas.{is-part, known-vehicle}
 use Rattle.vr_costfilter.proofs.reaches.kept_after.Goals as goal
 
 pub returns-then-nodes_in-eq0 : goal.returns-then-nodes_in-eq0
-returns-then-nodes_in-eq0 c pays =
+returns-then-nodes_in-eq0 c =
     let many = c.nodes_in.ensures ∙ ap (λ ps. length (joined c.args.routes.now.lists ps)) c.pieces.ensures.value in
-    empty_where (joined c.args.routes.now.lists (part_at c.args.change.now c.args.k).pieces) (omega (arith, many, c.if-nodes_in-eq0.true))
+    record {
+      told = λ pays. empty_where (joined c.args.routes.now.lists (part_at c.args.change.now c.args.k).pieces) (omega (arith, many, c.if-nodes_in-eq0.true));
+      untold = λ zero. refl;
+    }
+
+pub returns-then-get-eq0 : goal.returns-then-get-eq0
+returns-then-get-eq0 c = record {
+  told = λ pays. absurd (pays (ap (λ x. x.global_span_cost) (c.get.ensures.value no_dimension) ∙ omega (arith, ints, c.if-get-eq0.true)));
+  untold = λ zero. refl;
+}
 
 pub timing_after-told-requires-clause-some : goal.timing_after-told-requires-clause-some
 timing_after-told-requires-clause-some c =
@@ -20,12 +30,15 @@ timing_after-told-requires-clause-some c =
     not_empty (joined c.args.routes.now.lists (part_at c.args.change.now c.args.k).pieces) (omega (arith, many, c.if-nodes_in-eq0.false))
 
 pub returns-in-Some : goal.returns-in-Some
-returns-in-Some c pays =
+returns-in-Some c =
     let many = c.nodes_in.ensures ∙ ap (λ ps. length (joined c.args.routes.now.lists ps)) c.pieces.ensures.value in
     record {
-      used = not_empty (joined c.args.routes.now.lists (part_at c.args.change.now c.args.k).pieces) (omega (arith, many, c.if-nodes_in-eq0.false));
-      is_timing = c.in-Some.ensures.timing;
-      range = (let r = c.in-Some.ensures.range in record { start = r.start_in_range; last = r.last_in_range });
+      told = λ pays. record {
+        used = not_empty (joined c.args.routes.now.lists (part_at c.args.change.now c.args.k).pieces) (omega (arith, many, c.if-nodes_in-eq0.false));
+        is_timing = c.in-Some.ensures.timing;
+        range = (let r = c.in-Some.ensures.range in record { start = r.start_in_range; last = r.last_in_range });
+      };
+      untold = λ zero. absurd (let none = ap (λ x. x.global_span_cost) (sym (c.get.ensures.value no_dimension)) ∙ zero in omega (arith, ints, none, c.if-get-eq0.false));
     }
 
 pub kept_in-requires-clause-vehicle : goal.kept_in-requires-clause-vehicle

@@ -74,7 +74,7 @@ loop-d-preserved c =
             let here : Pays m d → AreOrders m d (take (v + 1) all) w.set.new.self = λ pay. (
             let read : slice_index_or os d w.index-orders-d.result ≡ orders_at os d = get_or_default os d w.index-orders-d.result no_orders inside in
             let are = subst (AreOrders m d (take v all)) (sym read) (i.left d (omega arith) low pay) in
-            let told : IsTold m d v (route (take (v + 1) all) v) (told_in d c.args.row.now) = subst (λ l. IsTold m d v l (told_in d c.args.row.now)) (sym (route-first all (v + 1) v (omega arith))) (c.requires.row.each d low pay) in
+            let told : IsTold m d v (route (take (v + 1) all) v) (told_in d c.args.row.now) = subst (λ l. IsTold m d v l (told_in d c.args.row.now)) (sym (route-first all (v + 1) v (omega arith))) ((c.requires.row.each d low).told pay) in
             subst (AreOrders m d (take (v + 1) all)) (sym w.set.ensures) (orders-set m d (take v all) (slice_index_or os d w.index-orders-d.result) are v (take (v + 1) all) (λ u apart. route-more all v u apart) (told_in d c.args.row.now) told)) in
             subst (λ (xs : List Orders). AreOrders m e (take (v + 1) all) (orders_at xs e)) (sym w.orders-is)
             (written-at (λ k x. Pays m k → AreOrders m k (take (v + 1) all) x) os d w.set.new.self inside here e under (λ before pay. i.done e before known pay) pays))

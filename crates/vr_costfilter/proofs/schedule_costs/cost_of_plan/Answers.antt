@@ -1,10 +1,11 @@
-use Rattle.std.proofs.Common.{◌+◌, arith, length}
+use Rattle.std.proofs.Common.{◌∙◌, ◌+◌, arith, length, sym}
 use Rattle.std.proofs.lemmas.Int.{ints}
 use Rattle.std.specs.Prelude.{◌-ℤ◌}
 use Rattle.vr_model.specs.tables.Numbers.{number_at}
 use Rattle.vr_model.specs.tables.Tables.{dimension_at}
 use Rattle.vr_timings.specs.Timings.{last_with, plan_of, start_with}
 use Rattle.vr_timings.proofs.ExtentLemmas.{times-none}
+use Rattle.vr_timings.proofs.PayingLemmas.{pays_nothing_where}
 use Rattle.vr_costfilter.proofs.ScheduleLemmas.{timed-cost, timing-more}
 use Rattle.vr_costfilter.proofs.schedule_costs.cost_of_plan.Goals as goal
 
@@ -14,7 +15,7 @@ returns-then-not-may_pay_alone-clause-value c =
     let d = c.args.d in
     let v = c.args.v in
     let list = c.args.list.now in
-    let nothing = c.may_pay_alone.ensures c.if-not-may_pay_alone.true in
+    let nothing = pays_nothing_where (dimension_at model d) v list (sym c.may_pay_alone.ensures ∙ c.if-not-may_pay_alone.true) in
     let soft = nothing.soft (plan_of model d v list).cumuls in
     let span = times-none (number_at (dimension_at model d).span_costs v) (last_with model d v list -ℤ start_with model d v list) nothing.span in
     omega (arith, ints, soft, span)

@@ -3,12 +3,16 @@ use Rattle.std.proofs.lemmas.Int.{ints}
 use Rattle.serde_json.specs.View.{view}
 use Rattle.vr_model.specs.schedules.Lines.{Line, line}
 use Rattle.vr_model.specs.tables.Numbers.{number_at}
-use Rattle.vr_model.specs.tables.Tables.{no_dimension}
+use Rattle.vr_model.specs.tables.Tables.{dimension_at, no_dimension}
 use Rattle.vr_plan.specs.Plans.{seen}
 use Rattle.vr_printed.specs.Printed.{plan_of}
 use Rattle.vr_replies.specs.Shortest.{span_high, span_low}
-use Rattle.vr_replies.proofs.SpanLemmas.{line_stops_behind, row_is, span_is}
+use Rattle.vr_replies.proofs.SpanLemmas.{line_stops_behind, no-breaks, row_is, span_is}
 use Rattle.vr_replies.proofs.spans.row.Goals as goal
+
+pub shortest-requires-clause-no_breaks : goal.shortest-requires-clause-no_breaks
+shortest-requires-clause-no_breaks c =
+    c.in_ok-line.ensures.exact.breaks ∙ no-breaks (dimension_at c.args.model.now c.args.d) c.requires.no_breaks c.args.v
 
 pub returns : goal.returns
 returns c =

@@ -1,6 +1,6 @@
 use Rattle.std.proofs.Common.{◌≡◌, find, map, drop}
 use Rattle.std.specs.Str.{bytes_eq}
-use Rattle.vr_tsplib.specs.Heads.{named}
+use Rattle.vr_json.specs.Kinds.{named}
 use Rattle.vr_tsplib.proofs.words.meaning.Given as goal
 
 abbrev pub invariant-loop-name : goal.invariant-loop-name

@@ -4,9 +4,9 @@ use Rattle.vr_model.specs.declared.records.Model.{Model}
 use Rattle.vr_routes.specs.Pieces.{changed}
 use Rattle.vr_earliest.specs.Earlies.{AreEarlies}
 use Rattle.vr_costfilter.specs.declared.orders.Orders.{Orders}
-use Rattle.vr_costfilter.specs.GlobalCosts.{AreAllOrders, NonePays}
+use Rattle.vr_costfilter.specs.GlobalCosts.{AreAllOrders}
 use Rattle.vr_costfilter.specs.Spreads.{global_least}
-use Rattle.vr_costfilter.proofs.GlobalLemmas.{none-costs}
+use Rattle.vr_costfilter.proofs.GlobalLemmas.{none-costs, none-pays, NonePays}
 use Rattle.vr_costfilter.proofs.SpreadLemmas.{least-holds, none-least}
 use Rattle.vr_costfilter.proofs.global_span.GlobalSpan.least.Goals as goal
 
@@ -14,7 +14,7 @@ pub returns-then-is_idle-clause-least : goal.returns-then-is_idle-clause-least
 returns-then-is_idle-clause-least c valid =
     let model = c.args.self.now.model in
     let lists : List (List ℕ) = c.args.routes.now.lists in
-    let none = subst NonePays (ap (λ s. s.model) c.self.view_is) (c.is_idle.ensures c.if-is_idle.true) in
+    let none = subst NonePays (ap (λ s. s.model) c.self.view_is) (none-pays c.self.inside.rules (sym c.is_idle.ensures ∙ c.if-is_idle.true)) in
     let a = none-costs model none lists in
     let b = none-costs model none (changed lists c.args.change.now) in
     omega (arith, ints, a, b)
@@ -36,7 +36,7 @@ pub returns-then-is_idle-clause-value : goal.returns-then-is_idle-clause-value
 returns-then-is_idle-clause-value c =
     let model = c.args.self.now.model in
     let lists : List (List ℕ) = c.args.routes.now.lists in
-    let none = subst NonePays (ap (λ s. s.model) c.self.view_is) (c.is_idle.ensures c.if-is_idle.true) in
+    let none = subst NonePays (ap (λ s. s.model) c.self.view_is) (none-pays c.self.inside.rules (sym c.is_idle.ensures ∙ c.if-is_idle.true)) in
     let a = none-least model none lists c.args.change.now in
     let b = none-costs model none lists in
     omega (arith, ints, a, b)

@@ -1,12 +1,12 @@
-use Rattle.std.proofs.Common.{List, ℕ, ap, subst}
+use Rattle.std.proofs.Common.{List, ℕ, ap, subst, sym, ◌∙◌}
 use Rattle.vr_model.specs.declared.records.Model.{Model}
 use Rattle.vr_routes.specs.Pieces.{joined, part_at}
 use Rattle.vr_costfilter.specs.GlobalCosts.{IsRow}
-use Rattle.vr_costfilter.proofs.GlobalLemmas.{none-kept}
+use Rattle.vr_costfilter.proofs.GlobalLemmas.{none-kept, none-pays}
 use Rattle.vr_costfilter.proofs.global_span.GlobalSpan.row_after.Goals as goal
 
 pub returns-then-is_idle-clause-kept : goal.returns-then-is_idle-clause-kept
 returns-then-is_idle-clause-kept c =
     let part = part_at c.args.change.now c.args.k in
     let list : List ℕ = joined c.args.routes.now.lists part.pieces in
-    subst (λ (m : Model). IsRow m part.vehicle list _) (ap (λ s. s.model) c.self.view_is) (none-kept c.self.inside.rules (c.is_idle.ensures c.if-is_idle.true) part.vehicle list)
+    subst (λ (m : Model). IsRow m part.vehicle list _) (ap (λ s. s.model) c.self.view_is) (none-kept c.self.inside.rules (none-pays c.self.inside.rules (sym c.is_idle.ensures ∙ c.if-is_idle.true)) part.vehicle list)

@@ -2,15 +2,15 @@ use Rattle.std.proofs.Common.{◌∙◌, ℕ, List, ap, sym, subst, arith}
 use Rattle.std.proofs.lemmas.Int.{ints}
 use Rattle.vr_routes.specs.Pieces.{changed}
 use Rattle.vr_model.specs.declared.records.Model.{Model}
-use Rattle.vr_costfilter.specs.GlobalCosts.{global_cost_of, IsGlobalCost, NonePays}
-use Rattle.vr_costfilter.proofs.GlobalLemmas.{none-costs, stands-like}
+use Rattle.vr_costfilter.specs.GlobalCosts.{global_cost_of, IsGlobalCost}
+use Rattle.vr_costfilter.proofs.GlobalLemmas.{none-costs, none-pays, stands-like, NonePays}
 use Rattle.vr_costfilter.proofs.global_span.GlobalSpanCostPart.difference.Goals as goal
 
 pub returns-then-is_idle-clause-exact : goal.returns-then-is_idle-clause-exact
 returns-then-is_idle-clause-exact c =
     let model = c.args.self.now.model in
     let lists : List (List ℕ) = c.args.routes.now.lists in
-    let none = subst NonePays (ap (λ s. s.model) c.self.view_is) (c.is_idle.ensures c.if-is_idle.true) in
+    let none = subst NonePays (ap (λ s. s.model) c.self.view_is) (none-pays c.self.inside.rules (sym c.is_idle.ensures ∙ c.if-is_idle.true)) in
     let a = none-costs model none lists in
     let b = none-costs model none (changed lists c.args.change.now) in
     omega (arith, ints, a, b)

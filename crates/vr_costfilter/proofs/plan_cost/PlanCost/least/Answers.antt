@@ -7,7 +7,8 @@ use Rattle.vr_model.specs.routes.Routes.{route}
 use Rattle.vr_model.specs.declared.records.Model.{Model}
 use Rattle.vr_routes.specs.Pieces.{changed, joined, no_part, part_at}
 use Rattle.vr_earliest.specs.Earlies.{AreEarlies}
-use Rattle.vr_costfilter.specs.PlanCosts.{plans_cost, soft_and_span, spans_least, IsIdle, IsPlanCost}
+use Rattle.vr_costfilter.specs.PlanCosts.{plans_cost, soft_and_span, spans_least, IsPlanCost}
+use Rattle.vr_costfilter.proofs.PlanLemmas.{idle-where, IsIdle}
 use Rattle.vr_parts.specs.Sums.{part_less}
 use Rattle.vr_costfilter.proofs.LeastSpanLemmas.{change-idle, change-least, least-idle, less-more}
 use Rattle.vr_costfilter.proofs.plan_cost.PlanCost.least.Goals as goal
@@ -107,10 +108,10 @@ returns-clause-least c valid =
 
 pub returns-then-is_idle-clause-value : goal.returns-then-is_idle-clause-value
 returns-then-is_idle-clause-value c =
-    let idle = subst IsIdle (ap (λ s. s.model) c.self.view_is) (c.is_idle.ensures c.if-is_idle.true) in
+    let idle = subst IsIdle (ap (λ s. s.model) c.self.view_is) (idle-where c.self.inside.rules (sym c.is_idle.ensures ∙ c.if-is_idle.true)) in
     sym (least-idle c.args.self.now.model idle c.args.routes.now.lists c.args.change.now)
 
 pub returns-then-is_idle-clause-least : goal.returns-then-is_idle-clause-least
 returns-then-is_idle-clause-least c valid =
-    let idle = subst IsIdle (ap (λ s. s.model) c.self.view_is) (c.is_idle.ensures c.if-is_idle.true) in
+    let idle = subst IsIdle (ap (λ s. s.model) c.self.view_is) (idle-where c.self.inside.rules (sym c.is_idle.ensures ∙ c.if-is_idle.true)) in
     change-idle c.args.self.now.model idle c.args.routes.now.lists (changed c.args.routes.now.lists c.args.change.now)

@@ -5,9 +5,9 @@ use Rattle.std.specs.Prelude.{ℤ, pos, ◌-ℤ◌}
 use Rattle.vr_model.specs.tables.Numbers.{number_at}
 use Rattle.vr_model.specs.routes.Routes.{route}
 use Rattle.vr_routes.specs.Pieces.{joined, no_part, part_at, changed}
-use Rattle.vr_costfilter.specs.PlanCosts.{plans_cost, IsIdle, IsPlanCost}
+use Rattle.vr_costfilter.specs.PlanCosts.{plans_cost, IsPlanCost}
 use Rattle.vr_parts.proofs.SumLemmas.{sum-step, sum-whole}
-use Rattle.vr_costfilter.proofs.PlanLemmas.{idle-sum, plans-like, plans-over}
+use Rattle.vr_costfilter.proofs.PlanLemmas.{idle-sum, idle-where, plans-like, plans-over, IsIdle}
 use Rattle.vr_costfilter.proofs.plan_cost.PlanCostCostPart.difference.Goals as goal
 
 pub overflow_sub-total : goal.overflow_sub-total
@@ -122,7 +122,7 @@ returns-then-is_idle-clause-exact c =
     let model = c.args.self.now.model in
     let lists : List (List ℕ) = c.args.routes.now.lists in
     let parts = c.args.change.now in
-    let idle = subst IsIdle (ap (λ s. s.model) c.self.view_is) (c.is_idle.ensures c.if-is_idle.true) in
+    let idle = subst IsIdle (ap (λ s. s.model) c.self.view_is) (idle-where c.self.inside.rules (sym c.is_idle.ensures ∙ c.if-is_idle.true)) in
     let x = plans-over model lists in
     let y = plans-over model (changed lists parts) in
     let u = idle-sum model idle lists in

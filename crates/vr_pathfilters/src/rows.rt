@@ -1,0 +1,150 @@
+//! The rows of lists, as a filter of a dimension makes them: of all lists where it is opened, and of the lists of a
+//! change that is made ready. Each list whose rows are written is counted, and the question about a change has no
+//! counter for them: it makes no rows.
+
+ghost use Rattle.std.specs.Prelude.{◌≡◌, ◌+◌, ◌<◌, length, IfOk, OnOk, None};
+ghost use Rattle.vr_model.specs.tables.WellFormed.{IsWellFormed};
+ghost use Rattle.vr_routes.specs.Changes.{IsMadeOn};
+ghost use Rattle.vr_walks.specs.KnownRows.{AreRowsIfUsed};
+ghost use Rattle.vr_walks.specs.Lists.{IsTour};
+ghost use Rattle.vr_walks.specs.Stops.{AreStops};
+ghost use Rattle.vr_pathfilters.specs.TourLists.{AreTours};
+ghost use Rattle.vr_pathfilters.specs.Known.{AreRowsOfPart, KnowsRows};
+
+use std::alloc::Global;
+use std::sync::ledger::{Blank, Ledger};
+use vr_loads::Loads;
+use vr_model::{Model, NoMemory, Steps};
+use vr_reach::Rows;
+use vr_routes::{Change, Routes, Row};
+use vr_steps::Line;
+use vr_walks::{Stops, write_rows};
+
+// Writes the rows of vehicle `v` with a list over others, where the list is not empty, and counts it. After `NoMemory`
+// nothing is said of the rows.
+fn write_list<L: Ledger>(
+    alloc: Global,
+    model: &Model,
+    d: u32,
+    v: u32,
+    stops: &Stops,
+    list: &[u32],
+    line: &mut Line,
+    rows: &mut Rows,
+    lists: &mut Steps<L>,
+) -> Result<(), NoMemory>
+    requires well_formed { IsWellFormed model.now }
+    requires dimension { d < length model.now.dimensions }
+    requires vehicle { v < length model.now.vehicles }
+    requires stops { AreStops model.now d stops.now }
+    requires tour { IsTour model.now list.now }
+    ensures rows { OnOk result (AreRowsIfUsed model.now d v list.now rows.new) }
+    ensures count { lists.new ≡ lists.old + 1 }
+{
+    lists.tick();
+    write_rows(alloc, model, d, v, stops, list, line, rows)?;
+    Ok(())
+}
+
+/// Writes the rows of the list of part `k` of a change over others, where there is that part. After `NoMemory` nothing
+/// is said of them.
+pub(crate) fn write_part<L: Ledger>(
+    alloc: Global,
+    model: &Model,
+    d: u32,
+    stops: &Stops,
+    routes: &Routes,
+    change: &Change,
+    k: usize,
+    list: &mut Row,
+    line: &mut Line,
+    rows: &mut Rows,
+    blank: Blank,
+) -> Result<(), NoMemory>
+    requires name { blank.name ≡ L.name }
+    requires parts { blank.parts ≡ L.parts }
+    requires some { 0 < blank.parts }
+    requires well_formed { IsWellFormed model.now }
+    requires dimension { d < length model.now.dimensions }
+    requires stops { AreStops model.now d stops.now }
+    requires tours { AreTours model.now routes.now }
+    requires made { IsMadeOn routes.now change.now }
+    ensures { OnOk result (AreRowsOfPart model.now d routes.now.lists change.now k rows.new) }
+{
+    if k >= change.parts() {
+        return Ok(());
+    }
+    let mut lists = Steps::<L>::new(blank);
+    routes.write_after(change, k, list);
+    write_list(
+        alloc,
+        model,
+        d,
+        change.vehicle(k),
+        stops,
+        list.as_slice(),
+        line,
+        rows,
+        &mut lists,
+    )?;
+    Ok(())
+}
+
+/// The rows of each vehicle with its list, unless loads are kept.
+pub(crate) fn rows_unless<L: Ledger>(
+    loads: &Option<Loads>,
+    alloc: Global,
+    model: &Model,
+    d: u32,
+    stops: &Stops,
+    routes: &Routes,
+    line: &mut Line,
+    lists: &mut Steps<L>,
+) -> Result<Vec<Rows>, NoMemory>
+    requires well_formed { IsWellFormed model.now }
+    requires dimension { d < length model.now.dimensions }
+    requires stops { AreStops model.now d stops.now }
+    requires tours { AreTours model.now routes.now }
+    ensures { IfOk result (λ known. loads.now ≡ None → KnowsRows model.now d known.items routes.now.lists) }
+{
+    if loads.is_some() {
+        return Ok(Vec::new(alloc));
+    }
+    let known = know_all(alloc, model, d, stops, routes, line, lists)?;
+    Ok(known)
+}
+
+// The rows of each vehicle with its list.
+fn know_all<L: Ledger>(
+    alloc: Global,
+    model: &Model,
+    d: u32,
+    stops: &Stops,
+    routes: &Routes,
+    line: &mut Line,
+    lists: &mut Steps<L>,
+) -> Result<Vec<Rows>, NoMemory>
+    requires well_formed { IsWellFormed model.now }
+    requires dimension { d < length model.now.dimensions }
+    requires stops { AreStops model.now d stops.now }
+    requires tours { AreTours model.now routes.now }
+    ensures { IfOk result (λ known. KnowsRows model.now d known.items routes.now.lists) }
+{
+    let mut known = Vec::with_capacity(alloc, routes.vehicles() as usize)?;
+    for v in 0..routes.vehicles() {
+        let mut rows = Rows::new(alloc);
+        write_list(
+            alloc,
+            model,
+            d,
+            v,
+            stops,
+            routes.list(v),
+            line,
+            &mut rows,
+            lists,
+        )?;
+        known.push(rows)?;
+    }
+    Ok(known)
+}
