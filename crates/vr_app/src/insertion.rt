@@ -1,7 +1,10 @@
 //! What rebuilds open routes for path neighbourhoods: parallel cheapest insertion.
 
+ghost use Rattle.vr_first_insert.specs.Keeping.{IsOpened};
+
 use std::alloc::Global;
-use vr_first_insert::rebuild;
+use vr_first_insert::{Rebuilder, rebuild};
+use vr_lists::NodeTables;
 use vr_lns::Rebuild;
 use vr_model::{Model, NoMemory};
 use vr_routes::Routes;
@@ -10,19 +13,46 @@ use vr_routes::Routes;
 #[derive(Drop)]
 pub(crate) struct Insertion {
     alloc: Global,
+    // once it knows a model
+    rebuilder: Option<Rebuilder>,
 }
 
 impl Insertion {
     /// What takes its memory from `alloc`.
     pub(crate) fn new(alloc: Global) -> Insertion {
-        Insertion { alloc }
+        Insertion {
+            alloc,
+            rebuilder: None,
+        }
     }
 }
 
 impl Rebuild for Insertion {
     ghost made = { λ insertion. 0 };
 
+    ghost knows = { λ insertion model. IsOpened model insertion.rebuilder };
+
     fn rebuild(&mut self, model: &Model, routes: &Routes) -> Result<Routes, NoMemory> {
         rebuild(self.alloc, model, routes)
+    }
+
+    fn know(&mut self, model: &Model, lookups: &NodeTables<'_>) -> Result<(), NoMemory> {
+        self.rebuilder = Some(Rebuilder::open(self.alloc, model, lookups)?);
+        Ok(())
+    }
+
+    fn rebuild_known(
+        &mut self,
+        model: &Model,
+        lookups: &NodeTables<'_>,
+        routes: &Routes,
+    ) -> Result<Routes, NoMemory> {
+        match &mut self.rebuilder {
+            Some(rebuilder) => {
+                let after = rebuilder.rebuild(model, lookups, routes)?;
+                Ok(after)
+            }
+            None => unreachable!(),
+        }
     }
 }

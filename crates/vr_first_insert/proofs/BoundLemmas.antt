@@ -1,8 +1,8 @@
 -- Choices that cannot be better than the best so far.
-use Rattle.std.proofs.Common.{◌≡◌, ◌∙◌, ◌<◌, ◌≤◌, ℕ, suc, List, [], ◌∷◌, Bool, true, false, cond, Option, Some, None, ℤ, pos, ◌≤ℤ◌, ◌+ℤ◌, refl, ap, sym, subst, inl, inr, arith, length}
-use Rattle.std.specs.Prelude.{◌&&◌, ◌||◌, ◌==◌, fold, map, int_lt, int_le, nat_lt, nat_le}
+use Rattle.std.proofs.Common.{◌≡◌, ◌∙◌, ◌<◌, ◌≤◌, ◌+◌, ◌-◌, ◌⊎◌, ℕ, suc, List, [], ◌∷◌, Bool, true, false, cond, Option, Some, None, ℤ, pos, ◌≤ℤ◌, ◌+ℤ◌, refl, ap, sym, subst, inl, inr, arith, length, to_z, of_z, w64}
+use Rattle.std.specs.Prelude.{◌&&◌, ◌||◌, ◌==◌, fold, map, int_lt, int_le, nat_lt, nat_le, slice_index_or}
 use Rattle.std.proofs.lemmas.Int.{ints}
-use Rattle.std.proofs.lemmas.Bool.{eqb-true}
+use Rattle.std.proofs.lemmas.Bool.{cases_lt, eqb-true}
 use Rattle.vr_model.specs.declared.records.Model.{Model}
 use Rattle.vr_model.specs.tables.Numbers.{is_lex_less, from_to}
 use Rattle.vr_model.specs.routes.Rules.{is_route_open}
@@ -12,7 +12,7 @@ use Rattle.vr_rules.specs.Placing.{improves}
 use Rattle.vr_rules.proofs.LazyLeast.{untested}
 use Rattle.vr_first_insert.specs.declared.choice.Choice.{Choice}
 use Rattle.vr_first_insert.specs.Increases.{arc_at, detour, node_before, node_behind, visit_increase, pair_increase}
-use Rattle.vr_first_insert.specs.Placings.{key_of, tail_key, may_improve, pair_choice, placed, weigh, IsLeast}
+use Rattle.vr_first_insert.specs.Placings.{key_of, tail_key, may_improve, pair_choice, placed, weigh, AreLeastAhead, IsLeast, IsLeastAhead}
 
 not-before : (n c : ℕ) (i l b : ℤ) (tail : Bool) → (nat_lt n c || (nat_le n c && int_le l b)) ≡ false → l ≤ℤ i
     → (int_lt (pos n) (pos c) || (int_le (pos n) (pos c) && (int_lt i b || (int_le i b && tail)))) ≡ false
@@ -68,3 +68,32 @@ least-apart model v list pickup delivery s least together result is_least same b
         let apart = apart-is model v list pickup delivery s t e in
         let low = is_least t within in
         subst (λ x. result ≤ℤ x) (sym apart) (omega (arith, ints, below_two, low))
+
+-- the pair with its delivery behind, which alone adds so much at least
+pub least-apart-at : (model : Model) (v : ℕ) (list : List ℕ) (pickup delivery s t : ℕ) (least : ℤ) → least ≤ℤ visit_increase model v list delivery t → s < t
+    → (visit_increase model v list pickup s +ℤ least) ≤ℤ pair_increase model v list pickup delivery s t
+least-apart-at model v list pickup delivery s t least low behind =
+    subst (λ x. (visit_increase model v list pickup s +ℤ least) ≤ℤ x) (sym (apart-is model v list pickup delivery s t (differ s t behind))) (omega (arith, ints, low))
+  where
+    differ : (s t : ℕ) → s < t → (s == t) ≡ false
+    differ s t behind = grind arith
+
+-- the least of the last places with one place more
+pub ahead-more : (model : Model) (v : ℕ) (list : List ℕ) (node k : ℕ) (least next x : ℤ) → k ≤ length list → x ≤ℤ least → x ≤ℤ next → next ≡ visit_increase model v list node (length list - k)
+    → ((t : ℕ) → length list < t + k → t ≤ length list → least ≤ℤ visit_increase model v list node t) → (t : ℕ) → length list ≤ t + k → t ≤ length list → x ≤ℤ visit_increase model v list node t
+ahead-more model v list node k least next x within low_one low_two is before t from high = by (cases_lt (length list) (t + k))
+  where
+    by : (length list < t + k) ⊎ (t + k ≤ length list) → x ≤ℤ visit_increase model v list node t
+    by (inl less) = let old = before t less high in omega (arith, ints, low_one, old)
+    by (inr at) =
+        let here : length list - k ≡ t = omega (arith, from, at) in
+        subst (λ t. x ≤ℤ visit_increase model v list node t) here (subst (λ y. x ≤ℤ y) is low_two)
+
+-- what code reads of the last places
+pub ahead-read : (model : Model) (v : ℕ) (list : List ℕ) (node k : ℕ) (ahead : List ℤ) (x : ℤ) → AreLeastAhead model v list node ahead → slice_index_or ahead k (pos 0) ≡ x → k ≤ length list
+    → IsLeastAhead model v list node k (to_z w64 (of_z w64 x))
+ahead-read model v list node k ahead x are read within =
+    let long = are.one_of_each in
+    let is : IsLeastAhead model v list node k x = subst (IsLeastAhead model v list node k) read (are.each k (pos 0) (omega (arith, long, within))) in
+    let fits : to_z w64 (of_z w64 x) ≡ x = omega (arith, ints, is.low, is.high) in
+    subst (IsLeastAhead model v list node k) (sym fits) is

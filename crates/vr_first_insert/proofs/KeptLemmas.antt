@@ -1,6 +1,6 @@
 -- What is known of items in lists.
-use Rattle.std.proofs.Common.{◌≡◌, ◌∙◌, ◌<◌, ℕ, zero, suc, List, [], true, false, Option, Some, None, ℤ, ◌≤ℤ◌, refl, ap, sym, subst, inl, inr, arith, length, length-set}
-use Rattle.std.specs.Prelude.{map, replicate, slice_index_or, slice_set}
+use Rattle.std.proofs.Common.{◌≡◌, ◌∙◌, ◌<◌, ℕ, zero, suc, List, [], Bool, true, false, Option, Some, None, ℤ, ◌≤ℤ◌, refl, ap, sym, subst, inl, inr, arith, length, length-set}
+use Rattle.std.specs.Prelude.{map, not, replicate, slice_index_or, slice_set}
 use Rattle.std.specs.List.{list_all}
 use Rattle.std.proofs.lemmas.Bool.Decides.{eqb_tells}
 use Rattle.std.proofs.lemmas.List.{get_or-set_same, get_or-set_other}
@@ -70,10 +70,14 @@ best-merged model v list candidate found best e =
     best_of-merged found best ∙ ap (merged_best key_of best) e
     ∙ sym (weighed-merged key_of (λ next. is_route_open model next.vehicle (placed list next.placing)) best (choices_in model v list candidate.class candidate.item))
 
--- what is known to be best is so beside the best so far
-pub settled-is : (model : Model) (v : ℕ) (list : List ℕ) (candidate : Candidate) (known : Known) (best : Option Choice) → is_settled known ≡ true → IsKnown model v list candidate known → best_of known best ≡ best_in model v list candidate best
+no-better : (b : Bool) → not b ≡ true → b ≡ false
+no-better false h = refl
+no-better true h = absurd (clash false h refl)
+
+-- where what is known tells the best, it is so beside the best so far
+pub settled-is : (model : Model) (v : ℕ) (list : List ℕ) (candidate : Candidate) (known : Known) (best : Option Choice) → is_settled known candidate.class best ≡ true → IsKnown model v list candidate known → best_of known best ≡ best_in model v list candidate best
 settled-is model v list candidate Nothing best h is = absurd (clash false h refl)
-settled-is model v list candidate (AtLeast least) best h is = absurd (clash false h refl)
+settled-is model v list candidate (AtLeast least) best h is = item-passed_over model v list candidate best least is (no-better (may_improve best candidate.class least) h)
 settled-is model v list candidate (Best found) best h is = best-merged model v list candidate found best is
 
 -- what is known of one list is written

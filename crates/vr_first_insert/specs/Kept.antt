@@ -1,5 +1,5 @@
 -- What is known of items in lists.
-use Rattle.std.specs.Prelude.{◌≡◌, ℕ, ◌<◌, ◌≤◌, ⊤, Bool, true, false, List, [], length, ℤ, ◌≤ℤ◌}
+use Rattle.std.specs.Prelude.{◌≡◌, ℕ, ◌<◌, ◌≤◌, ⊤, Bool, true, false, not, List, [], length, ℤ, ◌≤ℤ◌}
 use Rattle.std.specs.Prelude.{slice_index_or, Option, Some, None}
 use Rattle.vr_model.specs.routes.Routes.{route}
 use Rattle.vr_model.specs.first.Choosing.{better}
@@ -11,7 +11,7 @@ use Rattle.vr_first_insert.specs.declared.choice.Choice.{Choice}
 use Rattle.vr_first_insert.specs.declared.known.Known.{Known}
 use Rattle.vr_first_insert.specs.declared.known.Known.TheVariants.{Nothing, AtLeast, Best}
 use Rattle.vr_first_insert.specs.Increases.{pair_increase}
-use Rattle.vr_first_insert.specs.Placings.{key_of, best_in, IsLeast}
+use Rattle.vr_first_insert.specs.Placings.{key_of, best_in, may_improve, IsLeast}
 
 -- the better of two choices, the first of equal ones
 abbrev pub better_choice : Option Choice → Choice → Option Choice
@@ -24,11 +24,11 @@ best_of (AtLeast least) best = best
 best_of (Best None) best = best
 best_of (Best (Some next)) best = better_choice best next
 
--- the best is known
-abbrev pub is_settled : Known → Bool
-is_settled Nothing = false
-is_settled (AtLeast least) = false
-is_settled (Best best) = true
+-- what is known tells the best beside the best so far: it is the best in the list, or none there is better
+abbrev pub is_settled : Known → ℕ → Option Choice → Bool
+is_settled Nothing class best = false
+is_settled (AtLeast least) class best = not (may_improve best class least)
+is_settled (Best found) class best = true
 
 -- an item adds at least so much, wherever it is put in the list of vehicle v
 abbrev pub AddsAtLeast : Model → ℕ → List ℕ → Item → ℤ → Type 0

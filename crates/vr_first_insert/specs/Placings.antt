@@ -1,6 +1,7 @@
 -- Insertions as code compares them.
 use Rattle.std.specs.Prelude.{◌≡◌, ℕ, suc, ◌<◌, ◌≤◌, Bool, true, false, cond, List, [], ◌∷◌, map, fold, length}
-use Rattle.std.specs.Prelude.{insert, ℤ, pos, ◌≤ℤ◌, int_le, nat_lt, nat_le, ◌&&◌, ◌||◌, IsTrue, Option, Some, None}
+use Rattle.std.specs.Prelude.{◌+◌, ◌^◌, insert, slice_index_or, ℤ, pos, neg_ℤ, ◌≤ℤ◌, int_le, nat_lt, nat_le}
+use Rattle.std.specs.Prelude.{◌&&◌, ◌||◌, IsTrue, Option, Some, None}
 use Rattle.std.specs.List.{list_all}
 use Rattle.vr_model.specs.tables.Numbers.{from_to, each, below}
 use Rattle.vr_model.specs.tables.Tables.{is_visit}
@@ -129,3 +130,14 @@ may_improve (Some best) class least = nat_lt class best.class || (nat_le class b
 -- a visit adds at least so much before each place of the list of vehicle v
 abbrev pub IsLeast : Model → ℕ → List ℕ → ℕ → ℤ → Type 0
 IsLeast model v list node least = (t : ℕ) → t ≤ length list → least ≤ℤ visit_increase model v list node t
+
+-- a visit adds at least so much before each of the last places of the list of vehicle v, from the k-th from its end on
+pub record IsLeastAhead (model : Model) (v : ℕ) (list : List ℕ) (node k : ℕ) (least : ℤ) : Type 0 where
+  pub behind : (t : ℕ) → length list ≤ t + k → t ≤ length list → least ≤ℤ visit_increase model v list node t
+  pub low : neg_ℤ (pos (2 ^ 40)) ≤ℤ least
+  pub high : least ≤ℤ pos (2 ^ 41)
+
+-- the same of all places, counted from the end
+pub record AreLeastAhead (model : Model) (v : ℕ) (list : List ℕ) (node : ℕ) (ahead : List ℤ) : Type 0 where
+  pub one_of_each : length ahead ≡ suc (length list)
+  pub each : (k : ℕ) (d : ℤ) → k < length ahead → IsLeastAhead model v list node k (slice_index_or ahead k d)

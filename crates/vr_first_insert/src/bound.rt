@@ -1,12 +1,12 @@
 //! What no place of a list can do better than.
 
-ghost use Rattle.std.specs.Prelude.{◌≡◌, ℕ, ◌<◌, ◌≤◌, ◌^◌, All, length, neg_ℤ, pos, ◌≤ℤ◌};
+ghost use Rattle.std.specs.Prelude.{◌≡◌, ℕ, ◌<◌, ◌≤◌, ◌^◌, All, OnOk, length, neg_ℤ, pos, ◌+ℤ◌, ◌≤ℤ◌};
 ghost use Rattle.vr_model.specs.tables.WellFormed.{IsWellFormed};
 ghost use Rattle.vr_first_insert.specs.Increases.{pair_increase as pair_increase_of};
-ghost use Rattle.vr_first_insert.specs.Placings.{IsLeast};
+ghost use Rattle.vr_first_insert.specs.Placings.{AreLeastAhead, IsLeast};
 
 use crate::increase::{pair_increase, visit_increase};
-use vr_model::Model;
+use vr_model::{Model, NoMemory, Seq};
 
 /// The least that a visit adds to the list of vehicle `v`.
 pub(crate) fn least_visit(model: &Model, v: u32, list: &[u32], node: u32) -> i64
@@ -23,6 +23,43 @@ pub(crate) fn least_visit(model: &Model, v: u32, list: &[u32], node: u32) -> i64
         least = least.min(visit_increase(model, v, list, node, t));
     }
     least
+}
+
+/// Writes the least that a visit adds to the list of vehicle `v` before its last places: before the last one, before
+/// the last two, and so on up to all.
+pub(crate) fn write_ahead(
+    model: &Model,
+    v: u32,
+    list: &[u32],
+    node: u32,
+    ahead: &mut Seq<i64>,
+) -> Result<(), NoMemory>
+    requires well_formed { IsWellFormed model.now }
+    requires vehicle { v < length model.now.vehicles }
+    requires nodes { All (λ node. node < model.now.nodes) list.now }
+    requires visit { node < model.now.nodes }
+    ensures { OnOk result (AreLeastAhead model.now v list.now node ahead.new) }
+{
+    ahead.truncate(0);
+    let mut least = visit_increase(model, v, list, node, list.len());
+    for k in 0..list.len() + 1 {
+        least = least.min(visit_increase(model, v, list, node, list.len() - k));
+        ahead.push(least)?;
+    }
+    Ok(())
+}
+
+/// What a pair adds at least where its pickup alone adds so much, and its delivery alone `least` at least.
+pub(crate) fn least_apart(pickup: i64, least: i64) -> i64
+    requires pickup_low { neg_ℤ (pos (2 ^ 40)) ≤ℤ pickup }
+    requires pickup_high { pickup ≤ℤ pos (2 ^ 41) }
+    requires low { neg_ℤ (pos (2 ^ 40)) ≤ℤ least }
+    requires high { least ≤ℤ pos (2 ^ 41) }
+    ensures value { result ≡ (pickup +ℤ least) }
+    ensures low { neg_ℤ (pos (2 ^ 41)) ≤ℤ result }
+    ensures high { result ≤ℤ pos (2 ^ 42) }
+{
+    pickup + least
 }
 
 /// What a pair adds at least with its pickup before place `s`, where the delivery alone adds `least` at least.

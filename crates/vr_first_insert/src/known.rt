@@ -29,13 +29,15 @@ pub(crate) enum Known {
     Best(Option<Choice>),
 }
 
-/// Whether the best of a list is known.
-pub(crate) fn is_settled(known: &Known) -> bool
-    ensures { result ≡ is_settled_of known.now }
+/// Whether what is known of an item of a class in a list tells the best beside the best so far: the best in the list is
+/// known, or none there is better.
+pub(crate) fn is_settled(known: &Known, class: u32, best: Option<Choice>) -> bool
+    ensures { result ≡ is_settled_of known.now class best }
 {
     match known {
+        Known::Nothing => false,
+        Known::AtLeast(least) => !may_improve(best, class, *least),
         Known::Best(_) => true,
-        _ => false,
     }
 }
 

@@ -10,19 +10,21 @@ ghost use Rattle.vr_model.specs.tables.WellFormed.{IsWellFormed};
 ghost use Rattle.vr_rules.specs.declared.items.Item.TheVariants.{Visit, PickupAndDelivery};
 ghost use Rattle.vr_rules.specs.Placing.{nodes_of};
 ghost use Rattle.vr_inserting.specs.Probes.{AreReachedAt};
-ghost use Rattle.vr_first_insert.specs.Placings.{best_in, pair_choice, visit_choice, weigh, IsLeast, MayHold};
+ghost use Rattle.vr_first_insert.specs.Placings.{best_in, pair_choice, visit_choice, weigh};
+ghost use Rattle.vr_first_insert.specs.Placings.{placed, AreLeastAhead, IsLeast, MayHold};
+ghost use Rattle.vr_first_insert.specs.declared.choice.Placing.TheVariants.{One, Two};
 ghost use Rattle.vr_first_insert.specs.Ready.{IsReady};
 
-use crate::bound::{least_behind, least_further, least_visit};
+use crate::bound::{least_apart, least_behind, least_further, write_ahead};
 use crate::choice::{Choice, Placing, improves, may_improve};
 use crate::increase::{pair_increase, visit_increase};
-use crate::place::write_placed;
+use crate::place::{move_on, write_placed};
 use crate::room::Room;
 use crate::trying::{Trying, may_serve, may_visit};
 use std::alloc::Global;
 use vr_inserting::{Kept, Probes};
 use vr_lists::NodeTables;
-use vr_model::{Model, NoMemory};
+use vr_model::{Model, NoMemory, Seq};
 use vr_rules::{Candidate, Item, allows_item};
 
 // A visit before place `t`.
@@ -41,7 +43,7 @@ fn visit_at(model: &Model, v: u32, list: &[u32], class: u32, node: u32, t: usize
     }
 }
 
-// The better of the best so far and a visit before place `t`, which is tested only where it improves.
+// The better of the best so far and a visit before place `t`, as it is written, which is tested only where it improves.
 fn weigh_visit(
     trying: &mut Trying,
     model: &Model,
@@ -59,8 +61,10 @@ fn weigh_visit(
     requires may_hold { MayHold model.now list.now (Visit node) }
     requires allowed { IsTrue (list_all (allows_vehicle model.now v) (nodes_of (Visit node))) }
     requires within { t ≤ length list.now }
-    ensures { IfOk result (λ chosen. chosen
+    requires longer { trying.old.longer ≡ placed list.now (One node t) }
+    ensures best { IfOk result (λ chosen. chosen
         ≡ weigh model.now list.now best (visit_choice model.now v list.now class node t)) }
+    ensures longer { trying.new.longer ≡ trying.old.longer }
 {
     let next = visit_at(model, v, list, class, node, t);
     if !improves(best, next) {
@@ -92,19 +96,13 @@ fn best_visit(
     ensures { IfOk result (λ chosen. chosen ≡ fold (weigh model.now list.now) best
         (map (visit_choice model.now v list.now class node) (gaps list.now))) }
 {
-    let mut best = best;
-    for t in 0..list.len() + 1 {
-        best = weigh_visit(
-            &mut room.trying,
-            model,
-            keeps,
-            v,
-            list,
-            class,
-            node,
-            t,
-            best,
-        )?;
+    let trying = &mut room.trying;
+    write_placed(list, Placing::One(node, 0), &mut trying.longer)?;
+    let first = weigh_visit(trying, model, keeps, v, list, class, node, 0, best)?;
+    let mut best = first;
+    for t in 0..list.len() {
+        move_on(&mut trying.longer, t);
+        best = weigh_visit(trying, model, keeps, v, list, class, node, t + 1, best)?;
     }
     Ok(best)
 }
@@ -135,8 +133,8 @@ fn pair_at(
     }
 }
 
-// The better of the best so far and a pair before two places, which is tested only where it improves, by what the list
-// with the pickup reaches at the node before the delivery.
+// The better of the best so far and a pair before two places, as it is written, which is tested only where it improves,
+// by what the list with the pickup reaches at the node before the delivery.
 fn weigh_pair(
     trying: &mut Trying,
     probes: &Probes,
@@ -159,8 +157,10 @@ fn weigh_pair(
     requires order { s ≤ t }
     requires within { t ≤ length list.now }
     requires here { AreReachedAt model.now v (insert list.now s pickup) (t + 1) probes.now }
-    ensures { IfOk result (λ chosen. chosen
+    requires longer { trying.old.longer ≡ placed list.now (Two pickup delivery s t) }
+    ensures best { IfOk result (λ chosen. chosen
         ≡ weigh model.now list.now best (pair_choice model.now v list.now class pickup delivery s t)) }
+    ensures longer { trying.new.longer ≡ trying.old.longer }
 {
     let next = pair_at(model, v, list, class, pickup, delivery, s, t);
     if !improves(best, next) {
@@ -176,11 +176,13 @@ fn weigh_pair(
 }
 
 // The best beside a pickup before place `s`, as it stands in `half`, and its delivery before each place behind, where
-// what `half` reaches at the next node is known. Once nothing is reached, no place further on is allowed.
+// what `half` reaches at the next node is known. Once nothing is reached, no place further on is allowed; and none is
+// looked at where none from there on can be better.
 fn best_further(
     trying: &mut Trying,
     probes: &mut Probes,
     half: &[u32],
+    ahead: &Seq<i64>,
     model: &Model,
     keeps: &[Kept],
     v: u32,
@@ -198,15 +200,23 @@ fn best_further(
     requires allowed { IsTrue (list_all (allows_vehicle model.now v) (nodes_of (PickupAndDelivery pickup delivery))) }
     requires within { s ≤ length list.now }
     requires half { half.now ≡ insert list.now s pickup }
+    requires ahead { AreLeastAhead model.now v list.now delivery ahead.now }
     requires here { AreReachedAt model.now v half.now (s + 2) probes.old }
+    requires longer { trying.old.longer ≡ insert half.now (s + 1) delivery }
     ensures { IfOk result (λ chosen. chosen ≡ fold (weigh model.now list.now) best
         (map (pair_choice model.now v list.now class pickup delivery s) (from_to (s + 1) (suc (length list.now))))) }
 {
+    let alone = visit_increase(model, v, list, pickup, s);
     let mut best = best;
     for t in s + 1..list.len() + 1 {
+        let least = *ahead.get(list.len() - t);
+        if !may_improve(best, class, least_apart(alone, least)) {
+            return Ok(best);
+        }
         if probes.is_stuck(model) {
             return Ok(best);
         }
+        move_on(&mut trying.longer, t);
         best = weigh_pair(
             trying, probes, model, keeps, v, list, class, pickup, delivery, s, t, best,
         )?;
@@ -223,6 +233,7 @@ fn best_behind(
     trying: &mut Trying,
     probes: &mut Probes,
     half: &[u32],
+    ahead: &Seq<i64>,
     model: &Model,
     keeps: &[Kept],
     v: u32,
@@ -241,6 +252,7 @@ fn best_behind(
     requires allowed { IsTrue (list_all (allows_vehicle model.now v) (nodes_of (PickupAndDelivery pickup delivery))) }
     requires within { s ≤ length list.now }
     requires half { half.now ≡ insert list.now s pickup }
+    requires ahead { AreLeastAhead model.now v list.now delivery ahead.now }
     requires least { IsLeast model.now v list.now delivery least }
     requires low { neg_ℤ (pos (2 ^ 40)) ≤ℤ least }
     requires high { least ≤ℤ pos (2 ^ 41) }
@@ -251,6 +263,8 @@ fn best_behind(
     if probes.is_stuck(model) {
         return Ok(best);
     }
+    let placing = Placing::Two(pickup, delivery, s as u32, s as u32);
+    write_placed(list, placing, &mut trying.longer)?;
     let near = weigh_pair(
         trying, probes, model, keeps, v, list, class, pickup, delivery, s, s, best,
     )?;
@@ -259,13 +273,13 @@ fn best_behind(
     }
     probes.go_on(model, keeps, v, half, s + 1, &mut trying.walk)?;
     let best = best_further(
-        trying, probes, half, model, keeps, v, list, class, pickup, delivery, s, near,
+        trying, probes, half, ahead, model, keeps, v, list, class, pickup, delivery, s, near,
     )?;
     Ok(best)
 }
 
-// The best beside a pickup before place `s` and its delivery before each place from there on, where the delivery
-// alone adds `least` at least: then no place is looked at where none can be better.
+// The best beside a pickup before place `s` and its delivery before each place from there on, where the least that the
+// delivery adds is in the room: then no place is looked at where none can be better.
 fn best_delivery(
     room: &mut Room,
     model: &Model,
@@ -276,7 +290,6 @@ fn best_delivery(
     pickup: u32,
     delivery: u32,
     s: usize,
-    least: i64,
     best: Option<Choice>,
 ) -> Result<Option<Choice>, NoMemory>
     requires well_formed { IsWellFormed model.now }
@@ -285,12 +298,12 @@ fn best_delivery(
     requires may_hold { MayHold model.now list.now (PickupAndDelivery pickup delivery) }
     requires allowed { IsTrue (list_all (allows_vehicle model.now v) (nodes_of (PickupAndDelivery pickup delivery))) }
     requires within { s ≤ length list.now }
-    requires least { IsLeast model.now v list.now delivery least }
-    requires low { neg_ℤ (pos (2 ^ 40)) ≤ℤ least }
-    requires high { least ≤ℤ pos (2 ^ 41) }
-    ensures { IfOk result (λ chosen. chosen ≡ fold (weigh model.now list.now) best
+    requires ahead { AreLeastAhead model.now v list.now delivery room.old.ahead }
+    ensures best { IfOk result (λ chosen. chosen ≡ fold (weigh model.now list.now) best
         (map (pair_choice model.now v list.now class pickup delivery s) (from_to s (suc (length list.now))))) }
+    ensures ahead { room.new.ahead ≡ room.old.ahead }
 {
+    let least = *room.ahead.get(list.len());
     if !may_improve(
         best,
         class,
@@ -304,6 +317,7 @@ fn best_delivery(
         &mut room.trying,
         &mut room.probes,
         room.half.as_slice(),
+        &room.ahead,
         model,
         keeps,
         v,
@@ -339,11 +353,11 @@ fn best_pair(
         (each (gaps list.now) (λ s. map (pair_choice model.now v list.now class pickup delivery s)
         (from_to s (suc (length list.now)))))) }
 {
-    let least = least_visit(model, v, list, delivery);
+    write_ahead(model, v, list, delivery, &mut room.ahead)?;
     let mut best = best;
     for s in 0..list.len() + 1 {
         best = best_delivery(
-            room, model, keeps, v, list, class, pickup, delivery, s, least, best,
+            room, model, keeps, v, list, class, pickup, delivery, s, best,
         )?;
     }
     Ok(best)

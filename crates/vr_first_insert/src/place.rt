@@ -1,6 +1,6 @@
 //! Lists with an item placed in them.
 
-ghost use Rattle.std.specs.Prelude.{◌≡◌, ◌<◌, ◌≤◌, OnOk, length};
+ghost use Rattle.std.specs.Prelude.{◌≡◌, ◌+◌, ◌<◌, ◌≤◌, ℕ, List, OnOk, insert, length};
 ghost use Rattle.vr_model.specs.moves.Moves.{with_route};
 ghost use Rattle.vr_model.specs.routes.Routes.{route};
 ghost use Rattle.vr_first_insert.specs.Placings.{placed as placed_of, AreWithin};
@@ -35,6 +35,17 @@ pub(crate) fn write_placed(
         }
     }
     Ok(())
+}
+
+/// Moves the node at place `t` one place on.
+pub(crate) fn move_on(longer: &mut Seq<u32>, t: usize)
+    requires { t + 1 < length longer.old }
+    ensures { (list : List ℕ) (node : ℕ) → t < length list → longer.old ≡ insert list t node
+        → longer.new ≡ insert list (t + 1) node }
+{
+    // that the list is in memory says that the sum fits
+    let _few = longer.len();
+    longer.swap(t, t + 1);
 }
 
 /// Places an item in a list among lists.

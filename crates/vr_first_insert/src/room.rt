@@ -13,6 +13,8 @@ pub(crate) struct Room {
     pub(crate) alloc: Global,
     /// The line of a list whose rows are written.
     pub(crate) line: Line,
+    /// The least that the delivery of a pair adds before the last places of a list, as `write_ahead` writes it.
+    pub(crate) ahead: Seq<i64>,
     /// The list with the pickup of a pair in it.
     pub(crate) half: Seq<u32>,
     /// What that list reaches.
@@ -26,6 +28,7 @@ impl Room {
         Room {
             alloc,
             line: no_line(alloc),
+            ahead: Seq::new(alloc),
             half: Seq::new(alloc),
             probes: Probes::new(alloc),
             trying: Trying::new(alloc),

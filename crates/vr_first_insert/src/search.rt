@@ -24,8 +24,8 @@ use vr_lists::NodeTables;
 use vr_model::{Model, NoMemory, Seq};
 use vr_rules::{Candidate, groups_have_room, mark_item};
 
-// Makes known what is best of an item in the list of vehicle `v`, where that may be better than the best so far. What
-// is known already is not written again.
+// Makes known what is best of an item in the list of vehicle `v`, where that may be better than the best so far. Where
+// what is known tells that already, nothing is written.
 fn settle(
     room: &mut Room,
     model: &Model,
@@ -48,7 +48,7 @@ fn settle(
         ≡ best_in model.now v (route lists.now v) candidate best) }
     ensures row { OnOk result (AreKnown model.now lists.now candidate row.new) }
 {
-    if is_settled(row.get(v)) {
+    if is_settled(row.get(v), candidate.class, best) {
         return Ok(());
     }
     let list = lists[v].as_slice();
@@ -112,7 +112,7 @@ fn counts(model: &Model, lookups: &NodeTables<'_>, marks: &[bool], candidate: Ca
     }
 }
 
-// The best beside all insertions of a candidate.
+// Takes the best beside all insertions of a candidate.
 fn beside(
     room: &mut Room,
     model: &Model,
@@ -122,8 +122,8 @@ fn beside(
     marks: &[bool],
     candidate: Candidate,
     row: &mut Seq<Known>,
-    best: Option<Choice>,
-) -> Result<Option<Choice>, NoMemory>
+    best: &mut Option<Choice>,
+) -> Result<(), NoMemory>
     requires well_formed { IsWellFormed model.now }
     requires lookups { lookups.now ≡ model.now }
     requires ready { AreReady model.now lists.now keeps.now }
@@ -134,14 +134,14 @@ fn beside(
     requires may_hold { counts_of model.now marks.now candidate ≡ true → (v : ℕ) → v < length lists.now
         → MayHold model.now (route lists.now v) candidate.item }
     requires row { AreKnown model.now lists.now candidate row.old }
-    ensures best { IfOk result (λ chosen. chosen ≡ best_beside model.now lists.now marks.now candidate best) }
+    ensures best { OnOk result (best.new ≡ best_beside model.now lists.now marks.now candidate best.old) }
     ensures row { OnOk result (AreKnown model.now lists.now candidate row.new) }
 {
     if !counts(model, lookups, marks, candidate) {
-        return Ok(best);
+        return Ok(());
     }
-    let best = best_in_lists(room, model, lookups, keeps, lists, candidate, row, best)?;
-    Ok(best)
+    *best = best_in_lists(room, model, lookups, keeps, lists, candidate, row, *best)?;
+    Ok(())
 }
 
 // The insertion to make next, if any may be made.
@@ -169,7 +169,7 @@ fn next_insertion(
     let mut best: Option<Choice> = None;
     for i in 0..candidates.len() {
         let candidate = candidates[i];
-        best = beside(
+        beside(
             room,
             model,
             lookups,
@@ -178,7 +178,7 @@ fn next_insertion(
             marks,
             candidate,
             &mut rows[i],
-            best,
+            &mut best,
         )?;
     }
     Ok(best)
@@ -208,6 +208,8 @@ pub(crate) fn insert_all(
     ensures rebuilt { OnOk result (lists.new ≡ rebuilt model.now (length (items model.now)) lists.old) }
     ensures built { OnOk result (AreBuilt model.now lists.new) }
     ensures marked { OnOk result (AreMarks model.now.nodes lists.new marks.new) }
+    ensures kept { OnOk result (AreKept model.now lists.new keeps.new) }
+    ensures rows { OnOk result (AreRows model.now lists.new candidates.now rows.new) }
 {
     for _step in 0..candidates.len() {
         match next_insertion(room, model, lookups, keeps, candidates, marks, lists, rows)? {

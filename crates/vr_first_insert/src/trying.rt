@@ -11,8 +11,6 @@ ghost use Rattle.vr_first_insert.specs.Placings.{placed, MayHold};
 ghost use Rattle.vr_first_insert.specs.Ready.{IsReady};
 ghost use Rattle.vr_first_insert.specs.declared.choice.Placing.TheVariants.{One, Two};
 
-use crate::choice::Placing;
-use crate::place::write_placed;
 use std::alloc::Global;
 use vr_inserting::{Kept, Probes, is_feasible_between};
 use vr_lists::{PairPlaces, keeps_pairs};
@@ -24,8 +22,8 @@ use vr_reach::Walk;
 pub(crate) struct Trying {
     pub(crate) walk: Walk,
     pairs: PairPlaces,
-    // the list with an item placed in it
-    longer: Seq<u32>,
+    /// The list with an item placed in it.
+    pub(crate) longer: Seq<u32>,
 }
 
 impl Trying {
@@ -39,8 +37,8 @@ impl Trying {
     }
 }
 
-/// Whether vehicle `v` may drive its list with a visit, which it may visit, before place `t`, found by walks over the
-/// two arcs that are new.
+/// Whether vehicle `v` may drive its list with a visit, which it may visit, before place `t`, as it is written, found
+/// by walks over the two arcs that are new.
 pub(crate) fn may_visit(
     trying: &mut Trying,
     model: &Model,
@@ -56,9 +54,10 @@ pub(crate) fn may_visit(
     requires may_hold { MayHold model.now list.now (Visit node) }
     requires allowed { IsTrue (list_all (allows_vehicle model.now v) (nodes_of (Visit node))) }
     requires within { t ≤ length list.now }
-    ensures { IfOk result (λ may. may ≡ is_route_open model.now v (placed list.now (One node t))) }
+    requires longer { trying.old.longer ≡ placed list.now (One node t) }
+    ensures open { IfOk result (λ may. may ≡ is_route_open model.now v (placed list.now (One node t))) }
+    ensures longer { trying.new.longer ≡ trying.old.longer }
 {
-    write_placed(list, Placing::One(node, t as u32), &mut trying.longer)?;
     let longer = trying.longer.as_slice();
     let back = list.len() - t;
     if !is_feasible_between(model, keeps, v, list, longer, t, back, &mut trying.walk)? {
@@ -68,7 +67,8 @@ pub(crate) fn may_visit(
 }
 
 /// Whether vehicle `v` may drive its list with a pickup before place `s` and its delivery before place `t`, both of
-/// which it may visit, where what the list with the pickup reaches at the node before the delivery is known.
+/// which it may visit, as it is written, where what the list with the pickup reaches at the node before the delivery is
+/// known.
 pub(crate) fn may_serve(
     trying: &mut Trying,
     probes: &Probes,
@@ -89,10 +89,10 @@ pub(crate) fn may_serve(
     requires order { s ≤ t }
     requires within { t ≤ length list.now }
     requires here { AreReachedAt model.now v (insert list.now s pickup) (t + 1) probes.now }
-    ensures { IfOk result (λ may. may ≡ is_route_open model.now v (placed list.now (Two pickup delivery s t))) }
+    requires longer { trying.old.longer ≡ placed list.now (Two pickup delivery s t) }
+    ensures open { IfOk result (λ may. may ≡ is_route_open model.now v (placed list.now (Two pickup delivery s t))) }
+    ensures longer { trying.new.longer ≡ trying.old.longer }
 {
-    let placing = Placing::Two(pickup, delivery, s as u32, t as u32);
-    write_placed(list, placing, &mut trying.longer)?;
     let longer = trying.longer.as_slice();
     let back = list.len() - t;
     if !probes.goes_from(model, keeps, v, list, longer, t + 1, back, &mut trying.walk)? {

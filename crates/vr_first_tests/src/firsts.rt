@@ -1,13 +1,16 @@
 //! First solutions, by each strategy, and lists that are rebuilt.
 
-ghost use Rattle.std.specs.Prelude.{IfOk, IfSome, IsTrue};
+ghost use Rattle.std.specs.Prelude.{◌≡◌, IfOk, IfSome, IsTrue, OnOk};
 ghost use Rattle.vr_model.specs.routes.Routes.{are_lists};
 ghost use Rattle.vr_model.specs.routes.Rules.{is_open};
 ghost use Rattle.vr_model.specs.tables.WellFormed.{IsWellFormed};
+ghost use Rattle.vr_first_insert.specs.Keeping.{IsRebuilder};
 
 use crate::rows::{PAIRED, row};
 use std::alloc::Global;
 use std::test::Fail;
+use vr_first_insert::Rebuilder;
+use vr_lists::NodeTables;
 use vr_model::{Model, NoMemory};
 use vr_routes::Routes;
 use vr_rules::open;
@@ -75,6 +78,78 @@ fn rebuilds(alloc: Global, model: &Model, list: &[u32], after: &[u32]) -> Result
     }
 }
 
+// Whether what keeps lists from call to call rebuilds open routes to this list of the one vehicle.
+fn gives(
+    rebuilder: &mut Rebuilder,
+    model: &Model,
+    lookups: &NodeTables<'_>,
+    routes: &Routes,
+    after: &[u32],
+) -> Result<bool, NoMemory>
+    requires well_formed { IsWellFormed model.now }
+    requires lookups { lookups.now ≡ model.now }
+    requires rebuilder { IsRebuilder model.now rebuilder.old }
+    requires lists { IsTrue (are_lists model.now routes.now.lists) }
+    requires open_lists { IsTrue (is_open model.now routes.now.lists) }
+    ensures { OnOk result (IsRebuilder model.now rebuilder.new) }
+{
+    let rebuilt = rebuilder.rebuild(model, lookups, routes)?;
+    Ok(are(Some(rebuilt), after))
+}
+
+// Whether it rebuilds a list with node 1, one with node 2, and the first again as it does each alone.
+fn gives_in_turn(
+    rebuilder: &mut Rebuilder,
+    model: &Model,
+    lookups: &NodeTables<'_>,
+    first: &Routes,
+    second: &Routes,
+) -> Result<bool, NoMemory>
+    requires well_formed { IsWellFormed model.now }
+    requires lookups { lookups.now ≡ model.now }
+    requires rebuilder { IsRebuilder model.now rebuilder.old }
+    requires lists { IsTrue (are_lists model.now first.now.lists) }
+    requires open_lists { IsTrue (is_open model.now first.now.lists) }
+    requires other_lists { IsTrue (are_lists model.now second.now.lists) }
+    requires other_open_lists { IsTrue (is_open model.now second.now.lists) }
+{
+    let one = gives(rebuilder, model, lookups, first, &[2, 1])?;
+    let other = gives(rebuilder, model, lookups, second, &[1, 2])?;
+    let again = gives(rebuilder, model, lookups, first, &[2, 1])?;
+    Ok(one && other && again)
+}
+
+// The same of one that knows nothing yet.
+fn opened_in_turn(
+    alloc: Global,
+    model: &Model,
+    first: &Routes,
+    second: &Routes,
+) -> Result<bool, NoMemory>
+    requires well_formed { IsWellFormed model.now }
+    requires lists { IsTrue (are_lists model.now first.now.lists) }
+    requires open_lists { IsTrue (is_open model.now first.now.lists) }
+    requires other_lists { IsTrue (are_lists model.now second.now.lists) }
+    requires other_open_lists { IsTrue (is_open model.now second.now.lists) }
+{
+    let lookups = NodeTables::open(alloc, model)?;
+    let mut rebuilder = Rebuilder::open(alloc, model, &lookups)?;
+    gives_in_turn(&mut rebuilder, model, &lookups, first, second)
+}
+
+// The same of the lists with one node each.
+fn rebuilds_in_turn(alloc: Global, model: &Model) -> Result<bool, NoMemory>
+    requires { IsWellFormed model.now }
+{
+    let Some(first) = open_routes(alloc, model, &[1])? else {
+        return Ok(false);
+    };
+    let Some(second) = open_routes(alloc, model, &[2])? else {
+        return Ok(false);
+    };
+    opened_in_turn(alloc, model, &first, &second)
+}
+
 fn three_nodes(alloc: Global, model: &Model) -> Result<(), Fail>
     requires { IsWellFormed model.now }
 {
@@ -93,6 +168,10 @@ fn three_nodes(alloc: Global, model: &Model) -> Result<(), Fail>
     row(
         "what is left is inserted",
         rebuilds(alloc, model, &[2], &[1, 2]),
+    )?;
+    row(
+        "what is kept of lists changes no answer",
+        rebuilds_in_turn(alloc, model),
     )
 }
 

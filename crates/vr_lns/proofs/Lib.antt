@@ -3,6 +3,5 @@ pub mod ChainLemmas
 pub mod CutLemmas
 pub mod RoundLemmas
 pub mod BoundLemmas
-pub mod GoingOn
 pub mod SearchLemmas
 pub mod AnswerLemmas

@@ -1,20 +1,23 @@
 -- The search, from where it stands.
-use Rattle.std.proofs.Common.{◌≡◌, ◌∙◌, ℕ, suc, ◌+◌, ◌-◌, ◌<◌, ◌≤◌, true, false, List, [], ◌∷◌, refl, ap, arith}
+use Rattle.std.proofs.Common.{◌≡◌, ◌∙◌, ℕ, suc, ◌+◌, ◌-◌, ◌<◌, ◌≤◌, true, false, List, [], ◌∷◌, refl, sym, ap, arith}
 use Rattle.std.specs.Prelude.{◌==◌, IsTrue}
 use Rattle.vr_model.specs.search.Outcomes.{SearchState, Outcome, tried, with_event, event_at, ended, begun}
 use Rattle.vr_model.specs.declared.records.Model.{Model}
+use Rattle.vr_model.specs.declared.records.End.{End}
 use Rattle.vr_model.specs.declared.records.End.TheVariants.{Optimum, Tries, Solutions}
 use Rattle.vr_model.specs.declared.search.Event.{Event}
 use Rattle.vr_model.specs.declared.search.Limit.{Limit}
 use Rattle.vr_model.specs.declared.search.Kind.TheVariants as kind
+use Rattle.vr_watch.specs.Told.{Told, ToldInPart}
 use Rattle.vr_watch.proofs.ToldLemmas.{told_nothing}
+use Rattle.vr_descent.proofs.GoingOn.{behind, breaks_off, Goes, goes_as, goes_more, goes_to_end}
 use Rattle.vr_lns.specs.Cuts.{improves}
+use Rattle.vr_lns.specs.Ending.{EndsAs}
 use Rattle.vr_lns.specs.Rounds.{Round}
 use Rattle.vr_lns.specs.Rounds.Round.{Accepted, Complete, Short}
 use Rattle.vr_lns.specs.PathLns.{after_round, cut_made, path_lns, path_lns_from}
 use Rattle.vr_lns.specs.Standing.{cut_event, events_after, round_at}
 use Rattle.vr_lns.proofs.BoundLemmas.{bound_unmet, enough, rounded, told_by_round, Tells}
-use Rattle.vr_lns.proofs.GoingOn.{behind, Goes}
 
 module _ (model : Model) (most : ℕ) (limit : Limit) where
   -- where a search stands: the best lists are the last
@@ -67,3 +70,23 @@ module _ (model : Model) (most : ℕ) (limit : Limit) where
 
 pub same_count : (a b : ℕ) → a ≡ b → (a == b) ≡ true
 same_count a b e = Prim.grind arith
+
+-- ---- what is told, and what is left
+
+module _ {W : Type 0} (after : W → List Event → List ℕ) (whole : Outcome) where
+  -- the next events are told, and another outcome is left
+  pub goes_on : (rest next : Outcome) (events : List Event) (a b c : List W) → rest ≡ behind events next → Goes after whole rest a b → Told after b c events → Goes after whole next a c
+  goes_on rest next events a b c e g t = goes_more after whole next events a b c (goes_as after whole rest (behind events next) a b e g) t
+
+  -- the search breaks off where it tells the next events
+  pub breaks_off_at : (rest next : Outcome) (events : List Event) (a b c : List W) → rest ≡ behind events next → Goes after whole rest a b → ToldInPart after b c events → ToldInPart after a c whole.events
+  breaks_off_at rest next events a b c e g p = breaks_off after whole next events a b c (goes_as after whole rest (behind events next) a b e g) p
+
+  -- nothing more is told
+  pub ends_as : (state : SearchState) (stop : End) (a b : List W) → Goes after whole (ended state stop) a b
+      → EndsAs after whole state.lists a b (record { tries = state.used; solutions = state.found; «end» = stop })
+  ends_as state stop a b g = record {
+    report_is = sym (ap (λ o. o.report) g.outcome);
+    lists_are = sym (ap (λ o. o.last) g.outcome);
+    told = goes_to_end after whole state stop a b g;
+  }

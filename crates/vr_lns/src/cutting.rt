@@ -75,6 +75,15 @@ impl<'m> Cutting<'m> {
         Ok(total)
     }
 
+    /// Lets what rebuilds routes know the model. The only refusal is want of memory.
+    pub(crate) fn know<R: Rebuild>(&self, rebuild: &mut R) -> Result<(), NoMemory>
+        ensures knows { OnOk result (R.knows rebuild.new self.now.model) }
+        ensures made { R.made rebuild.new ≡ R.made rebuild.old }
+    {
+        rebuild.know(self.lookups.model(), &self.lookups)?;
+        Ok(())
+    }
+
     // The result of a cut, if there is one: what it leaves, rebuilt.
     fn result<R: Rebuild>(
         &mut self,
@@ -82,6 +91,7 @@ impl<'m> Cutting<'m> {
         routes: &Routes,
         at: Cut,
     ) -> Result<Option<Routes>, NoMemory>
+        requires knows { R.knows rebuild.old self.old.model }
         requires lists { IsTrue (are_lists self.old.model routes.now.lists) }
         requires vehicle { at.vehicle < length routes.now.lists }
         requires place { at.place < length (route routes.now.lists at.vehicle) }
@@ -90,13 +100,14 @@ impl<'m> Cutting<'m> {
         ensures visits { IfOk result (λ after. IfSome after (λ tours. tours.visits ≡ visits self.old.model)) }
         ensures built { IfOk result (λ after. IfSome after (λ tours. AreBuilt self.old.model tours.lists)) }
         ensures cutter { self.new ≡ self.old }
+        ensures knows { OnOk result (R.knows rebuild.new self.old.model) }
         ensures made { R.made rebuild.new ≤ R.made rebuild.old + 1 }
     {
         let left = routes_left(self.alloc, routes, &self.lookups, at, self.most)?;
         if !self.rules.open_routes(&left)? {
             return Ok(None);
         }
-        let after = rebuild.rebuild(self.lookups.model(), &left)?;
+        let after = rebuild.rebuild_known(self.lookups.model(), &self.lookups, &left)?;
         Ok(Some(after))
     }
 
@@ -137,6 +148,7 @@ impl<'m> Cutting<'m> {
         total: &mut i64,
         at: Cut,
     ) -> Result<bool, NoMemory>
+        requires knows { R.knows rebuild.old self.old.model }
         requires holds { HoldValid self.old.model routes.old total.old }
         requires vehicle { at.vehicle < length routes.old.lists }
         requires place { at.place < length (route routes.old.lists at.vehicle) }
@@ -146,6 +158,7 @@ impl<'m> Cutting<'m> {
             ≡ lists_after routes.old.lists (accepted_by self.old.model self.old.most routes.old.lists at)) }
         ensures holds { HoldValid self.old.model routes.new total.new }
         ensures cutter { self.new ≡ self.old }
+        ensures knows { OnOk result (R.knows rebuild.new self.old.model) }
         ensures made { R.made rebuild.new ≤ R.made rebuild.old + 1 }
     {
         match self.result(rebuild, routes, at)? {

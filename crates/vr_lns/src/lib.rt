@@ -9,7 +9,8 @@
 //! what was told already, and behind that what it tells of the search from here.
 //!
 //! Who rebuilds is handed in ([`Rebuild`]), so that the crate does not stand on the construction that inserts items.
-//! The search asks it once for each cut that leaves open lists, and no more often than the limit allows tries.
+//! The search lets it know the model once, so that it may keep what it finds of lists from cut to cut, and asks it once
+//! for each cut that leaves open lists, no more often than the limit allows tries.
 #![tactic(auto)]
 
 mod cutting;

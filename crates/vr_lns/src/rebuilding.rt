@@ -1,22 +1,27 @@
 //! The trait of what rebuilds routes.
 
-ghost use Rattle.std.specs.Prelude.{◌≡◌, ◌+◌, ◌≤◌, ℕ, IsTrue, IfOk, length};
+ghost use Rattle.std.specs.Prelude.{◌≡◌, ◌+◌, ◌≤◌, ℕ, IsTrue, IfOk, OnOk, length};
 ghost use Rattle.vr_model.specs.first.CheapestInsertion.{rebuilt};
 ghost use Rattle.vr_model.specs.first.Items.{items};
 ghost use Rattle.vr_model.specs.routes.Routes.{are_lists};
 ghost use Rattle.vr_model.specs.routes.Rules.{is_open};
 ghost use Rattle.vr_model.specs.tables.Tables.{visits};
 ghost use Rattle.vr_model.specs.tables.WellFormed.{IsWellFormed};
+ghost use Rattle.vr_model.specs.declared.records.Model.{Model as RoutingModel};
 ghost use Rattle.vr_rules.specs.Placing.{AreBuilt};
 
+use vr_lists::NodeTables;
 use vr_model::{Model, NoMemory};
 use vr_routes::Routes;
 
 /// Rebuilds open routes. It may keep from call to call what it knows of a model and of lists: what it answers does not
-/// depend on it.
+/// depend on it. Who asks again and again lets it know the model once, and then asks for that model alone.
 pub trait Rebuild {
     /// A number that rises by at most one where routes are rebuilt.
     ghost made: { Self → ℕ };
+
+    /// What it keeps is of this model.
+    ghost knows: { Self → RoutingModel → Type 0 };
 
     /// The routes at which parallel cheapest insertion ends when it begins with these open routes: as long as an item
     /// may be inserted into some list so that the lists stay open, the insertion of the least class is made, of those
@@ -31,5 +36,32 @@ pub trait Rebuild {
             ≡ rebuilt model.now (length (items model.now)) routes.now.lists) }
         ensures visits { IfOk result (λ after. after.visits ≡ visits model.now) }
         ensures built { IfOk result (λ after. AreBuilt model.now after.lists) }
+        ensures made { made self.new ≤ made self.old + 1 };
+
+    /// Looks up what it keeps of a model, by the tables of its nodes. The only refusal is want of memory.
+    fn know(&mut self, model: &Model, lookups: &NodeTables<'_>) -> Result<(), NoMemory>
+        requires well_formed { IsWellFormed model.now }
+        requires lookups { lookups.now ≡ model.now }
+        ensures knows { OnOk result (knows self.new model.now) }
+        ensures made { made self.new ≡ made self.old };
+
+    /// The same as `rebuild`, of the model that it knows: what it found of lists in the call before it may keep for
+    /// lists that are the same.
+    fn rebuild_known(
+        &mut self,
+        model: &Model,
+        lookups: &NodeTables<'_>,
+        routes: &Routes,
+    ) -> Result<Routes, NoMemory>
+        requires well_formed { IsWellFormed model.now }
+        requires lookups { lookups.now ≡ model.now }
+        requires knows { knows self.old model.now }
+        requires lists { IsTrue (are_lists model.now routes.now.lists) }
+        requires open_lists { IsTrue (is_open model.now routes.now.lists) }
+        ensures lists { IfOk result (λ after. after.lists
+            ≡ rebuilt model.now (length (items model.now)) routes.now.lists) }
+        ensures visits { IfOk result (λ after. after.visits ≡ visits model.now) }
+        ensures built { IfOk result (λ after. AreBuilt model.now after.lists) }
+        ensures knows { OnOk result (knows self.new model.now) }
         ensures made { made self.new ≤ made self.old + 1 };
 }

@@ -32,6 +32,7 @@ fn cut_list<R: Rebuild>(
     tried: u64,
     rest: u64,
 ) -> Result<RoundEnd, NoMemory>
+    requires knows { R.knows rebuild.old cutting.old.model }
     requires holds { HoldValid cutting.old.model routes.old total.old }
     requires vehicle { v < length routes.old.lists }
     requires tried { tried ≤ rest }
@@ -43,6 +44,7 @@ fn cut_list<R: Rebuild>(
         (cuts_of v (route routes.old.lists v)))) }
     ensures holds { HoldValid cutting.old.model routes.new total.new }
     ensures cutter { cutting.new ≡ cutting.old }
+    ensures knows { OnOk result (R.knows rebuild.new cutting.old.model) }
     ensures made { IfOk result (λ ended. R.made rebuild.new + tried ≤ R.made rebuild.old + tries_of rest ended) }
     ensures made_at_most { OnErr result (R.made rebuild.new + tried ≤ R.made rebuild.old + rest) }
 {
@@ -74,6 +76,7 @@ pub(crate) fn round<R: Rebuild>(
     total: &mut i64,
     rest: u64,
 ) -> Result<RoundEnd, NoMemory>
+    requires knows { R.knows rebuild.old cutting.old.model }
     requires holds { HoldValid cutting.old.model routes.old total.old }
     ensures ends { IfOk result (λ ended. ended
         ≡ round_end (round_of cutting.old.model cutting.old.most routes.old.lists rest)) }
@@ -81,6 +84,7 @@ pub(crate) fn round<R: Rebuild>(
         (round_of cutting.old.model cutting.old.most routes.old.lists rest)) }
     ensures holds { HoldValid cutting.old.model routes.new total.new }
     ensures cutter { cutting.new ≡ cutting.old }
+    ensures knows { OnOk result (R.knows rebuild.new cutting.old.model) }
     ensures made { IfOk result (λ ended. R.made rebuild.new ≤ R.made rebuild.old + tries_of rest ended) }
     ensures made_at_most { OnErr result (R.made rebuild.new ≤ R.made rebuild.old + rest) }
 {

@@ -94,6 +94,7 @@ fn search<R: Rebuild>(
     ensures made_at_most { OnErr result (R.made rebuild.new ≤ R.made rebuild.old + limit.tries) }
 {
     let cost = cutting.total(routes)?;
+    cutting.know(rebuild)?;
     let mut at = Standing {
         used: 0,
         found: 1,

@@ -33,6 +33,7 @@ impl Standing {
         limit: Limit,
         watch: &mut Vec<Box<dyn Watch>>,
     ) -> Result<RoundEnd, NoMemory>
+        requires knows { R.knows rebuild.old cutting.old.model }
         requires holds { HoldValid cutting.old.model routes.old self.old.cost }
         requires tries { limit.tries ≤ 1000000000 }
         requires used { self.old.used ≤ limit.tries }
@@ -51,6 +52,7 @@ impl Standing {
             (round_at cutting.old.model cutting.old.most limit routes.old.lists self.old.used))) }
         ensures holds { HoldValid cutting.old.model routes.new self.new.cost }
         ensures cutter { cutting.new ≡ cutting.old }
+        ensures knows { OnOk result (R.knows rebuild.new cutting.old.model) }
         ensures made { OnOk result (R.made rebuild.new + self.old.used ≤ R.made rebuild.old + self.new.used) }
         ensures made_at_most { OnErr result (R.made rebuild.new + self.old.used ≤ R.made rebuild.old + limit.tries) }
     {

@@ -27,7 +27,6 @@ use Rattle.vr_descent.specs.Answering.{IsSoundAnswer}
 use Rattle.vr_descent.proofs.AnswerLemmas.{descent_is_sound}
 use Rattle.vr_guided.proofs.AnswerLemmas.{guided_is_sound}
 use Rattle.vr_lns.proofs.AnswerLemmas.{path_lns_is_sound}
-use Rattle.vr_lns.specs.Answering.{IsSoundAnswer as IsSoundPathLns}
 use Rattle.vr_tabu.proofs.AnswerLemmas.{tabu_is_sound}
 use Rattle.vr_print.proofs.TreeLemmas.{plan-at}
 use Rattle.vr_replies.proofs.printing.AllMet.{printed_meets}
@@ -99,19 +98,12 @@ answer-sound model first outcome is = record {
   in_limits = record { tries = is.tries; some_solution = is.some_solution; solutions = is.solutions };
 }
 
-cuts-sound : (model : Model) (first : List (List ℕ)) (outcome : Outcome) → IsSoundPathLns model first (limit_of model) outcome → IsSound model first outcome
-cuts-sound model first outcome is = record {
-  valid = subst (λ lists. IsTrue (is_valid model lists)) is.last_is_best is.valid;
-  no_dearer = subst (λ lists. cost model lists ≤ℤ cost model first) is.last_is_best is.no_dearer;
-  in_limits = record { tries = is.tries; some_solution = is.some_solution; solutions = is.solutions };
-}
-
 pub improved-sound : (how : Improve) (model : Model) (first : List (List ℕ)) → IsWellFormed model → IsTrue (is_valid model first) → IsSound model first (improved how model first)
 improved-sound improve.None model first well_formed valid = untried-sound model first well_formed valid
 improved-sound improve.GreedyDescent model first well_formed valid =
     answer-sound model first _ (descent_is_sound model first (limit_of model) valid well_formed.search_in_range.solutions_in_range.0)
 improved-sound improve.PathLns model first well_formed valid =
-    cuts-sound model first _ (path_lns_is_sound model first (limit_of model) model.search.cut valid well_formed.search_in_range.solutions_in_range.0)
+    answer-sound model first _ (path_lns_is_sound model first (limit_of model) model.search.cut valid well_formed.search_in_range.solutions_in_range.0).sound
 improved-sound improve.TabuSearch model first well_formed valid =
     answer-sound model first _ (tabu_is_sound model first (limit_of model) model.search.tenure valid well_formed.search_in_range.solutions_in_range.0)
 improved-sound improve.GuidedLocalSearch model first well_formed valid =

@@ -1,17 +1,18 @@
 use Rattle.std.proofs.Common.{to_z, of_z, w64, ◌≡◌, ◌∙◌, ◌+◌, ℕ, suc, ap, sym, subst, arith, length}
-use Rattle.std.specs.Prelude.{fold, map}
+use Rattle.std.specs.Prelude.{fold, insert, map}
 use Rattle.std.proofs.lemmas.List.Edits.{length-insert}
 use Rattle.vr_model.specs.tables.Numbers.{from_to}
 use Rattle.vr_model.proofs.tables.Ranges.{first_left}
 use Rattle.vr_walks.specs.Lists.{IsUsed}
 use Rattle.vr_walks.specs.Stretches.{SharesFront}
 use Rattle.vr_inserting.specs.Probes.{AreReachedAt}
-use Rattle.vr_inserting.proofs.InsertedLemmas.{visit_front}
+use Rattle.vr_inserting.proofs.InsertedLemmas.{pair_is, visit_front}
+use Rattle.vr_model.specs.declared.records.Pair.{Pair}
 use Rattle.vr_inserting.proofs.RowLemmas.{stops_of}
 use Rattle.vr_first_insert.specs.declared.choice.Choice.{Choice}
 use Rattle.vr_first_insert.specs.declared.choice.Placing.TheVariants.{One}
 use Rattle.std.proofs.lemmas.Int.{ints, to_z-of_z}
-use Rattle.vr_lists.proofs.VisitLists.{visits-below}
+use Rattle.vr_lists.proofs.VisitLists.{visits-below, visits-few}
 use Rattle.vr_first_insert.proofs.BoundLemmas.{deliveries-passed_over}
 use Rattle.vr_first_insert.specs.Placings.{may_improve, pair_choice, weigh, IsLeast}
 use Rattle.vr_first_insert.proofs.ReadyLemmas.{deliveries-stuck, used-placed, MayHold-pickup}
@@ -42,6 +43,25 @@ go_on-requires-clause-here c = c.in_ok-leave.ensures
 pub weigh_pair-requires-clause-here : goal.weigh_pair-requires-clause-here
 weigh_pair-requires-clause-here c = subst (λ half. AreReachedAt c.args.model.now c.args.v half (c.args.s + 1) c.leave.new.self) c.requires.half c.in_ok-leave.ensures
 
+pub overflow_cast-placing : goal.overflow_cast-placing
+overflow_cast-placing c = omega (arith, visits-few c.args.model.now c.args.list.now c.requires.may_hold.visits c.requires.may_hold.distinct, c.requires.well_formed.number_of_nodes.1)
+
+pub overflow_cast-placing-2 : goal.overflow_cast-placing-2
+overflow_cast-placing-2 c = omega (arith, visits-few c.args.model.now c.args.list.now c.requires.may_hold.visits c.requires.may_hold.distinct, c.requires.well_formed.number_of_nodes.1)
+
+pub write_placed-requires-clause-few : goal.write_placed-requires-clause-few
+write_placed-requires-clause-few c = omega (arith, visits-few c.args.model.now c.args.list.now c.requires.may_hold.visits c.requires.may_hold.distinct, c.requires.well_formed.number_of_nodes.1)
+
+pub best_further-requires-clause-longer : goal.best_further-requires-clause-longer
+best_further-requires-clause-longer c =
+    let list = c.args.list.now in
+    let s : ℕ = c.args.s in
+    let pair : Pair = record { pickup = c.args.pickup; delivery = c.args.delivery } in
+    let next : suc s ≡ s + 1 = omega arith in
+    c.in_ok-near.ensures.longer ∙ c.in_ok-write_placed.ensures
+    ∙ pair_is pair list s s (omega arith) c.requires.within ∙ ap (λ n. insert (insert list s c.args.pickup) n c.args.delivery) next
+    ∙ ap (λ l. insert l (s + 1) c.args.delivery) (sym c.requires.half)
+
 pub best_further-requires-clause-here : goal.best_further-requires-clause-here
 best_further-requires-clause-here c =
     let next : c.args.s + 1 + 1 ≡ c.args.s + 2 = omega arith in
@@ -66,7 +86,7 @@ returns-then-not-may_improve c =
     deliveries-passed_over model c.args.v list c.args.class c.args.pickup c.args.delivery c.args.s (c.args.s + 1) c.in_ok-near.near c.least_further.result
     (λ t from high. further.least c.args.delivery t least (omega (arith, from)) high)
     (ap (may_improve c.in_ok-near.near c.args.class) (sym fits) ∙ sym c.may_improve.ensures ∙ c.if-not-may_improve.true)
-    ∙ ap (λ best. fold (weigh model list) best (map f (from_to (c.args.s + 1) (suc (length list))))) c.in_ok-near.ensures
+    ∙ ap (λ best. fold (weigh model list) best (map f (from_to (c.args.s + 1) (suc (length list))))) c.in_ok-near.ensures.best
     ∙ sym (first_left c.args.s (suc (length list)) (omega (arith, c.requires.within)) (λ ks. fold (weigh model list) c.args.best (map f ks)))
 
 pub returns : goal.returns
@@ -75,5 +95,5 @@ returns c =
     let list = c.args.list.now in
     let f : ℕ → Choice = pair_choice model c.args.v list c.args.class c.args.pickup c.args.delivery c.args.s in
     c.in_ok-best.ensures
-    ∙ ap (λ best. fold (weigh model list) best (map f (from_to (c.args.s + 1) (suc (length list))))) c.in_ok-near.ensures
+    ∙ ap (λ best. fold (weigh model list) best (map f (from_to (c.args.s + 1) (suc (length list))))) c.in_ok-near.ensures.best
     ∙ sym (first_left c.args.s (suc (length list)) (omega (arith, c.requires.within)) (λ ks. fold (weigh model list) c.args.best (map f ks)))

@@ -1,8 +1,8 @@
-use Rattle.std.proofs.Common.{◌≡◌, ◌∙◌, ap, sym, arith, to_z, of_z, w64}
+use Rattle.std.proofs.Common.{◌≡◌, ◌∙◌, ap, sym, arith, length, pos, to_z, of_z, w64}
 use Rattle.std.proofs.lemmas.Int.{ints}
 use Rattle.vr_lists.proofs.VisitLists.{visits-few}
 use Rattle.vr_first_insert.specs.Placings.{may_improve}
-use Rattle.vr_first_insert.proofs.BoundLemmas.{deliveries-passed_over}
+use Rattle.vr_first_insert.proofs.BoundLemmas.{ahead-read, deliveries-passed_over}
 use Rattle.vr_first_insert.proofs.one_list.best_delivery.Goals as goal
 
 pub overflow_cast-s : goal.overflow_cast-s
@@ -11,10 +11,33 @@ overflow_cast-s c = omega (arith, visits-few c.args.model.now c.args.list.now c.
 pub write_placed-requires-clause-few : goal.write_placed-requires-clause-few
 write_placed-requires-clause-few c = omega (arith, visits-few c.args.model.now c.args.list.now c.requires.may_hold.visits c.requires.may_hold.distinct, c.requires.well_formed.number_of_nodes.1)
 
-pub returns-then-not-may_improve : goal.returns-then-not-may_improve
-returns-then-not-may_improve c =
+pub returns-then-not-may_improve-clause-best : goal.returns-then-not-may_improve-clause-best
+returns-then-not-may_improve-clause-best c =
     let model = c.args.model.now in
     let list = c.args.list.now in
     let fits : to_z w64 (of_z w64 c.least_behind.result) ≡ c.least_behind.result = omega (arith, ints, c.least_behind.ensures.low, c.least_behind.ensures.high) in
     deliveries-passed_over model c.args.v list c.args.class c.args.pickup c.args.delivery c.args.s c.args.s c.args.best c.least_behind.result (λ t from high. c.least_behind.ensures.least t high)
     (ap (may_improve c.args.best c.args.class) (sym fits) ∙ sym c.may_improve.ensures ∙ c.if-not-may_improve.true)
+
+pub get-least-requires : goal.get-least-requires
+get-least-requires c =
+    let long = c.requires.ahead.one_of_each in
+    omega (arith, long)
+
+pub least_behind-requires-clause-least : goal.least_behind-requires-clause-least
+least_behind-requires-clause-least c = λ t within. (ahead-read c.args.model.now c.args.v c.args.list.now c.args.delivery (length c.args.list.now) c.args.room.now.ahead c.get-least.result.now c.requires.ahead (c.get-least.ensures.value (pos 0)) (omega arith)).behind t (omega arith) within
+
+pub least_behind-requires-clause-low : goal.least_behind-requires-clause-low
+least_behind-requires-clause-low c = (ahead-read c.args.model.now c.args.v c.args.list.now c.args.delivery (length c.args.list.now) c.args.room.now.ahead c.get-least.result.now c.requires.ahead (c.get-least.ensures.value (pos 0)) (omega arith)).low
+
+pub least_behind-requires-clause-high : goal.least_behind-requires-clause-high
+least_behind-requires-clause-high c = (ahead-read c.args.model.now c.args.v c.args.list.now c.args.delivery (length c.args.list.now) c.args.room.now.ahead c.get-least.result.now c.requires.ahead (c.get-least.ensures.value (pos 0)) (omega arith)).high
+
+pub best_behind-requires-clause-least : goal.best_behind-requires-clause-least
+best_behind-requires-clause-least c = λ t within. (ahead-read c.args.model.now c.args.v c.args.list.now c.args.delivery (length c.args.list.now) c.args.room.now.ahead c.get-least.result.now c.requires.ahead (c.get-least.ensures.value (pos 0)) (omega arith)).behind t (omega arith) within
+
+pub best_behind-requires-clause-low : goal.best_behind-requires-clause-low
+best_behind-requires-clause-low c = (ahead-read c.args.model.now c.args.v c.args.list.now c.args.delivery (length c.args.list.now) c.args.room.now.ahead c.get-least.result.now c.requires.ahead (c.get-least.ensures.value (pos 0)) (omega arith)).low
+
+pub best_behind-requires-clause-high : goal.best_behind-requires-clause-high
+best_behind-requires-clause-high c = (ahead-read c.args.model.now c.args.v c.args.list.now c.args.delivery (length c.args.list.now) c.args.room.now.ahead c.get-least.result.now c.requires.ahead (c.get-least.ensures.value (pos 0)) (omega arith)).high

@@ -1,8 +1,8 @@
-use Rattle.std.proofs.Common.{◌≡◌, ◌∙◌, suc, ap, sym, arith, length}
+use Rattle.std.proofs.Common.{◌≡◌, ◌∙◌, suc, ap, sym, subst, arith, length}
 use Rattle.std.specs.Prelude.{fold}
 use Rattle.vr_model.specs.tables.Numbers.{below, each}
 use Rattle.vr_model.proofs.tables.Ranges.{below-more}
-use Rattle.vr_first_insert.specs.Placings.{weigh}
+use Rattle.vr_first_insert.specs.Placings.{weigh, AreLeastAhead}
 use Rattle.vr_first_insert.proofs.InsertLemmas.{deliveries, fold-each}
 use Rattle.vr_first_insert.proofs.one_list.best_pair.Goals as goal
 
@@ -11,8 +11,11 @@ loop-s-preserved c =
     let model = c.args.model.now in
     let list = c.args.list.now in
     let f = deliveries model c.args.v list c.args.class c.args.pickup c.args.delivery in
-    c.in_ok-best.ensures ∙ ap (λ best. fold (weigh model list) best (f c.loop-s.s)) c.loop-s.invariant
-    ∙ sym (fold-each (weigh model list) c.args.best f (below c.loop-s.s) c.loop-s.s) ∙ sym (ap (λ ks. fold (weigh model list) c.args.best (each ks f)) (below-more c.loop-s.s))
+    record {
+      best = c.in_ok-best.ensures.best ∙ ap (λ best. fold (weigh model list) best (f c.loop-s.s)) c.loop-s.invariant.best
+          ∙ sym (fold-each (weigh model list) c.args.best f (below c.loop-s.s) c.loop-s.s) ∙ sym (ap (λ ks. fold (weigh model list) c.args.best (each ks f)) (below-more c.loop-s.s));
+      ahead = subst (AreLeastAhead model c.args.v list c.args.delivery) (sym c.in_ok-best.ensures.ahead) c.loop-s.invariant.ahead;
+    }
 
 pub returns : goal.returns
 returns c =
@@ -20,4 +23,4 @@ returns c =
     let list = c.args.list.now in
     let f = deliveries model c.args.v list c.args.class c.args.pickup c.args.delivery in
     let end : c.loop-s.s ≡ suc (length list) = omega arith in
-    c.loop-s.invariant ∙ ap (λ n. fold (weigh model list) c.args.best (each (below n) f)) end
+    c.loop-s.invariant.best ∙ ap (λ n. fold (weigh model list) c.args.best (each (below n) f)) end

@@ -37,7 +37,7 @@ pub returns-then-is_settled-clause-better : goal.returns-then-is_settled-clause-
 returns-then-is_settled-clause-better c =
     let v : ℕ = c.args.v in
     settled-is c.args.model.now v (route c.args.lists.now v) c.args.candidate (slice_index_or c.args.row.now v Nothing) c.args.best
-    (ap is_settled (c.get.ensures.value Nothing) ∙ sym c.is_settled.ensures ∙ c.if-is_settled.true) (c.requires.row.each v c.requires.there)
+    (ap (λ known. is_settled known c.args.candidate.class c.args.best) (c.get.ensures.value Nothing) ∙ sym c.is_settled.ensures ∙ c.if-is_settled.true) (c.requires.row.each v c.requires.there)
 
 pub returns-clause-better : goal.returns-clause-better
 returns-clause-better c =

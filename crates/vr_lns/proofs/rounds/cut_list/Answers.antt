@@ -56,6 +56,9 @@ returns-then-branch-clause-lists g c =
     let taken = taken_here accepted c.args.rest c.loop-a.place (cut_at c.args.v c.loop-a.a) rest _ opens tries (sym (ap is_taken same) ∙ (sym c.in_ok-try_cut.ensures.taken ∙ c.if-branch.true)) in
     c.in_ok-try_cut.ensures.lists ∙ ap (lists_after c.loop-a.routes.lists) (same ∙ taken.1) ∙ ap (lists_after_round lists) (sym taken.2)
 
+pub returns-then-branch-clause-knows : goal.returns-then-branch-clause-knows
+returns-then-branch-clause-knows g c = subst (λ k. g.R.Rebuild.knows c.try_cut.new.rebuild k.model) c.loop-a.invariant.cutter c.in_ok-try_cut.ensures.knows
+
 pub loop-a-preserved : goal.loop-a-preserved
 loop-a-preserved g c =
     let k = c.args.cutting.now in
@@ -72,6 +75,7 @@ loop-a-preserved g c =
       lists = c.in_ok-try_cut.ensures.lists ∙ ap (lists_after c.loop-a.routes.lists) (same ∙ none) ∙ c.loop-a.invariant.lists;
       holds = subst (λ k. HoldValid k.model c.try_cut.new.routes c.try_cut.new.total) c.loop-a.invariant.cutter c.in_ok-try_cut.ensures.holds;
       within = omega (arith, c.loop-a.invariant.within, c.if-place-rest.false);
+      knows = subst (λ k. g.R.Rebuild.knows c.try_cut.new.rebuild k.model) c.loop-a.invariant.cutter c.in_ok-try_cut.ensures.knows;
       made = omega (arith, c.in_ok-try_cut.ensures.made, c.loop-a.invariant.made);
       left = sym (passed_here accepted c.args.rest c.loop-a.place (cut_at c.args.v c.loop-a.a) rest none) ∙ opens;
     }

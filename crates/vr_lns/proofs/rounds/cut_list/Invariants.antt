@@ -13,6 +13,7 @@ invariant-loop-a g l = record {
   cutter : l.cutting ≡ l.fn.cutting;
   lists : l.routes.lists ≡ l.fn.routes.lists;
   holds : HoldValid l.fn.cutting.model l.routes l.total;
+  knows : g.R.Rebuild.knows l.rebuild l.fn.cutting.model;
   within : l.place ≤ l.rest;
   made : g.R.Rebuild.made l.rebuild + l.tried ≤ g.R.Rebuild.made l.fn.rebuild + l.place;
   left : round_from l.place (accepted_by l.fn.cutting.model l.fn.cutting.most l.fn.routes.lists) l.rest (map (cut_at l.v) (from_to l.a (length (route l.fn.routes.lists l.v))))

@@ -28,6 +28,7 @@ returns-in_default g c =
       lists = c.in_ok-ended.ensures.lists ∙ ap₂ lists_after_round c.loop-v.invariant.lists (same ∙ all);
       holds = subst (λ k. HoldValid k.model c.cut_list.new.routes c.cut_list.new.total) c.loop-v.invariant.cutter c.in_ok-ended.ensures.holds;
       cutter = c.in_ok-ended.ensures.cutter ∙ c.loop-v.invariant.cutter;
+      knows = subst (λ k. g.R.Rebuild.knows c.cut_list.new.rebuild k.model) c.loop-v.invariant.cutter c.in_ok-ended.ensures.knows;
       made = omega (arith, c.in_ok-ended.ensures.made, c.loop-v.invariant.made);
       made_at_most = tt;
     }
@@ -51,6 +52,7 @@ loop-v-preserved g c =
       lists = c.in_ok-ended.ensures.lists ∙ ap₂ lists_after_round c.loop-v.invariant.lists (same ∙ done);
       holds = subst (λ k. HoldValid k.model c.cut_list.new.routes c.cut_list.new.total) c.loop-v.invariant.cutter c.in_ok-ended.ensures.holds;
       within = within;
+      knows = subst (λ k. g.R.Rebuild.knows c.cut_list.new.rebuild k.model) c.loop-v.invariant.cutter c.in_ok-ended.ensures.knows;
       made = omega (arith, c.in_ok-ended.ensures.made, c.loop-v.invariant.made, ap (tries_of c.args.rest) c.in-Complete.is);
       left = ap (round_behind accepted c.args.rest behind) (sym done) ∙ whole;
     }

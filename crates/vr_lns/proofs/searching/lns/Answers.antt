@@ -63,7 +63,7 @@ returns-clause-no_more_tries g c =
     let Ends = EndsAs (λ w. (goal.Watch-dyn g (w.vtable, w.value)).after w.value) whole c.search.new.routes.lists c.args.watch.now.items c.search.new.watch.items in
     let ends = subst (λ k. IfOk c.search.result (EndsAs (λ w. (goal.Watch-dyn g (w.vtable, w.value)).after w.value) (path_lns k.model lists c.args.limit k.most) c.search.new.routes.lists c.args.watch.now.items c.search.new.watch.items)) c.in_ok-cutting.ensures c.search.ensures.ends in
     let sound = path_lns_is_sound model lists c.args.limit c.args.cut c.requires.valid c.requires.one_solution in
-    IfOk-weaker c.search.result Ends (λ report. report.tries ≤ c.args.limit.tries) (λ report e. subst (λ r. r.tries ≤ c.args.limit.tries) (sym e.report_is) sound.tries) ends
+    IfOk-weaker c.search.result Ends (λ report. report.tries ≤ c.args.limit.tries) (λ report e. subst (λ r. r.tries ≤ c.args.limit.tries) (sym e.report_is) sound.sound.tries) ends
 
 pub returns-clause-some_solution : goal.returns-clause-some_solution
 returns-clause-some_solution g c =
@@ -73,7 +73,7 @@ returns-clause-some_solution g c =
     let Ends = EndsAs (λ w. (goal.Watch-dyn g (w.vtable, w.value)).after w.value) whole c.search.new.routes.lists c.args.watch.now.items c.search.new.watch.items in
     let ends = subst (λ k. IfOk c.search.result (EndsAs (λ w. (goal.Watch-dyn g (w.vtable, w.value)).after w.value) (path_lns k.model lists c.args.limit k.most) c.search.new.routes.lists c.args.watch.now.items c.search.new.watch.items)) c.in_ok-cutting.ensures c.search.ensures.ends in
     let sound = path_lns_is_sound model lists c.args.limit c.args.cut c.requires.valid c.requires.one_solution in
-    IfOk-weaker c.search.result Ends (λ report. 1 ≤ report.solutions) (λ report e. subst (λ r. 1 ≤ r.solutions) (sym e.report_is) sound.some_solution) ends
+    IfOk-weaker c.search.result Ends (λ report. 1 ≤ report.solutions) (λ report e. subst (λ r. 1 ≤ r.solutions) (sym e.report_is) sound.sound.some_solution) ends
 
 pub returns-clause-no_more_solutions : goal.returns-clause-no_more_solutions
 returns-clause-no_more_solutions g c =
@@ -83,7 +83,7 @@ returns-clause-no_more_solutions g c =
     let Ends = EndsAs (λ w. (goal.Watch-dyn g (w.vtable, w.value)).after w.value) whole c.search.new.routes.lists c.args.watch.now.items c.search.new.watch.items in
     let ends = subst (λ k. IfOk c.search.result (EndsAs (λ w. (goal.Watch-dyn g (w.vtable, w.value)).after w.value) (path_lns k.model lists c.args.limit k.most) c.search.new.routes.lists c.args.watch.now.items c.search.new.watch.items)) c.in_ok-cutting.ensures c.search.ensures.ends in
     let sound = path_lns_is_sound model lists c.args.limit c.args.cut c.requires.valid c.requires.one_solution in
-    IfOk-weaker c.search.result Ends (λ report. report.solutions ≤ c.args.limit.solutions) (λ report e. subst (λ r. r.solutions ≤ c.args.limit.solutions) (sym e.report_is) sound.solutions) ends
+    IfOk-weaker c.search.result Ends (λ report. report.solutions ≤ c.args.limit.solutions) (λ report e. subst (λ r. r.solutions ≤ c.args.limit.solutions) (sym e.report_is) sound.sound.solutions) ends
 
 pub returns-clause-no_dearer : goal.returns-clause-no_dearer
 returns-clause-no_dearer g c =
@@ -93,7 +93,7 @@ returns-clause-no_dearer g c =
     let Ends = EndsAs (λ w. (goal.Watch-dyn g (w.vtable, w.value)).after w.value) whole c.search.new.routes.lists c.args.watch.now.items c.search.new.watch.items in
     let ends = subst (λ k. IfOk c.search.result (EndsAs (λ w. (goal.Watch-dyn g (w.vtable, w.value)).after w.value) (path_lns k.model lists c.args.limit k.most) c.search.new.routes.lists c.args.watch.now.items c.search.new.watch.items)) c.in_ok-cutting.ensures c.search.ensures.ends in
     let sound = path_lns_is_sound model lists c.args.limit c.args.cut c.requires.valid c.requires.one_solution in
-    on_ok c.search.result Ends (λ report e. subst (λ ls. cost model ls ≤ℤ cost model lists) (sym e.lists_are) sound.no_dearer) ends
+    on_ok c.search.result Ends (λ report e. subst (λ ls. cost model ls ≤ℤ cost model lists) (sym (e.lists_are ∙ sound.last_is_best)) sound.sound.no_dearer) ends
 
 pub returns-clause-told_in_part : goal.returns-clause-told_in_part
 returns-clause-told_in_part g c =

@@ -12,19 +12,26 @@ use Rattle.vr_model.proofs.tables.Refusals.{on_err}
 use Rattle.vr_model.proofs.tables.Tests.{apart}
 use Rattle.vr_watch.specs.Told.{Told, ToldInPart}
 use Rattle.vr_watch.proofs.ToldLemmas.{none_behind, told_nothing}
+use Rattle.vr_descent.proofs.GoingOn.{Goes}
 use Rattle.vr_lns.specs.Cuts.{improves}
 use Rattle.vr_lns.specs.Ending.{EndsAs}
 use Rattle.vr_lns.specs.PathLns.{path_lns}
 use Rattle.vr_lns.specs.Standing.{events_after, lists_after_round, round_at, round_end, standing_after, HoldValid}
 use Rattle.vr_lns.proofs.BoundLemmas.{made_told, told_by_round, Tells}
-use Rattle.vr_lns.proofs.GoingOn.{breaks_off, goes_on, goes_to_end, Goes}
 use Rattle.vr_lns.proofs.RoundLemmas.{completed, ran_short}
-use Rattle.vr_lns.proofs.SearchLemmas.{at_start, begins, from_here, left_after, on_enough, on_round, same_count, standing}
+use Rattle.vr_lns.proofs.SearchLemmas.{at_start, begins, breaks_off_at, ends_as, from_here, goes_on, left_after, on_enough, on_round, same_count, standing}
 use Rattle.vr_lns.proofs.searching.search.Goals as goal
 
 pub returns-in_err-cost-clause-told_in_part : goal.returns-in_err-cost-clause-told_in_part
 returns-in_err-cost-clause-told_in_part g c =
     on_err c.from_residual.result (none_behind (λ w. (goal.Watch-dyn g (w.vtable, w.value)).after w.value) _ _ [] _ (told_nothing _ _))
+
+pub returns-in_err-know-clause-told_in_part : goal.returns-in_err-know-clause-told_in_part
+returns-in_err-know-clause-told_in_part g c =
+    on_err c.from_residual-in_err-know.result (none_behind (λ w. (goal.Watch-dyn g (w.vtable, w.value)).after w.value) _ _ [] _ (told_nothing _ _))
+
+pub returns-in_err-know-clause-made_at_most : goal.returns-in_err-know-clause-made_at_most
+returns-in_err-know-clause-made_at_most g c = on_err c.from_residual-in_err-know.result (omega (arith, c.in_err-know.ensures.made))
 
 pub returns-in_err-note_all-clause-told_in_part : goal.returns-in_err-note_all-clause-told_in_part
 returns-in_err-note_all-clause-told_in_part g c =
@@ -36,7 +43,7 @@ returns-in_err-note_all-clause-told_in_part g c =
     let costs : to_z w64 (of_z w64 c.in_ok-cost.cost) ≡ cost k.model first = omega (arith, ints, c.in_ok-cost.ensures.value, fits.least, fits.greatest) in
     let same : c.event.result ≡ begin = c.event.ensures ∙ ap {B = Event} (λ x. record { tries = 0; kind = kind.First; cost = x }) costs in
     on_err c.from_residual-in_err-note_all.result
-    (breaks_off (λ w. (goal.Watch-dyn g (w.vtable, w.value)).after w.value) whole whole (from_here k.model k.most c.args.limit first 0 1) (begin ∷ []) _ _ _ (at_start k.model k.most c.args.limit first)
+    (breaks_off_at (λ w. (goal.Watch-dyn g (w.vtable, w.value)).after w.value) whole whole (from_here k.model k.most c.args.limit first 0 1) (begin ∷ []) _ _ _ (at_start k.model k.most c.args.limit first)
     (begins k.model k.most c.args.limit (λ w. (goal.Watch-dyn g (w.vtable, w.value)).after w.value) first _)
     (subst (λ event. ToldInPart (λ w. (goal.Watch-dyn g (w.vtable, w.value)).after w.value) c.args.watch.now.items c.note_all.new.watch.items (event ∷ [])) same c.in_err-note_all.ensures.told_in_part))
 
@@ -54,7 +61,8 @@ rounds-init g c =
       holds = record { of_model = c.requires.of_model; valid = c.requires.valid; costs = costs };
       used = omega arith;
       found = c.requires.one_solution;
-      made = omega arith;
+      knows = subst (λ k. g.R.Rebuild.knows c.know.new.rebuild k.model) c.in_ok-cost.ensures.cutter c.in_ok-know.ensures.knows;
+      made = omega (arith, c.in_ok-know.ensures.made);
       goes = goes_on (λ w. (goal.Watch-dyn g (w.vtable, w.value)).after w.value) whole whole (from_here k.model k.most c.args.limit first 0 1) (begin ∷ []) _ _ _ (at_start k.model k.most c.args.limit first)
           (begins k.model k.most c.args.limit (λ w. (goal.Watch-dyn g (w.vtable, w.value)).after w.value) first _)
           (subst (λ event. Told (λ w. (goal.Watch-dyn g (w.vtable, w.value)).after w.value) c.args.watch.now.items c.note_all.new.watch.items (event ∷ [])) same c.in_ok-note_all.ensures.told);
@@ -74,7 +82,7 @@ returns-in_err-ended-clause-told_in_part g c =
     let here = from_here k.model k.most limit lists at.used at.found in
     let left = left_after k.model k.most limit lists at.used at.found r in
     on_err c.from_residual-in_err-ended.result
-    (breaks_off (λ w. (goal.Watch-dyn g (w.vtable, w.value)).after w.value) whole here left (events_after k.model at.used r) _ _ _ on c.rounds.invariant.goes
+    (breaks_off_at (λ w. (goal.Watch-dyn g (w.vtable, w.value)).after w.value) whole here left (events_after k.model at.used r) _ _ _ on c.rounds.invariant.goes
     (subst (λ q. ToldInPart (λ w. (goal.Watch-dyn g (w.vtable, w.value)).after w.value) c.rounds.watch.items c.advance.new.watch.items (events_after q.model at.used (round_at q.model q.most limit lists at.used))) c.rounds.invariant.cutter c.in_err-ended.ensures.told_in_part))
 
 pub rounds-smaller : goal.rounds-smaller
@@ -132,6 +140,7 @@ rounds-preserved g c =
       holds = subst (λ q. HoldValid q.model c.advance.new.routes c.advance.new.self.cost) c.rounds.invariant.cutter c.in_ok-ended.ensures.holds;
       used = omega (arith, used, within, c.rounds.invariant.used);
       found = omega (arith, found, c.rounds.invariant.found, c.rounds-test.true);
+      knows = subst (λ q. g.R.Rebuild.knows c.advance.new.rebuild q.model) c.rounds.invariant.cutter c.in_ok-ended.ensures.knows;
       made = omega (arith, c.in_ok-ended.ensures.made, c.rounds.invariant.made);
       goes = subst (λ s. Goes (λ w. (goal.Watch-dyn g (w.vtable, w.value)).after w.value) whole (from_here k.model k.most limit c.advance.new.routes.lists s.used s.found) c.args.watch.now.items c.advance.new.watch.items) (sym standing_new)
           (subst (λ ls. Goes (λ w. (goal.Watch-dyn g (w.vtable, w.value)).after w.value) whole (from_here k.model k.most limit ls (at.used + place) (at.found + 1)) c.args.watch.now.items c.advance.new.watch.items) (sym (lists_new ∙ ap (lists_after_round lists) made.1))
@@ -162,7 +171,7 @@ returns-in-Complete-clause-ends g c =
     c.report.ensures ∙ ap {B = Report} (λ s. record { tries = s.used; solutions = s.found; «end» = Optimum }) (at_new ∙ ap (standing_after k.model limit at) done) in
     subst (λ ls. EndsAs (λ w. (goal.Watch-dyn g (w.vtable, w.value)).after w.value) whole ls c.args.watch.now.items c.advance.new.watch.items c.report.result) (sym (lists_new ∙ ap (lists_after_round lists) done))
     (subst (EndsAs (λ w. (goal.Watch-dyn g (w.vtable, w.value)).after w.value) whole lists c.args.watch.now.items c.advance.new.watch.items) (sym report)
-    (goes_to_end (λ w. (goal.Watch-dyn g (w.vtable, w.value)).after w.value) whole (tried (standing k.model k.most limit lists at.used at.found) c.in-Complete.length) Optimum _ _
+    (ends_as (λ w. (goal.Watch-dyn g (w.vtable, w.value)).after w.value) whole (tried (standing k.model k.most limit lists at.used at.found) c.in-Complete.length) Optimum _ _
     (subst (λ o. Goes (λ w. (goal.Watch-dyn g (w.vtable, w.value)).after w.value) whole o c.args.watch.now.items c.advance.new.watch.items) (ap (left_after k.model k.most limit lists at.used at.found) done) goes)))
 
 pub returns-in-Short-clause-ends : goal.returns-in-Short-clause-ends
@@ -191,7 +200,7 @@ returns-in-Short-clause-ends g c =
     ∙ ap {B = Report} (λ n. record { tries = n; solutions = at.found; «end» = Tries }) all in
     subst (λ ls. EndsAs (λ w. (goal.Watch-dyn g (w.vtable, w.value)).after w.value) whole ls c.args.watch.now.items c.advance.new.watch.items c.report-in-Short.result) (sym (lists_new ∙ ap (lists_after_round lists) done))
     (subst (EndsAs (λ w. (goal.Watch-dyn g (w.vtable, w.value)).after w.value) whole lists c.args.watch.now.items c.advance.new.watch.items) (sym report)
-    (goes_to_end (λ w. (goal.Watch-dyn g (w.vtable, w.value)).after w.value) whole (tried (standing k.model k.most limit lists at.used at.found) (limit.tries - at.used)) Tries _ _
+    (ends_as (λ w. (goal.Watch-dyn g (w.vtable, w.value)).after w.value) whole (tried (standing k.model k.most limit lists at.used at.found) (limit.tries - at.used)) Tries _ _
     (subst (λ o. Goes (λ w. (goal.Watch-dyn g (w.vtable, w.value)).after w.value) whole o c.args.watch.now.items c.advance.new.watch.items) (ap (left_after k.model k.most limit lists at.used at.found) done) goes)))
 
 pub returns-clause-ends : goal.returns-clause-ends
@@ -202,5 +211,5 @@ returns-clause-ends g c =
     let at = c.rounds.at in
     let enough = on_enough k.model k.most c.args.limit lists at.used at.found (same_count at.found c.args.limit.solutions c.rounds-test.false) in
     subst (EndsAs (λ w. (goal.Watch-dyn g (w.vtable, w.value)).after w.value) whole lists c.args.watch.now.items c.rounds.watch.items) (sym c.report-2.ensures)
-    (goes_to_end (λ w. (goal.Watch-dyn g (w.vtable, w.value)).after w.value) whole (standing k.model k.most c.args.limit lists at.used at.found) Solutions _ _
+    (ends_as (λ w. (goal.Watch-dyn g (w.vtable, w.value)).after w.value) whole (standing k.model k.most c.args.limit lists at.used at.found) Solutions _ _
     (subst (λ o. Goes (λ w. (goal.Watch-dyn g (w.vtable, w.value)).after w.value) whole o c.args.watch.now.items c.rounds.watch.items) enough c.rounds.invariant.goes))

@@ -1,7 +1,7 @@
 use Rattle.std.proofs.Common.{◌≡◌, ◌≤◌, ◌+◌, ◌-◌}
 use Rattle.vr_lns.specs.PathLns.{path_lns}
 use Rattle.vr_lns.specs.Standing.{HoldValid}
-use Rattle.vr_lns.proofs.GoingOn.{Goes}
+use Rattle.vr_descent.proofs.GoingOn.{Goes}
 use Rattle.vr_lns.proofs.SearchLemmas.{from_here}
 use Rattle.vr_lns.proofs.searching.search.Given as goal
 
@@ -10,6 +10,7 @@ abbrev pub invariant-rounds : goal.invariant-rounds
 invariant-rounds g l = record {
   cutter : l.cutting ≡ l.fn.cutting;
   holds : HoldValid l.fn.cutting.model l.routes l.at.cost;
+  knows : g.R.Rebuild.knows l.rebuild l.fn.cutting.model;
   used : l.at.used ≤ l.limit.tries;
   found : l.at.found ≤ l.limit.solutions;
   made : g.R.Rebuild.made l.rebuild ≤ g.R.Rebuild.made l.fn.rebuild + l.at.used;

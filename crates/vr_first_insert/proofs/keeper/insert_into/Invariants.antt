@@ -1,0 +1,14 @@
+use Rattle.std.proofs.Common.{◌≡◌, ◌<◌, ℕ, length}
+use Rattle.vr_model.specs.routes.Routes.{route}
+use Rattle.vr_inserting.specs.Kept.{AreKept}
+use Rattle.vr_first_insert.specs.Kept.{AreRows}
+use Rattle.vr_first_insert.proofs.keeper.insert_into.Given as goal
+
+-- the lists so far are those of the routes
+abbrev pub invariant-loop-v : goal.invariant-loop-v
+invariant-loop-v l = record {
+  vehicles : length l.lists ≡ length l.model.vehicles;
+  taken : (w : ℕ) → w < l.v → route l.lists w ≡ route l.routes.lists w;
+  kept : AreKept l.model l.lists l.keeps;
+  rows : AreRows l.model l.lists l.candidates l.rows;
+}

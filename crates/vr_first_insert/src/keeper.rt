@@ -1,0 +1,174 @@
+//! Lists, and what is known of them, kept from one rebuild to the next.
+
+ghost use Rattle.std.specs.Prelude.{◌≡◌, ℕ, ◌<◌, List, IfOk, IsTrue, OnOk, length};
+ghost use Rattle.vr_model.specs.first.CheapestInsertion.{rebuilt};
+ghost use Rattle.vr_model.specs.first.Items.{items};
+ghost use Rattle.vr_model.specs.moves.Moves.{with_route};
+ghost use Rattle.vr_model.specs.routes.Routes.{are_lists, route};
+ghost use Rattle.vr_model.specs.routes.Rules.{is_open};
+ghost use Rattle.vr_model.specs.tables.WellFormed.{IsWellFormed};
+ghost use Rattle.vr_walks.specs.Lists.{IsTour};
+ghost use Rattle.vr_rules.specs.declared.items.Candidate.{Candidate as AnyCandidate};
+ghost use Rattle.vr_rules.specs.Placing.{AreBuilt, AreCandidates, AreMarks};
+ghost use Rattle.vr_inserting.specs.Kept.{AreKept};
+ghost use Rattle.vr_first_insert.specs.Keeping.{IsKeeper};
+ghost use Rattle.vr_first_insert.specs.Kept.{row_at, AreRows};
+
+use crate::known::{Known, forget, rows_of};
+use crate::room::Room;
+use crate::search::insert_all;
+use std::alloc::Global;
+use vr_inserting::{Kept, keep_each, learn};
+use vr_lists::NodeTables;
+use vr_model::{Model, NoMemory, Seq};
+use vr_routes::Routes;
+use vr_rules::{Candidate, active_marks, candidates, empty_lists};
+
+/// Lists of a model, and what is known of them: their rows, and the best of each item in each.
+#[derive(Drop)]
+pub(crate) struct Keeper {
+    candidates: Vec<Candidate>,
+    pub(crate) lists: Vec<Seq<u32>>,
+    keeps: Vec<Kept>,
+    // for each candidate
+    rows: Vec<Seq<Known>>,
+    room: Room,
+}
+
+// Whether two lists have the same nodes in the same order.
+fn is_same(one: &[u32], other: &[u32]) -> bool
+    ensures { IsTrue result → one.now ≡ other.now }
+{
+    one == other
+}
+
+// Writes a list over another.
+fn write_list(list: &[u32], out: &mut Seq<u32>) -> Result<(), NoMemory>
+    ensures { OnOk result (out.new ≡ list.now) }
+{
+    out.truncate(0);
+    out.extend_from_slice(list)?;
+    Ok(())
+}
+
+// Takes a list over as that of vehicle `v`. Where it is another than before, its rows are written, and of items in it
+// nothing is known any more.
+fn take_list(
+    room: &mut Room,
+    model: &Model,
+    keeps: &mut [Kept],
+    v: u32,
+    list: &[u32],
+    lists: &mut [Seq<u32>],
+    rows: &mut [Seq<Known>],
+) -> Result<(), NoMemory>
+    requires well_formed { IsWellFormed model.now }
+    requires vehicle { v < length model.now.vehicles }
+    requires there { v < length lists.old }
+    requires tour { IsTour model.now list.now }
+    requires kept { AreKept model.now lists.old keeps.old }
+    requires wide { (i : ℕ) → i < length rows.old → v < length (row_at rows.old i) }
+    ensures lists { OnOk result (lists.new ≡ with_route lists.old v list.now) }
+    ensures kept { OnOk result (AreKept model.now lists.new keeps.new) }
+    ensures rows { OnOk result ((known : List AnyCandidate) → AreRows model.now lists.old known rows.old
+        → AreRows model.now lists.new known rows.new) }
+{
+    let before = lists[v as usize].as_slice();
+    if is_same(before, list) {
+        return Ok(());
+    }
+    write_list(list, &mut lists[v as usize])?;
+    learn(room.alloc, model, keeps, v, lists, &mut room.line)?;
+    forget(rows, v);
+    Ok(())
+}
+
+// Takes the lists of routes over, and inserts items into them as long as one may be inserted.
+fn insert_into(
+    room: &mut Room,
+    model: &Model,
+    lookups: &NodeTables<'_>,
+    keeps: &mut [Kept],
+    candidates: &[Candidate],
+    routes: &Routes,
+    lists: &mut [Seq<u32>],
+    marks: &mut [bool],
+    rows: &mut [Seq<Known>],
+) -> Result<(), NoMemory>
+    requires well_formed { IsWellFormed model.now }
+    requires lookups { lookups.now ≡ model.now }
+    requires vehicles { length lists.old ≡ length model.now.vehicles }
+    requires kept { AreKept model.now lists.old keeps.old }
+    requires candidates { AreCandidates model.now candidates.now }
+    requires rows { AreRows model.now lists.old candidates.now rows.old }
+    requires built { AreBuilt model.now routes.now.lists }
+    requires marks { AreMarks model.now.nodes routes.now.lists marks.old }
+    ensures rebuilt { OnOk result (lists.new ≡ rebuilt model.now (length (items model.now)) routes.now.lists) }
+    ensures built { OnOk result (AreBuilt model.now lists.new) }
+    ensures kept { OnOk result (AreKept model.now lists.new keeps.new) }
+    ensures rows { OnOk result (AreRows model.now lists.new candidates.now rows.new) }
+{
+    for v in 0..routes.vehicles() {
+        take_list(room, model, keeps, v, routes.list(v), lists, rows)?;
+    }
+    insert_all(room, model, lookups, keeps, candidates, lists, marks, rows)?;
+    Ok(())
+}
+
+impl Keeper {
+    /// Empty lists, of which nothing is known. The only refusal is want of memory.
+    pub(crate) fn open(
+        alloc: Global,
+        model: &Model,
+        lookups: &NodeTables<'_>,
+    ) -> Result<Keeper, NoMemory>
+        requires well_formed { IsWellFormed model.now }
+        requires lookups { lookups.now ≡ model.now }
+        ensures { IfOk result (IsKeeper model.now) }
+    {
+        let candidates = candidates(alloc, lookups)?;
+        let lists = empty_lists(alloc, model)?;
+        let rows = rows_of(alloc, candidates.len(), model.vehicles.len())?;
+        let keeps = keep_each(alloc, model, &lists)?;
+        Ok(Keeper {
+            candidates,
+            lists,
+            keeps,
+            rows,
+            room: Room::new(alloc),
+        })
+    }
+
+    /// Makes the lists those at which insertion ends when it begins with open routes. What is known of a list that is
+    /// the same as before is not found again. After want of memory nothing is said of the lists.
+    pub(crate) fn rebuild(
+        &mut self,
+        model: &Model,
+        lookups: &NodeTables<'_>,
+        routes: &Routes,
+    ) -> Result<(), NoMemory>
+        requires well_formed { IsWellFormed model.now }
+        requires lookups { lookups.now ≡ model.now }
+        requires keeper { IsKeeper model.now self.old }
+        requires lists { IsTrue (are_lists model.now routes.now.lists) }
+        requires open_lists { IsTrue (is_open model.now routes.now.lists) }
+        ensures keeper { OnOk result (IsKeeper model.now self.new) }
+        ensures rebuilt { OnOk result (self.new.lists.items
+            ≡ rebuilt model.now (length (items model.now)) routes.now.lists) }
+        ensures built { OnOk result (AreBuilt model.now self.new.lists.items) }
+    {
+        let mut marks = active_marks(self.room.alloc, model, routes)?;
+        insert_into(
+            &mut self.room,
+            model,
+            lookups,
+            &mut self.keeps,
+            &self.candidates,
+            routes,
+            &mut self.lists,
+            &mut marks,
+            &mut self.rows,
+        )?;
+        Ok(())
+    }
+}
