@@ -3,3 +3,5 @@ pub mod PieceLemmas
 pub mod PathLemmas
 pub mod LineLemmas
 pub mod MoveLemmas
+pub mod RunLemmas
+pub mod CrossLemmas

@@ -1,9 +1,9 @@
 //! The arc costs of used vehicles.
 
-ghost use Rattle.std.specs.Prelude.{◌≡◌, ◌<◌, ◌≤◌, ◌-ℤ◌, All, IsTrue, IfOk, IsOk, OnOk, OnErr, length};
+ghost use Rattle.std.specs.Prelude.{◌≡◌, ◌<◌, ◌≤◌, ◌-ℤ◌, ℕ, All, IsTrue, IfOk, IsOk, OnOk, OnErr, length};
 ghost use Rattle.vr_model.specs.routes.Costs.{arcs_part};
 ghost use Rattle.vr_model.specs.routes.Routes.{route, route_cost};
-ghost use Rattle.vr_model.specs.tables.Tables.{visits};
+ghost use Rattle.vr_model.specs.tables.Tables.{arc_cost, visits};
 ghost use Rattle.vr_model.specs.routes.Rules.{is_valid};
 ghost use Rattle.vr_model.specs.tables.WellFormed.{IsWellFormed};
 ghost use Rattle.vr_routes.specs.Pieces.{changed, joined, IsWithin};
@@ -11,9 +11,11 @@ ghost use Rattle.vr_routes.specs.Changes.{IsMadeOn};
 ghost use Rattle.vr_parts.specs.Parts.{NothingReady};
 ghost use Rattle.vr_arccosts.specs.Along.{StandsAlong};
 ghost use Rattle.vr_arccosts.specs.ArcMoves.{costs_more, with_between};
+ghost use Rattle.vr_arccosts.specs.Runs.{IsLine};
 ghost use Rattle.vr_parts.specs.Bounds.{IsAddedByChange, IsAddedByList};
 
 use crate::costs::ArcCosts;
+use crate::gaps::Line;
 use crate::lines::Along;
 use crate::walks::{Gap, cost_between, stop_at, stop_before};
 use std::alloc::Global;
@@ -108,15 +110,56 @@ impl<'m> ArcCost<'m> {
             from: stop_before(self.model, routes, v, front),
             to: stop_at(self.model, routes, v, behind),
         };
-        let number = self.model.vehicles.get(v as usize).costs;
-        let costs = ArcCosts {
-            model: self.model,
-            vehicle: v,
-            entries: self.model.matrices.get(number as usize).entries.as_slice(),
-        };
+        let costs = self.costs_of(v);
         let before = self.along[v as usize].stretch(routes.len(v), front, behind);
         let after = cost_between(&costs, &self.along, routes, gap, pieces);
         after - before
+    }
+}
+
+impl<'m> ArcCost<'m> {
+    /// The arc costs of a vehicle.
+    #[inline(always)]
+    pub(crate) fn costs_of(&self, v: u32) -> ArcCosts<'m>
+        requires well_formed { IsWellFormed self.now.model }
+        requires vehicle { v < length self.now.model.vehicles }
+        ensures model { result.model.now ≡ self.now.model }
+        ensures vehicle { result.vehicle ≡ v }
+    {
+        let number = self.model.vehicles.get(v as usize).costs;
+        ArcCosts {
+            model: self.model,
+            vehicle: v,
+            entries: self.model.matrices.get(number as usize).entries.as_slice(),
+        }
+    }
+
+    /// Whether two vehicles have the same arc costs.
+    #[inline(always)]
+    pub(crate) fn have_same_costs(&self, v: u32, w: u32) -> bool
+        requires vehicle { v < length self.now.model.vehicles }
+        requires other { w < length self.now.model.vehicles }
+        ensures { IsTrue result → (i j : ℕ) → arc_cost self.now.model w i j ≡ arc_cost self.now.model v i j }
+    {
+        let vehicles = &self.model.vehicles;
+        vehicles.get(v as usize).costs == vehicles.get(w as usize).costs
+    }
+
+    /// The line of a vehicle with its committed list.
+    #[inline(always)]
+    pub(crate) fn line_of<'a>(&'a self, routes: &'a Routes, v: u32) -> Line<'a, 'm>
+        requires stands { StandsAlong self.now routes.now }
+        requires vehicle { v < length routes.now.lists }
+        ensures model { result.costs.model.now ≡ self.now.model }
+        ensures vehicle { result.costs.vehicle ≡ v }
+        ensures list { result.list.now ≡ route routes.now.lists v }
+        ensures line { IsLine result.costs.model.now result.costs.vehicle result.list.now result.along.now }
+    {
+        Line {
+            costs: self.costs_of(v),
+            along: &self.along[v as usize],
+            list: routes.list(v),
+        }
     }
 }
 

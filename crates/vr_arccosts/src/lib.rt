@@ -1,10 +1,20 @@
-//! The arc costs of used vehicles, kept for the committed lists and told for a change or a move of them.
+//! The arc costs of used vehicles, kept for the committed lists and told for a change, a move or a run of moves.
+//!
+//! What a chain of a list costs is one subtraction of the sums along its line, so a change is told by its pieces and a
+//! move by its numbers. The moves of a run differ in their last number alone: what they add is the same for all of them
+//! but for a few arcs beside one place, so the first that may add less than a bound is found in one loop along a list
+//! ([`ArcCost::first_below`]).
+//!
+//! The sums are those of the committed lists. `vr_costfilter` has this part beside the others, and `vr_judge` asks it
+//! about changes, moves and runs.
 #![tactic(auto)]
 
 mod arcs;
 mod costs;
+mod gaps;
 mod lines;
 mod moves;
+mod runs;
 mod walks;
 
 pub use arcs::ArcCost;

@@ -1,6 +1,8 @@
 -- A scan over moves that are passed over, and what stands in front of the move that a scan accepts.
-use Rattle.std.proofs.Common.{◌≡◌, ◌∙◌, ℕ, suc, ◌+◌, ◌-◌, ◌<◌, ◌≤◌, ◌^◌, Bool, true, false, cond, List, [], ◌∷◌, ◌++◌, length, refl, sym, ap, arith, nat_lt, nat_le, inl, inr}
+use Rattle.std.proofs.Common.{◌≡◌, ◌∙◌, ℕ, suc, ◌+◌, ◌-◌, ◌<◌, ◌≤◌, ◌^◌, Bool, true, false, cond, List, [], ◌∷◌, ◌++◌, length, refl, sym, ap, subst, arith, nat_lt, nat_le, inl, inr}
+use Rattle.std.specs.Prelude.{All}
 use Rattle.std.specs.List.{list_all}
+use Rattle.std.proofs.lemmas.List.Elements.{All-head, All-tail}
 use Rattle.std.proofs.lemmas.List.Folds.{list_all-append}
 use Rattle.vr_model.specs.deciding.Testing.{and_left, and_right}
 use Rattle.vr_model.specs.search.Scans.{scan_from}
@@ -109,6 +111,12 @@ pub at_each : {A : Type 0} (p : A → Bool) (xs : List A) → list_all p xs ≡ 
 at_each p [] h x there = absurd there
 at_each p (y ∷ ys) h x (inl e) = ap p e ∙ and_left (p y) _ h
 at_each p (y ∷ ys) h x (inr there) = at_each p ys (and_right (p y) _ h) x there
+
+-- what holds of all entries holds of each
+pub of_each : {A : Type 0} (P : A → Type 0) (xs : List A) → All P xs → (x : A) → In xs x → P x
+of_each P [] h x there = absurd there
+of_each P (y ∷ ys) h x (inl e) = subst P (sym e) (All-head P y ys h)
+of_each P (y ∷ ys) h x (inr there) = of_each P ys (All-tail P y ys h) x there
 
 pub all_left : {A : Type 0} (p : A → Bool) (xs ys : List A) → list_all p (xs ++ ys) ≡ true → list_all p xs ≡ true
 all_left p xs ys h = and_left (list_all p xs) (list_all p ys) (sym (list_all-append p xs ys) ∙ h)

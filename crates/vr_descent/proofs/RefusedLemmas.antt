@@ -1,7 +1,8 @@
 -- What is remembered stays true: after a scan, and after the move that it accepted.
-use Rattle.std.proofs.Common.{◌≡◌, ◌∙◌, ℕ, suc, ◌+◌, ◌^◌, ◌<◌, ◌≤◌, Bool, true, false, cond, List, ◌∷◌, ◌++◌, length, length-append, Some, None, w64, to_z, of_z, refl, sym, ap, arith, inl, inr, ◌⊎◌, ◌&&◌, nat_le}
-use Rattle.std.specs.Prelude.{IsTrue, ℤ, pos, int_lt, nat_lt}
+use Rattle.std.proofs.Common.{◌≡◌, ◌∙◌, ℕ, suc, ◌+◌, ◌^◌, ◌<◌, ◌≤◌, Bool, true, false, cond, List, [], ◌∷◌, ◌++◌, length, length-append, Some, None, w64, to_z, of_z, refl, sym, ap, arith, inl, inr, ◌⊎◌, ◌&&◌, nat_le}
+use Rattle.std.specs.Prelude.{All, IsTrue, ℤ, ◌≤ℤ◌, pos, int_lt, nat_lt}
 use Rattle.std.specs.List.{list_all}
+use Rattle.std.proofs.lemmas.List.Elements.{All-head}
 use Rattle.vr_model.specs.deciding.Testing.{and_both, and_left, and_right}
 use Rattle.vr_model.specs.tables.WellFormed.{IsWellFormed}
 use Rattle.vr_model.proofs.tables.Tests.{clash, lt_of_test, test_of_lt}
@@ -19,20 +20,19 @@ use Rattle.vr_model.specs.declared.neighbours.Move.TheVariants.{TwoOpt, OrOpt, R
 use Rattle.vr_model.proofs.routes.CostFits.{costs_are_bounded}
 use Rattle.vr_model.proofs.moves.KeptLists.{as_many}
 use Rattle.vr_descent.proofs.EndLemmas.{both}
-use Rattle.vr_routes.specs.Judging.{cost_change}
+use Rattle.vr_routes.specs.Judging.{cost_change, IsNoLess}
 use Rattle.vr_descent.specs.Scanned.{is_acceptable, scan_end, taken}
 use Rattle.vr_descent.specs.declared.scanning.ScanEnd.TheVariants as ends
 use Rattle.vr_descent.proofs.DescentLemmas.{takes_less}
-use Rattle.vr_known.specs.Blocks.{Memory, Learns, is_known, covers, kind_of, first_of, second_of, is_behind, is_kind_of, IsApart, Agree}
+use Rattle.vr_known.specs.Blocks.{Memory, is_known, covers, kind_of, first_of, second_of, is_behind, is_kind_of, IsApart, Agree}
 use Rattle.vr_known.specs.Locality.{HasNoGlobalSpans}
 use Rattle.vr_known.proofs.Applied.{first_low, second_low, stays, moves_local}
 use Rattle.vr_known.proofs.Locality.{validity_is_local}
 use Rattle.vr_known.proofs.CostLocality.{cost_is_local}
-use Rattle.vr_known.proofs.MemoryLemmas.{knows_none}
-use Rattle.vr_known.proofs.PassingLemmas.{capped_small, none_passed}
-use Rattle.vr_known.specs.Passing.{capped, Passes}
-use Rattle.vr_descent.specs.Refused.{AreRefused, StaysRefused}
-use Rattle.vr_descent.proofs.PassedLemmas.{all_left, all_right, at_each, capped_low, in_front, none_taken, over}
+use Rattle.vr_known.proofs.PassingLemmas.{capped_small, covers_known}
+use Rattle.vr_known.specs.Passing.{capped, CoversBlock, Passes}
+use Rattle.vr_descent.specs.Refused.{AreRefused, IsPassed, IsRefused, StaysRefused}
+use Rattle.vr_descent.proofs.PassedLemmas.{all_left, all_right, at_each, of_each, capped_low, in_front, none_taken, over}
 use Rattle.vr_descent.proofs.OrderLemmas.{are_listed, stand_before}
 
 -- ---- what a descent takes
@@ -108,6 +108,25 @@ module _ (model : Model) (takes : List (List ℕ) → Move → ℤ → Bool) (li
         sym (local (kind_of m) (first_of m) (second_of m) known lists after m (record { valid = valid; other_valid = valid_after; is_one = here; kind = kind; agree = agree_before m off }))
         ∙ refused m here (and_both (nat_lt (kind_of m) 5) _ (test_of_lt (kind_of m) 5 kind) (fewer (kind_of m) (first_of m) (second_of m) known))
 
+-- ---- what a scan passes over
+
+-- the moves of a block that is remembered
+pub passes_known : (model : Model) (takes : List (List ℕ) → Move → ℤ → Bool) (lists : List (List ℕ)) (rest : ℕ) (memory : Memory) (kind v w : ℕ) → rest ≤ 1000000000 → kind < 5
+    → AreRefused model takes lists memory → IsTrue (is_known memory kind v w) → CoversBlock (IsPassed model takes lists rest) kind v w
+passes_known model takes lists rest memory kind v w few low refused known mv k f s =
+    record { few = few; refused = λ one. refused mv one (covers_known memory kind v w low known mv k f s) }
+
+-- a move that makes no less is not taken by a descent
+pub no_less_refused : (model : Model) (lists : List (List ℕ)) (mv : Move) → IsNoLess model lists mv (pos 0) → IsRefused model takes_less lists mv
+no_less_refused model lists mv least one = by (is_valid model (apply model lists mv)) (least one)
+  where
+    not_less : (d : ℤ) → pos 0 ≤ℤ d → int_lt d (pos 0) ≡ false
+    not_less d low = Prim.grind arith
+
+    by : (b : Bool) → (IsTrue b → pos 0 ≤ℤ cost_change model lists mv) → (b && int_lt (cost_change model lists mv) (pos 0)) ≡ false
+    by true low = not_less (cost_change model lists mv) (low refl)
+    by false low = refl
+
 -- ---- a step of a scan
 
 -- so many moves were passed over, and the scan goes on behind them
@@ -125,19 +144,19 @@ module _ (model : Model) (takes : List (List ℕ) → Move → ℤ → Bool) (li
   acceptable = is_acceptable model takes lists
 
   -- so many tries are counted as they are
-  counts_as : (memory : Memory) → (Learns memory → rest ≤ 1000000000) → (passed : List Move) (place counted : ℕ) → list_all (covers memory) passed ≡ true → place < 2 ^ 64
+  counts_as : (passed : List Move) (place counted : ℕ) → All (IsPassed model takes lists rest) passed → place < 2 ^ 64
       → counted ≡ capped (place + length passed) → counted ≤ rest → counted ≡ place + length passed
-  counts_as memory few passed place counted known fits real low = elim (cases_lt 0 (length memory.seen)) [
-    | inl learns ↦ (let most = few learns in real ∙ capped_low (place + length passed) (omega (arith, real, low, most)))
-    | inr none ↦ (
-        let no : length passed ≡ 0 = ap length (none_passed memory (knows_none memory (omega (arith, none))) passed known) in
-        let there : place + length passed < 2 ^ 64 = omega (arith, fits, no) in
-        real ∙ sym (capped_small (place + length passed) there))
-  ]
+  counts_as [] place counted none fits real low =
+      let same : place + 0 ≡ place = omega arith in
+      let there : place + 0 < 2 ^ 64 = omega (arith, fits) in
+      real ∙ sym (capped_small (place + 0) there)
+  counts_as (mv ∷ passed) place counted all fits real low =
+      let most = (All-head (IsPassed model takes lists rest) mv passed all).few in
+      real ∙ capped_low (place + length (mv ∷ passed)) (omega (arith, real, low, most))
 
-  pub goes_on : (memory : Memory) → AreRefused model takes lists memory → (Learns memory → rest ≤ 1000000000) → (list behind : List Move) (place counted : ℕ) → place < 2 ^ 64
-      → list_all (is_move model lists) list ≡ true → Passes memory list place behind counted → GoesOn model takes lists rest list place behind counted
-  goes_on memory refused few list behind place counted fits are p =
+  pub goes_on : (list behind : List Move) (place counted : ℕ) → place < 2 ^ 64
+      → list_all (is_move model lists) list ≡ true → Passes (IsPassed model takes lists rest) list place behind counted → GoesOn model takes lists rest list place behind counted
+  goes_on list behind place counted fits are p =
       let all : list_all (is_move model lists) (p.passed ++ behind) ≡ true = sym (ap (list_all (is_move model lists)) p.split) ∙ are in
       let long = length-append p.passed behind in
       let same = ap length p.split in
@@ -145,9 +164,9 @@ module _ (model : Model) (takes : List (List ℕ) → Move → ℤ → Bool) (li
         at = place + length p.passed;
         more = omega arith;
         real = p.counts;
-        exact = counts_as memory few p.passed place counted p.known fits p.counts;
+        exact = counts_as p.passed place counted p.covered fits p.counts;
         ends = ap (scan_from place acceptable rest) p.split ∙ over acceptable rest place p.passed behind
-            (λ m there. refused m (at_each (is_move model lists) p.passed (all_left (is_move model lists) p.passed behind all) m there) (at_each (covers memory) p.passed p.known m there));
+            (λ m there. (of_each (IsPassed model takes lists rest) p.passed p.covered m there).refused (at_each (is_move model lists) p.passed (all_left (is_move model lists) p.passed behind all) m there));
         are_moves = all_right (is_move model lists) p.passed behind all;
         fewer = omega (arith, long, same);
       }

@@ -40,6 +40,18 @@ impl<'m> Accept for Cheaper<'m> {
         }
     }
 
+    #[inline(always)]
+    fn first_open<J: Judge>(
+        &self,
+        judge: &J,
+        routes: &Routes,
+        mv: Move,
+        from: u32,
+        end: u32,
+    ) -> u32 {
+        judge.first_below(routes, mv, from, end, 0)
+    }
+
     #[inline]
     fn may_accept(&self, _routes: &Routes, _mv: Move, _change: &Change, least: i64) -> bool {
         least < 0

@@ -7,7 +7,7 @@ ghost use Rattle.vr_model.specs.tables.Tables.{visits};
 ghost use Rattle.vr_model.specs.tables.WellFormed.{IsWellFormed};
 ghost use Rattle.vr_known.specs.Passing.{Takes};
 
-use vr_known::Known;
+use vr_known::Sieve;
 use vr_model::{Model, Move, Neighbourhood};
 use vr_moves_active::{
     MakeActiveMoves, MakeInactiveMoves, SwapActiveMoves, make_active, make_inactive, swap_active,
@@ -58,23 +58,25 @@ impl<'a> Generator<'a> {
         }
     }
 
-    /// Takes the first of the moves that are left, behind some that are known, which are counted. Takes no memory.
+    /// Takes the first of the moves that are left, behind some that are passed over, which are counted. Takes no
+    /// memory.
     #[inline(always)]
-    pub fn step(&mut self, known: &Known, passed: &mut u64) -> Option<Move>
-        ensures { Takes known.now (left_in self.old) passed.old result (left_in self.new) passed.new }
+    pub fn step<S: Sieve>(&mut self, sieve: &S, passed: &mut u64) -> Option<Move>
+        requires { S.is_ready sieve.now }
+        ensures { Takes (S.covers sieve.now) (left_in self.old) passed.old result (left_in self.new) passed.new }
     {
         match self {
-            Generator::TwoOpt(moves) => moves.step(known, passed),
-            Generator::OrOpt(moves) => moves.step(known, passed),
-            Generator::Relocate(moves) => moves.step(known, passed),
-            Generator::Exchange(moves) => moves.step(known, passed),
-            Generator::Cross(moves) => moves.step(known, passed),
-            Generator::RelocatePair(moves) => moves.step(known, passed),
-            Generator::PairActive(moves) => moves.step(known, passed),
-            Generator::PairInactive(moves) => moves.step(known, passed),
-            Generator::MakeActive(moves) => moves.step(known, passed),
-            Generator::MakeInactive(moves) => moves.step(known, passed),
-            Generator::SwapActive(moves) => moves.step(known, passed),
+            Generator::TwoOpt(moves) => moves.step(sieve, passed),
+            Generator::OrOpt(moves) => moves.step(sieve, passed),
+            Generator::Relocate(moves) => moves.step(sieve, passed),
+            Generator::Exchange(moves) => moves.step(sieve, passed),
+            Generator::Cross(moves) => moves.step(sieve, passed),
+            Generator::RelocatePair(moves) => moves.step(sieve, passed),
+            Generator::PairActive(moves) => moves.step(sieve, passed),
+            Generator::PairInactive(moves) => moves.step(sieve, passed),
+            Generator::MakeActive(moves) => moves.step(sieve, passed),
+            Generator::MakeInactive(moves) => moves.step(sieve, passed),
+            Generator::SwapActive(moves) => moves.step(sieve, passed),
         }
     }
 }

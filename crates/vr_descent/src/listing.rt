@@ -9,7 +9,7 @@ ghost use Rattle.vr_model.specs.tables.WellFormed.{IsWellFormed};
 
 use crate::generators::Generator;
 use std::marker::Model;
-use vr_known::Known;
+use vr_known::{Known, Sieve};
 use vr_model::{Model as RoutingModel, Move, Neighbourhood};
 use vr_routes::Routes;
 
@@ -54,15 +54,17 @@ pub fn moves<'a>(model: &'a RoutingModel, routes: &'a Routes) -> MoveList<'a>
 }
 
 impl<'a> MoveList<'a> {
-    /// Takes the first of the moves that are left, behind some that are known, which are counted. Takes no memory.
+    /// Takes the first of the moves that are left, behind some that are passed over, which are counted. Takes no
+    /// memory.
     // Inlined, so that a move stays in registers.
     #[inline(always)]
-    pub fn step(&mut self, known: &Known, passed: &mut u64) -> Option<Move>
-        ensures { Takes known.now self.old passed.old result self.new passed.new }
+    pub fn step<S: Sieve>(&mut self, sieve: &S, passed: &mut u64) -> Option<Move>
+        requires { S.is_ready sieve.now }
+        ensures { Takes (S.covers sieve.now) self.old passed.old result self.new passed.new }
     {
         let _count = *passed;
         loop {
-            if let Some(mv) = step_in(&mut self.current, known, passed) {
+            if let Some(mv) = step_in(&mut self.current, sieve, passed) {
                 return Some(mv);
             }
             match self.behind.split_first() {
@@ -94,12 +96,13 @@ impl<'a> Iterator for MoveList<'a> {
 
 // Takes the first of the moves that are left of a neighbourhood, where there is one in hand.
 #[inline(always)]
-fn step_in(current: &mut Option<Generator>, known: &Known, passed: &mut u64) -> Option<Move>
-    ensures { Takes known.now (left_of current.old) passed.old result (left_of current.new) passed.new }
+fn step_in<S: Sieve>(current: &mut Option<Generator>, sieve: &S, passed: &mut u64) -> Option<Move>
+    requires { S.is_ready sieve.now }
+    ensures { Takes (S.covers sieve.now) (left_of current.old) passed.old result (left_of current.new) passed.new }
 {
     let _count = *passed;
     match current {
-        Some(current) => current.step(known, passed),
+        Some(current) => current.step(sieve, passed),
         None => None,
     }
 }

@@ -1,19 +1,19 @@
 //! The scan of a list of moves for the first that is acceptable.
 
 ghost use Rattle.std.specs.Prelude.{◌≡◌, ◌+◌, ◌≤◌, IsTrue, IfOk, OnErr};
-ghost use Rattle.vr_descent.specs.Refused.{AreRefused};
+ghost use Rattle.vr_descent.specs.Refused.{AreRefused, CanSift, IsPassed};
 ghost use Rattle.vr_descent.specs.Scanned.{is_acceptable, scan_end, taken, tries_of};
-ghost use Rattle.vr_known.specs.Blocks.{Learns};
+ghost use Rattle.vr_known.specs.Passing.{Takes};
 ghost use Rattle.vr_model.specs.moves.Moves.{moves};
 ghost use Rattle.vr_model.specs.moves.MoveTests.{is_move};
 ghost use Rattle.vr_model.specs.search.Scans.{scan};
 ghost use Rattle.vr_model.specs.tables.WellFormed.{IsWellFormed};
 ghost use Rattle.vr_routes.specs.Judging.{HoldSame};
 
-use crate::{Accept, moves};
+use crate::{Accept, MoveList, moves};
 use std::sync::ledger::Ledger;
-use vr_known::Known;
-use vr_model::{Model, Move, NoMemory, Steps};
+use vr_known::{Known, Sieve};
+use vr_model::{Model, Move, Neighbourhood, NoMemory, Steps};
 use vr_routes::{Change, Judge, Routes, Verdict};
 
 /// How a scan of a list of moves ends.
@@ -33,14 +33,52 @@ pub enum ScanEnd {
     Cut,
 }
 
+// So many tries are counted exactly, whatever is passed over.
+const FEW: u64 = 1_000_000_000;
+
+// What tells a scan with so many tries left which moves are not acceptable.
+#[derive(Drop)]
+struct Refusals<'a, J: Judge, A: Accept> {
+    judge: &'a J,
+    routes: &'a Routes,
+    accept: &'a A,
+    known: &'a Known,
+    rest: u64,
+}
+
+impl<'a, J: Judge, A: Accept> Sieve for Refusals<'a, J, A> {
+    ghost is_ready = { λ s. CanSift (A.model s.accept.now) (J.model s.judge.now) (J.committed s.judge.now)
+        (A.stands_at s.accept.now s.routes.now.lists) (A.takes s.accept.now) s.routes.now s.known.now };
+
+    ghost covers = { λ s. IsPassed (A.model s.accept.now) (A.takes s.accept.now) s.routes.now.lists s.rest };
+
+    #[inline(always)]
+    fn has(&self, neighbourhood: Neighbourhood, v: u32, w: u32) -> bool {
+        if self.rest > FEW {
+            return false;
+        }
+        self.known.has(neighbourhood, v, w)
+    }
+
+    #[inline(always)]
+    fn first(&self, mv: Move, from: u32, end: u32) -> u32 {
+        if self.rest > FEW {
+            return from;
+        }
+        self.accept
+            .first_open(self.judge, self.routes, mv, from, end)
+    }
+}
+
 /// Tries the moves of the model's neighbourhoods in order, at most `rest` of them, up to the first that is acceptable:
 /// the lists after it are valid, and `accept` takes it. Each try is one step of the list of moves and at most one
 /// question to the judge: a move that `accept` does not take with the least difference that it may make is not judged,
 /// and where its numbers tell this, what it changes is not written. Else that is written once, for what it makes at
 /// least and for what `accept` says of that.
 ///
-/// Moves that are known not to be acceptable are tries as any others, and nothing is asked about them; where something
-/// is learned of moves, the tries are at most 10^9.
+/// Moves that are known not to be acceptable are tries as any others, and nothing is asked about them. Of the moves of
+/// a run, which differ in their last number, the judge is asked at once which may be taken, and those in front of these
+/// are tries as well. Where more than 10^9 tries are left, no move is passed over so.
 ///
 /// The only refusal is want of memory, which is taken by the judge alone; the judge still holds the same lists then.
 #[inline(never)]
@@ -59,7 +97,6 @@ pub fn scan<J: Judge, A: Accept, L: Ledger>(
     requires accept_stands { A.stands_at accept.now routes.now.lists }
     requires holds { HoldSame model.now (J.committed judge.old) routes.now }
     requires known { AreRefused model.now (A.takes accept.now) routes.now.lists known.now }
-    requires tries { Learns known.now → rest ≤ 1000000000 }
     ensures ends { IfOk result (λ ended. ended ≡ scan_end model.now routes.now.lists
         (scan (moves model.now routes.now.lists)
         (is_acceptable model.now (A.takes accept.now) routes.now.lists) rest)) }
@@ -71,7 +108,7 @@ pub fn scan<J: Judge, A: Accept, L: Ledger>(
     let mut list = moves(model, routes);
     let mut change = Change::blank();
     let mut place: u64 = 0;
-    while let Some(mv) = list.step(known, &mut place) {
+    while let Some(mv) = next_open(&mut list, judge, routes, accept, known, rest, &mut place) {
         if place >= rest {
             return Ok(ScanEnd::Cut);
         }
@@ -89,6 +126,32 @@ pub fn scan<J: Judge, A: Accept, L: Ledger>(
         return Ok(ScanEnd::Cut);
     }
     Ok(ScanEnd::Complete { length: place })
+}
+
+// Takes the first move of a list, behind some that are passed over since they are not acceptable, which are counted.
+#[inline(always)]
+fn next_open<J: Judge, A: Accept>(
+    list: &mut MoveList,
+    judge: &J,
+    routes: &Routes,
+    accept: &A,
+    known: &Known,
+    rest: u64,
+    place: &mut u64,
+) -> Option<Move>
+    requires ready { CanSift (A.model accept.now) (J.model judge.now) (J.committed judge.now)
+        (A.stands_at accept.now routes.now.lists) (A.takes accept.now) routes.now known.now }
+    ensures { Takes (IsPassed (A.model accept.now) (A.takes accept.now) routes.now.lists rest)
+        list.old place.old result list.new place.new }
+{
+    let refusals = Refusals {
+        judge,
+        routes,
+        accept,
+        known,
+        rest,
+    };
+    list.step(&refusals, place)
 }
 
 // The difference that a move makes, where it is acceptable. What it changes is written over `change`. The judge is

@@ -1,11 +1,12 @@
 -- How many moves a range has.
-use Rattle.std.proofs.Common.{◌≡◌, ◌∙◌, ℕ, zero, suc, ◌+◌, ◌-◌, ◌<◌, ◌≤◌, Bool, true, false, cond, ◌∷◌, length, map, refl, ap, arith, inl, inr}
+use Rattle.std.proofs.Common.{◌≡◌, ◌∙◌, ℕ, zero, suc, ◌+◌, ◌-◌, ◌<◌, ◌≤◌, Bool, true, false, cond, ◌∷◌, length, map, refl, sym, ap, arith, inl, inr}
 use Rattle.std.specs.Prelude.{filter}
 use Rattle.std.specs.List.{range_with_len}
 use Rattle.std.proofs.lemmas.Bool.{cases_lt}
 use Rattle.std.proofs.lemmas.List.{length-map}
 use Rattle.std.proofs.lemmas.List.FromFn.{length-range_with_len}
 use Rattle.vr_model.specs.tables.Numbers.{below, from_to}
+use Rattle.vr_known.proofs.NestLemmas.{filter_all}
 use Rattle.vr_model.specs.moves.Moves.{is_other, has_some_front}
 
 pub count_given : {A : Type 0} (f : ℕ → A) (a b : ℕ) → length (map f (from_to a b)) ≡ b - a
@@ -14,11 +15,14 @@ count_given f a b = length-map (from_to a b) f ∙ length-range_with_len a (b - 
 pub count_below : {A : Type 0} (f : ℕ → A) (n : ℕ) → length (map f (below n)) ≡ n
 count_below f n = length-map (below n) f ∙ length-range_with_len 0 n
 
+count_passing_below : (p : ℕ → Bool) (a n : ℕ) → ((k : ℕ) → a ≤ k → k < a + n → p k ≡ true) → length (filter p (range_with_len a n)) ≡ n
+count_passing_below p a zero h = refl
+count_passing_below p a (suc n) h =
+    ap (λ t. length (cond t (a ∷ filter p (range_with_len (a + 1) n)) (filter p (range_with_len (a + 1) n)))) (h a (omega arith) (omega arith))
+    ∙ ap suc (count_passing_below p (a + 1) n (λ k low high. h k (omega (arith, low)) (omega (arith, high))))
+
 count_passing : (p : ℕ → Bool) (a n : ℕ) → ((k : ℕ) → a ≤ k → p k ≡ true) → length (filter p (range_with_len a n)) ≡ n
-count_passing p a zero h = refl
-count_passing p a (suc n) h =
-    ap (λ t. length (cond t (a ∷ filter p (range_with_len (a + 1) n)) (filter p (range_with_len (a + 1) n)))) (h a (omega arith))
-    ∙ ap suc (count_passing p (a + 1) n (λ k low. h k (omega (arith, low))))
+count_passing p a n h = count_passing_below p a n (λ k low _. h k low)
 
 is_other_above : (x k : ℕ) → x < k → is_other x k ≡ true
 is_other_above x k low = Prim.grind arith
@@ -62,3 +66,37 @@ count_front_none a n e =
 
 pub count_front : (a n : ℕ) → 1 ≤ a → length (filter (has_some_front a) (below n)) ≡ n
 count_front a n low = count_passing (has_some_front a) 0 n (λ k _. front_behind a k low)
+
+-- ---- how many numbers of a part of a range have a move
+
+pub many_all : (a b : ℕ) → length (filter (λ k. true) (from_to a b)) ≡ b - a
+many_all a b = ap length (filter_all (from_to a b)) ∙ length-range_with_len a (b - a)
+
+pub many_but_one : (x a b : ℕ) → a ≤ x → x < b → length (filter (is_other x) (from_to a b)) ≡ b - a - 1
+many_but_one x a b low high =
+    let e : b - a ≡ suc (b - a - 1) = omega (arith, low, high) in
+    ap (λ n. length (filter (is_other x) (range_with_len a n))) e ∙ count_but_one x (b - a - 1) a low (omega (arith, low, high))
+
+pub many_below : (x a b : ℕ) → b ≤ x → length (filter (is_other x) (from_to a b)) ≡ b - a
+many_below x a b high = count_passing_below (is_other x) a (b - a) (λ k low under. is_other_below x k (omega (arith, low, under, high)))
+
+pub many_above : (x a b : ℕ) → x < a → length (filter (is_other x) (from_to a b)) ≡ b - a
+many_above x a b low = count_passing (is_other x) a (b - a) (λ k under. is_other_above x k (omega (arith, under, low)))
+
+pub many_fronts : (x a b : ℕ) → has_some_front x a ≡ true → length (filter (has_some_front x) (from_to a b)) ≡ b - a
+many_fronts x a b there = count_passing (has_some_front x) a (b - a) (λ k low. later k low there)
+  where
+    later : (k : ℕ) → a ≤ k → has_some_front x a ≡ true → has_some_front x k ≡ true
+    later k low there = Prim.grind arith
+
+pub many_but_none : (x a b : ℕ) → has_some_front x a ≡ false → a < b → length (filter (has_some_front x) (from_to a b)) ≡ b - a - 1
+many_but_none x a b none some =
+    let zero : x ≡ 0 = Prim.grind arith in
+    let begin : a ≡ 0 = Prim.grind arith in
+    let e : b - a ≡ suc (b - a - 1) = omega (arith, some) in
+    ap (λ n. length (filter (has_some_front x) (range_with_len a n))) e
+    ∙ ap (λ n. length (filter (has_some_front x) (range_with_len n (suc (b - a - 1))))) begin
+    ∙ count_front_none x (b - a - 1) zero
+
+pub many_none : (p : ℕ → Bool) (a b : ℕ) → a ≡ b → length (filter p (from_to a b)) ≡ b - a
+many_none p a b same = let e : b - a ≡ 0 = omega (arith, same) in ap (λ n. length (filter p (range_with_len a n))) e ∙ sym e

@@ -1,13 +1,40 @@
 -- Ranges of numbers, and the lists made of them.
-use Rattle.std.proofs.Common.{◌≡◌, ◌∙◌, ℕ, zero, suc, ◌+◌, ◌-◌, ◌<◌, ◌≤◌, Bool, true, false, cond, List, [], ◌∷◌, ◌++◌, map, length, refl, ap, arith}
+use Rattle.std.proofs.Common.{◌≡◌, ◌∙◌, ℕ, zero, suc, ◌+◌, ◌-◌, ◌<◌, ◌≤◌, Bool, true, false, cond, List, [], ◌∷◌, ◌++◌, map, length, length-append, refl, sym, ap, ap₂, arith}
 use Rattle.std.specs.Prelude.{filter, slice_index}
 use Rattle.std.specs.List.{range_with_len}
+use Rattle.std.proofs.lemmas.List.Elements.{filter-append}
 use Rattle.vr_model.proofs.tables.Ranges.{all_left, none_left}
 use Rattle.vr_model.specs.tables.Numbers.{below, from_to, each}
 use Rattle.vr_known.specs.Nests.{run_of, joined_of}
 
 pub from_to_step : (a b : ℕ) → a < b → from_to a b ≡ a ∷ from_to (a + 1) b
 from_to_step a b low = let e : b - a ≡ suc (b - (a + 1)) = omega (arith, low) in ap (range_with_len a) e
+
+-- a range in two
+pub range_split : (a m b : ℕ) → a ≤ m → m ≤ b → from_to a b ≡ from_to a m ++ from_to m b
+range_split a m b order within =
+    let e : (m - a) + (b - m) ≡ b - a = omega (arith, order, within) in
+    let f : a + (m - a) ≡ m = omega (arith, order) in
+    ap (range_with_len a) (sym e) ∙ (ranges (m - a) a (b - m) ∙ ap (λ k. range_with_len a (m - a) ++ range_with_len k (b - m)) f)
+  where
+    ranges : (n a k : ℕ) → range_with_len a (n + k) ≡ range_with_len a n ++ range_with_len (a + n) k
+    ranges zero a k = ap₂ range_with_len (let e : a ≡ a + 0 = omega arith in e) (let e : 0 + k ≡ k = omega arith in e)
+    ranges (suc n) a k =
+        let e : suc n + k ≡ suc (n + k) = omega arith in
+        let f : (a + 1) + n ≡ a + suc n = omega arith in
+        ap (range_with_len a) e ∙ ap (λ l. a ∷ l) (ranges n (a + 1) k ∙ ap (λ j. range_with_len (a + 1) n ++ range_with_len j k) f)
+
+-- one number more of a range, where it passes
+pub count_more : (p : ℕ → Bool) (a k : ℕ) → a ≤ k → length (filter p (from_to a (k + 1))) ≡ length (filter p (from_to a k)) + cond (p k) 1 0
+count_more p a k order =
+    ap (λ l. length (filter p l)) (range_split a k (k + 1) order (omega arith) ∙ ap (λ l. from_to a k ++ l) (from_to_step k (k + 1) (omega arith) ∙ ap (λ l. k ∷ l) (none_left (k + 1) (k + 1) (omega arith))))
+    ∙ ap length (filter-append p (from_to a k) (k ∷ []))
+    ∙ length-append (filter p (from_to a k)) (filter p (k ∷ []))
+    ∙ ap (λ n. length (filter p (from_to a k)) + n) (by (p k))
+  where
+    by : (t : Bool) → length (cond t (k ∷ []) []) ≡ cond t 1 0
+    by true = refl
+    by false = refl
 
 module _ {A : Type 0} (passes : ℕ → Bool) where
   pub run_takes : (f : ℕ → A) (a b : ℕ) → a < b → passes a ≡ true → run_of passes f a b ≡ f a ∷ run_of passes f (a + 1) b
@@ -35,7 +62,7 @@ module _ {A : Type 0} (passes : ℕ → Bool) where
 
 -- ---- ranges of which all numbers pass
 
-filter_all : (xs : List ℕ) → filter (λ k. true) xs ≡ xs
+pub filter_all : (xs : List ℕ) → filter (λ k. true) xs ≡ xs
 filter_all [] = refl
 filter_all (x ∷ xs) = ap (λ l. x ∷ l) (filter_all xs)
 

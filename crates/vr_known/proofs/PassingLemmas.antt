@@ -1,12 +1,18 @@
 -- Moves that are passed over one after the other.
-use Rattle.std.proofs.Common.{◌≡◌, ◌∙◌, ℕ, ◌+◌, ◌-◌, ◌<◌, ◌^◌, Bool, true, List, [], ◌∷◌, ◌++◌, length, map, refl, sym, ap, ap₂, subst, false, arith, nat_lt, append_assoc, length-append, ◌&&◌}
-use Rattle.std.specs.Prelude.{min, Option, Some, None}
-use Rattle.std.specs.List.{list_all}
-use Rattle.std.proofs.lemmas.List.{append-nil}
-use Rattle.std.proofs.lemmas.List.Folds.{list_all-append}
+use Rattle.std.proofs.Common.{◌≡◌, ◌∙◌, ℕ, zero, suc, ◌+◌, ◌-◌, ◌<◌, ◌≤◌, ◌^◌, Bool, true, List, [], ◌∷◌, ◌++◌, length, map, refl, sym, ap, subst, false, arith, nat_lt, append_assoc, length-append, ◌&&◌, cond}
+use Rattle.std.specs.Prelude.{min, Option, Some, None, All, IsTrue, filter}
+use Rattle.std.specs.List.{range_with_len}
+use Rattle.std.proofs.lemmas.List.{append-nil, length-map, map-append}
+use Rattle.std.proofs.lemmas.List.Elements.{All-append, All-cons, All-head, All-nil, filter-append}
+use Rattle.vr_model.proofs.tables.Tests.{clash}
+use Rattle.vr_model.specs.deciding.Testing.{and_both, and_right}
+use Rattle.vr_model.proofs.tables.Tests.{test_of_lt}
+use Rattle.vr_model.specs.tables.Numbers.{from_to}
 use Rattle.vr_model.specs.declared.neighbours.Move.{Move}
+use Rattle.vr_known.proofs.NestLemmas.{range_split}
 use Rattle.vr_known.specs.Blocks.{Memory, covers, is_known, kind_of, first_of, second_of}
-use Rattle.vr_known.specs.Passing.{capped, ArePassed, Passes, IsFirst, Takes}
+use Rattle.vr_known.specs.Nests.{run_of}
+use Rattle.vr_known.specs.Passing.{capped, ArePassed, CoversBlock, Passes, IsFirst, Takes}
 
 pub capped_small : (n : ℕ) → n < 2 ^ 64 → n ≡ capped n
 capped_small n low = Prim.grind arith
@@ -14,21 +20,21 @@ capped_small n low = Prim.grind arith
 capped_twice : (a b : ℕ) → capped (capped a + b) ≡ capped (a + b)
 capped_twice a b = Prim.grind arith
 
-module _ (memory : Memory) where
+module _ (covers : Move → Type 0) where
   -- no move was passed
-  pub passes_none : (old : List Move) (count : ℕ) → count < 2 ^ 64 → Passes memory old count old count
-  passes_none old count low = record { passed = []; split = refl; known = refl; counts = capped_small count low ∙ ap capped (let e : count ≡ count + 0 = omega arith in e) }
+  pub passes_none : (old : List Move) (count : ℕ) → count < 2 ^ 64 → Passes covers old count old count
+  passes_none old count low = record { passed = []; split = refl; covered = All-nil covers; counts = capped_small count low ∙ ap capped (let e : count ≡ count + 0 = omega arith in e) }
 
   -- all of them were
-  pub passes_all : (old : List Move) (count many counted : ℕ) → ArePassed memory old many → counted ≡ min (count + many) (2 ^ 64 - 1) → Passes memory old count [] counted
-  passes_all old count many counted h e = record { passed = old; split = sym (append-nil old); known = h.known; counts = e ∙ ap (λ n. capped (count + n)) (sym h.long) }
+  pub passes_all : (old : List Move) (count many counted : ℕ) → ArePassed covers old many → counted ≡ min (count + many) (2 ^ 64 - 1) → Passes covers old count [] counted
+  passes_all old count many counted h e = record { passed = old; split = sym (append-nil old); covered = h.covered; counts = e ∙ ap (λ n. capped (count + n)) (sym h.long) }
 
   -- more of them were passed
-  pub passes_more : (a b c : List Move) (i j k : ℕ) → Passes memory a i b j → Passes memory b j c k → Passes memory a i c k
+  pub passes_more : (a b c : List Move) (i j k : ℕ) → Passes covers a i b j → Passes covers b j c k → Passes covers a i c k
   passes_more a b c i j k p q = record {
     passed = p.passed ++ q.passed;
     split = p.split ∙ ap (λ l. p.passed ++ l) q.split ∙ sym (append_assoc p.passed q.passed c);
-    known = list_all-append (covers memory) p.passed q.passed ∙ ap₂ (λ x y. x && y) p.known q.known;
+    covered = All-append covers p.passed q.passed p.covered q.covered;
     counts = q.counts ∙ ap (λ n. capped (n + length q.passed)) p.counts ∙ capped_twice (i + length p.passed) (length q.passed) ∙ ap capped (sum i (length p.passed) (length q.passed) ∙ ap (λ n. i + n) (sym (length-append p.passed q.passed)));
   }
     where
@@ -36,49 +42,78 @@ module _ (memory : Memory) where
       sum x y z = omega arith
 
   -- moves stand behind
-  pub passes_in_front : (a b more : List Move) (i j : ℕ) → Passes memory a i b j → Passes memory (a ++ more) i (b ++ more) j
-  passes_in_front a b more i j p = record { passed = p.passed; split = ap (λ l. l ++ more) p.split ∙ append_assoc p.passed b more; known = p.known; counts = p.counts }
+  pub passes_in_front : (a b more : List Move) (i j : ℕ) → Passes covers a i b j → Passes covers (a ++ more) i (b ++ more) j
+  passes_in_front a b more i j p = record { passed = p.passed; split = ap (λ l. l ++ more) p.split ∙ append_assoc p.passed b more; covered = p.covered; counts = p.counts }
 
   -- the lists are the same
-  pub passes_as : (a b c : List Move) (i j : ℕ) → b ≡ c → Passes memory a i b j → Passes memory a i c j
-  passes_as a b c i j e p = record { passed = p.passed; split = p.split ∙ ap (λ l. p.passed ++ l) e; known = p.known; counts = p.counts }
+  pub passes_as : (a b c : List Move) (i j : ℕ) → b ≡ c → Passes covers a i b j → Passes covers a i c j
+  passes_as a b c i j e p = record { passed = p.passed; split = p.split ∙ ap (λ l. p.passed ++ l) e; covered = p.covered; counts = p.counts }
 
-  pub passes_from : (a b c : List Move) (i j : ℕ) → a ≡ c → Passes memory a i b j → Passes memory c i b j
-  passes_from a b c i j e p = record { passed = p.passed; split = sym e ∙ p.split; known = p.known; counts = p.counts }
+  pub passes_from : (a b c : List Move) (i j : ℕ) → a ≡ c → Passes covers a i b j → Passes covers c i b j
+  passes_from a b c i j e p = record { passed = p.passed; split = sym e ∙ p.split; covered = p.covered; counts = p.counts }
 
   -- a move is taken behind those that were passed
-  pub takes_some : (a b c : List Move) (i j k : ℕ) (mv : Move) → Passes memory a i b j → Takes memory b j (Some mv) c k → Takes memory a i (Some mv) c k
+  pub takes_some : (a b c : List Move) (i j k : ℕ) (mv : Move) → Passes covers a i b j → Takes covers b j (Some mv) c k → Takes covers a i (Some mv) c k
   takes_some a b c i j k mv p t = record { behind = t.behind; passes = passes_more a b t.behind i j k p t.passes; first = t.first }
 
-  pub takes_none : (a : List Move) (i j : ℕ) → Passes memory a i [] j → Takes memory a i None [] j
+  pub takes_none : (a : List Move) (i j : ℕ) → Passes covers a i [] j → Takes covers a i None [] j
   takes_none a i j p = record { behind = []; passes = p; first = (refl, refl) }
 
-  pub takes_first : (a b : List Move) (i : ℕ) (result : Option Move) → i < 2 ^ 64 → IsFirst a result b → Takes memory a i result b i
+  pub takes_first : (a b : List Move) (i : ℕ) (result : Option Move) → i < 2 ^ 64 → IsFirst a result b → Takes covers a i result b i
   takes_first a b i result low first = record { behind = a; passes = passes_none a i low; first = first }
 
   -- the first of some moves, in front of others
-  pub takes_in_front : (a b more : List Move) (i j : ℕ) (mv : Move) → Takes memory a i (Some mv) b j → Takes memory (a ++ more) i (Some mv) (b ++ more) j
+  pub takes_in_front : (a b more : List Move) (i j : ℕ) (mv : Move) → Takes covers a i (Some mv) b j → Takes covers (a ++ more) i (Some mv) (b ++ more) j
   takes_in_front a b more i j mv t = record { behind = t.behind ++ more; passes = passes_in_front a t.behind more i j t.passes; first = ap (λ l. l ++ more) t.first }
 
   -- none of the moves is left
-  pub passes_to_end : (a b : List Move) (i j : ℕ) → Takes memory a i None b j → Passes memory a i [] j
+  pub passes_to_end : (a b : List Move) (i j : ℕ) → Takes covers a i None b j → Passes covers a i [] j
   passes_to_end a b i j t = passes_as a t.behind [] i j t.first.0 t.passes
 
--- ---- where nothing is known, no move is passed
+  -- ---- moves of a run that are passed over
 
-pub none_passed : (memory : Memory) → ((kind v w : ℕ) → is_known memory kind v w ≡ false) → (moves : List Move) → list_all (covers memory) moves ≡ true → moves ≡ []
-none_passed memory none [] known = refl
-none_passed memory none (mv ∷ moves) known = absurd (clash (nat_lt (kind_of mv) 5) (is_known memory (kind_of mv) (first_of mv) (second_of mv)) (list_all (covers memory) moves) (none (kind_of mv) (first_of mv) (second_of mv)) known)
-  where
-    clash : (a b c : Bool) → b ≡ false → ((a && b) && c) ≡ true → ⊥
-    clash a b c e f = Prim.grind arith
+  -- moves of which each number's is covered
+  run_covered : (p : ℕ → Bool) (f : ℕ → Move) (a n : ℕ) → ((k : ℕ) → a ≤ k → k < a + n → covers (f k)) → All covers (map f (filter p (range_with_len a n)))
+  run_covered p f a zero h = All-nil covers
+  run_covered p f a (suc n) h = by (p a) (run_covered p f (a + 1) n (λ k low high. h k (omega (arith, low)) (omega (arith, high))))
+    where
+      by : (t : Bool) → All covers (map f (filter p (range_with_len (a + 1) n))) → All covers (map f (cond t (a ∷ filter p (range_with_len (a + 1) n)) (filter p (range_with_len (a + 1) n))))
+      by true others = All-cons covers (f a) (map f (filter p (range_with_len (a + 1) n))) (h a (omega arith) (omega arith)) others
+      by false others = others
 
-pub takes_unknown : (memory : Memory) → ((kind v w : ℕ) → is_known memory kind v w ≡ false) → (old left : List Move) (count counted : ℕ) (result : Option Move)
-    → Takes memory old count result left counted → IsFirst old result left
-takes_unknown memory none old left count counted result t =
-    subst (λ l. IsFirst l result left) (sym (t.passes.split ∙ ap (λ l. l ++ t.behind) (none_passed memory none t.passes.passed t.passes.known))) t.first
+  -- the moves of the numbers from a on, below m, were passed
+  pub passes_run : (p : ℕ → Bool) (f : ℕ → Move) (a m b count many counted : ℕ) → a ≤ m → m ≤ b → ((k : ℕ) → a ≤ k → k < m → covers (f k))
+      → many ≡ length (filter p (from_to a m)) → counted ≡ min (count + many) (2 ^ 64 - 1)
+      → Passes covers (run_of p f a b) count (run_of p f m b) counted
+  passes_run p f a m b count many counted order within each number counts = record {
+    passed = run_of p f a m;
+    split = ap (λ l. map f (filter p l)) (range_split a m b order within) ∙ ap (map f) (filter-append p (from_to a m) (from_to m b)) ∙ map-append f (filter p (from_to a m)) (filter p (from_to m b));
+    covered = run_covered p f a (m - a) (λ k low high. each k low (omega (arith, high, order)));
+    counts = counts ∙ ap (λ n. capped (count + n)) (number ∙ sym (length-map (filter p (from_to a m)) f));
+  }
 
--- a test that passes at all that f gives
-pub all_given : {A B : Type 0} (test : B → Bool) (f : A → B) (xs : List A) → ((x : A) → test (f x) ≡ true) → list_all test (map f xs) ≡ true
-all_given test f [] h = refl
-all_given test f (x ∷ xs) h = ap₂ (λ a b. a && b) (h x) (all_given test f xs h)
+-- ---- where nothing is covered, no move is passed
+
+pub none_passed : (covers : Move → Type 0) → ((mv : Move) → covers mv → ⊥) → (moves : List Move) → All covers moves → moves ≡ []
+none_passed covers none [] covered = refl
+none_passed covers none (mv ∷ moves) covered = absurd (none mv (All-head covers mv moves covered))
+
+pub takes_unknown : (covers : Move → Type 0) → ((mv : Move) → covers mv → ⊥) → (old left : List Move) (count counted : ℕ) (result : Option Move)
+    → Takes covers old count result left counted → IsFirst old result left
+takes_unknown covers none old left count counted result t =
+    subst (λ l. IsFirst l result left) (sym (t.passes.split ∙ ap (λ l. l ++ t.behind) (none_passed covers none t.passes.passed t.passes.covered))) t.first
+
+-- nothing is covered where nothing is known
+pub covers_none : (memory : Memory) → ((kind v w : ℕ) → is_known memory kind v w ≡ false) → (mv : Move) → IsTrue (covers memory mv) → ⊥
+covers_none memory none mv covered = clash (is_known memory (kind_of mv) (first_of mv) (second_of mv)) (and_right (nat_lt (kind_of mv) 5) _ covered) (none (kind_of mv) (first_of mv) (second_of mv))
+
+-- the moves of a block that is known are covered
+pub covers_known : (memory : Memory) (kind v w : ℕ) → kind < 5 → IsTrue (is_known memory kind v w) → CoversBlock (λ mv. IsTrue (covers memory mv)) kind v w
+covers_known memory kind v w low known mv k f s =
+    and_both (nat_lt (kind_of mv) 5) _ (test_of_lt (kind_of mv) 5 (omega (arith, k, low)))
+    (subst (λ n. IsTrue (is_known memory n (first_of mv) (second_of mv))) (sym k) (subst (λ n. IsTrue (is_known memory kind n (second_of mv))) (sym f) (subst (λ n. IsTrue (is_known memory kind v n)) (sym s) known)))
+
+-- a property of all that f gives
+pub all_given : {A B : Type 0} (P : B → Type 0) (f : A → B) (xs : List A) → ((x : A) → P (f x)) → All P (map f xs)
+all_given P f [] h = All-nil P
+all_given P f (x ∷ xs) h = All-cons P (f x) (map f xs) (h x) (all_given P f xs h)

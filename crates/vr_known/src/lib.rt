@@ -3,7 +3,9 @@
 //! What a scan has refused stays refused until a commit changes one of the lists that the move names: a move that
 //! changes no activity depends on the lists of its vehicles alone ([`validity_is_local`], [`cost_is_local`]). So
 //! [`Known`] keeps, for each kind and first vehicle, when all moves of these were last refused, and for each vehicle
-//! when its list last changed; the ranges of moves ([`nests`]) pass over those that are known, and count them.
+//! when its list last changed. The ranges of moves ([`nests`]) pass over those of which a sieve ([`Sieve`]) says so,
+//! and count them: what is known is one, and a search has another, which also goes over runs of moves by what they
+//! cost.
 //!
 //! No stamp is above the clock, so what changes now is later than all that was learned.
 //!
@@ -16,7 +18,9 @@ mod blocks;
 mod laws;
 mod memory;
 pub mod nests;
+mod sieve;
 mod stamps;
 
 pub use laws::{cost_is_local, moves_are_local, validity_is_local};
 pub use memory::Known;
+pub use sieve::Sieve;

@@ -12,7 +12,7 @@ ghost use Rattle.vr_model.specs.declared.neighbours.Move.TheVariants.{MakeActive
 ghost use Rattle.vr_model.specs.declared.neighbours.Neighbourhood.TheVariants.{MakeActive as MakeActiveKind};
 
 use std::marker::Model;
-use vr_known::Known;
+use vr_known::Sieve;
 use vr_known::nests::{Each, Family, Listed, Numbered, Run, next_of};
 use vr_model::Move;
 use vr_routes::Routes;
@@ -121,12 +121,13 @@ impl<'a> Model for MakeActiveMoves<'a> {
 }
 
 impl<'a> MakeActiveMoves<'a> {
-    /// Takes the first of the moves that are left, behind some that are known, which are counted.
+    /// Takes the first of the moves that are left, behind some that are passed over, which are counted.
     #[inline(always)]
-    pub fn step(&mut self, known: &Known, passed: &mut u64) -> Option<Move>
-        ensures { Takes known.now self.old passed.old result self.new passed.new }
+    pub fn step<S: Sieve>(&mut self, sieve: &S, passed: &mut u64) -> Option<Move>
+        requires { S.is_ready sieve.now }
+        ensures { Takes (S.covers sieve.now) self.old passed.old result self.new passed.new }
     {
-        self.left.step(known, passed)
+        self.left.step(sieve, passed)
     }
 }
 

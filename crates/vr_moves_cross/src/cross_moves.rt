@@ -11,7 +11,7 @@ ghost use Rattle.vr_model.specs.declared.neighbours.Move.TheVariants.{Cross};
 ghost use Rattle.vr_model.specs.declared.neighbours.Neighbourhood.TheVariants.{Cross as CrossKind};
 
 use std::marker::Model;
-use vr_known::Known;
+use vr_known::Sieve;
 use vr_known::nests::{Each, Family, Listed, Numbered, Run, next_of};
 use vr_model::{Move, Neighbourhood};
 use vr_routes::Routes;
@@ -47,6 +47,19 @@ impl Numbered for Gaps {
             b: k,
         }
     }
+
+    #[inline]
+    fn run(&self) -> Option<Move> {
+        Some(self.make(0))
+    }
+
+    #[inline]
+    fn many(&self, from: u32, to: u32) -> u32 {
+        if self.has(from) || from == to {
+            return to - from;
+        }
+        to - from - 1
+    }
 }
 
 // The vehicles that may change fronts with `v`.
@@ -79,9 +92,9 @@ impl<'a> Family for Targets<'a> {
     }
 
     #[inline]
-    fn passed(&self, k: u32, known: &Known) -> Option<u64> {
+    fn passed<S: Sieve>(&self, k: u32, sieve: &S) -> Option<u64> {
         let _few = self.routes.vehicles();
-        if known.has(Neighbourhood::Cross, self.v, k) {
+        if sieve.has(Neighbourhood::Cross, self.v, k) {
             let n = self.routes.len(k) as u64;
             if self.a == 0 {
                 return Some(n);
@@ -174,12 +187,13 @@ impl<'a> Model for CrossMoves<'a> {
 }
 
 impl<'a> CrossMoves<'a> {
-    /// Takes the first of the moves that are left, behind some that are known, which are counted.
+    /// Takes the first of the moves that are left, behind some that are passed over, which are counted.
     #[inline(always)]
-    pub fn step(&mut self, known: &Known, passed: &mut u64) -> Option<Move>
-        ensures { Takes known.now self.old passed.old result self.new passed.new }
+    pub fn step<S: Sieve>(&mut self, sieve: &S, passed: &mut u64) -> Option<Move>
+        requires { S.is_ready sieve.now }
+        ensures { Takes (S.covers sieve.now) self.old passed.old result self.new passed.new }
     {
-        self.left.step(known, passed)
+        self.left.step(sieve, passed)
     }
 }
 

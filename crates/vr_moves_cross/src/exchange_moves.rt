@@ -11,7 +11,7 @@ ghost use Rattle.vr_model.specs.declared.neighbours.Move.TheVariants.{Exchange};
 ghost use Rattle.vr_model.specs.declared.neighbours.Neighbourhood.TheVariants.{Exchange as ExchangeKind};
 
 use std::marker::Model;
-use vr_known::Known;
+use vr_known::Sieve;
 use vr_known::nests::{Each, Family, Listed, Numbered, Run, next_of};
 use vr_model::{Move, Neighbourhood};
 use vr_routes::Routes;
@@ -47,6 +47,16 @@ impl Numbered for Others {
             b: k,
         }
     }
+
+    #[inline]
+    fn run(&self) -> Option<Move> {
+        Some(self.make(0))
+    }
+
+    #[inline]
+    fn many(&self, from: u32, to: u32) -> u32 {
+        to - from
+    }
 }
 
 // The vehicles with whose nodes that at place `a` of `v` may change places.
@@ -80,9 +90,9 @@ impl<'a> Family for Targets<'a> {
     }
 
     #[inline]
-    fn passed(&self, k: u32, known: &Known) -> Option<u64> {
+    fn passed<S: Sieve>(&self, k: u32, sieve: &S) -> Option<u64> {
         let _few = self.routes.vehicles();
-        if known.has(Neighbourhood::Exchange, self.v, k) {
+        if sieve.has(Neighbourhood::Exchange, self.v, k) {
             let first = first_behind(self.v, self.a, k);
             return Some(self.routes.len(k).saturating_sub(first) as u64);
         }
@@ -182,12 +192,13 @@ impl<'a> Model for ExchangeMoves<'a> {
 }
 
 impl<'a> ExchangeMoves<'a> {
-    /// Takes the first of the moves that are left, behind some that are known, which are counted.
+    /// Takes the first of the moves that are left, behind some that are passed over, which are counted.
     #[inline(always)]
-    pub fn step(&mut self, known: &Known, passed: &mut u64) -> Option<Move>
-        ensures { Takes known.now self.old passed.old result self.new passed.new }
+    pub fn step<S: Sieve>(&mut self, sieve: &S, passed: &mut u64) -> Option<Move>
+        requires { S.is_ready sieve.now }
+        ensures { Takes (S.covers sieve.now) self.old passed.old result self.new passed.new }
     {
-        self.left.step(known, passed)
+        self.left.step(sieve, passed)
     }
 }
 

@@ -14,7 +14,7 @@ ghost use Rattle.vr_routes.specs.Pairs.{ArePlaces, is_elsewhere};
 ghost use Rattle.vr_moves_pair.specs.Putting.{puts_into};
 
 use std::marker::Model;
-use vr_known::Known;
+use vr_known::Sieve;
 use vr_known::nests::{Each, Family, Listed, Numbered, Run, next_of};
 use vr_model::{Model as RoutingModel, Move};
 use vr_routes::{PairPlaces, Routes, is_elsewhere, pair_served, rest_len};
@@ -178,12 +178,13 @@ impl<'a> Model for RelocatePairMoves<'a> {
 }
 
 impl<'a> RelocatePairMoves<'a> {
-    /// Takes the first of the moves that are left, behind some that are known, which are counted.
+    /// Takes the first of the moves that are left, behind some that are passed over, which are counted.
     #[inline(always)]
-    pub fn step(&mut self, known: &Known, passed: &mut u64) -> Option<Move>
-        ensures { Takes known.now self.old passed.old result self.new passed.new }
+    pub fn step<S: Sieve>(&mut self, sieve: &S, passed: &mut u64) -> Option<Move>
+        requires { S.is_ready sieve.now }
+        ensures { Takes (S.covers sieve.now) self.old passed.old result self.new passed.new }
     {
-        self.left.step(known, passed)
+        self.left.step(sieve, passed)
     }
 }
 

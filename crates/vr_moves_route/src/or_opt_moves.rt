@@ -11,7 +11,7 @@ ghost use Rattle.vr_model.specs.declared.neighbours.Move.TheVariants.{OrOpt};
 ghost use Rattle.vr_model.specs.declared.neighbours.Neighbourhood.TheVariants.{OrOpt as OrOptKind};
 
 use std::marker::Model;
-use vr_known::Known;
+use vr_known::Sieve;
 use vr_known::nests::{Each, Family, Listed, Numbered, Run, next_of};
 use vr_model::{Move, Neighbourhood};
 use vr_routes::Routes;
@@ -46,6 +46,19 @@ impl Numbered for Gaps {
             k: self.k,
             t: k,
         }
+    }
+
+    #[inline]
+    fn run(&self) -> Option<Move> {
+        Some(self.make(0))
+    }
+
+    #[inline]
+    fn many(&self, from: u32, to: u32) -> u32 {
+        if from <= self.a && self.a < to {
+            return to - from - 1;
+        }
+        to - from
     }
 }
 
@@ -82,8 +95,8 @@ impl Family for Chains {
     }
 
     #[inline]
-    fn passed(&self, k: u32, known: &Known) -> Option<u64> {
-        if known.has(Neighbourhood::OrOpt, self.v, self.v) {
+    fn passed<S: Sieve>(&self, k: u32, sieve: &S) -> Option<u64> {
+        if sieve.has(Neighbourhood::OrOpt, self.v, self.v) {
             if self.a as u64 + k as u64 > self.n as u64 {
                 return Some(0);
             }
@@ -169,12 +182,13 @@ impl<'a> Model for OrOptMoves<'a> {
 }
 
 impl<'a> OrOptMoves<'a> {
-    /// Takes the first of the moves that are left, behind some that are known, which are counted.
+    /// Takes the first of the moves that are left, behind some that are passed over, which are counted.
     #[inline(always)]
-    pub fn step(&mut self, known: &Known, passed: &mut u64) -> Option<Move>
-        ensures { Takes known.now self.old passed.old result self.new passed.new }
+    pub fn step<S: Sieve>(&mut self, sieve: &S, passed: &mut u64) -> Option<Move>
+        requires { S.is_ready sieve.now }
+        ensures { Takes (S.covers sieve.now) self.old passed.old result self.new passed.new }
     {
-        self.left.step(known, passed)
+        self.left.step(sieve, passed)
     }
 }
 

@@ -11,7 +11,7 @@ ghost use Rattle.vr_model.specs.declared.neighbours.Move.TheVariants.{TwoOpt};
 ghost use Rattle.vr_model.specs.declared.neighbours.Neighbourhood.TheVariants.{TwoOpt as TwoOptKind};
 
 use std::marker::Model;
-use vr_known::Known;
+use vr_known::Sieve;
 use vr_known::nests::{Each, Family, Listed, Numbered, Run, next_of};
 use vr_model::{Move, Neighbourhood};
 use vr_routes::Routes;
@@ -45,6 +45,16 @@ impl Numbered for Ends {
             b: k,
         }
     }
+
+    #[inline]
+    fn run(&self) -> Option<Move> {
+        Some(self.make(0))
+    }
+
+    #[inline]
+    fn many(&self, from: u32, to: u32) -> u32 {
+        to - from
+    }
 }
 
 // The places of `v` where a part begins, of which it has `n`.
@@ -71,8 +81,8 @@ impl Family for Begins {
     }
 
     #[inline]
-    fn passed(&self, k: u32, known: &Known) -> Option<u64> {
-        if known.has(Neighbourhood::TwoOpt, self.v, self.v) {
+    fn passed<S: Sieve>(&self, k: u32, sieve: &S) -> Option<u64> {
+        if sieve.has(Neighbourhood::TwoOpt, self.v, self.v) {
             return Some((self.n - k - 1) as u64);
         }
         None
@@ -124,12 +134,13 @@ impl<'a> Model for TwoOptMoves<'a> {
 }
 
 impl<'a> TwoOptMoves<'a> {
-    /// Takes the first of the moves that are left, behind some that are known, which are counted.
+    /// Takes the first of the moves that are left, behind some that are passed over, which are counted.
     #[inline(always)]
-    pub fn step(&mut self, known: &Known, passed: &mut u64) -> Option<Move>
-        ensures { Takes known.now self.old passed.old result self.new passed.new }
+    pub fn step<S: Sieve>(&mut self, sieve: &S, passed: &mut u64) -> Option<Move>
+        requires { S.is_ready sieve.now }
+        ensures { Takes (S.covers sieve.now) self.old passed.old result self.new passed.new }
     {
-        self.left.step(known, passed)
+        self.left.step(sieve, passed)
     }
 }
 

@@ -2,6 +2,7 @@
 use Rattle.std.specs.Prelude.{◌≡◌, ℕ, cond, List, IsTrue, ℤ, ◌-ℤ◌, ◌≤ℤ◌}
 use Rattle.vr_model.specs.tables.Tables.{visits}
 use Rattle.vr_model.specs.moves.Moves.{apply}
+use Rattle.vr_model.specs.moves.MoveTests.{is_move}
 use Rattle.vr_model.specs.routes.Rules.{is_valid}
 use Rattle.vr_model.specs.routes.Costs.{cost}
 use Rattle.vr_model.specs.declared.records.Model.{Model}
@@ -23,6 +24,10 @@ cost_change model lists mv = cost model (apply model lists mv) -ℤ cost model l
 -- a number that the difference of a move is never below, where the lists after it are valid
 abbrev pub IsLeast : Model → List (List ℕ) → Move → ℤ → Type 0
 IsLeast model lists mv least = IsTrue (is_valid model (apply model lists mv)) → least ≤ℤ cost_change model lists mv
+
+-- if a move is one of the lists, and the lists after it are valid, it makes a difference of no less than a bound
+abbrev pub IsNoLess : Model → List (List ℕ) → Move → ℤ → Type 0
+IsNoLess model lists mv bound = IsTrue (is_move model lists mv) → IsLeast model lists mv bound
 
 -- a move is refused where the lists after it are not valid; else it makes this difference in cost
 abbrev pub verdict_of : Model → List (List ℕ) → Move → Verdict

@@ -1,6 +1,6 @@
 //! The trait of what judges moves.
 
-ghost use Rattle.std.specs.Prelude.{◌≡◌, ◌+◌, ◌≤◌, ℕ, List, IsTrue, IfOk, IfSome, OnOk, OnErr};
+ghost use Rattle.std.specs.Prelude.{◌≡◌, ◌+◌, ◌<◌, ◌≤◌, ℕ, List, IsTrue, IfOk, IfSome, OnOk, OnErr};
 ghost use Rattle.vr_model.specs.moves.Moves.{apply};
 ghost use Rattle.vr_model.specs.moves.MoveTests.{is_move};
 ghost use Rattle.vr_model.specs.routes.Rules.{is_valid};
@@ -8,7 +8,8 @@ ghost use Rattle.vr_model.specs.tables.WellFormed.{IsWellFormed};
 ghost use Rattle.vr_model.specs.declared.neighbours.Move.{Move as Step};
 ghost use Rattle.vr_model.specs.declared.records.Model.{Model as RoutingModel};
 ghost use Rattle.vr_routes.specs.Changes.{IsChange};
-ghost use Rattle.vr_routes.specs.Judging.{HoldSame, IsLeast, moved, verdict_of};
+ghost use Rattle.vr_routes.specs.Judging.{HoldSame, IsLeast, IsNoLess, moved, verdict_of};
+ghost use Rattle.vr_routes.specs.Runs.{with_last};
 
 use crate::{Change, Routes};
 use std::sync::ledger::Ledger;
@@ -82,6 +83,24 @@ pub trait Judge {
         ensures { IfSome result (IsLeast (model self.now) routes.now.lists mv) }
     {
         None
+    }
+
+    /// Goes over a run of moves, which differ in their last number: those of the numbers from `from` on, below `end`.
+    /// Says from which number on some may make a difference below a bound: each move in front of it makes none, or
+    /// leads to lists that are not valid. The numbers of `mv`, of which the last is any, need not be those of a move,
+    /// and of numbers that are no move nothing is said. It judges none of them, takes no memory and counts no steps. A
+    /// judge that cannot tell it of a run at once says `from`.
+    #[inline]
+    fn first_below(&self, routes: &Routes, mv: Move, from: u32, end: u32, bound: i64) -> u32
+        requires well_formed { IsWellFormed (model self.now) }
+        requires holds { HoldSame (model self.now) (committed self.now) routes.now }
+        requires order { from ≤ end }
+        ensures from { from ≤ result }
+        ensures within { result ≤ end }
+        ensures no_less { (k : ℕ) → from ≤ k → k < result
+            → IsNoLess (model self.now) routes.now.lists (with_last mv k) bound }
+    {
+        from
     }
 
     /// Makes a move after which the lists are valid: routes and judge then both hold the lists after it. Where memory

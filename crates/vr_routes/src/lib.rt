@@ -11,6 +11,7 @@ mod pairs;
 mod pieces;
 mod routes;
 mod rows;
+mod runs;
 mod seats;
 
 pub use changes::Change;
@@ -23,4 +24,5 @@ pub use pairs::{
 pub use pieces::Piece;
 pub use routes::Routes;
 pub use rows::Row;
+pub use runs::with_last;
 pub use seats::Seat;

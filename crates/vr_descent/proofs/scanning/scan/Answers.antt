@@ -1,8 +1,13 @@
-use Rattle.std.proofs.Common.{◌≡◌, ◌∙◌, ◌+◌, ◌<◌, ◌≤◌, ◌∷◌, refl, sym, ap, arith}
+use Rattle.std.proofs.Common.{◌≡◌, ◌∙◌, ◌+◌, ◌<◌, ◌≤◌, ◌∷◌, ℕ, List, Some, None, refl, sym, ap, subst, arith}
 use Rattle.std.specs.List.{list_all}
 use Rattle.vr_model.specs.moves.MoveTests.{is_move}
 use Rattle.vr_model.specs.search.Scans.{scan_from}
 use Rattle.vr_model.specs.deciding.Testing.{and_right}
+use Rattle.vr_model.specs.declared.records.Model.{Model}
+use Rattle.vr_known.specs.Passing.{Takes}
+use Rattle.vr_model.specs.tables.WellFormed.{IsWellFormed}
+use Rattle.vr_routes.specs.Judging.{HoldSame}
+use Rattle.vr_descent.specs.Refused.{AreRefused, IsPassed}
 use Rattle.vr_descent.specs.Scanned.{is_acceptable, scan_end}
 use Rattle.vr_descent.specs.declared.scanning.ScanEnd.TheVariants.{Accepted, Complete}
 use Rattle.vr_descent.proofs.ScanLemmas.{all_moves}
@@ -26,12 +31,12 @@ returns-then-place-rest-clause-ends g c =
     let takes = g.A.Accept.takes c.args.accept.now in
     let lists = c.args.routes.now.lists in
     let acceptable = is_acceptable model takes lists in
-    let t = c.in-Some.ensures in
-    let go = goes_on model takes lists c.args.rest c.args.known.now c.requires.known c.requires.tries c.loop-mv.list t.behind c.loop-mv.place c.step.new.passed (omega (arith, c.loop-mv.invariant.within, c.ranges.rest)) c.loop-mv.invariant.moves t.passes in
+    let t = subst (λ (m : Model). Takes (IsPassed m takes lists c.args.rest) c.loop-mv.list c.loop-mv.place (Some c.in-Some.mv) c.next_open.new.list c.next_open.new.place) c.requires.accept_model c.in-Some.ensures in
+    let go = goes_on model takes lists c.args.rest c.loop-mv.list t.behind c.loop-mv.place c.next_open.new.place (omega (arith, c.loop-mv.invariant.within, c.ranges.rest)) c.loop-mv.invariant.moves t.passes in
     let real = go.real in
     let most = capped_most go.at in
     let far : c.args.rest ≤ go.at = omega (arith, real, most, c.if-place-rest.true) in
-    ap (scan_end model lists) (sym (cut_from acceptable c.args.rest go.at c.in-Some.mv c.step.new.self far)
+    ap (scan_end model lists) (sym (cut_from acceptable c.args.rest go.at c.in-Some.mv c.next_open.new.list far)
     ∙ (ap (scan_from go.at acceptable c.args.rest) (sym t.first) ∙ (sym go.ends ∙ c.loop-mv.invariant.ends)))
 
 pub loop-mv-preserved : goal.loop-mv-preserved
@@ -40,12 +45,12 @@ loop-mv-preserved g c =
     let takes = g.A.Accept.takes c.args.accept.now in
     let lists = c.args.routes.now.lists in
     let acceptable = is_acceptable model takes lists in
-    let t = c.in-Some.ensures in
-    let go = goes_on model takes lists c.args.rest c.args.known.now c.requires.known c.requires.tries c.loop-mv.list t.behind c.loop-mv.place c.step.new.passed (omega (arith, c.loop-mv.invariant.within, c.ranges.rest)) c.loop-mv.invariant.moves t.passes in
+    let t = subst (λ (m : Model). Takes (IsPassed m takes lists c.args.rest) c.loop-mv.list c.loop-mv.place (Some c.in-Some.mv) c.next_open.new.list c.next_open.new.place) c.requires.accept_model c.in-Some.ensures in
+    let go = goes_on model takes lists c.args.rest c.loop-mv.list t.behind c.loop-mv.place c.next_open.new.place (omega (arith, c.loop-mv.invariant.within, c.ranges.rest)) c.loop-mv.invariant.moves t.passes in
     let real = go.real in
     let more = go.more in
     let under = c.if-place-rest.false in
-    let at : c.step.new.passed ≡ go.at = go.exact (omega (arith, under)) in
+    let at : c.next_open.new.place ≡ go.at = go.exact (omega (arith, under)) in
     let asked = c.try_move.ensures.asked in
     let before = c.loop-mv.invariant.asked in
     record {
@@ -53,8 +58,8 @@ loop-mv-preserved g c =
       committed = c.try_move.ensures.committed ∙ c.loop-mv.invariant.committed;
       asked = omega (arith, asked, before, more, at);
       within = omega (arith, under);
-      ends = sym (missed_at model takes lists c.args.rest c.step.new.passed c.in-Some.mv c.step.new.self (sym c.in_default-tried.is ∙ c.in_ok-tried.ensures.answer))
-          ∙ (ap (λ k. scan_from k acceptable c.args.rest (c.in-Some.mv ∷ c.step.new.self)) at ∙ (ap (scan_from go.at acceptable c.args.rest) (sym t.first) ∙ (sym go.ends ∙ c.loop-mv.invariant.ends)));
+      ends = sym (missed_at model takes lists c.args.rest c.next_open.new.place c.in-Some.mv c.next_open.new.list (sym c.in_default-tried.is ∙ c.in_ok-tried.ensures.answer))
+          ∙ (ap (λ k. scan_from k acceptable c.args.rest (c.in-Some.mv ∷ c.next_open.new.list)) at ∙ (ap (scan_from go.at acceptable c.args.rest) (sym t.first) ∙ (sym go.ends ∙ c.loop-mv.invariant.ends)));
       moves = and_right (is_move model lists c.in-Some.mv) _ (ap (list_all (is_move model lists)) (sym t.first) ∙ go.are_moves);
     }
 
@@ -64,15 +69,15 @@ returns-in-Some-tried-clause-ends g c =
     let takes = g.A.Accept.takes c.args.accept.now in
     let lists = c.args.routes.now.lists in
     let acceptable = is_acceptable model takes lists in
-    let t = c.in-Some.ensures in
-    let go = goes_on model takes lists c.args.rest c.args.known.now c.requires.known c.requires.tries c.loop-mv.list t.behind c.loop-mv.place c.step.new.passed (omega (arith, c.loop-mv.invariant.within, c.ranges.rest)) c.loop-mv.invariant.moves t.passes in
+    let t = subst (λ (m : Model). Takes (IsPassed m takes lists c.args.rest) c.loop-mv.list c.loop-mv.place (Some c.in-Some.mv) c.next_open.new.list c.next_open.new.place) c.requires.accept_model c.in-Some.ensures in
+    let go = goes_on model takes lists c.args.rest c.loop-mv.list t.behind c.loop-mv.place c.next_open.new.place (omega (arith, c.loop-mv.invariant.within, c.ranges.rest)) c.loop-mv.invariant.moves t.passes in
     let real = go.real in
     let under = c.if-place-rest.false in
-    let at : c.step.new.passed ≡ go.at = go.exact (omega (arith, under)) in
+    let at : c.next_open.new.place ≡ go.at = go.exact (omega (arith, under)) in
     let some = sym c.in-Some-tried.is ∙ c.in_ok-tried.ensures.answer in
-    ap (λ d. Accepted (c.step.new.passed + 1) c.in-Some.mv d) (read_difference model takes lists c.args.rest c.requires.well_formed c.requires.holds.valid c.in-Some.mv c.in-Some-tried.difference some)
-    ∙ sym (found_at model takes lists c.args.rest c.step.new.passed c.in-Some.mv c.step.new.self c.in-Some-tried.difference some under)
-    ∙ ap (scan_end model lists) (ap (λ k. scan_from k acceptable c.args.rest (c.in-Some.mv ∷ c.step.new.self)) at ∙ (ap (scan_from go.at acceptable c.args.rest) (sym t.first) ∙ (sym go.ends ∙ c.loop-mv.invariant.ends)))
+    ap (λ d. Accepted (c.next_open.new.place + 1) c.in-Some.mv d) (read_difference model takes lists c.args.rest c.requires.well_formed c.requires.holds.valid c.in-Some.mv c.in-Some-tried.difference some)
+    ∙ sym (found_at model takes lists c.args.rest c.next_open.new.place c.in-Some.mv c.next_open.new.list c.in-Some-tried.difference some under)
+    ∙ ap (scan_end model lists) (ap (λ k. scan_from k acceptable c.args.rest (c.in-Some.mv ∷ c.next_open.new.list)) at ∙ (ap (scan_from go.at acceptable c.args.rest) (sym t.first) ∙ (sym go.ends ∙ c.loop-mv.invariant.ends)))
 
 pub returns-then-place-rest-2-clause-ends : goal.returns-then-place-rest-2-clause-ends
 returns-then-place-rest-2-clause-ends g c =
@@ -80,8 +85,8 @@ returns-then-place-rest-2-clause-ends g c =
     let takes = g.A.Accept.takes c.args.accept.now in
     let lists = c.args.routes.now.lists in
     let acceptable = is_acceptable model takes lists in
-    let t = c.in_default.ensures in
-    let go = goes_on model takes lists c.args.rest c.args.known.now c.requires.known c.requires.tries c.loop-mv.list t.behind c.loop-mv.place c.step.new.passed (omega (arith, c.loop-mv.invariant.within, c.ranges.rest)) c.loop-mv.invariant.moves t.passes in
+    let t = subst (λ (m : Model). Takes (IsPassed m takes lists c.args.rest) c.loop-mv.list c.loop-mv.place None c.next_open.new.list c.next_open.new.place) c.requires.accept_model c.in_default.ensures in
+    let go = goes_on model takes lists c.args.rest c.loop-mv.list t.behind c.loop-mv.place c.next_open.new.place (omega (arith, c.loop-mv.invariant.within, c.ranges.rest)) c.loop-mv.invariant.moves t.passes in
     let real = go.real in
     let most = capped_most go.at in
     let far : c.args.rest < go.at = omega (arith, real, most, c.if-place-rest-2.true) in
@@ -94,11 +99,23 @@ returns-clause-ends g c =
     let takes = g.A.Accept.takes c.args.accept.now in
     let lists = c.args.routes.now.lists in
     let acceptable = is_acceptable model takes lists in
-    let t = c.in_default.ensures in
-    let go = goes_on model takes lists c.args.rest c.args.known.now c.requires.known c.requires.tries c.loop-mv.list t.behind c.loop-mv.place c.step.new.passed (omega (arith, c.loop-mv.invariant.within, c.ranges.rest)) c.loop-mv.invariant.moves t.passes in
+    let t = subst (λ (m : Model). Takes (IsPassed m takes lists c.args.rest) c.loop-mv.list c.loop-mv.place None c.next_open.new.list c.next_open.new.place) c.requires.accept_model c.in_default.ensures in
+    let go = goes_on model takes lists c.args.rest c.loop-mv.list t.behind c.loop-mv.place c.next_open.new.place (omega (arith, c.loop-mv.invariant.within, c.ranges.rest)) c.loop-mv.invariant.moves t.passes in
     let real = go.real in
     let under = c.if-place-rest-2.false in
-    let at : c.step.new.passed ≡ go.at = go.exact (omega (arith, under)) in
+    let at : c.next_open.new.place ≡ go.at = go.exact (omega (arith, under)) in
     let low : go.at ≤ c.args.rest = omega (arith, at, under) in
     ap (λ k. Complete k) at
     ∙ ap (scan_end model lists) (sym (ends_here acceptable c.args.rest go.at low) ∙ (ap (scan_from go.at acceptable c.args.rest) (sym t.first.0) ∙ (sym go.ends ∙ c.loop-mv.invariant.ends)))
+
+pub next_open-requires : goal.next_open-requires
+next_open-requires g c = record {
+  ready = record {
+    well_formed = subst IsWellFormed (sym c.requires.accept_model) c.requires.well_formed;
+    judge_model = c.loop-mv.invariant.model ∙ c.requires.judge_model ∙ sym c.requires.accept_model;
+    accept_stands = c.requires.accept_stands;
+    holds = subst (λ (m : Model). HoldSame m (g.J.Judge.committed c.loop-mv.judge) c.args.routes.now) (sym c.requires.accept_model)
+        (subst (λ (lists : List (List ℕ)). HoldSame c.args.model.now lists c.args.routes.now) (sym c.loop-mv.invariant.committed) c.requires.holds);
+    known = subst (λ (m : Model). AreRefused m (g.A.Accept.takes c.args.accept.now) c.args.routes.now.lists c.args.known.now) (sym c.requires.accept_model) c.requires.known;
+  };
+}

@@ -2,6 +2,7 @@ use Rattle.std.proofs.Common.{◌≡◌, ◌∙◌, ◌<◌, ℕ, List, ap, sym,
 use Rattle.std.proofs.lemmas.Int.{ints}
 use Rattle.std.specs.Prelude.{slice_range, All}
 use Rattle.vr_model.specs.routes.Routes.{route}
+use Rattle.vr_model.specs.declared.records.Model.{Model}
 use Rattle.vr_routes.specs.Pieces.{joined}
 use Rattle.vr_arccosts.specs.Along.{between_cost, StandsAlong}
 use Rattle.vr_arccosts.proofs.LineLemmas.{along-at}
@@ -21,7 +22,7 @@ stop_at-requires-clause-nodes c =
 
 pub cost_between-after-requires-clause-nodes : goal.cost_between-after-requires-clause-nodes
 cost_between-after-requires-clause-nodes c =
-    subst (λ m. All (λ node. node < m.nodes) (joined c.args.routes.now.lists c.args.pieces.now)) (ap (λ s. s.model) (sym c.self.view_is)) c.requires.nodes
+    subst (λ (m : Model). All (λ node. node < m.nodes) (joined c.args.routes.now.lists c.args.pieces.now)) (sym c.costs_of-costs.ensures.model) c.requires.nodes
 
 pub returns-clause-value : goal.returns-clause-value
 returns-clause-value c =
@@ -38,7 +39,9 @@ returns-clause-value c =
     let kept = along-at c.self.inside.model.now lists c.self.inside.along.items v c.index.result.now s.along (omega (arith, many, as_many)) c.requires.vehicle c.index.ensures in
     let a = c.cost_between-after.ensures in
     let b = c.stretch-before.ensures in
-    let after = a.value ∙ ap (λ m. between_cost m v list front behind middle) model in
+    let costs = c.costs_of-costs.ensures in
+    let u = c.costs_of-costs.result.vehicle in
+    let after = a.value ∙ (ap (λ (m : Model). between_cost m u (route lists u) front behind middle) costs.model ∙ ap (λ u. between_cost c.args.self.now.model u (route lists u) front behind middle) costs.vehicle) in
     let before = b.value c.self.inside.model.now v list kept ∙ ap (λ m. between_cost m v list front behind (slice_range list front behind)) model in
     let change = cost-between c.args.self.now.model v list middle front behind c.requires.order c.requires.place in
     omega (arith, ints, a.range.low, a.range.high, b.range.at_least, b.range.at_most, after, before, change)

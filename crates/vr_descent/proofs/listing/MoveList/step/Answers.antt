@@ -6,33 +6,33 @@ use Rattle.vr_descent.proofs.ListingLemmas.{none_left, taken_in_hand}
 use Rattle.vr_descent.proofs.listing.MoveList.step.Goals as goal
 
 pub loop-mv-init : goal.loop-mv-init
-loop-mv-init c = record { well_formed = c.self.invariant.0; of_model = c.self.invariant.1; passes = passes_none c.args.known.now _ _ c.type_inv._count.fits }
+loop-mv-init g c = record { well_formed = c.self.invariant.0; of_model = c.self.invariant.1; passes = passes_none (g.S.Sieve.covers c.args.sieve.now) _ _ c.type_inv._count.fits }
 
 pub loop-mv-preserved : goal.loop-mv-preserved
-loop-mv-preserved c =
+loop-mv-preserved g c =
     let now = c.loop-mv.self-inside in
     record {
       well_formed = c.loop-mv.invariant.well_formed;
       of_model = c.loop-mv.invariant.of_model;
-      passes = passes_more c.args.known.now _ _ _ _ _ _ c.loop-mv.invariant.passes
-          (passes_as c.args.known.now _ _ _ _ _
+      passes = passes_more (g.S.Sieve.covers c.args.sieve.now) _ _ _ _ _ _ c.loop-mv.invariant.passes
+          (passes_as (g.S.Sieve.covers c.args.sieve.now) _ _ _ _ _
           (taken_in_hand now.model.now now.routes.now.lists [] _ c.in-Some-split_first.first.now now.behind.now c.in-Some-split_first.others.now refl c.in-Some-split_first.ensures.cases.0 c.open_in.ensures)
-          (passes_in_front c.args.known.now _ _ (moves_over now.model.now now.behind.now now.routes.now.lists) _ _ (passes_to_end c.args.known.now _ _ _ _ c.in_default.ensures)));
+          (passes_in_front (g.S.Sieve.covers c.args.sieve.now) _ _ (moves_over now.model.now now.behind.now now.routes.now.lists) _ _ (passes_to_end (g.S.Sieve.covers c.args.sieve.now) _ _ _ _ c.in_default.ensures)));
     }
 
 pub returns-in-Some : goal.returns-in-Some
-returns-in-Some c =
+returns-in-Some g c =
     let now = c.loop-mv.self-inside in
-    takes_some c.args.known.now _ _ _ _ _ _ _ (passes_from c.args.known.now _ _ _ _ _ c.self.view_is c.loop-mv.invariant.passes)
-    (takes_in_front c.args.known.now _ _ (moves_over now.model.now now.behind.now now.routes.now.lists) _ _ _ c.in-Some.ensures)
+    takes_some (g.S.Sieve.covers c.args.sieve.now) _ _ _ _ _ _ _ (passes_from (g.S.Sieve.covers c.args.sieve.now) _ _ _ _ _ c.self.view_is c.loop-mv.invariant.passes)
+    (takes_in_front (g.S.Sieve.covers c.args.sieve.now) _ _ (moves_over now.model.now now.behind.now now.routes.now.lists) _ _ _ c.in-Some.ensures)
 
 pub returns-in-None : goal.returns-in-None
-returns-in-None c =
+returns-in-None g c =
     let now = c.loop-mv.self-inside in
     let none = c.in-None.ensures.cases in
-    subst (λ l. Takes c.args.known.now c.args.self.now c.args.passed.now None l c.step_in.new.passed)
+    subst (λ l. Takes (g.S.Sieve.covers c.args.sieve.now) c.args.self.now c.args.passed.now None l c.step_in.new.passed)
     (sym (none_left now.model.now now.routes.now.lists _ now.behind.now c.in_default.ensures.first.1 none))
-    (takes_none c.args.known.now _ _ _ (passes_from c.args.known.now _ _ _ _ _ c.self.view_is
-    (passes_more c.args.known.now _ _ _ _ _ _ c.loop-mv.invariant.passes
-    (passes_as c.args.known.now _ _ _ _ _ (none_left now.model.now now.routes.now.lists [] now.behind.now refl none)
-    (passes_in_front c.args.known.now _ _ (moves_over now.model.now now.behind.now now.routes.now.lists) _ _ (passes_to_end c.args.known.now _ _ _ _ c.in_default.ensures))))))
+    (takes_none (g.S.Sieve.covers c.args.sieve.now) _ _ _ (passes_from (g.S.Sieve.covers c.args.sieve.now) _ _ _ _ _ c.self.view_is
+    (passes_more (g.S.Sieve.covers c.args.sieve.now) _ _ _ _ _ _ c.loop-mv.invariant.passes
+    (passes_as (g.S.Sieve.covers c.args.sieve.now) _ _ _ _ _ (none_left now.model.now now.routes.now.lists [] now.behind.now refl none)
+    (passes_in_front (g.S.Sieve.covers c.args.sieve.now) _ _ (moves_over now.model.now now.behind.now now.routes.now.lists) _ _ (passes_to_end (g.S.Sieve.covers c.args.sieve.now) _ _ _ _ c.in_default.ensures))))))

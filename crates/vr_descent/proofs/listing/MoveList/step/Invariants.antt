@@ -8,12 +8,12 @@ use Rattle.vr_descent.proofs.listing.MoveList.step.Given as goal
 
 -- some known moves were passed
 abbrev pub invariant-loop-mv : goal.invariant-loop-mv
-invariant-loop-mv l = record {
+invariant-loop-mv g l = record {
   well_formed : IsWellFormed l.self-inside.model.now;
   of_model : l.self-inside.routes.now.visits ≡ visits l.self-inside.model.now;
-  passes : Passes l.known (left_of l.initial.self-inside.current ++ moves_over l.initial.self-inside.model.now l.initial.self-inside.behind.now l.initial.self-inside.routes.now.lists) l.initial.passed
+  passes : Passes (g.S.Sieve.covers l.sieve) (left_of l.initial.self-inside.current ++ moves_over l.initial.self-inside.model.now l.initial.self-inside.behind.now l.initial.self-inside.routes.now.lists) l.initial.passed
       (left_of l.self-inside.current ++ moves_over l.self-inside.model.now l.self-inside.behind.now l.self-inside.routes.now.lists) l.passed;
 }
 
 abbrev pub decreases-loop-mv : goal.decreases-loop-mv
-decreases-loop-mv l = length l.self-inside.behind.now
+decreases-loop-mv g l = length l.self-inside.behind.now

@@ -1,0 +1,28 @@
+use Rattle.std.proofs.Common.{◌≡◌, ◌∙◌, ℕ, List, take, ap, arith}
+use Rattle.std.proofs.lemmas.Int.{ints}
+use Rattle.std.proofs.lemmas.Slice.{between_from_start}
+use Rattle.std.specs.Prelude.{slice_index_or}
+use Rattle.vr_model.specs.tables.Tables.{arc_cost, vehicle_at}
+use Rattle.vr_model.specs.declared.records.Model.{Model}
+use Rattle.vr_arccosts.specs.Chains.{chain_sum}
+use Rattle.vr_arccosts.proofs.CrossLemmas.{front-cost}
+use Rattle.vr_arccosts.proofs.gaps.front_added.Goals as goal
+
+pub returns-clause-value : goal.returns-clause-value
+returns-clause-value c =
+    let line = c.requires.line in
+    let model : Model = c.args.line.now.costs.model.now in
+    let v = c.args.line.now.costs.vehicle in
+    let w = c.args.other.now.costs.vehicle in
+    let list : List ℕ = c.args.line.now.list.now in
+    let x = slice_index_or list 0 0 in
+    let start = (vehicle_at model w).start in
+    let same-start : c.node_before.result ≡ start = c.node_before.ensures.value ∙ ap (λ (m : Model). (vehicle_at m w).start) c.requires.same in
+    let to = c.cost-to.ensures in
+    let chain = c.chain-chain.ensures in
+    let old = c.stretch-old.ensures in
+    let to-is : c.cost-to.result ≡ arc_cost model w start x = to.value ∙ (ap (λ (m : Model). arc_cost m w c.node_before.result x) c.requires.same ∙ ap (λ n. arc_cost model w n x) same-start) in
+    let chain-is : c.chain-chain.result ≡ chain_sum (arc_cost model v) (take c.args.a list) = chain.value model v list line.sums c.requires.place ∙ ap (chain_sum (arc_cost model v)) (between_from_start list c.args.a) in
+    let old-is = old.value model v list line.sums in
+    let front = front-cost model v w c.requires.costs start list c.args.a c.requires.front c.requires.place in
+    omega (arith, ints, to-is, chain-is, old-is, front, to.not_negative, to.bound, chain.range.at_least, chain.range.at_most, old.range.at_least, old.range.at_most)

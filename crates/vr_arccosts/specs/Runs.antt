@@ -1,0 +1,74 @@
+-- What the moves of a run add to arc costs, and which of them add no less than a bound.
+use Rattle.std.specs.Prelude.{ℕ, ◌+◌, ◌<◌, ◌≤◌, true, List, [], take, drop, length, slice_index_or, slice_range}
+use Rattle.std.specs.Prelude.{All, IsTrue, ℤ, ◌+ℤ◌, ◌-ℤ◌, ◌≤ℤ◌}
+use Rattle.vr_model.specs.tables.Tables.{arc_cost, vehicle_at}
+use Rattle.vr_model.specs.tables.WellFormed.{IsWellFormed}
+use Rattle.vr_model.specs.moves.MoveTests.{is_move}
+use Rattle.vr_model.specs.declared.records.Model.{Model}
+use Rattle.vr_model.specs.declared.neighbours.Move.{Move}
+use Rattle.vr_sums.specs.Sums.{last_of, path_sum}
+use Rattle.vr_arccosts.specs.Along.{between_cost, IsAlong}
+use Rattle.vr_arccosts.specs.ArcMoves.{arcs_added}
+use Rattle.vr_arccosts.specs.Chains.{chain_of, chain_sum, first_of}
+use Rattle.vr_arccosts.specs.declared.lines.Along.{Along}
+
+-- if a move is one of the lists, it adds no less than a bound
+abbrev pub AddsNoLess : Model → List (List ℕ) → Move → ℤ → Type 0
+AddsNoLess model lists mv bound = IsTrue (is_move model lists mv) → bound ≤ℤ arcs_added model lists mv
+
+-- a list of vehicle v of a well-formed model, and the sums along its line
+pub record IsLine (model : Model) (v : ℕ) (list : List ℕ) (along : Along) : Type 0 where
+  pub well_formed : IsWellFormed model
+  pub vehicle : v < length model.vehicles
+  pub nodes : All (λ node. node < model.nodes) list
+  pub few : length list ≤ 1000
+  pub sums : IsAlong model v list along
+
+-- the node of the stop before a place of the list of vehicle v, and that of the stop at it
+abbrev pub before_place : Model → ℕ → List ℕ → ℕ → ℕ
+before_place model v list place = last_of (vehicle_at model v).start (take place list)
+
+abbrev pub at_place : Model → ℕ → List ℕ → ℕ → ℕ
+at_place model v list place = first_of (drop place list) (vehicle_at model v).end
+
+-- what the arcs of vehicle v cost more where places a to b of its list are reversed
+abbrev pub turn_added : Model → ℕ → List ℕ → ℕ → ℕ → ℤ
+turn_added model v list a b =
+    (arc_cost model v (before_place model v list a) (slice_index_or list b 0)
+    +ℤ chain_sum (arc_cost model v) (chain_of true list a (b + 1))
+    +ℤ arc_cost model v (slice_index_or list a 0) (at_place model v list (b + 1)))
+    -ℤ between_cost model v list a (b + 1) (slice_range list a (b + 1))
+
+-- what the arcs from the stop before a place of the list of vehicle v to the first node of a chain, and from its last
+-- node to the stop at that place, cost more than what stands between these stops
+abbrev pub gap_added : Model → ℕ → List ℕ → ℕ → ℕ → ℕ → ℤ
+gap_added model v list first last place =
+    (arc_cost model v (before_place model v list place) first +ℤ arc_cost model v last (at_place model v list place))
+    -ℤ between_cost model v list place place (slice_range list place place)
+
+-- what the k nodes from a place on of the list of vehicle v add where they leave it, without the arcs between them
+abbrev pub left_added : Model → ℕ → List ℕ → ℕ → ℕ → ℤ
+left_added model v list a k =
+    (between_cost model v list a (a + k) [] -ℤ between_cost model v list a (a + k) (slice_range list a (a + k)))
+    +ℤ chain_sum (arc_cost model v) (slice_range list a (a + k))
+
+-- what the arcs of vehicle v cost more where another node stands at a place of its list
+abbrev pub swap_added : Model → ℕ → List ℕ → ℕ → ℕ → ℤ
+swap_added model v list place node =
+    (arc_cost model v (before_place model v list place) node
+    +ℤ arc_cost model v node (at_place model v list (place + 1)))
+    -ℤ between_cost model v list place (place + 1) (slice_range list place (place + 1))
+
+-- what the front of the list of vehicle v, up to place a, costs vehicle w, up to the last node, less what the arcs cost
+-- there are now
+abbrev pub front_added : Model → ℕ → List ℕ → ℕ → ℕ → ℤ
+front_added model v list w a = path_sum (arc_cost model w) (vehicle_at model w).start (take a list)
+    -ℤ between_cost model v list 0 a (slice_range list 0 a)
+
+-- what the move that lets the front of the list of vehicle v, up to place a, change vehicles with one of vehicle w adds
+-- beside what it adds in the gap behind the latter, where both vehicles have the same costs
+abbrev pub cross_base : Model → ℕ → List ℕ → ℕ → List ℕ → ℕ → ℤ
+cross_base model v list w other a =
+    (arc_cost model v (vehicle_at model v).start (slice_index_or other 0 0)
+    -ℤ arc_cost model w (vehicle_at model w).start (slice_index_or other 0 0))
+    +ℤ front_added model v list w a

@@ -1,0 +1,293 @@
+//! Places of a list at which its arcs cost less than a bound more: of parts that are reversed, by their last place, and
+//! of gaps into which a chain is put. Each search is one loop along the list.
+
+ghost use Rattle.std.specs.Prelude.{◌≡◌, ℕ, ◌+◌, ◌<◌, ◌≤◌, ◌+ℤ◌, ◌≤ℤ◌, length, slice_index, All};
+ghost use Rattle.vr_model.specs.tables.Tables.{arc_cost};
+ghost use Rattle.vr_model.specs.tables.WellFormed.{IsWellFormed};
+ghost use Rattle.vr_parts.specs.Bounds.{IsAddedByChange, IsAddedByList};
+ghost use Rattle.vr_arccosts.specs.Runs.{at_place, before_place, cross_base, front_added, gap_added};
+ghost use Rattle.vr_arccosts.specs.Runs.{swap_added, turn_added, IsLine};
+
+use crate::costs::ArcCosts;
+use crate::lines::Along;
+
+/// The numbers of a run that are asked: those from `from` on, below `end`, of which the first is wanted whose move may
+/// add less than `bound`.
+#[derive(Clone, Copy)]
+pub struct Asked {
+    pub from: u32,
+    pub end: u32,
+    pub bound: i64,
+}
+
+/// The line of a vehicle with its list: what its arcs cost, and the sums along it.
+#[derive(Drop)]
+pub struct Line<'a, 'm> {
+    pub costs: ArcCosts<'m>,
+    pub along: &'a Along,
+    pub list: &'a [u32],
+}
+
+/// The first and the last node of a chain.
+#[derive(Clone, Copy)]
+pub struct Ends {
+    pub first: u32,
+    pub last: u32,
+}
+
+/// The first last place of a reversed part, which begins at place `a`, with which the arcs cost less than the bound
+/// more; `end` where there is none.
+#[inline(always)]
+pub fn first_turn(line: &Line, a: u32, asked: Asked) -> u32
+    requires line { IsLine line.now.costs.model.now line.now.costs.vehicle line.now.list.now line.now.along.now }
+    requires order { a < asked.from }
+    requires asked { asked.from ≤ asked.end }
+    requires places { asked.end ≤ length line.now.list.now }
+    ensures from { asked.from ≤ result }
+    ensures within { result ≤ asked.end }
+    ensures no_less { (b : ℕ) → asked.from ≤ b → b < result
+        → asked.bound ≤ℤ turn_added line.now.costs.model.now line.now.costs.vehicle line.now.list.now a b }
+{
+    for b in asked.from..asked.end {
+        if turned(line, a, b) < asked.bound {
+            return b;
+        }
+    }
+    asked.end
+}
+
+// How much more the arcs cost where places `a` to `b` are reversed.
+#[inline(always)]
+fn turned(line: &Line, a: u32, b: u32) -> i64
+    requires line { IsLine line.now.costs.model.now line.now.costs.vehicle line.now.list.now line.now.along.now }
+    requires order { a < b }
+    requires place { b < length line.now.list.now }
+    ensures value { result ≡ turn_added line.now.costs.model.now line.now.costs.vehicle line.now.list.now a b }
+    ensures range { IsAddedByList result }
+{
+    let ahead = line.costs.cost(node_before(line, a), line.list[b as usize]);
+    let behind = line.costs.cost(line.list[a as usize], node_at(line, b + 1));
+    let inner = line.along.chain(true, a, b + 1);
+    let old = line.along.stretch(line.list.len() as u32, a, b + 1);
+    ahead + inner + behind - old
+}
+
+/// The first place before which a chain can be put so that, with what else the move adds, the arcs cost less than the
+/// bound more; `end` where there is none.
+#[inline(never)]
+pub fn first_gap(line: &Line, ends: Ends, base: i64, asked: Asked) -> u32
+    requires line { IsLine line.now.costs.model.now line.now.costs.vehicle line.now.list.now line.now.along.now }
+    requires first { ends.first < line.now.costs.model.now.nodes }
+    requires last { ends.last < line.now.costs.model.now.nodes }
+    requires base { IsAddedByChange base }
+    requires asked { asked.from ≤ asked.end }
+    requires places { asked.end ≤ length line.now.list.now + 1 }
+    ensures from { asked.from ≤ result }
+    ensures within { result ≤ asked.end }
+    ensures no_less { (t : ℕ) → asked.from ≤ t → t < result → asked.bound
+        ≤ℤ (base +ℤ gap_added line.now.costs.model.now line.now.costs.vehicle line.now.list.now
+        ends.first ends.last t) }
+{
+    for t in asked.from..asked.end {
+        if base + put(line, ends, t) < asked.bound {
+            return t;
+        }
+    }
+    asked.end
+}
+
+/// The first place in front of place `a`, as [`first_gap`], where the first number is not behind it: `a` at most.
+#[inline(always)]
+pub fn first_in_front(line: &Line, ends: Ends, base: i64, a: u32, asked: Asked) -> u32
+    requires line { IsLine line.now.costs.model.now line.now.costs.vehicle line.now.list.now line.now.along.now }
+    requires first { ends.first < line.now.costs.model.now.nodes }
+    requires last { ends.last < line.now.costs.model.now.nodes }
+    requires base { IsAddedByChange base }
+    requires asked { asked.from ≤ asked.end }
+    requires order { asked.from ≤ a }
+    requires place { a ≤ length line.now.list.now }
+    ensures from { asked.from ≤ result }
+    ensures within { result ≤ asked.end }
+    ensures no_less { (t : ℕ) → asked.from ≤ t → t < result → asked.bound
+        ≤ℤ (base +ℤ gap_added line.now.costs.model.now line.now.costs.vehicle line.now.list.now
+        ends.first ends.last t) }
+{
+    if asked.end <= a {
+        return first_gap(line, ends, base, asked);
+    }
+    let front = Asked {
+        from: asked.from,
+        end: a,
+        bound: asked.bound,
+    };
+    first_gap(line, ends, base, front)
+}
+
+/// The first number from another first one on, as [`first_gap`], where each number stands for the place that is `k`
+/// places behind it.
+#[inline(always)]
+pub fn first_behind(line: &Line, ends: Ends, base: i64, k: u32, from: u32, asked: Asked) -> u32
+    requires line { IsLine line.now.costs.model.now line.now.costs.vehicle line.now.list.now line.now.along.now }
+    requires first { ends.first < line.now.costs.model.now.nodes }
+    requires last { ends.last < line.now.costs.model.now.nodes }
+    requires base { IsAddedByChange base }
+    requires asked { from ≤ asked.end }
+    requires places { asked.end + k ≤ length line.now.list.now + 1 }
+    ensures from { from ≤ result }
+    ensures within { result ≤ asked.end }
+    ensures no_less { (t : ℕ) → from ≤ t → t < result → asked.bound
+        ≤ℤ (base +ℤ gap_added line.now.costs.model.now line.now.costs.vehicle line.now.list.now
+        ends.first ends.last (t + k)) }
+{
+    let behind = Asked {
+        from: from + k,
+        end: asked.end + k,
+        bound: asked.bound,
+    };
+    first_gap(line, ends, base, behind) - k
+}
+
+// How much more the arcs to and from a chain cost than what stands between the stops beside a place.
+#[inline(always)]
+fn put(line: &Line, ends: Ends, t: u32) -> i64
+    requires line { IsLine line.now.costs.model.now line.now.costs.vehicle line.now.list.now line.now.along.now }
+    requires first { ends.first < line.now.costs.model.now.nodes }
+    requires last { ends.last < line.now.costs.model.now.nodes }
+    requires place { t ≤ length line.now.list.now }
+    ensures value { result ≡ gap_added line.now.costs.model.now line.now.costs.vehicle line.now.list.now
+        ends.first ends.last t }
+    ensures range { IsAddedByList result }
+{
+    let to = line.costs.cost(node_before(line, t), ends.first);
+    let on = line.costs.cost(ends.last, node_at(line, t));
+    let old = line.along.stretch(line.list.len() as u32, t, t);
+    to + on - old
+}
+
+/// The first place of another list at which the arcs of both cost less than the bound more where its node and that at
+/// place `a` of this one stand in each other's place; `end` where there is none.
+#[inline(never)]
+pub fn first_swap(line: &Line, a: u32, other: &Line, asked: Asked) -> u32
+    requires line { IsLine line.now.costs.model.now line.now.costs.vehicle line.now.list.now line.now.along.now }
+    requires other { IsLine other.now.costs.model.now other.now.costs.vehicle other.now.list.now other.now.along.now }
+    requires same { other.now.costs.model.now ≡ line.now.costs.model.now }
+    requires place { a < length line.now.list.now }
+    requires asked { asked.from ≤ asked.end }
+    requires places { asked.end ≤ length other.now.list.now }
+    ensures from { asked.from ≤ result }
+    ensures within { result ≤ asked.end }
+    ensures no_less { (b : ℕ) → asked.from ≤ b → b < result → asked.bound
+        ≤ℤ (swap_added line.now.costs.model.now line.now.costs.vehicle line.now.list.now a
+        (slice_index other.now.list.now b)
+        +ℤ swap_added line.now.costs.model.now other.now.costs.vehicle other.now.list.now b
+        (slice_index line.now.list.now a)) }
+{
+    let node = line.list[a as usize];
+    for b in asked.from..asked.end {
+        if swapped(line, a, other.list[b as usize]) + swapped(other, b, node) < asked.bound {
+            return b;
+        }
+    }
+    asked.end
+}
+
+// How much more the arcs cost where another node stands at a place.
+#[inline(always)]
+fn swapped(line: &Line, place: u32, node: u32) -> i64
+    requires line { IsLine line.now.costs.model.now line.now.costs.vehicle line.now.list.now line.now.along.now }
+    requires node { node < line.now.costs.model.now.nodes }
+    requires place { place < length line.now.list.now }
+    ensures value { result
+        ≡ swap_added line.now.costs.model.now line.now.costs.vehicle line.now.list.now place node }
+    ensures range { IsAddedByList result }
+{
+    let to = line.costs.cost(node_before(line, place), node);
+    let on = line.costs.cost(node, node_at(line, place + 1));
+    let old = line.along.stretch(line.list.len() as u32, place, place + 1);
+    to + on - old
+}
+
+/// What the front of a list, up to place `a`, adds where it changes vehicles with one of another list, beside what the
+/// arcs in the gap behind the latter add. Both vehicles have the same costs.
+#[inline(always)]
+pub fn cross_base(line: &Line, a: u32, other: &Line) -> i64
+    requires line { IsLine line.now.costs.model.now line.now.costs.vehicle line.now.list.now line.now.along.now }
+    requires other { IsLine other.now.costs.model.now other.now.costs.vehicle other.now.list.now other.now.along.now }
+    requires same { other.now.costs.model.now ≡ line.now.costs.model.now }
+    requires costs { (i j : ℕ) → arc_cost line.now.costs.model.now other.now.costs.vehicle i j
+        ≡ arc_cost line.now.costs.model.now line.now.costs.vehicle i j }
+    requires front { 1 ≤ a }
+    requires place { a ≤ length line.now.list.now }
+    requires some { 0 < length other.now.list.now }
+    ensures value { result ≡ cross_base line.now.costs.model.now line.now.costs.vehicle line.now.list.now
+        other.now.costs.vehicle other.now.list.now a }
+    ensures range { IsAddedByChange result }
+{
+    let first = other.list[0];
+    let from = line.costs.cost(node_before(line, 0), first);
+    let left = other.costs.cost(node_before(other, 0), first);
+    let front = front_added(line, a, other);
+    from - left + front
+}
+
+// What the front of a list, up to place `a`, costs another vehicle up to its last node, less what the arcs cost there.
+#[inline(always)]
+fn front_added(line: &Line, a: u32, other: &Line) -> i64
+    requires line { IsLine line.now.costs.model.now line.now.costs.vehicle line.now.list.now line.now.along.now }
+    requires other { IsLine other.now.costs.model.now other.now.costs.vehicle other.now.list.now other.now.along.now }
+    requires same { other.now.costs.model.now ≡ line.now.costs.model.now }
+    requires costs { (i j : ℕ) → arc_cost line.now.costs.model.now other.now.costs.vehicle i j
+        ≡ arc_cost line.now.costs.model.now line.now.costs.vehicle i j }
+    requires front { 1 ≤ a }
+    requires place { a ≤ length line.now.list.now }
+    ensures value { result ≡ front_added line.now.costs.model.now line.now.costs.vehicle line.now.list.now
+        other.now.costs.vehicle a }
+    ensures range { IsAddedByList result }
+{
+    let to = other.costs.cost(node_before(other, 0), line.list[0]);
+    let chain = line.along.chain(false, 0, a);
+    let old = line.along.stretch(line.list.len() as u32, 0, a);
+    to + chain - old
+}
+
+// The node of the stop before a place of the list of a vehicle.
+#[inline(always)]
+fn node_before(line: &Line, place: u32) -> u32
+    requires well_formed { IsWellFormed line.now.costs.model.now }
+    requires vehicle { line.now.costs.vehicle < length line.now.costs.model.now.vehicles }
+    requires nodes { All (λ node. node < line.now.costs.model.now.nodes) line.now.list.now }
+    requires place { place ≤ length line.now.list.now }
+    ensures value { result ≡ before_place line.now.costs.model.now line.now.costs.vehicle line.now.list.now place }
+    ensures known { result < line.now.costs.model.now.nodes }
+{
+    if place == 0 {
+        return line
+            .costs
+            .model
+            .vehicles
+            .get(line.costs.vehicle as usize)
+            .start;
+    }
+    line.list[(place - 1) as usize]
+}
+
+/// The node of the stop at a place of the list of a vehicle.
+#[inline(always)]
+pub fn node_at(line: &Line, place: u32) -> u32
+    requires well_formed { IsWellFormed line.now.costs.model.now }
+    requires vehicle { line.now.costs.vehicle < length line.now.costs.model.now.vehicles }
+    requires nodes { All (λ node. node < line.now.costs.model.now.nodes) line.now.list.now }
+    requires place { place ≤ length line.now.list.now }
+    ensures value { result ≡ at_place line.now.costs.model.now line.now.costs.vehicle line.now.list.now place }
+    ensures known { result < line.now.costs.model.now.nodes }
+{
+    if place as usize == line.list.len() {
+        return line
+            .costs
+            .model
+            .vehicles
+            .get(line.costs.vehicle as usize)
+            .end;
+    }
+    line.list[place as usize]
+}

@@ -1,0 +1,190 @@
+//! Runs of moves: the first of them that may add less than a bound to arc costs.
+
+ghost use Rattle.std.specs.Prelude.{◌≡◌, ℕ, ◌+◌, ◌<◌, ◌≤◌, ◌≤ℤ◌, IsTrue, length};
+ghost use Rattle.vr_model.specs.routes.Routes.{route};
+ghost use Rattle.vr_model.specs.declared.neighbours.Move.TheVariants.{Cross, Exchange, OrOpt, Relocate, TwoOpt};
+ghost use Rattle.vr_routes.specs.Runs.{with_last};
+ghost use Rattle.vr_arccosts.specs.Along.{StandsAlong};
+ghost use Rattle.vr_parts.specs.Bounds.{IsAddedByChange};
+ghost use Rattle.vr_arccosts.specs.Runs.{AddsNoLess, left_added};
+
+use crate::ArcCost;
+use crate::gaps::{
+    Asked, Ends, cross_base, first_behind, first_gap, first_in_front, first_swap, first_turn,
+    node_at,
+};
+use vr_model::Move;
+use vr_routes::Routes;
+
+impl<'m> ArcCost<'m> {
+    /// Goes over a run of moves of the committed lists, which differ in their last number: those of the numbers from
+    /// `from` on, below `end`. Says from which number on some may add less than a bound, also where the lists after it
+    /// are not valid: each move in front of it adds no less. The numbers of `mv`, of which the last is any, need not be
+    /// those of a move; of a run that it does not go over it says `from`.
+    #[inline(always)]
+    pub fn first_below(&self, routes: &Routes, mv: Move, from: u32, end: u32, bound: i64) -> u32
+        requires stands { StandsAlong self.now routes.now }
+        requires order { from ≤ end }
+        ensures from { from ≤ result }
+        ensures within { result ≤ end }
+        ensures no_less { (k : ℕ) → from ≤ k → k < result
+            → AddsNoLess self.now.model routes.now.lists (with_last mv k) bound }
+    {
+        let asked = Asked { from, end, bound };
+        match mv {
+            Move::TwoOpt { v, a, .. } => self.first_turned(routes, v, a, asked),
+            Move::OrOpt { v, a, k, .. } => self.first_shifted(routes, v, a, k, asked),
+            Move::Relocate { v, a, w, .. } => self.first_relocated(routes, v, a, w, asked),
+            Move::Exchange { v, a, w, .. } => self.first_exchanged(routes, v, a, w, asked),
+            Move::Cross { v, a, w, .. } => self.first_crossed(routes, v, a, w, asked),
+            _ => from,
+        }
+    }
+
+    // The run of a part that is reversed, by its last place.
+    #[inline(never)]
+    fn first_turned(&self, routes: &Routes, v: u32, a: u32, asked: Asked) -> u32
+        requires stands { StandsAlong self.now routes.now }
+        requires order { asked.from ≤ asked.end }
+        ensures from { asked.from ≤ result }
+        ensures within { result ≤ asked.end }
+        ensures no_less { (k : ℕ) → asked.from ≤ k → k < result
+            → AddsNoLess self.now.model routes.now.lists (TwoOpt v a k) asked.bound }
+    {
+        if v >= routes.vehicles() || asked.from <= a || asked.end > routes.len(v) {
+            return asked.from;
+        }
+        let line = self.line_of(routes, v);
+        first_turn(&line, a, asked)
+    }
+
+    // The run of a chain that is put elsewhere in its list, by the place there: in front of its own, and behind it.
+    #[inline(never)]
+    fn first_shifted(&self, routes: &Routes, v: u32, a: u32, k: u32, asked: Asked) -> u32
+        requires stands { StandsAlong self.now routes.now }
+        requires order { asked.from ≤ asked.end }
+        ensures from { asked.from ≤ result }
+        ensures within { result ≤ asked.end }
+        ensures no_less { (t : ℕ) → asked.from ≤ t → t < result
+            → AddsNoLess self.now.model routes.now.lists (OrOpt v a k t) asked.bound }
+    {
+        if v >= routes.vehicles() {
+            return asked.from;
+        }
+        let n = routes.len(v);
+        if k == 0 || k > n || a > n - k || asked.end > n - k + 1 {
+            return asked.from;
+        }
+        let ends = Ends {
+            first: routes.node_at(v, a),
+            last: routes.node_at(v, a + k - 1),
+        };
+        let line = self.line_of(routes, v);
+        let left = self.left_added(routes, v, a, k);
+        if asked.from > a {
+            return first_behind(&line, ends, left, k, asked.from, asked);
+        }
+        let t = first_in_front(&line, ends, left, a, asked);
+        if t < a {
+            return t;
+        }
+        if asked.end <= a + 1 {
+            return asked.end;
+        }
+        first_behind(&line, ends, left, k, a + 1, asked)
+    }
+
+    // What a chain adds where it leaves its place, without the arcs along it.
+    #[inline(always)]
+    fn left_added(&self, routes: &Routes, v: u32, a: u32, k: u32) -> i64
+        requires stands { StandsAlong self.now routes.now }
+        requires vehicle { v < length routes.now.lists }
+        requires some { 1 ≤ k }
+        requires place { a + k ≤ length (route routes.now.lists v) }
+        ensures value { result ≡ left_added self.now.model v (route routes.now.lists v) a k }
+        ensures range { IsAddedByChange result }
+    {
+        let line = self.line_of(routes, v);
+        let without = self.between_adds(routes, v, a, a + k, &[]);
+        let chain = line.along.chain(false, a, a + k);
+        without + chain
+    }
+
+    // The run of a visit that is put into the list of another vehicle, by the place there.
+    #[inline(never)]
+    fn first_relocated(&self, routes: &Routes, v: u32, a: u32, w: u32, asked: Asked) -> u32
+        requires stands { StandsAlong self.now routes.now }
+        requires order { asked.from ≤ asked.end }
+        ensures from { asked.from ≤ result }
+        ensures within { result ≤ asked.end }
+        ensures no_less { (k : ℕ) → asked.from ≤ k → k < result
+            → AddsNoLess self.now.model routes.now.lists (Relocate v a w k) asked.bound }
+    {
+        let vehicles = routes.vehicles();
+        if v >= vehicles || w >= vehicles || a >= routes.len(v) || asked.end > routes.len(w) + 1 {
+            return asked.from;
+        }
+        let node = routes.node_at(v, a);
+        let base = self.between_adds(routes, v, a, a + 1, &[]);
+        let line = self.line_of(routes, w);
+        let ends = Ends {
+            first: node,
+            last: node,
+        };
+        first_gap(&line, ends, base, asked)
+    }
+
+    // The run of a visit that changes places with those of a list, by the place there. Two that stand side by side are
+    // left to be asked alone.
+    #[inline(never)]
+    fn first_exchanged(&self, routes: &Routes, v: u32, a: u32, w: u32, asked: Asked) -> u32
+        requires stands { StandsAlong self.now routes.now }
+        requires order { asked.from ≤ asked.end }
+        ensures from { asked.from ≤ result }
+        ensures within { result ≤ asked.end }
+        ensures no_less { (b : ℕ) → asked.from ≤ b → b < result
+            → AddsNoLess self.now.model routes.now.lists (Exchange v a w b) asked.bound }
+    {
+        let vehicles = routes.vehicles();
+        if v >= vehicles || w >= vehicles || a >= routes.len(v) || asked.end > routes.len(w) {
+            return asked.from;
+        }
+        if v == w && asked.from <= a + 1 {
+            return asked.from;
+        }
+        let line = self.line_of(routes, v);
+        let other = self.line_of(routes, w);
+        first_swap(&line, a, &other, asked)
+    }
+
+    // The run of a front that changes vehicles with those of another list, by the place behind the latter. It is gone
+    // over where both vehicles have the same costs; moves with an empty front are left to be asked alone.
+    #[inline(never)]
+    fn first_crossed(&self, routes: &Routes, v: u32, a: u32, w: u32, asked: Asked) -> u32
+        requires stands { StandsAlong self.now routes.now }
+        requires order { asked.from ≤ asked.end }
+        ensures from { asked.from ≤ result }
+        ensures within { result ≤ asked.end }
+        ensures no_less { (b : ℕ) → asked.from ≤ b → b < result
+            → AddsNoLess self.now.model routes.now.lists (Cross v a w b) asked.bound }
+    {
+        let vehicles = routes.vehicles();
+        if a == 0 || asked.from == 0 || v >= vehicles || w >= vehicles {
+            return asked.from;
+        }
+        if a > routes.len(v) || asked.end > routes.len(w) + 1 || routes.len(w) == 0 {
+            return asked.from;
+        }
+        if !self.have_same_costs(v, w) {
+            return asked.from;
+        }
+        let line = self.line_of(routes, v);
+        let other = self.line_of(routes, w);
+        let base = cross_base(&line, a, &other);
+        let ends = Ends {
+            first: node_at(&line, a),
+            last: routes.node_at(v, a - 1),
+        };
+        first_gap(&other, ends, base, asked)
+    }
+}

@@ -1,0 +1,54 @@
+//! What tells of moves, without asking about each, that none is to be tried.
+
+ghost use Rattle.std.specs.Prelude.{◌≡◌, ℕ, ◌<◌, ◌≤◌, IsTrue};
+ghost use Rattle.vr_model.specs.declared.neighbours.Move.{Move as Moved};
+ghost use Rattle.vr_routes.specs.Runs.{with_last};
+ghost use Rattle.vr_known.specs.Blocks.{covers, kind_at};
+ghost use Rattle.vr_known.specs.Passing.{CoversBlock};
+
+use crate::Known;
+use vr_model::{Move, Neighbourhood};
+
+/// Tells of blocks and of runs of moves that they can be passed over. It takes no memory.
+pub trait Sieve {
+    /// It can be asked.
+    ghost is_ready: { Self → Type 0 };
+
+    /// What is known of a move that is passed over.
+    ghost covers: { Self → Moved → Type 0 };
+
+    /// Whether all moves of a neighbourhood that name these vehicles can be passed over. The neighbourhood is one of
+    /// the five whose moves name their vehicles and change no activity.
+    fn has(&self, neighbourhood: Neighbourhood, v: u32, w: u32) -> bool
+        requires ready { is_ready self.now }
+        requires kind { kind_at neighbourhood < 5 }
+        requires first { v < 100 }
+        requires second { w < 100 }
+        ensures { IsTrue result → CoversBlock (covers self.now) (kind_at neighbourhood) v w };
+
+    /// Goes over a run of moves, which differ in their last number: those of the numbers from `from` on, below `end`.
+    /// Says from which number on they are to be tried: all in front of it can be passed over. The last number of `mv`
+    /// is any.
+    #[inline]
+    fn first(&self, mv: Move, from: u32, end: u32) -> u32
+        requires ready { is_ready self.now }
+        requires order { from ≤ end }
+        ensures from { from ≤ result }
+        ensures within { result ≤ end }
+        ensures passed { (k : ℕ) → from ≤ k → k < result → covers self.now (with_last mv k) }
+    {
+        from
+    }
+}
+
+/// What is known to be refused can be passed over, block by block.
+impl Sieve for Known {
+    ghost is_ready = { λ known. Unit {0} };
+
+    ghost covers = { λ known mv. IsTrue (covers known mv) };
+
+    #[inline(always)]
+    fn has(&self, neighbourhood: Neighbourhood, v: u32, w: u32) -> bool {
+        Known::has(self, neighbourhood, v, w)
+    }
+}
