@@ -22,7 +22,7 @@ use Rattle.vr_guided.specs.Bounding.{AugmentedCostsAreBounded}
 use Rattle.vr_guided.specs.Counts.{AtMost}
 use Rattle.vr_guided.specs.Walks.{route_weight, stretch_weight, unused_weight, weight}
 use Rattle.vr_sums.specs.Sums.{last_of}
-use Rattle.vr_guided.proofs.PartLemmas.{part_value, sums, used}
+use Rattle.vr_guided.proofs.PartLemmas.{bare, part_value, sums, used}
 use Rattle.vr_routes.proofs.JoinedPieces.{all_left, all_right}
 use Rattle.vr_guided.proofs.WalkLemmas.{all_push}
 
@@ -47,7 +47,7 @@ module _ (model : Model) (well : IsWellFormed model) (p : Penalties) (few : AtMo
       let later = path-up_to v next rest known next_low (λ k d l. each (suc k) d (omega (arith, l))) in
       record { at_least = omega (arith, ints, here.at_least, later.at_least); at_most = omega (arith, ints, here.at_most, later.at_most) }
 
-  route-up_to : (v : ℕ) (list : List ℕ) → v < length model.vehicles → All (λ x. x < model.nodes) list → IsUpTo ((length list + 1) * most) (route_weight model p v list)
+  pub route-up_to : (v : ℕ) (list : List ℕ) → v < length model.vehicles → All (λ x. x < model.nodes) list → IsUpTo ((length list + 1) * most) (route_weight model p v list)
   route-up_to v [] known each = up_to-zero _
   route-up_to v (x ∷ xs) known each =
       let vehicle = well.each_vehicle v no_vehicle known in
@@ -121,6 +121,10 @@ module _ (model : Model) (well : IsWellFormed model) (p : Penalties) (few : AtMo
   unused_low : (len : ℕ) → pos 0 ≤ℤ unused_weight model p v len
   unused_low zero = let vehicle = well.each_vehicle v no_vehicle known in (weight-up_to model well p few v start end known vehicle.start_in_range vehicle.end_in_range).at_least
   unused_low (suc n) = subst (λ z. pos 0 ≤ℤ z) (sym (used model p v (suc n) (omega arith))) (omega (arith, ints))
+
+  -- the arcs of a list add no more than a path from the start through it to the end
+  pub whole_most : (list : List ℕ) → route_weight model p v list ≤ℤ stretch_weight model p v start list end
+  whole_most list = let is = bare model p v list in let none = unused_low (length list) in omega (arith, ints, is, none)
 
   -- other pieces take no more than what the arcs of the changed stretch add
   pub part_saved : (lists : List (List ℕ)) (pieces middle : List Piece) (front behind next : ℕ) (others : List ℕ) → AreEnds lists v pieces front behind middle → drop behind (route lists v) ++ end ∷ [] ≡ next ∷ others

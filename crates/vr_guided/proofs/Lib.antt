@@ -17,5 +17,7 @@ pub mod GuidedLemmas
 pub mod StartLemmas
 pub mod AnswerLemmas
 pub mod BoundLemmas
+pub mod TermLemmas
+pub mod SavingLemmas
 pub mod SpareLemmas
 pub mod GuidedStay

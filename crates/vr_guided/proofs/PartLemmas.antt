@@ -50,7 +50,7 @@ module _ (model : Model) (p : Penalties) (v : ℕ) where
       differs len some = Prim.grind (arith, some)
 
   -- a vehicle without visits takes no arc
-  bare : (xs : List ℕ) → route_weight model p v xs ≡ stretch_weight model p v start xs end -ℤ unused_weight model p v (length xs)
+  pub bare : (xs : List ℕ) → route_weight model p v xs ≡ stretch_weight model p v start xs end -ℤ unused_weight model p v (length xs)
   bare [] = omega (arith, ints)
   bare (x ∷ xs) = less_none (stretch_weight model p v start (x ∷ xs) end) (unused_weight model p v (length (x ∷ xs))) (used (length (x ∷ xs)) (omega arith))
 
@@ -248,3 +248,7 @@ unchanged model p lists after none =
     let before = unpenalised model p lists none in
     let later = unpenalised model p after none in
     omega (arith, ints, before, later)
+
+-- nor do the arcs of a vehicle add anything
+pub unweighed : (model : Model) (p : Penalties) (v : ℕ) (list : List ℕ) → p ≡ no_penalties → route_weight model p v list ≡ pos 0
+unweighed model p v list none = ap (λ q. route_weight model q v list) none ∙ total-none (weight model no_penalties) (arcs_of model v list) (λ arc. zero-*ℤ (cost_of_arc model arc))

@@ -6,6 +6,7 @@ ghost use Rattle.vr_guided.specs.Counts.{AtMost, counted};
 ghost use Rattle.vr_guided.specs.Nexts.{IsNext};
 ghost use Rattle.vr_guided.specs.Parts.{IsPart};
 ghost use Rattle.vr_guided.specs.RouteSums.{AreAllRouteSums};
+ghost use Rattle.vr_guided.specs.Savings.{named_weight};
 ghost use Rattle.vr_guided.specs.Walks.{route_weight, stretch_weight, unused_weight};
 ghost use Rattle.vr_model.specs.search.GuidedSearches.{penalised};
 ghost use Rattle.vr_model.specs.routes.Routes.{are_lists, route};
@@ -18,6 +19,7 @@ ghost use Rattle.vr_sums.specs.Sums.{last_of};
 
 use crate::penalties::Penalties;
 use crate::route_sums::AllRouteSums;
+use crate::two_vehicles::TwoVehicles;
 use crate::walks::Walk;
 use vr_balance::strip;
 use vr_model::Model;
@@ -158,6 +160,57 @@ impl Penalties {
                 change.vehicle(1),
                 change.pieces(1),
             )
+    }
+
+    /// What new lists of these vehicles take of the penalised arc costs at most: what the arcs of their lists add now.
+    /// Takes no memory.
+    #[inline]
+    pub fn saved_by_lists(
+        &self,
+        model: &Model,
+        routes: &Routes,
+        route_sums: &AllRouteSums,
+        named: TwoVehicles,
+    ) -> i128
+        requires well_formed { IsWellFormed model.now }
+        requires valid { IsTrue (is_valid model.now routes.now.lists) }
+        requires v { named.v < length routes.now.lists }
+        requires w { named.w < length routes.now.lists }
+        requires few { AtMost 1000000000 (counted self.now) }
+        requires route_sums { AreAllRouteSums model.now (counted self.now) routes.now.lists route_sums.now }
+        ensures low { pos 0 ≤ℤ result }
+        ensures high { result ≤ℤ pos (2 ^ 90) }
+        ensures most { named_weight model.now (counted self.now) routes.now.lists named ≤ℤ result }
+    {
+        if !self.is_any() {
+            return 0;
+        }
+        let first = self.saved_by_list(model, routes, route_sums, named.v);
+        if named.w == named.v {
+            return first;
+        }
+        first + self.saved_by_list(model, routes, route_sums, named.w)
+    }
+
+    // What the arcs of the list of a vehicle add at most.
+    #[inline]
+    fn saved_by_list(
+        &self,
+        model: &Model,
+        routes: &Routes,
+        route_sums: &AllRouteSums,
+        v: u32,
+    ) -> i128
+        requires well_formed { IsWellFormed model.now }
+        requires valid { IsTrue (is_valid model.now routes.now.lists) }
+        requires vehicle { v < length routes.now.lists }
+        requires few { AtMost 1000000000 (counted self.now) }
+        requires route_sums { AreAllRouteSums model.now (counted self.now) routes.now.lists route_sums.now }
+        ensures low { pos 0 ≤ℤ result }
+        ensures high { result ≤ℤ pos (1001 * 2 ^ 70) }
+        ensures most { route_weight model.now (counted self.now) v (route routes.now.lists v) ≤ℤ result }
+    {
+        self.old_stretch(model, routes, route_sums, v, 0, routes.len(v))
     }
 
     // What other pieces take of the penalised arc costs of a vehicle at most.

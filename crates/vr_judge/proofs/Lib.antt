@@ -4,3 +4,4 @@ pub mod DimensionLemmas
 pub mod SumLemmas
 pub mod StandLemmas
 pub mod VerdictLemmas
+pub mod LeastLemmas

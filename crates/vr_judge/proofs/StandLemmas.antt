@@ -12,7 +12,7 @@ pub stands-like : (kept : KeptCosts) (tours : Tours) → StandsCosts kept tours
     → (arcs : KeptAlong) (fixed : KeptFixed) (groups : KeptGroups) (plans : KeptPlans) (spans : KeptSpans)
     → arcs.model ≡ kept.arcs.model → fixed.model ≡ kept.fixed.model → groups.model ≡ kept.groups.model → plans.model ≡ kept.plans.model → spans.model ≡ kept.spans.model
     → StandsAlong arcs tours → StandsFixed fixed tours → StandsGroups groups tours → StandsPlans plans tours → StandsSpans spans tours
-    → StandsCosts (record { model = kept.model; arcs = arcs; fixed = fixed; groups = groups; plans = plans; spans = spans; earliest = kept.earliest; arcs_alone = kept.arcs_alone }) tours
+    → StandsCosts (record { model = kept.model; arcs = arcs; fixed = fixed; groups = groups; plans = plans; spans = spans; earliest = kept.earliest; arcs_and_groups = kept.arcs_and_groups }) tours
 stands-like kept tours h arcs fixed groups plans spans arcs_like fixed_like groups_like plans_like spans_like arcs_stand fixed_stand groups_stand plans_stand spans_stand = record {
   arcs_model = arcs_like ∙ h.arcs_model;
   fixed_model = fixed_like ∙ h.fixed_model;
@@ -26,5 +26,5 @@ stands-like kept tours h arcs fixed groups plans spans arcs_like fixed_like grou
   plans = plans_stand;
   spans = spans_stand;
   earliest = h.earliest;
-  arcs_alone = h.arcs_alone;
+  arcs_and_groups = h.arcs_and_groups;
 }

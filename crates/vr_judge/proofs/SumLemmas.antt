@@ -9,7 +9,7 @@ use Rattle.vr_parts.specs.Bounds.{IsAddedByChange}
 use Rattle.vr_costfilter.specs.GlobalCosts.{global_cost_of}
 use Rattle.vr_parts.specs.Parts.{CostAlike}
 use Rattle.vr_costfilter.specs.PlanCosts.{soft_and_span, IsPlanChange}
-use Rattle.vr_judge.specs.Costs.{PaysArcsAlone}
+use Rattle.vr_judge.specs.Costs.{PaysArcsAndGroups}
 
 -- a number as code reads it
 abbrev pub read : ℤ → ℤ
@@ -76,13 +76,12 @@ pub adds_least : (a f g p s a0 f0 g0 p0 s0 a1 f1 g1 p1 s1 old new : ℤ) → a �
 adds_least a f g p s a0 f0 g0 p0 s0 a1 f1 g1 p1 s1 old new arcs fixed groups plans spans before behind =
     omega (arith, ints, arcs, fixed, groups, plans, spans, before, behind)
 
--- where no other part tells two lists apart, they differ in cost by their arcs
-pub arcs-alone : (model : Model) → CostAlike fixed_part model → CostAlike penalty_part model → CostAlike soft_and_span model → CostAlike global_cost_of model → PaysArcsAlone model
-arcs-alone model fixed groups plans spans lists later valid valid_later =
+-- where no other part tells two lists apart, they differ in cost by their arcs and the penalties of their groups
+pub arcs-and-groups : (model : Model) → CostAlike fixed_part model → CostAlike soft_and_span model → CostAlike global_cost_of model → PaysArcsAndGroups model
+arcs-and-groups model fixed plans spans lists later valid valid_later =
     let f = fixed lists later valid valid_later in
-    let g = groups lists later valid valid_later in
     let p = plans lists later valid valid_later in
     let s = spans lists later valid valid_later in
     let before = cost_of_parts model lists in
     let after = cost_of_parts model later in
-    omega (arith, ints, f, g, p, s, before, after)
+    omega (arith, ints, f, p, s, before, after)

@@ -1,22 +1,35 @@
 -- Where the parts of the cost stand.
-use Rattle.std.specs.Prelude.{◌≡◌, ℕ, Bool, IsTrue, List, ◌-ℤ◌}
-use Rattle.vr_model.specs.routes.Costs.{arcs_part, cost}
+use Rattle.std.specs.Prelude.{◌≡◌, ℕ, Bool, IsTrue, List, ◌+ℤ◌, ◌-ℤ◌}
+use Rattle.vr_model.specs.routes.Costs.{arcs_part, cost, penalty_part}
+use Rattle.vr_model.specs.moves.MoveTests.{is_move}
 use Rattle.vr_model.specs.routes.Rules.{is_valid}
+use Rattle.vr_model.specs.declared.neighbours.Move.{Move}
 use Rattle.vr_model.specs.declared.records.Model.{Model}
+use Rattle.vr_routes.specs.Judging.{IsLeast}
 use Rattle.vr_routes.specs.Tours.{Tours}
+use Rattle.vr_known.specs.Blocks.{kind_of}
 use Rattle.vr_arccosts.specs.Along.{KeptAlong, StandsAlong}
+use Rattle.vr_arccosts.specs.ArcMoves.{arcs_added}
 use Rattle.vr_usecosts.specs.Fixed.{KeptFixed, StandsFixed}
 use Rattle.vr_costfilter.specs.GlobalCosts.{KeptSpans, StandsSpans}
 use Rattle.vr_usecosts.specs.Groups.{KeptGroups, StandsGroups}
 use Rattle.vr_costfilter.specs.PlanCosts.{KeptPlans, StandsPlans}
 use Rattle.vr_earliest.specs.Kept.{KeptEarly, StandsEarliest}
 
--- what valid lists of the model differ by in cost is what their arcs differ by
-abbrev pub PaysArcsAlone : Model → Type 0
-PaysArcsAlone model = (lists later : List (List ℕ)) → IsTrue (is_valid model lists) → IsTrue (is_valid model later)
-    → cost model later -ℤ cost model lists ≡ arcs_part model later -ℤ arcs_part model lists
+-- what valid lists of the model differ by in cost is what their arcs and the penalties of their groups differ by
+abbrev pub PaysArcsAndGroups : Model → Type 0
+PaysArcsAndGroups model =
+    (lists later : List (List ℕ)) → IsTrue (is_valid model lists) → IsTrue (is_valid model later)
+    → cost model later -ℤ cost model lists
+    ≡ (arcs_part model later -ℤ arcs_part model lists) +ℤ (penalty_part model later -ℤ penalty_part model lists)
 
--- what contracts see of the parts of the cost, and whether it is said that arcs alone are paid
+-- each move of a kind adds no less to the cost of lists than it adds to the cost of their arcs
+abbrev pub AddArcsAtLeast : Model → List (List ℕ) → ℕ → Type 0
+AddArcsAtLeast model lists kind =
+    (mv : Move) → kind_of mv ≡ kind → IsTrue (is_move model lists mv)
+    → IsLeast model lists mv (arcs_added model lists mv)
+
+-- what contracts see of the parts of the cost, and whether it is said that arcs and groups alone are paid
 pub record KeptCosts : Type 0 where
   pub model : Model
   pub arcs : KeptAlong
@@ -25,10 +38,10 @@ pub record KeptCosts : Type 0 where
   pub plans : KeptPlans
   pub spans : KeptSpans
   pub earliest : KeptEarly
-  pub arcs_alone : Bool
+  pub arcs_and_groups : Bool
 
 -- each part and what is kept of early ends is of the model, and has committed these lists; where it is said that arcs
--- alone are paid, they are
+-- and groups alone are paid, they are
 pub record StandsCosts (kept : KeptCosts) (tours : Tours) : Type 0 where
   pub arcs_model : kept.arcs.model ≡ kept.model
   pub fixed_model : kept.fixed.model ≡ kept.model
@@ -42,4 +55,4 @@ pub record StandsCosts (kept : KeptCosts) (tours : Tours) : Type 0 where
   pub plans : StandsPlans kept.plans tours
   pub spans : StandsSpans kept.spans tours
   pub earliest : StandsEarliest kept.earliest tours.lists
-  pub arcs_alone : IsTrue kept.arcs_alone → PaysArcsAlone kept.model
+  pub arcs_and_groups : IsTrue kept.arcs_and_groups → PaysArcsAndGroups kept.model

@@ -1,6 +1,6 @@
 //! The parts of the cost together.
 
-ghost use Rattle.std.specs.Prelude.{◌≡◌, ◌-ℤ◌, ◌≤ℤ◌, true, IsTrue, IfOk, IfSome, OnOk, OnErr};
+ghost use Rattle.std.specs.Prelude.{◌≡◌, ℕ, ◌<◌, ◌≤◌, ◌-ℤ◌, ◌≤ℤ◌, true, nat_lt, IsTrue, IfOk, IfSome, OnOk, OnErr};
 ghost use Rattle.vr_model.specs.moves.MoveTests.{is_move};
 ghost use Rattle.vr_model.specs.routes.Costs.{cost};
 ghost use Rattle.vr_model.specs.routes.Rules.{is_valid};
@@ -9,11 +9,12 @@ ghost use Rattle.vr_model.specs.tables.WellFormed.{IsWellFormed};
 ghost use Rattle.vr_routes.specs.Changes.{IsChange, IsMadeOn};
 ghost use Rattle.vr_routes.specs.Pieces.{changed};
 ghost use Rattle.vr_parts.specs.Parts.{after};
-ghost use Rattle.vr_routes.specs.Judging.{IsLeast};
+ghost use Rattle.vr_routes.specs.Judging.{IsLeast, IsNoLess};
+ghost use Rattle.vr_routes.specs.Runs.{with_last};
+ghost use Rattle.vr_known.specs.Blocks.{kind_of};
 ghost use Rattle.vr_arccosts.specs.ArcMoves.{arcs_added};
 ghost use Rattle.vr_usecosts.specs.Fixed.{StandsFixed};
-ghost use Rattle.vr_usecosts.specs.Groups.{StandsGroups};
-ghost use Rattle.vr_judge.specs.Costs.{PaysArcsAlone, StandsCosts};
+ghost use Rattle.vr_judge.specs.Costs.{AddArcsAtLeast, PaysArcsAndGroups, StandsCosts};
 
 use crate::both::both;
 use std::alloc::Global;
@@ -36,8 +37,8 @@ pub(crate) struct Costs<'m> {
     earliest: Earliest<'m>,
     // room for that of the lists after a change
     earlies: Earlies,
-    // whether arcs alone are paid, so that the numbers of a move tell what it makes
-    arcs_alone: bool,
+    // whether arcs and groups alone are paid, so that the numbers of a move tell what it makes at least
+    arcs_and_groups: bool,
 }
 
 impl<'m> Model for Costs<'m> {
@@ -53,26 +54,38 @@ impl<'m> Model for Costs<'m> {
       plans = costs.plans;
       spans = costs.spans;
       earliest = costs.earliest;
-      arcs_alone = costs.arcs_alone;
+      arcs_and_groups = costs.arcs_and_groups;
     } };
 }
 
-// Whether neither fixed costs nor groups nor plans nor global spans tell two lists apart.
-fn are_idle(
-    routes: &Routes,
-    fixed: &FixedCost,
-    groups: &GroupCost,
-    plans: &PlanCost,
-    spans: &GlobalSpan,
-) -> bool
+// Whether neither fixed costs nor plans nor global spans tell two lists apart.
+fn are_idle(routes: &Routes, fixed: &FixedCost, plans: &PlanCost, spans: &GlobalSpan) -> bool
     requires fixed { StandsFixed fixed.now routes.now }
-    requires groups { StandsGroups groups.now routes.now }
-    requires groups_model { groups.now.model ≡ fixed.now.model }
     requires plans_model { plans.now.model ≡ fixed.now.model }
     requires spans_model { spans.now.model ≡ fixed.now.model }
-    ensures { IsTrue result → PaysArcsAlone fixed.now.model }
+    ensures { IsTrue result → PaysArcsAndGroups fixed.now.model }
 {
-    fixed.is_idle(routes) && groups.is_idle(routes) && plans.is_idle() && spans.is_idle()
+    fixed.is_idle(routes) && plans.is_idle() && spans.is_idle()
+}
+
+// Whether a move leaves each node active that is, and no other: so do those that put visits elsewhere.
+#[inline(always)]
+fn keeps_activity(mv: Move) -> bool
+    ensures { result ≡ nat_lt (kind_of mv) 5 }
+{
+    match mv {
+        Move::TwoOpt { .. } => true,
+        Move::OrOpt { .. } => true,
+        Move::Relocate { .. } => true,
+        Move::Exchange { .. } => true,
+        Move::Cross { .. } => true,
+        Move::RelocatePair { .. } => false,
+        Move::PairActive { .. } => false,
+        Move::PairInactive { .. } => false,
+        Move::MakeActive { .. } => false,
+        Move::MakeInactive { .. } => false,
+        Move::SwapActive { .. } => false,
+    }
 }
 
 impl<'m> Costs<'m> {
@@ -101,7 +114,7 @@ impl<'m> Costs<'m> {
         let (fixed, groups) = first;
         let (arcs, earliest) = second;
         let (plans, spans) = third;
-        let arcs_alone = are_idle(routes, &fixed, &groups, &plans, &spans);
+        let arcs_and_groups = are_idle(routes, &fixed, &plans, &spans);
         Ok(Costs {
             model,
             arcs,
@@ -111,13 +124,29 @@ impl<'m> Costs<'m> {
             spans,
             earliest,
             earlies: Earlies::new(),
-            arcs_alone,
+            arcs_and_groups,
         })
     }
 
-    /// What a move of the committed lists adds to the cost of arcs, told by the numbers of the move alone: `None` where
-    /// more than arcs may be paid, and for a move of a pair. Where the lists after it are valid, so much is added to
-    /// their cost.
+    // Whether no move of the kind of this one adds less to the cost than to the cost of arcs: arcs and groups alone are
+    // paid, and no penalty is to pay, or moves of the kind leave the penalties as they are.
+    #[inline(always)]
+    fn adds_arcs_at_least(&self, _routes: &Routes, mv: Move) -> bool
+        requires stands { StandsCosts self.now _routes.now }
+        ensures { IsTrue result → AddArcsAtLeast self.now.model _routes.now.lists (kind_of mv) }
+    {
+        if !self.arcs_and_groups {
+            return false;
+        }
+        if self.groups.pays_none() {
+            return true;
+        }
+        keeps_activity(mv)
+    }
+
+    /// What a move of the committed lists adds to the cost of arcs, told by the numbers of the move alone; where the
+    /// lists after it are valid, it adds no less to their cost. `None` where more may be paid than arcs, but for
+    /// penalties that do not fall, and for a move of a pair.
     #[inline(always)]
     pub fn least_by_numbers(&self, routes: &Routes, mv: Move) -> Option<i64>
         requires stands { StandsCosts self.now routes.now }
@@ -125,10 +154,28 @@ impl<'m> Costs<'m> {
         ensures exact { IfSome result (λ least. least ≡ arcs_added self.now.model routes.now.lists mv) }
         ensures least { IfSome result (IsLeast self.now.model routes.now.lists mv) }
     {
-        if !self.arcs_alone {
+        if !self.adds_arcs_at_least(routes, mv) {
             return None;
         }
         self.arcs.added_by_numbers(routes, mv)
+    }
+
+    /// Goes over a run of moves of the committed lists, which differ in their last number: those of the numbers from
+    /// `from` on, below `end`. Says from which number on some may make a difference below a bound, told by the cost of
+    /// arcs alone: `from` where more than arcs may be paid.
+    #[inline(always)]
+    pub fn first_below(&self, routes: &Routes, mv: Move, from: u32, end: u32, bound: i64) -> u32
+        requires stands { StandsCosts self.now routes.now }
+        requires order { from ≤ end }
+        ensures from { from ≤ result }
+        ensures within { result ≤ end }
+        ensures no_less { (k : ℕ) → from ≤ k → k < result
+            → IsNoLess self.now.model routes.now.lists (with_last mv k) bound }
+    {
+        if !self.adds_arcs_at_least(routes, mv) {
+            return from;
+        }
+        self.arcs.first_below(routes, mv, from, end, bound)
     }
 
     /// What a change of the committed lists adds to their cost.

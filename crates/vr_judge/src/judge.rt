@@ -97,6 +97,11 @@ impl<'m> Judge for FilterJudge<'m> {
         self.judging.least_by_numbers(routes, mv)
     }
 
+    #[inline(always)]
+    fn first_below(&self, routes: &Routes, mv: Move, from: u32, end: u32, bound: i64) -> u32 {
+        self.judging.first_below(routes, mv, from, end, bound)
+    }
+
     fn commit(&mut self, routes: &mut Routes, mv: Move) -> Result<(), NoMemory> {
         self.judging.commit(routes, mv)?;
         Ok(())

@@ -105,6 +105,11 @@ impl<'m, F: PathFilter + Drop> Judge for Judging<'m, F> {
         self.costs.least_by_numbers(routes, mv)
     }
 
+    #[inline(always)]
+    fn first_below(&self, routes: &Routes, mv: Move, from: u32, end: u32, bound: i64) -> u32 {
+        self.costs.first_below(routes, mv, from, end, bound)
+    }
+
     /// Filters and parts of the cost are made ready first; then all are changed, which takes no memory.
     fn commit(&mut self, routes: &mut Routes, mv: Move) -> Result<(), NoMemory> {
         Change::write(self.model, routes, mv, &mut self.change);

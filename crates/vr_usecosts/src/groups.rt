@@ -2,7 +2,7 @@
 
 ghost use Rattle.std.specs.Prelude.{◌≡◌, ◌≢◌, ◌<◌, ◌≤◌, ◌-ℤ◌, ◌*ℤ◌, ◌≤ℤ◌, ℕ, ℤ, not, pos};
 ghost use Rattle.std.specs.Prelude.{All, IsTrue, IfOk, IsOk, OnOk, OnErr, length};
-ghost use Rattle.vr_model.specs.tables.Numbers.{number_at, total_by};
+ghost use Rattle.vr_model.specs.tables.Numbers.{is_same_number, number_at, total_by};
 ghost use Rattle.vr_model.specs.tables.Tables.{visits};
 ghost use Rattle.vr_model.specs.tables.Limits.{greatest_cost};
 ghost use Rattle.vr_model.specs.tables.WellFormed.{IsIn, IsWellFormed, WherePresent};
@@ -249,6 +249,14 @@ impl<'m> GroupCost<'m> {
         ensures alike { IsTrue result → CostAlike penalty_part self.now.model }
     {
         !self.pays
+    }
+
+    /// Whether the committed lists have no penalty to pay: no lists have less to pay then.
+    #[inline(always)]
+    pub fn pays_none(&self) -> bool
+        ensures { result ≡ is_same_number self.now.total (pos 0) }
+    {
+        self.total == 0
     }
 
     /// What a change of the committed lists adds, also where the lists after it are not valid.

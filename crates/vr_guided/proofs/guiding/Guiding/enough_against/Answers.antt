@@ -1,0 +1,25 @@
+use Rattle.std.proofs.Common.{◌≡◌, ◌≤◌, ◌<◌, ◌+◌, ◌-◌, ℤ, ◌+ℤ◌, ◌-ℤ◌, ◌<ℤ◌, false, subst, arith, w64, to_z, of_z, FitsSigned}
+use Rattle.std.specs.Int.{w128}
+use Rattle.std.specs.Prelude.{IfSome, pos}
+use Rattle.std.proofs.lemmas.Int.{ints, quot_fits}
+use Rattle.vr_guided.specs.Guides.{is_gain}
+use Rattle.vr_guided.proofs.guiding.Guiding.enough_against.Goals as goal
+
+-- src/guiding.rt: the weight of a cost is not zero, and what is saved fits when it is weighed over it
+pub nonzero_div-weighed : goal.nonzero_div-weighed
+nonzero_div-weighed c =
+    let s = c.args.self.now.sound in
+    let q_from = s.q_from_one in
+    let q_to = s.q_to_1000 in
+    let low = c.weighed-weighed.ensures.low in
+    let high = c.weighed-weighed.ensures.high in
+    let some : 0 < of_z w64 c.args.self.now.lambda.q = omega (arith, ints, q_from, q_to) in
+    let above : pos 0 <ℤ to_z w64 (of_z w64 c.args.self.now.lambda.q) = omega (arith, ints, q_from, q_to) in
+    (some, quot_fits w64 _ _ (omega (arith, ints, q_from, q_to, low, high)) above)
+
+pub returns : goal.returns
+returns c =
+    let low = c.requires.low in
+    let high = c.requires.high in
+    let as_read : to_z w128 (of_z w128 c.args.saved) ≡ c.args.saved = omega (arith, ints, low, high) in
+    subst (λ z. IfSome c.where_enough.result (λ e. is_gain c.args.self.now.lambda e (pos 0 -ℤ z) ≡ false)) as_read c.where_enough.ensures
