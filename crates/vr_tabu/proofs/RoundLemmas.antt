@@ -1,7 +1,9 @@
 -- A round, move by move.
-use Rattle.std.proofs.Common.{◌≡◌, ◌∙◌, ℕ, suc, ◌+◌, ◌≤◌, Bool, true, false, cond, List, [], ◌∷◌, length, Option, Some, None, refl, sym, ap, ap₂, arith, inl, inr}
-use Rattle.std.specs.Prelude.{IsTrue, IfSome, ◌&&◌, nat_lt, fold, filter}
+use Rattle.std.proofs.Common.{◌≡◌, ◌∙◌, ℕ, suc, ◌+◌, ◌<◌, ◌≤◌, Bool, true, false, cond, List, [], ◌∷◌, ◌++◌, length, length-append, Option, Some, None, refl, sym, ap, ap₂, arith, inl, inr}
+use Rattle.std.specs.Prelude.{ℤ, All, IsTrue, IfSome, ◌&&◌, nat_lt, fold, filter}
 use Rattle.std.specs.List.{list_all}
+use Rattle.std.proofs.lemmas.List.Elements.{All-head, All-tail}
+use Rattle.vr_model.specs.deciding.Testing.{and_left, and_right}
 use Rattle.vr_model.specs.moves.Moves.{apply, moves, moves_in, moves_over, all_neighbourhoods}
 use Rattle.vr_model.specs.moves.MoveTests.{is_move}
 use Rattle.vr_model.specs.routes.Costs.{cost}
@@ -11,11 +13,14 @@ use Rattle.vr_model.specs.declared.neighbours.Move.{Move}
 use Rattle.vr_model.specs.declared.neighbours.Neighbourhood.{Neighbourhood}
 use Rattle.vr_model.proofs.moves.MoveMembers.{in_all, moves_as_tested}
 use Rattle.vr_model.proofs.tables.Members.{In, from_each, to_contains, to_each}
-use Rattle.vr_tabu.specs.Rounds.{IsKnown, better_with, end_with, move_of, round_end, tries_of}
+use Rattle.vr_descent.proofs.PassedLemmas.{all_right}
+use Rattle.vr_known.specs.Passing.{Passes, capped}
+use Rattle.vr_tabu.specs.Rounds.{IsCeiling, IsKnown, IsPassed, better_with, bound_of, end_with, move_of, round_end, tries_of}
 use Rattle.vr_tabu.specs.TabuSearches.{TabuList, is_candidate, least_candidate, round_of, round_with}
 use Rattle.vr_tabu.specs.TabuSearches.Round.{Cut}
 use Rattle.vr_tabu.specs.declared.rounds.Candidate.{Candidate}
 use Rattle.vr_tabu.specs.declared.rounds.RoundEnd.TheVariants as code
+use Rattle.vr_tabu.proofs.CandidateLemmas.{dearer}
 
 -- ---- the moves of a list are moves
 
@@ -54,15 +59,47 @@ module _ (model : Model) (tabus : TabuList) (best lists : List (List ℕ)) where
   one_tried found next mv ms rest split tried left =
       ap (λ m. best_of m rest) tried ∙ (sym (fold_one choose (move_of found) mv (filter test rest) (test mv)) ∙ (ap (best_of (move_of found)) (sym split) ∙ left))
 
-  -- a move is left, and no try
-  pub cut_off : (n rest : ℕ) (mv : Move) (ms left : List Move) → ms ≡ mv ∷ left → n + length ms ≡ length (moves model lists) → n ≡ rest → code.Cut ≡ round_end model lists (round_of model tabus best lists rest)
-  cut_off n rest mv ms left split counted e = sym (ap (λ b. round_end model lists (cond b Cut (round_with (length (moves model lists)) (least_candidate model tabus best lists)))) more)
+  -- there are more moves than tries
+  pub cut_off : (n rest : ℕ) → rest < n → n ≤ length (moves model lists) → code.Cut ≡ round_end model lists (round_of model tabus best lists rest)
+  cut_off n rest more all = sym (ap (λ b. round_end model lists (cond b Cut (round_with (length (moves model lists)) (least_candidate model tabus best lists)))) (over (length (moves model lists)) all))
     where
-      over : (k all : ℕ) → n + suc k ≡ all → nat_lt rest all ≡ true
-      over k all h = Prim.grind arith
+      over : (all : ℕ) → n ≤ all → nat_lt rest all ≡ true
+      over all h = Prim.grind arith
 
-      more : nat_lt rest (length (moves model lists)) ≡ true
-      more = over (length left) (length (moves model lists)) (ap (λ l. n + length l) (sym split) ∙ counted)
+  -- moves that are no better change nothing
+  pub none_better : (found : Option Candidate) (ceiling : Option ℤ) (ps ms : List Move) → IfSome found (IsKnown model lists) → IsCeiling model tabus best lists ceiling → All (IsPassed model lists (bound_of found ceiling)) ps → list_all (is_move model lists) (ps ++ ms) ≡ true
+      → best_of (move_of found) (ps ++ ms) ≡ best_of (move_of found) ms
+  none_better found ceiling [] ms known low passed are = refl
+  none_better found ceiling (p ∷ ps) ms known low passed are =
+      fold_one choose (move_of found) p (filter test (ps ++ ms)) (test p)
+      ∙ (ap (λ m. best_of m (ps ++ ms)) (sym (dearer model tabus best lists found ceiling p known low (All-head (IsPassed model lists (bound_of found ceiling)) p ps passed (and_left (is_move model lists p) _ are))))
+      ∙ none_better found ceiling ps ms known low (All-tail (IsPassed model lists (bound_of found ceiling)) p ps passed) (and_right (is_move model lists p) _ are))
+
+  -- what is left of the moves behind those that were passed over
+  pub record IsLeft (found : Option Candidate) (n : ℕ) (behind : List Move) (counted : ℕ) : Type 0 where
+    pub at : ℕ
+    pub counts : counted ≡ capped at
+    pub from : n ≤ at
+    pub sum : at + length behind ≡ length (moves model lists)
+    pub moves : list_all (is_move model lists) behind ≡ true
+    pub left : best_of (move_of found) behind ≡ least_candidate model tabus best lists
+
+  pub pass_over : (found : Option Candidate) (ceiling : Option ℤ) (old behind : List Move) (n counted : ℕ) → IfSome found (IsKnown model lists) → IsCeiling model tabus best lists ceiling → Passes (IsPassed model lists (bound_of found ceiling)) old n behind counted
+      → n + length old ≡ length (moves model lists) → list_all (is_move model lists) old ≡ true → best_of (move_of found) old ≡ least_candidate model tabus best lists → IsLeft found n behind counted
+  pass_over found ceiling old behind n counted known low p sum are left =
+      let split_are : list_all (is_move model lists) (p.passed ++ behind) ≡ true = ap (list_all (is_move model lists)) (sym p.split) ∙ are in
+      let long : length old ≡ length p.passed + length behind = ap length p.split ∙ length-append p.passed behind in
+      record {
+        at = n + length p.passed;
+        counts = p.counts;
+        from = omega arith;
+        sum = added n (length old) (length p.passed) (length behind) (length (moves model lists)) long sum;
+        moves = all_right (is_move model lists) p.passed behind split_are;
+        left = sym (none_better found ceiling p.passed behind known low p.covered split_are) ∙ (ap (best_of (move_of found)) (sym p.split) ∙ left);
+      }
+    where
+      added : (n old passed behind all : ℕ) → old ≡ passed + behind → n + old ≡ all → (n + passed) + behind ≡ all
+      added n old passed behind all e f = omega (arith, e, f)
 
   with_known : (n : ℕ) (found : Option Candidate) → IfSome found (IsKnown model lists) → end_with n found ≡ round_end model lists (round_with n (move_of found))
   with_known n None known = refl
@@ -92,3 +129,11 @@ tries_end rest n (Some c) = refl
 -- one move more was counted
 pub one_more : (n left all : ℕ) → n + suc left ≡ all → (n + 1) + left ≡ all
 one_more n left all e = omega (arith, e)
+
+-- ---- counts of few moves are exact
+
+pub exact : (n : ℕ) → capped n ≤ 1000000000 → capped n ≡ n
+exact n low = Prim.grind arith
+
+pub at_most : (n : ℕ) → capped n ≤ n
+at_most n = Prim.grind arith

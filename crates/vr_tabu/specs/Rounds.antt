@@ -1,13 +1,16 @@
 -- What a round in code has found so far, and how it ends.
-use Rattle.std.specs.Prelude.{◌≡◌, ℕ, ℤ, ◌-ℤ◌, int_le, Bool, false, ◌&&◌, ◌||◌, cond, List, [], ◌∷◌}
+use Rattle.std.specs.Prelude.{◌≡◌, ℕ, ℤ, ◌-ℤ◌, int_le, Bool, false, cond, List, [], ◌∷◌}
 use Rattle.std.specs.Prelude.{Option, Some, None, IsTrue}
 use Rattle.vr_model.specs.first.Choosing.{better}
 use Rattle.vr_model.specs.moves.Moves.{apply}
+use Rattle.vr_model.specs.moves.MoveTests.{is_move}
 use Rattle.vr_model.specs.routes.Rules.{is_valid}
 use Rattle.vr_model.specs.routes.Costs.{cost}
+use Rattle.vr_model.specs.tables.WellFormed.{IsWellFormed}
 use Rattle.vr_model.specs.declared.records.Model.{Model}
 use Rattle.vr_model.specs.declared.neighbours.Move.{Move}
-use Rattle.vr_routes.specs.Judging.{cost_change}
+use Rattle.vr_routes.specs.Judging.{HoldSame, cost_change}
+use Rattle.vr_routes.specs.Tours.{Tours}
 use Rattle.vr_tabu.specs.TabuSearches.{Round, TabuList, is_candidate}
 use Rattle.vr_tabu.specs.TabuSearches.Round.{Best, Stuck, Cut}
 use Rattle.vr_tabu.specs.declared.rounds.Candidate.{Candidate}
@@ -23,24 +26,40 @@ move_of (Some candidate) = Some candidate.mv
 abbrev pub IsKnown : Model → List (List ℕ) → Candidate → Type 0
 IsKnown model lists candidate = candidate.difference ≡ cost_change model lists candidate.mv
 
--- a difference is not below that of the best candidate so far
-abbrev pub is_no_better : Option Candidate → ℤ → Bool
-is_no_better None least = false
-is_no_better (Some best) least = int_le best.difference least
+-- what the difference of a better candidate than the best so far is below: that of this one, else a ceiling, where it
+-- is known
+abbrev pub bound_of : Option Candidate → Option ℤ → Option ℤ
+bound_of None ceiling = ceiling
+bound_of (Some best) ceiling = Some best.difference
+
+-- a difference is not below a bound
+abbrev pub is_no_less : Option ℤ → ℤ → Bool
+is_no_less None least = false
+is_no_less (Some bound) least = int_le bound least
 
 -- moves that make a lesser difference than this lead to lists that cost less than the best so far
 abbrev pub aspiration : Model → List (List ℕ) → List (List ℕ) → ℤ
 aspiration model best lists = cost model best -ℤ cost model lists
 
--- a difference is not below that of the best candidate so far, or the move is tabu and the difference not below what is
--- aspired to
-abbrev pub is_passed_over : Option Candidate → Bool → ℤ → ℤ → Bool
-is_passed_over best is_tabu aspired least = is_no_better best least || (is_tabu && int_le aspired least)
+-- a move makes no difference below a bound, where the lists after it are valid
+abbrev pub IsNoBetter : Model → List (List ℕ) → Move → Option ℤ → Type 0
+IsNoBetter model lists mv bound =
+    IsTrue (is_valid model (apply model lists mv)) → IsTrue (is_no_less bound (cost_change model lists mv))
 
--- where the lists after a move are valid, it makes no lesser difference than the best candidate so far
-abbrev pub IsNoBetter : Model → List (List ℕ) → Move → Option Candidate → Type 0
-IsNoBetter model lists mv best =
-    IsTrue (is_valid model (apply model lists mv)) → IsTrue (is_no_better best (cost_change model lists mv))
+-- what a round passes over: where a move is one of the lists, it makes no difference below a bound
+abbrev pub IsPassed : Model → List (List ℕ) → Option ℤ → Move → Type 0
+IsPassed model lists bound mv = IsTrue (is_move model lists mv) → IsNoBetter model lists mv bound
+
+-- a move that makes no difference below a ceiling is no candidate
+abbrev pub IsCeiling : Model → TabuList → List (List ℕ) → List (List ℕ) → Option ℤ → Type 0
+IsCeiling model tabus best lists ceiling =
+    (mv : Move) → IsTrue (is_no_less ceiling (cost_change model lists mv))
+    → is_candidate model tabus best lists mv ≡ false
+
+-- a judge can be asked about moves of routes
+pub record CanPass (model : Model) (committed : List (List ℕ)) (routes : Tours) : Type 0 where
+  pub well_formed : IsWellFormed model
+  pub holds : HoldSame model committed routes
 
 -- the better of the best candidate so far and a move, where that is a candidate
 abbrev pub better_with : Model → TabuList → List (List ℕ) → List (List ℕ) → Option Move → Move → Option Move

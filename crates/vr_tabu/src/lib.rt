@@ -16,6 +16,7 @@ mod incumbent;
 mod laws;
 mod list_change;
 mod new_list;
+mod passing;
 mod rounds;
 mod searching;
 mod tabu_list;

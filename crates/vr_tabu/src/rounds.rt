@@ -3,14 +3,16 @@
 ghost use Rattle.std.specs.Prelude.{◌≡◌, ◌+◌, ◌≤◌, ◌&&◌, int_le, IsTrue, IfOk, IfSome, OnErr};
 ghost use Rattle.vr_model.specs.moves.MoveTests.{is_move};
 ghost use Rattle.vr_model.specs.moves.Moves.{apply, moves};
+ghost use Rattle.vr_known.specs.Passing.{Takes};
 ghost use Rattle.vr_routes.specs.Changes.{IsChange};
-ghost use Rattle.vr_tabu.specs.Rounds.{IsKnown, IsNoBetter, aspiration, better_with, end_with, is_no_better};
-ghost use Rattle.vr_tabu.specs.Rounds.{is_passed_over, move_of, round_end, tries_of};
+ghost use Rattle.vr_tabu.specs.Rounds.{IsCeiling, IsKnown, IsNoBetter, IsPassed, aspiration, better_with, bound_of};
+ghost use Rattle.vr_tabu.specs.Rounds.{end_with, is_no_less, move_of, round_end, tries_of};
 ghost use Rattle.vr_tabu.specs.Standing.{IsKnownState};
 ghost use Rattle.vr_tabu.specs.Tabus.{tabus_of};
 ghost use Rattle.vr_tabu.specs.TabuSearches.{is_tabu, round_of};
 
 use crate::new_list::NewList;
+use crate::passing::NoBetter;
 use crate::searching::State;
 use std::sync::ledger::Ledger;
 use vr_descent::{MoveList, moves};
@@ -38,15 +40,37 @@ pub enum RoundEnd {
 /// What a round looks at.
 #[derive(Clone, Copy)]
 pub struct Round<'a> {
-    pub model: &'a Model,
-    pub routes: &'a Routes,
-    pub state: &'a State,
+    model: &'a Model,
+    routes: &'a Routes,
+    state: &'a State,
+    // no move that makes this difference or more is a candidate; none where that is not known
+    ceiling: Option<i64>,
 }
 
 impl<'a> Round<'a> {
-    /// Tries all moves of the lists, where there are at most `rest`, for the best candidate. Each try is one step of
-    /// the list of moves and at most one question to the judge: a move that would cost no less than the best candidate
-    /// so far is not judged, nor is one that is tabu and would cost no less than the best lists so far.
+    /// A round of routes. Where each visit is tabu, so is each move, and only those that lead to lists that cost less
+    /// than any before are candidates.
+    pub fn open(model: &'a Model, routes: &'a Routes, state: &'a State) -> Round<'a>
+        requires known { IsKnownState model.now routes.now state.now }
+        ensures model { result.model.now ≡ model.now }
+        ensures routes { result.routes.now ≡ routes.now }
+        ensures state { result.state.now ≡ state.now }
+        ensures ceiling { IsCeiling model.now (tabus_of state.now.tabus) state.now.best.routes.lists
+            routes.now.lists result.ceiling }
+    {
+        let ceiling = ceiling_of(model, routes, state);
+        Round {
+            model,
+            routes,
+            state,
+            ceiling,
+        }
+    }
+
+    /// Tries all moves of the lists, where there are at most `rest`, for the best candidate. Each try is at most
+    /// one question to the judge: a move that would cost no less than the best candidate so far is not judged, and
+    /// which visits it changes is asked of the others alone. Of the moves of a run, which differ in their last number,
+    /// the judge is asked at once from which on some may cost less, and those in front of these are tries as well.
     ///
     /// The only refusal is want of memory, which is taken by the judge alone; the judge still holds the same lists
     /// then.
@@ -57,8 +81,11 @@ impl<'a> Round<'a> {
         steps: &mut Steps<L>,
     ) -> Result<RoundEnd, NoMemory>
         requires known { IsKnownState self.now.model.now self.now.routes.now self.now.state.now }
+        requires ceiling { IsCeiling self.now.model.now (tabus_of self.now.state.now.tabus)
+            self.now.state.now.best.routes.lists self.now.routes.now.lists self.now.ceiling }
         requires judge_model { J.model judge.old ≡ self.now.model.now }
         requires committed { J.committed judge.old ≡ self.now.routes.now.lists }
+        requires rest { rest ≤ 1000000000 }
         ensures ends { IfOk result (λ ended. ended ≡ round_end self.now.model.now self.now.routes.now.lists
             (round_of self.now.model.now (tabus_of self.now.state.now.tabus) self.now.state.now.best.routes.lists
             self.now.routes.now.lists rest)) }
@@ -72,6 +99,7 @@ impl<'a> Round<'a> {
     }
 
     // Tries the moves of a list of all moves. The list is lent, so that where the round ends there is less to let go.
+    #[inline(never)]
     fn run_over<J: Judge, L: Ledger>(
         &self,
         judge: &mut J,
@@ -80,9 +108,12 @@ impl<'a> Round<'a> {
         steps: &mut Steps<L>,
     ) -> Result<RoundEnd, NoMemory>
         requires known { IsKnownState self.now.model.now self.now.routes.now self.now.state.now }
+        requires ceiling { IsCeiling self.now.model.now (tabus_of self.now.state.now.tabus)
+            self.now.state.now.best.routes.lists self.now.routes.now.lists self.now.ceiling }
         requires judge_model { J.model judge.old ≡ self.now.model.now }
         requires committed { J.committed judge.old ≡ self.now.routes.now.lists }
         requires list { list.old ≡ moves self.now.model.now self.now.routes.now.lists }
+        requires rest { rest ≤ 1000000000 }
         ensures ends { IfOk result (λ ended. ended ≡ round_end self.now.model.now self.now.routes.now.lists
             (round_of self.now.model.now (tabus_of self.now.state.now.tabus) self.now.state.now.best.routes.lists
             self.now.routes.now.lists rest)) }
@@ -94,19 +125,59 @@ impl<'a> Round<'a> {
         let mut change = Change::blank();
         let mut after = NewList::new();
         let mut best = None;
-        let mut length = 0;
-        while let Some(mv) = list.next() {
-            if length == rest {
+        let mut length: u64 = 0;
+        while let Some(mv) = self.next_open(judge, best, list, &mut length) {
+            if length >= rest {
                 return Ok(RoundEnd::Cut);
             }
             length += 1;
             best = self.try_move(judge, mv, best, &mut change, &mut after, steps)?;
         }
+        if length > rest {
+            return Ok(RoundEnd::Cut);
+        }
         Ok(end_of(length, best))
+    }
+
+    // Takes the first move of a list, behind some that are passed over since they are no better than the best candidate
+    // so far. These are counted.
+    #[inline(always)]
+    fn next_open<J: Judge>(
+        &self,
+        judge: &J,
+        best: Option<Candidate>,
+        list: &mut MoveList<'_>,
+        length: &mut u64,
+    ) -> Option<Move>
+        requires known { IsKnownState self.now.model.now self.now.routes.now self.now.state.now }
+        requires judge_model { J.model judge.now ≡ self.now.model.now }
+        requires committed { J.committed judge.now ≡ self.now.routes.now.lists }
+        ensures { Takes (IsPassed self.now.model.now self.now.routes.now.lists (bound_of best self.now.ceiling))
+            list.old length.old result list.new length.new }
+    {
+        let passing = NoBetter {
+            judge,
+            routes: self.routes,
+            bound: self.bound(best),
+        };
+        list.step(&passing, length)
+    }
+
+    // What the difference of a better candidate than the best so far is below, where there is one, or each visit is
+    // tabu.
+    #[inline(always)]
+    fn bound(&self, best: Option<Candidate>) -> Option<i64>
+        ensures { result ≡ bound_of best self.now.ceiling }
+    {
+        match best {
+            Some(best) => Some(best.difference),
+            None => self.ceiling,
+        }
     }
 
     // The better of the best candidate so far and a move, where that is a candidate. What it changes is written over
     // `change` and `after`.
+    #[inline(always)]
     fn try_move<J: Judge, L: Ledger>(
         &self,
         judge: &mut J,
@@ -117,6 +188,8 @@ impl<'a> Round<'a> {
         steps: &mut Steps<L>,
     ) -> Result<Option<Candidate>, NoMemory>
         requires known { IsKnownState self.now.model.now self.now.routes.now self.now.state.now }
+        requires ceiling { IsCeiling self.now.model.now (tabus_of self.now.state.now.tabus)
+            self.now.state.now.best.routes.lists self.now.routes.now.lists self.now.ceiling }
         requires judge_model { J.model judge.old ≡ self.now.model.now }
         requires committed { J.committed judge.old ≡ self.now.routes.now.lists }
         requires mv { IsTrue (is_move self.now.model.now self.now.routes.now.lists mv) }
@@ -132,19 +205,47 @@ impl<'a> Round<'a> {
         if self.is_told_no_better(judge, mv, best) {
             return Ok(best);
         }
+        self.weigh(judge, mv, best, change, after, steps)
+    }
+
+    // The same of a move whose numbers do not tell. It stands apart from the loop, which most moves do not leave.
+    #[inline(never)]
+    fn weigh<J: Judge, L: Ledger>(
+        &self,
+        judge: &mut J,
+        mv: Move,
+        best: Option<Candidate>,
+        change: &mut Change,
+        after: &mut NewList,
+        steps: &mut Steps<L>,
+    ) -> Result<Option<Candidate>, NoMemory>
+        requires known { IsKnownState self.now.model.now self.now.routes.now self.now.state.now }
+        requires ceiling { IsCeiling self.now.model.now (tabus_of self.now.state.now.tabus)
+            self.now.state.now.best.routes.lists self.now.routes.now.lists self.now.ceiling }
+        requires judge_model { J.model judge.old ≡ self.now.model.now }
+        requires committed { J.committed judge.old ≡ self.now.routes.now.lists }
+        requires mv { IsTrue (is_move self.now.model.now self.now.routes.now.lists mv) }
+        requires best { IfSome best (IsKnown self.now.model.now self.now.routes.now.lists) }
+        ensures best { IfOk result (λ found. move_of found ≡ better_with self.now.model.now
+            (tabus_of self.now.state.now.tabus) self.now.state.now.best.routes.lists self.now.routes.now.lists
+            (move_of best) mv) }
+        ensures known { IfOk result (λ found. IfSome found (IsKnown self.now.model.now self.now.routes.now.lists)) }
+        ensures model { J.model judge.new ≡ J.model judge.old }
+        ensures committed { J.committed judge.new ≡ J.committed judge.old }
+        ensures asked { J.asked judge.new ≤ J.asked judge.old + 1 }
+    {
         Change::write(self.model, self.routes, mv, change);
         let least = judge.least_difference(self.routes, mv, change);
-        if is_no_better(best, least) {
-            return Ok(best);
-        }
-        let is_tabu = self.is_tabu(mv, change, after);
-        if self.passes_over(best, is_tabu, least) {
+        if is_no_less(self.bound(best), least) {
             return Ok(best);
         }
         match judge.judge(self.routes, mv, steps)? {
             Verdict::Refused => Ok(best),
             Verdict::Difference(difference) => {
-                if self.passes_over(best, is_tabu, difference) {
+                if is_no_less(self.bound(best), difference) {
+                    return Ok(best);
+                }
+                if self.is_forbidden(mv, difference, change, after) {
                     return Ok(best);
                 }
                 Ok(Some(Candidate { mv, difference }))
@@ -159,10 +260,11 @@ impl<'a> Round<'a> {
         requires judge_model { J.model judge.now ≡ self.now.model.now }
         requires committed { J.committed judge.now ≡ self.now.routes.now.lists }
         requires mv { IsTrue (is_move self.now.model.now self.now.routes.now.lists mv) }
-        ensures { IsTrue result → IsNoBetter self.now.model.now self.now.routes.now.lists mv best }
+        ensures { IsTrue result → IsNoBetter self.now.model.now self.now.routes.now.lists mv
+            (bound_of best self.now.ceiling) }
     {
         match judge.least_by_numbers(self.routes, mv) {
-            Some(least) => is_no_better(best, least),
+            Some(least) => is_no_less(self.bound(best), least),
             None => false,
         }
     }
@@ -180,28 +282,22 @@ impl<'a> Round<'a> {
             .is_tabu(self.model, self.routes, change, after)
     }
 
-    // Whether a move that makes a difference of `least` or more is no better than the best candidate so far, or is tabu
-    // and leads to lists that cost no less than the best before.
+    // Whether a move that makes a difference is tabu and leads to lists that cost no less than the best before. Where
+    // they cost less, whether it is tabu is not asked.
     #[inline]
-    fn passes_over(&self, best: Option<Candidate>, is_tabu: bool, least: i64) -> bool
+    fn is_forbidden(&self, mv: Move, difference: i64, change: &Change, after: &mut NewList) -> bool
         requires known { IsKnownState self.now.model.now self.now.routes.now self.now.state.now }
-        ensures { result ≡ is_passed_over best is_tabu (aspiration self.now.model.now
-            self.now.state.now.best.routes.lists self.now.routes.now.lists) least }
+        requires mv { IsTrue (is_move self.now.model.now self.now.routes.now.lists mv) }
+        requires change { IsChange self.now.model.now self.now.routes.now.lists mv change.now }
+        ensures { result ≡ (int_le (aspiration self.now.model.now self.now.state.now.best.routes.lists
+            self.now.routes.now.lists) difference && is_tabu self.now.model.now
+            (tabus_of self.now.state.now.tabus) self.now.routes.now.lists
+            (apply self.now.model.now self.now.routes.now.lists mv)) }
     {
-        is_no_better(best, least) || self.is_forbidden(is_tabu, least)
-    }
-
-    // Whether a move is tabu and leads to lists that cost no less than the best before.
-    #[inline]
-    fn is_forbidden(&self, is_tabu: bool, least: i64) -> bool
-        requires known { IsKnownState self.now.model.now self.now.routes.now self.now.state.now }
-        ensures { result ≡ (is_tabu && int_le (aspiration self.now.model.now self.now.state.now.best.routes.lists
-            self.now.routes.now.lists) least) }
-    {
-        if !is_tabu {
+        if difference < self.aspiration() {
             return false;
         }
-        least >= self.aspiration()
+        self.is_tabu(mv, change, after)
     }
 
     // Moves that make a lesser difference lead to lists that cost less than any before.
@@ -215,15 +311,27 @@ impl<'a> Round<'a> {
     }
 }
 
-// Whether a move that makes a difference of `least` or more, and stands behind the best candidate so far, is no better.
-#[inline]
-fn is_no_better(best: Option<Candidate>, least: i64) -> bool
-    ensures { result ≡ is_no_better best least }
+// Whether a difference is not below a bound, where there is one.
+#[inline(always)]
+fn is_no_less(bound: Option<i64>, least: i64) -> bool
+    ensures { result ≡ is_no_less bound least }
 {
-    match best {
-        Some(best) => least >= best.difference,
+    match bound {
+        Some(bound) => least >= bound,
         None => false,
     }
+}
+
+// What differences of candidates are below, where each visit is tabu: only moves to lists that cost less than any
+// before are candidates then.
+fn ceiling_of(model: &Model, routes: &Routes, state: &State) -> Option<i64>
+    requires known { IsKnownState model.now routes.now state.now }
+    ensures { IsCeiling model.now (tabus_of state.now.tabus) state.now.best.routes.lists routes.now.lists result }
+{
+    if !state.tabus.are_all_tabu(model) {
+        return None;
+    }
+    Some(state.best.cost - state.at.cost)
 }
 
 // The end of a round of so many moves.

@@ -284,6 +284,7 @@ fn run_round<J: Judge, L: Ledger>(
     requires known { IsKnownState model.now routes.now state.now }
     requires judge_model { J.model judge.old ≡ model.now }
     requires committed { J.committed judge.old ≡ routes.now.lists }
+    requires rest { rest ≤ 1000000000 }
     ensures ends { IfOk result (λ ended. ended ≡ round_end model.now routes.now.lists
         (round_of model.now (tabus_of state.now.tabus) state.now.best.routes.lists routes.now.lists rest)) }
     ensures model { J.model judge.new ≡ J.model judge.old }
@@ -291,11 +292,7 @@ fn run_round<J: Judge, L: Ledger>(
     ensures asked { IfOk result (λ ended. J.asked judge.new ≤ J.asked judge.old + tries_of rest ended) }
     ensures asked_at_most { OnErr result (J.asked judge.new ≤ J.asked judge.old + rest) }
 {
-    let round = Round {
-        model,
-        routes,
-        state,
-    };
+    let round = Round::open(model, routes, state);
     round.run(judge, rest, steps)
 }
 

@@ -8,7 +8,7 @@ ghost use Rattle.vr_model.specs.tables.WellFormed.{IsWellFormed};
 ghost use Rattle.vr_routes.specs.Changes.{IsMadeOn};
 ghost use Rattle.vr_routes.specs.Pieces.{changed, joined, part_at};
 ghost use Rattle.vr_tabu.specs.Parts.{changes, frees, is_freed};
-ghost use Rattle.vr_tabu.specs.Tabus.{tabus_of, until_at};
+ghost use Rattle.vr_tabu.specs.Tabus.{AreAllTabu, tabus_of, until_at};
 ghost use Rattle.vr_tabu.specs.TabuSearches.{is_tabu, is_tabu_visit, next_round, none_tabu};
 
 use crate::list_change::ListChange;
@@ -44,6 +44,18 @@ impl TabuList {
             return self.round < self.until[visit as usize];
         }
         false
+    }
+
+    /// Whether each visit is tabu in this round.
+    pub fn are_all_tabu(&self, model: &Model) -> bool
+        ensures { IsTrue result → AreAllTabu model.now (tabus_of self.now) }
+    {
+        for node in 0..model.nodes {
+            if model.is_visit(node) && !self.is_tabu_visit(node) {
+                return false;
+            }
+        }
+        true
     }
 
     // Whether a change of a list changes one of some visits that is not tabu.

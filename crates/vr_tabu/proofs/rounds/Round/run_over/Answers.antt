@@ -1,11 +1,12 @@
-use Rattle.std.proofs.Common.{◌∙◌, ◌+◌, length, refl, sym, ap, arith}
+use Rattle.std.proofs.Common.{◌≡◌, ◌∙◌, ℕ, suc, ◌+◌, ◌<◌, ◌≤◌, ◌∷◌, length, refl, sym, ap, arith}
 use Rattle.std.specs.Prelude.{None}
 use Rattle.std.specs.List.{list_all}
 use Rattle.vr_model.specs.deciding.Testing.{and_right}
 use Rattle.vr_model.specs.moves.MoveTests.{is_move}
 use Rattle.vr_model.specs.moves.Moves.{moves}
+use Rattle.vr_tabu.specs.Rounds.{tries_of}
 use Rattle.vr_tabu.specs.Tabus.{tabus_of}
-use Rattle.vr_tabu.proofs.RoundLemmas.{all_moves, best_of, one_more, one_tried}
+use Rattle.vr_tabu.proofs.RoundLemmas.{all_moves, all_tried, at_most, best_of, cut_off, exact, one_more, one_tried, pass_over, tries_end}
 use Rattle.vr_tabu.proofs.rounds.Round.run_over.Goals as goal
 
 pub loop-mv-init : goal.loop-mv-init
@@ -24,20 +25,91 @@ loop-mv-init g c =
       left = ap (best_of model (tabus_of c.args.self.now.state.now.tabus) c.args.self.now.state.now.best.routes.lists lists None) list;
     }
 
+pub returns-then-length-rest-clause-ends : goal.returns-then-length-rest-clause-ends
+returns-then-length-rest-clause-ends g c =
+    let model = c.args.self.now.model.now in
+    let lists = c.args.self.now.routes.now.lists in
+    let tabus = tabus_of c.args.self.now.state.now.tabus in
+    let best = c.args.self.now.state.now.best.routes.lists in
+    let i = c.loop-mv.invariant in
+    let t = c.in-Some.ensures in
+    let is = pass_over model tabus best lists c.loop-mv.best c.args.self.now.ceiling c.loop-mv.list t.behind c.loop-mv.length c.next_open.new.length i.known c.requires.ceiling t.passes i.counted i.moves i.left in
+    let all = all_with is.at (length t.behind) (length c.next_open.new.list) (length (moves model lists)) is.sum (ap length t.first) in
+    let counts = is.counts in
+    let most = at_most is.at in
+    cut_off model tabus best lists (is.at + 1) c.args.rest (omega (arith, counts, most, c.if-length-rest.true)) all
+  where
+    all_with : (at behind left all : ℕ) → at + behind ≡ all → behind ≡ suc left → at + 1 ≤ all
+    all_with at behind left all sum e = omega (arith, sum, e)
+
 pub loop-mv-preserved : goal.loop-mv-preserved
 loop-mv-preserved g c =
     let model = c.args.self.now.model.now in
     let lists = c.args.self.now.routes.now.lists in
+    let tabus = tabus_of c.args.self.now.state.now.tabus in
+    let best = c.args.self.now.state.now.best.routes.lists in
     let i = c.loop-mv.invariant in
     let e = c.in_ok-best.ensures in
-    let split = c.in-Some.ensures.steps in
+    let t = c.in-Some.ensures in
+    let is = pass_over model tabus best lists c.loop-mv.best c.args.self.now.ceiling c.loop-mv.list t.behind c.loop-mv.length c.next_open.new.length i.known c.requires.ceiling t.passes i.counted i.moves i.left in
+    let counts = is.counts in
+    let from = is.from in
+    let under = c.if-length-rest.false in
+    let few = c.requires.rest in
+    let at : c.next_open.new.length ≡ is.at = counts ∙ exact is.at (omega (arith, counts, under, few)) in
     record {
       model = e.model ∙ i.model;
       committed = e.committed ∙ i.committed;
-      asked = omega (arith, e.asked, i.asked);
-      within = omega (arith, i.within, c.if-length-rest.false);
-      counted = one_more c.loop-mv.length (length c.next.new.self) (length (moves model lists)) (ap (λ ms. c.loop-mv.length + length ms) (sym split) ∙ i.counted);
-      moves = and_right (is_move model lists c.in-Some.mv) (list_all (is_move model lists) c.next.new.self) (ap (list_all (is_move model lists)) (sym split) ∙ i.moves);
+      asked = omega (arith, e.asked, i.asked, from, at);
+      within = omega (arith, under);
+      counted = one_more c.next_open.new.length (length c.next_open.new.list) (length (moves model lists)) (ap (λ n. n + suc (length c.next_open.new.list)) at ∙ (ap (λ ms. is.at + length ms) (sym t.first) ∙ is.sum));
+      moves = and_right (is_move model lists c.in-Some.mv) (list_all (is_move model lists) c.next_open.new.list) (ap (list_all (is_move model lists)) (sym t.first) ∙ is.moves);
       known = e.known;
-      left = one_tried model (tabus_of c.args.self.now.state.now.tabus) c.args.self.now.state.now.best.routes.lists lists c.loop-mv.best c.in_ok-best.best c.in-Some.mv c.loop-mv.list c.next.new.self split e.best i.left;
+      left = one_tried model tabus best lists c.loop-mv.best c.in_ok-best.best c.in-Some.mv t.behind c.next_open.new.list t.first e.best is.left;
     }
+
+pub returns-then-length-rest-2-clause-ends : goal.returns-then-length-rest-2-clause-ends
+returns-then-length-rest-2-clause-ends g c =
+    let model = c.args.self.now.model.now in
+    let lists = c.args.self.now.routes.now.lists in
+    let tabus = tabus_of c.args.self.now.state.now.tabus in
+    let best = c.args.self.now.state.now.best.routes.lists in
+    let i = c.loop-mv.invariant in
+    let t = c.in_default.ensures in
+    let is = pass_over model tabus best lists c.loop-mv.best c.args.self.now.ceiling c.loop-mv.list t.behind c.loop-mv.length c.next_open.new.length i.known c.requires.ceiling t.passes i.counted i.moves i.left in
+    let counts = is.counts in
+    let sum = is.sum in
+    let most = at_most is.at in
+    cut_off model tabus best lists is.at c.args.rest (omega (arith, counts, most, c.if-length-rest-2.true)) (omega (arith, sum))
+
+pub returns-clause-ends : goal.returns-clause-ends
+returns-clause-ends g c =
+    let model = c.args.self.now.model.now in
+    let lists = c.args.self.now.routes.now.lists in
+    let tabus = tabus_of c.args.self.now.state.now.tabus in
+    let best = c.args.self.now.state.now.best.routes.lists in
+    let i = c.loop-mv.invariant in
+    let t = c.in_default.ensures in
+    let is = pass_over model tabus best lists c.loop-mv.best c.args.self.now.ceiling c.loop-mv.list t.behind c.loop-mv.length c.next_open.new.length i.known c.requires.ceiling t.passes i.counted i.moves i.left in
+    let counts = is.counts in
+    let under = c.if-length-rest-2.false in
+    let few = c.requires.rest in
+    let at : c.next_open.new.length ≡ is.at = counts ∙ exact is.at (omega (arith, counts, under, few)) in
+    c.end_of.ensures ∙ all_tried model tabus best lists c.next_open.new.length c.args.rest c.loop-mv.best t.behind t.first.0 (ap (λ n. n + length t.behind) at ∙ is.sum) (omega (arith, under)) i.known is.left
+
+pub returns-clause-asked : goal.returns-clause-asked
+returns-clause-asked g c =
+    let i = c.loop-mv.invariant in
+    let t = c.in_default.ensures in
+    let model = c.args.self.now.model.now in
+    let lists = c.args.self.now.routes.now.lists in
+    let tabus = tabus_of c.args.self.now.state.now.tabus in
+    let best = c.args.self.now.state.now.best.routes.lists in
+    let is = pass_over model tabus best lists c.loop-mv.best c.args.self.now.ceiling c.loop-mv.list t.behind c.loop-mv.length c.next_open.new.length i.known c.requires.ceiling t.passes i.counted i.moves i.left in
+    let counts = is.counts in
+    let from = is.from in
+    let under = c.if-length-rest-2.false in
+    let few = c.requires.rest in
+    let at : c.next_open.new.length ≡ is.at = counts ∙ exact is.at (omega (arith, counts, under, few)) in
+    let tries : tries_of c.args.rest c.end_of.result ≡ c.next_open.new.length = ap (tries_of c.args.rest) c.end_of.ensures ∙ tries_end c.args.rest c.next_open.new.length c.loop-mv.best in
+    omega (arith, i.asked, from, at, tries)
