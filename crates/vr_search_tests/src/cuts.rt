@@ -1,6 +1,6 @@
 //! What the search by cuts finds, where the construction of a first solution rebuilds.
 
-ghost use Rattle.std.specs.Prelude.{◌≡◌, ◌≤◌, IsTrue};
+ghost use Rattle.std.specs.Prelude.{◌≡◌, ◌≤◌, ⊤, IsTrue};
 ghost use Rattle.vr_model.specs.routes.Rules.{is_valid};
 ghost use Rattle.vr_model.specs.tables.Tables.{visits};
 ghost use Rattle.vr_model.specs.tables.WellFormed.{IsWellFormed};
@@ -10,6 +10,7 @@ use crate::rows::{Asks, Row, assert_rows};
 use crate::searches::{Wanted, has_list};
 use std::alloc::Global;
 use vr_first_insert::rebuild;
+use vr_lists::NodeTables;
 use vr_lns::{Rebuild, lns};
 use vr_model::{End, Limit, Model, NoMemory, Report};
 use vr_routes::Routes;
@@ -36,9 +37,25 @@ struct Inserting {
 impl Rebuild for Inserting {
     ghost made = { λ inserting. inserting.count };
 
+    ghost knows = { λ inserting model. ⊤ };
+
     fn rebuild(&mut self, model: &Model, routes: &Routes) -> Result<Routes, NoMemory> {
         self.count = self.count.saturating_add(1);
         let after = rebuild(self.alloc, model, routes)?;
+        Ok(after)
+    }
+
+    fn know(&mut self, _model: &Model, _lookups: &NodeTables<'_>) -> Result<(), NoMemory> {
+        Ok(())
+    }
+
+    fn rebuild_known(
+        &mut self,
+        model: &Model,
+        _lookups: &NodeTables<'_>,
+        routes: &Routes,
+    ) -> Result<Routes, NoMemory> {
+        let after = self.rebuild(model, routes)?;
         Ok(after)
     }
 }
@@ -66,8 +83,8 @@ fn report_of(
     Ok(report)
 }
 
-// Whether two searches end for the same cause.
-fn is_same_end(one: End, other: End) -> bool {
+/// Whether two searches end for the same cause.
+pub(crate) fn is_same_end(one: End, other: End) -> bool {
     match (one, other) {
         (End::Optimum, End::Optimum) => true,
         (End::Tries, End::Tries) => true,

@@ -10,7 +10,7 @@ ghost use Rattle.vr_routes.specs.Changes.{IsMadeOn};
 ghost use Rattle.vr_routes.specs.Pieces.{changed};
 ghost use Rattle.vr_timings.specs.Tables.{AreTables};
 
-use crate::models::{LATE, LATE_TIGHT};
+use crate::models::{LATE, LATE_TIGHT, LATE_TIGHT_FREE};
 use crate::rows::{Asks, Row, assert_rows, stays_valid};
 use std::alloc::Global;
 use vr_cumuls::{AllCumuls, Paid, Trail};
@@ -157,6 +157,36 @@ const ROWS: &[Row] = &[
             Paid::Together,
             Move::MakeInactive { v: 0, a: 4 },
             Move::TwoOpt { v: 0, a: 0, b: 1 },
+        ),
+    },
+    Row {
+        name: "the front of a tight vehicle is turned, and then its end, where soft bounds cost something",
+        text: LATE_TIGHT,
+        lists: LATE_LISTS,
+        asks: Asks::Kept(
+            Paid::Alone,
+            Move::TwoOpt { v: 0, a: 0, b: 1 },
+            Move::TwoOpt { v: 0, a: 3, b: 4 },
+        ),
+    },
+    Row {
+        name: "the front of a tight vehicle is turned, and then its end, where soft bounds cost nothing",
+        text: LATE_TIGHT_FREE,
+        lists: LATE_LISTS,
+        asks: Asks::Kept(
+            Paid::Alone,
+            Move::TwoOpt { v: 0, a: 0, b: 1 },
+            Move::TwoOpt { v: 0, a: 3, b: 4 },
+        ),
+    },
+    Row {
+        name: "a stretch of a tight vehicle is turned, and then a visit leaves, where soft bounds cost nothing",
+        text: LATE_TIGHT_FREE,
+        lists: LATE_LISTS,
+        asks: Asks::Kept(
+            Paid::Together,
+            Move::TwoOpt { v: 0, a: 1, b: 3 },
+            Move::MakeInactive { v: 0, a: 2 },
         ),
     },
 ];

@@ -24,3 +24,5 @@ mod rows;
 mod searches;
 #[cfg(test)]
 mod stopped;
+#[cfg(test)]
+mod tabus;

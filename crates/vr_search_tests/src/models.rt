@@ -99,6 +99,16 @@ pub(crate) const LATE_TIGHT: &str =
 {"node":6,"window":[400,450],"soft":{"bound":401,"coefficient":6}}],
 "ends":[{"vehicle":0,"soft":{"bound":180,"coefficient":1}}]}]}"#;
 
+/// The same day of tight vehicles, where soft bounds cost nothing.
+pub(crate) const LATE_TIGHT_FREE: &str =
+    r#"{"format":2,"nodes":7,"matrices":[[[0,10,20,30,40,50,60],[13,0,10,20,30,40,50],
+[23,13,0,10,20,30,40],[33,23,13,0,10,20,30],[43,33,23,13,0,10,20],[53,43,33,23,13,0,10],[63,53,43,33,23,13,0]]],
+"vehicles":[{"start":0,"end":0,"schedule":"tight"},{"start":0,"end":0,"schedule":"tight"},{"start":0,"end":0}],
+"groups":[{"nodes":[3],"penalty":5},{"nodes":[5],"penalty":7},{"nodes":[6],"penalty":9}],
+"dimensions":[{"name":"time","evaluators":[{"matrix":0}],"capacity":1000,"slack_max":5,"span_cost":2,
+"global_span_cost":3,"nodes":[{"node":2,"window":[0,220]},{"node":3,"window":[100,210]},{"node":4,"window":[0,250]},
+{"node":5,"window":[150,300]},{"node":6,"window":[400,450]}]}]}"#;
+
 /// Three nodes all 5 apart, two vehicles, and a cost of the time from the first start to the last end.
 pub(crate) const TWO_VANS: &str = r#"{"format":1,"nodes":3,"matrices":[[[0,5,5],[5,0,5],[5,5,0]]],
 "vehicles":[{"start":0,"end":0},{"start":0,"end":0}],
@@ -153,3 +163,13 @@ pub(crate) const ON_TIME: &str =
 "vehicles":[{"start":0,"end":0}],
 "dimensions":[{"name":"time","evaluators":[{"matrix":0}],"capacity":100,"slack_max":0,"fix_start":true,
 "nodes":[{"node":1,"window":[6,6]},{"node":2,"window":[1,10],"forbidden":[[2,9]]},{"node":3,"window":[3,3]}]}]}"#;
+
+/// Three visits whose order is turned in part, from 26 to 18 in two ways, and from there to 14.
+pub(crate) const SHORTCUT: &str =
+    r#"{"format":1,"nodes":4,"matrices":[[[0,9,4,3],[4,0,7,5],[1,6,0,7],[3,3,5,0]]],
+"vehicles":[{"start":0,"end":0}],"search":{"neighbourhoods":["two_opt"]}}"#;
+
+/// Three visits whose order is turned in part, from 12 only by way of 14 to 11.
+pub(crate) const DETOUR: &str =
+    r#"{"format":1,"nodes":4,"matrices":[[[0,5,8,1],[5,0,1,8],[3,2,0,2],[4,6,6,0]]],
+"vehicles":[{"start":0,"end":0}],"search":{"neighbourhoods":["two_opt"]}}"#;

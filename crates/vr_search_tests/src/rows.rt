@@ -13,6 +13,7 @@ use crate::filters::{self, Filter};
 use crate::judges::{self, Said};
 use crate::parts::{self, Part};
 use crate::searches::{self, Search, Wanted};
+use crate::tabus::{self, Tabus};
 use crate::{kept, stopped};
 use std::alloc::Global;
 use std::process::Abort;
@@ -44,6 +45,8 @@ pub(crate) enum Asks {
     Search(By, Search, &'static Wanted),
     /// What the search by cuts finds.
     Cuts(&'static Cuts),
+    /// What tabu search finds.
+    Tabu(By, &'static Tabus),
     /// That a watcher which refuses ends the descent.
     Stopper,
 }
@@ -103,6 +106,7 @@ fn of_routes(
             alloc, model, routes, by, search, wanted,
         ),
         Asks::Cuts(cuts) => cuts::finds(alloc, model, routes, cuts),
+        Asks::Tabu(by, tabus) => tabus::finds(alloc, model, routes, by, tabus),
         Asks::Stopper => stopped::ends_between_watchers(alloc, model, routes),
     }
 }
