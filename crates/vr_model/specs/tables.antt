@@ -5,3 +5,4 @@ pub mod Limits
 pub mod Tables
 pub mod ModelRules
 pub mod WellFormed
+pub mod WellFormedOnce

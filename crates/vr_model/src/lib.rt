@@ -1,6 +1,7 @@
 //! The records of a routing model, and the definitions that every layer above cites.
 #![tactic(auto)]
 
+mod closed;
 pub mod laws;
 pub mod limits;
 mod lookups;
@@ -12,6 +13,7 @@ mod sequence;
 mod steps;
 mod words;
 
+pub use closed::Closed;
 pub use memory::NoMemory;
 pub use neighbours::{Move, Neighbourhood};
 pub use records::{
