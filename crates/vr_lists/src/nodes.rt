@@ -10,7 +10,7 @@ ghost use Rattle.vr_lists.specs.Nodes.{AreMarksOf, AreNumbers, AreNumbersBy, Are
 
 use std::alloc::Global;
 use std::marker::Model;
-use vr_model::{Allowed, Model as RoutingModel, NoMemory, Pair, Seq};
+use vr_model::{Allowed, Closed, Model as RoutingModel, NoMemory, Pair, Seq};
 
 /// The group and the pair of each node of a model, and the vehicles that may visit it, looked up once in one pass over
 /// groups, pairs and rows of allowed vehicles. Contracts see the model. An answer about a node takes no memory, and no
@@ -46,12 +46,13 @@ impl<'m> NodeTables<'m> {
         requires { IsWellFormed model.now }
         ensures { IfOk result (λ tables. tables ≡ model.now) }
     {
+        let closed = Closed { model };
         Ok(NodeTables {
             model,
             groups: group_numbers(alloc, model)?,
-            pairs: pair_numbers(alloc, model)?,
-            rows: row_numbers(alloc, model)?,
-            marks: row_marks(alloc, model)?,
+            pairs: pair_numbers(alloc, closed)?,
+            rows: row_numbers(alloc, closed)?,
+            marks: row_marks(alloc, closed)?,
         })
     }
 
@@ -155,44 +156,45 @@ fn write_each<T: Copy>(values: &mut [T], places: &[u32], value: T)
 }
 
 // Writes over the numbers of the groups of all nodes, from the last group to the first.
-fn write_groups(model: &RoutingModel, numbers: &mut [u32])
-    requires well_formed { IsWellFormed model.now }
-    requires long { length numbers.old ≡ model.now.nodes }
-    ensures { AreNumbers model.now numbers.new }
+fn write_groups(closed: Closed<'_>, numbers: &mut [u32])
+    requires long { length numbers.old ≡ closed.model.now.nodes }
+    ensures { AreNumbers closed.entry.model.now numbers.new }
 {
-    let mut g = model.groups.len();
+    let mut g = closed.model.groups.len();
     numbers.fill(g as u32);
     while g > 0 {
         g -= 1;
-        write_each(numbers, model.groups.get(g).nodes.as_slice(), g as u32);
+        write_each(
+            numbers,
+            closed.model.groups.get(g).nodes.as_slice(),
+            g as u32,
+        );
     }
 }
 
 // Writes over the numbers of the rows of all nodes, from the last row to the first.
-fn write_rows(model: &RoutingModel, numbers: &mut [u32])
-    requires well_formed { IsWellFormed model.now }
-    requires long { length numbers.old ≡ model.now.nodes }
-    ensures { AreNumbersBy (row_number_of model.now) model.now.nodes numbers.new }
+fn write_rows(closed: Closed<'_>, numbers: &mut [u32])
+    requires long { length numbers.old ≡ closed.model.now.nodes }
+    ensures { AreNumbersBy (row_number_of closed.entry.model.now) closed.entry.model.now.nodes numbers.new }
 {
-    let mut k = model.allowed.len();
+    let mut k = closed.model.allowed.len();
     numbers.fill(k as u32);
     while k > 0 {
         k -= 1;
-        numbers[model.allowed.get(k).node as usize] = k as u32;
+        numbers[closed.model.allowed.get(k).node as usize] = k as u32;
     }
 }
 
 // Writes over the numbers of the pairs of all nodes, from the last pair to the first.
-fn write_pairs(model: &RoutingModel, numbers: &mut [u32])
-    requires well_formed { IsWellFormed model.now }
-    requires long { length numbers.old ≡ model.now.nodes }
-    ensures { AreNumbersBy (pair_number model.now) model.now.nodes numbers.new }
+fn write_pairs(closed: Closed<'_>, numbers: &mut [u32])
+    requires long { length numbers.old ≡ closed.model.now.nodes }
+    ensures { AreNumbersBy (pair_number closed.entry.model.now) closed.entry.model.now.nodes numbers.new }
 {
-    let mut k = model.pairs.len();
+    let mut k = closed.model.pairs.len();
     numbers.fill(k as u32);
     while k > 0 {
         k -= 1;
-        let pair = *model.pairs.get(k);
+        let pair = *closed.model.pairs.get(k);
         numbers[pair.pickup as usize] = k as u32;
         numbers[pair.delivery as usize] = k as u32;
     }
@@ -206,29 +208,27 @@ pub fn group_numbers(alloc: Global, model: &RoutingModel) -> Result<Seq<u32>, No
 {
     let mut numbers = Vec::new(alloc);
     numbers.resize(model.nodes as usize, 0)?;
-    write_groups(model, &mut numbers);
+    write_groups(Closed { model }, &mut numbers);
     Ok(Seq::from(numbers))
 }
 
 // For each node of a model the number of its pair.
-fn pair_numbers(alloc: Global, model: &RoutingModel) -> Result<Seq<u32>, NoMemory>
-    requires { IsWellFormed model.now }
-    ensures { IfOk result (AreNumbersBy (pair_number model.now) model.now.nodes) }
+fn pair_numbers(alloc: Global, closed: Closed<'_>) -> Result<Seq<u32>, NoMemory>
+    ensures { IfOk result (AreNumbersBy (pair_number closed.entry.model.now) closed.entry.model.now.nodes) }
 {
     let mut numbers = Vec::new(alloc);
-    numbers.resize(model.nodes as usize, 0)?;
-    write_pairs(model, &mut numbers);
+    numbers.resize(closed.model.nodes as usize, 0)?;
+    write_pairs(closed, &mut numbers);
     Ok(Seq::from(numbers))
 }
 
 // For each node of a model the number of its row of allowed vehicles.
-fn row_numbers(alloc: Global, model: &RoutingModel) -> Result<Seq<u32>, NoMemory>
-    requires { IsWellFormed model.now }
-    ensures { IfOk result (AreNumbersBy (row_number_of model.now) model.now.nodes) }
+fn row_numbers(alloc: Global, closed: Closed<'_>) -> Result<Seq<u32>, NoMemory>
+    ensures { IfOk result (AreNumbersBy (row_number_of closed.entry.model.now) closed.entry.model.now.nodes) }
 {
     let mut numbers = Vec::new(alloc);
-    numbers.resize(model.nodes as usize, 0)?;
-    write_rows(model, &mut numbers);
+    numbers.resize(closed.model.nodes as usize, 0)?;
+    write_rows(closed, &mut numbers);
     Ok(Seq::from(numbers))
 }
 
@@ -263,13 +263,16 @@ fn marks_of(alloc: Global, vehicles: usize, row: &Allowed) -> Result<Seq<bool>, 
 }
 
 // The same of each row.
-fn row_marks(alloc: Global, model: &RoutingModel) -> Result<Seq<Seq<bool>>, NoMemory>
-    requires { IsWellFormed model.now }
-    ensures { IfOk result (AreRowMarks model.now) }
+fn row_marks(alloc: Global, closed: Closed<'_>) -> Result<Seq<Seq<bool>>, NoMemory>
+    ensures { IfOk result (AreRowMarks closed.entry.model.now) }
 {
     let mut marks = Seq::new(alloc);
-    for k in 0..model.allowed.len() {
-        marks.push(marks_of(alloc, model.vehicles.len(), model.allowed.get(k))?)?;
+    for k in 0..closed.model.allowed.len() {
+        marks.push(marks_of(
+            alloc,
+            closed.model.vehicles.len(),
+            closed.model.allowed.get(k),
+        )?)?;
     }
     Ok(marks)
 }

@@ -12,7 +12,7 @@ ghost use Rattle.vr_lists.specs.Pairs.{allows_beside, keeps_pairs, places_allow,
 
 use crate::places::write_places;
 use arrayvec::ArrayVec;
-use vr_model::{Model, Pair, Policy};
+use vr_model::{Closed, Model, Pair, Policy};
 
 // Where the nodes of a pair stand in a list.
 #[derive(Clone, Copy, Default)]
@@ -55,14 +55,13 @@ fn serves(list: &[u32], places: &[u32], pair: Pair) -> bool
 }
 
 // Whether the list serves each pair.
-fn serves_all(model: &Model, list: &[u32], places: &[u32]) -> bool
-    requires well_formed { IsWellFormed model.now }
+fn serves_all(closed: Closed<'_>, list: &[u32], places: &[u32]) -> bool
     requires distinct { IsTrue (is_distinct list.now) }
-    requires places { ArePlaces model.now.nodes list.now places.now }
-    ensures { result ≡ list_all (serves_pair list.now) model.now.pairs }
+    requires places { ArePlaces closed.model.now.nodes list.now places.now }
+    ensures { result ≡ list_all (serves_pair list.now) closed.entry.model.now.pairs }
 {
-    for k in 0..model.pairs.len() {
-        if !serves(list, places, *model.pairs.get(k)) {
+    for k in 0..closed.model.pairs.len() {
+        if !serves(list, places, *closed.model.pairs.get(k)) {
             return false;
         }
     }
@@ -70,14 +69,18 @@ fn serves_all(model: &Model, list: &[u32], places: &[u32]) -> bool
 }
 
 // Writes the pairs of the list over those that were served, by their places.
-fn write_served(model: &Model, list: &[u32], places: &[u32], served: &mut ArrayVec<Served, 500>)
-    requires well_formed { IsWellFormed model.now }
-    requires places { ArePlaces model.now.nodes list.now places.now }
-    ensures { served.new.items ≡ served_in list.now model.now.pairs }
+fn write_served(
+    closed: Closed<'_>,
+    list: &[u32],
+    places: &[u32],
+    served: &mut ArrayVec<Served, 500>,
+)
+    requires places { ArePlaces closed.model.now.nodes list.now places.now }
+    ensures { served.new.items ≡ served_in list.now closed.entry.model.now.pairs }
 {
     served.clear();
-    for k in 0..model.pairs.len() {
-        let pair = model.pairs.get(k);
+    for k in 0..closed.model.pairs.len() {
+        let pair = closed.model.pairs.get(k);
         let pickup = places[pair.pickup as usize];
         let delivery = places[pair.delivery as usize];
         if (pickup as usize) < list.len() {
@@ -88,14 +91,13 @@ fn write_served(model: &Model, list: &[u32], places: &[u32], served: &mut ArrayV
 
 // Whether a policy allows each two pairs of the list. The pairs of the list are put by their places, since they are few
 // beside those of the model.
-fn allows_pairs(model: &Model, policy: Policy, list: &[u32], places: &[u32]) -> bool
-    requires well_formed { IsWellFormed model.now }
-    requires places { ArePlaces model.now.nodes list.now places.now }
-    ensures { result ≡ list_all (allows_beside policy (served_in list.now model.now.pairs))
-        (served_in list.now model.now.pairs) }
+fn allows_pairs(closed: Closed<'_>, policy: Policy, list: &[u32], places: &[u32]) -> bool
+    requires places { ArePlaces closed.model.now.nodes list.now places.now }
+    ensures { result ≡ list_all (allows_beside policy (served_in list.now closed.entry.model.now.pairs))
+        (served_in list.now closed.entry.model.now.pairs) }
 {
     let mut served = ArrayVec::new();
-    write_served(model, list, places, &mut served);
+    write_served(closed, list, places, &mut served);
     allows_all(policy, served.as_slice())
 }
 
@@ -149,14 +151,15 @@ pub fn keeps_pairs(model: &Model, v: u32, list: &[u32], places: &mut PairPlaces)
     requires distinct { IsTrue (is_distinct list.now) }
     ensures { result ≡ keeps_pairs model.now v list.now }
 {
+    let closed = Closed { model };
     if model.pairs.is_empty() {
         return true;
     }
     let nodes = &mut places.nodes[..model.nodes as usize];
     write_places(list, nodes);
-    if !serves_all(model, list, nodes) {
+    if !serves_all(closed, list, nodes) {
         return false;
     }
     let policy = model.vehicles.get(v as usize).policy;
-    asks_nothing(policy) || allows_pairs(model, policy, list, nodes)
+    asks_nothing(policy) || allows_pairs(closed, policy, list, nodes)
 }

@@ -8,5 +8,5 @@ use Rattle.vr_lists.proofs.nodes.row_marks.Given as goal
 abbrev pub invariant-loop-k : goal.invariant-loop-k
 invariant-loop-k l = record {
   long : length l.marks ≡ l.k;
-  each : (k : ℕ) (other : Allowed) → k < l.k → AreMarksOf (slice_index_or l.model.allowed k other) (slice_index_or l.marks k []);
+  each : (k : ℕ) (other : Allowed) → k < l.k → AreMarksOf (slice_index_or l.closed.model.now.allowed k other) (slice_index_or l.marks k []);
 }

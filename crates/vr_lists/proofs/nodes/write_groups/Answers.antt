@@ -7,7 +7,7 @@ use Rattle.vr_lists.proofs.nodes.write_groups.Goals as goal
 
 pub loop-g-preserved : goal.loop-g-preserved
 loop-g-preserved c =
-    let groups = c.args.model.now.groups in
+    let groups = c.args.closed.model.now.groups in
     let m = c.loop-g.invariant in
     let k : ℕ = c.loop-g.g - 1 in
     let low : k < length groups = omega (arith, c.loop-g-test.true, m.within) in

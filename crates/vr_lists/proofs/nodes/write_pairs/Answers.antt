@@ -10,14 +10,14 @@ use Rattle.vr_lists.proofs.nodes.write_pairs.Goals as goal
 
 pub loop-k-preserved : goal.loop-k-preserved
 loop-k-preserved c =
-    let model = c.args.model.now in
+    let model = c.args.closed.model.now in
     let m = c.loop-k.invariant in
     let k : ℕ = c.loop-k.k - 1 in
     let low : k < length model.pairs = omega (arith, c.loop-k-test.true, m.within) in
     let more : k + 1 ≡ c.loop-k.k = omega (arith, c.loop-k-test.true) in
     let pair = c.get-pair.result.now in
     let is : get_or model.pairs k pair ≡ pair = c.get-pair.ensures.value pair in
-    let visits : IsPair model pair = subst (IsPair model) is (c.requires.well_formed.each_pair k pair low) in
+    let visits : IsPair model pair = subst (IsPair model) is (c.args.closed.well_formed.each_pair k pair low) in
     let pickup = visit_below model pair.pickup visits.pickup_is_visit in
     let delivery = visit_below model pair.delivery visits.delivery_is_visit in
     let numbers = c.loop-k.numbers in

@@ -7,9 +7,9 @@ use Rattle.vr_lists.proofs.nodes.write_pairs.Given as goal
 -- the nodes of the pairs from here on have their numbers
 abbrev pub invariant-loop-k : goal.invariant-loop-k
 invariant-loop-k l = record {
-  within : l.k ≤ length l.model.pairs;
-  long : length l.numbers ≡ l.model.nodes;
-  each : (node : ℕ) → node < l.model.nodes → number_of l.numbers node ≡ l.k + position_or_len (λ pair. (pair.pickup == node) || (pair.delivery == node)) (drop l.k l.model.pairs);
+  within : l.k ≤ length l.closed.model.now.pairs;
+  long : length l.numbers ≡ l.closed.model.now.nodes;
+  each : (node : ℕ) → node < l.closed.model.now.nodes → number_of l.numbers node ≡ l.k + position_or_len (λ pair. (pair.pickup == node) || (pair.delivery == node)) (drop l.k l.closed.model.now.pairs);
 }
 
 abbrev pub decreases-loop-k : goal.decreases-loop-k

@@ -10,14 +10,14 @@ use Rattle.vr_lists.proofs.nodes.write_rows.Goals as goal
 
 pub loop-k-preserved : goal.loop-k-preserved
 loop-k-preserved c =
-    let model = c.args.model.now in
+    let model = c.args.closed.model.now in
     let m = c.loop-k.invariant in
     let k : ℕ = c.loop-k.k - 1 in
     let low : k < length model.allowed = omega (arith, c.loop-k-test.true, m.within) in
     let more : k + 1 ≡ c.loop-k.k = omega (arith, c.loop-k-test.true) in
     let row = c.get.result.now in
     let is : get_or model.allowed k row ≡ row = c.get.ensures.value row in
-    let visit : IsTrue (is_visit model row.node) = subst (λ (r : Allowed). IsTrue (is_visit model r.node)) is (c.requires.well_formed.each_allowed k row low).node_is_visit in
+    let visit : IsTrue (is_visit model row.node) = subst (λ (r : Allowed). IsTrue (is_visit model r.node)) is (c.args.closed.well_formed.each_allowed k row low).node_is_visit in
     let here = visit_below model row.node visit in
     record {
       within = omega (arith, m.within);

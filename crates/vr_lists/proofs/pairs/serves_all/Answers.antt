@@ -5,8 +5,8 @@ use Rattle.vr_lists.proofs.pairs.serves_all.Goals as goal
 
 pub returns-then-not-serves : goal.returns-then-not-serves
 returns-then-not-serves c = let pair = c.get.result.now in
-    sym (all_stops (serves_pair c.args.list.now) c.args.model.now.pairs c.loop-k.k pair (omega arith) (c.get.ensures.value pair) (sym c.serves.ensures ∙ c.if-not-serves.true))
+    sym (all_stops (serves_pair c.args.list.now) c.args.closed.model.now.pairs c.loop-k.k pair (omega arith) (c.get.ensures.value pair) (sym c.serves.ensures ∙ c.if-not-serves.true))
 
 pub loop-k-preserved : goal.loop-k-preserved
 loop-k-preserved c = let pair = c.get.result.now in
-    all_more (serves_pair c.args.list.now) c.args.model.now.pairs c.loop-k.k pair (omega arith) (c.get.ensures.value pair) c.loop-k.invariant (sym c.serves.ensures ∙ c.if-not-serves.false)
+    all_more (serves_pair c.args.list.now) c.args.closed.model.now.pairs c.loop-k.k pair (omega arith) (c.get.ensures.value pair) c.loop-k.invariant (sym c.serves.ensures ∙ c.if-not-serves.false)

@@ -10,13 +10,13 @@ use Rattle.vr_lists.proofs.pairs.write_served.Goals as goal
 
 pub loop-k-preserved : goal.loop-k-preserved
 loop-k-preserved c =
-    let model = c.args.model.now in
+    let model = c.args.closed.model.now in
     let list = c.args.list.now in
     let places : List ℕ = c.args.places.now in
     let k : ℕ = c.loop-k.k in
     let pair : Pair = c.get-pair.result.now in
     let low : k < length model.pairs = omega arith in
-    let visits : IsPair model pair = subst (IsPair model) (c.get-pair.ensures.value pair) (c.requires.well_formed.each_pair k pair low) in
+    let visits : IsPair model pair = subst (IsPair model) (c.get-pair.ensures.value pair) (c.args.closed.well_formed.each_pair k pair low) in
     let at_pickup = c.requires.places.each pair.pickup 0 (visit_below model pair.pickup visits.pickup_is_visit) in
     let at_delivery = c.requires.places.each pair.delivery 0 (visit_below model pair.delivery visits.delivery_is_visit) in
     elim c.if-pickup-list.branch [
