@@ -18,7 +18,7 @@ use crate::visits::{missing, wrong_dropped, wrong_group};
 use crate::{Finding, Rule};
 use serde_json::Value;
 use std::alloc::Global;
-use vr_model::{Model, NoMemory, Seq};
+use vr_model::{Closed, Model, NoMemory, Seq};
 use vr_printed::{Printed, printed_lists, read_printed};
 
 /// What the check finds in the solution that a tree prints: its cost where it keeps each rule of the model, else the
@@ -33,7 +33,7 @@ pub fn check(alloc: Global, model: &Model, solution: &Value) -> Result<Finding, 
         None => Ok(Rule::Shape.broken(Spot::nowhere())),
         Some(printed) => {
             let lists = printed_lists(alloc, printed.routes.as_slice())?;
-            let found = lists_finding(alloc, model, &printed, lists.as_slice())?;
+            let found = lists_finding(alloc, Closed { model }, &printed, lists.as_slice())?;
             Ok(found)
         }
     }
@@ -42,88 +42,84 @@ pub fn check(alloc: Global, model: &Model, solution: &Value) -> Result<Finding, 
 // What the rules on lists find, and those behind them.
 fn lists_finding(
     alloc: Global,
-    model: &Model,
+    closed: Closed<'_>,
     printed: &Printed,
     lists: &[Seq<u32>],
 ) -> Result<Finding, NoMemory>
-    requires well_formed { IsWellFormed model.now }
     requires lists { lists.now ≡ lists_of printed.now.routes }
-    requires shaped { IsTrue (are_routes_shaped model.now printed.now.routes) }
-    ensures { IfOk result (λ found. found ≡ checks.lists_finding model.now printed.now lists.now) }
+    requires shaped { IsTrue (are_routes_shaped closed.model.now printed.now.routes) }
+    ensures { IfOk result (λ found. found ≡ checks.lists_finding closed.entry.model.now printed.now lists.now) }
 {
-    if let Some(spot) = wrong_ends(model, printed.routes.as_slice()) {
+    if let Some(spot) = wrong_ends(closed.model, printed.routes.as_slice()) {
         return Ok(Rule::Ends.broken(spot));
     }
     if let Some(spot) = repeated(lists) {
         return Ok(Rule::Once.broken(spot));
     }
-    visits_finding(alloc, model, printed, lists)
+    visits_finding(alloc, closed, printed, lists)
 }
 
 // What the rules on active visits, pairs and vehicles find, and those behind them.
 fn visits_finding(
     alloc: Global,
-    model: &Model,
+    closed: Closed<'_>,
     printed: &Printed,
     lists: &[Seq<u32>],
 ) -> Result<Finding, NoMemory>
-    requires well_formed { IsWellFormed model.now }
     requires lists { lists.now ≡ lists_of printed.now.routes }
-    requires visits { IsTrue (are_lists model.now lists.now) }
-    requires shaped { IsTrue (are_routes_shaped model.now printed.now.routes) }
-    ensures { IfOk result (λ found. found ≡ checks.visits_finding model.now printed.now lists.now) }
+    requires visits { IsTrue (are_lists closed.model.now lists.now) }
+    requires shaped { IsTrue (are_routes_shaped closed.model.now printed.now.routes) }
+    ensures { IfOk result (λ found. found ≡ checks.visits_finding closed.entry.model.now printed.now lists.now) }
 {
-    if let Some(spot) = wrong_dropped(model, lists, printed.dropped.as_slice()) {
+    if let Some(spot) = wrong_dropped(closed.model, lists, printed.dropped.as_slice()) {
         return Ok(Rule::Dropped.broken(spot));
     }
-    if let Some(spot) = missing(model, lists) {
+    if let Some(spot) = missing(closed.model, lists) {
         return Ok(Rule::Required.broken(spot));
     }
-    if let Some(spot) = wrong_group(model, lists) {
+    if let Some(spot) = wrong_group(closed.model, lists) {
         return Ok(Rule::Group.broken(spot));
     }
-    if let Some(spot) = wrong_pair(model, lists) {
+    if let Some(spot) = wrong_pair(closed.model, lists) {
         return Ok(Rule::Pair.broken(spot));
     }
-    if let Some(spot) = wrong_policy(alloc, model, lists)? {
+    if let Some(spot) = wrong_policy(alloc, closed.model, lists)? {
         return Ok(Rule::Policy.broken(spot));
     }
-    if let Some(spot) = refused(model, lists) {
+    if let Some(spot) = refused(closed.model, lists) {
         return Ok(Rule::Allowed.broken(spot));
     }
-    Ok(plans_finding(model, printed, lists))
+    Ok(plans_finding(closed, printed, lists))
 }
 
 // What the rules on plans find, and those behind them.
-fn plans_finding(model: &Model, printed: &Printed, lists: &[Seq<u32>]) -> Finding
-    requires well_formed { IsWellFormed model.now }
+fn plans_finding(closed: Closed<'_>, printed: &Printed, lists: &[Seq<u32>]) -> Finding
     requires lists { lists.now ≡ lists_of printed.now.routes }
-    requires shaped { IsTrue (are_routes_shaped model.now printed.now.routes) }
-    requires visits { IsTrue (are_lists model.now lists.now) }
-    ensures { result ≡ checks.plans_finding model.now printed.now }
+    requires shaped { IsTrue (are_routes_shaped closed.model.now printed.now.routes) }
+    requires visits { IsTrue (are_lists closed.model.now lists.now) }
+    ensures { result ≡ checks.plans_finding closed.entry.model.now printed.now }
 {
     let routes = printed.routes.as_slice();
-    if let Some(spot) = wrong_routes(PlanRule::Cumul, model, lists, routes) {
+    if let Some(spot) = wrong_routes(PlanRule::Cumul, closed, lists, routes) {
         return Rule::Cumul.broken(spot);
     }
-    if let Some(spot) = wrong_routes(PlanRule::Slack, model, lists, routes) {
+    if let Some(spot) = wrong_routes(PlanRule::Slack, closed, lists, routes) {
         return Rule::Slack.broken(spot);
     }
-    if let Some(spot) = wrong_routes(PlanRule::Break, model, lists, routes) {
+    if let Some(spot) = wrong_routes(PlanRule::Break, closed, lists, routes) {
         return Rule::Break.broken(spot);
     }
-    numbers_finding(model, printed, lists)
+    numbers_finding(closed, printed, lists)
 }
 
 // What the rules on numbers find.
-fn numbers_finding(model: &Model, printed: &Printed, lists: &[Seq<u32>]) -> Finding
-    requires well_formed { IsWellFormed model.now }
+fn numbers_finding(closed: Closed<'_>, printed: &Printed, lists: &[Seq<u32>]) -> Finding
     requires lists { lists.now ≡ lists_of printed.now.routes }
-    requires shaped { IsTrue (are_routes_shaped model.now printed.now.routes) }
-    requires visits { IsTrue (are_lists model.now lists.now) }
-    ensures { result ≡ checks.numbers_finding model.now printed.now }
+    requires shaped { IsTrue (are_routes_shaped closed.model.now printed.now.routes) }
+    requires visits { IsTrue (are_lists closed.model.now lists.now) }
+    ensures { result ≡ checks.numbers_finding closed.entry.model.now printed.now }
 {
-    if let Some(spot) = wrong_parts(model, printed, lists) {
+    if let Some(spot) = wrong_parts(closed, printed, lists) {
         return Rule::Parts.broken(spot);
     }
     if let Some(spot) = wrong_cost(printed) {
@@ -132,7 +128,7 @@ fn numbers_finding(model: &Model, printed: &Printed, lists: &[Seq<u32>]) -> Find
     if let Some(spot) = wrong_first_cost(printed) {
         return Rule::FirstCost.broken(spot);
     }
-    if let Some(spot) = wrong_limits(model, printed) {
+    if let Some(spot) = wrong_limits(closed.model, printed) {
         return Rule::Limits.broken(spot);
     }
     Finding::Meets { cost: printed.cost }

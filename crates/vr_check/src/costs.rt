@@ -7,73 +7,69 @@ ghost use Rattle.vr_model.specs.routes.Routes.{are_lists, is_empty, route_cost};
 ghost use Rattle.vr_model.specs.routes.Rules.{active_in};
 ghost use Rattle.vr_model.specs.tables.Tables.{is_visit, vehicle_at};
 ghost use Rattle.vr_model.specs.tables.Limits.{greatest_cost};
-ghost use Rattle.vr_model.specs.tables.WellFormed.{IsIn, IsWellFormed, WherePresent};
+ghost use Rattle.vr_model.specs.tables.WellFormed.{IsIn, WherePresent};
 ghost use Rattle.vr_check.specs.Terms.{IsAround};
 
 use crate::numbers::times;
 use crate::visits::active_in as count_active;
-use vr_model::{Group, Model, Seq};
+use vr_model::{Closed, Group, Seq};
 
 // The costs of the arcs that a vehicle takes with a list, added up.
-fn arcs_of_route(model: &Model, v: usize, list: &[u32]) -> i128
-    requires well_formed { IsWellFormed model.now }
-    requires vehicle { v < length model.now.vehicles }
-    requires visits { IsTrue (list_all (is_visit model.now) list.now) }
-    ensures value { result ≡ route_cost model.now v list.now }
+fn arcs_of_route(closed: Closed<'_>, v: usize, list: &[u32]) -> i128
+    requires vehicle { v < length closed.model.now.vehicles }
+    requires visits { IsTrue (list_all (is_visit closed.model.now) list.now) }
+    ensures value { result ≡ route_cost closed.entry.model.now v list.now }
     ensures low { pos 0 ≤ℤ result }
     ensures high { result ≤ℤ pos (2 ^ 104) }
 {
     if list.is_empty() {
         return 0;
     }
-    let ends = model.vehicles.get(v);
+    let ends = closed.model.vehicles.get(v);
     let mut at = ends.start;
     let mut total: i128 = 0;
     for &node in list {
-        total += i128::from(model.arc_cost(v as u32, at, node));
+        total += i128::from(closed.model.arc_cost(v as u32, at, node));
         at = node;
     }
-    total + i128::from(model.arc_cost(v as u32, at, ends.end))
+    total + i128::from(closed.model.arc_cost(v as u32, at, ends.end))
 }
 
 /// The arcs part.
-pub(crate) fn arcs_of(model: &Model, lists: &[Seq<u32>]) -> i128
-    requires well_formed { IsWellFormed model.now }
-    requires vehicles { length lists.now ≤ length model.now.vehicles }
-    requires visits { IsTrue (are_lists model.now lists.now) }
-    ensures { result ≡ arcs_part model.now lists.now }
+pub(crate) fn arcs_of(closed: Closed<'_>, lists: &[Seq<u32>]) -> i128
+    requires vehicles { length lists.now ≤ length closed.model.now.vehicles }
+    requires visits { IsTrue (are_lists closed.model.now lists.now) }
+    ensures { result ≡ arcs_part closed.entry.model.now lists.now }
 {
     let mut total: i128 = 0;
     for v in 0..lists.len() {
-        total += arcs_of_route(model, v, lists[v].as_slice());
+        total += arcs_of_route(closed, v, lists[v].as_slice());
     }
     total
 }
 
 // What the use of a vehicle costs with a list.
-fn fixed_of_route(model: &Model, v: usize, list: &[u32]) -> i64
-    requires well_formed { IsWellFormed model.now }
-    requires vehicle { v < length model.now.vehicles }
-    ensures value { result ≡ cond (is_empty list.now) (pos 0) (vehicle_at model.now v).fixed }
+fn fixed_of_route(closed: Closed<'_>, v: usize, list: &[u32]) -> i64
+    requires vehicle { v < length closed.model.now.vehicles }
+    ensures value { result ≡ cond (is_empty list.now) (pos 0) (vehicle_at closed.entry.model.now v).fixed }
     ensures low { pos 0 ≤ℤ result }
     ensures high { result ≤ℤ pos (2 ^ 40) }
 {
     if list.is_empty() {
         0
     } else {
-        model.vehicles.get(v).fixed
+        closed.model.vehicles.get(v).fixed
     }
 }
 
 /// The fixed part.
-pub(crate) fn fixed_of(model: &Model, lists: &[Seq<u32>]) -> i128
-    requires well_formed { IsWellFormed model.now }
-    requires vehicles { length lists.now ≤ length model.now.vehicles }
-    ensures { result ≡ fixed_part model.now lists.now }
+pub(crate) fn fixed_of(closed: Closed<'_>, lists: &[Seq<u32>]) -> i128
+    requires vehicles { length lists.now ≤ length closed.model.now.vehicles }
+    ensures { result ≡ fixed_part closed.entry.model.now lists.now }
 {
     let mut total: i128 = 0;
     for v in 0..lists.len() {
-        total += i128::from(fixed_of_route(model, v, lists[v].as_slice()));
+        total += i128::from(fixed_of_route(closed, v, lists[v].as_slice()));
     }
     total
 }
@@ -99,13 +95,12 @@ fn penalty_of_group(lists: &[Seq<u32>], group: &Group) -> i128
 }
 
 /// The penalty part.
-pub(crate) fn penalty_of(model: &Model, lists: &[Seq<u32>]) -> i128
-    requires { IsWellFormed model.now }
-    ensures { result ≡ penalty_part model.now lists.now }
+pub(crate) fn penalty_of(closed: Closed<'_>, lists: &[Seq<u32>]) -> i128
+    ensures { result ≡ penalty_part closed.entry.model.now lists.now }
 {
     let mut total: i128 = 0;
-    for g in 0..model.groups.len() {
-        total += penalty_of_group(lists, model.groups.get(g));
+    for g in 0..closed.model.groups.len() {
+        total += penalty_of_group(lists, closed.model.groups.get(g));
     }
     total
 }

@@ -4,7 +4,6 @@ ghost use Rattle.std.specs.Prelude.{◌≡◌, ◌<◌, ◌^◌, IsTrue, length,
 ghost use Rattle.std.specs.List.{list_all};
 ghost use Rattle.vr_model.specs.tables.Numbers.{within};
 ghost use Rattle.vr_model.specs.tables.Tables.{is_visit};
-ghost use Rattle.vr_model.specs.tables.WellFormed.{IsWellFormed};
 ghost use Rattle.vr_model.specs.routes.Routes.{are_lists};
 ghost use Rattle.vr_model.specs.schedules.Schedules.{cumul, slack};
 ghost use Rattle.vr_model.specs.deciding.ScheduleTests.{slack_is};
@@ -19,7 +18,7 @@ ghost use Rattle.vr_printed.specs.Shape.{are_routes_shaped, is_route_shaped};
 use crate::asked::Asked;
 use crate::breaks::are_breaks_right;
 use crate::finding::Spot;
-use vr_model::{Model, Seq};
+use vr_model::{Closed, Seq};
 use vr_printed::{PrintedPlan, PrintedRoute};
 
 /// One of the rules that look at each plan.
@@ -147,20 +146,24 @@ fn wrong_plan(rule: PlanRule, asked: Asked<'_>, plan: &PrintedPlan) -> Option<Sp
 // Where a rule is broken in a route, dimension after dimension.
 fn wrong_route(
     rule: PlanRule,
-    model: &Model,
+    closed: Closed<'_>,
     v: usize,
     list: &[u32],
     route: &PrintedRoute,
 ) -> Option<Spot>
-    requires well_formed { IsWellFormed model.now }
-    requires vehicle { v < length model.now.vehicles }
+    requires vehicle { v < length closed.model.now.vehicles }
     requires list { list.now ≡ visits_of route.now }
-    requires visits { IsTrue (list_all (is_visit model.now) list.now) }
-    requires shaped { IsTrue (is_route_shaped model.now v route.now) }
-    ensures { result ≡ route_broken rule model.now v route.now }
+    requires visits { IsTrue (list_all (is_visit closed.model.now) list.now) }
+    requires shaped { IsTrue (is_route_shaped closed.model.now v route.now) }
+    ensures { result ≡ route_broken rule closed.entry.model.now v route.now }
 {
     for d in 0..route.plans.len() {
-        let asked = Asked { model, d, v, list };
+        let asked = Asked {
+            model: closed.model,
+            d,
+            v,
+            list,
+        };
         let spot = wrong_plan(rule, asked, route.plans.get(d));
         if spot.is_some() {
             return spot;
@@ -172,18 +175,17 @@ fn wrong_route(
 /// Where a rule is broken in a plan, vehicle after vehicle.
 pub(crate) fn wrong_routes(
     rule: PlanRule,
-    model: &Model,
+    closed: Closed<'_>,
     lists: &[Seq<u32>],
     routes: &[PrintedRoute],
 ) -> Option<Spot>
-    requires well_formed { IsWellFormed model.now }
     requires lists { lists.now ≡ lists_of routes.now }
-    requires visits { IsTrue (are_lists model.now lists.now) }
-    requires shaped { IsTrue (are_routes_shaped model.now routes.now) }
-    ensures { result ≡ routes_broken rule model.now routes.now }
+    requires visits { IsTrue (are_lists closed.model.now lists.now) }
+    requires shaped { IsTrue (are_routes_shaped closed.model.now routes.now) }
+    ensures { result ≡ routes_broken rule closed.entry.model.now routes.now }
 {
     for v in 0..routes.len() {
-        let spot = wrong_route(rule, model, v, lists[v].as_slice(), &routes[v]);
+        let spot = wrong_route(rule, closed, v, lists[v].as_slice(), &routes[v]);
         if spot.is_some() {
             return spot;
         }

@@ -6,7 +6,7 @@ ghost use Rattle.std.specs.List.{list_all};
 ghost use Rattle.std.specs.Option.{option_copied};
 ghost use Rattle.vr_model.specs.tables.Numbers.{below, total_by};
 ghost use Rattle.vr_model.specs.tables.Tables.{is_visit};
-ghost use Rattle.vr_model.specs.tables.WellFormed.{IsSoft, IsStopRow, IsWellFormed, WherePresent};
+ghost use Rattle.vr_model.specs.tables.WellFormed.{IsSoft, IsStopRow, WherePresent};
 ghost use Rattle.vr_model.specs.routes.Costs as costs;
 ghost use Rattle.vr_model.specs.routes.Costs.{soft_part};
 ghost use Rattle.vr_model.specs.routes.Routes.{are_lists};
@@ -18,7 +18,7 @@ ghost use Rattle.vr_check.specs.Terms.{IsAround, soft_along, soft_in};
 use crate::asked::Asked;
 use crate::numbers::times;
 use crate::plans::cumul_at;
-use vr_model::{Model, Seq, Soft, StopRow};
+use vr_model::{Closed, Seq, Soft, StopRow};
 use vr_printed::{PrintedPlan, PrintedRoute};
 
 // How far a cumul is above a bound.
@@ -70,35 +70,38 @@ fn soft_of_plan(asked: Asked<'_>, plan: &PrintedPlan) -> i128
 }
 
 // What the cumuls of a route cost by the rows of their stops.
-fn soft_of_route(model: &Model, v: usize, list: &[u32], route: &PrintedRoute) -> i128
-    requires well_formed { IsWellFormed model.now }
-    requires vehicle { v < length model.now.vehicles }
+fn soft_of_route(closed: Closed<'_>, v: usize, list: &[u32], route: &PrintedRoute) -> i128
+    requires vehicle { v < length closed.model.now.vehicles }
     requires list { list.now ≡ visits_of route.now }
-    requires visits { IsTrue (list_all (is_visit model.now) list.now) }
+    requires visits { IsTrue (list_all (is_visit closed.model.now) list.now) }
     requires few { length list.now ≤ 1000 }
-    requires shaped { IsTrue (is_route_shaped model.now v route.now) }
-    ensures value { result ≡ total_by (soft_in model.now v route.now) (below (length route.now.plans)) }
+    requires shaped { IsTrue (is_route_shaped closed.model.now v route.now) }
+    ensures value { result ≡ total_by (soft_in closed.entry.model.now v route.now) (below (length route.now.plans)) }
     ensures range { IsAround (2 ^ 118) result }
 {
     let mut total: i128 = 0;
     for d in 0..route.plans.len() {
-        let asked = Asked { model, d, v, list };
+        let asked = Asked {
+            model: closed.model,
+            d,
+            v,
+            list,
+        };
         total += soft_of_plan(asked, route.plans.get(d));
     }
     total
 }
 
 /// The soft part.
-pub(crate) fn soft_of(model: &Model, lists: &[Seq<u32>], routes: &[PrintedRoute]) -> i128
-    requires well_formed { IsWellFormed model.now }
+pub(crate) fn soft_of(closed: Closed<'_>, lists: &[Seq<u32>], routes: &[PrintedRoute]) -> i128
     requires lists { lists.now ≡ lists_of routes.now }
-    requires visits { IsTrue (are_lists model.now lists.now) }
-    requires shaped { IsTrue (are_routes_shaped model.now routes.now) }
-    ensures { result ≡ soft_part model.now (assignment_of routes.now) }
+    requires visits { IsTrue (are_lists closed.model.now lists.now) }
+    requires shaped { IsTrue (are_routes_shaped closed.model.now routes.now) }
+    ensures { result ≡ soft_part closed.entry.model.now (assignment_of routes.now) }
 {
     let mut total: i128 = 0;
     for v in 0..routes.len() {
-        total += soft_of_route(model, v, lists[v].as_slice(), &routes[v]);
+        total += soft_of_route(closed, v, lists[v].as_slice(), &routes[v]);
     }
     total
 }

@@ -3,7 +3,7 @@
 ghost use Rattle.std.specs.Prelude.{◌≡◌, ◌<◌, ◌^◌, length, pos, IsTrue};
 ghost use Rattle.vr_model.specs.tables.Numbers.{below, number_at, total_by};
 ghost use Rattle.vr_model.specs.tables.Limits.{greatest_cost};
-ghost use Rattle.vr_model.specs.tables.WellFormed.{IsIn, IsWellFormed};
+ghost use Rattle.vr_model.specs.tables.WellFormed.{IsIn};
 ghost use Rattle.vr_model.specs.tables.Tables.{dimension_at};
 ghost use Rattle.vr_model.specs.routes.Costs.{global_part, global_span, span_part};
 ghost use Rattle.vr_printed.specs.Printed.{assignment_of};
@@ -13,7 +13,7 @@ ghost use Rattle.vr_check.specs.Terms.{IsAround, span_along, span_in};
 
 use crate::numbers::times;
 use crate::plans::cumul_at;
-use vr_model::Model;
+use vr_model::{Closed, Model};
 use vr_printed::{PrintedPlan, PrintedRoute};
 
 // The first cumul.
@@ -42,54 +42,50 @@ fn span_of_plan(plan: &PrintedPlan) -> i128
 }
 
 // The coefficient of the span of a vehicle.
-fn span_coefficient(model: &Model, v: usize, d: usize) -> i64
-    requires well_formed { IsWellFormed model.now }
-    requires vehicle { v < length model.now.vehicles }
-    requires dimension { d < length model.now.dimensions }
-    ensures value { result ≡ number_at (dimension_at model.now d).span_costs v }
+fn span_coefficient(closed: Closed<'_>, v: usize, d: usize) -> i64
+    requires vehicle { v < length closed.model.now.vehicles }
+    requires dimension { d < length closed.model.now.dimensions }
+    ensures value { result ≡ number_at (dimension_at closed.entry.model.now d).span_costs v }
     ensures range { IsIn (pos 0) greatest_cost result }
 {
-    *model.dimensions.get(d).span_costs.get(v)
+    *closed.model.dimensions.get(d).span_costs.get(v)
 }
 
 // What the span of a plan of a route costs.
-fn span_cost(model: &Model, v: usize, route: &PrintedRoute, d: usize) -> i128
-    requires well_formed { IsWellFormed model.now }
-    requires vehicle { v < length model.now.vehicles }
-    requires dimension { d < length model.now.dimensions }
+fn span_cost(closed: Closed<'_>, v: usize, route: &PrintedRoute, d: usize) -> i128
+    requires vehicle { v < length closed.model.now.vehicles }
+    requires dimension { d < length closed.model.now.dimensions }
     requires plan { d < length route.now.plans }
     requires cumuls { 0 < length (plan_in route.now d).cumuls }
-    ensures value { result ≡ span_in model.now v route.now d }
+    ensures value { result ≡ span_in closed.entry.model.now v route.now d }
     ensures range { IsAround (2 ^ 106) result }
 {
-    let coefficient = span_coefficient(model, v, d);
+    let coefficient = span_coefficient(closed, v, d);
     times(coefficient, span_of_plan(route.plans.get(d)))
 }
 
 // What the spans of a route cost.
-fn span_of_route(model: &Model, v: usize, route: &PrintedRoute) -> i128
-    requires well_formed { IsWellFormed model.now }
-    requires vehicle { v < length model.now.vehicles }
-    requires shaped { IsTrue (is_route_shaped model.now v route.now) }
-    ensures value { result ≡ total_by (span_in model.now v route.now) (below (length route.now.plans)) }
+fn span_of_route(closed: Closed<'_>, v: usize, route: &PrintedRoute) -> i128
+    requires vehicle { v < length closed.model.now.vehicles }
+    requires shaped { IsTrue (is_route_shaped closed.model.now v route.now) }
+    ensures value { result ≡ total_by (span_in closed.entry.model.now v route.now) (below (length route.now.plans)) }
     ensures range { IsAround (2 ^ 108) result }
 {
     let mut total: i128 = 0;
     for d in 0..route.plans.len() {
-        total += span_cost(model, v, route, d);
+        total += span_cost(closed, v, route, d);
     }
     total
 }
 
 /// The span part.
-pub(crate) fn span_of(model: &Model, routes: &[PrintedRoute]) -> i128
-    requires well_formed { IsWellFormed model.now }
-    requires shaped { IsTrue (are_routes_shaped model.now routes.now) }
-    ensures { result ≡ span_part model.now (assignment_of routes.now) }
+pub(crate) fn span_of(closed: Closed<'_>, routes: &[PrintedRoute]) -> i128
+    requires shaped { IsTrue (are_routes_shaped closed.model.now routes.now) }
+    ensures { result ≡ span_part closed.entry.model.now (assignment_of routes.now) }
 {
     let mut total: i128 = 0;
     for v in 0..routes.len() {
-        total += span_of_route(model, v, &routes[v]);
+        total += span_of_route(closed, v, &routes[v]);
     }
     total
 }
@@ -153,36 +149,33 @@ fn global_span_of(model: &Model, routes: &[PrintedRoute], d: usize) -> i128
 }
 
 // The coefficient of the span of all routes.
-fn global_coefficient(model: &Model, d: usize) -> i64
-    requires well_formed { IsWellFormed model.now }
-    requires dimension { d < length model.now.dimensions }
-    ensures value { result ≡ (dimension_at model.now d).global_span_cost }
+fn global_coefficient(closed: Closed<'_>, d: usize) -> i64
+    requires dimension { d < length closed.model.now.dimensions }
+    ensures value { result ≡ (dimension_at closed.entry.model.now d).global_span_cost }
     ensures range { IsIn (pos 0) greatest_cost result }
 {
-    model.dimensions.get(d).global_span_cost
+    closed.model.dimensions.get(d).global_span_cost
 }
 
 // What the span of all routes costs in a dimension.
-fn global_cost(model: &Model, routes: &[PrintedRoute], d: usize) -> i128
-    requires well_formed { IsWellFormed model.now }
-    requires dimension { d < length model.now.dimensions }
-    requires shaped { IsTrue (are_routes_shaped model.now routes.now) }
-    ensures value { result ≡ terms.global_cost model.now (assignment_of routes.now) d }
+fn global_cost(closed: Closed<'_>, routes: &[PrintedRoute], d: usize) -> i128
+    requires dimension { d < length closed.model.now.dimensions }
+    requires shaped { IsTrue (are_routes_shaped closed.model.now routes.now) }
+    ensures value { result ≡ terms.global_cost closed.entry.model.now (assignment_of routes.now) d }
     ensures range { IsAround (2 ^ 106) result }
 {
-    let coefficient = global_coefficient(model, d);
-    times(coefficient, global_span_of(model, routes, d))
+    let coefficient = global_coefficient(closed, d);
+    times(coefficient, global_span_of(closed.model, routes, d))
 }
 
 /// The global part.
-pub(crate) fn global_of(model: &Model, routes: &[PrintedRoute]) -> i128
-    requires well_formed { IsWellFormed model.now }
-    requires shaped { IsTrue (are_routes_shaped model.now routes.now) }
-    ensures { result ≡ global_part model.now (assignment_of routes.now) }
+pub(crate) fn global_of(closed: Closed<'_>, routes: &[PrintedRoute]) -> i128
+    requires shaped { IsTrue (are_routes_shaped closed.model.now routes.now) }
+    ensures { result ≡ global_part closed.entry.model.now (assignment_of routes.now) }
 {
     let mut total: i128 = 0;
-    for d in 0..model.dimensions.len() {
-        total += global_cost(model, routes, d);
+    for d in 0..closed.model.dimensions.len() {
+        total += global_cost(closed, routes, d);
     }
     total
 }

@@ -9,7 +9,7 @@ use Rattle.vr_check.proofs.checking.lists_finding.Goals as goal
 
 pub visits_finding-requires-clause-visits : goal.visits_finding-requires-clause-visits
 visits_finding-requires-clause-visits c =
-    let model = c.args.model.now in
+    let model = c.args.closed.model.now in
     let routes = c.args.printed.now.routes in
     let visits = subst (HasVisits model) (sym c.requires.lists) (ends_visits model routes (ap (ends_broken model) (sym c.as_slice.ensures) ∙ sym c.wrong_ends.ensures ∙ c.in_default.is)) in
     let count = ap length c.requires.lists ∙ length-map routes visits_of ∙ routes_count model routes c.requires.shaped in

@@ -5,7 +5,7 @@ use Rattle.vr_check.proofs.costs.arcs_of.Given as goal
 
 abbrev pub invariant-loop-v : goal.invariant-loop-v
 invariant-loop-v l = record {
-  sum : l.total ≡ total_by (arcs_at l.model l.lists) (below l.v);
+  sum : l.total ≡ total_by (arcs_at l.closed.model.now l.lists) (below l.v);
   low : pos 0 ≤ℤ l.total;
   high : l.total ≤ℤ pos (2 ^ 104 * l.v);
 }

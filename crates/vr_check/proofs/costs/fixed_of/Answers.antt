@@ -10,7 +10,7 @@ use Rattle.vr_check.proofs.costs.fixed_of.Goals as goal
 
 pub loop-v-preserved : goal.loop-v-preserved
 loop-v-preserved c =
-    let model = c.args.model.now in
+    let model = c.args.closed.model.now in
     let v = c.loop-v.v in
     let list = c.as_slice.ensures ∙ (c.index-lists-v.is ∙ get_or_default c.args.lists.now v c.index-lists-v.result [] c.loop-v-test.true) in
     let value : c.fixed_of_route.result ≡ fixed_at model c.args.lists.now v = c.fixed_of_route.ensures.value ∙ ap (λ list. cond (is_empty list) (pos 0) (vehicle_at model v).fixed) list in
@@ -18,12 +18,12 @@ loop-v-preserved c =
     let so_far = c.loop-v.invariant in
     let fixed = c.fixed_of_route.ensures in
     record {
-      sum = omega (arith, ints, value, more, fixed.low, fixed.high, so_far.sum, so_far.low, so_far.high, c.from-total.ensures, c.loop-v-test.true, c.requires.vehicles, c.requires.well_formed.number_of_vehicles.at_most);
-      low = omega (arith, ints, fixed.low, fixed.high, so_far.low, so_far.high, c.from-total.ensures, c.loop-v-test.true, c.requires.vehicles, c.requires.well_formed.number_of_vehicles.at_most);
-      high = omega (arith, ints, fixed.low, fixed.high, so_far.low, so_far.high, c.from-total.ensures, c.loop-v-test.true, c.requires.vehicles, c.requires.well_formed.number_of_vehicles.at_most);
+      sum = omega (arith, ints, value, more, fixed.low, fixed.high, so_far.sum, so_far.low, so_far.high, c.from-total.ensures, c.loop-v-test.true, c.requires.vehicles, c.args.closed.well_formed.number_of_vehicles.at_most);
+      low = omega (arith, ints, fixed.low, fixed.high, so_far.low, so_far.high, c.from-total.ensures, c.loop-v-test.true, c.requires.vehicles, c.args.closed.well_formed.number_of_vehicles.at_most);
+      high = omega (arith, ints, fixed.low, fixed.high, so_far.low, so_far.high, c.from-total.ensures, c.loop-v-test.true, c.requires.vehicles, c.args.closed.well_formed.number_of_vehicles.at_most);
     }
 
 pub returns : goal.returns
 returns c =
     let e : c.loop-v.v ≡ length c.args.lists.now = omega (arith, c.loop-v-test.false, c.loop-v.auto.v-end) in
-    c.loop-v.invariant.sum ∙ ap (λ n. total_by (fixed_at c.args.model.now c.args.lists.now) (below n)) e ∙ sym (fixed_is c.args.model.now c.args.lists.now)
+    c.loop-v.invariant.sum ∙ ap (λ n. total_by (fixed_at c.args.closed.model.now c.args.lists.now) (below n)) e ∙ sym (fixed_is c.args.closed.model.now c.args.lists.now)

@@ -8,7 +8,7 @@ use Rattle.vr_check.proofs.numbers.wrong_parts.Goals as goal
 
 pub returns : goal.returns
 returns c =
-    let model = c.args.model.now in
+    let model = c.args.closed.model.now in
     let parts = c.args.printed.now.parts in
     let arcs : read64 parts.arcs ≡ parts.arcs = search rules in
     let fixed : read64 parts.fixed ≡ parts.fixed = search rules in

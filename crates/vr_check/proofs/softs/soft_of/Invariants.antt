@@ -6,6 +6,6 @@ use Rattle.vr_check.proofs.softs.soft_of.Given as goal
 
 abbrev pub invariant-loop-v : goal.invariant-loop-v
 invariant-loop-v l = record {
-  sum : l.total ≡ total_by (over_printed l.routes (soft_in l.model)) (below l.v);
+  sum : l.total ≡ total_by (over_printed l.routes (soft_in l.closed.model.now)) (below l.v);
   range : IsAround (2 ^ 118 * l.v) l.total;
 }

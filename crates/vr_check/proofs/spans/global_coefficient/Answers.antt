@@ -6,8 +6,8 @@ use Rattle.vr_check.proofs.spans.global_coefficient.Goals as goal
 
 pub returns : goal.returns
 returns c =
-    let model = c.args.model.now in
-    let of = c.requires.well_formed.each_dimension c.args.d no_dimension c.requires.dimension in
+    let model = c.args.closed.model.now in
+    let of = c.args.closed.well_formed.each_dimension c.args.d no_dimension c.requires.dimension in
     let range = of.global_span_cost_in_range in
     let coefficient = (dimension_at model c.args.d).global_span_cost in
     let is : c.get.result.now.global_span_cost ≡ coefficient = ap (λ dimension. dimension.global_span_cost) (sym (c.get.ensures.value no_dimension)) in

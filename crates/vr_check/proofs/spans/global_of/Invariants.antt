@@ -6,6 +6,6 @@ use Rattle.vr_check.proofs.spans.global_of.Given as goal
 
 abbrev pub invariant-loop-d : goal.invariant-loop-d
 invariant-loop-d l = record {
-  sum : l.total ≡ total_by (global_cost l.model (assignment_of l.routes)) (below l.d);
+  sum : l.total ≡ total_by (global_cost l.closed.model.now (assignment_of l.routes)) (below l.d);
   range : IsAround (2 ^ 106 * l.d) l.total;
 }

@@ -7,8 +7,8 @@ use Rattle.vr_check.proofs.spans.span_coefficient.Goals as goal
 
 pub returns : goal.returns
 returns c =
-    let model = c.args.model.now in
-    let of = c.requires.well_formed.each_dimension c.args.d no_dimension c.requires.dimension in
+    let model = c.args.closed.model.now in
+    let of = c.args.closed.well_formed.each_dimension c.args.d no_dimension c.requires.dimension in
     let range = of.span_costs_in_range c.args.v (pos 0) (omega (arith, c.requires.vehicle, of.span_cost_of_each_vehicle)) in
     let coefficient = number_at (dimension_at model c.args.d).span_costs c.args.v in
     let is : c.get-2.result.now ≡ coefficient = sym (c.get-2.ensures.value (pos 0)) ∙ ap (λ dimension. number_at dimension.span_costs c.args.v) (sym (c.get.ensures.value no_dimension)) in

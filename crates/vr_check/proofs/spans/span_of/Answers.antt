@@ -14,18 +14,18 @@ use Rattle.vr_check.proofs.spans.span_of.Goals as goal
 
 pub span_of_route-total-requires-clause-shaped : goal.span_of_route-total-requires-clause-shaped
 span_of_route-total-requires-clause-shaped c =
-    let Shaped = λ (route : PrintedRoute). IsTrue (is_route_shaped c.args.model.now c.loop-v.v route) in
+    let Shaped = λ (route : PrintedRoute). IsTrue (is_route_shaped c.args.closed.model.now c.loop-v.v route) in
     subst Shaped (get_or_default c.args.routes.now c.loop-v.v no_route c.index-routes-v.result c.loop-v-test.true ∙ sym c.index-routes-v.is)
-    (route_shaped c.args.model.now c.args.routes.now c.requires.shaped c.loop-v.v c.loop-v-test.true)
+    (route_shaped c.args.closed.model.now c.args.routes.now c.requires.shaped c.loop-v.v c.loop-v-test.true)
 
 pub loop-v-preserved : goal.loop-v-preserved
 loop-v-preserved c =
     let cost = c.span_of_route-total.ensures in
-    let value : c.span_of_route-total.result ≡ over_printed c.args.routes.now (span_in c.args.model.now) c.loop-v.v = c.span_of_route-total.ensures.value ∙ ap (λ route. total_by (span_in c.args.model.now c.loop-v.v route) (below (length route.plans))) (c.index-routes-v.is ∙ get_or_default c.args.routes.now c.loop-v.v c.index-routes-v.result no_route c.loop-v-test.true) in
-    let more = total_by-more (over_printed c.args.routes.now (span_in c.args.model.now)) c.loop-v.v in
+    let value : c.span_of_route-total.result ≡ over_printed c.args.routes.now (span_in c.args.closed.model.now) c.loop-v.v = c.span_of_route-total.ensures.value ∙ ap (λ route. total_by (span_in c.args.closed.model.now c.loop-v.v route) (below (length route.plans))) (c.index-routes-v.is ∙ get_or_default c.args.routes.now c.loop-v.v c.index-routes-v.result no_route c.loop-v-test.true) in
+    let more = total_by-more (over_printed c.args.routes.now (span_in c.args.closed.model.now)) c.loop-v.v in
     let so_far = c.loop-v.invariant in
-    let count = routes_count c.args.model.now c.args.routes.now c.requires.shaped in
-    let most = c.requires.well_formed.number_of_vehicles.at_most in
+    let count = routes_count c.args.closed.model.now c.args.routes.now c.requires.shaped in
+    let most = c.args.closed.well_formed.number_of_vehicles.at_most in
     record {
       sum = omega (arith, ints, value, more, cost.range.at_least, cost.range.at_most, so_far.sum, so_far.range.at_least, so_far.range.at_most, count, most, c.loop-v-test.true);
       range = record {
@@ -37,4 +37,4 @@ loop-v-preserved c =
 pub returns : goal.returns
 returns c =
     let e : c.loop-v.v ≡ length c.args.routes.now = omega (arith, c.loop-v-test.false, c.loop-v.auto.v-end) in
-    c.loop-v.invariant.sum ∙ ap (λ n. total_by (over_printed c.args.routes.now (span_in c.args.model.now)) (below n)) e ∙ sym (span_is c.args.model.now c.args.routes.now c.requires.shaped)
+    c.loop-v.invariant.sum ∙ ap (λ n. total_by (over_printed c.args.routes.now (span_in c.args.closed.model.now)) (below n)) e ∙ sym (span_is c.args.closed.model.now c.args.routes.now c.requires.shaped)

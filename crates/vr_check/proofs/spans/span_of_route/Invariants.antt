@@ -5,6 +5,6 @@ use Rattle.vr_check.proofs.spans.span_of_route.Given as goal
 
 abbrev pub invariant-loop-d : goal.invariant-loop-d
 invariant-loop-d l = record {
-  sum : l.total ≡ total_by (span_in l.model l.v l.route) (below l.d);
+  sum : l.total ≡ total_by (span_in l.closed.model.now l.v l.route) (below l.d);
   range : IsAround (2 ^ 106 * l.d) l.total;
 }
