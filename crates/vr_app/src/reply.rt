@@ -1,27 +1,15 @@
 //! What the program does with the source and the sink.
 
-ghost use Rattle.std.specs.Prelude.{◌≡◌, ◌≢◌, ◌⊎◌, ◌↔◌, ◌≤◌, List, ℕ, [], Some, IfOk, IsErrOf, length};
-ghost use Rattle.serde_json.specs.Data.{Data};
-ghost use Rattle.vr_io.specs.Edges.{Rose, Took};
-ghost use Rattle.vr_io.specs.Whole.{TookFront};
-ghost use Rattle.vr_json.specs.Trees.{line_of};
-ghost use Rattle.vr_json.specs.declared.fault.Fault.{Fault};
+ghost use Rattle.std.specs.Prelude.{◌≡◌, ◌≢◌, ◌⊎◌, ◌≤◌, List, ℕ, [], Some, IfOk, IsErrOf};
+ghost use Rattle.vr_io.specs.Edges.{Rose};
 ghost use Rattle.vr_replies.specs.Answers.{AnswersReply, IsOfAnswer, IsOfFile, IsOfInput};
-ghost use Rattle.vr_replies.specs.Causes.{HasFault, HasFirst, HasFlaw, HasNoFirst, IsAnsweredBy, IsFile, IsFlawed};
-ghost use Rattle.vr_replies.specs.Causes.{IsImportedAs, IsNotJson, IsRefused, IsTooLong};
-ghost use Rattle.vr_replies.specs.Checked.{checked_of};
 ghost use Rattle.vr_replies.specs.Ended.{Ran};
-ghost use Rattle.vr_replies.specs.Input.{max_input, model_of};
-ghost use Rattle.vr_replies.specs.Met.{IsBrokenBy, IsMet, IsMetBy, IsNotMet, IsSpannedBy};
+ghost use Rattle.vr_replies.specs.Promises.{run_of, HasCause, HasFailed, IsChecking, IsComplete, IsEmptied};
+ghost use Rattle.vr_replies.specs.Promises.{IsImporting, IsReply, IsSolving};
 ghost use Rattle.vr_replies.specs.Reply as replies;
-ghost use Rattle.vr_replies.specs.Reply.{Replies};
 ghost use Rattle.vr_replies.specs.Reports.{joined};
-ghost use Rattle.vr_replies.specs.Runs.{Imports, IsAskedFor, IsAsking, IsChecked, IsNotAccepted, IsQuestion, IsRead};
-ghost use Rattle.vr_replies.specs.Runs.{IsSettled, IsSolved, IsSpanned, IsUnread, ReadsJson, WhereAnswered, WhereAsked};
-ghost use Rattle.vr_replies.specs.Runs.{WhereImported, WhereSolved, WhereTold, bytes_of};
+ghost use Rattle.vr_replies.specs.Runs.{IsAsking, IsNotAccepted, IsQuestion, IsRead, IsUnread, WhereTold, bytes_of};
 ghost use Rattle.vr_replies.specs.Status.{IsStatus};
-ghost use Rattle.vr_replies.specs.Texts as texts;
-ghost use Rattle.vr_replies.specs.declared.words.Mode.{Mode as Asked};
 
 use crate::answer::answer_input;
 use crate::numbered::demo;
@@ -205,120 +193,44 @@ pub fn run<S: Source, K: Sink>(
 ) -> u8
     ensures status { IsStatus result }
 
-    // The status and the whole text, where the run was settled.
+    // Status and text are those of the reply, and a front of it where the sink failed. With no failure it is whole, or
+    // memory was wanting.
     ensures reply { let reports = joined (λ w later. after w later) watch.items in
-        IsSettled result → WhereTold (S.left source.old) (λ bytes.
-        Replies (replies.reply reports (bytes_of words.now) bytes)
-        (K.written sink.old) (K.written sink.new) result) }
-
-    // Of words that ask for a solution, 0 comes exactly where the input is a model with a first solution. What is
-    // written is a solution, which meets a check: valid lists with their chosen schedules and their cost; with `--log`
-    // the watchers' reports follow.
-    ensures done { WhereSolved (bytes_of words.now) (S.left source.old) result (λ bytes.
-        (result ≡ 0) ↔ HasFirst bytes) }
-    ensures solution { let reports = joined (λ w later. after w later) watch.items in
-        result ≡ 0 → (asked : Asked) → IsAskedFor asked (bytes_of words.now) → WhereTold (S.left source.old) (λ bytes.
-        (text : List ℕ) × IsAnsweredBy asked reports bytes text
-        × Took (K.written sink.old) (K.written sink.new) text) }
-
-    // Of `check` and `spans`, 0 comes exactly where the solution in the input meets the rules of its model, and then it
-    // keeps them: valid lists, schedules, the parts of their cost. `spans` tells of each line without breaks the least
-    // span of all its schedules, with the first schedule of this span. 9 comes of these two alone, exactly where the
-    // solution breaks a rule; the text tells the first.
-    ensures met { WhereAsked (bytes_of words.now) (S.left source.old) result (λ bytes.
-        (result ≡ 0) ↔ IsMet bytes) }
-    ensures kept { result ≡ 0 → IsChecked (bytes_of words.now) → WhereTold (S.left source.old) (λ bytes.
-        (text : List ℕ) × IsMetBy bytes text × Took (K.written sink.old) (K.written sink.new) text) }
-    ensures spans { result ≡ 0 → IsSpanned (bytes_of words.now) → WhereTold (S.left source.old) (λ bytes.
-        (text : List ℕ) × IsSpannedBy bytes text × Took (K.written sink.old) (K.written sink.new) text) }
-    ensures not_met { WhereAsked (bytes_of words.now) (S.left source.old) result (λ bytes.
-        (result ≡ 9) ↔ IsNotMet bytes) }
-    ensures broken { result ≡ 9 → WhereTold (S.left source.old) (λ bytes.
-        (text : List ℕ) × IsBrokenBy bytes text × Took (K.written sink.old) (K.written sink.new) text) }
-    ensures not_met_only { result ≡ 9 → IsAsking (bytes_of words.now) }
-
-    // Of `import`, 0 comes exactly where the file has no fault, and then its model is written. 5 comes exactly where it
-    // has one; the text tells the first.
-    ensures imported { WhereImported (bytes_of words.now) (S.left source.old) result (λ vehicles bytes.
-        (result ≡ 0) ↔ IsFile vehicles bytes) }
-    ensures model { result ≡ 0 → (vehicles : ℕ) → Imports vehicles (bytes_of words.now)
-        → WhereTold (S.left source.old) (λ bytes. (tree : Data) × IsImportedAs vehicles bytes tree
-        × Took (K.written sink.old) (K.written sink.new) (line_of tree)) }
-    ensures flawed { WhereImported (bytes_of words.now) (S.left source.old) result (λ vehicles bytes.
-        (result ≡ 5) ↔ IsFlawed vehicles bytes) }
-    ensures flaw { result ≡ 5 → (vehicles : ℕ) → Imports vehicles (bytes_of words.now)
-        → WhereTold (S.left source.old) (λ bytes. (fault : Fault) → HasFlaw vehicles bytes fault
-        → Took (K.written sink.old) (K.written sink.new) (line_of (texts.refused_tree fault))) }
-
-    // Of words that read nothing the reply is the same whatever the source has, with status 0 where they are accepted.
-    ensures unread { let reports = joined (λ w later. after w later) watch.items in
-        IsSettled result → IsUnread (bytes_of words.now) → (bytes : List ℕ)
-        → Replies (replies.reply reports (bytes_of words.now) bytes) (K.written sink.old) (K.written sink.new) result }
-    ensures unread_front { let reports = joined (λ w later. after w later) watch.items in
-        result ≡ 3 → IsUnread (bytes_of words.now) → (bytes : List ℕ)
-        → TookFront (K.written sink.old) (K.written sink.new) (replies.reply reports (bytes_of words.now) bytes).text }
-    ensures untouched { IsUnread (bytes_of words.now) → source.new ≡ source.old }
-    ensures numbered { IsSettled result → IsUnread (bytes_of words.now)
-        → IsNotAccepted (bytes_of words.now) ⊎ (result ≡ 0) }
-
-    // 1 comes exactly where the words are not accepted.
-    ensures usage { IsSettled result → IsNotAccepted (bytes_of words.now) → result ≡ 1 }
-    ensures usage_only { result ≡ 1 → IsNotAccepted (bytes_of words.now) }
-
-    // 2 comes only where the source failed, and then nothing is written.
-    ensures read_fault { result ≡ 2 → Rose (S.faults source.old) (S.faults source.new) }
-    ensures reads { result ≡ 2 → IsRead (bytes_of words.now) }
-    ensures nothing_answered { result ≡ 2 → sink.new ≡ sink.old }
-
-    // 3 comes only where the sink failed, and then a front of the text is written.
-    ensures write_fault { result ≡ 3 → Rose (K.faults sink.old) (K.faults sink.new) }
-    ensures front { let reports = joined (λ w later. after w later) watch.items in
-        result ≡ 3 → WhereTold (S.left source.old) (λ bytes.
-        TookFront (K.written sink.old) (K.written sink.new)
-        (replies.reply reports (bytes_of words.now) bytes).text) }
-
-    // Of words that read, 8 comes exactly where the input is too long; of all of them but `import`, 4 and 5 come where
-    // it is no JSON, or is refused, and only there; 5 tells code and path. 6 comes exactly where a solution is asked
-    // for and the input is a model without a first solution.
-    ensures too_long { WhereAnswered (bytes_of words.now) (S.left source.old) result (λ bytes.
-        (result ≡ 8) ↔ IsTooLong bytes) }
-    ensures not_json { WhereAnswered (bytes_of words.now) (S.left source.old) result (λ bytes.
-        (result ≡ 4) ↔ (ReadsJson (bytes_of words.now) × IsNotJson bytes)) }
-    ensures refused { WhereSolved (bytes_of words.now) (S.left source.old) result (λ bytes.
-        (result ≡ 5) ↔ IsRefused model_of bytes) }
-    ensures refusal { result ≡ 5 → IsSolved (bytes_of words.now) → WhereTold (S.left source.old) (λ bytes.
-        (fault : Fault) → HasFault model_of bytes fault
-        → Took (K.written sink.old) (K.written sink.new) (line_of (texts.refused_tree fault))) }
-    ensures check_refused { WhereAsked (bytes_of words.now) (S.left source.old) result (λ bytes.
-        (result ≡ 5) ↔ IsRefused checked_of bytes) }
-    ensures check_refusal { result ≡ 5 → IsAsking (bytes_of words.now) → WhereTold (S.left source.old) (λ bytes.
-        (fault : Fault) → HasFault checked_of bytes fault
-        → Took (K.written sink.old) (K.written sink.new) (line_of (texts.refused_tree fault))) }
-    ensures none_found { WhereSolved (bytes_of words.now) (S.left source.old) result (λ bytes.
-        (result ≡ 6) ↔ HasNoFirst bytes) }
-
-    // 7 comes before anything is written.
-    ensures memory { result ≡ 7 → sink.new ≡ sink.old }
-
-    // Accepted words, an input of at most 64 MiB, and no failure of source or sink: the whole reply, or want of memory.
+        IsReply reports (run_of (bytes_of words.now)
+        (S.left source.old) (S.left source.new) (S.faults source.old) (S.faults source.new)
+        (K.written sink.old) (K.written sink.new) (K.faults sink.old) (K.faults sink.new) result) }
     ensures complete { let reports = joined (λ w later. after w later) watch.items in
-        IsRead (bytes_of words.now) → WhereTold (S.left source.old) (λ bytes. length bytes ≤ max_input
-        → ¬ Rose (S.faults source.old) (S.faults source.new) → ¬ Rose (K.faults sink.old) (K.faults sink.new)
-        → (result ≡ 7)
-        ⊎ Replies (replies.reply reports (bytes_of words.now) bytes)
-        (K.written sink.old) (K.written sink.new) result) }
-    ensures complete_unread { let reports = joined (λ w later. after w later) watch.items in
-        IsUnread (bytes_of words.now) → ¬ Rose (K.faults sink.old) (K.faults sink.new) → (bytes : List ℕ)
-        → (result ≡ 7)
-        ⊎ Replies (replies.reply reports (bytes_of words.now) bytes)
-        (K.written sink.old) (K.written sink.new) result }
+        IsComplete reports (run_of (bytes_of words.now)
+        (S.left source.old) (S.left source.new) (S.faults source.old) (S.faults source.new)
+        (K.written sink.old) (K.written sink.new) (K.faults sink.old) (K.faults sink.new) result) }
 
-    // Where the input is read, it is read to its end on every status but 2, 7 and 8; on 3 where the reply is not 8.
+    // What the words ask for, exactly where it is given; and what is refused, exactly where it is.
+    ensures solving { let reports = joined (λ w later. after w later) watch.items in
+        IsSolving reports (run_of (bytes_of words.now)
+        (S.left source.old) (S.left source.new) (S.faults source.old) (S.faults source.new)
+        (K.written sink.old) (K.written sink.new) (K.faults sink.old) (K.faults sink.new) result) }
+    ensures checking { IsChecking (run_of (bytes_of words.now)
+        (S.left source.old) (S.left source.new) (S.faults source.old) (S.faults source.new)
+        (K.written sink.old) (K.written sink.new) (K.faults sink.old) (K.faults sink.new) result) }
+    ensures importing { IsImporting (run_of (bytes_of words.now)
+        (S.left source.old) (S.left source.new) (S.faults source.old) (S.faults source.new)
+        (K.written sink.old) (K.written sink.new) (K.faults sink.old) (K.faults sink.new) result) }
+    ensures cause { HasCause (run_of (bytes_of words.now)
+        (S.left source.old) (S.left source.new) (S.faults source.old) (S.faults source.new)
+        (K.written sink.old) (K.written sink.new) (K.faults sink.old) (K.faults sink.new) result) }
+
+    // Only failures of source and sink give 2 and 3. On 2 and 7 nothing is written.
+    ensures failed { HasFailed (run_of (bytes_of words.now)
+        (S.left source.old) (S.left source.new) (S.faults source.old) (S.faults source.new)
+        (K.written sink.old) (K.written sink.new) (K.faults sink.old) (K.faults sink.new) result) }
+    ensures unwritten { (result ≡ 2) ⊎ (result ≡ 7) → sink.new ≡ sink.old }
+
+    // Words that read have the source read to its end; others leave it as it is.
     ensures emptied { let reports = joined (λ w later. after w later) watch.items in
-        IsRead (bytes_of words.now) → result ≢ 2 → result ≢ 7 → result ≢ 8
-        → WhereTold (S.left source.old) (λ bytes.
-        (result ≡ 3 → (replies.reply reports (bytes_of words.now) bytes).status ≢ 8)
-        → S.left source.new ≡ Some []) }
+        IsEmptied reports (run_of (bytes_of words.now)
+        (S.left source.old) (S.left source.new) (S.faults source.old) (S.faults source.new)
+        (K.written sink.old) (K.written sink.new) (K.faults sink.old) (K.faults sink.new) result) }
+    ensures untouched { IsUnread (bytes_of words.now) → source.new ≡ source.old }
 {
     let mut watch = watch;
     run_watched(alloc, words, source, sink, &mut watch)

@@ -15,6 +15,7 @@ pub mod Causes
 pub mod Met
 pub mod Answers
 pub mod Runs
+pub mod Promises
 pub mod Ended
 pub mod Printing
 pub mod ImportLaws

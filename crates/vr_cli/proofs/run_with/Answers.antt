@@ -5,14 +5,4 @@ pub returns : goal.returns
 unfolding IsLogged
 returns g c =
     let e = c.run.ensures in
-    record {
-      status = e.status;
-      text = e.reply;
-      text_unread = e.unread;
-      front = e.front;
-      front_unread = e.unread_front;
-      read_fault = e.nothing_answered;
-      memory = e.memory;
-      complete = e.complete;
-      complete_unread = e.complete_unread;
-    }
+    record { status = e.status; reply = e.reply; complete = e.complete; unwritten = e.unwritten }
