@@ -1,6 +1,6 @@
 //! What visits allow, in a table for each capacity.
 
-ghost use Rattle.std.specs.Prelude.{◌≡◌, ◌+◌, ◌<◌, ◌≤◌, ℕ, length, IfOk, OnOk};
+ghost use Rattle.std.specs.Prelude.{◌≡◌, ◌≢◌, ◌+◌, ◌<◌, ◌≤◌, ℕ, length, IfOk, OnOk};
 ghost use Rattle.vr_model.specs.tables.Numbers.{number_at};
 ghost use Rattle.vr_model.specs.tables.WellFormed.{IsWellFormed};
 ghost use Rattle.vr_walks.specs.VisitSets.{capacity_of, AreSets, AreTables, AreVisitSets, IsSetOfNode, IsTableOf};
@@ -91,10 +91,11 @@ fn table_for(
     Ok(k)
 }
 
-// The place of a capacity, the number of all where it is not among them.
+// The first place of a capacity, the number of all where it is not among them.
 fn place_of(capacities: &[i64], capacity: i64) -> usize
     ensures within { result ≤ length capacities.now }
     ensures same { result < length capacities.now → number_at capacities.now result ≡ capacity }
+    ensures first { (k : ℕ) → k < result → number_at capacities.now k ≢ capacity }
 {
     for k in 0..capacities.len() {
         if capacities[k] == capacity {
