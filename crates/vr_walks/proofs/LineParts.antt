@@ -152,3 +152,7 @@ long_behind f (y ∷ ys) x = ap suc (long_behind f ys x)
 -- a line has two stops more than visits
 pub stops_of_line : (model : Model) (d v : ℕ) (list : List ℕ) → length (line model d v list).allowed ≡ suc (suc (length list))
 stops_of_line model d v list = ap suc (long_behind _ list _)
+
+-- levels by the breaks of the vehicle are levels by those of its line
+pub form_of : {breaks other : List BreakRow} (levels : List (List Run)) → breaks ≡ other → AreLevels other levels → AreLevels breaks levels
+form_of levels same form = subst (λ rows. AreLevels rows levels) (sym same) form

@@ -7,6 +7,10 @@ pub mod Alone
 pub mod Counts
 pub mod Tries
 pub mod Stops
+pub mod VehicleStops
+pub mod RunWalks
+pub mod Legs
+pub mod GivenUp
 pub mod Stretches
 pub mod KnownRows
 pub mod Standing

@@ -7,6 +7,7 @@ use Rattle.vr_model.specs.tables.Tables.{breaks_of, dimension_at}
 use Rattle.vr_model.specs.routes.Routes.{is_empty}
 use Rattle.vr_model.specs.schedules.Lines.{Line}
 use Rattle.vr_model.specs.schedules.Schedules.{IsReached, ReachesEnd}
+use Rattle.vr_model.specs.declared.records.BreakRow.{BreakRow}
 use Rattle.vr_model.specs.declared.records.Model.{Model}
 use Rattle.vr_steps.specs.declared.stops.StopName.TheVariants.{End}
 use Rattle.vr_steps.specs.Levels.{level_at}
@@ -28,11 +29,14 @@ pub record IsOnlyRun (set : List Run) (run : Run) : Type 0 where
 abbrev pub is_run : List Run → Bool
 is_run set = length set == 1
 
--- there is one run to walk with between two levels: vehicle v has no breaks, either level is of one run, and the end of
--- the vehicle allows no more than one
+-- there are no breaks, and either level is of one run
+abbrev pub are_runs : List BreakRow → List (List Run) → List (List Run) → Bool
+are_runs breaks from to = is_empty breaks && is_run (level_at from 0) && is_run (level_at to 0)
+
+-- there is one run to walk with between two levels: the end of the vehicle allows no more than one, and both are
 abbrev pub is_one_run_each : Model → ℕ → ℕ → List (List Run) → List (List Run) → Bool
-is_one_run_each model d v from to = is_empty (breaks_of (dimension_at model d) v)
-    && is_run (level_at from 0) && is_run (level_at to 0) && is_one_run (allowed_by model d v End)
+is_one_run_each model d v from to = is_one_run (allowed_by model d v End)
+    && are_runs (breaks_of (dimension_at model d) v) from to
 
 -- each number of the run is reached at stop k with b breaks taken; where b is 0, no other number is
 pub record IsReachedRun (line : Line) (k b : ℕ) (run : Run) : Type 0 where

@@ -16,6 +16,7 @@
 
 mod early;
 mod ends;
+mod legs;
 mod lines;
 mod probing;
 mod runs;

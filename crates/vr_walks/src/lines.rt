@@ -11,11 +11,10 @@ ghost use Rattle.vr_steps.specs.Levels.{HasNumbers, IsCumuls};
 ghost use Rattle.vr_steps.specs.Lines.{hops_along, IsLineOf, IsSoundLine};
 ghost use Rattle.vr_walks.specs.KnownRows.{AreRowsIfUsed};
 ghost use Rattle.vr_walks.specs.Lists.{IsTour};
-ghost use Rattle.vr_walks.specs.Stops.{AreEndsOf, AreStops};
-ghost use Rattle.vr_walks.specs.VisitSets.{AreVisitSets};
+ghost use Rattle.vr_walks.specs.Stops.{AreStops};
+ghost use Rattle.vr_walks.specs.VehicleStops.{line_of, AreVehicleStops};
 
-use crate::ends::Ends;
-use crate::stops::{Stops, hop_of, set_of};
+use crate::stops::{Stops, VehicleStops, hop_of, set_of};
 use arrayvec::ArrayVec;
 use std::alloc::Global;
 use vr_model::{Model, NoMemory, Seq, laws};
@@ -86,31 +85,29 @@ pub fn write_line(
     laws::lines_are_sound();
     let ends = &stops.ends[v as usize];
     let visits = stops.visits.of(model, d, v);
-    write_sets(model, d, v, ends, visits, list, &mut out.allowed)?;
-    write_hops(model, d, v, list, &mut out.hops)?;
+    let asked = VehicleStops {
+        model,
+        d,
+        v,
+        ends,
+        visits,
+    };
+    write_sets(&asked, list, &mut out.allowed)?;
+    write_hops(&asked, list, &mut out.hops)?;
     out.breaks = Breaks::of(model.dimensions.get(d as usize), v);
     Ok(())
 }
 
 // Writes what each stop allows over other sets.
-fn write_sets(
-    model: &Model,
-    d: u32,
-    v: u32,
-    ends: &Ends,
-    visits: &[Spans],
-    list: &[u32],
-    sets: &mut Seq<Spans>,
-) -> Result<(), NoMemory>
-    requires ends { AreEndsOf model.now d v ends.now }
-    requires visits { AreVisitSets model.now d v visits.now }
-    requires tour { IsTour model.now list.now }
-    ensures exact { OnOk result (AllZip HasNumbers (line model.now d v list.now).allowed sets.new) }
+fn write_sets(stops: &VehicleStops, list: &[u32], sets: &mut Seq<Spans>) -> Result<(), NoMemory>
+    requires stops { AreVehicleStops stops.now }
+    requires tour { IsTour stops.now.model.now list.now }
+    ensures exact { OnOk result (AllZip HasNumbers (line_of stops.now list.now).allowed sets.new) }
     ensures cumuls { OnOk result (All IsCumuls sets.new) }
 {
     sets.truncate(0);
     for k in 0..list.len() + 2 {
-        let Ok(set) = set_of(model, d, v, ends, visits, list, k).copy() else {
+        let Ok(set) = set_of(stops, list, k).copy() else {
             return Err(NoMemory);
         };
         sets.push(set)?;
@@ -119,23 +116,16 @@ fn write_sets(
 }
 
 // Writes the arc from each stop to the next over others.
-fn write_hops(
-    model: &Model,
-    d: u32,
-    v: u32,
-    list: &[u32],
-    hops: &mut Seq<Hop>,
-) -> Result<(), NoMemory>
-    requires well_formed { IsWellFormed model.now }
-    requires dimension { d < length model.now.dimensions }
-    requires vehicle { v < length model.now.vehicles }
-    requires tour { IsTour model.now list.now }
-    ensures exact { OnOk result (hops.new ≡ hops_along model.now d v list.now) }
+fn write_hops(stops: &VehicleStops, list: &[u32], hops: &mut Seq<Hop>) -> Result<(), NoMemory>
+    requires stops { AreVehicleStops stops.now }
+    requires tour { IsTour stops.now.model.now list.now }
+    ensures exact { OnOk result (hops.new
+        ≡ hops_along stops.now.model.now stops.now.d stops.now.v list.now) }
     ensures sound { OnOk result (All IsSoundHop hops.new) }
 {
     hops.truncate(0);
     for k in 0..list.len() + 1 {
-        hops.push(hop_of(model, d, v, list, k))?;
+        hops.push(hop_of(stops, list, k))?;
     }
     Ok(())
 }

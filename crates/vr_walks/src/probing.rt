@@ -1,80 +1,57 @@
 //! Walks without a break, which often tell whether a list of a vehicle with breaks is feasible.
 
-ghost use Rattle.std.specs.Prelude.{◌≡◌, ◌↔◌, ◌+◌, ◌-◌, ◌*◌, ◌<◌, ◌≤◌, ℕ, suc, IfSome, IsTrue, None, length};
+ghost use Rattle.std.specs.Prelude.{◌≡◌, ◌↔◌, ◌+◌, ◌-◌, ◌*◌, ◌≤◌, ℕ, IfSome, IsSome, IsTrue, None, length};
 ghost use Rattle.vr_model.specs.schedules.Choices.{is_feasible};
-ghost use Rattle.vr_model.specs.schedules.Lines.{line};
 ghost use Rattle.vr_model.specs.schedules.Schedules.{IsFeasible};
-ghost use Rattle.vr_model.specs.tables.WellFormed.{IsWellFormed};
-ghost use Rattle.vr_steps.specs.Levels.{AreLevels};
-ghost use Rattle.vr_steps.specs.Reached.{AreReached, AreReachingEnd};
-ghost use Rattle.vr_walks.specs.Alone.{may_go_alone, GoesAlone, IsUntold};
+ghost use Rattle.vr_steps.specs.Levels.{level_at};
+ghost use Rattle.vr_walks.specs.Alone.{GoesAlone, IsUntold};
 ghost use Rattle.vr_walks.specs.Lists.{IsUsed};
-ghost use Rattle.vr_walks.specs.Stops.{AreEndsOf};
+ghost use Rattle.vr_walks.specs.RunWalks.{line_along, IsLegAlong, IsRunWalk};
+ghost use Rattle.vr_walks.specs.Singles.{is_run};
 ghost use Rattle.vr_walks.specs.Tries.{tries_between};
-ghost use Rattle.vr_walks.specs.VisitRuns.{AreVisitRuns, IsFinish};
 
-use crate::ends::Ends;
+use crate::legs::Leg;
 use crate::runs::shares_with;
-use crate::single::{Ahead, carry_run, finish_of, run_at};
+use crate::single::{RunWalk, carry_run, run_at};
 use crate::spliced::Spliced;
 use std::sync::ledger::Ledger;
-use vr_model::{Model, Steps, laws};
-use vr_spans::Run;
-use vr_steps::Levels;
+use vr_model::{Steps, laws};
 
-// Whether the line of a list is feasible, where walks without a break on the way tell, and no visit allows more than
-// one run: it is not where what is reached with no break taken misses all from which the end is reached with all of
-// them taken, and it is where a walk with some number of breaks taken before it serves. It counts a try for each arc
-// that such a walk goes over.
+// Whether the line of a list is feasible, where walks along a leg without a break on the way tell: it is not where what
+// is reached with no break taken misses all from which the end is reached with all of them taken, and it is where a
+// walk with some number of breaks taken before it serves. Nothing is told where more than one run is reached at first,
+// and where neither is so. It counts a try for each arc that such a walk goes over.
 pub(crate) fn told_without_breaks<L: Ledger>(
-    model: &Model,
-    d: u32,
-    v: u32,
-    ends: &Ends,
-    runs: &[Run],
+    walk: &RunWalk,
     list: &Spliced,
-    begin: usize,
-    last: usize,
-    from: &Levels,
-    to: &Levels,
+    leg: &Leg,
     tries: &mut Steps<L>,
 ) -> Option<bool>
-    requires well_formed { IsWellFormed model.now }
-    requires dimension { d < length model.now.dimensions }
-    requires vehicle { v < length model.now.vehicles }
-    requires ends { AreEndsOf model.now d v ends.now }
-    requires runs { AreVisitRuns model.now d v runs.now }
-    requires used { IsUsed model.now list.now }
-    requires order { begin < last }
-    requires within { last ≤ suc (length list.now) }
-    requires from_form { AreLevels ends.now.breaks from.now }
-    requires from { AreReached (line model.now d v list.now) begin from.now }
-    requires to_form { AreLevels ends.now.breaks to.now }
-    requires to { AreReachingEnd (line model.now d v list.now) last to.now }
-    ensures told { IfSome result (λ passed. passed ≡ is_feasible (line model.now d v list.now)) }
-    ensures untold { result ≡ None → IsTrue (may_go_alone model.now d v from.now)
-        → IsUntold (line model.now d v list.now) from.now to.now begin last }
-    ensures count { tries.new ≤ tries.old + tries_between (line model.now d v list.now) begin last }
+    requires walk { IsRunWalk walk.now }
+    requires used { IsUsed walk.now.stops.model.now list.now }
+    requires leg { IsLegAlong walk.now list.now leg.now }
+    ensures told { IfSome result (λ passed. passed ≡ is_feasible (line_along walk.now list.now)) }
+    ensures untold { result ≡ None → IsTrue (is_run (level_at leg.now.from.now 0))
+        → IsUntold (line_along walk.now list.now) leg.now.from.now leg.now.to.now leg.now.begin leg.now.last }
+    ensures known { IsSome result → IsTrue (is_run (level_at leg.now.from.now 0)) × (IsUntold
+        (line_along walk.now list.now) leg.now.from.now leg.now.to.now leg.now.begin leg.now.last → ⊥) }
+    ensures count { tries.new ≤ tries.old
+        + tries_between (line_along walk.now list.now) leg.now.begin leg.now.last }
 {
     laws::lines_are_sound();
     laws::chosen_where_feasible();
     laws::feasible_where_levels_meet();
-    let finish = finish_of(model, d, v, ends)?;
-    let begun = run_at(from, 0)?;
-    let run = carry_run(
-        model, d, v, runs, finish, list, begin, last, 0, begun, tries,
-    );
-    let all = to.len() - 1;
-    if !shares_with(run, to.level(all)) {
+    let begun = run_at(leg.from, 0)?;
+    let run = carry_run(walk, list, leg, 0, begun, tries);
+    let all = leg.to.len() - 1;
+    if !shares_with(run, leg.to.level(all)) {
         return Some(false);
     }
-    let goes = shares_with(run, to.level(0));
+    let goes = shares_with(run, leg.to.level(0));
     if goes {
         return Some(true);
     }
-    let goes = goes_with_some(
-        model, d, v, runs, finish, list, begin, last, from, to, tries,
-    );
+    let goes = goes_with_some(walk, list, leg, tries);
     if goes {
         return Some(true);
     }
@@ -83,39 +60,22 @@ pub(crate) fn told_without_breaks<L: Ledger>(
 
 // Whether a walk without a break serves, with one break taken before it or more; where not, nothing is told.
 fn goes_with_some<L: Ledger>(
-    model: &Model,
-    d: u32,
-    v: u32,
-    runs: &[Run],
-    finish: Ahead,
+    walk: &RunWalk,
     list: &Spliced,
-    begin: usize,
-    last: usize,
-    from: &Levels,
-    to: &Levels,
+    leg: &Leg,
     tries: &mut Steps<L>,
 ) -> bool
-    requires well_formed { IsWellFormed model.now }
-    requires dimension { d < length model.now.dimensions }
-    requires vehicle { v < length model.now.vehicles }
-    requires runs { AreVisitRuns model.now d v runs.now }
-    requires finish { IsFinish model.now d v finish }
-    requires used { IsUsed model.now list.now }
-    requires order { begin < last }
-    requires within { last ≤ suc (length list.now) }
-    requires from_form { AreLevels (line model.now d v list.now).breaks from.now }
-    requires from { AreReached (line model.now d v list.now) begin from.now }
-    requires to_form { AreLevels (line model.now d v list.now).breaks to.now }
-    requires to { AreReachingEnd (line model.now d v list.now) last to.now }
-    ensures goes { IsTrue result → IsFeasible (line model.now d v list.now) }
-    ensures exact { IsTrue result ↔ ((taken : ℕ) × (1 ≤ taken) × (taken ≤ length (line model.now d v list.now).breaks)
-        × GoesAlone (line model.now d v list.now) from.now to.now begin last taken) }
-    ensures count { tries.new ≤ tries.old + length (line model.now d v list.now).breaks * (last - begin) }
+    requires walk { IsRunWalk walk.now }
+    requires used { IsUsed walk.now.stops.model.now list.now }
+    requires leg { IsLegAlong walk.now list.now leg.now }
+    ensures goes { IsTrue result → IsFeasible (line_along walk.now list.now) }
+    ensures exact { IsTrue result ↔ ((taken : ℕ) × (1 ≤ taken) × (taken ≤ length (line_along walk.now list.now).breaks)
+        × GoesAlone (line_along walk.now list.now) leg.now.from.now leg.now.to.now leg.now.begin leg.now.last taken) }
+    ensures count { tries.new ≤ tries.old
+        + length (line_along walk.now list.now).breaks * (leg.now.last - leg.now.begin) }
 {
-    for taken in 1..from.len() {
-        if goes_with(
-            model, d, v, runs, finish, list, begin, last, taken, from, to, tries,
-        ) {
+    for taken in 1..leg.from.len() {
+        if goes_with(walk, list, leg, taken, tries) {
             return true;
         }
     }
@@ -124,44 +84,27 @@ fn goes_with_some<L: Ledger>(
 
 // Whether a walk without a break serves, with so many breaks taken before it; where not, nothing is told.
 fn goes_with<L: Ledger>(
-    model: &Model,
-    d: u32,
-    v: u32,
-    runs: &[Run],
-    finish: Ahead,
+    walk: &RunWalk,
     list: &Spliced,
-    begin: usize,
-    last: usize,
+    leg: &Leg,
     taken: usize,
-    from: &Levels,
-    to: &Levels,
     tries: &mut Steps<L>,
 ) -> bool
-    requires well_formed { IsWellFormed model.now }
-    requires dimension { d < length model.now.dimensions }
-    requires vehicle { v < length model.now.vehicles }
-    requires runs { AreVisitRuns model.now d v runs.now }
-    requires finish { IsFinish model.now d v finish }
-    requires used { IsUsed model.now list.now }
-    requires order { begin < last }
-    requires within { last ≤ suc (length list.now) }
-    requires taken { taken ≤ length (line model.now d v list.now).breaks }
-    requires from_form { AreLevels (line model.now d v list.now).breaks from.now }
-    requires from { AreReached (line model.now d v list.now) begin from.now }
-    requires to_form { AreLevels (line model.now d v list.now).breaks to.now }
-    requires to { AreReachingEnd (line model.now d v list.now) last to.now }
-    ensures goes { IsTrue result → IsFeasible (line model.now d v list.now) }
-    ensures exact { IsTrue result ↔ GoesAlone (line model.now d v list.now) from.now to.now begin last taken }
-    ensures count { tries.new ≤ tries.old + (last - begin) }
+    requires walk { IsRunWalk walk.now }
+    requires used { IsUsed walk.now.stops.model.now list.now }
+    requires leg { IsLegAlong walk.now list.now leg.now }
+    requires taken { taken ≤ length (line_along walk.now list.now).breaks }
+    ensures goes { IsTrue result → IsFeasible (line_along walk.now list.now) }
+    ensures exact { IsTrue result ↔ GoesAlone (line_along walk.now list.now) leg.now.from.now leg.now.to.now
+        leg.now.begin leg.now.last taken }
+    ensures count { tries.new ≤ tries.old + (leg.now.last - leg.now.begin) }
 {
     laws::lines_are_sound();
     laws::feasible_where_levels_meet();
-    let Some(begun) = run_at(from, taken) else {
+    let Some(begun) = run_at(leg.from, taken) else {
         return false;
     };
-    let run = carry_run(
-        model, d, v, runs, finish, list, begin, last, taken, begun, tries,
-    );
-    let goes = shares_with(run, to.level(taken));
+    let run = carry_run(walk, list, leg, taken, begun, tries);
+    let goes = shares_with(run, leg.to.level(taken));
     goes
 }

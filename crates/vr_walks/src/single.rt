@@ -6,7 +6,7 @@ ghost use Rattle.std.specs.Int.{int_max, int_min};
 ghost use Rattle.vr_model.specs.schedules.Choices.{is_feasible};
 ghost use Rattle.vr_model.specs.schedules.Lines.{line};
 ghost use Rattle.vr_model.specs.schedules.Weights.{walk_weight};
-ghost use Rattle.vr_model.specs.tables.Tables.{dimension_at, evaluator_of, transit};
+ghost use Rattle.vr_model.specs.tables.Tables.{dimension_at};
 ghost use Rattle.vr_model.specs.tables.Numbers.{horizon};
 ghost use Rattle.vr_model.specs.tables.WellFormed.{IsIn, IsWellFormed};
 ghost use Rattle.vr_spans.specs.Runs.{in_run};
@@ -16,15 +16,17 @@ ghost use Rattle.vr_steps.specs.declared.stops.StopName.TheVariants.{End};
 ghost use Rattle.vr_walks.specs.Alone.{Follows, IsLedTo};
 ghost use Rattle.vr_walks.specs.Counts.{steps_between};
 ghost use Rattle.vr_walks.specs.Lists.{node_at_stop, IsTour, IsUsed};
-ghost use Rattle.vr_walks.specs.Singles.{is_one_run_each, is_run, IsCumulRun, IsOnlyRun, IsReachedRun};
+ghost use Rattle.vr_walks.specs.Singles.{are_runs, is_run, IsCumulRun, IsOnlyRun, IsReachedRun};
+ghost use Rattle.vr_walks.specs.RunWalks.{line_along, IsLegAlong, IsRunWalk};
 ghost use Rattle.vr_walks.specs.Singles.{IsReachingRun};
 ghost use Rattle.vr_walks.specs.Stops.{AreEndsOf};
 ghost use Rattle.vr_walks.specs.VisitRuns.{is_one_run, AreVisitRuns, HasCumulEnds, IsAllowedRun, IsFinish};
 
 use crate::ends::Ends;
+use crate::legs::Leg;
 use crate::runs::{run_of, share};
 use crate::spliced::Spliced;
-use crate::stops::node_at;
+use crate::stops::{VehicleStops, node_at};
 use std::sync::ledger::Ledger;
 use vr_model::{Evaluator, Model, Steps, laws};
 use vr_spans::Run;
@@ -39,40 +41,41 @@ pub struct Ahead {
     pub allowed: Run,
 }
 
-// What a walk of one run goes between: the runs at its two ends, and the end of the vehicle.
+// What a walk of one run asks of a vehicle: its stops, of which no visit and not the end allows more than one run, and
+// what its arcs take.
+#[derive(Clone, Copy)]
+pub(crate) struct RunWalk<'a> {
+    pub(crate) stops: VehicleStops<'a>,
+    pub(crate) evaluator: &'a Evaluator,
+    // the greatest slack
+    pub(crate) slack: i64,
+    // the run that each visit allows, by its node
+    pub(crate) visits: &'a [Run],
+    pub(crate) finish: Ahead,
+}
+
+// The runs at the two ends of a leg.
 #[derive(Clone, Copy)]
 pub(crate) struct Between {
     pub(crate) from: Run,
     pub(crate) to: Run,
-    pub(crate) finish: Ahead,
 }
 
-// What a walk between two levels goes between, where there are no breaks and each is of one run.
-pub(crate) fn one_run_each(
-    model: &Model,
-    d: u32,
-    v: u32,
-    ends: &Ends,
-    from: &Levels,
-    to: &Levels,
-) -> Option<Between>
-    requires vehicle { v < length model.now.vehicles }
-    requires ends { AreEndsOf model.now d v ends.now }
-    requires from { AreLevels ends.now.breaks from.now }
-    requires to { AreLevels ends.now.breaks to.now }
+// The runs at the two ends of a leg, where there are no breaks and each is of one run.
+pub(crate) fn runs_between(ends: &Ends, leg: &Leg) -> Option<Between>
+    requires from { AreLevels ends.now.breaks leg.now.from.now }
+    requires to { AreLevels ends.now.breaks leg.now.to.now }
     ensures no_breaks { IfSome result (λ between. ends.now.breaks ≡ []) }
-    ensures from { IfSome result (λ between. IsOnlyRun (level_at from.now 0) between.from) }
-    ensures to { IfSome result (λ between. IsOnlyRun (level_at to.now 0) between.to) }
-    ensures finish { IfSome result (λ between. IsFinish model.now d v between.finish) }
-    ensures known { is_some result ≡ is_one_run_each model.now d v from.now to.now }
+    ensures from { IfSome result (λ between. IsOnlyRun (level_at leg.now.from.now 0) between.from) }
+    ensures to { IfSome result (λ between. IsOnlyRun (level_at leg.now.to.now 0) between.to) }
+    ensures known { is_some result ≡ are_runs ends.now.breaks leg.now.from.now leg.now.to.now }
 {
     if !ends.has_no_breaks() {
         return None;
     }
-    let from = run_at(from, 0)?;
-    let to = run_at(to, 0)?;
-    let finish = finish_of(model, d, v, ends)?;
-    Some(Between { from, to, finish })
+    let from = run_at(leg.from, 0)?;
+    let to = run_at(leg.to, 0)?;
+    Some(Between { from, to })
 }
 
 // The run that the set where `b` breaks were taken is, nothing where it is none or more than one.
@@ -103,34 +106,25 @@ pub(crate) fn finish_of(model: &Model, d: u32, v: u32, ends: &Ends) -> Option<Ah
     Some(Ahead { node, allowed })
 }
 
-// Whether the line of a list is feasible, where no stop allows more than one run and there are no breaks: found by a
-// walk that carries one run, as `walk_through` counts.
+// Whether the line of a list is feasible, where there are no breaks: found by a walk along a leg that carries one run,
+// as `walk_through` counts.
 pub(crate) fn walk_by_runs<L: Ledger>(
-    model: &Model,
-    d: u32,
-    v: u32,
-    runs: &[Run],
-    between: Between,
+    walk: &RunWalk,
     list: &Spliced,
-    begin: usize,
-    last: usize,
+    leg: &Leg,
+    between: Between,
     steps: &mut Steps<L>,
 ) -> bool
-    requires well_formed { IsWellFormed model.now }
-    requires dimension { d < length model.now.dimensions }
-    requires vehicle { v < length model.now.vehicles }
-    requires no_breaks { (line model.now d v list.now).breaks ≡ [] }
-    requires runs { AreVisitRuns model.now d v runs.now }
-    requires finish { IsFinish model.now d v between.finish }
-    requires used { IsUsed model.now list.now }
-    requires order { begin < last }
-    requires within { last ≤ suc (length list.now) }
+    requires walk { IsRunWalk walk.now }
+    requires no_breaks { (line_along walk.now list.now).breaks ≡ [] }
+    requires used { IsUsed walk.now.stops.model.now list.now }
+    requires leg { IsLegAlong walk.now list.now leg.now }
     requires from_cumuls { IsCumulRun between.from }
-    requires from { IsReachedRun (line model.now d v list.now) begin 0 between.from }
+    requires from { IsReachedRun (line_along walk.now list.now) leg.now.begin 0 between.from }
     requires to_cumuls { IsCumulRun between.to }
-    requires to { IsReachingRun (line model.now d v list.now) last 0 between.to }
-    ensures exact { result ≡ is_feasible (line model.now d v list.now) }
-    ensures count { steps.new ≤ steps.old + walk_weight (line model.now d v list.now) begin last }
+    requires to { IsReachingRun (line_along walk.now list.now) leg.now.last 0 between.to }
+    ensures exact { result ≡ is_feasible (line_along walk.now list.now) }
+    ensures count { steps.new ≤ steps.old + walk_weight (line_along walk.now list.now) leg.now.begin leg.now.last }
 {
     laws::lines_are_sound();
     laws::chosen_where_feasible();
@@ -138,19 +132,7 @@ pub(crate) fn walk_by_runs<L: Ledger>(
     laws::reached_as_tested();
     laws::end_reached_as_tested();
     vr_steps::laws::runs_are_counted();
-    let run = carry_run(
-        model,
-        d,
-        v,
-        runs,
-        between.finish,
-        list,
-        begin,
-        last,
-        0,
-        between.from,
-        steps,
-    );
+    let run = carry_run(walk, list, leg, 0, between.from, steps);
     if run.lo > run.hi {
         return false;
     }
@@ -160,55 +142,51 @@ pub(crate) fn walk_by_runs<L: Ledger>(
     share(run, between.to)
 }
 
-// The run that is reached at stop `last` by a walk without breaks from stop `begin`, where this run is reached with
-// `taken` breaks taken. It has no number where nothing is reached on the way; then the walk stops there. It counts a
-// step for each arc.
+// The run that is reached at the last stop of a leg by a walk without breaks from its first one, where this run is
+// reached with `taken` breaks taken. It has no number where nothing is reached on the way; then the walk stops there.
+// It counts a step for each arc.
 pub(crate) fn carry_run<L: Ledger>(
-    model: &Model,
-    d: u32,
-    v: u32,
-    runs: &[Run],
-    finish: Ahead,
+    walk: &RunWalk,
     list: &Spliced,
-    begin: usize,
-    last: usize,
+    leg: &Leg,
     taken: usize,
     from: Run,
     steps: &mut Steps<L>,
 ) -> Run
-    requires well_formed { IsWellFormed model.now }
-    requires dimension { d < length model.now.dimensions }
-    requires vehicle { v < length model.now.vehicles }
-    requires runs { AreVisitRuns model.now d v runs.now }
-    requires finish { IsFinish model.now d v finish }
-    requires used { IsUsed model.now list.now }
-    requires order { begin ≤ last }
-    requires within { last ≤ suc (length list.now) }
-    requires breaks { taken ≤ length (line model.now d v list.now).breaks }
+    requires walk { IsRunWalk walk.now }
+    requires used { IsUsed walk.now.stops.model.now list.now }
+    requires leg { IsLegAlong walk.now list.now leg.now }
+    requires breaks { taken ≤ length (line_along walk.now list.now).breaks }
     requires from_cumuls { IsCumulRun from }
-    requires from { IsReachedRun (line model.now d v list.now) begin taken from }
+    requires from { IsReachedRun (line_along walk.now list.now) leg.now.begin taken from }
     ensures cumuls { result.lo ≤ℤ result.hi → IsCumulRun result }
-    ensures reached { IsReachedRun (line model.now d v list.now) last taken result }
+    ensures reached { IsReachedRun (line_along walk.now list.now) leg.now.last taken result }
     ensures led { (y : ℤ) → IsTrue (in_run result y)
-        ↔ IsLedTo (line model.now d v list.now) (in_run from) begin (last - begin) y }
-    ensures count { taken ≡ 0 → steps.new ≤ steps.old + steps_between (line model.now d v list.now) begin last }
-    ensures arcs { steps.new ≤ steps.old + (last - begin) }
+        ↔ IsLedTo (line_along walk.now list.now) (in_run from) leg.now.begin (leg.now.last - leg.now.begin) y }
+    ensures count { taken ≡ 0 → steps.new
+        ≤ steps.old + steps_between (line_along walk.now list.now) leg.now.begin leg.now.last }
+    ensures arcs { steps.new ≤ steps.old + (leg.now.last - leg.now.begin) }
 {
     laws::lines_are_sound();
     laws::reached_by_crossing();
     laws::reached_as_tested();
     vr_steps::laws::arc_alone();
     vr_steps::laws::runs_are_counted();
-    let evaluator = model.dimensions.get(d as usize).evaluator_of(v);
-    let slack = slack_of(model, d);
+    let stops = &walk.stops;
     let mut run = from;
-    let mut origin = node_at(model, v, list, begin);
-    for k in begin..last {
+    let mut origin = node_at(stops.model, stops.v, list, leg.begin);
+    for k in leg.begin..leg.last {
         steps.tick();
-        let ahead = stop_ahead(model, d, v, runs, finish, list, k);
-        run = cross_by_run(
-            model, d, v, evaluator, slack, list, k, taken, origin, run, ahead,
+        let ahead = stop_ahead(
+            stops.model,
+            stops.d,
+            stops.v,
+            walk.visits,
+            walk.finish,
+            list,
+            k,
         );
+        run = cross_by_run(walk, list, k, taken, origin, run, ahead);
         if run.lo > run.hi {
             return run;
         }
@@ -251,11 +229,7 @@ pub(crate) fn stop_ahead(
 // The run that is reached behind the arc from stop `k`, without a break inside it. It has no number where none is.
 #[inline]
 fn cross_by_run(
-    model: &Model,
-    d: u32,
-    v: u32,
-    evaluator: &Evaluator,
-    slack: i64,
+    walk: &RunWalk,
     list: &Spliced,
     k: usize,
     taken: usize,
@@ -263,32 +237,30 @@ fn cross_by_run(
     run: Run,
     ahead: Ahead,
 ) -> Run
-    requires well_formed { IsWellFormed model.now }
-    requires dimension { d < length model.now.dimensions }
-    requires vehicle { v < length model.now.vehicles }
-    requires evaluator { evaluator.now ≡ evaluator_of (dimension_at model.now d) v }
-    requires slack { slack ≡ (dimension_at model.now d).slack_max }
-    requires slack_range { IsIn (pos 0) horizon slack }
-    requires used { IsUsed model.now list.now }
+    requires walk { IsRunWalk walk.now }
+    requires used { IsUsed walk.now.stops.model.now list.now }
     requires arc { k ≤ length list.now }
-    requires breaks { taken ≤ length (line model.now d v list.now).breaks }
-    requires origin { origin ≡ node_at_stop model.now v list.now k }
-    requires origin_below { origin < model.now.nodes }
+    requires breaks { taken ≤ length (line_along walk.now list.now).breaks }
+    requires origin { origin ≡ node_at_stop walk.now.stops.model.now walk.now.stops.v list.now k }
+    requires origin_below { origin < walk.now.stops.model.now.nodes }
     requires cumuls { IsCumulRun run }
-    requires reached { IsReachedRun (line model.now d v list.now) k taken run }
-    requires target { ahead.node ≡ node_at_stop model.now v list.now (k + 1) }
-    requires target_below { ahead.node < model.now.nodes }
-    requires allowed { IsAllowedRun (line model.now d v list.now) (k + 1) ahead.allowed }
-    ensures reached { IsReachedRun (line model.now d v list.now) (k + 1) taken result }
+    requires reached { IsReachedRun (line_along walk.now list.now) k taken run }
+    requires target { ahead.node ≡ node_at_stop walk.now.stops.model.now walk.now.stops.v list.now (k + 1) }
+    requires target_below { ahead.node < walk.now.stops.model.now.nodes }
+    requires allowed { IsAllowedRun (line_along walk.now list.now) (k + 1) ahead.allowed }
+    ensures reached { IsReachedRun (line_along walk.now list.now) (k + 1) taken result }
     ensures led { (y : ℤ) → IsTrue (in_run result y)
-        ↔ ((x : ℤ) × IsTrue (in_run run x) × Follows (line model.now d v list.now) k x y) }
+        ↔ ((x : ℤ) × IsTrue (in_run run x) × Follows (line_along walk.now list.now) k x y) }
     ensures cumuls { result.lo ≤ℤ result.hi → IsCumulRun result }
 {
     laws::lines_are_sound();
     laws::reached_by_crossing();
     vr_steps::laws::arc_alone();
-    let transit = model.transit_by(d, v, evaluator, origin, ahead.node);
-    run_behind(run, transit, slack, ahead.allowed)
+    let stops = &walk.stops;
+    let transit = stops
+        .model
+        .transit_by(stops.d, stops.v, walk.evaluator, origin, ahead.node);
+    run_behind(run, transit, walk.slack, ahead.allowed)
 }
 
 /// The greatest slack of dimension `d`, in `0..=2^36`.

@@ -7,18 +7,17 @@ ghost use Rattle.vr_model.specs.schedules.Choices.{is_feasible};
 ghost use Rattle.vr_walks.specs.Lists.{IsUsed};
 ghost use Rattle.vr_walks.specs.KnownRows.{AreRowsIfUsed};
 ghost use Rattle.vr_walks.specs.Standing.{is_stuck, IsReachedAt, ReachesNoEnd};
-ghost use Rattle.vr_walks.specs.Stops.{AreEndsOf, AreStops};
+ghost use Rattle.vr_walks.specs.Stops.{AreStops};
 ghost use Rattle.vr_walks.specs.Stretches.{SharesFront, SharesBack};
-ghost use Rattle.vr_walks.specs.VisitSets.{AreVisitSets};
+ghost use Rattle.vr_walks.specs.VehicleStops.{AreVehicleStops};
 
-use crate::ends::Ends;
-use crate::stops::{Stops, hop_of, set_of};
+use crate::legs::Leg;
+use crate::stops::{Stops, VehicleStops, hop_of, set_of};
 use crate::walking::{levels_before, levels_behind, walk_uncounted};
 use std::marker::Brand;
 use std::sync::ledger::{Blank, Ledger};
 use vr_model::{Model, NoMemory, Steps, laws};
 use vr_reach::{Rows, Walk};
-use vr_spans::Spans;
 use vr_steps::Levels;
 
 /// Whether the line of a list of vehicle `v` is feasible, found by a walk through what differs from the list before,
@@ -52,24 +51,22 @@ pub fn goes_between(
     let ends = &stops.ends[v as usize];
     let visits = stops.visits.of(model, d, v);
     let runs = stops.runs_of(model, d, v);
-    let last = new.len() - back + 1;
     let from = levels_before(ends, rows, front);
     let to = levels_behind(ends, rows, old.len(), back);
-    let goes = walk_uncounted::<Brand>(
+    let asked = VehicleStops {
         model,
         d,
         v,
         ends,
         visits,
-        runs,
-        new,
-        front,
-        last,
+    };
+    let leg = Leg {
+        begin: front,
+        last: new.len() - back + 1,
         from,
         to,
-        walk,
-        Blank::new(1),
-    )?;
+    };
+    let goes = walk_uncounted::<Brand>(&asked, runs, new, &leg, walk, Blank::new(1))?;
     Ok(goes)
 }
 
@@ -103,18 +100,14 @@ pub fn leave_rows(
     let ends = &stops.ends[v as usize];
     let visits = stops.visits.of(model, d, v);
     let from = levels_before(ends, rows, front);
-    cross_arc::<Brand>(
+    let asked = VehicleStops {
         model,
         d,
         v,
         ends,
         visits,
-        new,
-        front,
-        from,
-        walk,
-        Blank::new(1),
-    )?;
+    };
+    cross_arc::<Brand>(&asked, new, front, from, walk, Blank::new(1))?;
     walk.hand_over(here);
     Ok(())
 }
@@ -144,18 +137,14 @@ pub fn go_on(
 {
     let ends = &stops.ends[v as usize];
     let visits = stops.visits.of(model, d, v);
-    cross_arc::<Brand>(
+    let asked = VehicleStops {
         model,
         d,
         v,
         ends,
         visits,
-        list,
-        k,
-        here,
-        walk,
-        Blank::new(1),
-    )?;
+    };
+    cross_arc::<Brand>(&asked, list, k, here, walk, Blank::new(1))?;
     walk.hand_over(here);
     Ok(())
 }
@@ -192,23 +181,21 @@ pub fn goes_from(
     let ends = &stops.ends[v as usize];
     let visits = stops.visits.of(model, d, v);
     let runs = stops.runs_of(model, d, v);
-    let last = new.len() - back + 1;
     let to = levels_behind(ends, rows, old.len(), back);
-    let goes = walk_uncounted::<Brand>(
+    let asked = VehicleStops {
         model,
         d,
         v,
         ends,
         visits,
-        runs,
-        new,
-        k,
-        last,
-        here,
+    };
+    let leg = Leg {
+        begin: k,
+        last: new.len() - back + 1,
+        from: here,
         to,
-        walk,
-        Blank::new(1),
-    )?;
+    };
+    let goes = walk_uncounted::<Brand>(&asked, runs, new, &leg, walk, Blank::new(1))?;
     Ok(goes)
 }
 
@@ -238,11 +225,7 @@ fn none_reached(levels: &Levels) -> bool
 
 // Lets a walk stand behind the arc from a stop of a list.
 fn cross_arc<L: Ledger>(
-    model: &Model,
-    d: u32,
-    v: u32,
-    ends: &Ends,
-    visits: &[Spans],
+    stops: &VehicleStops,
     list: &[u32],
     k: usize,
     from: &Levels,
@@ -252,21 +235,17 @@ fn cross_arc<L: Ledger>(
     requires name { blank.name ≡ L.name }
     requires parts { blank.parts ≡ L.parts }
     requires some { 0 < blank.parts }
-    requires well_formed { IsWellFormed model.now }
-    requires dimension { d < length model.now.dimensions }
-    requires vehicle { v < length model.now.vehicles }
-    requires ends { AreEndsOf model.now d v ends.now }
-    requires visits { AreVisitSets model.now d v visits.now }
-    requires used { IsUsed model.now list.now }
+    requires stops { AreVehicleStops stops.now }
+    requires used { IsUsed stops.now.model.now list.now }
     requires stop { k ≤ length list.now }
-    requires from { IsReachedAt model.now d v list.now k from.now }
-    ensures { OnOk result (IsReachedAt model.now d v list.now (k + 1) walk.new) }
+    requires from { IsReachedAt stops.now.model.now stops.now.d stops.now.v list.now k from.now }
+    ensures { OnOk result (IsReachedAt stops.now.model.now stops.now.d stops.now.v list.now (k + 1) walk.new) }
 {
     laws::lines_are_sound();
     vr_steps::laws::reached_behind_arc();
     let mut steps = Steps::<L>::new(blank);
-    let hop = hop_of(model, d, v, list, k);
-    let next = set_of(model, d, v, ends, visits, list, k + 1);
-    walk.leave(from, hop, next, &ends.breaks, &mut steps)?;
+    let hop = hop_of(stops, list, k);
+    let next = set_of(stops, list, k + 1);
+    walk.leave(from, hop, next, &stops.ends.breaks, &mut steps)?;
     Ok(())
 }

@@ -1,14 +1,13 @@
 //! What the stops of one dimension ask.
 
 ghost use Rattle.std.specs.Prelude.{◌≡◌, ◌+◌, suc, ◌<◌, ◌≤◌, length, IfOk, IfSome, is_some};
-ghost use Rattle.vr_model.specs.schedules.Lines.{line};
 ghost use Rattle.vr_model.specs.tables.WellFormed.{IsWellFormed};
 ghost use Rattle.vr_steps.specs.Arcs.{IsSoundHop};
 ghost use Rattle.vr_steps.specs.Reached.{hop_at, IsAllowedSet};
 ghost use Rattle.vr_walks.specs.Lists.{node_at_stop, IsTour};
-ghost use Rattle.vr_walks.specs.Stops.{AreEndsOf, AreStops};
+ghost use Rattle.vr_walks.specs.Stops.{AreStops};
 ghost use Rattle.vr_walks.specs.VisitRuns.{have_visits_one_run, AreVisitRuns};
-ghost use Rattle.vr_walks.specs.VisitSets.{AreVisitSets};
+ghost use Rattle.vr_walks.specs.VehicleStops.{line_of, AreVehicleStops};
 
 use crate::ends::{Ends, ends_of_each};
 use crate::runs::run_tables;
@@ -59,51 +58,44 @@ impl Stops {
     }
 }
 
-// The cumuls that stop `k` of vehicle `v` with a list allows.
+// The stops that vehicle `v` may have in dimension `d`: what its start, its end and its breaks ask, and the cumuls that
+// each visit allows it.
+#[derive(Clone, Copy)]
+pub(crate) struct VehicleStops<'a> {
+    pub(crate) model: &'a Model,
+    pub(crate) d: u32,
+    pub(crate) v: u32,
+    pub(crate) ends: &'a Ends,
+    pub(crate) visits: &'a [Spans],
+}
+
+// The cumuls that stop `k` of a list allows.
 #[inline]
-pub(crate) fn set_at<'a>(
-    model: &Model,
-    d: u32,
-    v: u32,
-    ends: &'a Ends,
-    visits: &'a [Spans],
-    list: &Spliced,
-    k: usize,
-) -> &'a Spans
-    requires ends { AreEndsOf model.now d v ends.now }
-    requires visits { AreVisitSets model.now d v visits.now }
-    requires tour { IsTour model.now list.now }
+pub(crate) fn set_at<'a>(stops: &VehicleStops<'a>, list: &Spliced, k: usize) -> &'a Spans
+    requires stops { AreVehicleStops stops.now }
+    requires tour { IsTour stops.now.model.now list.now }
     requires stop { k ≤ suc (length list.now) }
-    ensures { IsAllowedSet (line model.now d v list.now) k result.now }
+    ensures { IsAllowedSet (line_of stops.now list.now) k result.now }
 {
     if k == 0 {
-        return &ends.start_set;
+        return &stops.ends.start_set;
     }
     if k > list.len() {
-        return &ends.end_set;
+        return &stops.ends.end_set;
     }
-    &visits[list.get(k - 1) as usize]
+    &stops.visits[list.get(k - 1) as usize]
 }
 
 // The same, where the list is written out.
 #[inline]
-pub(crate) fn set_of<'a>(
-    model: &Model,
-    d: u32,
-    v: u32,
-    ends: &'a Ends,
-    visits: &'a [Spans],
-    list: &[u32],
-    k: usize,
-) -> &'a Spans
-    requires ends { AreEndsOf model.now d v ends.now }
-    requires visits { AreVisitSets model.now d v visits.now }
-    requires tour { IsTour model.now list.now }
+pub(crate) fn set_of<'a>(stops: &VehicleStops<'a>, list: &[u32], k: usize) -> &'a Spans
+    requires stops { AreVehicleStops stops.now }
+    requires tour { IsTour stops.now.model.now list.now }
     requires stop { k ≤ suc (length list.now) }
-    ensures { IsAllowedSet (line model.now d v list.now) k result.now }
+    ensures { IsAllowedSet (line_of stops.now list.now) k result.now }
 {
     let whole = Spliced::whole(list);
-    set_at(model, d, v, ends, visits, &whole, k)
+    set_at(stops, &whole, k)
 }
 
 // The node at a stop of vehicle `v` with a list.
@@ -125,35 +117,31 @@ pub(crate) fn node_at(model: &Model, v: u32, list: &Spliced, k: usize) -> u32
     list.get(k - 1)
 }
 
-// The arc from a stop of vehicle `v` with a list to the next one.
+// The arc from a stop of a list to the next one.
 #[inline]
-pub(crate) fn hop_from(model: &Model, d: u32, v: u32, list: &Spliced, k: usize) -> Hop
-    requires well_formed { IsWellFormed model.now }
-    requires dimension { d < length model.now.dimensions }
-    requires vehicle { v < length model.now.vehicles }
-    requires tour { IsTour model.now list.now }
+pub(crate) fn hop_from(stops: &VehicleStops, list: &Spliced, k: usize) -> Hop
+    requires stops { AreVehicleStops stops.now }
+    requires tour { IsTour stops.now.model.now list.now }
     requires stop { k ≤ length list.now }
-    ensures exact { result ≡ hop_at (line model.now d v list.now) k }
+    ensures exact { result ≡ hop_at (line_of stops.now list.now) k }
     ensures sound { IsSoundHop result }
 {
     // that the list is in memory says that the sum fits
     let _few = list.len();
-    let origin = node_at(model, v, list, k);
-    let target = node_at(model, v, list, k + 1);
-    hop(model, d, v, origin, target)
+    let origin = node_at(stops.model, stops.v, list, k);
+    let target = node_at(stops.model, stops.v, list, k + 1);
+    hop(stops.model, stops.d, stops.v, origin, target)
 }
 
 // The same, where the list is written out.
 #[inline]
-pub(crate) fn hop_of(model: &Model, d: u32, v: u32, list: &[u32], k: usize) -> Hop
-    requires well_formed { IsWellFormed model.now }
-    requires dimension { d < length model.now.dimensions }
-    requires vehicle { v < length model.now.vehicles }
-    requires tour { IsTour model.now list.now }
+pub(crate) fn hop_of(stops: &VehicleStops, list: &[u32], k: usize) -> Hop
+    requires stops { AreVehicleStops stops.now }
+    requires tour { IsTour stops.now.model.now list.now }
     requires stop { k ≤ length list.now }
-    ensures exact { result ≡ hop_at (line model.now d v list.now) k }
+    ensures exact { result ≡ hop_at (line_of stops.now list.now) k }
     ensures sound { IsSoundHop result }
 {
     let whole = Spliced::whole(list);
-    hop_from(model, d, v, &whole, k)
+    hop_from(stops, &whole, k)
 }

@@ -8,153 +8,113 @@ ghost use Rattle.vr_model.specs.routes.Routes.{is_distinct};
 ghost use Rattle.vr_model.specs.schedules.Lines.{line};
 ghost use Rattle.vr_model.specs.schedules.Choices.{is_feasible};
 ghost use Rattle.vr_model.specs.schedules.Weights.{walk_weight, list_weight};
-ghost use Rattle.vr_steps.specs.Levels.{AreLevels};
-ghost use Rattle.vr_steps.specs.Reached.{AreReached, AreReachingEnd};
 ghost use Rattle.vr_reach.specs.Rows.{row_at};
 ghost use Rattle.vr_walks.specs.Lists.{is_feasible_list, IsTour, IsUsed};
-ghost use Rattle.vr_walks.specs.Alone.{may_go_alone, IsUntold};
 ghost use Rattle.vr_walks.specs.KnownRows.{AreRowsIfUsed};
-ghost use Rattle.vr_walks.specs.Singles.{is_one_run_each};
 ghost use Rattle.vr_walks.specs.Spliced.{spliced};
-ghost use Rattle.vr_walks.specs.Stops.{AreEndsOf, AreStops};
+ghost use Rattle.vr_walks.specs.GivenUp.{IsGivenUp};
+ghost use Rattle.vr_walks.specs.Stops.{AreStops};
 ghost use Rattle.vr_walks.specs.Tries.{list_tries, tries_between};
+ghost use Rattle.vr_walks.specs.VehicleStops.{line_of, AreVehicleStops, IsLegOf};
 ghost use Rattle.vr_walks.specs.VisitRuns.{AreVisitRuns};
-ghost use Rattle.vr_walks.specs.VisitSets.{AreVisitSets};
 
 use crate::ends::Ends;
+use crate::legs::Leg;
 use crate::probing::told_without_breaks;
-use crate::single::{one_run_each, walk_by_runs};
+use crate::single::{RunWalk, finish_of, runs_between, slack_of, walk_by_runs};
 use crate::spliced::Spliced;
-use crate::stops::{Stops, hop_from, set_at};
+use crate::stops::{Stops, VehicleStops, hop_from, set_at};
 use crate::stretches::Stretch;
 use std::marker::Brand;
 use std::sync::ledger::{Blank, Ledger};
 use vr_model::{Model, NoMemory, Steps, laws};
 use vr_reach::{Rows, Walk};
-use vr_spans::{Run, Spans};
+use vr_spans::Run;
 use vr_steps::Levels;
 
-// Whether the line of a list is feasible, found by a walk from stop `begin`, which is reached at the levels `from`, to
-// stop `last`, from which the end is reached at the levels `to`. The walk carries one run where that is all there is;
-// else, where no visit allows more, walks without a break are asked first, whose arcs are counted as tries.
+// Whether the line of a list is feasible, found by a walk along a leg of it. The walk carries one run where that is all
+// there is; else, where no visit allows more, walks without a break are asked first, whose arcs are counted as tries.
 fn walk_through<L: Ledger, M: Ledger>(
-    model: &Model,
-    d: u32,
-    v: u32,
-    ends: &Ends,
-    visits: &[Spans],
+    stops: &VehicleStops,
     runs: Option<&[Run]>,
     list: &Spliced,
-    begin: usize,
-    last: usize,
-    from: &Levels,
-    to: &Levels,
+    leg: &Leg,
     walk: &mut Walk,
     steps: &mut Steps<L>,
     tries: &mut Steps<M>,
 ) -> Result<bool, NoMemory>
-    requires well_formed { IsWellFormed model.now }
-    requires dimension { d < length model.now.dimensions }
-    requires vehicle { v < length model.now.vehicles }
-    requires ends { AreEndsOf model.now d v ends.now }
-    requires visits { AreVisitSets model.now d v visits.now }
-    requires runs { IfSome runs (λ found. AreVisitRuns model.now d v found.now) }
-    requires used { IsUsed model.now list.now }
-    requires order { begin < last }
-    requires within { last ≤ suc (length list.now) }
-    requires from_form { AreLevels ends.now.breaks from.now }
-    requires from { AreReached (line model.now d v list.now) begin from.now }
-    requires to_form { AreLevels ends.now.breaks to.now }
-    requires to { AreReachingEnd (line model.now d v list.now) last to.now }
-    ensures exact { IfOk result (λ passed. passed ≡ is_feasible (line model.now d v list.now)) }
-    ensures count { steps.new ≤ steps.old + walk_weight (line model.now d v list.now) begin last }
-    ensures tries { tries.new ≤ tries.old + tries_between (line model.now d v list.now) begin last }
+    requires stops { AreVehicleStops stops.now }
+    requires runs { IfSome runs (λ found. AreVisitRuns stops.now.model.now stops.now.d stops.now.v found.now) }
+    requires used { IsUsed stops.now.model.now list.now }
+    requires leg { IsLegOf stops.now list.now leg.now }
+    ensures exact { IfOk result (λ passed. passed ≡ is_feasible (line_of stops.now list.now)) }
+    ensures count { steps.new ≤ steps.old + walk_weight (line_of stops.now list.now) leg.now.begin leg.now.last }
+    ensures tries { tries.new ≤ tries.old + tries_between (line_of stops.now list.now) leg.now.begin leg.now.last }
 {
-    let told = told_by_runs(
-        model, d, v, ends, runs, list, begin, last, from, to, steps, tries,
-    );
+    let told = told_by_runs(stops, runs, list, leg, steps, tries);
     if let Some(passed) = told {
         return Ok(passed);
     }
-    let passed = walk_by_sets(
-        model, d, v, ends, visits, list, begin, last, from, to, walk, steps,
-    )?;
+    let passed = walk_by_sets(stops, list, leg, walk, steps)?;
     Ok(passed)
 }
 
 // The same, where walks that carry one run tell.
 fn told_by_runs<L: Ledger, M: Ledger>(
-    model: &Model,
-    d: u32,
-    v: u32,
-    ends: &Ends,
+    stops: &VehicleStops,
     runs: Option<&[Run]>,
     list: &Spliced,
-    begin: usize,
-    last: usize,
-    from: &Levels,
-    to: &Levels,
+    leg: &Leg,
     steps: &mut Steps<L>,
     tries: &mut Steps<M>,
 ) -> Option<bool>
-    requires well_formed { IsWellFormed model.now }
-    requires dimension { d < length model.now.dimensions }
-    requires vehicle { v < length model.now.vehicles }
-    requires ends { AreEndsOf model.now d v ends.now }
-    requires runs { IfSome runs (λ found. AreVisitRuns model.now d v found.now) }
-    requires used { IsUsed model.now list.now }
-    requires order { begin < last }
-    requires within { last ≤ suc (length list.now) }
-    requires from_form { AreLevels ends.now.breaks from.now }
-    requires from { AreReached (line model.now d v list.now) begin from.now }
-    requires to_form { AreLevels ends.now.breaks to.now }
-    requires to { AreReachingEnd (line model.now d v list.now) last to.now }
-    ensures told { IfSome result (λ passed. passed ≡ is_feasible (line model.now d v list.now)) }
+    requires stops { AreVehicleStops stops.now }
+    requires runs { IfSome runs (λ found. AreVisitRuns stops.now.model.now stops.now.d stops.now.v found.now) }
+    requires used { IsUsed stops.now.model.now list.now }
+    requires leg { IsLegOf stops.now list.now leg.now }
+    ensures told { IfSome result (λ passed. passed ≡ is_feasible (line_of stops.now list.now)) }
     ensures untold { result ≡ None → steps.new ≡ steps.old }
-    ensures given_up { result ≡ None → IsSome runs.entry
-        → (IsTrue (is_one_run_each model.now d v from.now to.now) → ⊥) × (IsTrue (may_go_alone model.now d v from.now)
-        → IsUntold (line model.now d v list.now) from.now to.now begin last) }
-    ensures count { steps.new ≤ steps.old + walk_weight (line model.now d v list.now) begin last }
-    ensures tries { tries.new ≤ tries.old + tries_between (line model.now d v list.now) begin last }
+    ensures given_up { result ≡ None → IsSome runs.entry → IsGivenUp stops.now list.now leg.now }
+    ensures known { IsSome result → IsSome runs.entry × (IsGivenUp stops.now list.now leg.now → ⊥) }
+    ensures count { steps.new ≤ steps.old + walk_weight (line_of stops.now list.now) leg.now.begin leg.now.last }
+    ensures tries { tries.new ≤ tries.old + tries_between (line_of stops.now list.now) leg.now.begin leg.now.last }
 {
-    let runs = runs?;
-    if let Some(between) = one_run_each(model, d, v, ends, from, to) {
-        let passed = walk_by_runs(model, d, v, runs, between, list, begin, last, steps);
+    let visits = runs?;
+    let finish = finish_of(stops.model, stops.d, stops.v, stops.ends)?;
+    let evaluator = stops
+        .model
+        .dimensions
+        .get(stops.d as usize)
+        .evaluator_of(stops.v);
+    let slack = slack_of(stops.model, stops.d);
+    let walk = RunWalk {
+        stops: *stops,
+        evaluator,
+        slack,
+        visits,
+        finish,
+    };
+    if let Some(between) = runs_between(stops.ends, leg) {
+        let passed = walk_by_runs(&walk, list, leg, between, steps);
         return Some(passed);
     }
-    let told = told_without_breaks(model, d, v, ends, runs, list, begin, last, from, to, tries)?;
+    let told = told_without_breaks(&walk, list, leg, tries)?;
     Some(told)
 }
 
 // The same, carrying the sets of each number of breaks.
 fn walk_by_sets<L: Ledger>(
-    model: &Model,
-    d: u32,
-    v: u32,
-    ends: &Ends,
-    visits: &[Spans],
+    stops: &VehicleStops,
     list: &Spliced,
-    begin: usize,
-    last: usize,
-    from: &Levels,
-    to: &Levels,
+    leg: &Leg,
     walk: &mut Walk,
     steps: &mut Steps<L>,
 ) -> Result<bool, NoMemory>
-    requires well_formed { IsWellFormed model.now }
-    requires dimension { d < length model.now.dimensions }
-    requires vehicle { v < length model.now.vehicles }
-    requires ends { AreEndsOf model.now d v ends.now }
-    requires visits { AreVisitSets model.now d v visits.now }
-    requires used { IsUsed model.now list.now }
-    requires order { begin < last }
-    requires within { last ≤ suc (length list.now) }
-    requires from_form { AreLevels ends.now.breaks from.now }
-    requires from { AreReached (line model.now d v list.now) begin from.now }
-    requires to_form { AreLevels ends.now.breaks to.now }
-    requires to { AreReachingEnd (line model.now d v list.now) last to.now }
-    ensures exact { IfOk result (λ passed. passed ≡ is_feasible (line model.now d v list.now)) }
-    ensures count { steps.new ≤ steps.old + walk_weight (line model.now d v list.now) begin last }
+    requires stops { AreVehicleStops stops.now }
+    requires used { IsUsed stops.now.model.now list.now }
+    requires leg { IsLegOf stops.now list.now leg.now }
+    ensures exact { IfOk result (λ passed. passed ≡ is_feasible (line_of stops.now list.now)) }
+    ensures count { steps.new ≤ steps.old + walk_weight (line_of stops.now list.now) leg.now.begin leg.now.last }
 {
     laws::lines_are_sound();
     laws::chosen_where_feasible();
@@ -162,15 +122,16 @@ fn walk_by_sets<L: Ledger>(
     laws::end_reached_as_tested();
     vr_steps::laws::runs_are_counted();
     vr_steps::laws::reached_behind_arc();
-    let hop = hop_from(model, d, v, list, begin);
-    let next = set_at(model, d, v, ends, visits, list, begin + 1);
-    walk.leave(from, hop, next, &ends.breaks, steps)?;
-    for k in begin + 1..last {
-        let hop = hop_from(model, d, v, list, k);
-        let next = set_at(model, d, v, ends, visits, list, k + 1);
-        walk.step(hop, next, &ends.breaks, steps)?;
+    let breaks = &stops.ends.breaks;
+    let hop = hop_from(stops, list, leg.begin);
+    let next = set_at(stops, list, leg.begin + 1);
+    walk.leave(leg.from, hop, next, breaks, steps)?;
+    for k in leg.begin + 1..leg.last {
+        let hop = hop_from(stops, list, k);
+        let next = set_at(stops, list, k + 1);
+        walk.step(hop, next, breaks, steps)?;
     }
-    let passed = walk.meets(to, steps);
+    let passed = walk.meets(leg.to, steps);
     Ok(passed)
 }
 
@@ -233,25 +194,22 @@ pub fn passes_along<L: Ledger, M: Ledger>(
     let ends = &stops.ends[v as usize];
     let visits = stops.visits.of(model, d, v);
     let runs = stops.runs_of(model, d, v);
-    let last = n - stretch.back + 1;
     let from = levels_before(ends, rows, stretch.front);
     let to = levels_behind(ends, rows, old.len(), stretch.back);
-    let passed = walk_through(
+    let asked = VehicleStops {
         model,
         d,
         v,
         ends,
         visits,
-        runs,
-        &new,
-        stretch.front,
-        last,
+    };
+    let leg = Leg {
+        begin: stretch.front,
+        last: n - stretch.back + 1,
         from,
         to,
-        walk,
-        steps,
-        tries,
-    )?;
+    };
+    let passed = walk_through(&asked, runs, &new, &leg, walk, steps, tries)?;
     Ok(passed)
 }
 
@@ -279,91 +237,52 @@ pub fn goes_through(
     let ends = &stops.ends[v as usize];
     let visits = stops.visits.of(model, d, v);
     let runs = stops.runs_of(model, d, v);
-    let goes = walk_uncounted::<Brand>(
+    let asked = VehicleStops {
         model,
         d,
         v,
         ends,
         visits,
-        runs,
-        list,
-        0,
-        list.len() + 1,
-        &ends.start_levels,
-        &ends.end_levels,
-        walk,
-        Blank::new(1),
-    )?;
+    };
+    let leg = Leg {
+        begin: 0,
+        last: list.len() + 1,
+        from: &ends.start_levels,
+        to: &ends.end_levels,
+    };
+    let goes = walk_uncounted::<Brand>(&asked, runs, list, &leg, walk, Blank::new(1))?;
     Ok(goes)
 }
 
 // The same as `walk_through`, where nobody counts steps or tries.
 pub(crate) fn walk_uncounted<L: Ledger>(
-    model: &Model,
-    d: u32,
-    v: u32,
-    ends: &Ends,
-    visits: &[Spans],
+    stops: &VehicleStops,
     runs: Option<&[Run]>,
     list: &[u32],
-    begin: usize,
-    last: usize,
-    from: &Levels,
-    to: &Levels,
+    leg: &Leg,
     walk: &mut Walk,
     blank: Blank,
 ) -> Result<bool, NoMemory>
     requires name { blank.name ≡ L.name }
     requires parts { blank.parts ≡ L.parts }
     requires some { 0 < blank.parts }
-    requires well_formed { IsWellFormed model.now }
-    requires dimension { d < length model.now.dimensions }
-    requires vehicle { v < length model.now.vehicles }
-    requires ends { AreEndsOf model.now d v ends.now }
-    requires visits { AreVisitSets model.now d v visits.now }
-    requires runs { IfSome runs (λ found. AreVisitRuns model.now d v found.now) }
-    requires used { IsUsed model.now list.now }
-    requires order { begin < last }
-    requires within { last ≤ suc (length list.now) }
-    requires from_form { AreLevels ends.now.breaks from.now }
-    requires from { AreReached (line model.now d v list.now) begin from.now }
-    requires to_form { AreLevels ends.now.breaks to.now }
-    requires to { AreReachingEnd (line model.now d v list.now) last to.now }
-    ensures { IfOk result (λ goes. goes ≡ is_feasible (line model.now d v list.now)) }
+    requires stops { AreVehicleStops stops.now }
+    requires runs { IfSome runs (λ found. AreVisitRuns stops.now.model.now stops.now.d stops.now.v found.now) }
+    requires used { IsUsed stops.now.model.now list.now }
+    requires leg { IsLegOf stops.now list.now leg.now }
+    ensures { IfOk result (λ goes. goes ≡ is_feasible (line_of stops.now list.now)) }
 {
     let mut steps = Steps::<L>::new(blank);
-    let goes = walk_untried::<L, Brand>(
-        model,
-        d,
-        v,
-        ends,
-        visits,
-        runs,
-        list,
-        begin,
-        last,
-        from,
-        to,
-        walk,
-        &mut steps,
-        Blank::new(1),
-    )?;
+    let goes = walk_untried::<L, Brand>(stops, runs, list, leg, walk, &mut steps, Blank::new(1))?;
     Ok(goes)
 }
 
 // The same as `walk_through`, where nobody counts tries.
 fn walk_untried<L: Ledger, M: Ledger>(
-    model: &Model,
-    d: u32,
-    v: u32,
-    ends: &Ends,
-    visits: &[Spans],
+    stops: &VehicleStops,
     runs: Option<&[Run]>,
     list: &[u32],
-    begin: usize,
-    last: usize,
-    from: &Levels,
-    to: &Levels,
+    leg: &Leg,
     walk: &mut Walk,
     steps: &mut Steps<L>,
     blank: Blank,
@@ -371,26 +290,15 @@ fn walk_untried<L: Ledger, M: Ledger>(
     requires name { blank.name ≡ M.name }
     requires parts { blank.parts ≡ M.parts }
     requires some { 0 < blank.parts }
-    requires well_formed { IsWellFormed model.now }
-    requires dimension { d < length model.now.dimensions }
-    requires vehicle { v < length model.now.vehicles }
-    requires ends { AreEndsOf model.now d v ends.now }
-    requires visits { AreVisitSets model.now d v visits.now }
-    requires runs { IfSome runs (λ found. AreVisitRuns model.now d v found.now) }
-    requires used { IsUsed model.now list.now }
-    requires order { begin < last }
-    requires within { last ≤ suc (length list.now) }
-    requires from_form { AreLevels ends.now.breaks from.now }
-    requires from { AreReached (line model.now d v list.now) begin from.now }
-    requires to_form { AreLevels ends.now.breaks to.now }
-    requires to { AreReachingEnd (line model.now d v list.now) last to.now }
-    ensures { IfOk result (λ goes. goes ≡ is_feasible (line model.now d v list.now)) }
+    requires stops { AreVehicleStops stops.now }
+    requires runs { IfSome runs (λ found. AreVisitRuns stops.now.model.now stops.now.d stops.now.v found.now) }
+    requires used { IsUsed stops.now.model.now list.now }
+    requires leg { IsLegOf stops.now list.now leg.now }
+    ensures { IfOk result (λ goes. goes ≡ is_feasible (line_of stops.now list.now)) }
 {
     let whole = Spliced::whole(list);
     let mut tries = Steps::<M>::new(blank);
-    let goes = walk_through(
-        model, d, v, ends, visits, runs, &whole, begin, last, from, to, walk, steps, &mut tries,
-    )?;
+    let goes = walk_through(stops, runs, &whole, leg, walk, steps, &mut tries)?;
     Ok(goes)
 }
 

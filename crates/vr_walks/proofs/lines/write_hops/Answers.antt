@@ -12,9 +12,9 @@ use Rattle.vr_walks.proofs.lines.write_hops.Goals as goal
 
 pub loop-k-preserved : goal.loop-k-preserved
 loop-k-preserved c =
-    let m = c.args.model.now in
-    let d = c.args.d in
-    let v = c.args.v in
+    let m = c.args.stops.now.model.now in
+    let d = c.args.stops.now.d in
+    let v = c.args.stops.now.v in
     let list = c.args.list.now in
     let k = c.loop-k.k in
     let f = hop_of (dimension_at m d).slack_max in
@@ -29,9 +29,9 @@ loop-k-preserved c =
 
 pub returns-clause-exact : goal.returns-clause-exact
 returns-clause-exact c =
-    let m = c.args.model.now in
-    let d = c.args.d in
-    let v = c.args.v in
+    let m = c.args.stops.now.model.now in
+    let d = c.args.stops.now.d in
+    let v = c.args.stops.now.v in
     let list = c.args.list.now in
     let n = arcs_of_line m d v list in
     let many = length-map (line m d v list).arcs (hop_of (dimension_at m d).slack_max) in

@@ -11,9 +11,9 @@ use Rattle.vr_walks.proofs.lines.write_sets.Goals as goal
 
 pub loop-k-preserved : goal.loop-k-preserved
 loop-k-preserved c =
-    let m = c.args.model.now in
-    let d = c.args.d in
-    let v = c.args.v in
+    let m = c.args.stops.now.model.now in
+    let d = c.args.stops.now.d in
+    let v = c.args.stops.now.v in
     let list = c.args.list.now in
     let k = c.loop-k.k in
     let n = stops_of_line m d v list in
@@ -28,9 +28,9 @@ loop-k-preserved c =
 
 pub returns-clause-exact : goal.returns-clause-exact
 returns-clause-exact c =
-    let m = c.args.model.now in
-    let d = c.args.d in
-    let v = c.args.v in
+    let m = c.args.stops.now.model.now in
+    let d = c.args.stops.now.d in
+    let v = c.args.stops.now.v in
     let list = c.args.list.now in
     let n = stops_of_line m d v list in
     subst (λ xs. AllZip HasNumbers xs c.loop-k.sets) (take_all c.loop-k.k (line m d v list).allowed (omega (arith, n))) c.loop-k.invariant.exact

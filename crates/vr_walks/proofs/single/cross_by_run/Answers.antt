@@ -20,32 +20,32 @@ lo_is c =
     let transit_is = as_is c.transit_by-transit.result (omega (arith, ints, low)) (omega (arith, ints, high)) in
     c.run_behind.ensures.lo ∙ ap (λ n. int_max (c.args.run.lo +ℤ n) c.args.ahead.allowed.lo) transit_is
 
-hi_is : (c : goal.After-run_behind) → c.run_behind.result.hi ≡ int_min (c.args.run.hi +ℤ (c.transit_by-transit.result +ℤ c.args.slack)) c.args.ahead.allowed.hi
+hi_is : (c : goal.After-run_behind) → c.run_behind.result.hi ≡ int_min (c.args.run.hi +ℤ (c.transit_by-transit.result +ℤ c.args.walk.now.slack)) c.args.ahead.allowed.hi
 hi_is c =
     let t = c.transit_by-transit.ensures in
     let low = t.least in
     let high = t.greatest in
     let transit_is = as_is c.transit_by-transit.result (omega (arith, ints, low)) (omega (arith, ints, high)) in
-    let least = c.requires.slack_range.at_least in
-    let greatest = c.requires.slack_range.at_most in
-    let slack_is = as_is c.args.slack (omega (arith, ints, least)) (omega (arith, ints, greatest)) in
+    let least = c.requires.walk.slack_range.at_least in
+    let greatest = c.requires.walk.slack_range.at_most in
+    let slack_is = as_is c.args.walk.now.slack (omega (arith, ints, least)) (omega (arith, ints, greatest)) in
     c.run_behind.ensures.hi ∙ ap₂ (λ m n. int_min (c.args.run.hi +ℤ (m +ℤ n)) c.args.ahead.allowed.hi) transit_is slack_is
 
 pub returns-clause-reached : goal.returns-clause-reached
 returns-clause-reached c =
-    run_next c.lines_are_sound.ensures c.reached_by_crossing.ensures c.arc_alone.ensures c.args.model.now c.requires.well_formed c.args.d c.args.v c.requires.dimension c.requires.vehicle c.args.list.now c.requires.used
+    run_next c.lines_are_sound.ensures c.reached_by_crossing.ensures c.arc_alone.ensures c.args.walk.now.stops.model.now c.requires.walk.stops.well_formed c.args.walk.now.stops.d c.args.walk.now.stops.v c.requires.walk.stops.dimension c.requires.walk.stops.vehicle c.args.list.now c.requires.used
     c.args.k c.args.taken c.requires.arc c.requires.breaks c.args.run c.args.ahead.allowed c.run_behind.result c.requires.cumuls c.requires.reached c.requires.allowed
-    c.args.origin c.args.ahead.node c.requires.origin c.requires.target c.transit_by-transit.result c.args.slack c.transit_by-transit.ensures.value c.requires.slack c.requires.slack_range.at_least (lo_is c) (hi_is c)
+    c.args.origin c.args.ahead.node c.requires.origin c.requires.target c.transit_by-transit.result c.args.walk.now.slack c.transit_by-transit.ensures.value c.requires.walk.slack c.requires.walk.slack_range.at_least (lo_is c) (hi_is c)
 
 pub returns-clause-cumuls : goal.returns-clause-cumuls
-returns-clause-cumuls c = λ some. cumuls_behind c.args.run c.args.ahead.allowed c.run_behind.result c.transit_by-transit.result c.args.slack c.requires.allowed.ends (lo_is c) (hi_is c) some
+returns-clause-cumuls c = λ some. cumuls_behind c.args.run c.args.ahead.allowed c.run_behind.result c.transit_by-transit.result c.args.walk.now.slack c.requires.allowed.ends (lo_is c) (hi_is c) some
 
 pub returns-clause-led : goal.returns-clause-led
 returns-clause-led c =
-    let m = c.args.model.now in
+    let m = c.args.walk.now.stops.model.now in
     let list = c.args.list.now in
-    let L = line m c.args.d c.args.v list in
+    let L = line m c.args.walk.now.stops.d c.args.walk.now.stops.v list in
     let next : c.args.k + 1 ≡ suc c.args.k = omega arith in
-    let way = way_of m c.args.d c.args.v list c.args.k c.args.origin c.args.ahead.node c.requires.arc c.requires.origin c.requires.target c.transit_by-transit.result c.transit_by-transit.ensures.value in
-    crossed L c.args.k c.args.run c.args.ahead.allowed c.run_behind.result c.transit_by-transit.result c.args.slack c.requires.cumuls.some c.requires.slack_range.at_least (lo_is c) (hi_is c)
-    (subst (λ i. IsAllowedRun L i c.args.ahead.allowed) next c.requires.allowed) way c.requires.slack
+    let way = way_of m c.args.walk.now.stops.d c.args.walk.now.stops.v list c.args.k c.args.origin c.args.ahead.node c.requires.arc c.requires.origin c.requires.target c.transit_by-transit.result c.transit_by-transit.ensures.value in
+    crossed L c.args.k c.args.run c.args.ahead.allowed c.run_behind.result c.transit_by-transit.result c.args.walk.now.slack c.requires.cumuls.some c.requires.walk.slack_range.at_least (lo_is c) (hi_is c)
+    (subst (λ i. IsAllowedRun L i c.args.ahead.allowed) next c.requires.allowed) way c.requires.walk.slack

@@ -1,4 +1,5 @@
-use Rattle.std.proofs.Common.{arith}
+use Rattle.std.proofs.Common.{subst, arith}
+use Rattle.vr_steps.specs.Levels.{AreLevels}
 use Rattle.vr_walks.proofs.Transfer.{as_many_rows, left_at, met_at, not_empty}
 use Rattle.vr_walks.proofs.Tables.{ends_here}
 use Rattle.vr_walks.proofs.standing.goes_between.Goals as goal
@@ -17,22 +18,21 @@ levels_behind-to-requires-clause-row c = λ some.
     let n = (as_many_rows c.args.model.now c.args.d c.args.v c.args.old.now c.args.rows.now (c.requires.rows (not_empty c.args.old.now (omega (arith, some, within))))).1 in
     omega (arith, n, within, some)
 
-pub walk_uncounted-requires-clause-from_form : goal.walk_uncounted-requires-clause-from_form
-walk_uncounted-requires-clause-from_form c =
-    let ends = ends_here c.args.model.now c.args.d c.args.v c.args.stops.now c.requires.stops c.requires.vehicle c.index-ends.result.now c.index-ends.ensures in
-    (left_at c.args.model.now c.args.d c.args.v c.args.old.now c.args.new.now c.index-ends.result.now ends c.args.rows.now c.requires.rows c.requires.used c.args.front c.requires.front c.levels_before-from.result.now c.levels_before-from.ensures.start c.levels_before-from.ensures.row).0
-
-pub walk_uncounted-requires-clause-from : goal.walk_uncounted-requires-clause-from
-walk_uncounted-requires-clause-from c =
-    let ends = ends_here c.args.model.now c.args.d c.args.v c.args.stops.now c.requires.stops c.requires.vehicle c.index-ends.result.now c.index-ends.ensures in
-    (left_at c.args.model.now c.args.d c.args.v c.args.old.now c.args.new.now c.index-ends.result.now ends c.args.rows.now c.requires.rows c.requires.used c.args.front c.requires.front c.levels_before-from.result.now c.levels_before-from.ensures.start c.levels_before-from.ensures.row).1
-
-pub walk_uncounted-requires-clause-to_form : goal.walk_uncounted-requires-clause-to_form
-walk_uncounted-requires-clause-to_form c =
-    let ends = ends_here c.args.model.now c.args.d c.args.v c.args.stops.now c.requires.stops c.requires.vehicle c.index-ends.result.now c.index-ends.ensures in
-    (met_at c.args.model.now c.args.d c.args.v c.args.old.now c.args.new.now c.index-ends.result.now ends c.args.rows.now c.requires.rows c.requires.used c.args.back c.requires.back c.levels_behind-to.result.now c.levels_behind-to.ensures.end c.levels_behind-to.ensures.row).0
-
-pub walk_uncounted-requires-clause-to : goal.walk_uncounted-requires-clause-to
-walk_uncounted-requires-clause-to c =
-    let ends = ends_here c.args.model.now c.args.d c.args.v c.args.stops.now c.requires.stops c.requires.vehicle c.index-ends.result.now c.index-ends.ensures in
-    (met_at c.args.model.now c.args.d c.args.v c.args.old.now c.args.new.now c.index-ends.result.now ends c.args.rows.now c.requires.rows c.requires.used c.args.back c.requires.back c.levels_behind-to.result.now c.levels_behind-to.ensures.end c.levels_behind-to.ensures.row).1
+pub walk_uncounted-requires-clause-leg : goal.walk_uncounted-requires-clause-leg
+walk_uncounted-requires-clause-leg c =
+    let m = c.args.model.now in
+    let here = c.index-ends.result.now in
+    let from = c.levels_before-from.result.now in
+    let to = c.levels_behind-to.result.now in
+    let apart = c.requires.apart in
+    let ends = ends_here m c.args.d c.args.v c.args.stops.now c.requires.stops c.requires.vehicle here c.index-ends.ensures in
+    let begun = left_at m c.args.d c.args.v c.args.old.now c.args.new.now here ends c.args.rows.now c.requires.rows c.requires.used c.args.front c.requires.front from c.levels_before-from.ensures.start c.levels_before-from.ensures.row in
+    let met = met_at m c.args.d c.args.v c.args.old.now c.args.new.now here ends c.args.rows.now c.requires.rows c.requires.used c.args.back c.requires.back to c.levels_behind-to.ensures.end c.levels_behind-to.ensures.row in
+    record {
+      order = omega (arith, apart);
+      within = omega arith;
+      from_form = subst (λ breaks. AreLevels breaks from) ends.breaks_are.same begun.0;
+      from = begun.1;
+      to_form = subst (λ breaks. AreLevels breaks to) ends.breaks_are.same met.0;
+      to = met.1;
+    }

@@ -1,6 +1,7 @@
 use Rattle.std.proofs.Common.{◌≡◌, ◌∙◌, ◌+◌, ◌-◌, ◌<◌, ◌≤◌, ◌||◌, ◌⊎◌, inl, inr, length, ap, sym, subst, arith}
 use Rattle.std.proofs.lemmas.List.{take_all}
 use Rattle.vr_model.specs.schedules.Weights.{list_weight, walk_weight}
+use Rattle.vr_steps.specs.Levels.{AreLevels}
 use Rattle.vr_steps.specs.Reached.{AreReachingEnd}
 use Rattle.vr_model.specs.schedules.Lines.{line}
 use Rattle.vr_model.specs.schedules.Choices.{is_feasible}
@@ -54,19 +55,30 @@ levels_behind-to-requires-clause-row g c = λ some.
     let n = (as_many_rows c.args.model.now c.args.d c.args.v c.args.old.now c.args.rows.now (c.requires.rows (not_empty c.args.old.now (omega (arith, some, within))))).1 in
     omega (arith, n, within, some)
 
-pub walk_through-requires-clause-from_form : goal.walk_through-requires-clause-from_form
-walk_through-requires-clause-from_form g c = (left_at c.args.model.now c.args.d c.args.v c.args.old.now c.of-new.result c.index-ends.result.now (ends_here c.args.model.now c.args.d c.args.v c.args.stops.now c.requires.stops c.requires.vehicle c.index-ends.result.now c.index-ends.ensures) c.args.rows.now c.requires.rows (used c.args.model.now (spliced c.args.old.now c.args.front c.args.behind c.args.middle.now) c.of-new.result c.of-new.ensures c.requires.tour c.len-n.result c.len-n.ensures.value c.if-n-eq0.false) c.of-stretch.result.front c.of-stretch.ensures.front c.levels_before-from.result.now c.levels_before-from.ensures.start c.levels_before-from.ensures.row).0
-
-pub walk_through-requires-clause-from : goal.walk_through-requires-clause-from
-walk_through-requires-clause-from g c = (left_at c.args.model.now c.args.d c.args.v c.args.old.now c.of-new.result c.index-ends.result.now (ends_here c.args.model.now c.args.d c.args.v c.args.stops.now c.requires.stops c.requires.vehicle c.index-ends.result.now c.index-ends.ensures) c.args.rows.now c.requires.rows (used c.args.model.now (spliced c.args.old.now c.args.front c.args.behind c.args.middle.now) c.of-new.result c.of-new.ensures c.requires.tour c.len-n.result c.len-n.ensures.value c.if-n-eq0.false) c.of-stretch.result.front c.of-stretch.ensures.front c.levels_before-from.result.now c.levels_before-from.ensures.start c.levels_before-from.ensures.row).1
-
-pub walk_through-requires-clause-to_form : goal.walk_through-requires-clause-to_form
-walk_through-requires-clause-to_form g c = (met_at c.args.model.now c.args.d c.args.v c.args.old.now c.of-new.result c.index-ends.result.now (ends_here c.args.model.now c.args.d c.args.v c.args.stops.now c.requires.stops c.requires.vehicle c.index-ends.result.now c.index-ends.ensures) c.args.rows.now c.requires.rows (used c.args.model.now (spliced c.args.old.now c.args.front c.args.behind c.args.middle.now) c.of-new.result c.of-new.ensures c.requires.tour c.len-n.result c.len-n.ensures.value c.if-n-eq0.false) c.of-stretch.result.back c.of-stretch.ensures.back c.levels_behind-to.result.now c.levels_behind-to.ensures.end c.levels_behind-to.ensures.row).0
-
-pub walk_through-requires-clause-to : goal.walk_through-requires-clause-to
-walk_through-requires-clause-to g c =
-    subst (λ n. AreReachingEnd (line c.args.model.now c.args.d c.args.v c.of-new.result) (n - c.of-stretch.result.back + 1) c.levels_behind-to.result.now) (sym c.len-n.ensures.value)
-    ((met_at c.args.model.now c.args.d c.args.v c.args.old.now c.of-new.result c.index-ends.result.now (ends_here c.args.model.now c.args.d c.args.v c.args.stops.now c.requires.stops c.requires.vehicle c.index-ends.result.now c.index-ends.ensures) c.args.rows.now c.requires.rows (used c.args.model.now (spliced c.args.old.now c.args.front c.args.behind c.args.middle.now) c.of-new.result c.of-new.ensures c.requires.tour c.len-n.result c.len-n.ensures.value c.if-n-eq0.false) c.of-stretch.result.back c.of-stretch.ensures.back c.levels_behind-to.result.now c.levels_behind-to.ensures.end c.levels_behind-to.ensures.row).1)
+pub walk_through-requires-clause-leg : goal.walk_through-requires-clause-leg
+walk_through-requires-clause-leg g c =
+    let m = c.args.model.now in
+    let d = c.args.d in
+    let v = c.args.v in
+    let old = c.args.old.now in
+    let new = c.of-new.result in
+    let from = c.levels_before-from.result.now in
+    let to = c.levels_behind-to.result.now in
+    let stretch = c.of-stretch.ensures in
+    let many = c.len-n.ensures.value in
+    let ends = ends_here m d v c.args.stops.now c.requires.stops c.requires.vehicle c.index-ends.result.now c.index-ends.ensures in
+    let used_here = used m (spliced old c.args.front c.args.behind c.args.middle.now) new c.of-new.ensures c.requires.tour c.len-n.result many c.if-n-eq0.false in
+    let begun = left_at m d v old new c.index-ends.result.now ends c.args.rows.now c.requires.rows used_here c.of-stretch.result.front stretch.front from c.levels_before-from.ensures.start c.levels_before-from.ensures.row in
+    let met = met_at m d v old new c.index-ends.result.now ends c.args.rows.now c.requires.rows used_here c.of-stretch.result.back stretch.back to c.levels_behind-to.ensures.end c.levels_behind-to.ensures.row in
+    let apart = stretch.apart in
+    record {
+      order = omega (arith, apart, many);
+      within = omega (arith, many);
+      from_form = subst (λ breaks. AreLevels breaks from) ends.breaks_are.same begun.0;
+      from = begun.1;
+      to_form = subst (λ breaks. AreLevels breaks to) ends.breaks_are.same met.0;
+      to = subst (λ n. AreReachingEnd (line m d v new) (n - c.of-stretch.result.back + 1) to) (sym many) met.1;
+    }
 
 pub returns-in_err-passed-clause-count : goal.returns-in_err-passed-clause-count
 returns-in_err-passed-clause-count g c =

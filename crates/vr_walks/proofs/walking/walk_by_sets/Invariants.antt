@@ -8,8 +8,8 @@ use Rattle.vr_walks.proofs.walking.walk_by_sets.Given as goal
 -- the walk stands at stop k; what it counted and what is left are within the whole
 abbrev pub invariant-loop-k : goal.invariant-loop-k
 invariant-loop-k g l = record {
-  within : l.k ≤ l.last;
-  form : AreLevels l.ends.breaks l.walk;
-  reached : AreReached (line l.model l.d l.v l.list) l.k l.walk;
-  count : l.steps + steps_between (line l.model l.d l.v l.list) l.k l.last ≤ l.fn.steps + steps_between (line l.model l.d l.v l.list) l.begin l.last;
+  within : l.k ≤ l.leg.last;
+  form : AreLevels l.stops.ends.now.breaks l.walk;
+  reached : AreReached (line l.stops.model.now l.stops.d l.stops.v l.list) l.k l.walk;
+  count : l.steps + steps_between (line l.stops.model.now l.stops.d l.stops.v l.list) l.k l.leg.last ≤ l.fn.steps + steps_between (line l.stops.model.now l.stops.d l.stops.v l.list) l.leg.begin l.leg.last;
 }
