@@ -9,6 +9,7 @@ ghost use Rattle.vr_model.specs.tables.WellFormed.{IsWellFormed};
 ghost use Rattle.vr_rules.specs.Placing.{lists_in, AreBuilt, AreCandidates};
 
 use crate::fill::fill_all;
+use crate::growing::Filling;
 use std::alloc::Global;
 use vr_lists::NodeTables;
 use vr_model::{Model, NoMemory, Seq};
@@ -32,7 +33,12 @@ fn fill_empty(
 {
     let mut marks = vec![in alloc; false; model.nodes as usize]?;
     let mut room = Room::new(alloc);
-    fill_all(&mut room, model, lookups, candidates, lists, &mut marks)
+    let filling = Filling {
+        model,
+        lookups,
+        candidates,
+    };
+    fill_all(&filling, &mut room, lists, &mut marks)
 }
 
 // The lists at which the construction ends.
