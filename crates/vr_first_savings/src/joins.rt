@@ -7,18 +7,17 @@ ghost use Rattle.vr_model.specs.routes.Routes.{route};
 ghost use Rattle.vr_model.specs.first.SavingsJoins.{join_key, joins};
 ghost use Rattle.vr_model.specs.tables.Tables.{arc_cost};
 ghost use Rattle.vr_model.specs.tables.WellFormed.{IsWellFormed};
-ghost use Rattle.vr_timings.specs.Tables.{AreTables};
 ghost use Rattle.vr_first_savings.specs.Joins.{best_behind as best_behind_of, choice_at as choice_at_of, join_of};
 ghost use Rattle.vr_first_savings.specs.Joins.{weigh, AreApart, MayBeJoined};
 ghost use Rattle.vr_first_savings.specs.RouteEnds.{ends_of, AreEnds};
+ghost use Rattle.vr_first_savings.specs.Tables.{AreModelTables};
 
 use crate::choice::{Choice, improves};
 use crate::ends::{Ends, ends_of_each};
+use crate::tables::ModelTables;
 use std::alloc::Global;
-use vr_lists::NodeTables;
 use vr_model::{Model, NoMemory, Seq};
 use vr_rules::{Driving, is_route_open};
-use vr_timings::Table;
 
 // What it saves to drive from the last node of one route to the first of another, and not over the end and the start.
 fn saved(model: &Model, front: Ends, back: Ends) -> i64
@@ -73,21 +72,17 @@ pub(crate) fn joined(
 // The better of the best so far and a choice, which is tested only where it improves.
 fn consider(
     alloc: Global,
-    model: &Model,
-    tables: &[Table],
-    lookups: &NodeTables<'_>,
+    tables: &ModelTables,
     routes: &[Seq<u32>],
     next: Choice,
     best: Option<Choice>,
     driving: &mut Driving,
 ) -> Result<Option<Choice>, NoMemory>
-    requires well_formed { IsWellFormed model.now }
-    requires tables { AreTables model.now tables.now }
-    requires lookups { lookups.now ≡ model.now }
-    requires apart { AreApart model.now routes.now }
+    requires tables { AreModelTables tables.now }
+    requires apart { AreApart tables.now.model.now routes.now }
     requires front { next.front < length routes.now }
     requires back { next.back < length routes.now }
-    ensures { IfOk result (λ chosen. chosen ≡ weigh model.now routes.now best next) }
+    ensures { IfOk result (λ chosen. chosen ≡ weigh tables.now.model.now routes.now best next) }
 {
     if !improves(best, next) {
         return Ok(best);
@@ -96,7 +91,14 @@ fn consider(
         return Ok(best);
     }
     let longer = joined(alloc, routes, next)?;
-    if is_route_open(model, tables, lookups, 0, &longer, driving)? {
+    if is_route_open(
+        tables.model,
+        tables.dimensions,
+        tables.nodes,
+        0,
+        &longer,
+        driving,
+    )? {
         Ok(Some(next))
     } else {
         Ok(best)
@@ -106,27 +108,23 @@ fn consider(
 // The best beside the joins of one route with each.
 fn best_behind(
     alloc: Global,
-    model: &Model,
-    tables: &[Table],
-    lookups: &NodeTables<'_>,
+    tables: &ModelTables,
     routes: &[Seq<u32>],
     ends: &[Ends],
     i: usize,
     best: Option<Choice>,
     driving: &mut Driving,
 ) -> Result<Option<Choice>, NoMemory>
-    requires well_formed { IsWellFormed model.now }
-    requires tables { AreTables model.now tables.now }
-    requires lookups { lookups.now ≡ model.now }
-    requires apart { AreApart model.now routes.now }
-    requires ends { ends.now ≡ map (ends_of model.now) routes.now }
+    requires tables { AreModelTables tables.now }
+    requires apart { AreApart tables.now.model.now routes.now }
+    requires ends { ends.now ≡ map (ends_of tables.now.model.now) routes.now }
     requires front { i < length routes.now }
-    ensures { IfOk result (λ chosen. chosen ≡ best_behind_of model.now routes.now i (length routes.now) best) }
+    ensures { IfOk result (λ chosen. chosen ≡ best_behind_of tables.now.model.now routes.now i (length routes.now) best) }
 {
     let mut best = best;
     for j in 0..routes.len() {
-        let next = choice_at(model, routes, ends, i, j);
-        best = consider(alloc, model, tables, lookups, routes, next, best, driving)?;
+        let next = choice_at(tables.model, routes, ends, i, j);
+        best = consider(alloc, tables, routes, next, best, driving)?;
     }
     Ok(best)
 }
@@ -134,26 +132,20 @@ fn best_behind(
 /// The best join of two routes, if any may be joined.
 pub(crate) fn best_join(
     alloc: Global,
-    model: &Model,
-    tables: &[Table],
-    lookups: &NodeTables<'_>,
+    tables: &ModelTables,
     routes: &[Seq<u32>],
     driving: &mut Driving,
 ) -> Result<Option<Choice>, NoMemory>
-    requires well_formed { IsWellFormed model.now }
-    requires tables { AreTables model.now tables.now }
-    requires lookups { lookups.now ≡ model.now }
-    requires apart { AreApart model.now routes.now }
+    requires tables { AreModelTables tables.now }
+    requires apart { AreApart tables.now.model.now routes.now }
     ensures best { IfOk result (λ best. option_map (join_of routes.now) best
-        ≡ least_by (join_key model.now) (joins model.now routes.now)) }
-    ensures may { IfOk result (λ best. IfSome best (MayBeJoined model.now routes.now)) }
+        ≡ least_by (join_key tables.now.model.now) (joins tables.now.model.now routes.now)) }
+    ensures may { IfOk result (λ best. IfSome best (MayBeJoined tables.now.model.now routes.now)) }
 {
-    let ends = ends_of_each(alloc, model, routes)?;
+    let ends = ends_of_each(alloc, tables.model, routes)?;
     let mut best: Option<Choice> = None;
     for i in 0..routes.len() {
-        best = best_behind(
-            alloc, model, tables, lookups, routes, &ends, i, best, driving,
-        )?;
+        best = best_behind(alloc, tables, routes, &ends, i, best, driving)?;
     }
     Ok(best)
 }

@@ -5,17 +5,15 @@ ghost use Rattle.std.specs.Prelude.{IfOk, OnOk};
 ghost use Rattle.vr_model.specs.first.Items.{first_node};
 ghost use Rattle.vr_model.specs.routes.Routes.{route};
 ghost use Rattle.vr_model.specs.first.SavingsJoins.{joined as joined_by, merged as merged_of};
-ghost use Rattle.vr_model.specs.tables.WellFormed.{IsWellFormed};
-ghost use Rattle.vr_timings.specs.Tables.{AreTables};
 ghost use Rattle.vr_first_savings.specs.Joins.{join_of, AreApart};
+ghost use Rattle.vr_first_savings.specs.Tables.{AreModelTables};
 
 use crate::choice::Choice;
 use crate::joins::{best_join, joined};
+use crate::tables::ModelTables;
 use std::alloc::Global;
-use vr_lists::NodeTables;
 use vr_model::{Model, NoMemory, Seq};
 use vr_rules::Driving;
-use vr_timings::Table;
 
 // Puts a copy of a route behind others, where its first node is neither of two.
 fn keep_other(
@@ -73,24 +71,20 @@ fn is_wanted(model: &Model, routes: usize, choice: Choice) -> bool
 /// Joins routes as long as the best join saves, or there are more routes than vehicles.
 pub(crate) fn merged(
     alloc: Global,
-    model: &Model,
-    tables: &[Table],
-    lookups: &NodeTables<'_>,
+    tables: &ModelTables,
     routes: Vec<Seq<u32>>,
     driving: &mut Driving,
 ) -> Result<Vec<Seq<u32>>, NoMemory>
-    requires well_formed { IsWellFormed model.now }
-    requires tables { AreTables model.now tables.now }
-    requires lookups { lookups.now ≡ model.now }
-    requires apart { AreApart model.now routes.items }
-    ensures merged { IfOk result (λ after. after.items ≡ merged_of model.now (length routes.items) routes.items) }
-    ensures apart { IfOk result (λ after. AreApart model.now after.items) }
+    requires tables { AreModelTables tables.now }
+    requires apart { AreApart tables.now.model.now routes.items }
+    ensures merged { IfOk result (λ after. after.items ≡ merged_of tables.now.model.now (length routes.items) routes.items) }
+    ensures apart { IfOk result (λ after. AreApart tables.now.model.now after.items) }
 {
     let mut routes = routes;
     for _step in 0..routes.len() {
-        match best_join(alloc, model, tables, lookups, &routes, driving)? {
+        match best_join(alloc, tables, &routes, driving)? {
             Some(choice) => {
-                if !is_wanted(model, routes.len(), choice) {
+                if !is_wanted(tables.model, routes.len(), choice) {
                     return Ok(routes);
                 }
                 routes = join(alloc, &routes, choice)?;

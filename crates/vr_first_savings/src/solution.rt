@@ -8,10 +8,12 @@ ghost use Rattle.vr_model.specs.tables.Tables.{visits};
 ghost use Rattle.vr_model.specs.tables.WellFormed.{IsWellFormed};
 ghost use Rattle.vr_rules.specs.Placing.{lists_in};
 ghost use Rattle.vr_timings.specs.Tables.{AreTables};
+ghost use Rattle.vr_first_savings.specs.Tables.{AreModelTables};
 
 use crate::merge::merged;
 use crate::ranks::{lists_of, ranked};
 use crate::singles::single_routes;
+use crate::tables::ModelTables;
 use std::alloc::Global;
 use vr_lists::NodeTables;
 use vr_model::{Model, NoMemory, Seq};
@@ -22,20 +24,16 @@ use vr_timings::{Table, tables_of};
 // The lists at which the construction ends, over what was looked up. Nothing large is owned where it ends early.
 fn lists_joined(
     alloc: Global,
-    model: &Model,
-    tables: &[Table],
-    lookups: &NodeTables<'_>,
+    tables: &ModelTables,
     driving: &mut Driving,
 ) -> Result<Vec<Seq<u32>>, NoMemory>
-    requires well_formed { IsWellFormed model.now }
-    requires tables { AreTables model.now tables.now }
-    requires lookups { lookups.now ≡ model.now }
-    ensures savings { IfOk result (λ lists. lists.items ≡ savings model.now) }
-    ensures lists { IfOk result (λ lists. IsTrue (are_lists model.now lists.items)) }
+    requires tables { AreModelTables tables.now }
+    ensures savings { IfOk result (λ lists. lists.items ≡ savings tables.now.model.now) }
+    ensures lists { IfOk result (λ lists. IsTrue (are_lists tables.now.model.now lists.items)) }
 {
-    let singles = single_routes(alloc, model, tables, lookups, driving)?;
-    let routes = merged(alloc, model, tables, lookups, singles, driving)?;
-    let lists = lists_of(alloc, model, ranked(alloc, lookups, &routes)?)?;
+    let singles = single_routes(alloc, tables, driving)?;
+    let routes = merged(alloc, tables, singles, driving)?;
+    let lists = lists_of(alloc, tables.model, ranked(alloc, tables.nodes, &routes)?)?;
     Ok(lists)
 }
 
@@ -53,7 +51,12 @@ fn lists_over(
     ensures lists { IfOk result (λ lists. IsTrue (are_lists model.now lists.items)) }
 {
     let mut driving = Driving::new(alloc);
-    lists_joined(alloc, model, tables, lookups, &mut driving)
+    let tables = ModelTables {
+        model,
+        dimensions: tables,
+        nodes: lookups,
+    };
+    lists_joined(alloc, &tables, &mut driving)
 }
 
 // The same, with look-ups of its own.
