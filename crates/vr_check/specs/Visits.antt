@@ -1,8 +1,8 @@
 -- The rules on which visits are active.
 use Rattle.std.specs.Prelude.{ℕ, Bool, not, ◌&&◌, List, length, slice_index_or, None, Option, []}
 use Rattle.vr_model.specs.tables.Numbers.{below}
-use Rattle.vr_model.specs.tables.Tables.{is_visit}
-use Rattle.vr_model.specs.routes.Routes.{is_same, is_active, inactive}
+use Rattle.vr_model.specs.moves.MoveTests.{is_inactive}
+use Rattle.vr_model.specs.routes.Routes.{is_same, inactive}
 use Rattle.vr_model.specs.routes.Rules.{active_in, fits_group, is_grouped, has_enough}
 use Rattle.vr_model.specs.declared.records.Model.{Model}
 use Rattle.vr_model.specs.declared.records.Group.{Group}
@@ -12,10 +12,6 @@ use Rattle.vr_check.specs.declared.finding.Spot.{Spot}
 -- the rule that the inactive visits are dropped, ascending
 abbrev pub dropped_broken : Model → List (List ℕ) → List ℕ → Option Spot
 dropped_broken model lists dropped = where_wrong (not (is_same dropped (inactive model lists))) nowhere
-
--- the node is an inactive visit
-abbrev pub is_inactive : Model → List (List ℕ) → ℕ → Bool
-is_inactive model lists node = is_visit model node && not (is_active lists node)
 
 -- the node is an inactive visit in no group
 abbrev pub is_missing : Model → List (List ℕ) → ℕ → Bool

@@ -1,6 +1,7 @@
 //! The rules on which visits are active.
 
 ghost use Rattle.std.specs.Prelude.{◌≡◌, ◌≤◌, length};
+ghost use Rattle.vr_model.specs.moves.MoveTests as moves;
 ghost use Rattle.vr_model.specs.routes.Rules as rules;
 ghost use Rattle.vr_check.specs.Terms as terms;
 ghost use Rattle.vr_check.specs.Visits as visits;
@@ -12,7 +13,7 @@ use vr_model::{Group, Model, Seq};
 
 // Whether a visit stands in no list.
 fn is_inactive(model: &Model, lists: &[Seq<u32>], node: u32) -> bool
-    ensures { result ≡ visits.is_inactive model.now lists.now node }
+    ensures { result ≡ moves.is_inactive model.now lists.now node }
 {
     model.is_visit(node) && !is_active(lists, node)
 }

@@ -7,7 +7,7 @@ use Rattle.vr_model.specs.tables.Tables.{is_visit}
 use Rattle.vr_model.specs.routes.Routes.{is_active, is_same}
 use Rattle.vr_model.proofs.tables.Ranges.{walk_begins}
 use Rattle.vr_model.proofs.tables.Tests.{filter-filter}
-use Rattle.vr_check.specs.Visits.{is_inactive}
+use Rattle.vr_model.specs.moves.MoveTests.{is_inactive}
 use Rattle.vr_check.proofs.Firsts.{not_right}
 use Rattle.vr_check.proofs.Walks.{keeps, leaves_out, same_next, other_next}
 use Rattle.vr_check.proofs.visits.wrong_dropped.Goals as goal

@@ -2,7 +2,7 @@ use Rattle.std.proofs.Common.{◌≡◌, ◌≤◌, drop, length}
 use Rattle.std.specs.Prelude.{filter}
 use Rattle.vr_model.specs.tables.Numbers.{from_to}
 use Rattle.vr_model.specs.routes.Routes.{is_same, inactive}
-use Rattle.vr_check.specs.Visits.{is_inactive}
+use Rattle.vr_model.specs.moves.MoveTests.{is_inactive}
 use Rattle.vr_check.proofs.visits.wrong_dropped.Given as goal
 
 -- the inactive visits so far are the first of the list
