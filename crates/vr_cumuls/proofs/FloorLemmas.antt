@@ -1,6 +1,6 @@
 -- Floors of stops, and steps one before another.
 use Rattle.std.proofs.Common.{◌≡◌, ◌∙◌, ◌+◌, ◌<◌, ◌-◌, ℕ, zero, suc, Bool, true, false, cond, List, [], ◌∷◌, ◌++◌, length, length-append, reverse, drop, refl, sym, ap, ap₂, subst, arith, append_assoc, Option, Some, None}
-use Rattle.std.specs.Prelude.{All, IfSome, ℤ, ◌-ℤ◌, ◌≤ℤ◌, IsTrue, int_le, option_map, slice_index_or, unwrap_or}
+use Rattle.std.specs.Prelude.{All, IfSome, ℤ, pos, ◌+ℤ◌, ◌-ℤ◌, ◌≤ℤ◌, IsTrue, int_le, option_map, slice_index_or, unwrap_or}
 use Rattle.std.specs.Int.{int_max}
 use Rattle.std.proofs.lemmas.Int.{ints}
 use Rattle.std.proofs.lemmas.List.{drop_more, get_or-map, get_or-reverse, get_or_default, length-map, length-reverse, map-append, reverse-append}
@@ -59,6 +59,16 @@ floor-is floor t s allowed it is =
     let le : IsTrue (int_le it allowed.hi) = grind (arith, ints, most) in
     let test : int_le (floor_before floor t s allowed) allowed.hi ≡ true = subst (λ x. IsTrue (int_le x allowed.hi)) is.is le in
     ap (λ b. cond b (Some (floor_before floor t s allowed)) None) test ∙ ap (λ x. Some x) (sym is.is)
+
+-- a stop that allows nothing from a floor on has none
+pub floor-not : (floor t s : ℤ) (allowed : Run) (it : ℤ) → it ≡ int_max ((floor -ℤ t) -ℤ s) allowed.lo → (allowed.hi +ℤ pos 1) ≤ℤ it → floor_in floor t s allowed ≡ None
+floor-not floor t s allowed it is above = by (int_le (floor_before floor t s allowed) allowed.hi) refl
+  where
+    by : (b : Bool) → int_le (floor_before floor t s allowed) allowed.hi ≡ b → cond b (Some (floor_before floor t s allowed)) None ≡ None
+    by false e = refl
+    by true e =
+        let le : floor_before floor t s allowed ≤ℤ allowed.hi = grind (arith, ints, e) in
+        absurd (omega (arith, ints, le, is, above))
 
 -- a step that comes before another one
 pub record IsBefore (model : Model) (d v : ℕ) (runs : Runs) (node : ℕ) (next step : Step) : Type 0 where

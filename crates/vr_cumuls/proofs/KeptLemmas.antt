@@ -3,7 +3,7 @@ use Rattle.std.proofs.Common.{◌≡◌, ◌∙◌, inl, inr, ℕ, zero, suc, �
 use Rattle.std.specs.Prelude.{All, IsTrue, ℤ, pos, option_map, slice_index_or, slice_set}
 use Rattle.std.specs.List.{list_all}
 use Rattle.std.proofs.lemmas.Bool.{and_parts, cases_lt}
-use Rattle.std.proofs.lemmas.List.{take-append-drop, get_or-set_same, get_or_append_left, get_or_push, length-reverse, take_all}
+use Rattle.std.proofs.lemmas.List.{take-append-drop, get_or-set_same, get_or_append_left, get_or_push, length-map, length-reverse, take_all}
 use Rattle.std.proofs.lemmas.List.Elements.{All-take}
 use Rattle.std.proofs.lemmas.List.Sums.{fold_more}
 use Rattle.std.specs.Option.{option_and_then}
@@ -11,14 +11,15 @@ use Rattle.vr_model.specs.moves.Moves.{with_route}
 use Rattle.vr_model.specs.tables.Tables.{is_visit, vehicle_at}
 use Rattle.vr_model.specs.declared.records.Model.{Model}
 use Rattle.vr_model.proofs.routes.Lists.{route_set_other}
+use Rattle.vr_model.specs.declared.records.ScheduleRule.{ScheduleRule}
 use Rattle.vr_model.specs.declared.records.ScheduleRule.TheVariants.{Earliest, Tight}
 use Rattle.vr_parts.proofs.RowLemmas.{set-at}
-use Rattle.vr_cumuls.specs.Floors.{end_step, first_of, floor_of, AreAimed, IsVisitStep}
+use Rattle.vr_cumuls.specs.Floors.{end_step, first_of, floor_of, nodes_in, AreAimed, IsVisitStep}
 use Rattle.vr_cumuls.specs.Runs.{between_runs, Runs, AreRuns}
 use Rattle.vr_cumuls.specs.Stages.{along, setting_out, standing, to_end, to_visit, visit_more, whole, IsStageOf}
 use Rattle.vr_cumuls.specs.Ends.{AreEnds, HaveEnds}
-use Rattle.vr_cumuls.specs.Kept.{AreAsMany, AreKept, IsKept}
-use Rattle.vr_cumuls.specs.Steps.{steps_of, AreAllStages, AreStages, AreSteps, HasStages}
+use Rattle.vr_cumuls.specs.Kept.{AreAsMany, AreKept, HasRoom, IsKept}
+use Rattle.vr_cumuls.specs.Steps.{steps_of, AreAllStages, AreStages, AreStagesOf, AreSteps, HasStages}
 use Rattle.vr_cumuls.specs.declared.ends.KeptEnds.{KeptEnds}
 use Rattle.vr_cumuls.specs.declared.guides.Stage.{Stage}
 use Rattle.vr_cumuls.specs.declared.kept.Kept.{Kept}
@@ -105,6 +106,16 @@ module _ (model : Model) (d v : ℕ) (runs : Runs) (list : List ℕ) (steps : Li
   -- the stage at the start that is kept
   pub kept-out : (stages : List Stage) → AreAllStages model d v runs list steps stages → (other : Stage) → setting_out model d v runs (first_of steps (end_step model v runs)) ≡ Some (slice_index_or stages 0 other)
   kept-out stages are other = are.stages_are.each 0 other (omega arith)
+
+-- the nodes of steps are as many
+pub few-nodes : (steps : List Step) → length steps ≤ 1000 → length (nodes_in steps) ≤ 1000
+few-nodes steps few = let m = length-map steps (λ (s : Step). s.node) in omega (arith, m, few)
+
+-- what is kept of a list, by the nodes of its steps
+pub stages-of : (model : Model) (d v : ℕ) (runs : Runs) (list : List ℕ) (kept : KeptSteps) → AreAllStages model d v runs list (steps_of kept) kept.stages.items → length kept.stages.items ≡ length list + 2 → AreStagesOf model d v runs kept
+stages-of model d v runs list kept are many =
+    let n = many-steps model d v runs list (steps_of kept) are.steps_are in
+    record { stages = subst (λ l. AreAllStages model d v runs l (steps_of kept) kept.stages.items) (sym are.steps_are.nodes_are) are; many = omega (arith, n, many) }
 
 -- as many steps are kept as there are visits
 pub items-many : (model : Model) (d v : ℕ) (runs : Runs) (list : List ℕ) (items : List Step) → AreSteps model d v runs list (reverse items) → length items ≡ length list
@@ -207,14 +218,21 @@ ends-none model d v list ends none = record { first = λ other low. absurd (omeg
 -- ---- a list is replaced
 
 pub kept-set : (model : Model) (d : ℕ) (lists : List (List ℕ)) (kept : List Kept) (v : ℕ) (list : List ℕ) (new : Kept) → AreKept model d lists kept → v < length lists → v < length kept → IsKept model d v list new
-    → AreKept model d (with_route lists v list) (slice_set kept v new)
-kept-set model d lists kept v list new h known low is =
-    record { each = λ u other under. set-at (IsKept model d) lists kept v list new low is u other (λ _. known) (λ _. h.each u other (let l = length-set kept v new in omega (arith, under, l))) }
+    → HasRoom (vehicle_at model v).schedule new → AreKept model d (with_route lists v list) (slice_set kept v new)
+kept-set model d lists kept v list new h known low is room = record {
+  each = λ u other under. set-at (IsKept model d) lists kept v list new low is u other (λ _. known) (λ _. h.each u other (let l = length-set kept v new in omega (arith, under, l)));
+  room = λ u other under. set-at (λ (w : ℕ) (l : List ℕ) (k : Kept). HasRoom (vehicle_at model w).schedule k) lists kept v list new low room u other (λ _. known) (λ _. h.room u other (let l = length-set kept v new in omega (arith, under, l)));
+}
+
+-- as much room as before
+pub room-stays : (rule : ScheduleRule) (old new : Kept) → length new.ends.items ≡ length old.ends.items → HasRoom rule old → HasRoom rule new
+room-stays rule old new same room = same ∙ room
 
 -- where it is not kept, what is kept stays
 pub kept-stays : (model : Model) (d : ℕ) (lists : List (List ℕ)) (kept : List Kept) (v : ℕ) (list : List ℕ) → AreKept model d lists kept → length kept ≤ v → AreKept model d (with_route lists v list) kept
 kept-stays model d lists kept v list h high = record {
   each = λ u other under. subst (λ l. IsKept model d u l (slice_index_or kept u other)) (sym (route_set_other lists v u list (λ e. absurd (omega (arith, e, under, high))))) (h.each u other under);
+  room = λ u other under. h.room u other under;
 }
 
 -- something is kept of as many lists as it was before, and before that

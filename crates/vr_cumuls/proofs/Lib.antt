@@ -10,8 +10,11 @@ pub mod WayLemmas
 pub mod BetweenLemmas
 pub mod TightLemmas
 pub mod KeptLemmas
+pub mod FirstLemmas
 pub mod RestLemmas
 pub mod EndsLemmas
 pub mod MetLemmas
+pub mod StuckLemmas
+pub mod FeasibleLemmas
 pub mod AfterLemmas
 pub mod AlongLemmas

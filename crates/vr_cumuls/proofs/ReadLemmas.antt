@@ -1,12 +1,12 @@
 -- Differences of numbers of 64 bits, read as they are.
-use Rattle.std.proofs.Common.{◌≡◌, ◌∙◌, sym, ap, ap₂, arith, to_z, of_z, w64}
+use Rattle.std.proofs.Common.{◌≡◌, ◌∙◌, refl, sym, ap, ap₂, arith, to_z, of_z, w64}
 use Rattle.std.specs.Prelude.{ℤ, pos, ◌-ℤ◌}
 use Rattle.std.specs.Int.{int_max}
 use Rattle.std.proofs.lemmas.Int.{ints, int_max_is}
 use Rattle.vr_model.specs.tables.Numbers.{horizon}
 use Rattle.vr_model.specs.tables.WellFormed.{IsIn}
 use Rattle.vr_timings.specs.Bounds.{IsAround}
-use Rattle.vr_timings.proofs.BoundLemmas.{read-around}
+use Rattle.vr_timings.proofs.BoundLemmas.{read-around, read-cumul}
 
 pub cumul-around : (x : ℤ) → IsIn (pos 0) horizon x → IsAround 100000000000 x
 cumul-around x h = record { low = omega (arith, ints, h.at_least); high = omega (arith, ints, h.at_most) }
@@ -47,3 +47,17 @@ floor-around f t s lo x m same hf ht hs hlo is =
     let lh = hlo.high in
     let i = int_max_is ((f -ℤ t) -ℤ s) lo in
     record { low = omega (arith, ints, same, is, i, dl, dh, ll, lh); high = omega (arith, ints, same, is, i, dl, dh, ll, lh) }
+
+-- what is read of a floor
+pub record IsFloorRead (f t s lo it : ℤ) : Type 0 where
+  pub is : it ≡ int_max ((f -ℤ t) -ℤ s) lo
+  pub read : to_z w64 (of_z w64 it) ≡ it
+
+pub floor-read : (f t s lo it : ℤ) → IsIn (pos 0) horizon f → IsAround 100000000000 t → IsIn (pos 0) horizon s → IsIn (pos 0) horizon lo
+    → it ≡ int_max (to_z w64 (of_z w64 (to_z w64 (of_z w64 (to_z w64 (of_z w64 f) -ℤ to_z w64 (of_z w64 t))) -ℤ to_z w64 (of_z w64 s)))) (to_z w64 (of_z w64 lo)) → IsFloorRead f t s lo it
+floor-read f t s lo it f_in near_t s_in lo_in told =
+    let near_f = cumul-around f f_in in
+    let near_s = cumul-around s s_in in
+    let near_lo = cumul-around lo lo_in in
+    let is = told ∙ ap₂ (λ (x y : ℤ). int_max x y) (read-floor f t s near_f near_t near_s) (read-cumul lo lo_in) in
+    record { is = is; read = read-around it 500000000000 (floor-around f t s lo it it refl near_f near_t near_s near_lo is) (omega arith) }

@@ -11,7 +11,7 @@ use Rattle.vr_model.specs.routes.Costs.{row_cost}
 use Rattle.vr_model.specs.tables.Tables.{dimension_at, row_of, transit, vehicle_at}
 use Rattle.vr_model.specs.declared.records.Model.{Model}
 use Rattle.vr_model.specs.declared.records.StopRow.{StopRow}
-use Rattle.vr_walks.specs.Early.{IsEarliestBehind}
+use Rattle.vr_walks.specs.Early.{has_cumul_behind, IsEarliestBehind}
 use Rattle.vr_cumuls.specs.Runs.{Runs}
 use Rattle.vr_cumuls.specs.Stages.{along, go_on, is_had, next_cumul, paid_more, to_end, to_visit, visit_more, whole, IsStageOf}
 use Rattle.vr_cumuls.specs.declared.guides.Stage.{Stage}
@@ -68,6 +68,15 @@ going-as t s node allowed row stage from t_read s_read next from_is t_is s_is be
     let b = subst (λ x. IsEarliestBehind stage.cumul x s_read allowed next) t_is a in
     let c = subst (λ x. IsEarliestBehind stage.cumul t x allowed next) s_is b in
     going t s node allowed row stage next soft c soft_is ∙ ap (λ (x : ℤ). Some (record { at = node; cumul = x; soft = soft })) (sym cumul_is)
+
+-- nothing follows where there is no such cumul
+pub stuck-as : (t s : ℤ) (node : ℕ) (allowed : Run) (row : Option StopRow) (stage : Stage) (from t_read s_read : ℤ) → from ≡ stage.cumul → t_read ≡ t → s_read ≡ s → has_cumul_behind from t_read s_read allowed ≡ false
+    → go_on t s node allowed row stage ≡ None
+stuck-as t s node allowed row stage from t_read s_read from_is t_is s_is none =
+    let a = subst (λ x. has_cumul_behind x t_read s_read allowed ≡ false) from_is none in
+    let b = subst (λ x. has_cumul_behind stage.cumul x s_read allowed ≡ false) t_is a in
+    let c : is_had stage.cumul t s allowed ≡ false = subst (λ x. has_cumul_behind stage.cumul t x allowed ≡ false) s_is b in
+    ap (λ b. cond b (Some (record { at = node; cumul = next_cumul stage.cumul t allowed; soft = stage.soft +ℤ row_cost row (next_cumul stage.cumul t allowed) })) None) c
 
 -- the numbers of a stage of fewer stops
 pub stage-more : (model : Model) (n m : ℕ) (stage : Stage) → n ≤ m → IsStageOf model n stage → IsStageOf model m stage

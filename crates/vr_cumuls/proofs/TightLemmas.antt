@@ -6,7 +6,7 @@ use Rattle.vr_model.specs.tables.Numbers.{horizon}
 use Rattle.vr_model.specs.tables.Tables.{dimension_at, vehicle_at}
 use Rattle.vr_model.specs.tables.WellFormed.{IsIn}
 use Rattle.vr_model.specs.routes.Costs.{no_plan}
-use Rattle.vr_model.specs.schedules.Choices.{chosen}
+use Rattle.vr_model.specs.schedules.Choices.{chosen, is_feasible}
 use Rattle.vr_model.specs.schedules.Lines.{Line, line}
 use Rattle.vr_model.specs.schedules.Narrowed.{chosen_line}
 use Rattle.vr_model.specs.schedules.Schedules.{Plan, IsFeasible, cumul}
@@ -19,6 +19,10 @@ use Rattle.vr_model.proofs.schedules.UnderRules.{chosen_under_is_chosen, chosen_
 use Rattle.vr_timings.specs.Timings.{plan_of}
 use Rattle.vr_cumuls.specs.Ends.{CostsNoSoft}
 use Rattle.vr_cumuls.proofs.TimingLemmas.{IsTimed}
+
+-- where a list has a schedule, one is chosen
+pub chosen-feasible : (model : Model) (d v : ℕ) (list : List ℕ) → IsFeasible (line model d v list) → is_feasible (chosen_line model d v list) ≡ true
+chosen-feasible model d v list feasible = (chosen_under_where_feasible (vehicle_at model v).schedule (line model d v list) (stops_of_line model d v list)).1 feasible
 
 module _ (model : Model) (d v : ℕ) (list : List ℕ) (rule : (vehicle_at model v).schedule ≡ Tight) (feasible : IsFeasible (line model d v list)) (s e : ℤ) (least : IsLeastEnd (line model d v list) e) (latest : IsLatestStart (line model d v list) e s) where
   abbrev L : Line

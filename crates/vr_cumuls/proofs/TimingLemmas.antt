@@ -1,6 +1,6 @@
 -- A vehicle that comes to its end so has gone along its chosen schedule.
 use Rattle.std.proofs.Common.{◌≡◌, ◌∙◌, ℕ, zero, suc, ◌+◌, ◌-◌, ◌*◌, ◌<◌, ◌≤◌, List, [], ◌∷◌, ◌++◌, length, map, take, get_or, refl, sym, ap, subst, add-one, arith, to_z, of_z, w64, Option, Some, None}
-use Rattle.std.specs.Prelude.{◌==◌, ℤ, pos, ◌+ℤ◌, ◌-ℤ◌, ◌≤ℤ◌, IsTrue, option_map, slice_index_or, unwrap_or}
+use Rattle.std.specs.Prelude.{◌==◌, ℤ, pos, ◌+ℤ◌, ◌-ℤ◌, ◌≤ℤ◌, IsTrue, is_some, option_map, slice_index_or, true, unwrap_or}
 use Rattle.std.specs.Int.{int_max}
 use Rattle.std.specs.List.{zip}
 use Rattle.std.proofs.lemmas.Bool.{and_parts}
@@ -15,7 +15,7 @@ use Rattle.vr_model.specs.tables.WellFormed.{IsIn, IsSoft, IsStopRow, IsWellForm
 use Rattle.vr_model.specs.schedules.ChosenLaws.{ChosenIsLeast}
 use Rattle.vr_model.specs.schedules.Lines.{Line, stop_rows}
 use Rattle.vr_model.specs.schedules.Narrowed.{chosen_line}
-use Rattle.vr_model.specs.schedules.Choices.{chosen}
+use Rattle.vr_model.specs.schedules.Choices.{chosen, is_feasible}
 use Rattle.vr_model.specs.schedules.Schedules.{Plan, IsSchedule, allows, arc_at, cumul}
 use Rattle.vr_model.specs.routes.Costs.{no_plan, row_cost, soft_cost}
 use Rattle.vr_model.specs.declared.records.Model.{Model}
@@ -282,6 +282,9 @@ module _ (model : Model) (well : IsWellFormed model) (d v : ℕ) (dimension : d 
     chosen-are =
         let all : length list + 1 ≡ length L.arcs = (let n = arcs-many model d v runs list L has in omega (arith, n)) in
         early_chosen L has.has.stops has.has.no_breaks comes.cumuls (subst (λ k. AreEarly L k comes.cumuls) all comes.early) law
+
+    pub line-feasible : is_feasible L ≡ true
+    line-feasible = ap is_some chosen-are.is_chosen
 
     cumuls-are : (plan_of model d v list).cumuls ≡ comes.cumuls
     cumuls-are = ap (λ (l : Line). (unwrap_or (chosen l) no_plan).cumuls) is ∙ ap (λ o. (unwrap_or o no_plan).cumuls) chosen-are.is_chosen ∙ chosen-are.of_plan

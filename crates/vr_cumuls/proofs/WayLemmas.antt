@@ -122,7 +122,7 @@ module _ (model : Model) (way : Way) (h : IsWayOf model 3001 way) where
   start-known : to_z w64 (of_z w64 way.latest) ≡ way.latest
   start-known = let soonest = h.soonest in let latest = h.latest in omega (arith, ints, soonest, latest)
 
-  start-small : (x : ℤ) → x ≡ int_min way.latest (way.time -ℤ way.transits) → to_z w64 (of_z w64 x) ≡ x
+  pub start-small : (x : ℤ) → x ≡ int_min way.latest (way.time -ℤ way.transits) → to_z w64 (of_z w64 x) ≡ x
   start-small x is =
       let m = int_min_is way.latest (way.time -ℤ way.transits) in
       let early = h.early in

@@ -1,7 +1,8 @@
 -- The floors of stops: the least cumuls from which that of the next stop can be met with no slack above the greatest.
 use Rattle.std.specs.Prelude.{◌≡◌, ◌<◌, ◌++◌, ℕ, suc, All, IsTrue, List, cond, int_le, length, map, option_map}
-use Rattle.std.specs.Prelude.{reverse, slice_index_or, Option, Some, None, ℤ, pos, ◌-ℤ◌}
+use Rattle.std.specs.Prelude.{reverse, slice_index_or, [], ◌∷◌, Option, Some, None, ℤ, pos, ◌-ℤ◌}
 use Rattle.std.specs.Int.{int_max}
+use Rattle.std.specs.Option.{option_and_then}
 use Rattle.vr_spans.specs.declared.runs.Run.{Run}
 use Rattle.vr_model.specs.tables.Numbers.{horizon}
 use Rattle.vr_model.specs.tables.Tables.{dimension_at, is_visit, transit, vehicle_at}
@@ -28,6 +29,13 @@ floor_of model d v node allowed next =
 abbrev pub before : Model → ℕ → ℕ → Runs → ℕ → Step → Option Step
 before model d v runs node next = option_map (λ floor. record { node = node; floor = floor })
     (floor_of model d v node (slice_index_or runs.visits node no_run) next)
+
+-- the first of the steps to visits in order, which come before the next step; none where one of them allows no cumul
+-- from its floor on
+abbrev pub first_step : Model → ℕ → ℕ → Runs → List ℕ → Step → Option Step
+first_step model d v runs [] next = Some next
+first_step model d v runs (x ∷ xs) next =
+    option_and_then (before model d v runs x) (first_step model d v runs xs next)
 
 -- the step to the end
 abbrev pub end_step : Model → ℕ → Runs → Step

@@ -1,5 +1,5 @@
 -- What is kept of a list so that a change of it is walked no further than it reaches: its steps and its stages.
-use Rattle.std.specs.Prelude.{◌≡◌, ◌<◌, ◌≤◌, ◌++◌, ◌*◌, ℕ, suc, pos, neg_ℤ, All, List, Some, length, reverse, take}
+use Rattle.std.specs.Prelude.{◌≡◌, ◌<◌, ◌≤◌, ◌++◌, ◌+◌, ◌*◌, ℕ, suc, pos, neg_ℤ, All, List, Some, length, reverse, take}
 use Rattle.std.specs.Prelude.{slice_index_or}
 use Rattle.vr_spans.specs.declared.runs.Run.{Run}
 use Rattle.vr_model.specs.tables.WellFormed.{IsIn}
@@ -45,6 +45,11 @@ pub record AreAllStages (model : Model) (d v : ℕ) (runs : Runs) (list : List �
 abbrev pub steps_of : KeptSteps → List Step
 steps_of kept = reverse kept.trail.steps.items
 
+-- the kept stages are those of the stops of the kept steps, and of the start and the end
+pub record AreStagesOf (model : Model) (d v : ℕ) (runs : Runs) (kept : KeptSteps) : Type 0 where
+  pub stages : AreAllStages model d v runs (nodes_in (steps_of kept)) (steps_of kept) kept.stages.items
+  pub many : length kept.stages.items ≡ length (steps_of kept) + 2
+
 -- where there are as many as stops, these are the stages of a list, and the steps are those to its visits
 pub record HasStages (model : Model) (d v : ℕ) (runs : Runs) (list : List ℕ) (kept : KeptSteps) : Type 0 where
   pub told : length kept.stages.items ≡ suc (suc (length list))
@@ -53,6 +58,10 @@ pub record HasStages (model : Model) (d v : ℕ) (runs : Runs) (list : List ℕ)
 -- where some of the first steps are kept, the first of all is the first of these
 abbrev pub IsKeptLead : List Step → Lead → Type 0
 IsKeptLead steps lead = 0 < lead.place → (other : Step) → lead.first ≡ slice_index_or steps 0 other
+
+-- the first step of all
+abbrev pub first_led : Lead → Step
+first_led lead = lead.first
 
 -- of the steps to these nodes, before the next step, the first ones are kept, and the others were put on a trail
 pub record HasLed (model : Model) (d v : ℕ) (runs : Runs) (kept : List Step) (nodes : List ℕ) (next : Step)
@@ -67,11 +76,15 @@ pub record HasLed (model : Model) (d v : ℕ) (runs : Runs) (kept : List Step) (
   pub kept_first : IsKeptLead kept lead
   pub range : IsStep model lead.first
 
+-- the stage where new steps begin, with all that was paid up to there
+abbrev pub reached : Outset → Stage
+reached met = paid_more met.more met.stage
+
 -- along these steps a stage comes to another one, where more was paid on the way
 pub record HasPaced (model : Model) (d v : ℕ) (runs : Runs) (steps : List Step) (out : Stage) (met : Outset) :
     Type 0 where
   pub start : met.start ≡ out.cumul
-  pub gone : along model d v runs (Some out) steps ≡ Some (paid_more met.more met.stage)
+  pub gone : along model d v runs (Some out) steps ≡ Some (reached met)
   pub range : IsStageOf model 1002 met.stage
   pub more : IsIn (neg_ℤ (pos (cumul_cost * 1002))) (pos (cumul_cost * 1002)) met.more
 

@@ -71,6 +71,18 @@ abbrev pub whole_way : Model → ℕ → ℕ → Runs → List ℕ → Way
 whole_way model d v runs list = way_on model d v (way_along model d v runs (way_out model v runs) list)
     (vehicle_at model v).end runs.finish
 
+-- the end that a whole way tells
+abbrev pub last_by : Way → ℤ
+last_by whole = whole.time
+
+-- and the start
+abbrev pub start_by : Way → ℤ
+start_by whole = int_min whole.latest (whole.time -ℤ whole.transits)
+
+-- the cumul that is nearest to a number
+abbrev pub nearest_cumul : ℤ → ℤ
+nearest_cumul x = int_min (int_max x (pos 0)) horizon
+
 -- the numbers of a way of n arcs: a node of the model, a time of at most the horizon and the greatest transits,
 -- transits within theirs, and a start that is no later than the horizon
 pub record IsWayOf (model : Model) (n : ℕ) (way : Way) : Type 0 where

@@ -1,9 +1,10 @@
 //! What is kept in all dimensions.
 
-ghost use Rattle.std.specs.Prelude.{◌≡◌, ◌↔◌, ◌<◌, ◌≤◌, ◌+◌, ℕ, List, IfOk, IfSome, IsTrue, false, length};
+ghost use Rattle.std.specs.Prelude.{◌≡◌, ◌↔◌, ◌<◌, ◌≤◌, ◌+◌, ℕ, List, IfOk, IfSome, IsTrue, false, is_some, length};
+ghost use Rattle.std.specs.Prelude.{slice_index_or};
 ghost use Rattle.std.specs.List.{list_all};
 ghost use Rattle.vr_model.specs.moves.Moves.{with_route};
-ghost use Rattle.vr_model.specs.routes.Routes.{is_empty};
+ghost use Rattle.vr_model.specs.routes.Routes.{is_empty, route};
 ghost use Rattle.vr_model.specs.routes.Rules.{is_valid};
 ghost use Rattle.vr_model.specs.tables.Tables.{dimension_at, is_visit};
 ghost use Rattle.vr_model.specs.tables.WellFormed.{IsWellFormed};
@@ -11,7 +12,8 @@ ghost use Rattle.vr_routes.specs.Changes.{IsMadeOn};
 ghost use Rattle.vr_routes.specs.Pieces.{changed, joined, part_at};
 ghost use Rattle.vr_timings.specs.Tables.{AreTables, IsTable};
 ghost use Rattle.vr_timings.specs.Timings.{IsTiming, IsTimingOf};
-ghost use Rattle.vr_cumuls.specs.Kept.{AreAllKept, AreAsMany, AreKept, AreOfEach, IsPaid};
+ghost use Rattle.vr_cumuls.specs.Kept.{AreAllKept, AreAsMany, AreKept, AreOfEach, IsPaid, IsTold};
+ghost use Rattle.vr_cumuls.specs.declared.kept.Kept.{Kept as KeptOf};
 
 use crate::kept::KeptCumuls;
 use crate::trails::Trail;
@@ -74,7 +76,7 @@ impl AllCumuls {
     }
 
     /// What the chosen schedule of the list comes to that part `k` of a change gives its vehicle, in dimension `d`.
-    /// Nothing where it is not known by what is kept; then it has to be looked for. The trail is room that the caller
+    /// Nothing exactly where what is kept does not tell; then it has to be looked for. The trail is room that the caller
     /// lends: it is written over.
     pub fn timing_after(
         &self,
@@ -95,13 +97,15 @@ impl AllCumuls {
         requires valid { IsTrue (is_valid model.now (changed routes.now.lists change.now)) }
         requires part { k < length change.now }
         requires some { is_empty (joined routes.now.lists (part_at change.now k).pieces) ≡ false }
+        ensures known { (other : List KeptOf) → IsTrue (is_some result) ↔ IsTold model.now d (part_at change.now k).vehicle
+            (route routes.now.lists (part_at change.now k).vehicle) (slice_index_or self.now d other) }
         ensures timing { IfSome result (IsTiming model.now d (part_at change.now k).vehicle
             (joined routes.now.lists (part_at change.now k).pieces)) }
         ensures range { IfSome result
             (IsTimingOf (length (joined routes.now.lists (part_at change.now k).pieces) + 2)) }
     {
         let kept = &self.dimensions[d as usize];
-        let timing = kept.timing_after(
+        kept.timing_after(
             model,
             table,
             d,
@@ -109,8 +113,7 @@ impl AllCumuls {
             routes,
             change.pieces(k),
             trail,
-        )?;
-        Some(timing)
+        )
     }
 
     /// Commits the lists after a change, where they are valid. It is called before the routes are changed, and takes no

@@ -1,13 +1,14 @@
 //! What is kept of committed lists of vehicles that choose their tight schedules, so that the two ends of a changed
 //! list are known by a walk along what the change puts into it alone.
 
-ghost use Rattle.std.specs.Prelude.{◌≡◌, ◌<◌, ◌≤◌, ◌+◌, ◌-◌, All, IsTrue, false, pos, length, slice_index_or, true};
+ghost use Rattle.std.specs.Prelude.{◌≡◌, ◌↔◌, ◌<◌, ◌≤◌, ◌+◌, ◌-◌, All, IsTrue, false, pos, length, slice_index_or, true};
 ghost use Rattle.vr_model.specs.tables.Numbers.{horizon};
 ghost use Rattle.vr_model.specs.tables.Tables.{dimension_at, is_visit};
 ghost use Rattle.vr_model.specs.tables.WellFormed.{IsIn};
 ghost use Rattle.vr_cumuls.specs.Ends.{AreRestsTo, AreWaysTo, CostsNoSoft, HasCumuls, HasWays};
 ghost use Rattle.vr_cumuls.specs.Guides.{runs_of, IsGuide};
 ghost use Rattle.vr_cumuls.specs.Runs.{AreRuns};
+ghost use Rattle.vr_cumuls.specs.Ways.{last_by, nearest_cumul, start_by, whole_way};
 ghost use Rattle.vr_cumuls.specs.declared.rests.Rest.{Rest as RestOf};
 ghost use Rattle.vr_cumuls.specs.declared.tight.Way.{Way as WayOf};
 
@@ -32,7 +33,10 @@ pub struct KeptEnds {
 
 impl KeptEnds {
     /// Of no list.
-    pub fn new() -> KeptEnds {
+    pub fn new() -> KeptEnds
+        ensures none { length result.ways.items ≡ 0 }
+        ensures soft { result.soft ≡ true }
+    {
         KeptEnds {
             ways: ArrayVec::new(),
             rests: ArrayVec::new(),
@@ -62,7 +66,7 @@ impl KeptEnds {
     #[inline]
     pub fn has_ways(&self, n: usize) -> bool
         requires { n ≤ 1000 }
-        ensures { IsTrue result → length self.now.ways.items ≡ n + 1 }
+        ensures { IsTrue result ↔ (length self.now.ways.items ≡ n + 1) }
     {
         self.ways.len() == n + 1
     }
@@ -86,13 +90,18 @@ impl KeptEnds {
         self.rests[self.rests.len() - 1 - place as usize]
     }
 
-    /// The ends of the tight schedule of a list whose ways are kept; within the horizon also where it has none.
+    /// The ends of the tight schedule of a list whose ways are kept: those that its whole way tells, brought within the
+    /// horizon, also where it has none.
     pub fn ends(&self, guide: &Guide, list: &[u32]) -> Ends
         requires guide { IsGuide guide.now }
         requires few { length list.now ≤ 1000 }
         requires visits { All (λ node. IsTrue (is_visit guide.now.model.now node)) list.now }
         requires ways { HasWays guide.now.model.now guide.now.d guide.now.v (runs_of guide.now) list.now self.now }
-        ensures { HasCumuls result }
+        ensures last { result.last ≡ nearest_cumul (last_by (whole_way guide.now.model.now guide.now.d guide.now.v
+            (runs_of guide.now) list.now)) }
+        ensures start { result.start ≡ nearest_cumul (start_by (whole_way guide.now.model.now guide.now.d guide.now.v
+            (runs_of guide.now) list.now)) }
+        ensures range { HasCumuls result }
     {
         let way = self.ways[list.len()];
         let rest = self.rests[0];
@@ -158,7 +167,8 @@ impl KeptEnds {
 
 // The cumul that is nearest to a number.
 fn within_horizon(x: i64) -> i64
-    ensures { IsIn (pos 0) horizon result }
+    ensures value { result ≡ nearest_cumul x }
+    ensures range { IsIn (pos 0) horizon result }
 {
     x.max(0).min(HORIZON)
 }

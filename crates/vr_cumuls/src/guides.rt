@@ -5,7 +5,7 @@
 //! committed list, with at most 1000 steps of a trail behind its front 2002, and then at most 1001 more to the end.
 //! 4000 is above all of these.
 
-ghost use Rattle.std.specs.Prelude.{◌≡◌, ◌<◌, ◌≤◌, ◌+◌, ◌*◌, All, IfSome, IsTrue, Some, cond, length, reverse};
+ghost use Rattle.std.specs.Prelude.{◌≡◌, ◌<◌, ◌≤◌, ◌+◌, ◌*◌, All, IfSome, IsTrue, Some, cond, is_some, length, reverse};
 ghost use Rattle.std.specs.Prelude.{ℕ, List, [], ◌∷◌, slice_index_or, pos, ◌+ℤ◌, ◌≤ℤ◌};
 ghost use Rattle.std.specs.Option.{option_copied};
 ghost use Rattle.vr_model.specs.tables.Numbers.{horizon};
@@ -14,8 +14,8 @@ ghost use Rattle.vr_model.specs.tables.WellFormed.{IsIn, IsStopRow, IsWellFormed
 ghost use Rattle.vr_routes.specs.Pieces.{joined, nodes_of, IsWithin};
 ghost use Rattle.vr_timings.specs.Bounds.{cumul_cost};
 ghost use Rattle.vr_timings.specs.Tables.{IsTable};
-ghost use Rattle.vr_walks.specs.VisitRuns.{HasCumulEnds};
-ghost use Rattle.vr_cumuls.specs.Floors.{before as before_by, end_step as end_step_by, floor_of as floor_by};
+ghost use Rattle.vr_walks.specs.VisitRuns.{have_stops_one_run, HasCumulEnds};
+ghost use Rattle.vr_cumuls.specs.Floors.{before as before_by, end_step as end_step_by, floor_of as floor_by, first_step};
 ghost use Rattle.vr_cumuls.specs.Floors.{IsStep, IsVisitStep, WentBack};
 ghost use Rattle.vr_cumuls.specs.Guides.{runs_of, IsGuide};
 ghost use Rattle.vr_cumuls.specs.Runs.{AreRuns};
@@ -59,7 +59,7 @@ pub struct Guide<'m> {
 }
 
 impl<'m> Guide<'m> {
-    /// What is looked up once, nothing where the vehicle has breaks, or a stop allows several runs of cumuls.
+    /// What is looked up once, nothing exactly where the vehicle has breaks, or a stop allows several runs of cumuls.
     #[inline]
     pub fn of(model: &'m Model, table: &'m Table, d: u32, v: u32) -> Option<Guide<'m>>
         requires well_formed { IsWellFormed model.now }
@@ -71,6 +71,7 @@ impl<'m> Guide<'m> {
         ensures model { IfSome result (λ guide. guide.model.now ≡ model.now) }
         ensures dimension { IfSome result (λ guide. guide.d ≡ d) }
         ensures vehicle { IfSome result (λ guide. guide.v ≡ v) }
+        ensures known { is_some result ≡ have_stops_one_run model.now d v }
     {
         let runs = single_runs(model, d, v, &table.stops)?;
         Some(Guide {
@@ -100,8 +101,8 @@ impl<'m> Guide<'m> {
     }
 
     /// Back along the nodes of pieces, which come before the next step: puts the steps to them on the trail, the last
-    /// one first, and gives the first one, or the next step where there is none. Nothing where some stop allows no
-    /// cumul from its floor on.
+    /// one first, and gives the first one, or the next step where there is none. Nothing exactly where some stop allows
+    /// no cumul from its floor on.
     #[inline]
     pub fn back_along_pieces(
         &self,
@@ -115,6 +116,8 @@ impl<'m> Guide<'m> {
         requires visits { All (λ node. IsTrue (is_visit self.now.model.now node)) (joined routes.now.lists pieces.now) }
         requires next { IsStep self.now.model.now next }
         requires room { length trail.old.steps.items + length (joined routes.now.lists pieces.now) ≤ 1000 }
+        ensures value { result ≡ first_step self.now.model.now self.now.d self.now.v (runs_of self.now)
+            (joined routes.now.lists pieces.now) next }
         ensures back { IfSome result (WentBack self.now.model.now self.now.d self.now.v (runs_of self.now)
             (joined routes.now.lists pieces.now) next trail.old.steps.items trail.new.steps.items) }
         ensures range { IfSome result (IsStep self.now.model.now) }
@@ -143,6 +146,8 @@ impl<'m> Guide<'m> {
         requires visits { All (λ node. IsTrue (is_visit self.now.model.now node)) (nodes_of routes.now.lists piece) }
         requires next { IsStep self.now.model.now next }
         requires room { length trail.old.steps.items + length (nodes_of routes.now.lists piece) ≤ 1000 }
+        ensures value { result ≡ first_step self.now.model.now self.now.d self.now.v (runs_of self.now)
+            (nodes_of routes.now.lists piece) next }
         ensures back { IfSome result (WentBack self.now.model.now self.now.d self.now.v (runs_of self.now)
             (nodes_of routes.now.lists piece) next trail.old.steps.items trail.new.steps.items) }
         ensures range { IfSome result (IsStep self.now.model.now) }
@@ -175,6 +180,8 @@ impl<'m> Guide<'m> {
             (cond reversed (reverse chain.now) chain.now) }
         requires next { IsStep self.now.model.now next }
         requires room { length trail.old.steps.items + length (cond reversed (reverse chain.now) chain.now) ≤ 1000 }
+        ensures value { result ≡ first_step self.now.model.now self.now.d self.now.v (runs_of self.now)
+            (cond reversed (reverse chain.now) chain.now) next }
         ensures back { IfSome result (WentBack self.now.model.now self.now.d self.now.v (runs_of self.now)
             (cond reversed (reverse chain.now) chain.now) next trail.old.steps.items trail.new.steps.items) }
         ensures range { IfSome result (IsStep self.now.model.now) }
@@ -197,6 +204,7 @@ impl<'m> Guide<'m> {
         requires node { IsTrue (is_visit self.now.model.now node) }
         requires next { IsStep self.now.model.now next }
         requires room { length trail.old.steps.items < 1000 }
+        ensures value { result ≡ before_by self.now.model.now self.now.d self.now.v (runs_of self.now) node next }
         ensures back { IfSome result (λ step. (nodes : List ℕ) → nodes ≡ node ∷ []
             → WentBack self.now.model.now self.now.d self.now.v (runs_of self.now)
             nodes next trail.old.steps.items trail.new.steps.items step) }
@@ -207,32 +215,29 @@ impl<'m> Guide<'m> {
         Some(step)
     }
 
-    /// The step to a visit that comes before the next step, nothing where it allows no cumul from its floor on.
+    /// The step to a visit that comes before the next step, nothing exactly where it allows no cumul from its floor on.
     #[inline]
     pub fn before(&self, node: u32, next: Step) -> Option<Step>
         requires guide { IsGuide self.now }
         requires node { IsTrue (is_visit self.now.model.now node) }
         requires next { IsStep self.now.model.now next }
-        ensures value { IfSome result (λ step.
-            before_by self.now.model.now self.now.d self.now.v (runs_of self.now) node next ≡ Some step) }
+        ensures value { result ≡ before_by self.now.model.now self.now.d self.now.v (runs_of self.now) node next }
         ensures range { IfSome result (IsVisitStep self.now.model.now) }
     {
         let floor = self.floor_of(node, self.visits[node as usize], next)?;
         Some(Step { node, floor })
     }
 
-    /// The floor of the start before the next step, nothing where it allows no cumul from there on.
+    /// The floor of the start before the next step, nothing exactly where it allows no cumul from there on.
     #[inline]
     pub fn start_floor(&self, next: Step) -> Option<i64>
         requires guide { IsGuide self.now }
         requires next { IsStep self.now.model.now next }
-        ensures value { IfSome result (λ floor.
-            floor_by self.now.model.now self.now.d self.now.v (vehicle_at self.now.model.now self.now.v).start
-            self.now.start next ≡ Some floor) }
+        ensures value { result ≡ floor_by self.now.model.now self.now.d self.now.v
+            (vehicle_at self.now.model.now self.now.v).start self.now.start next }
         ensures range { IfSome result (IsIn (pos 0) horizon) }
     {
-        let floor = self.floor_from(self.start, next)?;
-        Some(floor)
+        self.floor_from(self.start, next)
     }
 
     /// The same, where the start allows another run.
@@ -241,14 +246,12 @@ impl<'m> Guide<'m> {
         requires guide { IsGuide self.now }
         requires start { HasCumulEnds start }
         requires next { IsStep self.now.model.now next }
-        ensures value { IfSome result (λ floor.
-            floor_by self.now.model.now self.now.d self.now.v (vehicle_at self.now.model.now self.now.v).start
-            start next ≡ Some floor) }
+        ensures value { result ≡ floor_by self.now.model.now self.now.d self.now.v
+            (vehicle_at self.now.model.now self.now.v).start start next }
         ensures range { IfSome result (IsIn (pos 0) horizon) }
     {
         let node = self.model.vehicles.get(self.v as usize).start;
-        let floor = self.floor_of(node, start, next)?;
-        Some(floor)
+        self.floor_of(node, start, next)
     }
 
     // The floor of a stop at a node, before the next step.
@@ -258,8 +261,7 @@ impl<'m> Guide<'m> {
         requires node { node < self.now.model.now.nodes }
         requires allowed { HasCumulEnds allowed }
         requires next { IsStep self.now.model.now next }
-        ensures value { IfSome result (λ floor.
-            floor_by self.now.model.now self.now.d self.now.v node allowed next ≡ Some floor) }
+        ensures value { result ≡ floor_by self.now.model.now self.now.d self.now.v node allowed next }
         ensures range { IfSome result (IsIn (pos 0) horizon) }
     {
         let transit = self
@@ -288,14 +290,14 @@ impl<'m> Guide<'m> {
         }
     }
 
-    /// It goes on along a trail, from the last step on it to the first; nothing where it cannot.
+    /// It goes on along a trail, from the last step on it to the first; nothing exactly where it cannot.
     #[inline]
     pub fn along_trail(&self, trail: &Trail, stage: Stage) -> Option<Stage>
         requires guide { IsGuide self.now }
         requires steps { All (IsVisitStep self.now.model.now) (reverse trail.now.steps.items) }
         requires stage { IsStageOf self.now.model.now 1002 stage }
-        ensures value { IfSome result (λ next. along self.now.model.now self.now.d self.now.v (runs_of self.now)
-            (Some stage) (reverse trail.now.steps.items) ≡ Some next) }
+        ensures value { result ≡ along self.now.model.now self.now.d self.now.v (runs_of self.now) (Some stage)
+            (reverse trail.now.steps.items) }
         ensures range { IfSome result (IsStageOf self.now.model.now 2002) }
     {
         let mut gone = stage;
@@ -309,14 +311,13 @@ impl<'m> Guide<'m> {
         Some(gone)
     }
 
-    /// It goes on to a visit, nothing where it cannot.
+    /// It goes on to a visit, nothing exactly where it cannot.
     #[inline]
     pub fn to_visit(&self, stage: Stage, step: Step) -> Option<Stage>
         requires guide { IsGuide self.now }
         requires stage { IsStageOf self.now.model.now 4000 stage }
         requires step { IsVisitStep self.now.model.now step }
-        ensures value { IfSome result (λ next.
-            to_visit_by self.now.model.now self.now.d self.now.v (runs_of self.now) step stage ≡ Some next) }
+        ensures value { result ≡ to_visit_by self.now.model.now self.now.d self.now.v (runs_of self.now) step stage }
         ensures at { IfSome result (λ next. next.at ≡ step.node) }
         ensures range { IfSome result (λ next. (n : ℕ) → IsStageOf self.now.model.now n stage
             → IsStageOf self.now.model.now (n + 1) next) }
@@ -330,13 +331,12 @@ impl<'m> Guide<'m> {
         self.go_on(stage, step.node, raised, row)
     }
 
-    /// It goes on to its end, nothing where it cannot.
+    /// It goes on to its end, nothing exactly where it cannot.
     #[inline]
     pub fn to_end(&self, stage: Stage) -> Option<Stage>
         requires guide { IsGuide self.now }
         requires stage { IsStageOf self.now.model.now 4000 stage }
-        ensures value { IfSome result (λ next.
-            to_end_by self.now.model.now self.now.d self.now.v (runs_of self.now) stage ≡ Some next) }
+        ensures value { result ≡ to_end_by self.now.model.now self.now.d self.now.v (runs_of self.now) stage }
         ensures range { IfSome result (λ next. (n : ℕ) → IsStageOf self.now.model.now n stage
             → IsStageOf self.now.model.now (n + 1) next) }
     {
@@ -353,10 +353,8 @@ impl<'m> Guide<'m> {
         requires node { node < self.now.model.now.nodes }
         requires allowed { HasCumulEnds allowed }
         requires row { WherePresent IsStopRow (option_copied row) }
-        ensures value { IfSome result (λ next. go_on_by
-            (transit self.now.model.now self.now.d self.now.v stage.at node)
-            (dimension_at self.now.model.now self.now.d).slack_max node allowed (option_copied row.entry) stage
-            ≡ Some next) }
+        ensures value { result ≡ go_on_by (transit self.now.model.now self.now.d self.now.v stage.at node)
+            (dimension_at self.now.model.now self.now.d).slack_max node allowed (option_copied row.entry) stage }
         ensures at { IfSome result (λ next. next.at ≡ node) }
         ensures range { IfSome result (λ next. (n : ℕ) → IsStageOf self.now.model.now n stage
             → IsStageOf self.now.model.now (n + 1) next) }

@@ -1,11 +1,12 @@
 //! What is kept of committed lists, and what a change makes of them.
 
 ghost use Rattle.std.specs.Prelude.{◌≡◌, ◌<◌, ◌≤◌, ◌+◌, All, ℕ, List, IfOk, IfSome, IsTrue, length, pos};
-ghost use Rattle.std.specs.Prelude.{slice_index_or};
+ghost use Rattle.std.specs.Prelude.{◌↔◌, is_some, slice_index_or};
 ghost use Rattle.std.specs.List.{list_all};
 ghost use Rattle.vr_model.specs.moves.Moves.{with_route};
 ghost use Rattle.vr_model.specs.routes.Routes.{route};
 ghost use Rattle.vr_model.specs.routes.Rules.{is_valid};
+ghost use Rattle.vr_model.specs.schedules.Choices.{is_feasible};
 ghost use Rattle.vr_model.specs.schedules.Lines.{line};
 ghost use Rattle.vr_model.specs.schedules.Narrowed.{chosen_line};
 ghost use Rattle.vr_model.specs.schedules.Schedules.{IsFeasible};
@@ -20,7 +21,7 @@ ghost use Rattle.vr_timings.specs.Timings.{IsTiming, IsTimingOf};
 ghost use Rattle.vr_walks.specs.Lists.{IsUsed};
 ghost use Rattle.vr_cumuls.specs.Ends.{HasCumuls, HasWays, HaveEnds};
 ghost use Rattle.vr_cumuls.specs.Guides.{runs_of, IsGuide};
-ghost use Rattle.vr_cumuls.specs.Kept.{AreKept, IsKept};
+ghost use Rattle.vr_cumuls.specs.Kept.{is_tight, AreKept, HasRoom, IsKept, IsTold, TellsEarliest, TellsTight};
 ghost use Rattle.vr_cumuls.specs.Runs.{between_runs, AllowsRuns, AreRuns};
 ghost use Rattle.vr_cumuls.specs.Steps.{HasStages};
 ghost use Rattle.vr_cumuls.specs.declared.ends.KeptEnds.{KeptEnds as EndsOf};
@@ -49,7 +50,10 @@ pub struct Kept {
 
 impl Kept {
     // Of no list, with room for what such a rule asks. The only refusal is want of memory.
-    fn new(alloc: Global, rule: ScheduleRule) -> Result<Kept, NoMemory> {
+    fn new(alloc: Global, rule: ScheduleRule) -> Result<Kept, NoMemory>
+        ensures room { IfOk result (HasRoom rule) }
+        ensures none { IfOk result (λ kept. length kept.steps.stages.items ≡ 0) }
+    {
         let mut ends = Vec::new(alloc);
         if is_tight(rule) {
             ends.push(KeptEnds::new())?;
@@ -64,6 +68,7 @@ impl Kept {
     // Forgets the list.
     fn forget(&mut self)
         ensures none { length self.new.steps.stages.items ≡ 0 }
+        ensures room { length self.new.ends.items ≡ length self.old.ends.items }
         ensures ends { (model : Defined) (d : ℕ) (v : ℕ) (list : List ℕ)
             → HaveEnds model d v list self.new.ends.items }
         ensures between { HasCumuls self.new.between }
@@ -82,7 +87,8 @@ impl Kept {
         requires rule { (vehicle_at guide.now.model.now guide.now.v).schedule ≡ Earliest }
         requires few { length list.now ≤ 1000 }
         requires visits { All (λ node. IsTrue (is_visit guide.now.model.now node)) list.now }
-        ensures { IsKept guide.now.model.now guide.now.d guide.now.v list.now self.new }
+        ensures kept { IsKept guide.now.model.now guide.now.d guide.now.v list.now self.new }
+        ensures room { length self.new.ends.items ≡ length self.old.ends.items }
     {
         self.forget();
         self.steps.write(guide, list);
@@ -95,7 +101,8 @@ impl Kept {
         requires rule { (vehicle_at guide.now.model.now guide.now.v).schedule ≡ Tight }
         requires few { length list.now ≤ 1000 }
         requires visits { All (λ node. IsTrue (is_visit guide.now.model.now node)) list.now }
-        ensures { IsKept guide.now.model.now guide.now.d guide.now.v list.now self.new }
+        ensures kept { IsKept guide.now.model.now guide.now.d guide.now.v list.now self.new }
+        ensures room { length self.new.ends.items ≡ length self.old.ends.items }
     {
         self.forget();
         if self.ends.is_empty() {
@@ -128,7 +135,8 @@ impl Kept {
         self.steps.write(&guide.between(ends), list);
     }
 
-    // What the tight schedule of the list that pieces are joined to comes to.
+    // What the tight schedule of the list that pieces are joined to comes to; nothing exactly where what is kept does not
+    // tell.
     fn tight_after(
         &self,
         guide: &Guide,
@@ -148,6 +156,7 @@ impl Kept {
         requires few { length (joined routes.now.lists pieces.now) ≤ 1000 }
         requires feasible { IsFeasible (line guide.now.model.now guide.now.d guide.now.v
             (joined routes.now.lists pieces.now)) }
+        ensures known { IsTrue (is_some result) ↔ TellsTight (route routes.now.lists guide.now.v) self.now }
         ensures timing { IfSome result (IsTiming guide.now.model.now guide.now.d guide.now.v
             (joined routes.now.lists pieces.now)) }
         ensures range { IfSome result (IsTimingOf (length (joined routes.now.lists pieces.now) + 2)) }
@@ -169,11 +178,11 @@ impl Kept {
                 last: ends.last,
             });
         }
-        let timing = self.timing_between(guide, ends, routes, pieces, trail)?;
-        Some(timing)
+        self.timing_between(guide, ends, routes, pieces, trail)
     }
 
-    // The same between its two ends: by what is kept, where the list ended as it does now.
+    // The same between its two ends: by what is kept, where the list ended as it does now. Nothing exactly where there is
+    // no such schedule.
     fn timing_between(
         &self,
         guide: &Guide,
@@ -196,6 +205,8 @@ impl Kept {
         requires within { All (IsWithin routes.now.lists) pieces.now }
         requires visits { IsTrue (list_all (is_visit guide.now.model.now) (joined routes.now.lists pieces.now)) }
         requires few { length (joined routes.now.lists pieces.now) ≤ 1000 }
+        ensures known { is_some result ≡ is_feasible (chosen_line guide.now.model.now guide.now.d guide.now.v
+            (joined routes.now.lists pieces.now)) }
         ensures timing { IfSome result (IsTiming guide.now.model.now guide.now.d guide.now.v
             (joined routes.now.lists pieces.now)) }
         ensures range { IfSome result (IsTimingOf (length (joined routes.now.lists pieces.now) + 2)) }
@@ -203,12 +214,10 @@ impl Kept {
         let list = routes.list(guide.v);
         if self.steps.are_of(list.len()) {
             if self.between.last == ends.last {
-                let timing = self.timing_from(guide, ends.start, routes, pieces, trail)?;
-                return Some(timing);
+                return self.timing_from(guide, ends.start, routes, pieces, trail);
             }
         }
-        let timing = guide.timing_between(ends, routes, pieces, trail)?;
-        Some(timing)
+        guide.timing_between(ends, routes, pieces, trail)
     }
 
     // The same from another start to the end that is kept.
@@ -235,16 +244,18 @@ impl Kept {
         requires within { All (IsWithin routes.now.lists) pieces.now }
         requires visits { IsTrue (list_all (is_visit guide.now.model.now) (joined routes.now.lists pieces.now)) }
         requires few { length (joined routes.now.lists pieces.now) ≤ 1000 }
+        ensures known { is_some result ≡ is_feasible (chosen_line guide.now.model.now guide.now.d guide.now.v
+            (joined routes.now.lists pieces.now)) }
         ensures timing { IfSome result (IsTiming guide.now.model.now guide.now.d guide.now.v
             (joined routes.now.lists pieces.now)) }
         ensures range { IfSome result (IsTimingOf (length (joined routes.now.lists pieces.now) + 2)) }
     {
         let kept = guide.between(self.between);
-        let timing = self.steps.after(&kept, Some(start), routes, pieces, trail)?;
-        Some(timing)
+        self.steps.after(&kept, Some(start), routes, pieces, trail)
     }
 
-    // What the earliest schedule of the list that pieces are joined to comes to.
+    // What the earliest schedule of the list that pieces are joined to comes to; nothing exactly where what is kept does
+    // not tell.
     fn earliest_after(
         &self,
         guide: &Guide,
@@ -262,6 +273,8 @@ impl Kept {
         requires within { All (IsWithin routes.now.lists) pieces.now }
         requires used { IsUsed guide.now.model.now (joined routes.now.lists pieces.now) }
         requires few { length (joined routes.now.lists pieces.now) ≤ 1000 }
+        ensures known { IsFeasible (line guide.now.model.now guide.now.d guide.now.v (joined routes.now.lists pieces.now))
+            → IsTrue (is_some result) ↔ TellsEarliest (route routes.now.lists guide.now.v) self.now }
         ensures timing { IfSome result (IsTiming guide.now.model.now guide.now.d guide.now.v
             (joined routes.now.lists pieces.now)) }
         ensures range { IfSome result (IsTimingOf (length (joined routes.now.lists pieces.now) + 2)) }
@@ -270,13 +283,14 @@ impl Kept {
         if !self.steps.are_of(list.len()) {
             return None;
         }
-        let timing = self.steps.after(guide, None, routes, pieces, trail)?;
-        Some(timing)
+        self.steps.after(guide, None, routes, pieces, trail)
     }
 }
 
 // Whether a rule chooses the tight schedule.
-fn is_tight(rule: ScheduleRule) -> bool {
+fn is_tight(rule: ScheduleRule) -> bool
+    ensures { result ≡ is_tight rule }
+{
     match rule {
         ScheduleRule::Earliest => false,
         ScheduleRule::Tight => true,
@@ -351,8 +365,8 @@ impl KeptCumuls {
     }
 
     /// What the chosen schedule of the list that pieces are joined to comes to, for vehicle `v` in dimension `d`.
-    /// Nothing where it is not known so: where nothing is kept, the vehicle has breaks, or a stop allows several runs
-    /// of cumuls. Of an earliest schedule what the change keeps of the front of the list is walked as far back as it
+    /// Nothing exactly where what is kept does not tell: where nothing is kept, the vehicle has breaks, or a stop allows
+    /// several runs of cumuls. Of an earliest schedule what the change keeps of the front of the list is walked as far back as it
     /// gets another floor, and of its end as much as gets another cumul. Of a tight one what it keeps is not walked;
     /// where soft upper bounds may cost anything it is, from the start until a cumul is as kept, and wholly where the
     /// list ends at another cumul. The trail is written over.
@@ -377,6 +391,7 @@ impl KeptCumuls {
         requires used { IsUsed model.now (joined routes.now.lists pieces.now) }
         requires few { length (joined routes.now.lists pieces.now) ≤ 1000 }
         requires feasible { IsFeasible (line model.now d v (joined routes.now.lists pieces.now)) }
+        ensures known { IsTrue (is_some result) ↔ IsTold model.now d v (route routes.now.lists v) self.now }
         ensures timing { IfSome result (IsTiming model.now d v (joined routes.now.lists pieces.now)) }
         ensures range { IfSome result (IsTimingOf (length (joined routes.now.lists pieces.now) + 2)) }
     {
@@ -401,7 +416,8 @@ fn write_list(model: &RoutingModel, table: &Table, d: u32, v: u32, list: &[u32],
     requires table { IsTable model.now d table.now }
     requires few { length list.now ≤ 1000 }
     requires visits { IsTrue (list_all (is_visit model.now) list.now) }
-    ensures { IsKept model.now d v list.now kept.new }
+    ensures kept { IsKept model.now d v list.now kept.new }
+    ensures room { length kept.new.ends.items ≡ length kept.old.ends.items }
 {
     match Guide::of(model, table, d, v) {
         Some(guide) => match model.vehicles.get(v as usize).schedule {

@@ -3,10 +3,13 @@
 
 ghost use Rattle.std.specs.Prelude.{◌*◌, ◌-ℤ◌, pos};
 ghost use Rattle.std.specs.Prelude.{◌≡◌, ◌<◌, ◌≤◌, ◌+◌, All, IfSome, IsTrue, List, Some, drop, length};
-ghost use Rattle.std.specs.Prelude.{slice_index_or, take};
+ghost use Rattle.std.specs.Prelude.{◌↔◌, is_some, option_map, slice_index_or, take};
 ghost use Rattle.std.specs.List.{list_all};
 ghost use Rattle.vr_model.specs.routes.Routes.{route};
+ghost use Rattle.vr_model.specs.schedules.Choices.{is_feasible};
+ghost use Rattle.vr_model.specs.schedules.Lines.{Line};
 ghost use Rattle.vr_model.specs.schedules.Narrowed.{chosen_line};
+ghost use Rattle.vr_model.specs.schedules.Schedules.{IsFeasible};
 ghost use Rattle.vr_model.specs.tables.Tables.{is_visit};
 ghost use Rattle.vr_model.specs.tables.Numbers.{horizon};
 ghost use Rattle.vr_model.specs.tables.WellFormed.{IsIn, WherePresent};
@@ -14,11 +17,11 @@ ghost use Rattle.vr_routes.specs.Pieces.{joined, IsWithin};
 ghost use Rattle.vr_timings.specs.Bounds.{cumul_cost};
 ghost use Rattle.vr_timings.specs.Timings.{IsTiming, IsTimingOf};
 ghost use Rattle.vr_cumuls.specs.Guides.{runs_of, IsGuide};
-ghost use Rattle.vr_cumuls.specs.Floors.{end_step, first_of, IsStep, IsVisitStep};
+ghost use Rattle.vr_cumuls.specs.Floors.{end_step, first_of, first_step, IsStep, IsVisitStep};
 ghost use Rattle.vr_cumuls.specs.Runs.{only as only_of, start_run, starting, AllowsRuns};
 ghost use Rattle.vr_cumuls.specs.Steps.{steps_of, AreAllStages, AreSteps, HasLed, HasPaced, HasSetOut, HasStages};
-ghost use Rattle.vr_cumuls.specs.Steps.{IsKeptLead};
-ghost use Rattle.vr_cumuls.specs.Stages.{paid_more, setting_out, standing, whole, IsStageOf};
+ghost use Rattle.vr_cumuls.specs.Steps.{first_led, reached, AreStagesOf, IsKeptLead};
+ghost use Rattle.vr_cumuls.specs.Stages.{along, paid_more, setting_out, standing, whole, IsStageOf};
 
 use crate::guides::{Guide, Stage};
 use crate::tight::only;
@@ -56,7 +59,9 @@ pub struct Outset {
 
 impl KeptSteps {
     /// Of no list. It takes no memory.
-    pub fn new() -> KeptSteps {
+    pub fn new() -> KeptSteps
+        ensures { length result.stages.items ≡ 0 }
+    {
         KeptSteps {
             trail: Trail::new(),
             stages: ArrayVec::new(),
@@ -74,23 +79,26 @@ impl KeptSteps {
     #[inline]
     pub fn are_of(&self, n: usize) -> bool
         requires { n ≤ 1000 }
-        ensures { IsTrue result → length self.now.stages.items ≡ n + 2 }
+        ensures { IsTrue result ↔ (length self.now.stages.items ≡ n + 2) }
     {
         self.stages.len() == n + 2
     }
 
-    /// Writes the steps and the stages of a list, as far as there are any.
+    /// Writes the steps and the stages of a list, as far as there are any: all of them where it is feasible.
     pub fn write(&mut self, guide: &Guide, list: &[u32])
         requires guide { IsGuide guide.now }
         requires few { length list.now ≤ 1000 }
         requires visits { All (λ node. IsTrue (is_visit guide.now.model.now node)) list.now }
-        ensures { HasStages guide.now.model.now guide.now.d guide.now.v (runs_of guide.now) list.now self.new }
+        ensures stages { HasStages guide.now.model.now guide.now.d guide.now.v (runs_of guide.now) list.now self.new }
+        ensures all { (line : Line) → AllowsRuns guide.now.model.now guide.now.d guide.now.v (runs_of guide.now) list.now line → IsFeasible line
+            → length self.new.stages.items ≡ length list.now + 2 }
     {
         self.stages.clear();
         self.trail.steps.clear();
         let end = guide.end_step();
-        if let Some(first) = guide.back_along_chain(list, false, end, &mut self.trail) {
-            self.write_stages(guide, list, first);
+        match guide.back_along_chain(list, false, end, &mut self.trail) {
+            Some(first) => self.write_stages(guide, list, first),
+            None => {}
         }
     }
 
@@ -105,7 +113,9 @@ impl KeptSteps {
         requires first { first ≡ first_of (steps_of self.old) (end_step guide.now.model.now guide.now.v
             (runs_of guide.now)) }
         requires range { IsStep guide.now.model.now first }
-        ensures { HasStages guide.now.model.now guide.now.d guide.now.v (runs_of guide.now) list.now self.new }
+        ensures stages { HasStages guide.now.model.now guide.now.d guide.now.v (runs_of guide.now) list.now self.new }
+        ensures all { (line : Line) → AllowsRuns guide.now.model.now guide.now.d guide.now.v (runs_of guide.now) list.now line → IsFeasible line
+            → length self.new.stages.items ≡ length list.now + 2 }
     {
         let Some(floor) = guide.start_floor(first) else {
             return;
@@ -125,7 +135,7 @@ impl KeptSteps {
     }
 
     /// What the chosen schedule of the list comes to that pieces are joined to, where its start is at a cumul that is
-    /// given, or else at its floor; nothing where it is not found by the kept steps and stages of the list before.
+    /// given, or else at its floor; nothing exactly where there is none.
     pub fn after(
         &self,
         guide: &Guide,
@@ -148,6 +158,8 @@ impl KeptSteps {
         requires within { All (IsWithin routes.now.lists) pieces.now }
         requires visits { IsTrue (list_all (is_visit guide.now.model.now) (joined routes.now.lists pieces.now)) }
         requires few { length (joined routes.now.lists pieces.now) ≤ 1000 }
+        ensures known { is_some result ≡ is_feasible (chosen_line guide.now.model.now guide.now.d guide.now.v
+            (joined routes.now.lists pieces.now)) }
         ensures timing { IfSome result (IsTiming guide.now.model.now guide.now.d guide.now.v
             (joined routes.now.lists pieces.now)) }
         ensures range { IfSome result (IsTimingOf (length (joined routes.now.lists pieces.now) + 2)) }
@@ -171,7 +183,7 @@ impl KeptSteps {
         })
     }
 
-    // Where new steps begin, nothing where the start cannot be had so.
+    // Where new steps begin, nothing exactly where the vehicle does not come there.
     fn set_out(&self, guide: &Guide, list: &[u32], start: Option<i64>, lead: Lead) -> Option<Outset>
         requires guide { IsGuide guide.now }
         requires stages { AreAllStages guide.now.model.now guide.now.d guide.now.v (runs_of guide.now) list.now
@@ -182,12 +194,16 @@ impl KeptSteps {
         requires place { lead.place ≤ length list.now }
         requires first { IsStep guide.now.model.now lead.first }
         requires kept { IsKeptLead (steps_of self.now) lead }
-        ensures { IfSome result (HasSetOut guide.now.model.now guide.now.d guide.now.v (runs_of guide.now)
+        ensures value { option_map reached result ≡ along guide.now.model.now guide.now.d guide.now.v (runs_of guide.now)
+            (setting_out guide.now.model.now guide.now.d guide.now.v
+            (starting (runs_of guide.now) (start_run (runs_of guide.now) start)) lead.first)
+            (take lead.place (steps_of self.now)) }
+        ensures met { IfSome result (HasSetOut guide.now.model.now guide.now.d guide.now.v (runs_of guide.now)
             (start_run (runs_of guide.now) start) (steps_of self.now) lead) }
     {
         match start {
             Some(cumul) => self.meet_from(guide, list, cumul, lead),
-            None => self.meet(guide, list, lead),
+            None => self.meet(guide, lead),
         }
     }
 
@@ -210,7 +226,7 @@ impl KeptSteps {
     }
 
     // Back along the first `front` visits of the list, which come before the next step, until a floor is as kept.
-    // Nothing where some stop allows no cumul from its floor on.
+    // Nothing exactly where some stop allows no cumul from its floor on.
     fn lead(
         &self,
         guide: &Guide,
@@ -226,7 +242,9 @@ impl KeptSteps {
         requires place { front ≤ length list.now }
         requires next { IsStep guide.now.model.now next }
         requires room { length trail.old.steps.items + front ≤ 1000 }
-        ensures { IfSome result (HasLed guide.now.model.now guide.now.d guide.now.v (runs_of guide.now)
+        ensures first { option_map first_led result ≡ first_step guide.now.model.now guide.now.d guide.now.v (runs_of guide.now)
+            (take front list.now) next }
+        ensures led { IfSome result (HasLed guide.now.model.now guide.now.d guide.now.v (runs_of guide.now)
             (steps_of self.now) (take front list.now) next trail.old.steps.items trail.new.steps.items) }
     {
         let mut first = next;
@@ -250,21 +268,22 @@ impl KeptSteps {
     }
 
     // The stage where new steps begin: the kept one where a floor in front of them is as kept, and else that at the
-    // start. Nothing where the start allows no cumul from its floor on.
-    fn meet(&self, guide: &Guide, list: &[u32], lead: Lead) -> Option<Outset>
+    // start. Nothing exactly where the start allows no cumul from its floor on.
+    fn meet(&self, guide: &Guide, lead: Lead) -> Option<Outset>
         requires guide { IsGuide guide.now }
-        requires stages { AreAllStages guide.now.model.now guide.now.d guide.now.v (runs_of guide.now) list.now
-            (steps_of self.now) self.now.stages.items }
-        requires many { length self.now.stages.items ≡ length list.now + 2 }
-        requires few { length list.now ≤ 1000 }
-        requires place { lead.place ≤ length list.now }
+        requires stages { AreStagesOf guide.now.model.now guide.now.d guide.now.v (runs_of guide.now) self.now }
+        requires few { length (steps_of self.now) ≤ 1000 }
+        requires place { lead.place ≤ length (steps_of self.now) }
         requires first { IsStep guide.now.model.now lead.first }
         requires kept { IsKeptLead (steps_of self.now) lead }
-        ensures { IfSome result (HasSetOut guide.now.model.now guide.now.d guide.now.v (runs_of guide.now)
+        ensures value { option_map reached result ≡ along guide.now.model.now guide.now.d guide.now.v (runs_of guide.now)
+            (setting_out guide.now.model.now guide.now.d guide.now.v (runs_of guide.now) lead.first)
+            (take lead.place (steps_of self.now)) }
+        ensures met { IfSome result (HasSetOut guide.now.model.now guide.now.d guide.now.v (runs_of guide.now)
             (runs_of guide.now).start (steps_of self.now) lead) }
     {
         if lead.place == 0 {
-            return self.at_floor(guide, list, lead.first);
+            return self.at_floor(guide, lead.first);
         }
         Some(Outset {
             stage: self.stages[lead.place],
@@ -273,15 +292,15 @@ impl KeptSteps {
         })
     }
 
-    // The stage at the start before another step, nothing where the start allows no cumul from its floor on.
-    fn at_floor(&self, guide: &Guide, list: &[u32], next: Step) -> Option<Outset>
+    // The stage at the start before another step, nothing exactly where the start allows no cumul from its floor on.
+    fn at_floor(&self, guide: &Guide, next: Step) -> Option<Outset>
         requires guide { IsGuide guide.now }
-        requires stages { AreAllStages guide.now.model.now guide.now.d guide.now.v (runs_of guide.now) list.now
-            (steps_of self.now) self.now.stages.items }
-        requires many { length self.now.stages.items ≡ length list.now + 2 }
-        requires few { length list.now ≤ 1000 }
+        requires stages { AreStagesOf guide.now.model.now guide.now.d guide.now.v (runs_of guide.now) self.now }
+        requires few { length (steps_of self.now) ≤ 1000 }
         requires next { IsStep guide.now.model.now next }
-        ensures value { IfSome result (λ met. setting_out guide.now.model.now guide.now.d guide.now.v
+        ensures value { option_map reached result
+            ≡ setting_out guide.now.model.now guide.now.d guide.now.v (runs_of guide.now) next }
+        ensures out { IfSome result (λ met. setting_out guide.now.model.now guide.now.d guide.now.v
             (runs_of guide.now) next ≡ Some met.stage) }
         ensures start { IfSome result (λ met. met.start ≡ met.stage.cumul) }
         ensures more { IfSome result (λ met. met.more ≡ pos 0) }
@@ -289,19 +308,17 @@ impl KeptSteps {
     {
         let floor = guide.start_floor(next)?;
         Some(Outset {
-            stage: self.start_stage(guide, list, floor),
+            stage: self.start_stage(guide, floor),
             start: floor,
             more: 0,
         })
     }
 
     // The stage at the start at a cumul, the kept one where it is the same.
-    fn start_stage(&self, guide: &Guide, _list: &[u32], cumul: i64) -> Stage
+    fn start_stage(&self, guide: &Guide, cumul: i64) -> Stage
         requires guide { IsGuide guide.now }
-        requires stages { AreAllStages guide.now.model.now guide.now.d guide.now.v (runs_of guide.now) _list.now
-            (steps_of self.now) self.now.stages.items }
-        requires many { length self.now.stages.items ≡ length _list.now + 2 }
-        requires few { length _list.now ≤ 1000 }
+        requires stages { AreStagesOf guide.now.model.now guide.now.d guide.now.v (runs_of guide.now) self.now }
+        requires few { length (steps_of self.now) ≤ 1000 }
         requires cumul { IsIn (pos 0) horizon cumul }
         ensures value { result ≡ standing guide.now.model.now guide.now.d guide.now.v cumul }
         ensures range { IsStageOf guide.now.model.now 1002 result }
@@ -323,17 +340,19 @@ impl KeptSteps {
         requires start { IsIn (pos 0) horizon start }
         requires place { lead.place ≤ length list.now }
         requires first { IsStep guide.now.model.now lead.first }
-        ensures { IfSome result (HasSetOut guide.now.model.now guide.now.d guide.now.v (runs_of guide.now)
+        ensures value { option_map reached result ≡ along guide.now.model.now guide.now.d guide.now.v (runs_of guide.now)
+            (setting_out guide.now.model.now guide.now.d guide.now.v (starting (runs_of guide.now) (only_of start))
+            lead.first) (take lead.place (steps_of self.now)) }
+        ensures met { IfSome result (HasSetOut guide.now.model.now guide.now.d guide.now.v (runs_of guide.now)
             (only_of start) (steps_of self.now) lead) }
     {
         let floor = guide.floor_from(only(start), lead.first)?;
         let out = guide.standing(floor);
-        let met = self.pace(guide, list, lead.place, out)?;
-        Some(met)
+        self.pace(guide, list, lead.place, out)
     }
 
     // A vehicle goes on from a stage at the start along the first `place` visits of the list: to the kept stage there,
-    // once it comes to a cumul that is kept. Nothing where it cannot.
+    // once it comes to a cumul that is kept. Nothing exactly where it cannot.
     fn pace(&self, guide: &Guide, list: &[u32], place: usize, out: Stage) -> Option<Outset>
         requires guide { IsGuide guide.now }
         requires stages { AreAllStages guide.now.model.now guide.now.d guide.now.v (runs_of guide.now) list.now
@@ -343,7 +362,9 @@ impl KeptSteps {
         requires place { place ≤ length list.now }
         requires out { out ≡ standing guide.now.model.now guide.now.d guide.now.v out.cumul }
         requires range { IsStageOf guide.now.model.now 1 out }
-        ensures { IfSome result (HasPaced guide.now.model.now guide.now.d guide.now.v (runs_of guide.now)
+        ensures value { option_map reached result ≡ along guide.now.model.now guide.now.d guide.now.v (runs_of guide.now) (Some out)
+            (take place (steps_of self.now)) }
+        ensures paced { IfSome result (HasPaced guide.now.model.now guide.now.d guide.now.v (runs_of guide.now)
             (take place (steps_of self.now)) out) }
     {
         let mut gone = out;
@@ -368,8 +389,8 @@ impl KeptSteps {
         })
     }
 
-    // The stage at the end of a vehicle that goes on along the list from place `behind` on, nothing where it cannot.
-    // Once it comes to a cumul that is kept, all that follows is as kept.
+    // The stage at the end of a vehicle that goes on along the list from place `behind` on, nothing exactly where it
+    // cannot. Once it comes to a cumul that is kept, all that follows is as kept.
     fn end_behind(&self, guide: &Guide, list: &[u32], behind: usize, stage: Stage) -> Option<Stage>
         requires guide { IsGuide guide.now }
         requires stages { AreAllStages guide.now.model.now guide.now.d guide.now.v (runs_of guide.now) list.now
@@ -378,8 +399,8 @@ impl KeptSteps {
         requires few { length list.now ≤ 1000 }
         requires place { behind ≤ length list.now }
         requires stage { IsStageOf guide.now.model.now 2002 stage }
-        ensures { IfSome result (λ end. whole guide.now.model.now guide.now.d guide.now.v (runs_of guide.now)
-            (Some stage) (drop behind (steps_of self.now)) ≡ Some end) }
+        ensures { result ≡ whole guide.now.model.now guide.now.d guide.now.v (runs_of guide.now) (Some stage)
+            (drop behind (steps_of self.now)) }
     {
         let mut gone = stage;
         for k in behind..list.len() {

@@ -4,10 +4,10 @@
 //! them.
 
 ghost use Rattle.std.specs.Prelude.{◌≡◌, ◌<◌, ◌≤◌, ◌+◌, All, IfSome, IsTrue, cond, length, pos};
-ghost use Rattle.std.specs.Prelude.{reverse, ◌-ℤ◌};
-ghost use Rattle.std.specs.Int.{int_min};
+ghost use Rattle.std.specs.Prelude.{is_some, reverse};
 ghost use Rattle.std.specs.List.{list_all};
 ghost use Rattle.vr_model.specs.routes.Routes.{route};
+ghost use Rattle.vr_model.specs.schedules.Choices.{is_feasible};
 ghost use Rattle.vr_model.specs.schedules.Lines.{line};
 ghost use Rattle.vr_model.specs.schedules.Narrowed.{chosen_line};
 ghost use Rattle.vr_model.specs.schedules.Schedules.{IsFeasible};
@@ -22,7 +22,7 @@ ghost use Rattle.vr_walks.specs.VisitRuns.{HasCumulEnds};
 ghost use Rattle.vr_cumuls.specs.Ends.{AreWays, HasCumuls};
 ghost use Rattle.vr_cumuls.specs.Guides.{runs_of, IsGuide};
 ghost use Rattle.vr_cumuls.specs.Runs.{between_runs, only as only_of, AllowsRuns, AreRuns};
-ghost use Rattle.vr_cumuls.specs.Ways.{way_along as along_by, way_on as way_on_by, way_out as way_out_by};
+ghost use Rattle.vr_cumuls.specs.Ways.{last_by, start_by, way_along as along_by, way_on as way_on_by, way_out as way_out_by};
 ghost use Rattle.vr_cumuls.specs.Ways.{way_to_visit as way_to_visit_by, IsWayOf};
 
 use crate::ends::KeptEnds;
@@ -54,8 +54,8 @@ pub struct Ends {
 }
 
 impl<'m> Guide<'m> {
-    /// What the chosen schedule comes to of the list that pieces are joined to, between these ends. The whole list is
-    /// walked, and the trail is written over.
+    /// What the chosen schedule comes to of the list that pieces are joined to, between these ends; nothing exactly where
+    /// there is none. The whole list is walked, and the trail is written over.
     pub fn timing_between(
         &self,
         ends: Ends,
@@ -71,17 +71,18 @@ impl<'m> Guide<'m> {
         requires within { All (IsWithin routes.now.lists) pieces.now }
         requires visits { IsTrue (list_all (is_visit self.now.model.now) (joined routes.now.lists pieces.now)) }
         requires few { length (joined routes.now.lists pieces.now) ≤ 1000 }
+        ensures known { is_some result ≡ is_feasible (chosen_line self.now.model.now self.now.d self.now.v
+            (joined routes.now.lists pieces.now)) }
         ensures timing { IfSome result (IsTiming self.now.model.now self.now.d self.now.v
             (joined routes.now.lists pieces.now)) }
         ensures range { IfSome result (IsTimingOf (length (joined routes.now.lists pieces.now) + 2)) }
     {
         let guide = self.between(ends);
-        let timing = guide.timing_along(routes, pieces, trail)?;
-        Some(timing)
+        guide.timing_along(routes, pieces, trail)
     }
 
     // What the chosen schedule comes to of the list that pieces are joined to, where the line of which it is chosen
-    // allows the runs of the guide. The trail is written over.
+    // allows the runs of the guide; nothing exactly where there is none. The trail is written over.
     fn timing_along(&self, routes: &Routes, pieces: &[Piece], trail: &mut Trail) -> Option<Timing>
         requires guide { IsGuide self.now }
         requires allows { AllowsRuns self.now.model.now self.now.d self.now.v (runs_of self.now)
@@ -90,6 +91,8 @@ impl<'m> Guide<'m> {
         requires within { All (IsWithin routes.now.lists) pieces.now }
         requires visits { IsTrue (list_all (is_visit self.now.model.now) (joined routes.now.lists pieces.now)) }
         requires few { length (joined routes.now.lists pieces.now) ≤ 1000 }
+        ensures known { is_some result ≡ is_feasible (chosen_line self.now.model.now self.now.d self.now.v
+            (joined routes.now.lists pieces.now)) }
         ensures timing { IfSome result (IsTiming self.now.model.now self.now.d self.now.v
             (joined routes.now.lists pieces.now)) }
         ensures range { IfSome result (IsTimingOf (length (joined routes.now.lists pieces.now) + 2)) }
@@ -166,8 +169,8 @@ impl<'m> Guide<'m> {
     #[inline]
     pub fn ends_by(&self, whole: Way) -> Ends
         requires { IsWayOf self.now.model.now 3001 whole }
-        ensures last { result.last ≡ whole.time }
-        ensures start { result.start ≡ int_min whole.latest (whole.time -ℤ whole.transits) }
+        ensures last { result.last ≡ last_by whole }
+        ensures start { result.start ≡ start_by whole }
     {
         Ends {
             start: whole.latest.min(whole.time - whole.transits),

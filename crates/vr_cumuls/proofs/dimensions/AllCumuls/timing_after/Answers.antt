@@ -1,9 +1,14 @@
-use Rattle.std.proofs.Common.{◌≤◌, ◌+◌, ℕ, List, length, sym, subst, arith}
+use Rattle.std.proofs.Common.{◌≤◌, ◌∙◌, ◌+◌, ℕ, List, length, ap, sym, subst, arith}
+use Rattle.std.specs.Prelude.{◌↔◌, IfSome, IsTrue, is_some, slice_index_or}
+use Rattle.std.proofs.lemmas.List.{get_or_default}
+use Rattle.vr_model.specs.routes.Routes.{route}
 use Rattle.vr_model.specs.schedules.Lines.{line}
 use Rattle.vr_model.specs.schedules.Schedules.{IsFeasible}
 use Rattle.vr_routes.specs.Pieces.{joined, no_part, part_at}
 use Rattle.vr_timings.specs.Timings.{IsTiming, IsTimingOf}
 use Rattle.vr_walks.specs.Lists.{IsUsed}
+use Rattle.vr_cumuls.specs.Kept.{IsTold}
+use Rattle.vr_cumuls.specs.declared.kept.Kept.{Kept}
 use Rattle.vr_parts.proofs.PartLemmas.{small}
 use Rattle.vr_cumuls.proofs.PartLemmas.{feasible-after, list-after, list-of, used-after}
 use Rattle.vr_cumuls.proofs.dimensions.AllCumuls.timing_after.Goals as goal
@@ -45,9 +50,23 @@ pub returns-clause-timing : goal.returns-clause-timing
 returns-clause-timing c =
     let m = c.args.model.now in
     let lists : List (List ℕ) = c.args.routes.now.lists in
-    let a = subst (λ v. IsTiming m c.args.d v (joined lists c.pieces.result.now) c.in_ok-timing.timing) c.vehicle.ensures c.in_ok-timing.ensures.timing in
-    subst (λ ps. IsTiming m c.args.d (part_at c.args.change.now c.args.k).vehicle (joined lists ps) c.in_ok-timing.timing) c.pieces.ensures.value a
+    let timing = c.timing_after.result in
+    let a = subst (λ v. IfSome timing (IsTiming m c.args.d v (joined lists c.pieces.result.now))) c.vehicle.ensures c.timing_after.ensures.timing in
+    subst (λ ps. IfSome timing (IsTiming m c.args.d (part_at c.args.change.now c.args.k).vehicle (joined lists ps))) c.pieces.ensures.value a
 
 pub returns-clause-range : goal.returns-clause-range
 returns-clause-range c =
-    subst (λ ps. IsTimingOf (length (joined c.args.routes.now.lists ps) + 2) c.in_ok-timing.timing) c.pieces.ensures.value c.in_ok-timing.ensures.range
+    subst (λ ps. IfSome c.timing_after.result (IsTimingOf (length (joined c.args.routes.now.lists ps) + 2))) c.pieces.ensures.value c.timing_after.ensures.range
+
+pub returns-clause-known : goal.returns-clause-known
+returns-clause-known c other =
+    let m = c.args.model.now in
+    let lists : List (List ℕ) = c.args.routes.now.lists in
+    let some = is_some c.timing_after.result in
+    let kept = c.index-kept.result.now in
+    let a = subst (λ v. IsTrue some ↔ IsTold m c.args.d v (route lists v) kept) c.vehicle.ensures c.timing_after.ensures.known in
+    let dimension = c.requires.dimension in
+    let many = c.requires.kept.many in
+    let b = subst (λ k. IsTrue some ↔ IsTold m c.args.d (part_at c.args.change.now c.args.k).vehicle (route lists (part_at c.args.change.now c.args.k).vehicle) k) c.index-kept.ensures a in
+    subst (λ k. IsTrue some ↔ IsTold m c.args.d (part_at c.args.change.now c.args.k).vehicle (route lists (part_at c.args.change.now c.args.k).vehicle) k)
+    (get_or_default c.self.inside.dimensions.items c.args.d kept other (let view = ap length c.self.view_is in omega (arith, dimension, many, view)) ∙ ap (λ (l : List (List Kept)). slice_index_or l c.args.d other) c.self.view_is) b

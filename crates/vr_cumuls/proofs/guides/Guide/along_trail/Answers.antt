@@ -1,13 +1,14 @@
-use Rattle.std.proofs.Common.{◌∙◌, ◌+◌, List, Some, reverse, ap, ap₂, sym, subst, arith}
+use Rattle.std.proofs.Common.{◌∙◌, ◌+◌, List, Some, length, reverse, ap, ap₂, sym, subst, arith}
 use Rattle.std.specs.Prelude.{pos}
 use Rattle.std.proofs.lemmas.List.{length-reverse, take_all}
 use Rattle.std.proofs.lemmas.List.Sums.{fold_more}
 use Rattle.vr_cumuls.specs.Floors.{IsVisitStep}
 use Rattle.vr_cumuls.specs.Guides.{runs_of}
-use Rattle.vr_cumuls.specs.Stages.{along, visit_more}
+use Rattle.vr_cumuls.specs.Stages.{along, to_visit, visit_more}
 use Rattle.vr_cumuls.specs.declared.trails.Step.{Step}
 use Rattle.vr_cumuls.proofs.FloorLemmas.{step-read}
 use Rattle.vr_cumuls.proofs.StageLemmas.{stage-more}
+use Rattle.vr_cumuls.proofs.StuckLemmas.{along-stuck}
 use Rattle.vr_cumuls.proofs.guides.Guide.along_trail.Goals as goal
 
 abbrev no_step : Step
@@ -40,7 +41,7 @@ loop-k-preserved c =
     let read = step-read items c.deref.result.now c.len-many.result k no_step no_step c.deref.ensures.0 (sym many) low in
     record {
       value = fold_more (visit_more g.model.now g.d g.v (runs_of g)) (Some c.args.stage) (reverse items) k no_step (omega (arith, low, many, long))
-          ∙ ap₂ (λ o step. visit_more g.model.now g.d g.v (runs_of g) o step) i.value (sym read) ∙ c.in-Some.ensures.value;
+          ∙ ap₂ (λ o step. visit_more g.model.now g.d g.v (runs_of g) o step) i.value (sym read) ∙ sym c.in-Some.ensures.value;
       range = stage-more g.model.now (1002 + k + 1) (1002 + (k + 1)) c.in-Some.next (omega arith) (c.in-Some.ensures.range (1002 + k) i.range);
     }
 
@@ -51,7 +52,20 @@ returns-clause-value c =
     let long = length-reverse items in
     let many = c.len-many.ensures.value in
     let done = c.loop-k-test.false in
-    ap (along g.model.now g.d g.v (runs_of g) (Some c.args.stage)) (sym (take_all c.loop-k.k (reverse items) (omega (arith, long, many, done)))) ∙ c.loop-k.invariant.value
+    sym (ap (along g.model.now g.d g.v (runs_of g) (Some c.args.stage)) (sym (take_all c.loop-k.k (reverse items) (omega (arith, long, many, done)))) ∙ c.loop-k.invariant.value)
+
+pub returns-in-None-clause-value : goal.returns-in-None-clause-value
+returns-in-None-clause-value c =
+    let g = c.args.self.now in
+    let k = c.loop-k.k in
+    let items : List Step = c.args.trail.now.steps.items in
+    let low = c.loop-k-test.true in
+    let many = c.len-many.ensures.value in
+    let long = length-reverse items in
+    let read = step-read items c.deref.result.now c.len-many.result k no_step no_step c.deref.ensures.0 (sym many) low in
+    let none = ap (λ step. to_visit g.model.now g.d g.v (runs_of g) step c.loop-k.gone) (sym read) ∙ sym c.in-None.ensures.value in
+    sym (ap (along g.model.now g.d g.v (runs_of g) (Some c.args.stage)) (sym (take_all (length items) (reverse items) (omega (arith, long))))
+    ∙ along-stuck g.model.now g.d g.v (runs_of g) (Some c.args.stage) (reverse items) k (length items) no_step c.loop-k.gone (omega (arith, low, many)) (omega (arith, low, many, long)) c.loop-k.invariant.value none)
 
 pub returns-clause-range : goal.returns-clause-range
 returns-clause-range c =

@@ -1,10 +1,12 @@
-use Rattle.std.proofs.Common.{◌≡◌, ◌∙◌, ◌+◌, ◌-◌, ℕ, List, [], ◌∷◌, Bool, true, false, cond, drop, length, reverse, refl, ap, sym, subst, arith}
+use Rattle.std.proofs.Common.{◌≡◌, ◌∙◌, ◌+◌, ◌-◌, ◌++◌, ℕ, List, [], ◌∷◌, Bool, true, false, cond, drop, length, reverse, take, refl, ap, sym, subst, arith}
 use Rattle.std.specs.Prelude.{IsTrue}
-use Rattle.std.proofs.lemmas.List.{drop_all, length-drop, length-reverse}
+use Rattle.std.specs.Option.{option_and_then}
+use Rattle.std.proofs.lemmas.List.{drop_all, length-drop, length-reverse, take-append-drop}
 use Rattle.vr_model.specs.tables.Tables.{is_visit}
-use Rattle.vr_cumuls.specs.Floors.{WentBack}
+use Rattle.vr_cumuls.specs.Floors.{before, WentBack}
 use Rattle.vr_cumuls.specs.Guides.{runs_of}
 use Rattle.vr_cumuls.proofs.FloorLemmas.{back-many, back-more, back-none, drop-one}
+use Rattle.vr_cumuls.proofs.FirstLemmas.{begin-none, went-begin}
 use Rattle.vr_cumuls.proofs.guides.Guide.back_along_chain.Goals as goal
 
 ordered-long : (reversed : Bool) (chain : List ℕ) → length (cond reversed (reverse chain) chain) ≡ length chain
@@ -62,3 +64,25 @@ returns-clause-back c =
     let done = c.loop-k-test.false in
     let all : length c.args.chain.now - c.loop-k.k ≡ 0 = omega (arith, done) in
     subst (λ i. WentBack g.model.now g.d g.v (runs_of g) (drop i nodes) c.args.next c.args.trail.now.steps.items c.loop-k.trail.steps.items c.loop-k.first) all c.loop-k.invariant.back
+
+pub returns-clause-value : goal.returns-clause-value
+returns-clause-value c =
+    let g = c.args.self.now in
+    let nodes : List ℕ = cond c.args.reversed (reverse c.args.chain.now) c.args.chain.now in
+    sym (went-begin g.model.now g.d g.v (runs_of g) nodes c.args.next c.loop-k.first c.args.trail.now.steps.items c.loop-k.trail.steps.items (returns-clause-back c))
+
+pub returns-in-None-clause-value : goal.returns-in-None-clause-value
+returns-in-None-clause-value c =
+    let g = c.args.self.now in
+    let k = c.loop-k.k in
+    let n = length c.args.chain.now in
+    let nodes : List ℕ = cond c.args.reversed (reverse c.args.chain.now) c.args.chain.now in
+    let long = ordered-long c.args.reversed c.args.chain.now in
+    let node = c.node_in-node.result in
+    let rest : List ℕ = drop (n - k) nodes in
+    let ahead : List ℕ = take (n - (k + 1)) nodes in
+    let split : nodes ≡ ahead ++ (node ∷ rest) =
+    sym (take-append-drop (n - (k + 1)) nodes) ∙ ap (λ l. ahead ++ l) (drop-one nodes n k 0 long c.loop-k-test.true ∙ ap (λ x. x ∷ rest) (sym c.node_in-node.ensures)) in
+    let there = went-begin g.model.now g.d g.v (runs_of g) rest c.args.next c.loop-k.first c.args.trail.now.steps.items c.loop-k.trail.steps.items c.loop-k.invariant.back in
+    sym (begin-none g.model.now g.d g.v (runs_of g) nodes ahead (node ∷ rest) c.args.next split
+    (ap (option_and_then (before g.model.now g.d g.v (runs_of g) node)) there ∙ sym c.in-None.ensures.value))

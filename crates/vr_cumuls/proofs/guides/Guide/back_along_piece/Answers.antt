@@ -1,8 +1,8 @@
-use Rattle.std.proofs.Common.{◌≡◌, ◌-◌, ℕ, List, [], ◌∷◌, cond, drop, reverse, take, ap, sym, subst, arith}
+use Rattle.std.proofs.Common.{◌≡◌, ◌∙◌, ◌-◌, ℕ, List, [], ◌∷◌, cond, drop, reverse, take, ap, sym, subst, arith}
 use Rattle.std.specs.Prelude.{All, IsTrue}
 use Rattle.vr_model.specs.tables.Tables.{is_visit}
 use Rattle.vr_routes.specs.Pieces.{nodes_of}
-use Rattle.vr_cumuls.specs.Floors.{WentBack}
+use Rattle.vr_cumuls.specs.Floors.{first_step, WentBack}
 use Rattle.vr_cumuls.specs.Guides.{runs_of}
 use Rattle.vr_cumuls.specs.declared.trails.Step.{Step}
 use Rattle.vr_cumuls.proofs.FloorLemmas.{some-map}
@@ -26,3 +26,8 @@ returns-in-Node-clause-back c =
     let new = c.step_back.new.trail.steps.items in
     some-map (λ (step : Step). (nodes : List ℕ) → nodes ≡ c.in-Node.node ∷ [] → WentBack g.model.now g.d g.v (runs_of g) nodes c.args.next old new step)
     (WentBack g.model.now g.d g.v (runs_of g) (nodes_of lists c.args.piece) c.args.next old new) c.step_back.result (λ step f. f (nodes_of lists c.args.piece) (ap (nodes_of lists) c.in-Node.is)) c.step_back.ensures.back
+
+pub returns-in-Node-clause-value : goal.returns-in-Node-clause-value
+returns-in-Node-clause-value c =
+    let g = c.args.self.now in
+    c.step_back.ensures.value ∙ sym (ap (λ p. first_step g.model.now g.d g.v (runs_of g) (nodes_of c.args.routes.now.lists p) c.args.next) c.in-Node.is)

@@ -9,6 +9,7 @@ use Rattle.vr_routes.proofs.JoinedPieces.{all_at, joined_rest}
 use Rattle.vr_cumuls.specs.Floors.{WentBack}
 use Rattle.vr_cumuls.specs.Guides.{runs_of}
 use Rattle.vr_cumuls.proofs.FloorLemmas.{back-many, back-more, back-none, drop-one}
+use Rattle.vr_cumuls.proofs.FirstLemmas.{begin-none, begin-stuck, went-begin}
 use Rattle.vr_cumuls.proofs.guides.Guide.back_along_pieces.Goals as goal
 
 abbrev first_piece : Piece
@@ -72,3 +73,22 @@ returns-clause-back c =
     let done = c.loop-k-test.false in
     let all : length c.args.pieces.now - c.loop-k.k ≡ 0 = omega (arith, done) in
     subst (λ i. WentBack g.model.now g.d g.v (runs_of g) (joined c.args.routes.now.lists (drop i c.args.pieces.now)) c.args.next c.args.trail.now.steps.items c.loop-k.trail.steps.items c.loop-k.first) all c.loop-k.invariant.back
+
+pub returns-clause-value : goal.returns-clause-value
+returns-clause-value c =
+    let g = c.args.self.now in
+    sym (went-begin g.model.now g.d g.v (runs_of g) (joined c.args.routes.now.lists c.args.pieces.now) c.args.next c.loop-k.first c.args.trail.now.steps.items c.loop-k.trail.steps.items (returns-clause-back c))
+
+pub returns-in-None-clause-value : goal.returns-in-None-clause-value
+returns-in-None-clause-value c =
+    let g = c.args.self.now in
+    let k = c.loop-k.k in
+    let lists : List (List ℕ) = c.args.routes.now.lists in
+    let pieces : List Piece = c.args.pieces.now in
+    let n = length pieces in
+    let rest : List ℕ = joined lists (drop (n - k) pieces) in
+    let piece : List ℕ = nodes_of lists (slice_index_or pieces (n - 1 - k) first_piece) in
+    let from_here : List ℕ = joined lists (drop (n - (k + 1)) pieces) in
+    let there = went-begin g.model.now g.d g.v (runs_of g) rest c.args.next c.loop-k.first c.args.trail.now.steps.items c.loop-k.trail.steps.items c.loop-k.invariant.back in
+    sym (begin-none g.model.now g.d g.v (runs_of g) (joined lists pieces) (joined lists (take (n - (k + 1)) pieces)) from_here c.args.next (joined_rest lists pieces (n - (k + 1)))
+    (begin-stuck g.model.now g.d g.v (runs_of g) from_here piece rest c.args.next c.loop-k.first (joined-one lists pieces k c.loop-k-test.true) there (sym c.in-None.ensures.value)))

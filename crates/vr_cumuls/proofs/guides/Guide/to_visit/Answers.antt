@@ -17,7 +17,6 @@ use Rattle.vr_cumuls.specs.declared.guides.Guide.{Guide}
 use Rattle.vr_cumuls.specs.declared.guides.Stage.{Stage}
 use Rattle.vr_cumuls.specs.declared.trails.Step.{Step}
 use Rattle.vr_cumuls.specs.Floors.{IsVisitStep}
-use Rattle.vr_cumuls.proofs.FloorLemmas.{some-map}
 use Rattle.vr_cumuls.proofs.guides.Guide.to_visit.Goals as goal
 
 abbrev first_run : Run
@@ -52,11 +51,9 @@ returns-clause-value c =
     let step = c.args.step in
     let stage = c.args.stage in
     let hi = last g step c.requires.guide c.requires.step in
-    let read : Run = record { lo = to_z w64 (of_z w64 step.floor); hi = to_z w64 (of_z w64 (slice_index_or g.visits.now step.node first_run).hi) } in
     let t : ℤ = transit g.model.now g.d g.v stage.at step.node in
     let s : ℤ = (dimension_at g.model.now g.d).slack_max in
     let allowed = ap₂ (λ (x y : ℤ). (let r : Run = record { lo = x; hi = y } in r)) (read-cumul step.floor c.requires.step.floor)
     (read-cumul (slice_index_or g.visits.now step.node first_run).hi hi ∙ ap (λ (r : Run). r.hi) (get_or_default g.visits.now step.node first_run no_run (known g step c.requires.guide c.requires.step))) in
     let row = c.row_of-row.ensures.value ∙ ap (λ (x : Dimension). row_of x.nodes step.node) (sym (c.get-dimension.ensures.value no_dimension)) in
-    some-map (λ (next : Stage). go_on t s step.node read (option_copied c.row_of-row.result) stage ≡ Some next) (λ (next : Stage). to_visit g.model.now g.d g.v (runs_of g) step stage ≡ Some next) c.go_on.result
-    (λ next e. sym (ap₂ (λ (r : Run) (o : Option StopRow). go_on t s step.node r o stage) allowed row) ∙ e) c.go_on.ensures.value
+    c.go_on.ensures.value ∙ ap₂ (λ (r : Run) (o : Option StopRow). go_on t s step.node r o stage) allowed row

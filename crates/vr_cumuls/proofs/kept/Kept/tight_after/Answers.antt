@@ -1,22 +1,30 @@
-use Rattle.std.proofs.Common.{◌≡◌, ◌∙◌, ◌<◌, ℕ, List, length, ap, subst, sym, arith, to_z, of_z, w64}
+use Rattle.std.proofs.Common.{◌≡◌, ◌∙◌, ◌+◌, ◌<◌, ℕ, List, length, refl, ap, subst, sym, arith, to_z, of_z, w64}
+use Rattle.std.specs.Prelude.{slice_index_or}
+use Rattle.std.proofs.lemmas.Bool.{false≢true}
+use Rattle.std.proofs.lemmas.List.{get_or_default}
 use Rattle.vr_model.specs.routes.Routes.{route}
 use Rattle.vr_model.specs.schedules.Lines.{Line, line}
 use Rattle.vr_model.specs.schedules.Narrowed.{between, chosen_line, narrowed}
 use Rattle.vr_routes.specs.Pieces.{joined}
 use Rattle.vr_timings.proofs.BoundLemmas.{read-cumul}
-use Rattle.vr_spans.proofs.RunsLemmas.{some_from_test}
+use Rattle.vr_spans.proofs.RunsLemmas.{none_from_test, some_from_test}
 use Rattle.vr_cumuls.specs.Ends.{AreEnds}
 use Rattle.vr_cumuls.specs.Guides.{runs_of}
+use Rattle.vr_cumuls.specs.declared.ends.KeptEnds.{KeptEnds}
 use Rattle.vr_cumuls.specs.Runs.{AllowsRuns, between_runs}
 use Rattle.vr_cumuls.proofs.BetweenLemmas.{between-allows, end-in, start-in}
 use Rattle.vr_cumuls.proofs.RunLemmas.{line-allows}
-use Rattle.vr_cumuls.proofs.TightLemmas.{ends-timed}
+use Rattle.vr_cumuls.proofs.TightLemmas.{chosen-feasible, ends-timed}
 use Rattle.vr_cumuls.proofs.kept.Kept.tight_after.Goals as goal
+
+-- what is kept first, by any other name
+told-ways : (ends : List KeptEnds) (first : KeptEnds) (n : ℕ) → 0 < length ends → first ≡ slice_index_or ends 0 first → length first.ways.items ≡ n + 1 → (other : KeptEnds) → length (slice_index_or ends 0 other).ways.items ≡ n + 1
+told-ways ends first n some is many other = subst (λ (k : KeptEnds). length k.ways.items ≡ n + 1) (is ∙ get_or_default ends 0 first other some) many
 
 pub ends_of-ends-requires-clause-kept : goal.ends_of-ends-requires-clause-kept
 ends_of-ends-requires-clause-kept c =
     let g = c.args.guide.now in
-    let many = c.has_ways.ensures c.if-not-has_ways.false in
+    let many = c.has_ways.ensures.0 c.if-not-has_ways.false in
     let list = ap length c.list-list.ensures.value in
     let some : 0 < length c.args.self.now.ends.items = (let some = some_from_test _ _ c.if-is_empty.false c.is_empty.ensures in omega (arith, some)) in
     let is = subst (AreEnds g.model.now g.d g.v (route c.args.routes.now.lists g.v)) (sym c.index-kept.ensures) (c.requires.kept.ends.first c.index-kept.result.now some) in
@@ -62,4 +70,34 @@ returns-then-not-has_soft c =
     let last = end-in m g.d g.v (runs_of g) list L by ends.start ends.last told.start in
     let timed = ends-timed m g.d g.v list c.requires.rule c.requires.feasible ends.start ends.last told.last told.start (kept.soft (sym c.has_soft.ensures ∙ c.if-not-has_soft.true)) start last
     (to_z w64 (of_z w64 ends.start)) (to_z w64 (of_z w64 ends.last)) (read-cumul ends.start start) (read-cumul ends.last last) in
-    record { timing = timed.is_timing; range = timed.range }
+    let many = c.has_ways.ensures.0 c.if-not-has_ways.false in
+    let length_is = ap length c.list-list.ensures.value in
+    let ways : length c.index-kept.result.now.ways.items ≡ length (route c.args.routes.now.lists g.v) + 1 = omega (arith, many, length_is) in
+    record {
+      known = (λ _. record { room = some; ways = told-ways c.args.self.now.ends.items c.index-kept.result.now (length (route c.args.routes.now.lists g.v)) some c.index-kept.ensures ways }, λ _. refl);
+      timing = timed.is_timing;
+      range = timed.range;
+    }
+
+pub returns-clause-known : goal.returns-clause-known
+returns-clause-known c =
+    let g = c.args.guide.now in
+    let list : List ℕ = joined c.args.routes.now.lists c.args.pieces.now in
+    let some : 0 < length c.args.self.now.ends.items = (let some = some_from_test _ _ c.if-is_empty.false c.is_empty.ensures in omega (arith, some)) in
+    let many = c.has_ways.ensures.0 c.if-not-has_ways.false in
+    let length_is = ap length c.list-list.ensures.value in
+    let ways : length c.index-kept.result.now.ways.items ≡ length (route c.args.routes.now.lists g.v) + 1 = omega (arith, many, length_is) in
+    (λ _. record { room = some; ways = told-ways c.args.self.now.ends.items c.index-kept.result.now (length (route c.args.routes.now.lists g.v)) some c.index-kept.ensures ways },
+    λ _. c.timing_between.ensures.known ∙ chosen-feasible g.model.now g.d g.v list c.requires.feasible)
+
+pub returns-then-is_empty-clause-known : goal.returns-then-is_empty-clause-known
+returns-then-is_empty-clause-known c =
+    let none = none_from_test _ _ c.if-is_empty.true c.is_empty.ensures in
+    (λ e. absurd (false≢true e), λ told. (let some = told.room in absurd (omega (arith, none, some))))
+
+pub returns-then-not-has_ways-clause-known : goal.returns-then-not-has_ways-clause-known
+returns-then-not-has_ways-clause-known c =
+    let length_is = ap length c.list-list.ensures.value in
+    (λ e. absurd (false≢true e), λ told. (let many : length c.index-kept.result.now.ways.items ≡ length (route c.args.routes.now.lists c.args.guide.now.v) + 1 =
+    subst (λ (k : KeptEnds). length k.ways.items ≡ length (route c.args.routes.now.lists c.args.guide.now.v) + 1) (sym c.index-kept.ensures) (told.ways c.index-kept.result.now) in
+    absurd (false≢true (sym c.if-not-has_ways.true ∙ c.has_ways.ensures.1 (omega (arith, many, length_is))))))

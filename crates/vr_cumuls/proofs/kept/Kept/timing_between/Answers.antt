@@ -21,6 +21,6 @@ timing_from-requires-clause-allows c =
 
 pub timing_from-requires-clause-many : goal.timing_from-requires-clause-many
 timing_from-requires-clause-many c =
-    let many = c.are_of.ensures c.if-are_of.true in
+    let many = c.are_of.ensures.0 c.if-are_of.true in
     let list = ap length c.list-list.ensures.value in
     omega (arith, many, list)

@@ -1,7 +1,8 @@
 use Rattle.std.proofs.Common.{◌≡◌, ◌≤◌, ◌<◌, ◌+◌, ℕ, List, length, subst, sym, arith}
-use Rattle.std.specs.Prelude.{IsTrue, ℤ}
+use Rattle.std.specs.Prelude.{IfSome, IsTrue, is_some, ℤ}
 use Rattle.std.specs.List.{list_all}
 use Rattle.vr_model.specs.routes.Routes.{route}
+use Rattle.vr_model.specs.schedules.Choices.{is_feasible}
 use Rattle.vr_model.specs.schedules.Narrowed.{chosen_line}
 use Rattle.vr_model.specs.tables.Tables.{is_visit}
 use Rattle.vr_routes.specs.Pieces.{joined}
@@ -53,13 +54,24 @@ pub after-requires-clause-visits : goal.after-requires-clause-visits
 after-requires-clause-visits c =
     subst (λ model. IsTrue (list_all (is_visit model) (joined c.args.routes.now.lists c.args.pieces.now))) (sym c.between-kept.ensures.model) c.requires.visits
 
+pub returns-clause-known : goal.returns-clause-known
+returns-clause-known c =
+    let g = c.args.guide.now in
+    let list : List ℕ = joined c.args.routes.now.lists c.args.pieces.now in
+    let guide = c.between-kept.result in
+    let some = is_some c.after.result in
+    let e = c.between-kept.ensures in
+    let a = subst (λ model. some ≡ is_feasible (chosen_line model guide.d guide.v list)) e.model c.after.ensures.known in
+    let b = subst (λ d. some ≡ is_feasible (chosen_line g.model.now d guide.v list)) e.dimension a in
+    subst (λ v. some ≡ is_feasible (chosen_line g.model.now g.d v list)) e.vehicle b
+
 pub returns-clause-timing : goal.returns-clause-timing
 returns-clause-timing c =
     let g = c.args.guide.now in
     let list : List ℕ = joined c.args.routes.now.lists c.args.pieces.now in
     let guide = c.between-kept.result in
-    let timing = c.in_ok-timing.timing in
+    let timing = c.after.result in
     let e = c.between-kept.ensures in
-    let a = subst (λ model. IsTiming model guide.d guide.v list timing) e.model c.in_ok-timing.ensures.timing in
-    let b = subst (λ d. IsTiming g.model.now d guide.v list timing) e.dimension a in
-    subst (λ v. IsTiming g.model.now g.d v list timing) e.vehicle b
+    let a = subst (λ model. IfSome timing (IsTiming model guide.d guide.v list)) e.model c.after.ensures.timing in
+    let b = subst (λ d. IfSome timing (IsTiming g.model.now d guide.v list)) e.dimension a in
+    subst (λ v. IfSome timing (IsTiming g.model.now g.d v list)) e.vehicle b

@@ -23,7 +23,7 @@ returns-clause-stages c =
     let e = c.between.ensures in
     let list = c.args.list.now in
     let kept = c.write.new.self in
-    let a = subst (λ model. HasStages model k.d k.v (runs_of k) list kept) e.model c.write.ensures in
+    let a = subst (λ model. HasStages model k.d k.v (runs_of k) list kept) e.model c.write.ensures.stages in
     let b = subst (λ d. HasStages m d k.v (runs_of k) list kept) e.dimension a in
     let x = subst (λ v. HasStages m g.d v (runs_of k) list kept) e.vehicle b in
     subst (λ (r : Runs). HasStages m g.d g.v r list kept) e.runs x

@@ -2,9 +2,10 @@ use Rattle.std.proofs.Common.{◌∙◌, ◌+◌, ℕ, List, length-append, ap, 
 use Rattle.std.specs.Prelude.{IsTrue}
 use Rattle.vr_model.proofs.routes.Lists.{are-lists, are_lists-count, route-visits}
 use Rattle.std.specs.List.{list_all}
-use Rattle.vr_model.specs.tables.Tables.{is_visit}
+use Rattle.vr_model.specs.tables.Tables.{is_visit, no_vehicle, vehicle_at}
+use Rattle.vr_model.specs.declared.records.Vehicle.{Vehicle}
 use Rattle.vr_model.specs.routes.Routes.{route}
-use Rattle.vr_cumuls.specs.Kept.{IsKept}
+use Rattle.vr_cumuls.specs.Kept.{HasRoom, IsKept}
 use Rattle.vr_cumuls.specs.declared.kept.Kept.{Kept}
 use Rattle.vr_parts.proofs.RowLemmas.{each-push}
 use Rattle.vr_cumuls.proofs.kept.KeptCumuls.open.Goals as goal
@@ -33,9 +34,13 @@ loop-v-preserved c =
     let m = c.args.model.now in
     let lists : List (List ℕ) = c.args.routes.now.lists in
     let P = λ (v : ℕ) (kept : Kept). IsKept m c.args.d v (route lists v) kept in
+    let R = λ (v : ℕ) (kept : Kept). HasRoom (vehicle_at m v).schedule kept in
     let new = c.write_list.new.kept in
-    let is = subst (λ l. IsKept m c.args.d c.loop-v.v l new) c.list.ensures.value c.write_list.ensures in
+    let is = subst (λ l. IsKept m c.args.d c.loop-v.v l new) c.list.ensures.value c.write_list.ensures.kept in
+    let room : HasRoom (vehicle_at m c.loop-v.v).schedule new =
+    c.write_list.ensures.room ∙ subst (λ (w : Vehicle). HasRoom w.schedule c.in_ok-kept.kept) (sym (c.get.ensures.value no_vehicle)) c.in_ok-kept.ensures.room in
     rw c.in_ok-push.ensures.items (record {
       many = length-append c.loop-v.lists.items _ ∙ ap (λ n. n + 1) i.many;
       each = λ v other low. each-push P c.loop-v.lists.items new i.each (subst (λ n. P n new) (sym i.many) is) v other low;
+      room = λ v other low. each-push R c.loop-v.lists.items new i.room (subst (λ n. R n new) (sym i.many) room) v other low;
     })

@@ -1,4 +1,4 @@
-use Rattle.std.proofs.Common.{sym, subst, arith}
+use Rattle.std.proofs.Common.{◌∙◌, ◌<◌, length, sym, subst, arith}
 use Rattle.vr_cumuls.specs.Kept.{AreKept}
 use Rattle.vr_cumuls.proofs.KeptLemmas.{kept-set}
 use Rattle.vr_cumuls.proofs.kept.KeptCumuls.write.Goals as goal
@@ -9,4 +9,7 @@ returns-then-v-len-clause-kept c lists h known =
     let old = subst (AreKept m c.args.d lists) (sym c.self.view_is) h in
     let len = c.len.ensures in
     let low = c.if-v-len.true in
-    kept-set m c.args.d lists c.self.inside.lists.items c.args.v c.args.list.now c.write_list.new.kept old known (omega (arith, len, low)) c.write_list.ensures
+    let under : c.args.v < length c.self.inside.lists.items = omega (arith, len, low) in
+    let k = c.self.inside.lists.items in
+    kept-set m c.args.d lists k c.args.v c.args.list.now c.write_list.new.kept old known under c.write_list.ensures.kept
+    (c.write_list.ensures.room ∙ old.room c.args.v _ under)

@@ -1,17 +1,20 @@
 use Rattle.std.proofs.Common.{◌∙◌, ◌++◌, List, [], ℕ, drop, length, length-append, take, ap, sym, subst, arith, to_z, of_z, w64}
-use Rattle.std.specs.Prelude.{All, IsTrue, ℤ}
+use Rattle.std.specs.Prelude.{All, IsTrue, is_some, ℤ}
 use Rattle.std.proofs.lemmas.List.{length-take-le}
 use Rattle.vr_model.specs.tables.Tables.{is_visit}
 use Rattle.vr_model.specs.routes.Routes.{route}
 use Rattle.vr_routes.specs.Pieces.{joined}
 use Rattle.vr_routes.proofs.JoinedPieces.{all_left, all_right}
-use Rattle.vr_cumuls.specs.Floors.{WentBack}
+use Rattle.vr_cumuls.specs.Floors.{first_step, WentBack}
 use Rattle.vr_cumuls.specs.Guides.{runs_of}
 use Rattle.vr_cumuls.specs.Runs.{start_run}
 use Rattle.vr_cumuls.specs.Steps.{steps_of, HasLed}
+use Rattle.vr_cumuls.specs.Stages.{whole}
+use Rattle.vr_cumuls.specs.declared.trails.Step.{Step}
 use Rattle.vr_cumuls.proofs.FloorLemmas.{back-many}
 use Rattle.vr_cumuls.proofs.KeptLemmas.{all-visits, items-many}
-use Rattle.vr_cumuls.proofs.AfterLemmas.{after-high, after-low, after-timed, read-more, trail-known}
+use Rattle.vr_cumuls.proofs.AfterLemmas.{after-feasible, after-high, after-low, after-timed, front-unmet, middle-unmet, out-unmet, read-more, rest-unmet, trail-known}
+use Rattle.vr_cumuls.proofs.StuckLemmas.{whole-none}
 use Rattle.vr_cumuls.proofs.TimingLemmas.{IsTimed}
 use Rattle.vr_cumuls.proofs.steps.KeptSteps.after.Goals as goal
 
@@ -56,7 +59,7 @@ set_out-requires-clause-place c =
     let order = c.strip-ends.ensures.order in
     let high = c.strip-ends.ensures.high in
     let same = ap length c.list-list.ensures.value in
-    let led = c.in_ok-lead.ensures.place in
+    let led = c.in_ok-lead.ensures.led.place in
     let long = length-take-le c.strip-ends.result.front list (omega (arith, order, high, same)) in
     omega (arith, order, high, same, led, long)
 
@@ -67,7 +70,7 @@ along_trail-requires-clause-steps c =
     let between = c.back_along_pieces.new.trail.steps.items in
     let middle : List ℕ = joined c.args.routes.now.lists ends.middle.now in
     let back = subst (λ l. WentBack g.model.now g.d g.v (runs_of g) middle c.step_behind-next.result l between c.in_ok-first.first) c.clear.ensures c.in_ok-first.ensures.back in
-    trail-known g.model.now g.d g.v (runs_of g) (steps_of c.args.self.now) (take ends.front c.list-list.result.now) middle c.step_behind-next.result c.in_ok-first.first between c.lead.new.trail.steps.items c.in_ok-lead.lead back c.in_ok-lead.ensures
+    trail-known g.model.now g.d g.v (runs_of g) (steps_of c.args.self.now) (take ends.front c.list-list.result.now) middle c.step_behind-next.result c.in_ok-first.first between c.lead.new.trail.steps.items c.in_ok-lead.lead back c.in_ok-lead.ensures.led
 
 pub overflow_add-result : goal.overflow_add-result
 overflow_add-result c =
@@ -77,21 +80,25 @@ overflow_add-result c =
     let list : List ℕ = route lists g.v in
     let new : List ℕ = joined lists c.args.pieces.now in
     let ends = c.strip-ends.result in
-    let between = c.back_along_pieces.new.trail.steps.items in
-    let trail = c.lead.new.trail.steps.items in
-    let next = c.step_behind-next.result in
-    let first = c.in_ok-first.first in
-    let lead = c.in_ok-lead.lead in
-    let met = c.in_ok-met.met in
-    let end = c.in_ok-end.end in
+    let start = start_run (runs_of g) c.args.start in
     let middle : List ℕ = joined lists ends.middle.now in
+    let next = c.step_behind-next.result in
+    let between = c.back_along_pieces.new.trail.steps.items in
+    let first = c.in_ok-first.first in
     let back = subst (λ l. WentBack g.model.now g.d g.v (runs_of g) middle next l between first) c.clear.ensures c.in_ok-first.ensures.back in
-    let led = subst (λ (l : List ℕ). HasLed g.model.now g.d g.v (runs_of g) (steps_of c.args.self.now) (take ends.front l) first between trail lead) c.list-list.ensures.value c.in_ok-lead.ensures in
-    let low = after-low g.model.now g.d g.v (runs_of g) list (steps_of c.args.self.now) c.requires.stages.steps_are new ends.front ends.behind middle c.strip-ends.ensures.joins next first between trail c.step_behind-next.ensures.value back
-    lead led (start_run (runs_of g) c.args.start) met c.in_ok-met.ensures c.in_ok-gone.gone end c.in_ok-gone.ensures.value c.in_ok-end.ensures c.chosen_is_least.ensures h.well_formed h.dimension c.requires.allows in
-    let high = after-high g.model.now g.d g.v (runs_of g) list (steps_of c.args.self.now) c.requires.stages.steps_are new ends.front ends.behind middle c.strip-ends.ensures.joins next first between trail c.step_behind-next.ensures.value back
-    lead led (start_run (runs_of g) c.args.start) met c.in_ok-met.ensures c.in_ok-gone.gone end c.in_ok-gone.ensures.value c.in_ok-end.ensures c.chosen_is_least.ensures h.well_formed h.dimension c.requires.allows in
-    (read-more end.soft met.more (length new) c.requires.few low high c.in_ok-met.ensures.paced.more).fits
+    let trail = c.lead.new.trail.steps.items in
+    let lead = c.in_ok-lead.lead in
+    let led = subst (λ (l : List ℕ). HasLed g.model.now g.d g.v (runs_of g) (steps_of c.args.self.now) (take ends.front l) first between trail lead) c.list-list.ensures.value c.in_ok-lead.ensures.led in
+    let met = c.in_ok-met.met in
+    let set = c.in_ok-met.ensures.met in
+    let end = c.in_ok-end.end in
+    let gone_is = sym c.in_ok-gone.ensures.value in
+    let end_is = sym c.in_ok-end.ensures in
+    let low = after-low g.model.now g.d g.v (runs_of g) list (steps_of c.args.self.now) c.requires.stages.steps_are new ends.front ends.behind middle c.strip-ends.ensures.joins next c.step_behind-next.ensures.value start
+    first between trail back lead led met set c.in_ok-gone.gone end gone_is end_is c.chosen_is_least.ensures h.well_formed h.dimension c.requires.allows in
+    let high = after-high g.model.now g.d g.v (runs_of g) list (steps_of c.args.self.now) c.requires.stages.steps_are new ends.front ends.behind middle c.strip-ends.ensures.joins next c.step_behind-next.ensures.value start
+    first between trail back lead led met set c.in_ok-gone.gone end gone_is end_is c.chosen_is_least.ensures h.well_formed h.dimension c.requires.allows in
+    (read-more end.soft met.more (length new) c.requires.few low high set.paced.more).fits
 
 pub returns : goal.returns
 returns c =
@@ -101,22 +108,132 @@ returns c =
     let list : List ℕ = route lists g.v in
     let new : List ℕ = joined lists c.args.pieces.now in
     let ends = c.strip-ends.result in
-    let between = c.back_along_pieces.new.trail.steps.items in
-    let trail = c.lead.new.trail.steps.items in
-    let next = c.step_behind-next.result in
-    let first = c.in_ok-first.first in
-    let lead = c.in_ok-lead.lead in
-    let met = c.in_ok-met.met in
-    let end = c.in_ok-end.end in
+    let start = start_run (runs_of g) c.args.start in
     let middle : List ℕ = joined lists ends.middle.now in
+    let next = c.step_behind-next.result in
+    let between = c.back_along_pieces.new.trail.steps.items in
+    let first = c.in_ok-first.first in
     let back = subst (λ l. WentBack g.model.now g.d g.v (runs_of g) middle next l between first) c.clear.ensures c.in_ok-first.ensures.back in
-    let led = subst (λ (l : List ℕ). HasLed g.model.now g.d g.v (runs_of g) (steps_of c.args.self.now) (take ends.front l) first between trail lead) c.list-list.ensures.value c.in_ok-lead.ensures in
-    let low = after-low g.model.now g.d g.v (runs_of g) list (steps_of c.args.self.now) c.requires.stages.steps_are new ends.front ends.behind middle c.strip-ends.ensures.joins next first between trail c.step_behind-next.ensures.value back
-    lead led (start_run (runs_of g) c.args.start) met c.in_ok-met.ensures c.in_ok-gone.gone end c.in_ok-gone.ensures.value c.in_ok-end.ensures c.chosen_is_least.ensures h.well_formed h.dimension c.requires.allows in
-    let high = after-high g.model.now g.d g.v (runs_of g) list (steps_of c.args.self.now) c.requires.stages.steps_are new ends.front ends.behind middle c.strip-ends.ensures.joins next first between trail c.step_behind-next.ensures.value back
-    lead led (start_run (runs_of g) c.args.start) met c.in_ok-met.ensures c.in_ok-gone.gone end c.in_ok-gone.ensures.value c.in_ok-end.ensures c.chosen_is_least.ensures h.well_formed h.dimension c.requires.allows in
-    let timed = after-timed g.model.now g.d g.v (runs_of g) list (steps_of c.args.self.now) c.requires.stages.steps_are new ends.front ends.behind middle c.strip-ends.ensures.joins next first between trail c.step_behind-next.ensures.value back
-    lead led (start_run (runs_of g) c.args.start) met c.in_ok-met.ensures c.in_ok-gone.gone end c.in_ok-gone.ensures.value c.in_ok-end.ensures c.chosen_is_least.ensures h.well_formed h.dimension c.requires.allows c.requires.few in
-    let soft = (read-more end.soft met.more (length new) c.requires.few low high c.in_ok-met.ensures.paced.more).read in
+    let trail = c.lead.new.trail.steps.items in
+    let lead = c.in_ok-lead.lead in
+    let led = subst (λ (l : List ℕ). HasLed g.model.now g.d g.v (runs_of g) (steps_of c.args.self.now) (take ends.front l) first between trail lead) c.list-list.ensures.value c.in_ok-lead.ensures.led in
+    let met = c.in_ok-met.met in
+    let set = c.in_ok-met.ensures.met in
+    let end = c.in_ok-end.end in
+    let gone_is = sym c.in_ok-gone.ensures.value in
+    let end_is = sym c.in_ok-end.ensures in
+    let low = after-low g.model.now g.d g.v (runs_of g) list (steps_of c.args.self.now) c.requires.stages.steps_are new ends.front ends.behind middle c.strip-ends.ensures.joins next c.step_behind-next.ensures.value start
+    first between trail back lead led met set c.in_ok-gone.gone end gone_is end_is c.chosen_is_least.ensures h.well_formed h.dimension c.requires.allows in
+    let high = after-high g.model.now g.d g.v (runs_of g) list (steps_of c.args.self.now) c.requires.stages.steps_are new ends.front ends.behind middle c.strip-ends.ensures.joins next c.step_behind-next.ensures.value start
+    first between trail back lead led met set c.in_ok-gone.gone end gone_is end_is c.chosen_is_least.ensures h.well_formed h.dimension c.requires.allows in
+    let timed = after-timed g.model.now g.d g.v (runs_of g) list (steps_of c.args.self.now) c.requires.stages.steps_are new ends.front ends.behind middle c.strip-ends.ensures.joins next c.step_behind-next.ensures.value start
+    first between trail back lead led met set c.in_ok-gone.gone end gone_is end_is c.chosen_is_least.ensures h.well_formed h.dimension c.requires.allows c.requires.few in
+    let soft = (read-more end.soft met.more (length new) c.requires.few low high set.paced.more).read in
     let all = subst (λ (x : ℤ). IsTimed g.model.now g.d g.v new (record { soft = x; start = to_z w64 (of_z w64 met.start); last = to_z w64 (of_z w64 end.cumul) })) (sym soft) timed in
-    record { timing = all.is_timing; range = all.range }
+    record {
+      known = sym (after-feasible g.model.now g.d g.v (runs_of g) list (steps_of c.args.self.now) c.requires.stages.steps_are new ends.front ends.behind middle c.strip-ends.ensures.joins next c.step_behind-next.ensures.value start
+          first between trail back lead led met set c.in_ok-gone.gone end gone_is end_is c.chosen_is_least.ensures h.well_formed h.dimension c.requires.allows);
+      timing = all.is_timing;
+      range = all.range;
+    }
+
+-- ---- where there is none
+
+pub returns-in_err-first-clause-known : goal.returns-in_err-first-clause-known
+returns-in_err-first-clause-known c =
+    let g = c.args.guide.now in
+    let h = c.requires.guide in
+    let lists : List (List ℕ) = c.args.routes.now.lists in
+    let list : List ℕ = route lists g.v in
+    let new : List ℕ = joined lists c.args.pieces.now in
+    let ends = c.strip-ends.result in
+    let start = start_run (runs_of g) c.args.start in
+    let middle : List ℕ = joined lists ends.middle.now in
+    let next = c.step_behind-next.result in
+    ap is_some c.from_residual.ensures ∙ sym (middle-unmet g.model.now g.d g.v (runs_of g) list (steps_of c.args.self.now) c.requires.stages.steps_are new ends.front ends.behind middle c.strip-ends.ensures.joins next c.step_behind-next.ensures.value start
+    c.requires.allows (sym c.in_err-first.ensures.value))
+
+pub returns-in_err-lead-clause-known : goal.returns-in_err-lead-clause-known
+returns-in_err-lead-clause-known c =
+    let g = c.args.guide.now in
+    let h = c.requires.guide in
+    let lists : List (List ℕ) = c.args.routes.now.lists in
+    let list : List ℕ = route lists g.v in
+    let new : List ℕ = joined lists c.args.pieces.now in
+    let ends = c.strip-ends.result in
+    let start = start_run (runs_of g) c.args.start in
+    let middle : List ℕ = joined lists ends.middle.now in
+    let next = c.step_behind-next.result in
+    let between = c.back_along_pieces.new.trail.steps.items in
+    let first = c.in_ok-first.first in
+    let back = subst (λ l. WentBack g.model.now g.d g.v (runs_of g) middle next l between first) c.clear.ensures c.in_ok-first.ensures.back in
+    ap is_some c.from_residual-in_err-lead.ensures ∙ sym (front-unmet g.model.now g.d g.v (runs_of g) list (steps_of c.args.self.now) c.requires.stages.steps_are new ends.front ends.behind middle c.strip-ends.ensures.joins next c.step_behind-next.ensures.value start
+    c.requires.allows first between back (ap (λ l. first_step g.model.now g.d g.v (runs_of g) (take ends.front l) first) (sym c.list-list.ensures.value) ∙ sym c.in_err-lead.ensures.first))
+
+pub returns-in_err-met-clause-known : goal.returns-in_err-met-clause-known
+returns-in_err-met-clause-known c =
+    let g = c.args.guide.now in
+    let h = c.requires.guide in
+    let lists : List (List ℕ) = c.args.routes.now.lists in
+    let list : List ℕ = route lists g.v in
+    let new : List ℕ = joined lists c.args.pieces.now in
+    let ends = c.strip-ends.result in
+    let start = start_run (runs_of g) c.args.start in
+    let middle : List ℕ = joined lists ends.middle.now in
+    let next = c.step_behind-next.result in
+    let between = c.back_along_pieces.new.trail.steps.items in
+    let first = c.in_ok-first.first in
+    let back = subst (λ l. WentBack g.model.now g.d g.v (runs_of g) middle next l between first) c.clear.ensures c.in_ok-first.ensures.back in
+    let trail = c.lead.new.trail.steps.items in
+    let lead = c.in_ok-lead.lead in
+    let led = subst (λ (l : List ℕ). HasLed g.model.now g.d g.v (runs_of g) (steps_of c.args.self.now) (take ends.front l) first between trail lead) c.list-list.ensures.value c.in_ok-lead.ensures.led in
+    ap is_some c.from_residual-in_err-met.ensures ∙ sym (out-unmet g.model.now g.d g.v (runs_of g) list (steps_of c.args.self.now) c.requires.stages.steps_are new ends.front ends.behind middle c.strip-ends.ensures.joins next c.step_behind-next.ensures.value start
+    first between trail back lead led c.requires.allows (sym c.in_err-met.ensures.value))
+
+pub returns-in_err-gone-clause-known : goal.returns-in_err-gone-clause-known
+returns-in_err-gone-clause-known c =
+    let g = c.args.guide.now in
+    let h = c.requires.guide in
+    let lists : List (List ℕ) = c.args.routes.now.lists in
+    let list : List ℕ = route lists g.v in
+    let new : List ℕ = joined lists c.args.pieces.now in
+    let ends = c.strip-ends.result in
+    let start = start_run (runs_of g) c.args.start in
+    let middle : List ℕ = joined lists ends.middle.now in
+    let next = c.step_behind-next.result in
+    let between = c.back_along_pieces.new.trail.steps.items in
+    let first = c.in_ok-first.first in
+    let back = subst (λ l. WentBack g.model.now g.d g.v (runs_of g) middle next l between first) c.clear.ensures c.in_ok-first.ensures.back in
+    let trail = c.lead.new.trail.steps.items in
+    let lead = c.in_ok-lead.lead in
+    let led = subst (λ (l : List ℕ). HasLed g.model.now g.d g.v (runs_of g) (steps_of c.args.self.now) (take ends.front l) first between trail lead) c.list-list.ensures.value c.in_ok-lead.ensures.led in
+    let met = c.in_ok-met.met in
+    let set = c.in_ok-met.ensures.met in
+    let left : List Step = drop ends.behind (steps_of c.args.self.now) in
+    ap is_some c.from_residual-in_err-gone.ensures ∙ sym (rest-unmet g.model.now g.d g.v (runs_of g) list (steps_of c.args.self.now) c.requires.stages.steps_are new ends.front ends.behind middle c.strip-ends.ensures.joins next c.step_behind-next.ensures.value start
+    first between trail back lead led met set c.requires.allows
+    (ap (λ o. whole g.model.now g.d g.v (runs_of g) o left) (sym c.in_err-gone.ensures.value) ∙ whole-none g.model.now g.d g.v (runs_of g) left))
+
+pub returns-in_err-end-clause-known : goal.returns-in_err-end-clause-known
+returns-in_err-end-clause-known c =
+    let g = c.args.guide.now in
+    let h = c.requires.guide in
+    let lists : List (List ℕ) = c.args.routes.now.lists in
+    let list : List ℕ = route lists g.v in
+    let new : List ℕ = joined lists c.args.pieces.now in
+    let ends = c.strip-ends.result in
+    let start = start_run (runs_of g) c.args.start in
+    let middle : List ℕ = joined lists ends.middle.now in
+    let next = c.step_behind-next.result in
+    let between = c.back_along_pieces.new.trail.steps.items in
+    let first = c.in_ok-first.first in
+    let back = subst (λ l. WentBack g.model.now g.d g.v (runs_of g) middle next l between first) c.clear.ensures c.in_ok-first.ensures.back in
+    let trail = c.lead.new.trail.steps.items in
+    let lead = c.in_ok-lead.lead in
+    let led = subst (λ (l : List ℕ). HasLed g.model.now g.d g.v (runs_of g) (steps_of c.args.self.now) (take ends.front l) first between trail lead) c.list-list.ensures.value c.in_ok-lead.ensures.led in
+    let met = c.in_ok-met.met in
+    let set = c.in_ok-met.ensures.met in
+    let left : List Step = drop ends.behind (steps_of c.args.self.now) in
+    ap is_some c.from_residual-in_err-end.ensures ∙ sym (rest-unmet g.model.now g.d g.v (runs_of g) list (steps_of c.args.self.now) c.requires.stages.steps_are new ends.front ends.behind middle c.strip-ends.ensures.joins next c.step_behind-next.ensures.value start
+    first between trail back lead led met set c.requires.allows
+    (ap (λ o. whole g.model.now g.d g.v (runs_of g) o left) (sym c.in_ok-gone.ensures.value) ∙ sym c.in_err-end.ensures))

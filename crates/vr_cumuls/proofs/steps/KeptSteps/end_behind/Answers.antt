@@ -10,9 +10,10 @@ use Rattle.vr_cumuls.specs.declared.guides.Guide.{Guide}
 use Rattle.vr_cumuls.specs.declared.guides.Stage.{Stage}
 use Rattle.vr_cumuls.specs.declared.steps.KeptSteps.{KeptSteps}
 use Rattle.vr_cumuls.specs.declared.trails.Step.{Step}
-use Rattle.vr_cumuls.proofs.FloorLemmas.{many-steps, some-map, step-read}
+use Rattle.vr_cumuls.proofs.FloorLemmas.{many-steps, step-read}
 use Rattle.vr_cumuls.proofs.KeptLemmas.{end-small, items-many, kept-rest, kept-small}
 use Rattle.vr_cumuls.proofs.StageLemmas.{resumed, stage-more, whole-next}
+use Rattle.vr_cumuls.proofs.StuckLemmas.{whole-stuck}
 use Rattle.vr_cumuls.proofs.steps.KeptSteps.end_behind.Goals as goal
 
 abbrev no_stage : Stage
@@ -118,16 +119,28 @@ returns-then-gone-kept c =
     let mine = (c.in-Some.ensures.range (2002 + k) c.loop-k.invariant.range).cumul in
     let yours = (kept-small g.model.now g.d g.v (runs_of g) list (steps_of c.args.self.now) stages c.deref-in-loop-k.result.now told c.deref-in-loop-k.ensures.0 c.requires.few (k + 1) no_stage (omega (arith, low))).cumul in
     let same : next.cumul ≡ read.cumul = omega (arith, ints, test, mine.at_least, mine.at_most, yours.at_least, yours.at_most) in
-    sym (gone-next g c.args.self.now list c.deref.result.now k told c.deref.ensures.0 low c.loop-k.gone next c.in-Some.ensures.value ∙ c.loop-k.invariant.value)
+    sym (sym (gone-next g c.args.self.now list c.deref.result.now k told c.deref.ensures.0 low c.loop-k.gone next (sym c.in-Some.ensures.value) ∙ c.loop-k.invariant.value)
     ∙ resumed g.model.now g.d g.v (runs_of g) (drop (k + 1) (steps_of c.args.self.now)) old end next rest at (same ∙ ap (λ (s : Stage). s.cumul) read_old) (next.soft -ℤ old.soft) (difference next.soft old.soft)
-    ∙ ap (λ (s : Stage). Some s) (sym (c.resumed.ensures ∙ ap₂ (λ (e s : Stage). paid_more (next.soft -ℤ s.soft) e) read_end read_old))
+    ∙ ap (λ (s : Stage). Some s) (sym (c.resumed.ensures ∙ ap₂ (λ (e s : Stage). paid_more (next.soft -ℤ s.soft) e) read_end read_old)))
+
+pub returns-in-None : goal.returns-in-None
+returns-in-None c =
+    let g = c.args.guide.now in
+    let k = c.loop-k.k in
+    let low = c.loop-k-test.true in
+    let items : List Step = c.args.self.now.trail.steps.items in
+    let many = items-many g.model.now g.d g.v (runs_of g) c.args.list.now items c.requires.stages.steps_are in
+    let long = length-reverse items in
+    let there = step-read items c.deref.result.now (length c.args.list.now) k no_step no_step c.deref.ensures.0 many low in
+    let none = ap (λ (s : Step). to_visit g.model.now g.d g.v (runs_of g) s c.loop-k.gone) (sym there) ∙ sym c.in-None.ensures.value in
+    sym (sym c.loop-k.invariant.value ∙ whole-stuck g.model.now g.d g.v (runs_of g) (steps_of c.args.self.now) k no_step c.loop-k.gone (omega (arith, low, many, long)) none)
 
 pub loop-k-preserved : goal.loop-k-preserved
 loop-k-preserved c =
     let g = c.args.guide.now in
     let k = c.loop-k.k in
     record {
-      value = gone-next g c.args.self.now c.args.list.now c.deref.result.now k c.requires.stages c.deref.ensures.0 c.loop-k-test.true c.loop-k.gone c.in-Some.next c.in-Some.ensures.value ∙ c.loop-k.invariant.value;
+      value = gone-next g c.args.self.now c.args.list.now c.deref.result.now k c.requires.stages c.deref.ensures.0 c.loop-k-test.true c.loop-k.gone c.in-Some.next (sym c.in-Some.ensures.value) ∙ c.loop-k.invariant.value;
       range = stage-more g.model.now (2002 + k + 1) (2002 + (k + 1)) c.in-Some.next (omega arith) (c.in-Some.ensures.range (2002 + k) c.loop-k.invariant.range);
     }
 
@@ -140,5 +153,4 @@ returns c =
     let done = c.loop-k-test.false in
     let none : drop c.loop-k.k steps ≡ [] = drop_all c.loop-k.k steps (omega (arith, long, done)) in
     let value = sym (ap (whole g.model.now g.d g.v (runs_of g) (Some c.loop-k.gone)) none) ∙ c.loop-k.invariant.value in
-    some-map (λ (end : Stage). to_end g.model.now g.d g.v (runs_of g) c.loop-k.gone ≡ Some end) (λ (end : Stage). whole g.model.now g.d g.v (runs_of g) (Some c.args.stage) (drop c.args.behind steps) ≡ Some end) c.to_end.result
-    (λ end e. sym value ∙ e) c.to_end.ensures.value
+    c.to_end.ensures.value ∙ value

@@ -14,6 +14,7 @@ use Rattle.vr_cumuls.proofs.FloorLemmas.{step-read}
 use Rattle.vr_cumuls.proofs.KeptLemmas.{items-many, kept-out, kept-small, out-standing}
 use Rattle.vr_cumuls.proofs.MetLemmas.{paced-kept}
 use Rattle.vr_cumuls.proofs.StageLemmas.{paid-no-more, stage-more}
+use Rattle.vr_cumuls.proofs.StuckLemmas.{along-stuck}
 use Rattle.vr_cumuls.proofs.steps.KeptSteps.pace.Goals as goal
 
 abbrev no_stage : Stage
@@ -80,8 +81,8 @@ overflow_sub-result c =
     let y = yours.bound in
     omega (arith, ints, a, b, x, y, few, le, low)
 
-pub returns-then-gone-kept : goal.returns-then-gone-kept
-returns-then-gone-kept c =
+pub returns-then-gone-kept-clause-paced : goal.returns-then-gone-kept-clause-paced
+returns-then-gone-kept-clause-paced c =
     let g = c.args.guide.now in
     let k = c.loop-k.k in
     let i = c.loop-k.invariant in
@@ -135,13 +136,13 @@ loop-k-preserved c =
     let e = c.in-Some.ensures in
     record {
       value = fold_more (visit_more g.model.now g.d g.v (runs_of g)) (Some c.args.out) steps k end (omega (arith, le, low, many, long))
-          ∙ ap (λ o. visit_more g.model.now g.d g.v (runs_of g) o (slice_index_or steps k end)) i.value ∙ ap (λ (s : Step). to_visit g.model.now g.d g.v (runs_of g) s c.loop-k.gone) (sym there) ∙ e.value;
+          ∙ ap (λ o. visit_more g.model.now g.d g.v (runs_of g) o (slice_index_or steps k end)) i.value ∙ ap (λ (s : Step). to_visit g.model.now g.d g.v (runs_of g) s c.loop-k.gone) (sym there) ∙ sym e.value;
       at = λ other. e.at ∙ ap (λ (s : Step). s.node) there ∙ sym (ap (λ n. (slice_index_or c.args.self.now.stages.items n other).at) (add-one k) ∙ told.stages_are.at k other (omega (arith, le, low)));
       range = stage-more g.model.now (1 + k + 1) (1 + (k + 1)) next (omega arith) (e.range (1 + k) i.range);
     }
 
-pub returns : goal.returns
-returns c =
+pub returns-clause-paced : goal.returns-clause-paced
+returns-clause-paced c =
     let g = c.args.guide.now in
     let i = c.loop-k.invariant in
     let end = c.loop-k.auto.k-end in
@@ -155,3 +156,23 @@ returns c =
       range = stage-more g.model.now (1 + c.loop-k.k) 1002 c.loop-k.gone (omega (arith, few, le, all)) i.range;
       more = record { at_least = omega (arith, ints); at_most = omega (arith, ints) };
     }
+
+pub returns-clause-value : goal.returns-clause-value
+returns-clause-value c = sym (returns-clause-paced c).gone
+
+pub returns-then-gone-kept-clause-value : goal.returns-then-gone-kept-clause-value
+returns-then-gone-kept-clause-value c = sym (returns-then-gone-kept-clause-paced c).gone
+
+pub returns-in-None-clause-value : goal.returns-in-None-clause-value
+returns-in-None-clause-value c =
+    let g = c.args.guide.now in
+    let k = c.loop-k.k in
+    let le = c.requires.place in
+    let low = c.loop-k-test.true in
+    let items : List Step = c.args.self.now.trail.steps.items in
+    let steps : List Step = steps_of c.args.self.now in
+    let many = items-many g.model.now g.d g.v (runs_of g) c.args.list.now items c.requires.stages.steps_are in
+    let long = length-reverse items in
+    let there = step-read items c.deref-in-loop-k.result.now (length c.args.list.now) k no_step no_step c.deref-in-loop-k.ensures.0 many (omega (arith, le, low)) in
+    let none = ap (λ (s : Step). to_visit g.model.now g.d g.v (runs_of g) s c.loop-k.gone) (sym there) ∙ sym c.in-None.ensures.value in
+    sym (along-stuck g.model.now g.d g.v (runs_of g) (Some c.args.out) steps k c.args.place no_step c.loop-k.gone (omega (arith, low)) (omega (arith, le, low, many, long)) c.loop-k.invariant.value none)
