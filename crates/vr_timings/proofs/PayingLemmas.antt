@@ -14,7 +14,7 @@ use Rattle.vr_model.specs.routes.Costs.{row_cost, soft_cost}
 use Rattle.vr_model.specs.schedules.Lines.{stop_rows}
 use Rattle.vr_model.specs.deciding.Testing.{and_left, and_right}
 use Rattle.vr_model.proofs.tables.Tests.{all-from_list_all, fails_not, or-false_left, or-false_right}
-use Rattle.vr_timings.specs.Paying.{are_free, are_zero, has_soft, is_free, may_pay_alone, visits_soft, PaysNothing}
+use Rattle.vr_timings.specs.Paying.{are_free, are_zero, has_soft, is_free, is_hard, may_pay_alone, visits_soft, CostsNoSoft, PaysNothing}
 
 no_cost : (row : Option StopRow) (x : ℤ) → has_soft row ≡ false → row_cost row x ≡ pos 0
 no_cost None x h = refl
@@ -92,23 +92,42 @@ pays_nothing_where dimension v list none =
     pays_nothing dimension v list (zero_where (number_at dimension.span_costs v) (or-false_left cost start front)) (or-false_right cost start front) (or-false_right (cost || start) last ends)
     (none_at (λ node. has_soft (row_of dimension.nodes node)) list (or-false_right (cost || start || last) visits none))
 
+-- no row has a soft bound
+free_at : (rows : List StopRow) → are_free rows ≡ true → (k : ℕ) (d : StopRow) → k < length rows → is_some (get_or rows k d).soft ≡ false
+free_at rows all k d low = fails_not (is_some (get_or rows k d).soft) (all-from_list_all (λ (row : StopRow). not (is_some row.soft)) rows all k d low)
+
+-- of a dimension without soft bounds no row that is found has one
+pub record AreHard (dimension : Dimension) : Type 0 where
+  pub starts : (key : ℕ) → has_soft (row_of dimension.starts key) ≡ false
+  pub nodes : (key : ℕ) → has_soft (row_of dimension.nodes key) ≡ false
+  pub ends : (key : ℕ) → has_soft (row_of dimension.ends key) ≡ false
+
+rows_hard : (dimension : Dimension) → is_hard dimension ≡ true → AreHard dimension
+rows_hard dimension hard =
+    let starts = are_free dimension.starts in
+    let nodes = are_free dimension.nodes in
+    let last = are_free dimension.ends in
+    let front = and_left (starts && nodes) last hard in
+    record {
+      starts = row_free dimension.starts (free_at dimension.starts (and_left starts nodes front));
+      nodes = row_free dimension.nodes (free_at dimension.nodes (and_right starts nodes front));
+      ends = row_free dimension.ends (free_at dimension.ends (and_right (starts && nodes) last hard));
+    }
+
+-- so soft upper bounds cost no list anything
+pub hard_costs : (dimension : Dimension) → is_hard dimension ≡ true → CostsNoSoft dimension
+hard_costs dimension hard v list cumuls =
+    let rows = rows_hard dimension hard in
+    (pays_nothing (record dimension { span_costs = [] }) v list refl (rows.starts v) (rows.ends v) (λ k _. rows.nodes (slice_index list k))).soft cumuls
+
 -- where nothing is to pay in a dimension, no list may pay anything by itself
 pub free_pays : (dimension : Dimension) → is_free dimension ≡ true → (v : ℕ) (list : List ℕ) → may_pay_alone dimension v list ≡ false
 free_pays dimension free v list =
     let zeros = are_zero dimension.span_costs in
-    let starts = are_free dimension.starts in
-    let nodes = are_free dimension.nodes in
-    let last = are_free dimension.ends in
-    let rest = and_left (zeros && starts && nodes) last free in
-    let front = and_left (zeros && starts) nodes rest in
-    let span = (Decides-int_eq (number_at dimension.span_costs v) (pos 0)).1 (none_read dimension.span_costs (zero_at dimension.span_costs (and_left zeros starts front)) v) in
-    let start = row_free dimension.starts (free_at dimension.starts (and_right zeros starts front)) v in
-    let visits = none_of (λ node. has_soft (row_of dimension.nodes node)) (row_free dimension.nodes (free_at dimension.nodes (and_right (zeros && starts) nodes rest))) list in
-    let end = row_free dimension.ends (free_at dimension.ends (and_right (zeros && starts && nodes) last free)) v in
-    ap₂ (λ a b. a || b) (ap₂ (λ a b. a || b) (ap₂ (λ a b. not a || b) span start) end) visits
+    let rows = rows_hard dimension (and_right zeros (is_hard dimension) free) in
+    let span = (Decides-int_eq (number_at dimension.span_costs v) (pos 0)).1 (none_read dimension.span_costs (zero_at dimension.span_costs (and_left zeros (is_hard dimension) free)) v) in
+    let visits = none_of (λ node. has_soft (row_of dimension.nodes node)) rows.nodes list in
+    ap₂ (λ a b. a || b) (ap₂ (λ a b. a || b) (ap₂ (λ a b. not a || b) span (rows.starts v)) (rows.ends v)) visits
   where
     zero_at : (xs : List ℤ) → are_zero xs ≡ true → (k : ℕ) → k < length xs → number_at xs k ≡ pos 0
     zero_at xs all k low = (Decides-int_eq (number_at xs k) (pos 0)).0 (all-from_list_all (λ x. int_eq x (pos 0)) xs all k (pos 0) low)
-
-    free_at : (rows : List StopRow) → are_free rows ≡ true → (k : ℕ) (d : StopRow) → k < length rows → is_some (get_or rows k d).soft ≡ false
-    free_at rows all k d low = fails_not (is_some (get_or rows k d).soft) (all-from_list_all (λ (row : StopRow). not (is_some row.soft)) rows all k d low)

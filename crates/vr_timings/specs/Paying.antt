@@ -31,10 +31,17 @@ are_zero coefficients = list_all (λ coefficient. int_eq coefficient (pos 0)) co
 abbrev pub are_free : List StopRow → Bool
 are_free rows = list_all (λ row. not (is_some row.soft)) rows
 
+-- no stop of a dimension has a soft upper bound
+abbrev pub is_hard : Dimension → Bool
+is_hard dimension = are_free dimension.starts && are_free dimension.nodes && are_free dimension.ends
+
 -- no span has a coefficient, and no stop has a soft upper bound
 abbrev pub is_free : Dimension → Bool
-is_free dimension = are_zero dimension.span_costs
-    && are_free dimension.starts && are_free dimension.nodes && are_free dimension.ends
+is_free dimension = are_zero dimension.span_costs && is_hard dimension
+
+-- no list of any vehicle costs anything by soft upper bounds in a dimension, whatever its cumuls are
+abbrev pub CostsNoSoft : Dimension → Type 0
+CostsNoSoft dimension = (v : ℕ) (list : List ℕ) (cumuls : List ℤ) → soft_of dimension v list cumuls ≡ pos 0
 
 -- no schedule of the list costs anything by itself in this dimension
 pub record PaysNothing (dimension : Dimension) (v : ℕ) (list : List ℕ) : Type 0 where

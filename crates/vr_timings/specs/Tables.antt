@@ -4,7 +4,7 @@ use Rattle.vr_model.specs.tables.Tables.{dimension_at}
 use Rattle.vr_model.specs.declared.records.Model.{Model}
 use Rattle.vr_model.specs.declared.records.StopRow.{StopRow}
 use Rattle.vr_walks.specs.Stops.{AreStops}
-use Rattle.vr_timings.specs.Paying.{is_free, PaysNothing}
+use Rattle.vr_timings.specs.Paying.{is_free, is_hard, CostsNoSoft, PaysNothing}
 use Rattle.vr_lists.specs.Places.{ArePlaces}
 use Rattle.vr_timings.specs.declared.tables.Table.{Table}
 
@@ -12,13 +12,15 @@ use Rattle.vr_timings.specs.declared.tables.Table.{Table}
 abbrev pub keys_of : List StopRow → List ℕ
 keys_of rows = map (λ row. row.key) rows
 
--- what the stops of dimension d ask, for each node the place of its row, and whether nothing is to pay in it, where no
--- list pays anything
+-- what the stops of dimension d ask, for each node the place of its row, whether nothing is to pay in it, where no list
+-- pays anything, and whether no stop has a soft upper bound, where soft upper bounds cost no list anything
 pub record IsTable (model : Model) (d : ℕ) (table : Table) : Type 0 where
   pub stops_ask : AreStops model d table.stops
   pub places : ArePlaces model.nodes (keys_of (dimension_at model d).nodes) table.rows.items
   pub is_free : table.is_free ≡ is_free (dimension_at model d)
+  pub is_hard : table.is_hard ≡ is_hard (dimension_at model d)
   pub free : IsTrue table.is_free → (v : ℕ) (list : List ℕ) → PaysNothing (dimension_at model d) v list
+  pub hard : IsTrue table.is_hard → CostsNoSoft (dimension_at model d)
 
 -- the same of each dimension
 pub record AreTables (model : Model) (tables : List Table) : Type 0 where

@@ -5,7 +5,7 @@ ghost use Rattle.std.specs.List.{list_all};
 ghost use Rattle.std.specs.Option.{option_copied};
 ghost use Rattle.vr_model.specs.tables.Tables.{dimension_at, is_visit};
 ghost use Rattle.vr_model.specs.tables.WellFormed.{IsWellFormed};
-ghost use Rattle.vr_timings.specs.Paying.{are_free, are_zero, has_soft, is_free, may_pay_alone, visits_soft};
+ghost use Rattle.vr_timings.specs.Paying.{are_free, are_zero, has_soft, is_free, is_hard, may_pay_alone, visits_soft};
 ghost use Rattle.vr_lists.specs.Places.{ArePlaces};
 ghost use Rattle.vr_timings.specs.Tables.{keys_of, IsTable};
 
@@ -32,10 +32,14 @@ pub fn may_pay_alone(model: &Model, table: &Table, d: u32, v: u32, list: &[u32])
 pub(crate) fn is_free(dimension: &Dimension) -> bool
     ensures { result ≡ is_free dimension.now }
 {
-    are_zero(&dimension.span_costs)
-        && are_free(&dimension.starts)
-        && are_free(&dimension.nodes)
-        && are_free(&dimension.ends)
+    are_zero(&dimension.span_costs) && is_hard(dimension)
+}
+
+// Whether no stop of a dimension has a soft upper bound.
+pub(crate) fn is_hard(dimension: &Dimension) -> bool
+    ensures { result ≡ is_hard dimension.now }
+{
+    are_free(&dimension.starts) && are_free(&dimension.nodes) && are_free(&dimension.ends)
 }
 
 // Whether all coefficients are 0.

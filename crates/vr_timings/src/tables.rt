@@ -8,7 +8,7 @@ ghost use Rattle.vr_model.specs.tables.WellFormed.{IsStopRow, IsWellFormed, Wher
 ghost use Rattle.vr_lists.specs.Places.{ArePlaces};
 ghost use Rattle.vr_timings.specs.Tables.{keys_of as keys_of_rows, AreTables, IsTable};
 
-use crate::paying::is_free;
+use crate::paying::{is_free, is_hard};
 use std::alloc::Global;
 use vr_lists::write_places;
 use vr_model::{Model, NoMemory, Seq, StopRow};
@@ -24,6 +24,8 @@ pub struct Table {
     /// Whether no schedule of any list may cost anything by itself: no vehicle has a coefficient of spans that is not
     /// 0, and no stop a soft upper bound.
     pub is_free: bool,
+    /// Whether no stop has a soft upper bound.
+    pub is_hard: bool,
 }
 
 // The keys of rows.
@@ -71,6 +73,7 @@ fn table_of(alloc: Global, model: &Model, d: u32) -> Result<Table, NoMemory>
         stops: Stops::build(alloc, model, d)?,
         rows: row_places(alloc, model, d)?,
         is_free: is_free(model.dimensions.get(d as usize)),
+        is_hard: is_hard(model.dimensions.get(d as usize)),
     })
 }
 
