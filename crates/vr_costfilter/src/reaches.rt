@@ -10,7 +10,7 @@ ghost use Rattle.vr_routes.specs.Changes.{AreParts, IsMadeOn};
 ghost use Rattle.vr_routes.specs.Pieces.{changed, joined, part_at};
 ghost use Rattle.vr_timings.specs.Bounds.{cumul_cost, IsAround};
 ghost use Rattle.vr_timings.specs.Extents.{length_of, IsExtentInRange};
-ghost use Rattle.vr_timings.specs.Tables.{AreTables, IsTable};
+ghost use Rattle.vr_timings.specs.Tables.{AreTables, IsKnownDimension, IsTable};
 ghost use Rattle.vr_earliest.specs.Earlies.{AreEarlies};
 ghost use Rattle.vr_cumuls.specs.Kept.{AreAllKept};
 ghost use Rattle.vr_costfilter.specs.Orders.{AreInRange, AreOrders};
@@ -30,7 +30,7 @@ use vr_cumuls::{AllCumuls, Paid};
 use vr_earliest::Earlies;
 use vr_model::{Model as RoutingModel, NoMemory};
 use vr_routes::{Change, Piece, Routes};
-use vr_timings::{Extent, Table, Timer, Timing, global_cost, tables_of, timing_of};
+use vr_timings::{Extent, KnownDimension, Table, Timer, Timing, global_cost, tables_of, timing_of};
 
 /// What the schedule of one list comes to in each dimension whose global span has a coefficient, none where the list is
 /// empty.
@@ -301,48 +301,49 @@ fn row_of_part(
 {
     let mut timings: ListTimings = [None; 4];
     for d in 0..tables.len() {
-        timings[d] = kept_after(model, &tables[d], d as u32, cumuls, routes, change, k, room)?;
+        let at = KnownDimension {
+            model,
+            table: &tables[d],
+            d: d as u32,
+        };
+        timings[d] = kept_after(&at, cumuls, routes, change, k, room)?;
     }
     Ok(timings)
 }
 
 // The same in one dimension.
 fn kept_after(
-    model: &RoutingModel,
-    table: &Table,
-    d: u32,
+    at: &KnownDimension,
     cumuls: &AllCumuls,
     routes: &Routes,
     change: &Change,
     k: usize,
     room: &mut Room,
 ) -> Result<Option<Timing>, NoMemory>
-    requires well_formed { IsWellFormed model.now }
-    requires dimension { d < length model.now.dimensions }
-    requires table { IsTable model.now d table.now }
-    requires kept { AreAllKept model.now routes.now.lists cumuls.now }
-    requires before { IsTrue (is_valid model.now routes.now.lists) }
+    requires at { IsKnownDimension at.now }
+    requires kept { AreAllKept at.now.model.now routes.now.lists cumuls.now }
+    requires before { IsTrue (is_valid at.now.model.now routes.now.lists) }
     requires made { IsMadeOn routes.now change.now }
-    requires valid { IsTrue (is_valid model.now (changed routes.now.lists change.now)) }
+    requires valid { IsTrue (is_valid at.now.model.now (changed routes.now.lists change.now)) }
     requires part { k < length change.now }
-    ensures { IfOk result (IsToldIfPaid model.now d (part_at change.now k).vehicle
+    ensures { IfOk result (IsToldIfPaid at.now.model.now at.now.d (part_at change.now k).vehicle
         (joined routes.now.lists (part_at change.now k).pieces)) }
 {
-    if model.dimensions.get(d as usize).global_span_cost == 0 {
+    if at.model.dimensions.get(at.d as usize).global_span_cost == 0 {
         return Ok(None);
     }
     if Piece::nodes_in(routes, change.pieces(k)) == 0 {
         return Ok(None);
     }
-    let told = cumuls.timing_after(model, table, d, routes, change, k, &mut room.trail);
+    let told = cumuls.timing_after(at, routes, change, k, &mut room.trail);
     if let Some(timing) = told {
         return Ok(Some(timing));
     }
     routes.write_after(change, k, &mut room.row);
     let timing = kept_in(
-        model,
-        table,
-        d,
+        at.model,
+        at.table,
+        at.d,
         change.vehicle(k),
         room.row.as_slice(),
         &mut room.timer,

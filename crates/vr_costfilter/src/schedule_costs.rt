@@ -7,7 +7,7 @@ ghost use Rattle.vr_model.specs.tables.Tables.{dimension_at, is_visit};
 ghost use Rattle.vr_model.specs.tables.WellFormed.{IsWellFormed};
 ghost use Rattle.vr_model.specs.routes.Routes.{is_distinct, is_empty};
 ghost use Rattle.vr_model.specs.routes.Rules.{is_valid};
-ghost use Rattle.vr_timings.specs.Tables.{AreTables, IsTable};
+ghost use Rattle.vr_timings.specs.Tables.{AreTables, IsKnownDimension, IsTable};
 ghost use Rattle.vr_timings.specs.Timings.{soft_with, span_with, IsTimingOf};
 ghost use Rattle.vr_timings.specs.Bounds.{cumul_cost, IsAround};
 ghost use Rattle.vr_routes.specs.Changes.{AreParts, IsMadeOn};
@@ -25,7 +25,7 @@ use vr_cumuls::{AllCumuls, Paid};
 use vr_earliest::Earlies;
 use vr_model::{Model as RoutingModel, NoMemory};
 use vr_routes::{Change, Piece, Routes};
-use vr_timings::{Table, Timer, Timing, may_pay_alone, span_cost, tables_of, times, timing_of};
+use vr_timings::{KnownDimension, Table, Timer, Timing, may_pay_alone, span_cost, tables_of, times, timing_of};
 
 /// What is looked up of a model once. Contracts see the model.
 #[derive(Drop)]
@@ -204,47 +204,55 @@ fn cost_of_part(
 {
     let mut cost = 0;
     for d in 0..tables.len() {
-        cost += cost_of_plan_after(model, &tables[d], d as u32, cumuls, routes, change, k, room)?;
+        let at = KnownDimension {
+            model,
+            table: &tables[d],
+            d: d as u32,
+        };
+        cost += cost_of_plan_after(&at, cumuls, routes, change, k, room)?;
     }
     Ok(cost)
 }
 
 // The same in one dimension.
 fn cost_of_plan_after(
-    model: &RoutingModel,
-    table: &Table,
-    d: u32,
+    at: &KnownDimension,
     cumuls: &AllCumuls,
     routes: &Routes,
     change: &Change,
     k: usize,
     room: &mut Room,
 ) -> Result<i64, NoMemory>
-    requires well_formed { IsWellFormed model.now }
-    requires dimension { d < length model.now.dimensions }
-    requires table { IsTable model.now d table.now }
-    requires kept { AreAllKept model.now routes.now.lists cumuls.now }
-    requires before { IsTrue (is_valid model.now routes.now.lists) }
+    requires at { IsKnownDimension at.now }
+    requires kept { AreAllKept at.now.model.now routes.now.lists cumuls.now }
+    requires before { IsTrue (is_valid at.now.model.now routes.now.lists) }
     requires made { IsMadeOn routes.now change.now }
-    requires valid { IsTrue (is_valid model.now (changed routes.now.lists change.now)) }
+    requires valid { IsTrue (is_valid at.now.model.now (changed routes.now.lists change.now)) }
     requires part { k < length change.now }
     requires some { is_empty (joined routes.now.lists (part_at change.now k).pieces) ≡ false }
     ensures value { let part = part_at change.now k in
         let list = joined routes.now.lists part.pieces in
         IfOk result (λ cost. cost
-        ≡ soft_with model.now d part.vehicle list +ℤ span_with model.now d part.vehicle list) }
+        ≡ soft_with at.now.model.now at.now.d part.vehicle list +ℤ span_with at.now.model.now at.now.d part.vehicle list) }
     ensures range { IfOk result IsPlanCostIn }
 {
-    if table.is_free {
+    if at.table.is_free {
         return Ok(0);
     }
     let v = change.vehicle(k);
-    let told = cumuls.timing_after(model, table, d, routes, change, k, &mut room.trail);
+    let told = cumuls.timing_after(at, routes, change, k, &mut room.trail);
     if let Some(timing) = told {
-        return Ok(cost_of_timing(model, d, v, timing));
+        return Ok(cost_of_timing(at.model, at.d, v, timing));
     }
     routes.write_after(change, k, &mut room.row);
-    let cost = cost_of_plan(model, table, d, v, room.row.as_slice(), &mut room.timer)?;
+    let cost = cost_of_plan(
+        at.model,
+        at.table,
+        at.d,
+        v,
+        room.row.as_slice(),
+        &mut room.timer,
+    )?;
     Ok(cost)
 }
 

@@ -16,8 +16,8 @@ use Rattle.vr_model.specs.declared.records.ScheduleRule.TheVariants.{Tight}
 use Rattle.vr_model.proofs.schedules.LineArcs.{arcs_of_line, stops_of_line}
 use Rattle.vr_model.proofs.schedules.NarrowLines.{end-unique, start-unique}
 use Rattle.vr_model.proofs.schedules.UnderRules.{chosen_under_is_chosen, chosen_under_where_feasible}
+use Rattle.vr_timings.specs.Paying.{CostsNoSoft}
 use Rattle.vr_timings.specs.Timings.{plan_of}
-use Rattle.vr_cumuls.specs.Ends.{CostsNoSoft}
 use Rattle.vr_cumuls.proofs.TimingLemmas.{IsTimed}
 
 -- where a list has a schedule, one is chosen

@@ -1,11 +1,8 @@
 -- What is kept of committed lists of vehicles that choose their tight schedules.
-use Rattle.std.specs.Prelude.{◌≡◌, ◌<◌, ◌≤◌, ◌-◌, ℕ, ℤ, suc, false, pos, List, drop, length, slice_index_or, take}
+use Rattle.std.specs.Prelude.{◌≡◌, ◌<◌, ◌≤◌, ◌-◌, ℕ, suc, pos, List, drop, length, slice_index_or, take}
 use Rattle.vr_model.specs.tables.Numbers.{horizon}
-use Rattle.vr_model.specs.tables.Tables.{dimension_at}
 use Rattle.vr_model.specs.tables.WellFormed.{IsIn}
-use Rattle.vr_model.specs.declared.records.Dimension.{Dimension}
 use Rattle.vr_model.specs.declared.records.Model.{Model}
-use Rattle.vr_timings.specs.Timings.{soft_of}
 use Rattle.vr_cumuls.specs.Runs.{Runs, AreRuns}
 use Rattle.vr_cumuls.specs.Rests.{rest_of}
 use Rattle.vr_cumuls.specs.Ways.{way_along, way_out}
@@ -13,10 +10,6 @@ use Rattle.vr_cumuls.specs.declared.ends.KeptEnds.{KeptEnds}
 use Rattle.vr_cumuls.specs.declared.rests.Rest.{Rest}
 use Rattle.vr_cumuls.specs.declared.tight.Ends.{Ends}
 use Rattle.vr_cumuls.specs.declared.tight.Way.{Way}
-
--- no list of any vehicle costs anything by soft upper bounds in a dimension, whatever its cumuls are
-abbrev pub CostsNoSoft : Dimension → Type 0
-CostsNoSoft dimension = (v : ℕ) (list : List ℕ) (cumuls : List ℤ) → soft_of dimension v list cumuls ≡ pos 0
 
 -- the ways of vehicle v along the first visits of a list, for each number of them up to n
 pub record AreWaysTo (model : Model) (d v : ℕ) (runs : Runs) (list : List ℕ) (n : ℕ) (ways : List Way) : Type 0 where
@@ -42,11 +35,9 @@ pub record AreWays (model : Model) (d v : ℕ) (list : List ℕ) (ends : KeptEnd
   pub runs : Runs
   pub has : HasWays model d v runs list ends
 
--- where as many ways are kept as there are numbers of first visits, they are those of a list of vehicle v; where it is
--- said that soft upper bounds cost nothing, they do not
+-- where as many ways are kept as there are numbers of first visits, they are those of a list of vehicle v
 pub record AreEnds (model : Model) (d v : ℕ) (list : List ℕ) (ends : KeptEnds) : Type 0 where
   pub ways : length ends.ways.items ≡ suc (length list) → AreWays model d v list ends
-  pub soft : ends.soft ≡ false → CostsNoSoft (dimension_at model d)
 
 -- where something is kept so, it is of a list of vehicle v
 pub record HaveEnds (model : Model) (d v : ℕ) (list : List ℕ) (ends : List KeptEnds) : Type 0 where

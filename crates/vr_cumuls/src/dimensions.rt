@@ -10,7 +10,7 @@ ghost use Rattle.vr_model.specs.tables.Tables.{dimension_at, is_visit};
 ghost use Rattle.vr_model.specs.tables.WellFormed.{IsWellFormed};
 ghost use Rattle.vr_routes.specs.Changes.{IsMadeOn};
 ghost use Rattle.vr_routes.specs.Pieces.{changed, joined, part_at};
-ghost use Rattle.vr_timings.specs.Tables.{AreTables, IsTable};
+ghost use Rattle.vr_timings.specs.Tables.{AreTables, IsKnownDimension, IsTable};
 ghost use Rattle.vr_timings.specs.Timings.{IsTiming, IsTimingOf};
 ghost use Rattle.vr_cumuls.specs.Kept.{AreAllKept, AreAsMany, AreKept, AreOfEach, IsPaid, IsTold};
 ghost use Rattle.vr_cumuls.specs.declared.kept.Kept.{Kept as KeptOf};
@@ -21,7 +21,7 @@ use std::alloc::Global;
 use std::marker::Model;
 use vr_model::{Model as RoutingModel, NoMemory};
 use vr_routes::{Change, Routes, Row};
-use vr_timings::{Table, Timing};
+use vr_timings::{KnownDimension, Table, Timing};
 
 /// For which costs the cumuls of a dimension are kept.
 #[derive(Clone, Copy)]
@@ -75,45 +75,34 @@ impl AllCumuls {
         })
     }
 
-    /// What the chosen schedule of the list comes to that part `k` of a change gives its vehicle, in dimension `d`.
+    /// What the chosen schedule of the list comes to that part `k` of a change gives its vehicle, in a dimension.
     /// Nothing exactly where what is kept does not tell; then it has to be looked for. The trail is room that the caller
     /// lends: it is written over.
     pub fn timing_after(
         &self,
-        model: &RoutingModel,
-        table: &Table,
-        d: u32,
+        at: &KnownDimension,
         routes: &Routes,
         change: &Change,
         k: usize,
         trail: &mut Trail,
     ) -> Option<Timing>
-        requires well_formed { IsWellFormed model.now }
-        requires dimension { d < length model.now.dimensions }
-        requires table { IsTable model.now d table.now }
-        requires kept { AreAllKept model.now routes.now.lists self.now }
-        requires before { IsTrue (is_valid model.now routes.now.lists) }
+        requires at { IsKnownDimension at.now }
+        requires kept { AreAllKept at.now.model.now routes.now.lists self.now }
+        requires before { IsTrue (is_valid at.now.model.now routes.now.lists) }
         requires made { IsMadeOn routes.now change.now }
-        requires valid { IsTrue (is_valid model.now (changed routes.now.lists change.now)) }
+        requires valid { IsTrue (is_valid at.now.model.now (changed routes.now.lists change.now)) }
         requires part { k < length change.now }
         requires some { is_empty (joined routes.now.lists (part_at change.now k).pieces) ≡ false }
-        ensures known { (other : List KeptOf) → IsTrue (is_some result) ↔ IsTold model.now d (part_at change.now k).vehicle
-            (route routes.now.lists (part_at change.now k).vehicle) (slice_index_or self.now d other) }
-        ensures timing { IfSome result (IsTiming model.now d (part_at change.now k).vehicle
+        ensures known { (other : List KeptOf) → IsTrue (is_some result)
+            ↔ IsTold at.now.model.now at.now.d (part_at change.now k).vehicle
+            (route routes.now.lists (part_at change.now k).vehicle) (slice_index_or self.now at.now.d other) }
+        ensures timing { IfSome result (IsTiming at.now.model.now at.now.d (part_at change.now k).vehicle
             (joined routes.now.lists (part_at change.now k).pieces)) }
         ensures range { IfSome result
             (IsTimingOf (length (joined routes.now.lists (part_at change.now k).pieces) + 2)) }
     {
-        let kept = &self.dimensions[d as usize];
-        kept.timing_after(
-            model,
-            table,
-            d,
-            change.vehicle(k),
-            routes,
-            change.pieces(k),
-            trail,
-        )
+        let kept = &self.dimensions[at.d as usize];
+        kept.timing_after(at, change.vehicle(k), routes, change.pieces(k), trail)
     }
 
     /// Commits the lists after a change, where they are valid. It is called before the routes are changed, and takes no

@@ -1,11 +1,11 @@
 //! What is kept of committed lists of vehicles that choose their tight schedules, so that the two ends of a changed
 //! list are known by a walk along what the change puts into it alone.
 
-ghost use Rattle.std.specs.Prelude.{◌≡◌, ◌↔◌, ◌<◌, ◌≤◌, ◌+◌, ◌-◌, All, IsTrue, false, pos, length, slice_index_or, true};
+ghost use Rattle.std.specs.Prelude.{◌≡◌, ◌↔◌, ◌<◌, ◌≤◌, ◌+◌, ◌-◌, All, IsTrue, pos, length, slice_index_or};
 ghost use Rattle.vr_model.specs.tables.Numbers.{horizon};
-ghost use Rattle.vr_model.specs.tables.Tables.{dimension_at, is_visit};
+ghost use Rattle.vr_model.specs.tables.Tables.{is_visit};
 ghost use Rattle.vr_model.specs.tables.WellFormed.{IsIn};
-ghost use Rattle.vr_cumuls.specs.Ends.{AreRestsTo, AreWaysTo, CostsNoSoft, HasCumuls, HasWays};
+ghost use Rattle.vr_cumuls.specs.Ends.{AreRestsTo, AreWaysTo, HasCumuls, HasWays};
 ghost use Rattle.vr_cumuls.specs.Guides.{runs_of, IsGuide};
 ghost use Rattle.vr_cumuls.specs.Runs.{AreRuns};
 ghost use Rattle.vr_cumuls.specs.Ways.{last_by, nearest_cumul, start_by, whole_way};
@@ -14,7 +14,6 @@ ghost use Rattle.vr_cumuls.specs.declared.tight.Way.{Way as WayOf};
 
 use crate::guides::Guide;
 use crate::rests::Rest;
-use crate::soft::has_soft_bounds;
 use crate::tight::{Ends, Way};
 use arrayvec::ArrayVec;
 use vr_model::limits::HORIZON;
@@ -27,39 +26,25 @@ pub struct KeptEnds {
     ways: ArrayVec<Way, 1001>,
     // what is left from each visit on and from the end, from the end backwards
     rests: ArrayVec<Rest, 1001>,
-    // whether soft upper bounds may cost it anything
-    soft: bool,
 }
 
 impl KeptEnds {
     /// Of no list.
     pub fn new() -> KeptEnds
-        ensures none { length result.ways.items ≡ 0 }
-        ensures soft { result.soft ≡ true }
+        ensures { length result.ways.items ≡ 0 }
     {
         KeptEnds {
             ways: ArrayVec::new(),
             rests: ArrayVec::new(),
-            soft: true,
         }
     }
 
     /// Forgets the list.
     pub fn forget(&mut self)
-        ensures none { length self.new.ways.items ≡ 0 }
-        ensures soft { self.new.soft ≡ true }
+        ensures { length self.new.ways.items ≡ 0 }
     {
         self.ways.clear();
         self.rests.clear();
-        self.soft = true;
-    }
-
-    /// Whether soft upper bounds may cost the vehicle anything.
-    #[inline]
-    pub fn has_soft(&self) -> bool
-        ensures { result ≡ self.now.soft }
-    {
-        self.soft
     }
 
     /// Whether the ways along a list of `n` visits are kept.
@@ -119,10 +104,8 @@ impl KeptEnds {
         requires runs { AreRuns guide.now.model.now guide.now.d guide.now.v (runs_of guide.now) }
         requires few { length list.now ≤ 1000 }
         requires visits { All (λ node. IsTrue (is_visit guide.now.model.now node)) list.now }
-        ensures ways { HasWays guide.now.model.now guide.now.d guide.now.v (runs_of guide.now) list.now self.new }
-        ensures soft { self.new.soft ≡ false → CostsNoSoft (dimension_at guide.now.model.now guide.now.d) }
+        ensures { HasWays guide.now.model.now guide.now.d guide.now.v (runs_of guide.now) list.now self.new }
     {
-        self.soft = has_soft_bounds(guide.model.dimensions.get(guide.d as usize));
         self.write_ways(guide, list);
         self.write_rests(guide, list);
     }
@@ -132,9 +115,8 @@ impl KeptEnds {
         requires guide { IsGuide guide.now }
         requires few { length list.now ≤ 1000 }
         requires visits { All (λ node. IsTrue (is_visit guide.now.model.now node)) list.now }
-        ensures ways { AreWaysTo guide.now.model.now guide.now.d guide.now.v (runs_of guide.now) list.now
+        ensures { AreWaysTo guide.now.model.now guide.now.d guide.now.v (runs_of guide.now) list.now
             (length list.now) self.new.ways.items }
-        ensures soft { self.new.soft ≡ self.old.soft }
     {
         let mut way = guide.way_out();
         self.ways.clear();
@@ -153,7 +135,6 @@ impl KeptEnds {
         ensures rests { AreRestsTo guide.now.model.now guide.now.d guide.now.v (runs_of guide.now) list.now
             (length list.now) self.new.rests.items }
         ensures ways { self.new.ways ≡ self.old.ways }
-        ensures soft { self.new.soft ≡ self.old.soft }
     {
         let mut rest = guide.rest_at_end();
         self.rests.clear();

@@ -16,7 +16,7 @@ ghost use Rattle.vr_model.specs.tables.WellFormed.{IsIn, IsWellFormed};
 ghost use Rattle.vr_model.specs.declared.records.Model.{Model as Defined};
 ghost use Rattle.vr_model.specs.declared.records.ScheduleRule.TheVariants.{Earliest, Tight};
 ghost use Rattle.vr_routes.specs.Pieces.{joined, IsWithin};
-ghost use Rattle.vr_timings.specs.Tables.{IsTable};
+ghost use Rattle.vr_timings.specs.Tables.{IsKnownDimension, IsTable};
 ghost use Rattle.vr_timings.specs.Timings.{IsTiming, IsTimingOf};
 ghost use Rattle.vr_walks.specs.Lists.{IsUsed};
 ghost use Rattle.vr_cumuls.specs.Ends.{HasCumuls, HasWays, HaveEnds};
@@ -33,9 +33,9 @@ use crate::tight::Ends;
 use crate::trails::Trail;
 use std::alloc::Global;
 use std::marker::Model;
-use vr_model::{Model as RoutingModel, NoMemory, ScheduleRule, laws};
+use vr_model::{Model as RoutingModel, NoMemory, ScheduleRule};
 use vr_routes::{Piece, Routes};
-use vr_timings::{Table, Timing};
+use vr_timings::{KnownDimension, Table, Timing};
 
 /// What is kept of the list of a vehicle.
 #[derive(Drop)]
@@ -127,7 +127,7 @@ impl Kept {
         ensures between { HasCumuls self.new.between }
         ensures ends { self.new.ends.items ≡ self.old.ends.items }
     {
-        if !self.ends[0].has_soft() {
+        if guide.table.is_hard {
             return;
         }
         let ends = self.ends[0].ends(guide, list);
@@ -161,7 +161,6 @@ impl Kept {
             (joined routes.now.lists pieces.now)) }
         ensures range { IfSome result (IsTimingOf (length (joined routes.now.lists pieces.now) + 2)) }
     {
-        laws::narrowed_to_ends();
         if self.ends.is_empty() {
             return None;
         }
@@ -171,7 +170,7 @@ impl Kept {
             return None;
         }
         let ends = guide.ends_of(kept, routes, pieces);
-        if !kept.has_soft() {
+        if guide.table.is_hard {
             return Some(Timing {
                 soft: 0,
                 start: ends.start,
@@ -364,43 +363,39 @@ impl KeptCumuls {
         }
     }
 
-    /// What the chosen schedule of the list that pieces are joined to comes to, for vehicle `v` in dimension `d`.
+    /// What the chosen schedule of the list that pieces are joined to comes to, for vehicle `v` in a dimension.
     /// Nothing exactly where what is kept does not tell: where nothing is kept, the vehicle has breaks, or a stop allows
-    /// several runs of cumuls. Of an earliest schedule what the change keeps of the front of the list is walked as far back as it
-    /// gets another floor, and of its end as much as gets another cumul. Of a tight one what it keeps is not walked;
-    /// where soft upper bounds may cost anything it is, from the start until a cumul is as kept, and wholly where the
-    /// list ends at another cumul. The trail is written over.
+    /// several runs of cumuls. Of an earliest schedule what the change keeps of the front of the list is walked as far
+    /// back as it gets another floor, and of its end as much as gets another cumul. Of a tight one what it keeps is not
+    /// walked; where soft upper bounds may cost anything it is, from the start until a cumul is as kept, and wholly
+    /// where the list ends at another cumul. The trail is written over.
     pub fn timing_after(
         &self,
-        model: &RoutingModel,
-        table: &Table,
-        d: u32,
+        at: &KnownDimension,
         v: u32,
         routes: &Routes,
         pieces: &[Piece],
         trail: &mut Trail,
     ) -> Option<Timing>
-        requires well_formed { IsWellFormed model.now }
-        requires dimension { d < length model.now.dimensions }
-        requires vehicle { v < length model.now.vehicles }
-        requires table { IsTable model.now d table.now }
-        requires kept { AreKept model.now d routes.now.lists self.now }
+        requires at { IsKnownDimension at.now }
+        requires vehicle { v < length at.now.model.now.vehicles }
+        requires kept { AreKept at.now.model.now at.now.d routes.now.lists self.now }
         requires known { v < length routes.now.lists }
         requires short { length (route routes.now.lists v) ≤ 1000 }
         requires within { All (IsWithin routes.now.lists) pieces.now }
-        requires used { IsUsed model.now (joined routes.now.lists pieces.now) }
+        requires used { IsUsed at.now.model.now (joined routes.now.lists pieces.now) }
         requires few { length (joined routes.now.lists pieces.now) ≤ 1000 }
-        requires feasible { IsFeasible (line model.now d v (joined routes.now.lists pieces.now)) }
-        ensures known { IsTrue (is_some result) ↔ IsTold model.now d v (route routes.now.lists v) self.now }
-        ensures timing { IfSome result (IsTiming model.now d v (joined routes.now.lists pieces.now)) }
+        requires feasible { IsFeasible (line at.now.model.now at.now.d v (joined routes.now.lists pieces.now)) }
+        ensures known { IsTrue (is_some result) ↔ IsTold at.now.model.now at.now.d v (route routes.now.lists v) self.now }
+        ensures timing { IfSome result (IsTiming at.now.model.now at.now.d v (joined routes.now.lists pieces.now)) }
         ensures range { IfSome result (IsTimingOf (length (joined routes.now.lists pieces.now) + 2)) }
     {
         if v as usize >= self.lists.len() {
             return None;
         }
-        let guide = Guide::of(model, table, d, v)?;
+        let guide = Guide::of(at.model, at.table, at.d, v)?;
         let kept = &self.lists[v as usize];
-        let vehicle = model.vehicles.get(v as usize);
+        let vehicle = at.model.vehicles.get(v as usize);
         match vehicle.schedule {
             ScheduleRule::Earliest => kept.earliest_after(&guide, routes, pieces, trail),
             ScheduleRule::Tight => kept.tight_after(&guide, routes, pieces, trail),

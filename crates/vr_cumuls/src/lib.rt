@@ -19,7 +19,6 @@ mod ends;
 mod guides;
 mod kept;
 mod rests;
-mod soft;
 mod steps;
 mod tight;
 mod trails;

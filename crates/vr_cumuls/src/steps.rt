@@ -28,7 +28,6 @@ use crate::tight::only;
 use crate::trails::{Step, Trail};
 use arrayvec::ArrayVec;
 use vr_balance::strip;
-use vr_model::laws;
 use vr_routes::{Piece, Routes};
 use vr_timings::Timing;
 
@@ -164,7 +163,6 @@ impl KeptSteps {
             (joined routes.now.lists pieces.now)) }
         ensures range { IfSome result (IsTimingOf (length (joined routes.now.lists pieces.now) + 2)) }
     {
-        laws::chosen_is_least();
         let list = routes.list(guide.v);
         let ends = strip(routes, guide.v, pieces);
         let front = ends.front as usize;

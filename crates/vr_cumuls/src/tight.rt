@@ -29,7 +29,6 @@ use crate::ends::KeptEnds;
 use crate::guides::{Guide, node_in};
 use crate::trails::Trail;
 use vr_balance::strip;
-use vr_model::laws;
 use vr_routes::{Piece, Routes};
 use vr_spans::Run;
 use vr_timings::Timing;
@@ -97,7 +96,6 @@ impl<'m> Guide<'m> {
             (joined routes.now.lists pieces.now)) }
         ensures range { IfSome result (IsTimingOf (length (joined routes.now.lists pieces.now) + 2)) }
     {
-        laws::chosen_is_least();
         trail.steps.clear();
         let next = self.end_step();
         let first = self.back_along_pieces(routes, pieces, next, trail)?;

@@ -1,11 +1,13 @@
 -- What is looked up once of each dimension of a model.
 use Rattle.std.specs.Prelude.{◌≡◌, ℕ, ◌<◌, IsTrue, List, length, map, slice_index_or}
 use Rattle.vr_model.specs.tables.Tables.{dimension_at}
+use Rattle.vr_model.specs.tables.WellFormed.{IsWellFormed}
 use Rattle.vr_model.specs.declared.records.Model.{Model}
 use Rattle.vr_model.specs.declared.records.StopRow.{StopRow}
 use Rattle.vr_walks.specs.Stops.{AreStops}
 use Rattle.vr_timings.specs.Paying.{is_free, is_hard, CostsNoSoft, PaysNothing}
 use Rattle.vr_lists.specs.Places.{ArePlaces}
+use Rattle.vr_timings.specs.declared.tables.KnownDimension.{KnownDimension}
 use Rattle.vr_timings.specs.declared.tables.Table.{Table}
 
 -- the keys of rows
@@ -26,3 +28,9 @@ pub record IsTable (model : Model) (d : ℕ) (table : Table) : Type 0 where
 pub record AreTables (model : Model) (tables : List Table) : Type 0 where
   pub one_of_each : length tables ≡ length model.dimensions
   pub each : (d : ℕ) (other : Table) → d < length tables → IsTable model d (slice_index_or tables d other)
+
+-- a dimension of a well formed model, and its table
+pub record IsKnownDimension (known : KnownDimension) : Type 0 where
+  pub well_formed : IsWellFormed known.model.now
+  pub dimension : known.d < length known.model.now.dimensions
+  pub table : IsTable known.model.now known.d known.table.now

@@ -9,5 +9,5 @@ mod timings;
 
 pub use extents::{Extent, global_cost, wider};
 pub use paying::may_pay_alone;
-pub use tables::{Table, row_of, tables_of};
+pub use tables::{KnownDimension, Table, row_of, tables_of};
 pub use timings::{Timer, Timing, row_cost, span_cost, times, timing_of};

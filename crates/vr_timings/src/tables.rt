@@ -28,6 +28,14 @@ pub struct Table {
     pub is_hard: bool,
 }
 
+/// A dimension of a model, and what is looked up of it.
+#[derive(Drop)]
+pub struct KnownDimension<'m> {
+    pub model: &'m Model,
+    pub table: &'m Table,
+    pub d: u32,
+}
+
 // The keys of rows.
 fn keys_of(alloc: Global, rows: &Seq<StopRow>) -> Result<Vec<u32>, NoMemory>
     ensures { IfOk result (λ keys. keys.items ≡ keys_of_rows rows.now) }

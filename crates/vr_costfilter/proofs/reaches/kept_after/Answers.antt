@@ -42,23 +42,23 @@ returns-in-Some c =
     }
 
 pub kept_in-requires-clause-vehicle : goal.kept_in-requires-clause-vehicle
-kept_in-requires-clause-vehicle c = subst (λ v. v < length c.args.model.now.vehicles) (sym c.vehicle.ensures)
-    (known-vehicle c.args.model.now c.requires.well_formed c.args.routes.now.lists c.args.change.now c.requires.made.makes.parts_are c.requires.valid c.args.k c.requires.part)
+kept_in-requires-clause-vehicle c = subst (λ v. v < length c.args.at.now.model.now.vehicles) (sym c.vehicle.ensures)
+    (known-vehicle c.args.at.now.model.now c.requires.at.well_formed c.args.routes.now.lists c.args.change.now c.requires.made.makes.parts_are c.requires.valid c.args.k c.requires.part)
 
 pub kept_in-requires-clause-visits : goal.kept_in-requires-clause-visits
 kept_in-requires-clause-visits c =
-    let part = is-part c.args.model.now c.requires.well_formed c.args.routes.now.lists c.args.change.now c.requires.made.makes.parts_are c.requires.valid c.args.k c.requires.part in
-    subst (λ l. IsTrue (list_all (is_visit c.args.model.now) l)) (sym (c.as_slice.ensures.value ∙ c.write_after.ensures)) part.visits
+    let part = is-part c.args.at.now.model.now c.requires.at.well_formed c.args.routes.now.lists c.args.change.now c.requires.made.makes.parts_are c.requires.valid c.args.k c.requires.part in
+    subst (λ l. IsTrue (list_all (is_visit c.args.at.now.model.now) l)) (sym (c.as_slice.ensures.value ∙ c.write_after.ensures)) part.visits
 
 pub kept_in-requires-clause-distinct : goal.kept_in-requires-clause-distinct
 kept_in-requires-clause-distinct c =
-    let part = is-part c.args.model.now c.requires.well_formed c.args.routes.now.lists c.args.change.now c.requires.made.makes.parts_are c.requires.valid c.args.k c.requires.part in
+    let part = is-part c.args.at.now.model.now c.requires.at.well_formed c.args.routes.now.lists c.args.change.now c.requires.made.makes.parts_are c.requires.valid c.args.k c.requires.part in
     subst (λ l. IsTrue (is_distinct l)) (sym (c.as_slice.ensures.value ∙ c.write_after.ensures)) part.distinct
 
 pub returns : goal.returns
 returns c =
-    let m = c.args.model.now in
+    let m = c.args.at.now.model.now in
     let part = part_at c.args.change.now c.args.k in
     let timing = c.in_ok-timing.timing in
-    subst (λ v. IsToldIfPaid m c.args.d v (joined c.args.routes.now.lists part.pieces) timing) c.vehicle.ensures
-    (subst (λ l. IsToldIfPaid m c.args.d c.vehicle.result l timing) (c.as_slice.ensures.value ∙ c.write_after.ensures) c.in_ok-timing.ensures)
+    subst (λ v. IsToldIfPaid m c.args.at.now.d v (joined c.args.routes.now.lists part.pieces) timing) c.vehicle.ensures
+    (subst (λ l. IsToldIfPaid m c.args.at.now.d c.vehicle.result l timing) (c.as_slice.ensures.value ∙ c.write_after.ensures) c.in_ok-timing.ensures)

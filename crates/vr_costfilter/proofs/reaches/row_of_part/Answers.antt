@@ -8,11 +8,15 @@ use Rattle.vr_timings.proofs.TableLemmas.{table_at}
 use Rattle.vr_costfilter.specs.GlobalCosts.{IsToldIfPaid}
 use Rattle.vr_costfilter.proofs.reaches.row_of_part.Goals as goal
 
-pub kept_after-requires-clause-table : goal.kept_after-requires-clause-table
-kept_after-requires-clause-table c =
+pub kept_after-requires-clause-at : goal.kept_after-requires-clause-at
+kept_after-requires-clause-at c =
     let n = c.requires.tables.one_of_each in
     let low = c.loop-d-test.true in
-    table_at c.args.model.now c.args.tables.now c.requires.tables c.loop-d.d c.index-tables-d.result c.index-tables-d.is (omega (arith, n, low))
+    record {
+      well_formed = c.requires.well_formed;
+      dimension = omega (arith, n, low);
+      table = table_at c.args.model.now c.args.tables.now c.requires.tables c.loop-d.d c.index-tables-d.result c.index-tables-d.is (omega (arith, n, low));
+    }
 
 pub loop-d-preserved : goal.loop-d-preserved
 loop-d-preserved c =

@@ -30,5 +30,4 @@ loop-k-preserved c =
       range = subst (IsRestOf g.model.now (k + 1)) (sym c.rest_before-rest.ensures)
           (before-rest g.model.now h.well_formed g.d g.v h.dimension h.vehicle (runs_of g) h.visits k c.loop-k.rest node i.range known);
       ways = i.ways;
-      soft = i.soft;
     }

@@ -10,5 +10,4 @@ invariant-loop-k l = record {
   rest : l.rest ≡ rest_of l.guide.model.now l.guide.d l.guide.v (runs_of l.guide) (drop (length l.list - l.k) l.list);
   range : IsRestOf l.guide.model.now l.k l.rest;
   ways : l.self.ways ≡ l.fn.self.ways;
-  soft : l.self.soft ≡ l.fn.self.soft;
 }

@@ -32,5 +32,4 @@ loop-k-preserved c =
       way = next;
       range = subst (IsWayOf g.model.now (k + 1)) (sym c.way_to_visit-way.ensures)
           (on-way g.model.now h.well_formed g.d g.v h.dimension h.vehicle k c.loop-k.way node (slice_index_or g.visits.now node no_run) i.range (visit_below g.model.now node known) (visit-ends g.model.now h.well_formed g.d g.v h.dimension h.vehicle (runs_of g) h.visits node no_run known));
-      soft = i.soft;
     }

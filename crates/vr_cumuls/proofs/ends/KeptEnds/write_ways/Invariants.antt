@@ -9,5 +9,4 @@ invariant-loop-k l = record {
   ways : AreWaysTo l.guide.model.now l.guide.d l.guide.v (runs_of l.guide) l.list l.k l.self.ways.items;
   way : l.way ≡ way_along l.guide.model.now l.guide.d l.guide.v (runs_of l.guide) (way_out l.guide.model.now l.guide.v (runs_of l.guide)) (take l.k l.list);
   range : IsWayOf l.guide.model.now l.k l.way;
-  soft : l.self.soft ≡ l.fn.self.soft;
 }

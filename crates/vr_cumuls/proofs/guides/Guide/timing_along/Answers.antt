@@ -2,6 +2,7 @@ use Rattle.std.proofs.Common.{◌∙◌, ℕ, List, ap, subst, sym, arith}
 use Rattle.std.specs.Prelude.{is_some}
 use Rattle.std.specs.Option.{option_and_then}
 use Rattle.vr_model.specs.schedules.Narrowed.{chosen_line}
+use Rattle.vr_model.proofs.schedules.ChoiceLaws.{chosen_is_least}
 use Rattle.vr_routes.specs.Pieces.{joined}
 use Rattle.vr_timings.proofs.BoundLemmas.{read-cumul}
 use Rattle.vr_cumuls.specs.Floors.{first_step, WentBack}
@@ -47,10 +48,10 @@ returns c =
     let gone_is = sym c.in_ok-gone.ensures.value in
     let end_is = sym c.in_ok-end.ensures.value in
     let timed = along-timed g.model.now g.d g.v (runs_of g) list next first trail c.end_step-next.ensures.value back floor floor_is c.standing-stage.result c.in_ok-gone.gone c.in_ok-end.end stage
-    gone_is end_is c.chosen_is_least.ensures h.well_formed h.dimension c.requires.allows c.requires.few in
+    gone_is end_is chosen_is_least h.well_formed h.dimension c.requires.allows c.requires.few in
     record {
       known = sym (along-feasible g.model.now g.d g.v (runs_of g) list next first trail c.end_step-next.ensures.value back floor floor_is c.standing-stage.result c.in_ok-gone.gone c.in_ok-end.end stage
-          gone_is end_is c.chosen_is_least.ensures h.well_formed h.dimension c.requires.allows);
+          gone_is end_is chosen_is_least h.well_formed h.dimension c.requires.allows);
       timing = timed.is_timing;
       range = timed.range;
     }

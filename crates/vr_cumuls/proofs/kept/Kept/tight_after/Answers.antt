@@ -5,6 +5,7 @@ use Rattle.std.proofs.lemmas.List.{get_or_default}
 use Rattle.vr_model.specs.routes.Routes.{route}
 use Rattle.vr_model.specs.schedules.Lines.{Line, line}
 use Rattle.vr_model.specs.schedules.Narrowed.{between, chosen_line, narrowed}
+use Rattle.vr_model.proofs.schedules.UnderRules.{narrowed_to_ends}
 use Rattle.vr_routes.specs.Pieces.{joined}
 use Rattle.vr_timings.proofs.BoundLemmas.{read-cumul}
 use Rattle.vr_spans.proofs.RunsLemmas.{none_from_test, some_from_test}
@@ -40,7 +41,7 @@ timing_between-requires-clause-allows c =
     let ends = c.ends_of-ends.result in
     let told = c.ends_of-ends.ensures in
     let is : chosen_line m g.d g.v list ≡ between L ends.start ends.last =
-    ap (λ rule. narrowed rule L) c.requires.rule ∙ c.narrowed_to_ends.ensures L by.has.stops ends.start ends.last told.last told.start in
+    ap (λ rule. narrowed rule L) c.requires.rule ∙ narrowed_to_ends L by.has.stops ends.start ends.last told.last told.start in
     let a = between-allows m g.d g.v (runs_of g) list L by ends.start ends.last told.start in
     subst (λ (l : Line). AllowsRuns m g.d g.v (between_runs (runs_of g) ends.start ends.last) list l) (sym is) a
 
@@ -55,20 +56,19 @@ timing_between-requires-clause-ends c =
     record { start = start-in g.model.now g.d g.v (runs_of g) list L by ends.start ends.last start; last = end-in g.model.now g.d g.v (runs_of g) list L by ends.start ends.last start }
 
 -- told by its ends alone
-pub returns-then-not-has_soft : goal.returns-then-not-has_soft
-returns-then-not-has_soft c =
+pub returns-then-guide : goal.returns-then-guide
+returns-then-guide c =
     let g = c.args.guide.now in
     let m = g.model.now in
     let list : List ℕ = joined c.args.routes.now.lists c.args.pieces.now in
     let L : Line = line m g.d g.v list in
     let by = line-allows m g.d g.v (runs_of g) c.requires.runs list c.requires.used.tour in
     let some : 0 < length c.args.self.now.ends.items = (let some = some_from_test _ _ c.if-is_empty.false c.is_empty.ensures in omega (arith, some)) in
-    let kept = subst (AreEnds m g.d g.v (route c.args.routes.now.lists g.v)) (sym c.index-kept.ensures) (c.requires.kept.ends.first c.index-kept.result.now some) in
     let ends = c.ends_of-ends.result in
     let told = c.ends_of-ends.ensures in
     let start = start-in m g.d g.v (runs_of g) list L by ends.start ends.last told.start in
     let last = end-in m g.d g.v (runs_of g) list L by ends.start ends.last told.start in
-    let timed = ends-timed m g.d g.v list c.requires.rule c.requires.feasible ends.start ends.last told.last told.start (kept.soft (sym c.has_soft.ensures ∙ c.if-not-has_soft.true)) start last
+    let timed = ends-timed m g.d g.v list c.requires.rule c.requires.feasible ends.start ends.last told.last told.start (c.requires.guide.table_is.hard c.if-guide.true) start last
     (to_z w64 (of_z w64 ends.start)) (to_z w64 (of_z w64 ends.last)) (read-cumul ends.start start) (read-cumul ends.last last) in
     let many = c.has_ways.ensures.0 c.if-not-has_ways.false in
     let length_is = ap length c.list-list.ensures.value in

@@ -7,8 +7,8 @@ use Rattle.vr_cumuls.specs.Steps.{HasStages}
 use Rattle.vr_cumuls.proofs.KeptLemmas.{stages-none}
 use Rattle.vr_cumuls.proofs.kept.Kept.write_between.Goals as goal
 
-pub returns-then-not-has_soft-clause-stages : goal.returns-then-not-has_soft-clause-stages
-returns-then-not-has_soft-clause-stages c =
+pub returns-then-guide-clause-stages : goal.returns-then-guide-clause-stages
+returns-then-guide-clause-stages c =
     let g = c.args.guide.now in
     stages-none g.model.now g.d g.v _ c.args.list.now _ (let n = c.requires.none in omega (arith, n))
 

@@ -24,7 +24,7 @@ pub write_between-requires-clause-ways : goal.write_between-requires-clause-ways
 write_between-requires-clause-ways c other =
     let g = c.args.guide.now in
     let items : List KeptEnds = c.forget.new.self.ends.items in
-    subst (HasWays g.model.now g.d g.v (runs_of g) c.args.list.now) (sym (get_or-set_same items 0 c.write.new.self other (let some = some_from_test _ _ c.if-is_empty.false c.is_empty.ensures in omega (arith, some)))) c.write.ensures.ways
+    subst (HasWays g.model.now g.d g.v (runs_of g) c.args.list.now) (sym (get_or-set_same items 0 c.write.new.self other (let some = some_from_test _ _ c.if-is_empty.false c.is_empty.ensures in omega (arith, some)))) c.write.ensures
 
 pub returns-then-is_empty-clause-kept : goal.returns-then-is_empty-clause-kept
 returns-then-is_empty-clause-kept c =
@@ -46,7 +46,7 @@ returns-clause-kept c =
     let list = c.args.list.now in
     let items : List KeptEnds = c.forget.new.self.ends.items in
     let new : KeptEnds = c.write.new.self in
-    let is : AreEnds g.model.now g.d g.v list new = record { ways = λ _. record { runs = runs_of g; has = c.write.ensures.ways }; soft = c.write.ensures.soft } in
+    let is : AreEnds g.model.now g.d g.v list new = record { ways = λ _. record { runs = runs_of g; has = c.write.ensures } } in
     record {
       earliest = λ rule runs are. absurd (other-rule (sym rule ∙ c.requires.rule));
       tight = λ rule runs are. stages-between g.model.now g.d g.v (runs_of g) runs c.requires.runs are _ _ list _ c.write_between.ensures.stages;
@@ -56,7 +56,7 @@ returns-clause-kept c =
           room = (let many = length-set items 0 new in let same = ap length c.write_between.ensures.ends in let some = some_from_test _ _ c.if-is_empty.false c.is_empty.ensures in omega (arith, many, same, some));
           ways = λ other. subst (λ (l : List KeptEnds). length (slice_index_or l 0 other).ways.items ≡ length list + 1) (sym c.write_between.ensures.ends)
               (subst (λ (k : KeptEnds). length k.ways.items ≡ length list + 1) (sym (get_or-set_same items 0 new other (let some = some_from_test _ _ c.if-is_empty.false c.is_empty.ensures in omega (arith, some))))
-              (let many = c.write.ensures.ways.ways.many in omega (arith, many)));
+              (let many = c.write.ensures.ways.many in omega (arith, many)));
       });
     }
   where

@@ -37,8 +37,8 @@ returns-in_err-guide-clause-known c =
 
 pub returns-in-Earliest-clause-known : goal.returns-in-Earliest-clause-known
 returns-in-Earliest-clause-known c =
-    let m = c.args.model.now in
-    let d = c.args.d in
+    let m = c.args.at.now.model.now in
+    let d = c.args.at.now.d in
     let v = c.args.v in
     let list : List ℕ = route c.args.routes.now.lists v in
     let kept : Kept = c.index-kept.result.now in
@@ -60,8 +60,8 @@ returns-in-Earliest-clause-known c =
 
 pub returns-in-Tight-clause-known : goal.returns-in-Tight-clause-known
 returns-in-Tight-clause-known c =
-    let m = c.args.model.now in
-    let d = c.args.d in
+    let m = c.args.at.now.model.now in
+    let d = c.args.at.now.d in
     let v = c.args.v in
     let list : List ℕ = route c.args.routes.now.lists v in
     let kept : Kept = c.index-kept.result.now in

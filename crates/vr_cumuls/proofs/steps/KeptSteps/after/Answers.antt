@@ -2,6 +2,7 @@ use Rattle.std.proofs.Common.{◌∙◌, ◌++◌, List, [], ℕ, drop, length, 
 use Rattle.std.specs.Prelude.{All, IsTrue, is_some, ℤ}
 use Rattle.std.proofs.lemmas.List.{length-take-le}
 use Rattle.vr_model.specs.tables.Tables.{is_visit}
+use Rattle.vr_model.proofs.schedules.ChoiceLaws.{chosen_is_least}
 use Rattle.vr_model.specs.routes.Routes.{route}
 use Rattle.vr_routes.specs.Pieces.{joined}
 use Rattle.vr_routes.proofs.JoinedPieces.{all_left, all_right}
@@ -95,9 +96,9 @@ overflow_add-result c =
     let gone_is = sym c.in_ok-gone.ensures.value in
     let end_is = sym c.in_ok-end.ensures in
     let low = after-low g.model.now g.d g.v (runs_of g) list (steps_of c.args.self.now) c.requires.stages.steps_are new ends.front ends.behind middle c.strip-ends.ensures.joins next c.step_behind-next.ensures.value start
-    first between trail back lead led met set c.in_ok-gone.gone end gone_is end_is c.chosen_is_least.ensures h.well_formed h.dimension c.requires.allows in
+    first between trail back lead led met set c.in_ok-gone.gone end gone_is end_is chosen_is_least h.well_formed h.dimension c.requires.allows in
     let high = after-high g.model.now g.d g.v (runs_of g) list (steps_of c.args.self.now) c.requires.stages.steps_are new ends.front ends.behind middle c.strip-ends.ensures.joins next c.step_behind-next.ensures.value start
-    first between trail back lead led met set c.in_ok-gone.gone end gone_is end_is c.chosen_is_least.ensures h.well_formed h.dimension c.requires.allows in
+    first between trail back lead led met set c.in_ok-gone.gone end gone_is end_is chosen_is_least h.well_formed h.dimension c.requires.allows in
     (read-more end.soft met.more (length new) c.requires.few low high set.paced.more).fits
 
 pub returns : goal.returns
@@ -123,16 +124,16 @@ returns c =
     let gone_is = sym c.in_ok-gone.ensures.value in
     let end_is = sym c.in_ok-end.ensures in
     let low = after-low g.model.now g.d g.v (runs_of g) list (steps_of c.args.self.now) c.requires.stages.steps_are new ends.front ends.behind middle c.strip-ends.ensures.joins next c.step_behind-next.ensures.value start
-    first between trail back lead led met set c.in_ok-gone.gone end gone_is end_is c.chosen_is_least.ensures h.well_formed h.dimension c.requires.allows in
+    first between trail back lead led met set c.in_ok-gone.gone end gone_is end_is chosen_is_least h.well_formed h.dimension c.requires.allows in
     let high = after-high g.model.now g.d g.v (runs_of g) list (steps_of c.args.self.now) c.requires.stages.steps_are new ends.front ends.behind middle c.strip-ends.ensures.joins next c.step_behind-next.ensures.value start
-    first between trail back lead led met set c.in_ok-gone.gone end gone_is end_is c.chosen_is_least.ensures h.well_formed h.dimension c.requires.allows in
+    first between trail back lead led met set c.in_ok-gone.gone end gone_is end_is chosen_is_least h.well_formed h.dimension c.requires.allows in
     let timed = after-timed g.model.now g.d g.v (runs_of g) list (steps_of c.args.self.now) c.requires.stages.steps_are new ends.front ends.behind middle c.strip-ends.ensures.joins next c.step_behind-next.ensures.value start
-    first between trail back lead led met set c.in_ok-gone.gone end gone_is end_is c.chosen_is_least.ensures h.well_formed h.dimension c.requires.allows c.requires.few in
+    first between trail back lead led met set c.in_ok-gone.gone end gone_is end_is chosen_is_least h.well_formed h.dimension c.requires.allows c.requires.few in
     let soft = (read-more end.soft met.more (length new) c.requires.few low high set.paced.more).read in
     let all = subst (λ (x : ℤ). IsTimed g.model.now g.d g.v new (record { soft = x; start = to_z w64 (of_z w64 met.start); last = to_z w64 (of_z w64 end.cumul) })) (sym soft) timed in
     record {
       known = sym (after-feasible g.model.now g.d g.v (runs_of g) list (steps_of c.args.self.now) c.requires.stages.steps_are new ends.front ends.behind middle c.strip-ends.ensures.joins next c.step_behind-next.ensures.value start
-          first between trail back lead led met set c.in_ok-gone.gone end gone_is end_is c.chosen_is_least.ensures h.well_formed h.dimension c.requires.allows);
+          first between trail back lead led met set c.in_ok-gone.gone end gone_is end_is chosen_is_least h.well_formed h.dimension c.requires.allows);
       timing = all.is_timing;
       range = all.range;
     }
