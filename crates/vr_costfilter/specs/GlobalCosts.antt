@@ -16,7 +16,7 @@ use Rattle.vr_timings.specs.declared.extents.Extent.{Extent}
 use Rattle.vr_timings.specs.declared.tables.Table.{Table}
 use Rattle.vr_timings.specs.declared.timings.Timing.{Timing}
 use Rattle.vr_cumuls.specs.Kept.{AreAllKept}
-use Rattle.vr_cumuls.specs.declared.kept.Kept.{Kept}
+use Rattle.vr_cumuls.specs.declared.kept.KeptList.{KeptList}
 use Rattle.vr_routes.specs.Tours.{Tours}
 use Rattle.vr_routes.specs.Pieces.{ListAfter, changed, joined, part_at}
 use Rattle.vr_costfilter.specs.Orders.{beside, extent_but, AreInRange, AreOrders, IsInRange, IsTold}
@@ -117,7 +117,7 @@ pub record KeptSpans : Type 0 where
   pub next_orders : List Orders
   pub next_cost : ℤ
   pub is_prepared : Bool
-  pub cumuls : List (List Kept)
+  pub cumuls : List (List KeptList)
 
 -- it is of these lists of a model
 pub record StandsSpans (kept : KeptSpans) (tours : Tours) : Type 0 where

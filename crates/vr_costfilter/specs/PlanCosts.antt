@@ -16,7 +16,7 @@ use Rattle.vr_timings.specs.Timings.{soft_with, span_with}
 use Rattle.vr_timings.specs.declared.tables.Table.{Table}
 use Rattle.vr_earliest.specs.Ways.{least_span}
 use Rattle.vr_cumuls.specs.Kept.{AreAllKept}
-use Rattle.vr_cumuls.specs.declared.kept.Kept.{Kept}
+use Rattle.vr_cumuls.specs.declared.kept.KeptList.{KeptList}
 use Rattle.vr_routes.specs.Tours.{Tours}
 use Rattle.vr_routes.specs.Pieces.{ListAfter, part_at, joined}
 use Rattle.vr_parts.specs.Sums.{part_less}
@@ -87,7 +87,7 @@ pub record KeptPlans : Type 0 where
   pub costs : List ℤ
   pub next : List ℤ
   pub is_prepared : Bool
-  pub cumuls : List (List Kept)
+  pub cumuls : List (List KeptList)
 
 -- these are the costs of the lists of a model
 pub record StandsPlans (kept : KeptPlans) (tours : Tours) : Type 0 where

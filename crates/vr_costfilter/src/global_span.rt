@@ -16,7 +16,7 @@ ghost use Rattle.vr_costfilter.specs.Spreads.{global_least};
 
 use crate::orders::Orders;
 use crate::reaches::{ListTimings, SpanRules, vehicles_of};
-use crate::room::Room;
+use crate::scratch::Scratch;
 use arrayvec::ArrayVec;
 use std::alloc::Global;
 use std::marker::Model;
@@ -47,7 +47,7 @@ pub struct GlobalSpan<'m> {
     // the cumuls of the committed lists
     cumuls: AllCumuls,
     // room for a list that a change makes
-    room: Room,
+    scratch: Scratch,
 }
 
 impl<'m> Model for GlobalSpan<'m> {
@@ -81,8 +81,8 @@ impl<'m> GlobalSpan<'m> {
         ensures stands { IfOk result (λ part. StandsSpans part routes.now) }
     {
         let rules = SpanRules::open(alloc, model)?;
-        let mut room = Room::new(alloc);
-        let (orders, next_orders, cumuls) = rules.kept(alloc, routes, &mut room.timer)?;
+        let mut scratch = Scratch::new(alloc);
+        let (orders, next_orders, cumuls) = rules.kept(alloc, routes, &mut scratch.timer)?;
         let cost = rules.cost(&orders, &[], &[]);
         Ok(GlobalSpan {
             rules,
@@ -93,7 +93,7 @@ impl<'m> GlobalSpan<'m> {
             next_cost: 0,
             is_prepared: false,
             cumuls,
-            room,
+            scratch,
         })
     }
 
@@ -145,7 +145,7 @@ impl<'m> GlobalSpan<'m> {
         }
         let row = self
             .rules
-            .row_after(&self.cumuls, routes, change, k, &mut self.room)?;
+            .row_after(&self.cumuls, routes, change, k, &mut self.scratch)?;
         Ok(row)
     }
 

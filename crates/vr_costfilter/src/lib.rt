@@ -14,8 +14,8 @@ mod order;
 mod orders;
 mod plan_cost;
 mod reaches;
-mod room;
 mod schedule_costs;
+mod scratch;
 mod spreads;
 
 pub use global_span::GlobalSpan;

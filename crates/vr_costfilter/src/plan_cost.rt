@@ -11,8 +11,8 @@ ghost use Rattle.vr_parts.specs.Parts.{CostAlike, NothingReady};
 ghost use Rattle.vr_costfilter.specs.PlanCosts.{cost_after, pays_no_plan, soft_and_span, AreNextCosts, ArePlansReady};
 ghost use Rattle.vr_costfilter.specs.PlanCosts.{plans_least, IsPlanChange, IsPlanCost, StandsPlans};
 
-use crate::room::Room;
 use crate::schedule_costs::PlanRules;
+use crate::scratch::Scratch;
 use arrayvec::ArrayVec;
 use std::alloc::Global;
 use std::marker::Model;
@@ -38,7 +38,7 @@ pub struct PlanCost<'m> {
     // the cumuls of the committed lists
     cumuls: AllCumuls,
     // room for a list that a change makes
-    room: Room,
+    scratch: Scratch,
 }
 
 impl<'m> Model for PlanCost<'m> {
@@ -70,15 +70,15 @@ impl<'m> PlanCost<'m> {
         ensures stands { IfOk result (λ part. StandsPlans part routes.now) }
     {
         let rules = PlanRules::open(alloc, model)?;
-        let mut room = Room::new(alloc);
-        let (costs, cumuls) = rules.kept(alloc, routes, &mut room.timer)?;
+        let mut scratch = Scratch::new(alloc);
+        let (costs, cumuls) = rules.kept(alloc, routes, &mut scratch.timer)?;
         Ok(PlanCost {
             rules,
             costs,
             next: ArrayVec::new(),
             is_prepared: false,
             cumuls,
-            room,
+            scratch,
         })
     }
 
@@ -130,7 +130,7 @@ impl<'m> PlanCost<'m> {
         }
         let cost = self
             .rules
-            .cost_after(&self.cumuls, routes, change, k, &mut self.room)?;
+            .cost_after(&self.cumuls, routes, change, k, &mut self.scratch)?;
         Ok(cost)
     }
 

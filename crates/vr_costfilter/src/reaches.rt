@@ -21,7 +21,7 @@ ghost use Rattle.vr_costfilter.specs.GlobalCosts.{is_some_spanned, Pays};
 ghost use Rattle.vr_costfilter.specs.Spreads.{global_least};
 
 use crate::orders::{Orders, beside};
-use crate::room::Room;
+use crate::scratch::Scratch;
 use crate::spreads::least_of_global_spans;
 use arrayvec::ArrayVec;
 use std::alloc::Global;
@@ -145,7 +145,7 @@ impl<'m> SpanRules<'m> {
         routes: &Routes,
         change: &Change,
         k: usize,
-        room: &mut Room,
+        scratch: &mut Scratch,
     ) -> Result<ListTimings, NoMemory>
         requires kept { AreAllKept self.now routes.now.lists cumuls.now }
         requires before { IsTrue (is_valid self.now routes.now.lists) }
@@ -155,7 +155,7 @@ impl<'m> SpanRules<'m> {
         ensures { IfOk result (IsRow self.now (part_at change.now k).vehicle
             (joined routes.now.lists (part_at change.now k).pieces)) }
     {
-        let timings = row_of_part(self.model, &self.tables, cumuls, routes, change, k, room)?;
+        let timings = row_of_part(self.model, &self.tables, cumuls, routes, change, k, scratch)?;
         Ok(timings)
     }
 
@@ -287,7 +287,7 @@ fn row_of_part(
     routes: &Routes,
     change: &Change,
     k: usize,
-    room: &mut Room,
+    scratch: &mut Scratch,
 ) -> Result<ListTimings, NoMemory>
     requires well_formed { IsWellFormed model.now }
     requires tables { AreTables model.now tables.now }
@@ -306,7 +306,7 @@ fn row_of_part(
             table: &tables[d],
             d: d as u32,
         };
-        timings[d] = kept_after(&at, cumuls, routes, change, k, room)?;
+        timings[d] = kept_after(&at, cumuls, routes, change, k, scratch)?;
     }
     Ok(timings)
 }
@@ -318,7 +318,7 @@ fn kept_after(
     routes: &Routes,
     change: &Change,
     k: usize,
-    room: &mut Room,
+    scratch: &mut Scratch,
 ) -> Result<Option<Timing>, NoMemory>
     requires at { IsKnownDimension at.now }
     requires kept { AreAllKept at.now.model.now routes.now.lists cumuls.now }
@@ -335,18 +335,18 @@ fn kept_after(
     if Piece::nodes_in(routes, change.pieces(k)) == 0 {
         return Ok(None);
     }
-    let told = cumuls.timing_after(at, routes, change, k, &mut room.trail);
+    let told = cumuls.timing_after(at, routes, change, k, &mut scratch.trail);
     if let Some(timing) = told {
         return Ok(Some(timing));
     }
-    routes.write_after(change, k, &mut room.row);
+    routes.write_after(change, k, &mut scratch.row);
     let timing = kept_in(
         at.model,
         at.table,
         at.d,
         change.vehicle(k),
-        room.row.as_slice(),
-        &mut room.timer,
+        scratch.row.as_slice(),
+        &mut scratch.timer,
     )?;
     Ok(timing)
 }

@@ -5,6 +5,7 @@ ghost use Rattle.std.specs.List.{list_all};
 ghost use Rattle.vr_model.specs.tables.Numbers.{below, number_at, total_by};
 ghost use Rattle.vr_model.specs.tables.Tables.{dimension_at, is_visit};
 ghost use Rattle.vr_model.specs.tables.WellFormed.{IsWellFormed};
+ghost use Rattle.vr_model.specs.declared.records.Model.{Model as Defined};
 ghost use Rattle.vr_model.specs.routes.Routes.{is_distinct, is_empty};
 ghost use Rattle.vr_model.specs.routes.Rules.{is_valid};
 ghost use Rattle.vr_timings.specs.Tables.{AreTables, IsKnownDimension, IsTable};
@@ -18,14 +19,16 @@ ghost use Rattle.vr_earliest.specs.Ways.{least_span};
 ghost use Rattle.vr_costfilter.specs.PlanCosts.{cost_after, pays_no_plan, plans_cost, spans_least, AreCosts};
 ghost use Rattle.vr_costfilter.specs.PlanCosts.{IsPlanCost, IsPlanCostIn};
 
-use crate::room::Room;
+use crate::scratch::Scratch;
 use std::alloc::Global;
 use std::marker::Model;
 use vr_cumuls::{AllCumuls, Paid};
 use vr_earliest::Earlies;
 use vr_model::{Model as RoutingModel, NoMemory};
 use vr_routes::{Change, Piece, Routes};
-use vr_timings::{KnownDimension, Table, Timer, Timing, may_pay_alone, span_cost, tables_of, times, timing_of};
+use vr_timings::{
+    KnownDimension, Table, Timer, Timing, may_pay_alone, span_cost, tables_of, times, timing_of,
+};
 
 /// What is looked up of a model once. Contracts see the model.
 #[derive(Drop)]
@@ -55,7 +58,7 @@ impl<'m> PlanRules<'m> {
         ensures { IfOk result (λ rules. rules ≡ model.now) }
     {
         let tables = tables_of(alloc, model)?;
-        let idle = pays_no_plan(model, &tables);
+        let idle = pays_no_plan(&tables);
         Ok(PlanRules {
             model,
             tables,
@@ -120,7 +123,7 @@ impl<'m> PlanRules<'m> {
         routes: &Routes,
         change: &Change,
         k: usize,
-        room: &mut Room,
+        scratch: &mut Scratch,
     ) -> Result<i64, NoMemory>
         requires kept { AreAllKept self.now routes.now.lists cumuls.now }
         requires before { IsTrue (is_valid self.now routes.now.lists) }
@@ -133,7 +136,7 @@ impl<'m> PlanRules<'m> {
         if Piece::nodes_in(routes, change.pieces(k)) == 0 {
             return Ok(0);
         }
-        let cost = cost_of_part(self.model, &self.tables, cumuls, routes, change, k, room)?;
+        let cost = cost_of_part(self.model, &self.tables, cumuls, routes, change, k, scratch)?;
         Ok(cost)
     }
 
@@ -189,7 +192,7 @@ fn cost_of_part(
     routes: &Routes,
     change: &Change,
     k: usize,
-    room: &mut Room,
+    scratch: &mut Scratch,
 ) -> Result<i64, NoMemory>
     requires well_formed { IsWellFormed model.now }
     requires tables { AreTables model.now tables.now }
@@ -209,7 +212,7 @@ fn cost_of_part(
             table: &tables[d],
             d: d as u32,
         };
-        cost += cost_of_plan_after(&at, cumuls, routes, change, k, room)?;
+        cost += cost_of_plan_after(&at, cumuls, routes, change, k, scratch)?;
     }
     Ok(cost)
 }
@@ -221,7 +224,7 @@ fn cost_of_plan_after(
     routes: &Routes,
     change: &Change,
     k: usize,
-    room: &mut Room,
+    scratch: &mut Scratch,
 ) -> Result<i64, NoMemory>
     requires at { IsKnownDimension at.now }
     requires kept { AreAllKept at.now.model.now routes.now.lists cumuls.now }
@@ -240,18 +243,18 @@ fn cost_of_plan_after(
         return Ok(0);
     }
     let v = change.vehicle(k);
-    let told = cumuls.timing_after(at, routes, change, k, &mut room.trail);
+    let told = cumuls.timing_after(at, routes, change, k, &mut scratch.trail);
     if let Some(timing) = told {
         return Ok(cost_of_timing(at.model, at.d, v, timing));
     }
-    routes.write_after(change, k, &mut room.row);
+    routes.write_after(change, k, &mut scratch.row);
     let cost = cost_of_plan(
         at.model,
         at.table,
         at.d,
         v,
-        room.row.as_slice(),
-        &mut room.timer,
+        scratch.row.as_slice(),
+        &mut scratch.timer,
     )?;
     Ok(cost)
 }
@@ -356,9 +359,8 @@ fn are_free(tables: &[Table]) -> bool
 }
 
 // Whether in no dimension a span has a coefficient or a stop a soft upper bound.
-fn pays_no_plan(_model: &RoutingModel, tables: &[Table]) -> bool
-    requires { AreTables _model.now tables.now }
-    ensures { result ≡ pays_no_plan _model.now }
+fn pays_no_plan(tables: &[Table]) -> bool
+    ensures { (model : Defined) → AreTables model tables.now → result ≡ pays_no_plan model }
 {
     are_free(tables)
 }

@@ -13,12 +13,12 @@ use Rattle.vr_model.specs.declared.records.Model.{Model}
 use Rattle.vr_parts.proofs.RowLemmas.{rows-push}
 use Rattle.vr_routes.proofs.JoinedPieces.{all_left, all_right}
 use Rattle.vr_walks.specs.Lists.{IsTour}
-use Rattle.vr_cumuls.specs.Ends.{AreRestsTo, AreWays, AreWaysTo, HasWays}
+use Rattle.vr_cumuls.specs.KeptWays.{AreRestsTo, AreWays, AreWaysTo, HasWays}
 use Rattle.vr_cumuls.specs.Guides.{runs_of, IsGuide}
 use Rattle.vr_cumuls.specs.Rests.{rest_before, rest_by, rest_of, way_through, IsRestOf}
 use Rattle.vr_cumuls.specs.Runs.{Runs, AllowsRuns, AreRuns, no_run, run_at, stop_runs}
 use Rattle.vr_cumuls.specs.Ways.{way_along, way_on, way_out, way_to_visit, whole_way, IsWayOf}
-use Rattle.vr_cumuls.specs.declared.ends.KeptEnds.{KeptEnds}
+use Rattle.vr_cumuls.specs.declared.kept_ways.KeptWays.{KeptWays}
 use Rattle.vr_cumuls.specs.declared.guides.Guide.{Guide}
 use Rattle.vr_cumuls.specs.declared.rests.Rest.{Rest}
 use Rattle.vr_cumuls.specs.declared.tight.Way.{Way}
@@ -71,7 +71,7 @@ module _ (model : Model) (d v : ℕ) (a b : Runs) where
       ∙ ap (λ (r : Run). way_along model d v b (way_on model d v way x r) xs) (all 0 0 (omega arith))
 
   same-rest : a.finish ≡ b.finish → (nodes : List ℕ) → All (λ node. slice_index_or a.visits node no_run ≡ slice_index_or b.visits node no_run) nodes → rest_of model d v a nodes ≡ rest_of model d v b nodes
-  same-rest finish [] all = ap (λ (r : Run). (let w : Rest = record { at = (vehicle_at model v).end; transits = pos 0; floor = r.lo; ceiling = r.hi } in w)) finish
+  same-rest finish [] all = ap (λ (r : Run). (let w : Rest = record { at = (vehicle_at model v).end; transits = pos 0; least_end = r.lo; latest_cumul = r.hi } in w)) finish
   same-rest finish (x ∷ xs) all =
       ap₂ (λ (r : Run) (rest : Rest). rest_by (transit model d v x rest.at) x r rest) (all 0 0 (omega arith)) (same-rest finish xs (λ k other low. all (suc k) other (omega (arith, low))))
 
@@ -101,7 +101,7 @@ module _ (model : Model) (d v : ℕ) (a b : Runs) (of_a : AreRuns model d v a) (
       (subst (λ (r : Run). r.lo ≤ℤ r.hi) (stop-visit a list k low) (some (suc k) (omega (arith, low)))))
 
 -- the numbers of what is kept
-module _ (g : Guide) (h : IsGuide g) (list : List ℕ) (few : length list ≤ 1000) (visits : All (λ node. IsTrue (is_visit g.model.now node)) list) (kept : KeptEnds) (has : HasWays g.model.now g.d g.v (runs_of g) list kept) where
+module _ (g : Guide) (h : IsGuide g) (list : List ℕ) (few : length list ≤ 1000) (visits : All (λ node. IsTrue (is_visit g.model.now node)) list) (kept : KeptWays) (has : HasWays g.model.now g.d g.v (runs_of g) list kept) where
   pub kept-way : (k : ℕ) (other : Way) → k ≤ length list → IsWayOf g.model.now 1000 (slice_index_or kept.ways.items k other)
   kept-way k other low =
       subst (IsWayOf g.model.now 1000) (sym (has.ways.each k other low))
@@ -117,7 +117,7 @@ module _ (g : Guide) (h : IsGuide g) (list : List ℕ) (few : length list ≤ 10
 -- ---- a list keeps the front and the end of an old one
 
 module _ (g : Guide) (h : IsGuide g) (are : AreRuns g.model.now g.d g.v (runs_of g)) (old list : List ℕ) (front behind : ℕ) (middle : List ℕ) (joins : list ≡ take front old ++ (middle ++ drop behind old))
-    (tour : IsTour g.model.now list) (few : length list ≤ 1000) (feasible : IsFeasible (line g.model.now g.d g.v list)) (kept : KeptEnds) (is : AreWays g.model.now g.d g.v old kept) where
+    (tour : IsTour g.model.now list) (few : length list ≤ 1000) (feasible : IsFeasible (line g.model.now g.d g.v list)) (kept : KeptWays) (is : AreWays g.model.now g.d g.v old kept) where
   same-all : All (λ node. slice_index_or is.runs.visits node no_run ≡ slice_index_or g.visits.now node no_run) list
   same-all = same-visits g.model.now g.d g.v is.runs (runs_of g) is.has.runs_are are list tour feasible
 

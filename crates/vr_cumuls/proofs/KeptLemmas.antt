@@ -17,12 +17,12 @@ use Rattle.vr_parts.proofs.RowLemmas.{set-at}
 use Rattle.vr_cumuls.specs.Floors.{end_step, first_of, floor_of, nodes_in, AreAimed, IsVisitStep}
 use Rattle.vr_cumuls.specs.Runs.{between_runs, Runs, AreRuns}
 use Rattle.vr_cumuls.specs.Stages.{along, setting_out, standing, to_end, to_visit, visit_more, whole, IsStageOf}
-use Rattle.vr_cumuls.specs.Ends.{AreEnds, HaveEnds}
+use Rattle.vr_cumuls.specs.KeptWays.{AreKeptWays, HaveKeptWays}
 use Rattle.vr_cumuls.specs.Kept.{AreAsMany, AreKept, HasRoom, IsKept}
 use Rattle.vr_cumuls.specs.Steps.{steps_of, AreAllStages, AreStages, AreStagesOf, AreSteps, HasStages}
-use Rattle.vr_cumuls.specs.declared.ends.KeptEnds.{KeptEnds}
+use Rattle.vr_cumuls.specs.declared.kept_ways.KeptWays.{KeptWays}
 use Rattle.vr_cumuls.specs.declared.guides.Stage.{Stage}
-use Rattle.vr_cumuls.specs.declared.kept.Kept.{Kept}
+use Rattle.vr_cumuls.specs.declared.kept.KeptList.{KeptList}
 use Rattle.vr_cumuls.specs.declared.steps.KeptSteps.{KeptSteps}
 use Rattle.vr_cumuls.specs.declared.trails.Step.{Step}
 use Rattle.vr_cumuls.proofs.FloorLemmas.{aimed-left, many-steps}
@@ -207,39 +207,39 @@ pub stages-none : (model : Model) (d v : ℕ) (runs : Runs) (list : List ℕ) (k
 stages-none model d v runs list kept few = record { told = λ many. absurd (omega (arith, few, many)) }
 
 -- what is written of a list in place of the first, where there is one
-pub ends-set : (model : Model) (d v : ℕ) (list : List ℕ) (ends : List KeptEnds) (new : KeptEnds) → AreEnds model d v list new → HaveEnds model d v list (slice_set ends 0 new)
+pub ends-set : (model : Model) (d v : ℕ) (list : List ℕ) (ends : List KeptWays) (new : KeptWays) → AreKeptWays model d v list new → HaveKeptWays model d v list (slice_set ends 0 new)
 ends-set model d v list ends new is = record {
-  first = λ other low. subst (AreEnds model d v list) (sym (get_or-set_same ends 0 new other (let n = length-set ends 0 new in omega (arith, n, low)))) is;
+  first = λ other low. subst (AreKeptWays model d v list) (sym (get_or-set_same ends 0 new other (let n = length-set ends 0 new in omega (arith, n, low)))) is;
 }
 
-pub ends-none : (model : Model) (d v : ℕ) (list : List ℕ) (ends : List KeptEnds) → length ends ≡ 0 → HaveEnds model d v list ends
+pub ends-none : (model : Model) (d v : ℕ) (list : List ℕ) (ends : List KeptWays) → length ends ≡ 0 → HaveKeptWays model d v list ends
 ends-none model d v list ends none = record { first = λ other low. absurd (omega (arith, none, low)) }
 
 -- ---- a list is replaced
 
-pub kept-set : (model : Model) (d : ℕ) (lists : List (List ℕ)) (kept : List Kept) (v : ℕ) (list : List ℕ) (new : Kept) → AreKept model d lists kept → v < length lists → v < length kept → IsKept model d v list new
+pub kept-set : (model : Model) (d : ℕ) (lists : List (List ℕ)) (kept : List KeptList) (v : ℕ) (list : List ℕ) (new : KeptList) → AreKept model d lists kept → v < length lists → v < length kept → IsKept model d v list new
     → HasRoom (vehicle_at model v).schedule new → AreKept model d (with_route lists v list) (slice_set kept v new)
 kept-set model d lists kept v list new h known low is room = record {
   each = λ u other under. set-at (IsKept model d) lists kept v list new low is u other (λ _. known) (λ _. h.each u other (let l = length-set kept v new in omega (arith, under, l)));
-  room = λ u other under. set-at (λ (w : ℕ) (l : List ℕ) (k : Kept). HasRoom (vehicle_at model w).schedule k) lists kept v list new low room u other (λ _. known) (λ _. h.room u other (let l = length-set kept v new in omega (arith, under, l)));
+  room = λ u other under. set-at (λ (w : ℕ) (l : List ℕ) (k : KeptList). HasRoom (vehicle_at model w).schedule k) lists kept v list new low room u other (λ _. known) (λ _. h.room u other (let l = length-set kept v new in omega (arith, under, l)));
 }
 
 -- as much room as before
-pub room-stays : (rule : ScheduleRule) (old new : Kept) → length new.ends.items ≡ length old.ends.items → HasRoom rule old → HasRoom rule new
+pub room-stays : (rule : ScheduleRule) (old new : KeptList) → length new.ends.items ≡ length old.ends.items → HasRoom rule old → HasRoom rule new
 room-stays rule old new same room = same ∙ room
 
 -- where it is not kept, what is kept stays
-pub kept-stays : (model : Model) (d : ℕ) (lists : List (List ℕ)) (kept : List Kept) (v : ℕ) (list : List ℕ) → AreKept model d lists kept → length kept ≤ v → AreKept model d (with_route lists v list) kept
+pub kept-stays : (model : Model) (d : ℕ) (lists : List (List ℕ)) (kept : List KeptList) (v : ℕ) (list : List ℕ) → AreKept model d lists kept → length kept ≤ v → AreKept model d (with_route lists v list) kept
 kept-stays model d lists kept v list h high = record {
   each = λ u other under. subst (λ l. IsKept model d u l (slice_index_or kept u other)) (sym (route_set_other lists v u list (λ e. absurd (omega (arith, e, under, high))))) (h.each u other under);
   room = λ u other under. h.room u other under;
 }
 
 -- something is kept of as many lists as it was before, and before that
-pub as-many-same : (kept : List (List Kept)) → AreAsMany kept kept
+pub as-many-same : (kept : List (List KeptList)) → AreAsMany kept kept
 as-many-same kept = record { many = refl; each = λ d other low. refl }
 
-pub as-many-then : (old next new : List (List Kept)) → AreAsMany old next → AreAsMany next new → AreAsMany old new
+pub as-many-then : (old next new : List (List KeptList)) → AreAsMany old next → AreAsMany next new → AreAsMany old new
 as-many-then old next new first then = record {
   many = then.many ∙ first.many;
   each = λ d other low. then.each d other low ∙ first.each d other (let n = then.many in omega (arith, n, low));

@@ -21,11 +21,11 @@ use Rattle.vr_cumuls.proofs.WayLemmas.{visit-ends, way-is}
 
 -- ---- the numbers of what is left
 
-pub rest-is : (node other : ℕ) (transits r floor f ceiling l : ℤ) → node ≡ other → transits ≡ r → floor ≡ f → ceiling ≡ l
-    → (let w : Rest = record { at = node; transits = transits; floor = floor; ceiling = ceiling } in w) ≡ (let w : Rest = record { at = other; transits = r; floor = f; ceiling = l } in w)
-rest-is node other transits r floor f ceiling l at a b c =
-    ap₂ (λ (n : ℕ) (x : ℤ). (let w : Rest = record { at = n; transits = x; floor = floor; ceiling = ceiling } in w)) at a
-    ∙ ap₂ (λ (x y : ℤ). (let w : Rest = record { at = other; transits = r; floor = x; ceiling = y } in w)) b c
+pub rest-is : (node other : ℕ) (transits r least_end f latest_cumul l : ℤ) → node ≡ other → transits ≡ r → least_end ≡ f → latest_cumul ≡ l
+    → (let w : Rest = record { at = node; transits = transits; least_end = least_end; latest_cumul = latest_cumul } in w) ≡ (let w : Rest = record { at = other; transits = r; least_end = f; latest_cumul = l } in w)
+rest-is node other transits r least_end f latest_cumul l at a b c =
+    ap₂ (λ (n : ℕ) (x : ℤ). (let w : Rest = record { at = n; transits = x; least_end = least_end; latest_cumul = latest_cumul } in w)) at a
+    ∙ ap₂ (λ (x y : ℤ). (let w : Rest = record { at = other; transits = r; least_end = x; latest_cumul = y } in w)) b c
 
 pub rest-more : (model : Model) (n m : ℕ) (rest : Rest) → n ≤ m → IsRestOf model n rest → IsRestOf model m rest
 rest-more model n m rest le h = record {
@@ -61,18 +61,18 @@ module _ (model : Model) (rest : Rest) (allowed : Run) (t r : ℤ) (h : IsRestOf
       let q = ends.lo.at_most in
       omega (arith, ints, is, same, least, greatest, low, high, p, q)
 
-  under-read : to_z w64 (of_z w64 (to_z w64 (of_z w64 rest.ceiling) -ℤ to_z w64 (of_z w64 r))) ≡ rest.ceiling -ℤ t
+  under-read : to_z w64 (of_z w64 (to_z w64 (of_z w64 rest.latest_cumul) -ℤ to_z w64 (of_z w64 r))) ≡ rest.latest_cumul -ℤ t
   under-read = let low = h.soonest in let high = h.latest in omega (arith, ints, same, least, greatest, low, high)
 
-  pub under-fits : FitsSigned w64 (to_z w64 (of_z w64 rest.ceiling) -ℤ to_z w64 (of_z w64 r))
+  pub under-fits : FitsSigned w64 (to_z w64 (of_z w64 rest.latest_cumul) -ℤ to_z w64 (of_z w64 r))
   under-fits = let low = h.soonest in let high = h.latest in omega (arith, ints, same, least, greatest, low, high)
 
-  floor-known : to_z w64 (of_z w64 rest.floor) ≡ rest.floor
+  floor-known : to_z w64 (of_z w64 rest.least_end) ≡ rest.least_end
   floor-known = let early = h.early in let late = h.late in omega (arith, ints, early, late)
 
-  floor-read : (x : ℤ) → x ≡ int_max (allowed.lo +ℤ (t +ℤ rest.transits)) rest.floor → to_z w64 (of_z w64 x) ≡ x
+  floor-read : (x : ℤ) → x ≡ int_max (allowed.lo +ℤ (t +ℤ rest.transits)) rest.least_end → to_z w64 (of_z w64 x) ≡ x
   floor-read x is =
-      let m = int_max_is (allowed.lo +ℤ (t +ℤ rest.transits)) rest.floor in
+      let m = int_max_is (allowed.lo +ℤ (t +ℤ rest.transits)) rest.least_end in
       let low = h.low in
       let high = h.high in
       let early = h.early in
@@ -81,23 +81,23 @@ module _ (model : Model) (rest : Rest) (allowed : Run) (t r : ℤ) (h : IsRestOf
       let q = ends.lo.at_most in
       omega (arith, ints, is, m, same, least, greatest, low, high, early, late, p, q)
 
-  ceiling-read : (x : ℤ) → x ≡ int_min allowed.hi (rest.ceiling -ℤ t) → to_z w64 (of_z w64 x) ≡ x
+  ceiling-read : (x : ℤ) → x ≡ int_min allowed.hi (rest.latest_cumul -ℤ t) → to_z w64 (of_z w64 x) ≡ x
   ceiling-read x is =
-      let m = int_min_is allowed.hi (rest.ceiling -ℤ t) in
+      let m = int_min_is allowed.hi (rest.latest_cumul -ℤ t) in
       let low = h.soonest in
       let high = h.latest in
       let p = ends.hi.at_least in
       let q = ends.hi.at_most in
       omega (arith, ints, is, m, same, least, greatest, low, high, p, q)
 
-  pub before-read : (node : ℕ) (floor ceiling : ℤ)
-      → floor ≡ int_max (to_z w64 (of_z w64 (to_z w64 (of_z w64 allowed.lo) +ℤ to_z w64 (of_z w64 (to_z w64 (of_z w64 r) +ℤ to_z w64 (of_z w64 rest.transits)))))) (to_z w64 (of_z w64 rest.floor))
-      → ceiling ≡ int_min (to_z w64 (of_z w64 allowed.hi)) (to_z w64 (of_z w64 (to_z w64 (of_z w64 rest.ceiling) -ℤ to_z w64 (of_z w64 r))))
-      → (let w : Rest = record { at = node; transits = to_z w64 (of_z w64 (to_z w64 (of_z w64 r) +ℤ to_z w64 (of_z w64 rest.transits))); floor = to_z w64 (of_z w64 floor); ceiling = to_z w64 (of_z w64 ceiling) } in w) ≡ rest_by t node allowed rest
-  before-read node floor ceiling floor_is ceiling_is =
+  pub before-read : (node : ℕ) (least_end latest_cumul : ℤ)
+      → least_end ≡ int_max (to_z w64 (of_z w64 (to_z w64 (of_z w64 allowed.lo) +ℤ to_z w64 (of_z w64 (to_z w64 (of_z w64 r) +ℤ to_z w64 (of_z w64 rest.transits)))))) (to_z w64 (of_z w64 rest.least_end))
+      → latest_cumul ≡ int_min (to_z w64 (of_z w64 allowed.hi)) (to_z w64 (of_z w64 (to_z w64 (of_z w64 rest.latest_cumul) -ℤ to_z w64 (of_z w64 r))))
+      → (let w : Rest = record { at = node; transits = to_z w64 (of_z w64 (to_z w64 (of_z w64 r) +ℤ to_z w64 (of_z w64 rest.transits))); least_end = to_z w64 (of_z w64 least_end); latest_cumul = to_z w64 (of_z w64 latest_cumul) } in w) ≡ rest_by t node allowed rest
+  before-read node least_end latest_cumul floor_is ceiling_is =
       let soon = floor_is ∙ ap₂ (λ (x y : ℤ). int_max x y) from-read floor-known in
       let late = ceiling_is ∙ ap₂ (λ (x y : ℤ). int_min x y) (read-cumul allowed.hi ends.hi) under-read in
-      rest-is node node _ _ _ _ _ _ refl left-read (floor-read floor soon ∙ soon) (ceiling-read ceiling late ∙ late)
+      rest-is node node _ _ _ _ _ _ refl left-read (floor-read least_end soon ∙ soon) (ceiling-read latest_cumul late ∙ late)
 
 -- what is read of a way through what is left
 module _ (model : Model) (way : Way) (rest : Rest) (t r : ℤ) (w : IsWayOf model 2000 way) (h : IsRestOf model 1000 rest) (same : r ≡ t) (least : neg_ℤ (pos (2 ^ 31)) ≤ℤ r) (greatest : r ≤ℤ pos (2 ^ 31)) where
@@ -134,7 +134,7 @@ module _ (model : Model) (way : Way) (rest : Rest) (t r : ℤ) (w : IsWayOf mode
   gone-read : to_z w64 (of_z w64 (to_z w64 (of_z w64 way.transits) +ℤ to_z w64 (of_z w64 r))) ≡ way.transits +ℤ t
   gone-read = let few = w.low in let many = w.high in omega (arith, ints, same, least, greatest, few, many)
 
-  start-read : to_z w64 (of_z w64 (to_z w64 (of_z w64 rest.ceiling) -ℤ to_z w64 (of_z w64 (to_z w64 (of_z w64 way.transits) +ℤ to_z w64 (of_z w64 r))))) ≡ rest.ceiling -ℤ (way.transits +ℤ t)
+  start-read : to_z w64 (of_z w64 (to_z w64 (of_z w64 rest.latest_cumul) -ℤ to_z w64 (of_z w64 (to_z w64 (of_z w64 way.transits) +ℤ to_z w64 (of_z w64 r))))) ≡ rest.latest_cumul -ℤ (way.transits +ℤ t)
   start-read =
       let is = gone-read in
       let few = w.low in
@@ -143,7 +143,7 @@ module _ (model : Model) (way : Way) (rest : Rest) (t r : ℤ) (w : IsWayOf mode
       let high = h.latest in
       omega (arith, ints, is, same, least, greatest, few, many, low, high)
 
-  pub start-fits : FitsSigned w64 (to_z w64 (of_z w64 rest.ceiling) -ℤ to_z w64 (of_z w64 (to_z w64 (of_z w64 way.transits) +ℤ to_z w64 (of_z w64 r))))
+  pub start-fits : FitsSigned w64 (to_z w64 (of_z w64 rest.latest_cumul) -ℤ to_z w64 (of_z w64 (to_z w64 (of_z w64 way.transits) +ℤ to_z w64 (of_z w64 r))))
   start-fits =
       let is = gone-read in
       let few = w.low in
@@ -161,15 +161,15 @@ module _ (model : Model) (way : Way) (rest : Rest) (t r : ℤ) (w : IsWayOf mode
       let late = w.late in
       omega (arith, ints, is, same, least, greatest, low, high, early, late)
 
-  floor-is : to_z w64 (of_z w64 rest.floor) ≡ rest.floor
+  floor-is : to_z w64 (of_z w64 rest.least_end) ≡ rest.least_end
   floor-is = let early = h.early in let late = h.late in omega (arith, ints, early, late)
 
   latest-is : to_z w64 (of_z w64 way.latest) ≡ way.latest
   latest-is = let soonest = w.soonest in let latest = w.latest in omega (arith, ints, soonest, latest)
 
-  time-read : (x : ℤ) → x ≡ int_max (way.time +ℤ (t +ℤ rest.transits)) rest.floor → to_z w64 (of_z w64 x) ≡ x
+  time-read : (x : ℤ) → x ≡ int_max (way.time +ℤ (t +ℤ rest.transits)) rest.least_end → to_z w64 (of_z w64 x) ≡ x
   time-read x is =
-      let m = int_max_is (way.time +ℤ (t +ℤ rest.transits)) rest.floor in
+      let m = int_max_is (way.time +ℤ (t +ℤ rest.transits)) rest.least_end in
       let low = h.low in
       let high = h.high in
       let early = w.early in
@@ -178,9 +178,9 @@ module _ (model : Model) (way : Way) (rest : Rest) (t r : ℤ) (w : IsWayOf mode
       let q = h.late in
       omega (arith, ints, is, m, same, least, greatest, low, high, early, late, p, q)
 
-  latest-read : (x : ℤ) → x ≡ int_min way.latest (rest.ceiling -ℤ (way.transits +ℤ t)) → to_z w64 (of_z w64 x) ≡ x
+  latest-read : (x : ℤ) → x ≡ int_min way.latest (rest.latest_cumul -ℤ (way.transits +ℤ t)) → to_z w64 (of_z w64 x) ≡ x
   latest-read x is =
-      let m = int_min_is way.latest (rest.ceiling -ℤ (way.transits +ℤ t)) in
+      let m = int_min_is way.latest (rest.latest_cumul -ℤ (way.transits +ℤ t)) in
       let few = w.low in
       let many = w.high in
       let soonest = w.soonest in
@@ -190,8 +190,8 @@ module _ (model : Model) (way : Way) (rest : Rest) (t r : ℤ) (w : IsWayOf mode
       omega (arith, ints, is, m, same, least, greatest, few, many, soonest, latest, low, high)
 
   pub through-read : (node end : ℕ) (time latest : ℤ) → node ≡ end
-      → time ≡ int_max (to_z w64 (of_z w64 (to_z w64 (of_z w64 way.time) +ℤ to_z w64 (of_z w64 (to_z w64 (of_z w64 r) +ℤ to_z w64 (of_z w64 rest.transits)))))) (to_z w64 (of_z w64 rest.floor))
-      → latest ≡ int_min (to_z w64 (of_z w64 way.latest)) (to_z w64 (of_z w64 (to_z w64 (of_z w64 rest.ceiling) -ℤ to_z w64 (of_z w64 (to_z w64 (of_z w64 way.transits) +ℤ to_z w64 (of_z w64 r))))))
+      → time ≡ int_max (to_z w64 (of_z w64 (to_z w64 (of_z w64 way.time) +ℤ to_z w64 (of_z w64 (to_z w64 (of_z w64 r) +ℤ to_z w64 (of_z w64 rest.transits)))))) (to_z w64 (of_z w64 rest.least_end))
+      → latest ≡ int_min (to_z w64 (of_z w64 way.latest)) (to_z w64 (of_z w64 (to_z w64 (of_z w64 rest.latest_cumul) -ℤ to_z w64 (of_z w64 (to_z w64 (of_z w64 way.transits) +ℤ to_z w64 (of_z w64 r))))))
       → (let w : Way = record { at = node; time = to_z w64 (of_z w64 time); transits = to_z w64 (of_z w64 (to_z w64 (of_z w64 way.transits) +ℤ to_z w64 (of_z w64 (to_z w64 (of_z w64 r) +ℤ to_z w64 (of_z w64 rest.transits))))); latest = to_z w64 (of_z w64 latest) } in w) ≡ through_by t end rest way
   through-read node end time latest at time_is latest_is =
       let soon = time_is ∙ ap₂ (λ (x y : ℤ). int_max x y) sum-read floor-is in
@@ -224,8 +224,8 @@ module _ (model : Model) (well : IsWellFormed model) (d v : ℕ) (dimension : d 
         let allowed = slice_index_or runs.visits node no_run in
         let ends = visit-ends model well d v dimension vehicle runs visits node no_run visit in
         let t = transit_in_range model well d v dimension vehicle node rest.at low h.at in
-        let m = int_max_is (allowed.lo +ℤ (transit model d v node rest.at +ℤ rest.transits)) rest.floor in
-        let o = int_min_is allowed.hi (rest.ceiling -ℤ transit model d v node rest.at) in
+        let m = int_max_is (allowed.lo +ℤ (transit model d v node rest.at +ℤ rest.transits)) rest.least_end in
+        let o = int_min_is allowed.hi (rest.latest_cumul -ℤ transit model d v node rest.at) in
         let a = t.at_least in
         let b = t.at_most in
         let e = h.early in
@@ -258,8 +258,8 @@ module _ (model : Model) (well : IsWellFormed model) (d v : ℕ) (dimension : d 
   pub end-way : (n m : ℕ) (way : Way) (rest : Rest) → IsWayOf model n way → IsRestOf model m rest → IsWayOf model (n + 1 + m) (way_through model d v way rest)
   end-way n m way rest h r =
       let t = transit_in_range model well d v dimension vehicle way.at rest.at h.at r.at in
-      let x = int_max_is (way.time +ℤ (transit model d v way.at rest.at +ℤ rest.transits)) rest.floor in
-      let o = int_min_is way.latest (rest.ceiling -ℤ (way.transits +ℤ transit model d v way.at rest.at)) in
+      let x = int_max_is (way.time +ℤ (transit model d v way.at rest.at +ℤ rest.transits)) rest.least_end in
+      let o = int_min_is way.latest (rest.latest_cumul -ℤ (way.transits +ℤ transit model d v way.at rest.at)) in
       let a = t.at_least in
       let b = t.at_most in
       let l = h.low in
@@ -302,8 +302,8 @@ module _ (model : Model) (d v : ℕ) (runs : Runs) where
       let u = transit model d v x rest.at in
       let allowed : Run = slice_index_or runs.visits x no_run in
       let sum : way.transits +ℤ (t +ℤ (u +ℤ rest.transits)) ≡ (way.transits +ℤ t) +ℤ (u +ℤ rest.transits) = omega (arith, ints) in
-      way-is (vehicle_at model v).end (vehicle_at model v).end _ _ _ _ _ _ refl (greatest-three way.time allowed.lo rest.floor t (u +ℤ rest.transits)) sum
-      (least-three way.latest allowed.hi rest.ceiling way.transits t u)
+      way-is (vehicle_at model v).end (vehicle_at model v).end _ _ _ _ _ _ refl (greatest-three way.time allowed.lo rest.least_end t (u +ℤ rest.transits)) sum
+      (least-three way.latest allowed.hi rest.latest_cumul way.transits t u)
 
   through-end : (way : Way) → way_through model d v way (rest_at_end model v runs) ≡ way_on model d v way (vehicle_at model v).end runs.finish
   through-end way =

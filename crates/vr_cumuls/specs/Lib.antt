@@ -4,6 +4,6 @@ pub mod Stages
 pub mod Guides
 pub mod Ways
 pub mod Rests
-pub mod Ends
+pub mod KeptWays
 pub mod Steps
 pub mod Kept

@@ -14,8 +14,8 @@ abbrev pub rest_at_end : Model → ℕ → Runs → Rest
 rest_at_end model v runs = record {
   at = (vehicle_at model v).end;
   transits = pos 0;
-  floor = runs.finish.lo;
-  ceiling = runs.finish.hi;
+  least_end = runs.finish.lo;
+  latest_cumul = runs.finish.hi;
 }
 
 -- what is left from a stop on that allows a run of cumuls, over an arc that takes t to the next one
@@ -23,8 +23,8 @@ abbrev pub rest_by : ℤ → ℕ → Run → Rest → Rest
 rest_by t node allowed rest = record {
   at = node;
   transits = t +ℤ rest.transits;
-  floor = int_max (allowed.lo +ℤ (t +ℤ rest.transits)) rest.floor;
-  ceiling = int_min allowed.hi (rest.ceiling -ℤ t);
+  least_end = int_max (allowed.lo +ℤ (t +ℤ rest.transits)) rest.least_end;
+  latest_cumul = int_min allowed.hi (rest.latest_cumul -ℤ t);
 }
 
 -- what is left from a visit on, which comes before what is left from the next stop on
@@ -41,9 +41,9 @@ rest_of model d v runs (x ∷ xs) = rest_before model d v runs x (rest_of model 
 abbrev pub through_by : ℤ → ℕ → Rest → Way → Way
 through_by t end rest way = record {
   at = end;
-  time = int_max (way.time +ℤ (t +ℤ rest.transits)) rest.floor;
+  time = int_max (way.time +ℤ (t +ℤ rest.transits)) rest.least_end;
   transits = way.transits +ℤ (t +ℤ rest.transits);
-  latest = int_min way.latest (rest.ceiling -ℤ (way.transits +ℤ t));
+  latest = int_min way.latest (rest.latest_cumul -ℤ (way.transits +ℤ t));
 }
 
 -- a way of vehicle v goes on so
@@ -57,7 +57,7 @@ pub record IsRestOf (model : Model) (n : ℕ) (rest : Rest) : Type 0 where
   pub at : rest.at < model.nodes
   pub low : neg_ℤ (pos (2147483648 * n)) ≤ℤ rest.transits
   pub high : rest.transits ≤ℤ pos (2147483648 * n)
-  pub early : pos 0 ≤ℤ rest.floor
-  pub late : rest.floor ≤ℤ pos (68719476736 + 2147483648 * n)
-  pub soonest : neg_ℤ (pos (2147483648 * n)) ≤ℤ rest.ceiling
-  pub latest : rest.ceiling ≤ℤ horizon
+  pub early : pos 0 ≤ℤ rest.least_end
+  pub late : rest.least_end ≤ℤ pos (68719476736 + 2147483648 * n)
+  pub soonest : neg_ℤ (pos (2147483648 * n)) ≤ℤ rest.latest_cumul
+  pub latest : rest.latest_cumul ≤ℤ horizon

@@ -12,8 +12,8 @@ ghost use Rattle.vr_routes.specs.Changes.{IsMadeOn};
 ghost use Rattle.vr_routes.specs.Pieces.{changed, joined, part_at};
 ghost use Rattle.vr_timings.specs.Tables.{AreTables, IsKnownDimension, IsTable};
 ghost use Rattle.vr_timings.specs.Timings.{IsTiming, IsTimingOf};
-ghost use Rattle.vr_cumuls.specs.Kept.{AreAllKept, AreAsMany, AreKept, AreOfEach, IsPaid, IsTold};
-ghost use Rattle.vr_cumuls.specs.declared.kept.Kept.{Kept as KeptOf};
+ghost use Rattle.vr_cumuls.specs.Kept.{AreAllKept, AreAsMany, AreKept, AreOfEach, IsPaid, IsKnown};
+ghost use Rattle.vr_cumuls.specs.declared.kept.KeptList.{KeptList as KeptOf};
 
 use crate::kept::KeptCumuls;
 use crate::trails::Trail;
@@ -43,7 +43,7 @@ pub struct AllCumuls {
 
 impl Model for AllCumuls {
     ghost use Rattle.std.specs.Prelude.{List};
-    ghost use Rattle.vr_cumuls.specs.declared.kept.Kept.{Kept as KeptOf};
+    ghost use Rattle.vr_cumuls.specs.declared.kept.KeptList.{KeptList as KeptOf};
 
     ghost Value = { List (List KeptOf) };
 
@@ -94,7 +94,7 @@ impl AllCumuls {
         requires part { k < length change.now }
         requires some { is_empty (joined routes.now.lists (part_at change.now k).pieces) ≡ false }
         ensures known { (other : List KeptOf) → IsTrue (is_some result)
-            ↔ IsTold at.now.model.now at.now.d (part_at change.now k).vehicle
+            ↔ IsKnown at.now.model.now at.now.d (part_at change.now k).vehicle
             (route routes.now.lists (part_at change.now k).vehicle) (slice_index_or self.now at.now.d other) }
         ensures timing { IfSome result (IsTiming at.now.model.now at.now.d (part_at change.now k).vehicle
             (joined routes.now.lists (part_at change.now k).pieces)) }

@@ -1,13 +1,13 @@
 //! What is kept of committed lists, and what a change makes of them.
 
-ghost use Rattle.std.specs.Prelude.{◌≡◌, ◌<◌, ◌≤◌, ◌+◌, All, ℕ, List, IfOk, IfSome, IsTrue, length, pos};
+ghost use Rattle.std.specs.Prelude.{◌≡◌, ◌<◌, ◌≤◌, ◌+◌, All, ℕ, List, IfOk, IfSome, IsTrue, false, length, pos};
 ghost use Rattle.std.specs.Prelude.{◌↔◌, is_some, slice_index_or};
 ghost use Rattle.std.specs.List.{list_all};
 ghost use Rattle.vr_model.specs.moves.Moves.{with_route};
 ghost use Rattle.vr_model.specs.routes.Routes.{route};
 ghost use Rattle.vr_model.specs.routes.Rules.{is_valid};
 ghost use Rattle.vr_model.specs.schedules.Choices.{is_feasible};
-ghost use Rattle.vr_model.specs.schedules.Lines.{line};
+ghost use Rattle.vr_model.specs.schedules.Lines.{line, Line};
 ghost use Rattle.vr_model.specs.schedules.Narrowed.{chosen_line};
 ghost use Rattle.vr_model.specs.schedules.Schedules.{IsFeasible};
 ghost use Rattle.vr_model.specs.tables.Tables.{is_visit, vehicle_at};
@@ -19,17 +19,17 @@ ghost use Rattle.vr_routes.specs.Pieces.{joined, IsWithin};
 ghost use Rattle.vr_timings.specs.Tables.{IsKnownDimension, IsTable};
 ghost use Rattle.vr_timings.specs.Timings.{IsTiming, IsTimingOf};
 ghost use Rattle.vr_walks.specs.Lists.{IsUsed};
-ghost use Rattle.vr_cumuls.specs.Ends.{HasCumuls, HasWays, HaveEnds};
+ghost use Rattle.vr_cumuls.specs.KeptWays.{AreEndsOf, HasCumuls, HasWays, HaveKeptWays};
 ghost use Rattle.vr_cumuls.specs.Guides.{runs_of, IsGuide};
-ghost use Rattle.vr_cumuls.specs.Kept.{is_tight, AreKept, HasRoom, IsKept, IsTold, TellsEarliest, TellsTight};
+ghost use Rattle.vr_cumuls.specs.Kept.{is_tight, AreKept, HasRoom, IsKept, IsKnown, HasAllStages, HasAllWays};
 ghost use Rattle.vr_cumuls.specs.Runs.{between_runs, AllowsRuns, AreRuns};
 ghost use Rattle.vr_cumuls.specs.Steps.{HasStages};
-ghost use Rattle.vr_cumuls.specs.declared.ends.KeptEnds.{KeptEnds as EndsOf};
+ghost use Rattle.vr_cumuls.specs.declared.kept_ways.KeptWays.{KeptWays as EndsOf};
 
-use crate::ends::KeptEnds;
 use crate::guides::Guide;
+use crate::kept_ways::KeptWays;
 use crate::steps::KeptSteps;
-use crate::tight::Ends;
+use crate::tight::TightEnds;
 use crate::trails::Trail;
 use std::alloc::Global;
 use std::marker::Model;
@@ -39,28 +39,28 @@ use vr_timings::{KnownDimension, Table, Timing};
 
 /// What is kept of the list of a vehicle.
 #[derive(Drop)]
-pub struct Kept {
+pub struct KeptList {
     // the steps and the stages of its chosen schedule; none of a tight one that soft upper bounds cost nothing
     steps: KeptSteps,
     // the cumuls of its start and of its end, between which they are, where it chooses its tight schedule
-    between: Ends,
+    between: TightEnds,
     // the ways to the ends of its list, of a vehicle that chooses its tight schedule one, and else none
-    ends: Vec<KeptEnds>,
+    ends: Vec<KeptWays>,
 }
 
-impl Kept {
+impl KeptList {
     // Of no list, with room for what such a rule asks. The only refusal is want of memory.
-    fn new(alloc: Global, rule: ScheduleRule) -> Result<Kept, NoMemory>
+    fn new(alloc: Global, rule: ScheduleRule) -> Result<KeptList, NoMemory>
         ensures room { IfOk result (HasRoom rule) }
         ensures none { IfOk result (λ kept. length kept.steps.stages.items ≡ 0) }
     {
         let mut ends = Vec::new(alloc);
         if is_tight(rule) {
-            ends.push(KeptEnds::new())?;
+            ends.push(KeptWays::new())?;
         }
-        Ok(Kept {
+        Ok(KeptList {
             steps: KeptSteps::new(),
-            between: Ends { start: 0, last: 0 },
+            between: TightEnds { start: 0, last: 0 },
             ends,
         })
     }
@@ -70,11 +70,11 @@ impl Kept {
         ensures none { length self.new.steps.stages.items ≡ 0 }
         ensures room { length self.new.ends.items ≡ length self.old.ends.items }
         ensures ends { (model : Defined) (d : ℕ) (v : ℕ) (list : List ℕ)
-            → HaveEnds model d v list self.new.ends.items }
+            → HaveKeptWays model d v list self.new.ends.items }
         ensures between { HasCumuls self.new.between }
     {
         self.steps.forget();
-        self.between = Ends { start: 0, last: 0 };
+        self.between = TightEnds { start: 0, last: 0 };
         if !self.ends.is_empty() {
             self.ends[0].forget();
         }
@@ -125,6 +125,11 @@ impl Kept {
         ensures stages { HasStages guide.now.model.now guide.now.d guide.now.v
             (between_runs (runs_of guide.now) self.new.between.start self.new.between.last) list.now self.new.steps }
         ensures between { HasCumuls self.new.between }
+        ensures told { guide.now.table.now.is_hard ≡ false → AreEndsOf guide.now.model.now guide.now.d guide.now.v
+            (runs_of guide.now) list.now self.new.between }
+        ensures all { guide.now.table.now.is_hard ≡ false → (line : Line) → AllowsRuns guide.now.model.now guide.now.d
+            guide.now.v (between_runs (runs_of guide.now) self.new.between.start self.new.between.last) list.now line
+            → IsFeasible line → length self.new.steps.stages.items ≡ length list.now + 2 }
         ensures ends { self.new.ends.items ≡ self.old.ends.items }
     {
         if guide.table.is_hard {
@@ -156,7 +161,7 @@ impl Kept {
         requires few { length (joined routes.now.lists pieces.now) ≤ 1000 }
         requires feasible { IsFeasible (line guide.now.model.now guide.now.d guide.now.v
             (joined routes.now.lists pieces.now)) }
-        ensures known { IsTrue (is_some result) ↔ TellsTight (route routes.now.lists guide.now.v) self.now }
+        ensures known { IsTrue (is_some result) ↔ HasAllWays (route routes.now.lists guide.now.v) self.now }
         ensures timing { IfSome result (IsTiming guide.now.model.now guide.now.d guide.now.v
             (joined routes.now.lists pieces.now)) }
         ensures range { IfSome result (IsTimingOf (length (joined routes.now.lists pieces.now) + 2)) }
@@ -185,7 +190,7 @@ impl Kept {
     fn timing_between(
         &self,
         guide: &Guide,
-        ends: Ends,
+        ends: TightEnds,
         routes: &Routes,
         pieces: &[Piece],
         trail: &mut Trail,
@@ -273,7 +278,7 @@ impl Kept {
         requires used { IsUsed guide.now.model.now (joined routes.now.lists pieces.now) }
         requires few { length (joined routes.now.lists pieces.now) ≤ 1000 }
         ensures known { IsFeasible (line guide.now.model.now guide.now.d guide.now.v (joined routes.now.lists pieces.now))
-            → IsTrue (is_some result) ↔ TellsEarliest (route routes.now.lists guide.now.v) self.now }
+            → IsTrue (is_some result) ↔ HasAllStages (route routes.now.lists guide.now.v) self.now }
         ensures timing { IfSome result (IsTiming guide.now.model.now guide.now.d guide.now.v
             (joined routes.now.lists pieces.now)) }
         ensures range { IfSome result (IsTimingOf (length (joined routes.now.lists pieces.now) + 2)) }
@@ -300,12 +305,12 @@ fn is_tight(rule: ScheduleRule) -> bool
 /// what is kept of each.
 #[derive(Drop)]
 pub struct KeptCumuls {
-    lists: Vec<Kept>,
+    lists: Vec<KeptList>,
 }
 
 impl Model for KeptCumuls {
     ghost use Rattle.std.specs.Prelude.{List};
-    ghost use Rattle.vr_cumuls.specs.declared.kept.Kept.{Kept as KeptOf};
+    ghost use Rattle.vr_cumuls.specs.declared.kept.KeptList.{KeptList as KeptOf};
 
     ghost Value = { List KeptOf };
 
@@ -339,7 +344,7 @@ impl KeptCumuls {
     {
         let mut lists = Vec::new(alloc);
         for v in 0..routes.vehicles() {
-            let mut kept = Kept::new(alloc, model.vehicles.get(v as usize).schedule)?;
+            let mut kept = KeptList::new(alloc, model.vehicles.get(v as usize).schedule)?;
             write_list(model, table, d, v, routes.list(v), &mut kept);
             lists.push(kept)?;
         }
@@ -386,7 +391,7 @@ impl KeptCumuls {
         requires used { IsUsed at.now.model.now (joined routes.now.lists pieces.now) }
         requires few { length (joined routes.now.lists pieces.now) ≤ 1000 }
         requires feasible { IsFeasible (line at.now.model.now at.now.d v (joined routes.now.lists pieces.now)) }
-        ensures known { IsTrue (is_some result) ↔ IsTold at.now.model.now at.now.d v (route routes.now.lists v) self.now }
+        ensures known { IsTrue (is_some result) ↔ IsKnown at.now.model.now at.now.d v (route routes.now.lists v) self.now }
         ensures timing { IfSome result (IsTiming at.now.model.now at.now.d v (joined routes.now.lists pieces.now)) }
         ensures range { IfSome result (IsTimingOf (length (joined routes.now.lists pieces.now) + 2)) }
     {
@@ -404,7 +409,14 @@ impl KeptCumuls {
 }
 
 // Writes what is kept of a list of vehicle `v` in dimension `d`.
-fn write_list(model: &RoutingModel, table: &Table, d: u32, v: u32, list: &[u32], kept: &mut Kept)
+fn write_list(
+    model: &RoutingModel,
+    table: &Table,
+    d: u32,
+    v: u32,
+    list: &[u32],
+    kept: &mut KeptList,
+)
     requires well_formed { IsWellFormed model.now }
     requires dimension { d < length model.now.dimensions }
     requires vehicle { v < length model.now.vehicles }

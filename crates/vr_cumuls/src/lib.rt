@@ -15,9 +15,9 @@
 #![tactic(auto)]
 
 mod dimensions;
-mod ends;
 mod guides;
 mod kept;
+mod kept_ways;
 mod rests;
 mod steps;
 mod tight;

@@ -19,8 +19,8 @@ use vr_spans::Run;
 pub struct Rest {
     pub at: u32,
     pub transits: i64,
-    pub floor: i64,
-    pub ceiling: i64,
+    pub least_end: i64,
+    pub latest_cumul: i64,
 }
 
 impl<'m> Guide<'m> {
@@ -34,8 +34,8 @@ impl<'m> Guide<'m> {
         Rest {
             at: self.finish.node,
             transits: 0,
-            floor: self.finish.allowed.lo,
-            ceiling: self.finish.allowed.hi,
+            least_end: self.finish.allowed.lo,
+            latest_cumul: self.finish.allowed.hi,
         }
     }
 
@@ -67,8 +67,8 @@ impl<'m> Guide<'m> {
         Rest {
             at: node,
             transits,
-            floor: (allowed.lo + transits).max(rest.floor),
-            ceiling: allowed.hi.min(rest.ceiling - transit),
+            least_end: (allowed.lo + transits).max(rest.least_end),
+            latest_cumul: allowed.hi.min(rest.latest_cumul - transit),
         }
     }
 
@@ -86,9 +86,9 @@ impl<'m> Guide<'m> {
         let left = transit + rest.transits;
         Way {
             at: self.finish.node,
-            time: (way.time + left).max(rest.floor),
+            time: (way.time + left).max(rest.least_end),
             transits: way.transits + left,
-            latest: way.latest.min(rest.ceiling - (way.transits + transit)),
+            latest: way.latest.min(rest.latest_cumul - (way.transits + transit)),
         }
     }
 }

@@ -19,14 +19,14 @@ ghost use Rattle.vr_routes.specs.Pieces.{joined, nodes_of, IsWithin};
 ghost use Rattle.vr_timings.specs.Timings.{IsTiming, IsTimingOf};
 ghost use Rattle.vr_walks.specs.Lists.{IsUsed};
 ghost use Rattle.vr_walks.specs.VisitRuns.{HasCumulEnds};
-ghost use Rattle.vr_cumuls.specs.Ends.{AreWays, HasCumuls};
+ghost use Rattle.vr_cumuls.specs.KeptWays.{AreWays, HasCumuls};
 ghost use Rattle.vr_cumuls.specs.Guides.{runs_of, IsGuide};
 ghost use Rattle.vr_cumuls.specs.Runs.{between_runs, only as only_of, AllowsRuns, AreRuns};
 ghost use Rattle.vr_cumuls.specs.Ways.{last_by, start_by, way_along as along_by, way_on as way_on_by, way_out as way_out_by};
 ghost use Rattle.vr_cumuls.specs.Ways.{way_to_visit as way_to_visit_by, IsWayOf};
 
-use crate::ends::KeptEnds;
 use crate::guides::{Guide, node_in};
+use crate::kept_ways::KeptWays;
 use crate::trails::Trail;
 use vr_balance::strip;
 use vr_routes::{Piece, Routes};
@@ -47,7 +47,7 @@ pub struct Way {
 
 /// The cumuls of the start and of the end of a tight schedule, in `0..=2^36`.
 #[derive(Clone, Copy)]
-pub struct Ends {
+pub struct TightEnds {
     pub start: i64,
     pub last: i64,
 }
@@ -57,7 +57,7 @@ impl<'m> Guide<'m> {
     /// there is none. The whole list is walked, and the trail is written over.
     pub fn timing_between(
         &self,
-        ends: Ends,
+        ends: TightEnds,
         routes: &Routes,
         pieces: &[Piece],
         trail: &mut Trail,
@@ -111,7 +111,7 @@ impl<'m> Guide<'m> {
     }
 
     /// The same guide, where the start and the end of the vehicle allow one cumul each.
-    pub fn between(&self, ends: Ends) -> Guide<'m>
+    pub fn between(&self, ends: TightEnds) -> Guide<'m>
         requires guide { IsGuide self.now }
         requires ends { HasCumuls ends }
         ensures guide { IsGuide result }
@@ -140,7 +140,7 @@ impl<'m> Guide<'m> {
 
     /// The ends of the tight schedule of the list that pieces are joined to. What is kept of the vehicle's list is not
     /// walked.
-    pub fn ends_of(&self, kept: &KeptEnds, routes: &Routes, pieces: &[Piece]) -> Ends
+    pub fn ends_of(&self, kept: &KeptWays, routes: &Routes, pieces: &[Piece]) -> TightEnds
         requires guide { IsGuide self.now }
         requires runs { AreRuns self.now.model.now self.now.d self.now.v (runs_of self.now) }
         requires known { self.now.v < length routes.now.lists }
@@ -165,12 +165,12 @@ impl<'m> Guide<'m> {
 
     /// The ends that a whole way tells.
     #[inline]
-    pub fn ends_by(&self, whole: Way) -> Ends
+    pub fn ends_by(&self, whole: Way) -> TightEnds
         requires { IsWayOf self.now.model.now 3001 whole }
         ensures last { result.last ≡ last_by whole }
         ensures start { result.start ≡ start_by whole }
     {
-        Ends {
+        TightEnds {
             start: whole.latest.min(whole.time - whole.transits),
             last: whole.time,
         }

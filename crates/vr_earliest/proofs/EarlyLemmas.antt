@@ -7,7 +7,7 @@ use Rattle.vr_model.specs.tables.Tables.{dimension_at}
 use Rattle.vr_model.specs.declared.records.Model.{Model}
 use Rattle.vr_routes.specs.Pieces.{ListAfter}
 use Rattle.vr_earliest.specs.declared.earlies.Early.{Early}
-use Rattle.vr_earliest.specs.declared.kept.Kept.{Kept}
+use Rattle.vr_earliest.specs.declared.kept.KeptWays.{KeptWays}
 use Rattle.vr_earliest.specs.Earlies.{IsEarlyRow}
 use Rattle.vr_earliest.specs.Kept.{HaveWays, IsUnpaid}
 
@@ -17,7 +17,7 @@ AreTold model lists parts n rows =
     (d : ℕ) → d < n → (IsUnpaid (dimension_at model d) → ⊥) → IsEarlyRow model lists parts d (slice_index_or rows d [])
 
 -- of some lists nothing is kept only where nothing is paid for spans
-pub unpaid-where-none : (model : Model) (d : ℕ) (lists : List (List ℕ)) (kept : List Kept) → HaveWays model d lists kept → length kept ≡ 0 → 0 < length lists → IsUnpaid (dimension_at model d)
+pub unpaid-where-none : (model : Model) (d : ℕ) (lists : List (List ℕ)) (kept : List KeptWays) → HaveWays model d lists kept → length kept ≡ 0 → 0 < length lists → IsUnpaid (dimension_at model d)
 unpaid-where-none model d lists kept h none some = elim h.many [
   | inl many ↦ absurd (omega (arith, many, none, some))
   | inr unpaid ↦ unpaid

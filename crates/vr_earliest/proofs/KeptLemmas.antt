@@ -6,7 +6,7 @@ use Rattle.vr_model.specs.routes.Routes.{route}
 use Rattle.vr_model.specs.moves.Moves.{with_route}
 use Rattle.vr_model.specs.declared.records.Model.{Model}
 use Rattle.vr_model.proofs.routes.Lists.{route_set_other}
-use Rattle.vr_earliest.specs.declared.kept.Kept.{Kept}
+use Rattle.vr_earliest.specs.declared.kept.KeptWays.{KeptWays}
 use Rattle.vr_earliest.specs.declared.ways.Rest.{Rest}
 use Rattle.vr_earliest.specs.declared.ways.Way.{Way}
 use Rattle.vr_earliest.specs.Rests.{before, rest_of}
@@ -46,14 +46,14 @@ rest-next model d v list k low =
     ∙ ap₂ (λ i n. before model d v (slice_index_or list i 0) (rest_of model d v (drop n list))) here next
 
 -- what is kept of the list of a vehicle
-pub kept-one : (model : Model) (d : ℕ) (lists : List (List ℕ)) (kept : List Kept) (v : ℕ) (one : Kept) → HaveWays model d lists kept → v < length kept → one ≡ slice_index_or kept v one → HasWays model d v (route lists v) one
+pub kept-one : (model : Model) (d : ℕ) (lists : List (List ℕ)) (kept : List KeptWays) (v : ℕ) (one : KeptWays) → HaveWays model d lists kept → v < length kept → one ≡ slice_index_or kept v one → HasWays model d v (route lists v) one
 kept-one model d lists kept v one h low is = subst (HasWays model d v (route lists v)) (sym is) (h.each v one low)
 
 -- the way along the first visits of a list, and what is left behind a place of it
-pub way-at : (model : Model) (d v : ℕ) (list : List ℕ) (kept : Kept) (k : ℕ) (way : Way) → HasWays model d v list kept → k ≤ length list → ((other : Way) → way ≡ slice_index_or kept.ways.items k other) → way ≡ way_along model d v (take k list)
+pub way-at : (model : Model) (d v : ℕ) (list : List ℕ) (kept : KeptWays) (k : ℕ) (way : Way) → HasWays model d v list kept → k ≤ length list → ((other : Way) → way ≡ slice_index_or kept.ways.items k other) → way ≡ way_along model d v (take k list)
 way-at model d v list kept k way h low is = is way ∙ h.ways.each k way low
 
-pub rest-at : (model : Model) (d v : ℕ) (list : List ℕ) (kept : Kept) (k : ℕ) (rest : Rest) → HasWays model d v list kept → k ≤ length list → ((other : Rest) → rest ≡ slice_index_or kept.rests.items (length kept.rests.items - 1 - k) other)
+pub rest-at : (model : Model) (d v : ℕ) (list : List ℕ) (kept : KeptWays) (k : ℕ) (rest : Rest) → HasWays model d v list kept → k ≤ length list → ((other : Rest) → rest ≡ slice_index_or kept.rests.items (length kept.rests.items - 1 - k) other)
     → rest ≡ rest_of model d v (drop k list)
 rest-at model d v list kept k rest h low is =
     let many = h.rests.many in
@@ -63,7 +63,7 @@ rest-at model d v list kept k rest h low is =
 
 -- ---- a list is replaced
 
-pub kept-set : (model : Model) (d : ℕ) (lists : List (List ℕ)) (kept : List Kept) (v : ℕ) (list : List ℕ) (new : Kept) → HaveWays model d lists kept → v < length lists → v < length kept → HasWays model d v list new
+pub kept-set : (model : Model) (d : ℕ) (lists : List (List ℕ)) (kept : List KeptWays) (v : ℕ) (list : List ℕ) (new : KeptWays) → HaveWays model d lists kept → v < length lists → v < length kept → HasWays model d v list new
     → HaveWays model d (with_route lists v list) (slice_set kept v new)
 kept-set model d lists kept v list new h known low is = record {
   many = elim h.many [
@@ -74,7 +74,7 @@ kept-set model d lists kept v list new h known low is = record {
 }
 
 -- where it is not kept, what is kept stays
-pub kept-stays : (model : Model) (d : ℕ) (lists : List (List ℕ)) (kept : List Kept) (v : ℕ) (list : List ℕ) → HaveWays model d lists kept → length kept ≤ v → HaveWays model d (with_route lists v list) kept
+pub kept-stays : (model : Model) (d : ℕ) (lists : List (List ℕ)) (kept : List KeptWays) (v : ℕ) (list : List ℕ) → HaveWays model d lists kept → length kept ≤ v → HaveWays model d (with_route lists v list) kept
 kept-stays model d lists kept v list h high = record {
   many = elim h.many [
     | inl same ↦ inl (same ∙ sym (length-set lists v list))

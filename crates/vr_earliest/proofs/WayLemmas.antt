@@ -95,7 +95,7 @@ module _ (model : Model) (well : IsWellFormed model) (d v : ℕ) (dimension : d 
   pub rest-before : (n : ℕ) (rest : Rest) (node : ℕ) → IsRestOf model n rest → node < model.nodes → IsIn (pos 0) horizon (visit_floor model d node) → IsRestOf model (n + 1) (before model d v node rest)
   rest-before n rest node h low range =
       let t = transit_in_range model well d v dimension vehicle node rest.at low h.at in
-      let m = int_max_is (visit_floor model d node +ℤ (transit model d v node rest.at +ℤ rest.transits)) rest.floor in
+      let m = int_max_is (visit_floor model d node +ℤ (transit model d v node rest.at +ℤ rest.transits)) rest.least_end in
       let a = t.at_least in
       let b = t.at_most in
       let e = h.early in
@@ -116,7 +116,7 @@ module _ (model : Model) (well : IsWellFormed model) (d v : ℕ) (dimension : d 
   pub end-way : (n m : ℕ) (way : Way) (rest : Rest) → IsWayOf model n way → IsRestOf model m rest → IsWayOf model (n + 1 + m) (to_end model d v way rest)
   end-way n m way rest h r =
       let t = transit_in_range model well d v dimension vehicle way.at rest.at h.at r.at in
-      let x = int_max_is (way.time +ℤ (transit model d v way.at rest.at +ℤ rest.transits)) rest.floor in
+      let x = int_max_is (way.time +ℤ (transit model d v way.at rest.at +ℤ rest.transits)) rest.least_end in
       let a = t.at_least in
       let b = t.at_most in
       record {
@@ -156,11 +156,11 @@ module _ (model : Model) (d v : ℕ) where
   through-visit way x rest =
       let t = transit model d v way.at x in
       let u = transit model d v x rest.at in
-      let a = int_max_is (way.time +ℤ (t +ℤ (u +ℤ rest.transits))) (int_max (visit_floor model d x +ℤ (u +ℤ rest.transits)) rest.floor) in
-      let b = int_max_is (visit_floor model d x +ℤ (u +ℤ rest.transits)) rest.floor in
-      let p = int_max_is (int_max (way.time +ℤ t) (visit_floor model d x) +ℤ (u +ℤ rest.transits)) rest.floor in
+      let a = int_max_is (way.time +ℤ (t +ℤ (u +ℤ rest.transits))) (int_max (visit_floor model d x +ℤ (u +ℤ rest.transits)) rest.least_end) in
+      let b = int_max_is (visit_floor model d x +ℤ (u +ℤ rest.transits)) rest.least_end in
+      let p = int_max_is (int_max (way.time +ℤ t) (visit_floor model d x) +ℤ (u +ℤ rest.transits)) rest.least_end in
       let q = int_max_is (way.time +ℤ t) (visit_floor model d x) in
-      let time : int_max (way.time +ℤ (t +ℤ (u +ℤ rest.transits))) (int_max (visit_floor model d x +ℤ (u +ℤ rest.transits)) rest.floor) ≡ int_max (int_max (way.time +ℤ t) (visit_floor model d x) +ℤ (u +ℤ rest.transits)) rest.floor = omega (arith, ints, a, b, p, q) in
+      let time : int_max (way.time +ℤ (t +ℤ (u +ℤ rest.transits))) (int_max (visit_floor model d x +ℤ (u +ℤ rest.transits)) rest.least_end) ≡ int_max (int_max (way.time +ℤ t) (visit_floor model d x) +ℤ (u +ℤ rest.transits)) rest.least_end = omega (arith, ints, a, b, p, q) in
       let transits : way.transits +ℤ (t +ℤ (u +ℤ rest.transits)) ≡ (way.transits +ℤ t) +ℤ (u +ℤ rest.transits) = omega (arith, ints) in
       ap₂ (λ (x y : ℤ). (let w : Way = record { at = (vehicle_at model v).end; time = x; transits = y } in w)) time transits
 

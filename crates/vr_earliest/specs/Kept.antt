@@ -6,7 +6,7 @@ use Rattle.vr_model.specs.routes.Routes.{route}
 use Rattle.vr_model.specs.routes.Rules.{is_valid}
 use Rattle.vr_model.specs.declared.records.Dimension.{Dimension}
 use Rattle.vr_model.specs.declared.records.Model.{Model}
-use Rattle.vr_earliest.specs.declared.kept.Kept.{Kept}
+use Rattle.vr_earliest.specs.declared.kept.KeptWays.{KeptWays}
 use Rattle.vr_earliest.specs.declared.ways.Rest.{Rest}
 use Rattle.vr_earliest.specs.declared.ways.Way.{Way}
 use Rattle.vr_earliest.specs.Rests.{rest_of}
@@ -24,7 +24,7 @@ pub record AreRestsTo (model : Model) (d v : ℕ) (list : List ℕ) (n : ℕ) (r
       → slice_index_or rests k other ≡ rest_of model d v (drop (length list - k) list)
 
 -- what is kept has the ways along a list of vehicle v, and what is left behind each of its places
-pub record HasWays (model : Model) (d v : ℕ) (list : List ℕ) (kept : Kept) : Type 0 where
+pub record HasWays (model : Model) (d v : ℕ) (list : List ℕ) (kept : KeptWays) : Type 0 where
   pub few : length list ≤ 1000
   pub ways : AreWaysTo model d v list (length list) kept.ways.items
   pub rests : AreRestsTo model d v list (length list) kept.rests.items
@@ -35,19 +35,19 @@ pub record IsUnpaid (dimension : Dimension) : Type 0 where
   pub global : dimension.global_span_cost ≡ pos 0
 
 -- what is kept in dimension d has those of these lists, of all of them where anything is paid for spans
-pub record HaveWays (model : Model) (d : ℕ) (lists : List (List ℕ)) (kept : List Kept) : Type 0 where
+pub record HaveWays (model : Model) (d : ℕ) (lists : List (List ℕ)) (kept : List KeptWays) : Type 0 where
   pub many : (length kept ≡ length lists) ⊎ IsUnpaid (dimension_at model d)
-  pub each : (v : ℕ) (other : Kept) → v < length kept → HasWays model d v (route lists v) (slice_index_or kept v other)
+  pub each : (v : ℕ) (other : KeptWays) → v < length kept → HasWays model d v (route lists v) (slice_index_or kept v other)
 
 -- the same in each dimension
-pub record HaveAllWays (model : Model) (lists : List (List ℕ)) (kept : List (List Kept)) : Type 0 where
+pub record HaveAllWays (model : Model) (lists : List (List ℕ)) (kept : List (List KeptWays)) : Type 0 where
   pub many : length kept ≡ length model.dimensions
-  pub each : (d : ℕ) (other : List Kept) → d < length kept → HaveWays model d lists (slice_index_or kept d other)
+  pub each : (d : ℕ) (other : List KeptWays) → d < length kept → HaveWays model d lists (slice_index_or kept d other)
 
 -- what contracts see of how early vehicles can end lists: the model, and what is kept in each dimension
 pub record KeptEarly : Type 0 where
   pub model : Model
-  pub kept : List (List Kept)
+  pub kept : List (List KeptWays)
 
 -- what is kept is of these lists, which are valid
 pub record StandsEarliest (early : KeptEarly) (lists : List (List ℕ)) : Type 0 where

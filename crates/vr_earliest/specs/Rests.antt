@@ -9,7 +9,7 @@ use Rattle.vr_earliest.specs.declared.ways.Way.{Way}
 
 -- what is left from the end of vehicle v on
 abbrev pub at_end : Model → ℕ → ℕ → Rest
-at_end model d v = record { at = (vehicle_at model v).end; transits = pos 0; floor = end_floor model d v }
+at_end model d v = record { at = (vehicle_at model v).end; transits = pos 0; least_end = end_floor model d v }
 
 -- what is left from a visit on, which comes before what is left from the next stop on
 abbrev pub before : Model → ℕ → ℕ → ℕ → Rest → Rest
@@ -18,7 +18,7 @@ before model d v node rest =
     record {
       at = node;
       transits = transits;
-      floor = int_max (visit_floor model d node +ℤ transits) rest.floor;
+      least_end = int_max (visit_floor model d node +ℤ transits) rest.least_end;
     }
 
 -- what is left from the first of some visits on, through all of them to the end of vehicle v
@@ -32,7 +32,7 @@ to_end model d v way rest =
     let left = transit model d v way.at rest.at +ℤ rest.transits in
     record {
       at = (vehicle_at model v).end;
-      time = int_max (way.time +ℤ left) rest.floor;
+      time = int_max (way.time +ℤ left) rest.least_end;
       transits = way.transits +ℤ left;
     }
 
@@ -41,8 +41,8 @@ pub record IsRestOf (model : Model) (n : ℕ) (rest : Rest) : Type 0 where
   pub at : rest.at < model.nodes
   pub low : neg_ℤ (pos (2147483648 * n)) ≤ℤ rest.transits
   pub high : rest.transits ≤ℤ pos (2147483648 * n)
-  pub early : pos 0 ≤ℤ rest.floor
-  pub late : rest.floor ≤ℤ pos (68719476736 + 2147483648 * n)
+  pub early : pos 0 ≤ℤ rest.least_end
+  pub late : rest.least_end ≤ℤ pos (68719476736 + 2147483648 * n)
 
 -- what is left of a list, of 1000 nodes at most
 abbrev pub IsListRest : Model → Rest → Type 0

@@ -21,17 +21,17 @@ use vr_routes::Routes;
 
 /// What is kept of the list of a vehicle in one dimension.
 #[derive(Drop)]
-pub struct Kept {
+pub struct KeptWays {
     // the way along the first visits, of each number of visits
     ways: ArrayVec<Way, 1002>,
     // what is left from each visit on and from the end, from the end backwards
     rests: ArrayVec<Rest, 1002>,
 }
 
-impl Kept {
+impl KeptWays {
     // Of no list.
-    fn new() -> Kept {
-        Kept {
+    fn new() -> KeptWays {
+        KeptWays {
             ways: ArrayVec::new(),
             rests: ArrayVec::new(),
         }
@@ -108,12 +108,12 @@ impl Kept {
 /// what is kept of each.
 #[derive(Drop)]
 pub struct KeptLists {
-    pub lists: Vec<Kept>,
+    pub lists: Vec<KeptWays>,
 }
 
 impl Model for KeptLists {
     ghost use Rattle.std.specs.Prelude.{List};
-    ghost use Rattle.vr_earliest.specs.declared.kept.Kept.{Kept as KeptOf};
+    ghost use Rattle.vr_earliest.specs.declared.kept.KeptWays.{KeptWays as KeptOf};
 
     ghost Value = { List KeptOf };
 
@@ -138,7 +138,7 @@ impl KeptLists {
         let many = how_many(model.dimensions.get(d as usize), routes);
         let mut lists = Vec::with_capacity(alloc, many as usize)?;
         for v in 0..many {
-            let mut kept = Kept::new();
+            let mut kept = KeptWays::new();
             kept.write(&Guide::of(model, floors, d, v), routes.list(v));
             lists.push(kept)?;
         }

@@ -33,7 +33,7 @@ pub struct Way {
 pub struct Rest {
     pub at: u32,
     pub transits: i64,
-    pub floor: i64,
+    pub least_end: i64,
 }
 
 /// What is looked up of vehicle `v` in dimension `d` once for many arcs.
@@ -92,7 +92,7 @@ impl<'m> Guide<'m> {
         Rest {
             at: self.model.vehicles.get(self.v as usize).end,
             transits: 0,
-            floor: self.floors.ends[self.v as usize],
+            least_end: self.floors.ends[self.v as usize],
         }
     }
 
@@ -197,7 +197,7 @@ impl<'m> Guide<'m> {
         let left = self.transit(way.at, rest.at) + rest.transits;
         Way {
             at: self.model.vehicles.get(self.v as usize).end,
-            time: (way.time + left).max(rest.floor),
+            time: (way.time + left).max(rest.least_end),
             transits: way.transits + left,
         }
     }
@@ -214,7 +214,7 @@ impl<'m> Guide<'m> {
         Rest {
             at: node,
             transits,
-            floor: (self.floors.visits[node as usize] + transits).max(rest.floor),
+            least_end: (self.floors.visits[node as usize] + transits).max(rest.least_end),
         }
     }
 

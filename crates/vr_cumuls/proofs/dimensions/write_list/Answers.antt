@@ -4,7 +4,7 @@ use Rattle.std.proofs.lemmas.Bool.{cases_lt}
 use Rattle.std.proofs.lemmas.List.{get_or_default, get_or-set_same, get_or-set_other}
 use Rattle.vr_timings.proofs.TableLemmas.{table_at}
 use Rattle.vr_model.specs.moves.Moves.{with_route}
-use Rattle.vr_cumuls.specs.declared.kept.Kept.{Kept}
+use Rattle.vr_cumuls.specs.declared.kept.KeptList.{KeptList}
 use Rattle.vr_cumuls.specs.Kept.{AreKept}
 use Rattle.vr_cumuls.proofs.dimensions.write_list.Goals as goal
 
@@ -20,9 +20,9 @@ pub loop-d-preserved : goal.loop-d-preserved
 loop-d-preserved c =
     let i = c.loop-d.invariant in
     let m = c.args.model.now in
-    let kept : List (List Kept) = c.loop-d.kept in
+    let kept : List (List KeptList) = c.loop-d.kept in
     let at = c.loop-d.d in
-    let new : List Kept = c.write.new.self in
+    let new : List KeptList = c.write.new.self in
     let v = c.args.v in
     let list : List ℕ = c.args.list.now in
     let many = length-set kept at new in

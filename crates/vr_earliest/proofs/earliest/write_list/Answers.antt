@@ -3,7 +3,7 @@ use Rattle.std.specs.Prelude.{slice_index_or, slice_set}
 use Rattle.std.proofs.lemmas.Bool.{cases_lt}
 use Rattle.std.proofs.lemmas.List.{get_or-set_same, get_or-set_other}
 use Rattle.vr_model.specs.moves.Moves.{with_route}
-use Rattle.vr_earliest.specs.declared.kept.Kept.{Kept}
+use Rattle.vr_earliest.specs.declared.kept.KeptWays.{KeptWays}
 use Rattle.vr_earliest.specs.Kept.{HaveWays}
 use Rattle.vr_earliest.proofs.earliest.write_list.Goals as goal
 
@@ -11,9 +11,9 @@ pub loop-d-preserved : goal.loop-d-preserved
 loop-d-preserved c =
     let i = c.loop-d.invariant in
     let m = c.args.model.now in
-    let kept : List (List Kept) = c.loop-d.kept in
+    let kept : List (List KeptWays) = c.loop-d.kept in
     let at = c.loop-d.d in
-    let new : List Kept = c.write.new.self in
+    let new : List KeptWays = c.write.new.self in
     let v = c.args.v in
     let list : List ℕ = c.args.list.now in
     let many = length-set kept at new in

@@ -7,7 +7,7 @@ use Rattle.vr_routes.specs.Pieces.{joined, no_part, part_at}
 use Rattle.vr_parts.proofs.PartLemmas.{small}
 use Rattle.vr_parts.proofs.SumLemmas.{upto, upto-many, upto-next}
 use Rattle.vr_parts.proofs.RowLemmas.{written}
-use Rattle.vr_cumuls.specs.declared.kept.Kept.{Kept}
+use Rattle.vr_cumuls.specs.declared.kept.KeptList.{KeptList}
 use Rattle.vr_cumuls.specs.Kept.{AreAllKept, AreAsMany}
 use Rattle.vr_cumuls.proofs.KeptLemmas.{as-many-same, as-many-then}
 use Rattle.vr_cumuls.proofs.PartLemmas.{list-after}
@@ -45,8 +45,8 @@ loop-k-preserved c =
     let low = subst (λ n. k < n) c.parts-k-end.ensures.value c.loop-k-test.true in
     let part = part_at parts k in
     let base : List (List ℕ) = upto lists parts k in
-    let old : List (List Kept) = c.loop-k.self-inside.dimensions.items in
-    let new : List (List Kept) = c.write_list.new.kept in
+    let old : List (List KeptList) = c.loop-k.self-inside.dimensions.items in
+    let new : List (List KeptList) = c.write_list.new.kept in
     let v = c.vehicle.result in
     let vehicle = c.vehicle.ensures in
     let known = c.requires.made.makes.parts_are.each_vehicle k no_part low in

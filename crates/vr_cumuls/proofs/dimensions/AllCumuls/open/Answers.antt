@@ -5,7 +5,7 @@ use Rattle.vr_model.specs.tables.Tables.{dimension_at}
 use Rattle.vr_timings.specs.declared.tables.Table.{Table}
 use Rattle.vr_timings.proofs.TableLemmas.{table_at}
 use Rattle.vr_parts.proofs.RowLemmas.{each-push}
-use Rattle.vr_cumuls.specs.declared.kept.Kept.{Kept}
+use Rattle.vr_cumuls.specs.declared.kept.KeptList.{KeptList}
 use Rattle.vr_cumuls.specs.Kept.{AreKept, IsPaid}
 use Rattle.vr_cumuls.proofs.dimensions.AllCumuls.open.Goals as goal
 
@@ -18,8 +18,8 @@ kept_in-requires-clause-table c =
 pub loop-d-preserved : goal.loop-d-preserved
 loop-d-preserved c =
     let m = c.loop-d.invariant in
-    let P = λ (d : ℕ) (kept : List Kept). AreKept c.args.model.now d c.args.routes.now.lists kept in
-    let Q = λ (d : ℕ) (kept : List Kept). (table : Table) → IsPaid c.args.paid (slice_index_or c.args.tables.now d table) (dimension_at c.args.model.now d) → length kept ≡ length c.args.routes.now.lists in
+    let P = λ (d : ℕ) (kept : List KeptList). AreKept c.args.model.now d c.args.routes.now.lists kept in
+    let Q = λ (d : ℕ) (kept : List KeptList). (table : Table) → IsPaid c.args.paid (slice_index_or c.args.tables.now d table) (dimension_at c.args.model.now d) → length kept ≡ length c.args.routes.now.lists in
     let here : Q c.loop-d.d c.in_ok-kept_in.field-0 = λ table paid. c.in_ok-kept_in.ensures.each (subst (λ (t : Table). IsPaid c.args.paid t (dimension_at c.args.model.now c.loop-d.d)) (get_or_default c.args.tables.now c.loop-d.d table c.index-tables-d.result c.loop-d-test.true ∙ sym c.index-tables-d.is) paid) in
     rw c.in_ok-push.ensures.items (record {
       many = length-append c.loop-d.dimensions.items _ ∙ ap (λ n. n + 1) m.many;

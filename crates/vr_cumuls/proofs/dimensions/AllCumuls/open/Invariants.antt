@@ -3,13 +3,13 @@ use Rattle.std.specs.Prelude.{slice_index_or}
 use Rattle.vr_cumuls.specs.Kept.{AreKept, IsPaid}
 use Rattle.vr_model.specs.tables.Tables.{dimension_at}
 use Rattle.vr_timings.specs.declared.tables.Table.{Table}
-use Rattle.vr_cumuls.specs.declared.kept.Kept.{Kept}
+use Rattle.vr_cumuls.specs.declared.kept.KeptList.{KeptList}
 use Rattle.vr_cumuls.proofs.dimensions.AllCumuls.open.Given as goal
 
 abbrev pub invariant-loop-d : goal.invariant-loop-d
 invariant-loop-d l = record {
   many : length l.dimensions.items ≡ l.d;
-  each : (d : ℕ) (other : List Kept) → d < length l.dimensions.items → AreKept l.model d l.routes.lists (slice_index_or l.dimensions.items d other);
-  of_each : (d : ℕ) (other : List Kept) (table : Table) → d < length l.dimensions.items → IsPaid l.paid (slice_index_or l.tables d table) (dimension_at l.model d)
+  each : (d : ℕ) (other : List KeptList) → d < length l.dimensions.items → AreKept l.model d l.routes.lists (slice_index_or l.dimensions.items d other);
+  of_each : (d : ℕ) (other : List KeptList) (table : Table) → d < length l.dimensions.items → IsPaid l.paid (slice_index_or l.tables d table) (dimension_at l.model d)
       → length (slice_index_or l.dimensions.items d other) ≡ length l.routes.lists;
 }

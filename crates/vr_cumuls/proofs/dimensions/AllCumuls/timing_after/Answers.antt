@@ -7,8 +7,8 @@ use Rattle.vr_model.specs.schedules.Schedules.{IsFeasible}
 use Rattle.vr_routes.specs.Pieces.{joined, no_part, part_at}
 use Rattle.vr_timings.specs.Timings.{IsTiming, IsTimingOf}
 use Rattle.vr_walks.specs.Lists.{IsUsed}
-use Rattle.vr_cumuls.specs.Kept.{IsTold}
-use Rattle.vr_cumuls.specs.declared.kept.Kept.{Kept}
+use Rattle.vr_cumuls.specs.Kept.{IsKnown}
+use Rattle.vr_cumuls.specs.declared.kept.KeptList.{KeptList}
 use Rattle.vr_parts.proofs.PartLemmas.{small}
 use Rattle.vr_cumuls.proofs.PartLemmas.{feasible-after, list-after, list-of, used-after}
 use Rattle.vr_cumuls.proofs.dimensions.AllCumuls.timing_after.Goals as goal
@@ -64,9 +64,9 @@ returns-clause-known c other =
     let lists : List (List ℕ) = c.args.routes.now.lists in
     let some = is_some c.timing_after.result in
     let kept = c.index-kept.result.now in
-    let a = subst (λ v. IsTrue some ↔ IsTold m c.args.at.now.d v (route lists v) kept) c.vehicle.ensures c.timing_after.ensures.known in
+    let a = subst (λ v. IsTrue some ↔ IsKnown m c.args.at.now.d v (route lists v) kept) c.vehicle.ensures c.timing_after.ensures.known in
     let dimension = c.requires.at.dimension in
     let many = c.requires.kept.many in
-    let b = subst (λ k. IsTrue some ↔ IsTold m c.args.at.now.d (part_at c.args.change.now c.args.k).vehicle (route lists (part_at c.args.change.now c.args.k).vehicle) k) c.index-kept.ensures a in
-    subst (λ k. IsTrue some ↔ IsTold m c.args.at.now.d (part_at c.args.change.now c.args.k).vehicle (route lists (part_at c.args.change.now c.args.k).vehicle) k)
-    (get_or_default c.self.inside.dimensions.items c.args.at.now.d kept other (let view = ap length c.self.view_is in omega (arith, dimension, many, view)) ∙ ap (λ (l : List (List Kept)). slice_index_or l c.args.at.now.d other) c.self.view_is) b
+    let b = subst (λ k. IsTrue some ↔ IsKnown m c.args.at.now.d (part_at c.args.change.now c.args.k).vehicle (route lists (part_at c.args.change.now c.args.k).vehicle) k) c.index-kept.ensures a in
+    subst (λ k. IsTrue some ↔ IsKnown m c.args.at.now.d (part_at c.args.change.now c.args.k).vehicle (route lists (part_at c.args.change.now c.args.k).vehicle) k)
+    (get_or_default c.self.inside.dimensions.items c.args.at.now.d kept other (let view = ap length c.self.view_is in omega (arith, dimension, many, view)) ∙ ap (λ (l : List (List KeptList)). slice_index_or l c.args.at.now.d other) c.self.view_is) b

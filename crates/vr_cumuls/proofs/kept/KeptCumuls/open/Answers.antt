@@ -6,7 +6,7 @@ use Rattle.vr_model.specs.tables.Tables.{is_visit, no_vehicle, vehicle_at}
 use Rattle.vr_model.specs.declared.records.Vehicle.{Vehicle}
 use Rattle.vr_model.specs.routes.Routes.{route}
 use Rattle.vr_cumuls.specs.Kept.{HasRoom, IsKept}
-use Rattle.vr_cumuls.specs.declared.kept.Kept.{Kept}
+use Rattle.vr_cumuls.specs.declared.kept.KeptList.{KeptList}
 use Rattle.vr_parts.proofs.RowLemmas.{each-push}
 use Rattle.vr_cumuls.proofs.kept.KeptCumuls.open.Goals as goal
 
@@ -33,8 +33,8 @@ loop-v-preserved c =
     let i = c.loop-v.invariant in
     let m = c.args.model.now in
     let lists : List (List ℕ) = c.args.routes.now.lists in
-    let P = λ (v : ℕ) (kept : Kept). IsKept m c.args.d v (route lists v) kept in
-    let R = λ (v : ℕ) (kept : Kept). HasRoom (vehicle_at m v).schedule kept in
+    let P = λ (v : ℕ) (kept : KeptList). IsKept m c.args.d v (route lists v) kept in
+    let R = λ (v : ℕ) (kept : KeptList). HasRoom (vehicle_at m v).schedule kept in
     let new = c.write_list.new.kept in
     let is = subst (λ l. IsKept m c.args.d c.loop-v.v l new) c.list.ensures.value c.write_list.ensures.kept in
     let room : HasRoom (vehicle_at m c.loop-v.v).schedule new =

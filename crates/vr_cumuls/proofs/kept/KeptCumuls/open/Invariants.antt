@@ -3,12 +3,12 @@ use Rattle.std.specs.Prelude.{slice_index_or}
 use Rattle.vr_model.specs.routes.Routes.{route}
 use Rattle.vr_model.specs.tables.Tables.{vehicle_at}
 use Rattle.vr_cumuls.specs.Kept.{HasRoom, IsKept}
-use Rattle.vr_cumuls.specs.declared.kept.Kept.{Kept}
+use Rattle.vr_cumuls.specs.declared.kept.KeptList.{KeptList}
 use Rattle.vr_cumuls.proofs.kept.KeptCumuls.open.Given as goal
 
 abbrev pub invariant-loop-v : goal.invariant-loop-v
 invariant-loop-v l = record {
   many : length l.lists.items ≡ l.v;
-  each : (v : ℕ) (other : Kept) → v < length l.lists.items → IsKept l.model l.d v (route l.routes.lists v) (slice_index_or l.lists.items v other);
-  room : (v : ℕ) (other : Kept) → v < length l.lists.items → HasRoom (vehicle_at l.model v).schedule (slice_index_or l.lists.items v other);
+  each : (v : ℕ) (other : KeptList) → v < length l.lists.items → IsKept l.model l.d v (route l.routes.lists v) (slice_index_or l.lists.items v other);
+  room : (v : ℕ) (other : KeptList) → v < length l.lists.items → HasRoom (vehicle_at l.model v).schedule (slice_index_or l.lists.items v other);
 }

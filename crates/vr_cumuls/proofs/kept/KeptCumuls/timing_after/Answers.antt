@@ -12,16 +12,16 @@ use Rattle.vr_model.specs.declared.records.ScheduleRule.{ScheduleRule}
 use Rattle.vr_model.specs.declared.records.ScheduleRule.TheVariants.{Earliest, Tight}
 use Rattle.vr_model.specs.declared.records.Vehicle.{Vehicle}
 use Rattle.vr_walks.specs.VisitRuns.{have_stops_one_run}
-use Rattle.vr_cumuls.specs.Kept.{IsTold, Tells, TellsEarliest, TellsTight}
-use Rattle.vr_cumuls.specs.declared.kept.Kept.{Kept}
+use Rattle.vr_cumuls.specs.Kept.{IsKnown, HasAllAsked, HasAllStages, HasAllWays}
+use Rattle.vr_cumuls.specs.declared.kept.KeptList.{KeptList}
 use Rattle.vr_cumuls.proofs.kept.KeptCumuls.timing_after.Goals as goal
 
 -- what is kept of its list decides
-told-so : (model : Model) (d v : ℕ) (list : List ℕ) (inside seen : List Kept) → inside ≡ seen → (kept : Kept) → v < length inside → kept ≡ slice_index_or inside v kept → IsTrue (have_stops_one_run model d v) → (some : Bool)
-    → (IsTrue some → Tells (vehicle_at model v).schedule list kept) → (Tells (vehicle_at model v).schedule list kept → IsTrue some) → IsTrue some ↔ IsTold model d v list seen
-told-so model d v list inside seen view kept low is one some to from = subst (λ (l : List Kept). IsTrue some ↔ IsTold model d v list l) view (
-  λ h. record { known = low; runs = one; tells = λ other. subst (Tells (vehicle_at model v).schedule list) (is ∙ get_or_default inside v kept other low) (to h) },
-  λ told. from (subst (Tells (vehicle_at model v).schedule list) (sym is) (told.tells kept)),
+told-so : (model : Model) (d v : ℕ) (list : List ℕ) (inside seen : List KeptList) → inside ≡ seen → (kept : KeptList) → v < length inside → kept ≡ slice_index_or inside v kept → IsTrue (have_stops_one_run model d v) → (some : Bool)
+    → (IsTrue some → HasAllAsked (vehicle_at model v).schedule list kept) → (HasAllAsked (vehicle_at model v).schedule list kept → IsTrue some) → IsTrue some ↔ IsKnown model d v list seen
+told-so model d v list inside seen view kept low is one some to from = subst (λ (l : List KeptList). IsTrue some ↔ IsKnown model d v list l) view (
+  λ h. record { known = low; runs = one; tells = λ other. subst (HasAllAsked (vehicle_at model v).schedule list) (is ∙ get_or_default inside v kept other low) (to h) },
+  λ told. from (subst (HasAllAsked (vehicle_at model v).schedule list) (sym is) (told.tells kept)),
 )
 
 pub returns-then-v-len-clause-known : goal.returns-then-v-len-clause-known
@@ -41,7 +41,7 @@ returns-in-Earliest-clause-known c =
     let d = c.args.at.now.d in
     let v = c.args.v in
     let list : List ℕ = route c.args.routes.now.lists v in
-    let kept : Kept = c.index-kept.result.now in
+    let kept : KeptList = c.index-kept.result.now in
     let len = c.len.ensures in
     let under = c.if-v-len.false in
     let low : v < length c.self.inside.lists.items = omega (arith, len, under) in
@@ -55,8 +55,8 @@ returns-in-Earliest-clause-known c =
     let f3 = subst (λ w. IsFeasible (line w guide.d guide.v new)) (sym model) f2 in
     let known = c.earliest_after.ensures.known f3 in
     told-so m d v list c.self.inside.lists.items c.args.self.now c.self.view_is kept low c.index-kept.ensures (sym c.in_ok-guide.ensures.known) (is_some c.earliest_after.result)
-    (λ some. subst (λ (r : ScheduleRule). Tells r list kept) (sym rule) (subst (λ u. TellsEarliest (route c.args.routes.now.lists u) kept) same (known.0 some)))
-    (λ told. known.1 (subst (λ u. TellsEarliest (route c.args.routes.now.lists u) kept) (sym same) (subst (λ (r : ScheduleRule). Tells r list kept) rule told)))
+    (λ some. subst (λ (r : ScheduleRule). HasAllAsked r list kept) (sym rule) (subst (λ u. HasAllStages (route c.args.routes.now.lists u) kept) same (known.0 some)))
+    (λ told. known.1 (subst (λ u. HasAllStages (route c.args.routes.now.lists u) kept) (sym same) (subst (λ (r : ScheduleRule). HasAllAsked r list kept) rule told)))
 
 pub returns-in-Tight-clause-known : goal.returns-in-Tight-clause-known
 returns-in-Tight-clause-known c =
@@ -64,7 +64,7 @@ returns-in-Tight-clause-known c =
     let d = c.args.at.now.d in
     let v = c.args.v in
     let list : List ℕ = route c.args.routes.now.lists v in
-    let kept : Kept = c.index-kept.result.now in
+    let kept : KeptList = c.index-kept.result.now in
     let len = c.len.ensures in
     let under = c.if-v-len.false in
     let low : v < length c.self.inside.lists.items = omega (arith, len, under) in
@@ -72,5 +72,5 @@ returns-in-Tight-clause-known c =
     let rule : (vehicle_at m v).schedule ≡ Tight = ap (λ (w : Vehicle). w.schedule) (c.get-vehicle.ensures.value no_vehicle) ∙ c.in-Tight.is in
     let known = c.tight_after.ensures.known in
     told-so m d v list c.self.inside.lists.items c.args.self.now c.self.view_is kept low c.index-kept.ensures (sym c.in_ok-guide.ensures.known) (is_some c.tight_after.result)
-    (λ some. subst (λ (r : ScheduleRule). Tells r list kept) (sym rule) (subst (λ u. TellsTight (route c.args.routes.now.lists u) kept) same (known.0 some)))
-    (λ told. known.1 (subst (λ u. TellsTight (route c.args.routes.now.lists u) kept) (sym same) (subst (λ (r : ScheduleRule). Tells r list kept) rule told)))
+    (λ some. subst (λ (r : ScheduleRule). HasAllAsked r list kept) (sym rule) (subst (λ u. HasAllWays (route c.args.routes.now.lists u) kept) same (known.0 some)))
+    (λ told. known.1 (subst (λ u. HasAllWays (route c.args.routes.now.lists u) kept) (sym same) (subst (λ (r : ScheduleRule). HasAllAsked r list kept) rule told)))

@@ -3,7 +3,7 @@ use Rattle.std.specs.Prelude.{All}
 use Rattle.vr_model.specs.moves.Moves.{with_route}
 use Rattle.vr_model.specs.tables.WellFormed.{IsWellFormed}
 use Rattle.vr_routes.specs.Pieces.{joined, no_part, part_at}
-use Rattle.vr_earliest.specs.declared.kept.Kept.{Kept}
+use Rattle.vr_earliest.specs.declared.kept.KeptWays.{KeptWays}
 use Rattle.vr_earliest.specs.Kept.{HaveAllWays}
 use Rattle.vr_parts.proofs.PartLemmas.{is-part, small}
 use Rattle.vr_parts.proofs.SumLemmas.{upto, upto-many, upto-next}
@@ -44,8 +44,8 @@ loop-k-preserved c =
     let low = subst (λ n. k < n) c.parts-k-end.ensures.value c.loop-k-test.true in
     let part = part_at parts k in
     let base : List (List ℕ) = upto lists parts k in
-    let old : List (List Kept) = c.loop-k.self-inside.kept.items in
-    let new : List (List Kept) = c.write_list.new.kept in
+    let old : List (List KeptWays) = c.loop-k.self-inside.kept.items in
+    let new : List (List KeptWays) = c.write_list.new.kept in
     let v = c.vehicle.result in
     let vehicle = c.vehicle.ensures in
     let known = c.requires.made.makes.parts_are.each_vehicle k no_part low in

@@ -4,7 +4,7 @@ use Rattle.vr_model.specs.tables.WellFormed.{IsWellFormed}
 use Rattle.vr_model.proofs.tables.Tests.{none_from_test}
 use Rattle.vr_routes.specs.Pieces.{no_part}
 use Rattle.vr_earliest.specs.declared.earlies.Early.{Early}
-use Rattle.vr_earliest.specs.declared.kept.Kept.{Kept}
+use Rattle.vr_earliest.specs.declared.kept.KeptWays.{KeptWays}
 use Rattle.vr_earliest.specs.Kept.{HaveWays}
 use Rattle.vr_earliest.proofs.EarlyLemmas.{AreTold, told-more, told-unpaid, unpaid-where-none}
 use Rattle.vr_earliest.proofs.earliest.Earliest.write_after.Goals as goal
@@ -25,7 +25,7 @@ loop-d-preserved c =
           let row : List Early = w.row_after.result in
           let few = (subst IsWellFormed (ap (λ s. s.model) c.self.view_is) c.self.invariant.well_formed).number_of_dimensions in
           let many = c.requires.stands.ways.many in
-          let all = ap (λ (l : List (List Kept)). length l) kept in
+          let all = ap (λ (l : List (List KeptWays)). length l) kept in
           let set = w.set.ensures.row in
           subst (AreTold model lists parts (d + 1)) (sym (w.out-is ∙ set))
           (told-more model lists parts d out c.loop-d.invariant row (omega (arith, few, many, all, n, low)) (ap (λ (l : List (List Early)). length l) (sym set) ∙ w.set.ensures.many) w.row_after.ensures))
@@ -34,12 +34,12 @@ loop-d-preserved c =
           let some = c.parts-few.ensures.some in
           let value = c.parts-few.ensures.value in
           let first = c.requires.parts.each_vehicle 0 no_part (omega (arith, some, value)) in
-          let one : List Kept = c.index.result.now in
-          let is : one ≡ slice_index_or c.args.self.now.kept d one = c.index.ensures ∙ ap (λ (l : List (List Kept)). slice_index_or l d one) kept in
-          let all = ap (λ (l : List (List Kept)). length l) kept in
+          let one : List KeptWays = c.index.result.now in
+          let is : one ≡ slice_index_or c.args.self.now.kept d one = c.index.ensures ∙ ap (λ (l : List (List KeptWays)). slice_index_or l d one) kept in
+          let all = ap (λ (l : List (List KeptWays)). length l) kept in
           let here : HaveWays model d lists one = subst (HaveWays model d lists) (sym is) (c.requires.stands.ways.each d one (omega (arith, all, n, low))) in
           let empty = none_from_test _ _ none c.is_empty.ensures in
-          let length_is = ap (λ (l : List Kept). length l) c.behind-self.view_is in
+          let length_is = ap (λ (l : List KeptWays). length l) c.behind-self.view_is in
           subst (AreTold model lists parts (d + 1)) (sym w.out-is)
           (told-unpaid model lists parts d out c.loop-d.invariant (unpaid-where-none model d lists one here (omega (arith, empty, length_is)) (omega (arith, first)))))
     ]

@@ -1,7 +1,7 @@
 use Rattle.std.proofs.Common.{◌∙◌, ◌<◌, ◌+◌, ℕ, List, length-append, ap, sym, subst, arith}
 use Rattle.std.specs.Prelude.{All}
 use Rattle.vr_model.specs.routes.Routes.{route}
-use Rattle.vr_earliest.specs.declared.kept.Kept.{Kept}
+use Rattle.vr_earliest.specs.declared.kept.KeptWays.{KeptWays}
 use Rattle.vr_earliest.specs.Kept.{HasWays}
 use Rattle.vr_parts.proofs.RowLemmas.{each-push}
 use Rattle.vr_parts.proofs.PartLemmas.{small}
@@ -24,7 +24,7 @@ loop-v-preserved c =
     let i = c.loop-v.invariant in
     let m = c.args.model.now in
     let lists : List (List ℕ) = c.args.routes.now.lists in
-    let P = λ (v : ℕ) (kept : Kept). HasWays m c.args.d v (route lists v) kept in
+    let P = λ (v : ℕ) (kept : KeptWays). HasWays m c.args.d v (route lists v) kept in
     let new = c.write.new.self in
     let e = c.of.ensures in
     let a = subst (λ model. HasWays model c.of.result.d c.of.result.v c.list.result.now new) e.model c.write.ensures in

@@ -31,8 +31,8 @@ returns c =
     let here : to_z w64 (of_z w64 c.index.result.now) ≡ floor = omega (arith, ints, f_is, f_low, f_high) in
     let sum : to_z w64 (of_z w64 (to_z w64 (of_z w64 c.index.result.now) +ℤ to_z w64 (of_z w64 (to_z w64 (of_z w64 c.transit.result) +ℤ to_z w64 (of_z w64 rest.transits))))) ≡ floor +ℤ (t +ℤ rest.transits) =
     omega (arith, ints, here, transits, e, a, b, low, high, f_is, f_low, f_high) in
-    let other : to_z w64 (of_z w64 rest.floor) ≡ rest.floor = omega (arith, ints, early, late) in
+    let other : to_z w64 (of_z w64 rest.least_end) ≡ rest.least_end = omega (arith, ints, early, late) in
     let is = c.max.ensures.value ∙ ap₂ (λ x y. int_max x y) sum other in
-    let n = int_max_is (floor +ℤ (t +ℤ rest.transits)) rest.floor in
-    let read : to_z w64 (of_z w64 c.max.result) ≡ int_max (floor +ℤ (t +ℤ rest.transits)) rest.floor = omega (arith, ints, is, n, e, a, b, low, high, early, late, f_is, f_low, f_high) in
-    ap₂ (λ (x y : ℤ). (let r : Rest = record { at = c.args.node; transits = x; floor = y } in r)) transits read
+    let n = int_max_is (floor +ℤ (t +ℤ rest.transits)) rest.least_end in
+    let read : to_z w64 (of_z w64 c.max.result) ≡ int_max (floor +ℤ (t +ℤ rest.transits)) rest.least_end = omega (arith, ints, is, n, e, a, b, low, high, early, late, f_is, f_low, f_high) in
+    ap₂ (λ (x y : ℤ). (let r : Rest = record { at = c.args.node; transits = x; least_end = y } in r)) transits read

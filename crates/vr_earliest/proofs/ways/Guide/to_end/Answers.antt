@@ -30,15 +30,15 @@ returns-clause-value c =
     let left : to_z w64 (of_z w64 (to_z w64 (of_z w64 c.transit.result) +ℤ to_z w64 (of_z w64 rest.transits))) ≡ t +ℤ rest.transits = omega (arith, ints, e, a, b, l, h) in
     let sum : to_z w64 (of_z w64 (to_z w64 (of_z w64 way.time) +ℤ to_z w64 (of_z w64 (to_z w64 (of_z w64 c.transit.result) +ℤ to_z w64 (of_z w64 rest.transits))))) ≡ way.time +ℤ (t +ℤ rest.transits) =
     omega (arith, ints, left, e, a, b, l, h, early, late) in
-    let floor : to_z w64 (of_z w64 rest.floor) ≡ rest.floor = omega (arith, ints, floor_low, floor_high) in
+    let floor : to_z w64 (of_z w64 rest.least_end) ≡ rest.least_end = omega (arith, ints, floor_low, floor_high) in
     let is = c.max.ensures.value ∙ ap₂ (λ x y. int_max x y) sum floor in
-    let m = int_max_is (way.time +ℤ (t +ℤ rest.transits)) rest.floor in
-    let time : to_z w64 (of_z w64 c.max.result) ≡ int_max (way.time +ℤ (t +ℤ rest.transits)) rest.floor = omega (arith, ints, is, m, e, a, b, l, h, early, late, floor_low, floor_high) in
+    let m = int_max_is (way.time +ℤ (t +ℤ rest.transits)) rest.least_end in
+    let time : to_z w64 (of_z w64 c.max.result) ≡ int_max (way.time +ℤ (t +ℤ rest.transits)) rest.least_end = omega (arith, ints, is, m, e, a, b, l, h, early, late, floor_low, floor_high) in
     let transits : to_z w64 (of_z w64 (to_z w64 (of_z w64 way.transits) +ℤ to_z w64 (of_z w64 (to_z w64 (of_z w64 c.transit.result) +ℤ to_z w64 (of_z w64 rest.transits))))) ≡ way.transits +ℤ (t +ℤ rest.transits) =
     omega (arith, ints, left, e, a, b, l, h, low, high) in
     let end : c.get.result.now.end ≡ (vehicle_at s.model.now s.v).end = ap (λ (x : Vehicle). x.end) (sym (c.get.ensures.value no_vehicle)) in
     ap₂ (λ (x y : ℤ). (let w : Way = record { at = c.get.result.now.end; time = x; transits = y } in w)) time transits
-    ∙ ap (λ node. (let w : Way = record { at = node; time = int_max (way.time +ℤ (t +ℤ rest.transits)) rest.floor; transits = way.transits +ℤ (t +ℤ rest.transits) } in w)) end
+    ∙ ap (λ node. (let w : Way = record { at = node; time = int_max (way.time +ℤ (t +ℤ rest.transits)) rest.least_end; transits = way.transits +ℤ (t +ℤ rest.transits) } in w)) end
 
 pub returns-clause-range : goal.returns-clause-range
 returns-clause-range c =

@@ -1,0 +1,28 @@
+//! Scratch that calls are lent.
+
+use std::alloc::Global;
+use vr_cumuls::Trail;
+use vr_routes::Row;
+use vr_timings::Timer;
+
+/// Scratch for a list that a change makes, and for its schedule, whether it is told by what is kept or built.
+#[derive(Drop)]
+pub struct Scratch {
+    /// The stops of it that kept cumuls do not tell.
+    pub trail: Trail,
+    /// The list.
+    pub row: Row,
+    /// What its schedule is built with.
+    pub timer: Timer,
+}
+
+impl Scratch {
+    /// Scratch for any list. It takes no memory before the first schedule is built.
+    pub fn new(alloc: Global) -> Scratch {
+        Scratch {
+            trail: Trail::new(),
+            row: Row::new(),
+            timer: Timer::new(alloc),
+        }
+    }
+}
