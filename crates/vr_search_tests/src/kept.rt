@@ -16,7 +16,7 @@ use std::alloc::Global;
 use vr_cumuls::{AllCumuls, Paid, Trail};
 use vr_model::{Model, Move, NoMemory};
 use vr_routes::{Change, Piece, Routes};
-use vr_timings::{Table, tables_of};
+use vr_timings::{KnownDimension, Table, tables_of};
 
 // Whether what is kept tells, in the first dimension, what the first list of a change comes to. An empty list has
 // nothing to tell.
@@ -41,7 +41,12 @@ fn is_told(
         return true;
     }
     let mut trail = Trail::new();
-    kept.timing_after(model, &tables[0], 0, routes, change, 0, &mut trail)
+    let first = KnownDimension {
+        model,
+        table: &tables[0],
+        d: 0,
+    };
+    kept.timing_after(&first, routes, change, 0, &mut trail)
         .is_some()
 }
 
