@@ -4,4 +4,5 @@ pub mod PathLemmas
 pub mod LineLemmas
 pub mod MoveLemmas
 pub mod RunLemmas
+pub mod PutLemmas
 pub mod CrossLemmas

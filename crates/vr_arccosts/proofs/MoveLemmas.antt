@@ -22,7 +22,7 @@ use Rattle.vr_parts.proofs.SumLemmas.{over-set}
 
 -- ---- the nodes of a chain are some of its list
 
-slice-all : (P : ℕ → Type 0) (list : List ℕ) (f t : ℕ) → f ≤ t → All P list → All P (slice_range list f t)
+pub slice-all : (P : ℕ → Type 0) (list : List ℕ) (f t : ℕ) → f ≤ t → All P list → All P (slice_range list f t)
 slice-all P list f t order h =
     let whole : All P (take f list ++ (slice_range list f t ++ drop t list)) = subst (All P) (sym (whole-apart list f t order)) h in
     all_left P (slice_range list f t) (drop t list) (all_right P (take f list) (slice_range list f t ++ drop t list) whole)

@@ -94,7 +94,7 @@ module _ (model : Model) (v : ℕ) (list : List ℕ) where
       let last : cost (last_of (before_place model v list a) (slice_range list a b)) (at_place model v list b) ≡ cost (slice_index_or list (b - 1) 0) (at_place model v list b) = ap (λ n. cost n (at_place model v list b)) (chain-last list a b order low false (before_place model v list a)) in
       omega (arith, ints, used, path, last)
 
-  chain-sum : (a b : ℕ) → a < b → b ≤ length list
+  pub chain-sum : (a b : ℕ) → a < b → b ≤ length list
       → chain_sum cost (slice_range list a b) ≡ (front_sum b -ℤ front_sum a) -ℤ cost (before_place model v list a) (slice_index_or list a 0)
   chain-sum a b order low =
       let path = path-between cost (vehicle_at model v).start list a b (omega (arith, order)) low in

@@ -4,7 +4,10 @@ use Rattle.std.specs.Prelude.{All, IsTrue, ℤ, ◌+ℤ◌, ◌-ℤ◌, ◌≤�
 use Rattle.vr_model.specs.tables.Tables.{arc_cost, vehicle_at}
 use Rattle.vr_model.specs.tables.WellFormed.{IsWellFormed}
 use Rattle.vr_model.specs.moves.MoveTests.{is_move}
+use Rattle.vr_model.specs.moves.Moves.{with_pair}
+use Rattle.vr_model.specs.routes.Routes.{route_cost}
 use Rattle.vr_model.specs.declared.records.Model.{Model}
+use Rattle.vr_model.specs.declared.records.Pair.{Pair}
 use Rattle.vr_model.specs.declared.neighbours.Move.{Move}
 use Rattle.vr_sums.specs.Sums.{last_of, path_sum}
 use Rattle.vr_arccosts.specs.Along.{between_cost, IsAlong}
@@ -45,6 +48,11 @@ abbrev pub gap_added : Model → ℕ → List ℕ → ℕ → ℕ → ℕ → �
 gap_added model v list first last place =
     (arc_cost model v (before_place model v list place) first +ℤ arc_cost model v last (at_place model v list place))
     -ℤ between_cost model v list place place (slice_range list place place)
+
+-- what the arcs of vehicle v cost more where a pair is put into its list: the pickup before place s, and the delivery
+-- before place t
+abbrev pub pair_added : Model → ℕ → List ℕ → Pair → ℕ → ℕ → ℤ
+pair_added model v list pair s t = route_cost model v (with_pair pair s t list) -ℤ route_cost model v list
 
 -- what the k nodes from a place on of the list of vehicle v add where they leave it, without the arcs between them
 abbrev pub left_added : Model → ℕ → List ℕ → ℕ → ℕ → ℤ

@@ -30,7 +30,7 @@ use vr_routes::{Change, Piece, Routes, Row};
 /// lists.
 #[derive(Drop)]
 pub struct ArcCost<'m> {
-    model: &'m RoutingModel,
+    pub(crate) model: &'m RoutingModel,
     along: Vec<Along>,
     // room for a list that a change makes
     row: Row,

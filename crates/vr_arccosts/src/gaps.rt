@@ -6,10 +6,11 @@ ghost use Rattle.vr_model.specs.tables.Tables.{arc_cost};
 ghost use Rattle.vr_model.specs.tables.WellFormed.{IsWellFormed};
 ghost use Rattle.vr_parts.specs.Bounds.{IsAddedByChange, IsAddedByList};
 ghost use Rattle.vr_arccosts.specs.Runs.{at_place, before_place, cross_base, front_added, gap_added};
-ghost use Rattle.vr_arccosts.specs.Runs.{swap_added, turn_added, IsLine};
+ghost use Rattle.vr_arccosts.specs.Runs.{pair_added, swap_added, turn_added, IsLine};
 
 use crate::costs::ArcCosts;
 use crate::lines::Along;
+use vr_model::Pair;
 
 /// The numbers of a run that are asked: those from `from` on, below `end`, of which the first is wanted whose move may
 /// add less than `bound`.
@@ -18,6 +19,22 @@ pub struct Asked {
     pub from: u32,
     pub end: u32,
     pub bound: i64,
+}
+
+impl Asked {
+    /// The numbers from another first one on.
+    #[inline(always)]
+    pub fn starting(self, from: u32) -> Asked
+        ensures from { result.from ≡ from }
+        ensures end { result.end ≡ self.end }
+        ensures bound { result.bound ≡ self.bound }
+    {
+        Asked {
+            from,
+            end: self.end,
+            bound: self.bound,
+        }
+    }
 }
 
 /// The line of a vehicle with its list: what its arcs cost, and the sums along it.
@@ -145,6 +162,82 @@ pub fn first_behind(line: &Line, ends: Ends, base: i64, k: u32, from: u32, asked
         bound: asked.bound,
     };
     first_gap(line, ends, base, behind) - k
+}
+
+/// The first place before which the delivery of a pair can be put so that, with the pickup before place `s`, which is
+/// not behind the first number, and with what else the move adds, the arcs cost less than the bound more; `end` where
+/// there is none.
+#[inline(never)]
+pub fn first_delivery(line: &Line, pair: Pair, s: u32, base: i64, asked: Asked) -> u32
+    requires line { IsLine line.now.costs.model.now line.now.costs.vehicle line.now.list.now line.now.along.now }
+    requires pickup { pair.pickup < line.now.costs.model.now.nodes }
+    requires delivery { pair.delivery < line.now.costs.model.now.nodes }
+    requires base { IsAddedByList base }
+    requires order { s ≤ asked.from }
+    requires asked { asked.from ≤ asked.end }
+    requires places { asked.end ≤ length line.now.list.now + 1 }
+    ensures from { asked.from ≤ result }
+    ensures within { result ≤ asked.end }
+    ensures no_less { (t : ℕ) → asked.from ≤ t → t < result → asked.bound
+        ≤ℤ (base +ℤ pair_added line.now.costs.model.now line.now.costs.vehicle line.now.list.now pair s t) }
+{
+    if asked.from == asked.end {
+        return asked.end;
+    }
+    if s < asked.from {
+        return first_apart(line, pair, s, base, asked);
+    }
+    if base + put_pair(line, pair, s) < asked.bound {
+        return s;
+    }
+    let behind = asked.starting(s + 1);
+    first_apart(line, pair, s, base, behind)
+}
+
+// The first place for the delivery, as `first_delivery`, where a node stands between both.
+#[inline(always)]
+fn first_apart(line: &Line, pair: Pair, s: u32, base: i64, asked: Asked) -> u32
+    requires line { IsLine line.now.costs.model.now line.now.costs.vehicle line.now.list.now line.now.along.now }
+    requires pickup { pair.pickup < line.now.costs.model.now.nodes }
+    requires delivery { pair.delivery < line.now.costs.model.now.nodes }
+    requires base { IsAddedByList base }
+    requires order { s < asked.from }
+    requires asked { asked.from ≤ asked.end }
+    requires places { asked.end ≤ length line.now.list.now + 1 }
+    ensures from { asked.from ≤ result }
+    ensures within { result ≤ asked.end }
+    ensures no_less { (t : ℕ) → asked.from ≤ t → t < result → asked.bound
+        ≤ℤ (base +ℤ pair_added line.now.costs.model.now line.now.costs.vehicle line.now.list.now pair s t) }
+{
+    let pickup = Ends {
+        first: pair.pickup,
+        last: pair.pickup,
+    };
+    let delivery = Ends {
+        first: pair.delivery,
+        last: pair.delivery,
+    };
+    let with_pickup = base + put(line, pickup, s);
+    first_gap(line, delivery, with_pickup, asked)
+}
+
+// How much more the arcs cost where a pair is put before a place, side by side.
+#[inline(always)]
+fn put_pair(line: &Line, pair: Pair, s: u32) -> i64
+    requires line { IsLine line.now.costs.model.now line.now.costs.vehicle line.now.list.now line.now.along.now }
+    requires pickup { pair.pickup < line.now.costs.model.now.nodes }
+    requires delivery { pair.delivery < line.now.costs.model.now.nodes }
+    requires place { s ≤ length line.now.list.now }
+    ensures value { result
+        ≡ pair_added line.now.costs.model.now line.now.costs.vehicle line.now.list.now pair s s }
+    ensures range { IsAddedByChange result }
+{
+    let ends = Ends {
+        first: pair.pickup,
+        last: pair.delivery,
+    };
+    let inner = line.costs.cost(pair.pickup, pair.delivery);
+    put(line, ends, s) + inner
 }
 
 // How much more the arcs to and from a chain cost than what stands between the stops beside a place.

@@ -14,6 +14,7 @@ mod costs;
 mod gaps;
 mod lines;
 mod moves;
+mod puts;
 mod runs;
 mod walks;
 

@@ -1,6 +1,6 @@
 //! Runs of moves: the first of them that may add less than a bound to arc costs.
 
-ghost use Rattle.std.specs.Prelude.{◌≡◌, ℕ, ◌+◌, ◌<◌, ◌≤◌, ◌≤ℤ◌, IsTrue, length};
+ghost use Rattle.std.specs.Prelude.{◌≡◌, ℕ, ◌+◌, ◌<◌, ◌≤◌, ◌≤ℤ◌, IfSome, IsTrue, length};
 ghost use Rattle.vr_model.specs.routes.Routes.{route};
 ghost use Rattle.vr_model.specs.declared.neighbours.Move.TheVariants.{Cross, Exchange, OrOpt, Relocate, TwoOpt};
 ghost use Rattle.vr_routes.specs.Runs.{with_last};
@@ -20,24 +20,37 @@ impl<'m> ArcCost<'m> {
     /// Goes over a run of moves of the committed lists, which differ in their last number: those of the numbers from
     /// `from` on, below `end`. Says from which number on some may add less than a bound, also where the lists after it
     /// are not valid: each move in front of it adds no less. The numbers of `mv`, of which the last is any, need not be
-    /// those of a move; of a run that it does not go over it says `from`.
+    /// those of a move; of a run whose first move is to be asked alone it says `from`. `None` of kinds that it does not
+    /// go over.
     #[inline(always)]
-    pub fn first_below(&self, routes: &Routes, mv: Move, from: u32, end: u32, bound: i64) -> u32
+    pub fn first_below(
+        &self,
+        routes: &Routes,
+        mv: Move,
+        from: u32,
+        end: u32,
+        bound: i64,
+    ) -> Option<u32>
         requires stands { StandsAlong self.now routes.now }
         requires order { from ≤ end }
-        ensures from { from ≤ result }
-        ensures within { result ≤ end }
-        ensures no_less { (k : ℕ) → from ≤ k → k < result
-            → AddsNoLess self.now.model routes.now.lists (with_last mv k) bound }
+        ensures from { IfSome result (λ first. from ≤ first) }
+        ensures within { IfSome result (λ first. first ≤ end) }
+        ensures no_less { IfSome result (λ first. (k : ℕ) → from ≤ k → k < first
+            → AddsNoLess self.now.model routes.now.lists (with_last mv k) bound) }
     {
         let asked = Asked { from, end, bound };
         match mv {
-            Move::TwoOpt { v, a, .. } => self.first_turned(routes, v, a, asked),
-            Move::OrOpt { v, a, k, .. } => self.first_shifted(routes, v, a, k, asked),
-            Move::Relocate { v, a, w, .. } => self.first_relocated(routes, v, a, w, asked),
-            Move::Exchange { v, a, w, .. } => self.first_exchanged(routes, v, a, w, asked),
-            Move::Cross { v, a, w, .. } => self.first_crossed(routes, v, a, w, asked),
-            _ => from,
+            Move::TwoOpt { v, a, .. } => Some(self.first_turned(routes, v, a, asked)),
+            Move::OrOpt { v, a, k, .. } => Some(self.first_shifted(routes, v, a, k, asked)),
+            Move::Relocate { v, a, w, .. } => Some(self.first_relocated(routes, v, a, w, asked)),
+            Move::Exchange { v, a, w, .. } => Some(self.first_exchanged(routes, v, a, w, asked)),
+            Move::Cross { v, a, w, .. } => Some(self.first_crossed(routes, v, a, w, asked)),
+            Move::MakeActive { u, w, .. } => Some(self.first_made_active(routes, u, w, asked)),
+            Move::PairActive { p, w, s, .. } => {
+                Some(self.first_pair_active(routes, p, w, s, asked))
+            }
+            Move::RelocatePair { p, w, s, .. } => self.first_pair_relocated(routes, p, w, s, asked),
+            _ => None,
         }
     }
 
