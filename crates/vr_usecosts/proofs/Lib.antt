@@ -1,2 +1,3 @@
 pub mod FixedLemmas
 pub mod GroupLemmas
+pub mod SavingLemmas

@@ -1,15 +1,18 @@
 -- The penalties of groups.
 use Rattle.std.specs.Prelude.{◌≡◌, ℕ, ◌<◌, Bool, nat_lt, IsTrue, cond, List, [], ◌∷◌, length, Option, Some, None}
-use Rattle.std.specs.Prelude.{ℤ, pos, negsuc}
+use Rattle.std.specs.Prelude.{ℤ, pos, negsuc, ◌-ℤ◌}
 use Rattle.std.specs.List.{list_any}
 use Rattle.vr_model.specs.tables.Numbers.{number_at, total_by}
 use Rattle.vr_model.specs.tables.Tables.{visits}
+use Rattle.vr_model.specs.moves.Moves.{apply}
+use Rattle.vr_model.specs.moves.MoveTests.{is_move}
 use Rattle.vr_model.specs.routes.Routes.{holds}
 use Rattle.vr_model.specs.routes.Costs.{penalty_part}
 use Rattle.vr_model.specs.routes.Rules.{is_valid}
 use Rattle.vr_model.specs.tables.WellFormed.{IsWellFormed}
 use Rattle.vr_model.specs.declared.records.Model.{Model}
 use Rattle.vr_model.specs.declared.records.Group.{Group}
+use Rattle.vr_model.specs.declared.neighbours.Move.{Move}
 use Rattle.vr_routes.specs.Pieces.{nodes_of}
 use Rattle.vr_routes.specs.Tours.{Tours}
 use Rattle.vr_routes.specs.declared.pieces.Piece.{Piece}
@@ -33,6 +36,12 @@ is_some_paid model = list_any has_penalty model.groups
 abbrev pub saved_by : List Group → ℕ → ℕ
 saved_by [] node = 0
 saved_by (group ∷ groups) node = cond (holds group.nodes node) (pay group.penalty) (saved_by groups node)
+
+-- if a move is one of the lists, and the lists after it are valid, the penalties are lower by so much after it
+abbrev pub Saves : Model → List (List ℕ) → Move → ℤ → Type 0
+Saves model lists mv saved =
+    IsTrue (is_move model lists mv) → IsTrue (is_valid model (apply model lists mv))
+    → penalty_part model lists -ℤ penalty_part model (apply model lists mv) ≡ saved
 
 -- what contracts see of the penalties
 pub record KeptGroups : Type 0 where

@@ -1,7 +1,7 @@
 //! The penalties of groups.
 
 ghost use Rattle.std.specs.Prelude.{◌≡◌, ◌≢◌, ◌<◌, ◌≤◌, ◌-ℤ◌, ◌*ℤ◌, ◌≤ℤ◌, ℕ, ℤ, not, pos};
-ghost use Rattle.std.specs.Prelude.{All, IsTrue, IfOk, IsOk, OnOk, OnErr, length};
+ghost use Rattle.std.specs.Prelude.{All, IsTrue, IfOk, IfSome, IsOk, OnOk, OnErr, length};
 ghost use Rattle.vr_model.specs.tables.Numbers.{is_same_number, number_at, total_by};
 ghost use Rattle.vr_model.specs.tables.Tables.{visits};
 ghost use Rattle.vr_model.specs.tables.Limits.{greatest_cost};
@@ -9,19 +9,21 @@ ghost use Rattle.vr_model.specs.tables.WellFormed.{IsIn, IsWellFormed, WherePres
 ghost use Rattle.vr_model.specs.routes.Routes.{holds};
 ghost use Rattle.vr_model.specs.routes.Costs.{penalty_for, penalty_part};
 ghost use Rattle.vr_model.specs.routes.Rules.{active_in as active_in_of, fits_group, is_valid};
+ghost use Rattle.vr_model.specs.declared.neighbours.Move.TheVariants.{MakeActive, PairActive};
 ghost use Rattle.vr_routes.specs.Changes.{IsMadeOn};
 ghost use Rattle.vr_routes.specs.Pieces.{changed, nodes_of, IsWithin};
+ghost use Rattle.vr_routes.specs.Runs.{with_last};
 ghost use Rattle.vr_parts.specs.Bounds.{IsAddedByChange};
 ghost use Rattle.vr_parts.specs.Parts.{CostAlike, NothingReady};
 ghost use Rattle.vr_sums.specs.Sums.{IsUpTo};
 ghost use Rattle.vr_usecosts.specs.Groups as penalties_of;
 ghost use Rattle.vr_usecosts.specs.Groups.{pay, saved_by, saved_in as saved_in_of, AreSaved, AreFew};
-ghost use Rattle.vr_usecosts.specs.Groups.{IsForNodes, IsForPieces, StandsGroups};
+ghost use Rattle.vr_usecosts.specs.Groups.{IsForNodes, IsForPieces, Saves, StandsGroups};
 
 use std::alloc::Global;
 use std::marker::Model;
 use vr_balance::{Balance, active_in};
-use vr_model::{Group, Model as RoutingModel, NoMemory, Seq};
+use vr_model::{Group, Model as RoutingModel, Move, NoMemory, Seq};
 use vr_parts::CostPart;
 use vr_routes::{Change, Piece, Routes};
 
@@ -298,6 +300,49 @@ impl<'m> GroupCost<'m> {
         }
         let added = self.added(routes, change);
         added
+    }
+
+    /// What each move of a run saves of the penalties, whose moves differ in their last number, where the lists after it
+    /// are valid: what a visit or a pair saves that is put into a list. `None` of moves of other kinds.
+    #[inline]
+    pub fn saved_by_run(&self, routes: &Routes, mv: Move) -> Option<i64>
+        requires stands { StandsGroups self.now routes.now }
+        ensures exact { IfSome result (λ saved. (k : ℕ)
+            → Saves self.now.model routes.now.lists (with_last mv k) saved) }
+        ensures range { IfSome result (IsUpTo 2) }
+    {
+        match mv {
+            Move::MakeActive { u, .. } => Some(self.saved_by_visit(routes, u)),
+            Move::PairActive { p, .. } => self.saved_by_pair(routes, p),
+            _ => None,
+        }
+    }
+
+    // What a visit saves that is put into a list.
+    #[inline]
+    fn saved_by_visit(&self, _routes: &Routes, u: u32) -> i64
+        requires stands { StandsGroups self.now _routes.now }
+        ensures exact { (w t : ℕ) → Saves self.now.model _routes.now.lists (MakeActive u w t) result }
+        ensures range { IsUpTo 2 result }
+    {
+        saved_at(&self.saved, u)
+    }
+
+    // What a pair saves that is put into a list; `None` where there is no such pair.
+    #[inline]
+    fn saved_by_pair(&self, _routes: &Routes, p: u32) -> Option<i64>
+        requires stands { StandsGroups self.now _routes.now }
+        ensures exact { IfSome result (λ saved. (w s t : ℕ)
+            → Saves self.now.model _routes.now.lists (PairActive p w s t) saved) }
+        ensures range { IfSome result (IsUpTo 2) }
+    {
+        if p as usize >= self.model.pairs.len() {
+            return None;
+        }
+        let pair = *self.model.pairs.get(p as usize);
+        let pickup = saved_at(&self.saved, pair.pickup);
+        let delivery = saved_at(&self.saved, pair.delivery);
+        Some(pickup + delivery)
     }
 }
 
