@@ -46,6 +46,16 @@ impl Numbered for Gaps {
             t: k,
         }
     }
+
+    #[inline]
+    fn run(&self) -> Option<Move> {
+        Some(self.make(0))
+    }
+
+    #[inline]
+    fn many(&self, from: u32, to: u32) -> u32 {
+        to - from
+    }
 }
 
 // The vehicles to which `u` may be added.

@@ -47,6 +47,16 @@ impl Numbered for Deliveries {
             t: k,
         }
     }
+
+    #[inline]
+    fn run(&self) -> Option<Move> {
+        Some(self.make(0))
+    }
+
+    #[inline]
+    fn many(&self, from: u32, to: u32) -> u32 {
+        to - from
+    }
 }
 
 // The places of `w`, which has `n`, before which the pickup may be put.

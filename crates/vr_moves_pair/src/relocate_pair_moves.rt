@@ -52,6 +52,20 @@ impl Numbered for Deliveries {
             t: k,
         }
     }
+
+    #[inline]
+    fn run(&self) -> Option<Move> {
+        Some(self.make(0))
+    }
+
+    #[inline]
+    fn many(&self, from: u32, to: u32) -> u32 {
+        let own = self.at.delivery - 1;
+        if own < from || own >= to || self.has(own) {
+            return to - from;
+        }
+        to - from - 1
+    }
 }
 
 // The places of the rest of `w`, which has `n`, before which the pickup may be put.
