@@ -1,5 +1,5 @@
 -- Fronts of two lists that change vehicles: what the move adds, by the gap of the other list.
-use Rattle.std.proofs.Common.{◌≡◌, ◌∙◌, ℕ, ◌-◌, ◌≤◌, List, [], ◌∷◌, ◌++◌, length, take, drop, refl, ap, ap₂, arith}
+use Rattle.std.proofs.Common.{◌≡◌, ◌∙◌, ℕ, zero, suc, ◌-◌, ◌<◌, ◌≤◌, List, [], ◌∷◌, ◌++◌, length, take, drop, refl, ap, ap₂, arith}
 use Rattle.std.specs.Prelude.{ℤ, ◌+ℤ◌, ◌-ℤ◌, ◌≤ℤ◌, slice_range, slice_index_or}
 use Rattle.std.proofs.lemmas.Int.{ints}
 use Rattle.std.proofs.lemmas.List.{length-take-le, get_or-take}
@@ -15,7 +15,7 @@ use Rattle.vr_arccosts.specs.Runs.{AddsNoLess, at_place, before_place, cross_bas
 use Rattle.vr_arccosts.proofs.ChainLemmas.{path-first}
 use Rattle.vr_arccosts.proofs.MoveLemmas.{two-lists}
 use Rattle.vr_arccosts.proofs.PathLemmas.{cost-between, last-kept}
-use Rattle.vr_arccosts.proofs.RunLemmas.{between-used, gap-old, stretch-sum}
+use Rattle.vr_arccosts.proofs.RunLemmas.{bare, between-used, gap-old, stretch-sum}
 
 -- a path through the first nodes of a list
 front-path : (cost : ℕ → ℕ → ℤ) (at : ℕ) (list : List ℕ) (b : ℕ) → 1 ≤ b → b ≤ length list
@@ -71,7 +71,47 @@ module _ (model : Model) (v w : ℕ) (same : (i j : ℕ) → arc_cost model w i 
       let gap-to : arc_cost model w (before_place model w other b) to ≡ cost x to = ap (λ n. arc_cost model w n to) front ∙ same x to in
       omega (arith, ints, mine, path, mine-last, his, old, old-path, chain, gap, gap-from, gap-to)
 
+  -- an empty front, and one that leaves the other list a visit
+  cross-first : (list other : List ℕ) (b : ℕ) → 1 ≤ b → b < length other
+      → cross_base model v list w other 0 +ℤ gap_added model w other (at_place model v list 0) (vehicle_at model w).start b
+      ≡ (between_cost model v list 0 0 (take b other) -ℤ between_cost model v list 0 0 (slice_range list 0 0))
+      +ℤ (between_cost model w other 0 b [] -ℤ between_cost model w other 0 b (slice_range other 0 b))
+  cross-first list other b some less =
+      let cost = arc_cost model v in
+      let start = (vehicle_at model v).start in
+      let end : ℕ = at_place model w other b in
+      let to : ℕ = at_place model v list 0 in
+      let x : ℕ = slice_index_or other (b - 1) 0 in
+      let low : b ≤ length other = omega (arith, less) in
+      let long = length-take-le b other low in
+      let mine = between-used model v list 0 0 (take b other) (omega (arith, long, some)) in
+      let path = front-path cost start other b some low in
+      let mine-last : cost (last_of start (take b other)) to ≡ cost x to = ap (λ n. cost n to) (last-kept start other b some low) in
+      let his = bare model w other 0 b (omega arith) low (omega (arith, less)) in
+      let old = stretch-sum model w other 0 b some low in
+      let old-path = front-path (arc_cost model w) (vehicle_at model w).start other b some low in
+      let chain = chain-same (take b other) in
+      let gap = gap-old model w other b low (omega (arith, some, low)) in
+      let front = last-kept (vehicle_at model w).start other b some low in
+      let gap-from : arc_cost model w (before_place model w other b) end ≡ arc_cost model w x end = ap (λ n. arc_cost model w n end) front in
+      let gap-to : arc_cost model w (before_place model w other b) to ≡ cost x to = ap (λ n. arc_cost model w n to) front ∙ same x to in
+      omega (arith, ints, mine, path, mine-last, his, old, old-path, chain, gap, gap-from, gap-to)
+
 module _ (model : Model) (lists : List (List ℕ)) where
+  pub first-no-less : (v w b : ℕ) (bound base : ℤ) → ((i j : ℕ) → arc_cost model w i j ≡ arc_cost model v i j) → 1 ≤ b → b < length (route lists w)
+      → base ≡ cross_base model v (route lists v) w (route lists w) 0
+      → bound ≤ℤ (base +ℤ gap_added model w (route lists w) (at_place model v (route lists v) 0) (vehicle_at model w).start b)
+      → AddsNoLess model lists (Cross v 0 w b) bound
+  first-no-less v w b bound base same some less is low one =
+      let list : List ℕ = route lists v in
+      let other : List ℕ = route lists w in
+      let facts = of_cross model lists v 0 w b one in
+      let both = cross-first model v w same list other b some less in
+      let mine = cost-between model v list (take b other) 0 0 (omega arith) (omega arith) in
+      let his = cost-between model w other [] 0 b (omega arith) facts.other_gap in
+      let added = two-lists model lists (Cross v 0 w b) v w (take b other ++ list) (drop b other) facts.vehicle facts.other facts.apart refl in
+      omega (arith, ints, both, mine, his, added, is, low)
+
   pub cross-no-less : (v a w b : ℕ) (bound base : ℤ) → ((i j : ℕ) → arc_cost model w i j ≡ arc_cost model v i j) → 1 ≤ a → 1 ≤ b
       → base ≡ cross_base model v (route lists v) w (route lists w) a
       → bound ≤ℤ (base +ℤ gap_added model w (route lists w) (at_place model v (route lists v) a) (last_of (vehicle_at model w).start (take a (route lists v))) b)
@@ -85,3 +125,11 @@ module _ (model : Model) (lists : List (List ℕ)) where
       let his = cost-between model w other (take a list) 0 b (omega arith) facts.other_gap in
       let added = two-lists model lists (Cross v a w b) v w (take b other ++ drop a list) (take a list ++ drop b other) facts.vehicle facts.other facts.apart refl in
       omega (arith, ints, both, mine, his, added, is, low)
+
+  -- the front of either length
+  pub fronts-no-less : (v a w b : ℕ) (bound base : ℤ) → ((i j : ℕ) → arc_cost model w i j ≡ arc_cost model v i j) → 1 ≤ b → (a ≡ 0 → b < length (route lists w))
+      → base ≡ cross_base model v (route lists v) w (route lists w) a
+      → bound ≤ℤ (base +ℤ gap_added model w (route lists w) (at_place model v (route lists v) a) (last_of (vehicle_at model w).start (take a (route lists v))) b)
+      → AddsNoLess model lists (Cross v a w b) bound
+  fronts-no-less v zero w b bound base same some left is low = first-no-less v w b bound base same some (left refl) is low
+  fronts-no-less v (suc a) w b bound base same some left is low = cross-no-less v (suc a) w b bound base same (omega arith) some is low

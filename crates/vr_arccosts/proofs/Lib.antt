@@ -5,4 +5,5 @@ pub mod LineLemmas
 pub mod MoveLemmas
 pub mod RunLemmas
 pub mod PutLemmas
+pub mod RestLemmas
 pub mod CrossLemmas

@@ -1,6 +1,6 @@
 -- What the moves of a run add to arc costs, and which of them add no less than a bound.
 use Rattle.std.specs.Prelude.{ℕ, ◌+◌, ◌<◌, ◌≤◌, true, List, [], take, drop, length, slice_index_or, slice_range}
-use Rattle.std.specs.Prelude.{All, IsTrue, ℤ, ◌+ℤ◌, ◌-ℤ◌, ◌≤ℤ◌}
+use Rattle.std.specs.Prelude.{All, IsTrue, cond, nat_lt, ℤ, ◌+ℤ◌, ◌-ℤ◌, ◌≤ℤ◌}
 use Rattle.vr_model.specs.tables.Tables.{arc_cost, vehicle_at}
 use Rattle.vr_model.specs.tables.WellFormed.{IsWellFormed}
 use Rattle.vr_model.specs.moves.MoveTests.{is_move}
@@ -26,6 +26,19 @@ pub record IsLine (model : Model) (v : ℕ) (list : List ℕ) (along : Along) : 
   pub nodes : All (λ node. node < model.nodes) list
   pub few : length list ≤ 1000
   pub sums : IsAlong model v list along
+
+-- a list of vehicle v of a well-formed model, and two places of it, of which lo comes first
+pub record IsRest (model : Model) (v : ℕ) (list : List ℕ) (lo hi : ℕ) : Type 0 where
+  pub well_formed : IsWellFormed model
+  pub vehicle : v < length model.vehicles
+  pub nodes : All (λ node. node < model.nodes) list
+  pub few : length list ≤ 1000
+  pub order : lo < hi
+  pub place : hi < length list
+
+-- where a node of a list without those at places lo and hi stands in the list
+abbrev pub place_of : ℕ → ℕ → ℕ → ℕ
+place_of place lo hi = cond (nat_lt place lo) place (cond (nat_lt (place + 1) hi) (place + 1) (place + 2))
 
 -- the node of the stop before a place of the list of vehicle v, and that of the stop at it
 abbrev pub before_place : Model → ℕ → List ℕ → ℕ → ℕ

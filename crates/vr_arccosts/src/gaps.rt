@@ -1,10 +1,11 @@
 //! Places of a list at which its arcs cost less than a bound more: of parts that are reversed, by their last place, and
 //! of gaps into which a chain is put. Each search is one loop along the list.
 
-ghost use Rattle.std.specs.Prelude.{◌≡◌, ℕ, ◌+◌, ◌<◌, ◌≤◌, ◌+ℤ◌, ◌≤ℤ◌, length, slice_index, All};
-ghost use Rattle.vr_model.specs.tables.Tables.{arc_cost};
+ghost use Rattle.std.specs.Prelude.{◌≡◌, ℕ, ◌+◌, ◌<◌, ◌≤◌, ◌+ℤ◌, ◌≤ℤ◌, length, slice_index, take, All};
+ghost use Rattle.vr_model.specs.tables.Tables.{arc_cost, vehicle_at};
 ghost use Rattle.vr_model.specs.tables.WellFormed.{IsWellFormed};
 ghost use Rattle.vr_parts.specs.Bounds.{IsAddedByChange, IsAddedByList};
+ghost use Rattle.vr_sums.specs.Sums.{last_of};
 ghost use Rattle.vr_arccosts.specs.Runs.{at_place, before_place, cross_base, front_added, gap_added};
 ghost use Rattle.vr_arccosts.specs.Runs.{pair_added, swap_added, turn_added, IsLine};
 
@@ -32,6 +33,20 @@ impl Asked {
         Asked {
             from,
             end: self.end,
+            bound: self.bound,
+        }
+    }
+
+    /// The numbers below another end.
+    #[inline(always)]
+    pub fn ending(self, end: u32) -> Asked
+        ensures from { result.from ≡ self.from }
+        ensures end { result.end ≡ end }
+        ensures bound { result.bound ≡ self.bound }
+    {
+        Asked {
+            from: self.from,
+            end,
             bound: self.bound,
         }
     }
@@ -309,7 +324,6 @@ pub fn cross_base(line: &Line, a: u32, other: &Line) -> i64
     requires same { other.now.costs.model.now ≡ line.now.costs.model.now }
     requires costs { (i j : ℕ) → arc_cost line.now.costs.model.now other.now.costs.vehicle i j
         ≡ arc_cost line.now.costs.model.now line.now.costs.vehicle i j }
-    requires front { 1 ≤ a }
     requires place { a ≤ length line.now.list.now }
     requires some { 0 < length other.now.list.now }
     ensures value { result ≡ cross_base line.now.costs.model.now line.now.costs.vehicle line.now.list.now
@@ -331,16 +345,35 @@ fn front_added(line: &Line, a: u32, other: &Line) -> i64
     requires same { other.now.costs.model.now ≡ line.now.costs.model.now }
     requires costs { (i j : ℕ) → arc_cost line.now.costs.model.now other.now.costs.vehicle i j
         ≡ arc_cost line.now.costs.model.now line.now.costs.vehicle i j }
-    requires front { 1 ≤ a }
     requires place { a ≤ length line.now.list.now }
     ensures value { result ≡ front_added line.now.costs.model.now line.now.costs.vehicle line.now.list.now
         other.now.costs.vehicle a }
     ensures range { IsAddedByList result }
 {
+    let old = line.along.stretch(line.list.len() as u32, 0, a);
+    if a == 0 {
+        return -old;
+    }
     let to = other.costs.cost(node_before(other, 0), line.list[0]);
     let chain = line.along.chain(false, 0, a);
-    let old = line.along.stretch(line.list.len() as u32, 0, a);
     to + chain - old
+}
+
+/// The last node of the front of a list, up to place `a`, in another list: where it is empty, that of the start there.
+#[inline(always)]
+pub fn front_last(line: &Line, a: u32, other: &Line) -> u32
+    requires line { IsLine line.now.costs.model.now line.now.costs.vehicle line.now.list.now line.now.along.now }
+    requires other { IsLine other.now.costs.model.now other.now.costs.vehicle other.now.list.now other.now.along.now }
+    requires same { other.now.costs.model.now ≡ line.now.costs.model.now }
+    requires place { a ≤ length line.now.list.now }
+    ensures value { result
+        ≡ last_of (vehicle_at line.now.costs.model.now other.now.costs.vehicle).start (take a line.now.list.now) }
+    ensures known { result < line.now.costs.model.now.nodes }
+{
+    if a == 0 {
+        return node_before(other, 0);
+    }
+    node_before(line, a)
 }
 
 // The node of the stop before a place of the list of a vehicle.

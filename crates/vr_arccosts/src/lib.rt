@@ -3,7 +3,7 @@
 //! What a chain of a list costs is one subtraction of the sums along its line, so a change is told by its pieces and a
 //! move by its numbers. The moves of a run differ in their last number alone: what they add is the same for all of them
 //! but for a few arcs beside one place, so the first that may add less than a bound is found in one loop along a list
-//! ([`ArcCost::first_below`]).
+//! ([`ArcCost::first_below`]). A pair that is put back into its list is gone over along the list without it.
 //!
 //! The sums are those of the committed lists. `vr_costfilter` has this part beside the others, and `vr_judge` asks it
 //! about changes, moves and runs.
@@ -15,6 +15,7 @@ mod gaps;
 mod lines;
 mod moves;
 mod puts;
+mod rests;
 mod runs;
 mod walks;
 

@@ -108,7 +108,7 @@ impl<'m> ArcCost<'m> {
 
     // What two visits add that take each other's place.
     #[inline(always)]
-    fn exchanged(&self, routes: &Routes, v: u32, a: u32, w: u32, b: u32) -> i64
+    pub(crate) fn exchanged(&self, routes: &Routes, v: u32, a: u32, w: u32, b: u32) -> i64
         requires stands { StandsAlong self.now routes.now }
         requires is_one { is_move self.now.model routes.now.lists (Exchange v a w b) ≡ true }
         ensures exact { result ≡ arcs_added self.now.model routes.now.lists (Exchange v a w b) }
@@ -131,7 +131,7 @@ impl<'m> ArcCost<'m> {
 
     // What the fronts of two lists add that change vehicles.
     #[inline(always)]
-    fn crossed(&self, routes: &Routes, v: u32, a: u32, w: u32, b: u32) -> i64
+    pub(crate) fn crossed(&self, routes: &Routes, v: u32, a: u32, w: u32, b: u32) -> i64
         requires stands { StandsAlong self.now routes.now }
         requires is_one { is_move self.now.model routes.now.lists (Cross v a w b) ≡ true }
         ensures exact { result ≡ arcs_added self.now.model routes.now.lists (Cross v a w b) }

@@ -1,6 +1,6 @@
 //! Runs of moves that put a visit or a pair into a list: the first of them that may add less than a bound to arc costs.
 
-ghost use Rattle.std.specs.Prelude.{◌≡◌, ℕ, ◌<◌, ◌≤◌, length, IfSome};
+ghost use Rattle.std.specs.Prelude.{◌≡◌, ℕ, ◌<◌, ◌≤◌, ◌≢◌, length, IfSome};
 ghost use Rattle.vr_model.specs.routes.Routes.{route};
 ghost use Rattle.vr_model.specs.tables.Tables.{pair_at};
 ghost use Rattle.vr_model.specs.tables.WellFormed.{IsWellFormed};
@@ -13,6 +13,7 @@ ghost use Rattle.vr_arccosts.specs.Runs.{AddsNoLess};
 
 use crate::ArcCost;
 use crate::gaps::{Asked, Ends, first_delivery, first_gap};
+use crate::rests::{Rest, first_in_rest};
 use vr_model::Pair;
 use vr_routes::{PairPlaces, Piece, Routes, pair_served};
 
@@ -63,8 +64,7 @@ impl<'m> ArcCost<'m> {
         first_delivery(&line, pair, s, 0, asked)
     }
 
-    // The run of a served pair that is put into the list of another vehicle with its pickup before a place, by the
-    // place of its delivery. `None` of one that stays in its list.
+    // The run of a served pair that is put elsewhere with its pickup before a place, by the place of its delivery.
     #[inline(never)]
     pub(crate) fn first_pair_relocated(
         &self,
@@ -83,13 +83,13 @@ impl<'m> ArcCost<'m> {
     {
         match pair_served(self.model, routes, p) {
             None => None,
-            Some(at) => self.first_put_elsewhere(routes, p, at, w, s, asked),
+            Some(at) => self.first_put_at(routes, p, at, w, s, asked),
         }
     }
 
-    // The same run of the pair that stands at two places.
+    // The same run of the pair that stands at two places: into its own list or another one.
     #[inline(always)]
-    fn first_put_elsewhere(
+    fn first_put_at(
         &self,
         routes: &Routes,
         p: u32,
@@ -108,7 +108,69 @@ impl<'m> ArcCost<'m> {
         ensures no_less { IfSome result (λ first. (t : ℕ) → asked.from ≤ t → t < first
             → AddsNoLess self.now.model routes.now.lists (RelocatePair p w s t) asked.bound) }
     {
-        if w == at.vehicle || s > asked.from || w >= routes.vehicles() {
+        if w == at.vehicle {
+            return self.first_put_back(routes, p, at, s, asked);
+        }
+        self.first_put_elsewhere(routes, p, at, w, s, asked)
+    }
+
+    // The run of a pair that is put back into its list.
+    #[inline(always)]
+    fn first_put_back(
+        &self,
+        routes: &Routes,
+        p: u32,
+        at: PairPlaces,
+        s: u32,
+        asked: Asked,
+    ) -> Option<u32>
+        requires stands { StandsAlong self.now routes.now }
+        requires pair { p < length self.now.model.pairs }
+        requires places { ArePlaces routes.now.lists (pair_at self.now.model p) at.vehicle at.pickup at.delivery }
+        requires in_turn { at.pickup < at.delivery }
+        requires order { asked.from ≤ asked.end }
+        ensures from { IfSome result (λ first. asked.from ≤ first) }
+        ensures within { IfSome result (λ first. first ≤ asked.end) }
+        ensures no_less { IfSome result (λ first. (t : ℕ) → asked.from ≤ t → t < first
+            → AddsNoLess self.now.model routes.now.lists (RelocatePair p at.vehicle s t) asked.bound) }
+    {
+        if s > asked.from || asked.end >= routes.len(at.vehicle) {
+            return None;
+        }
+        let left = self.without_pair(routes, at);
+        let rest = Rest {
+            costs: self.costs_of(at.vehicle),
+            list: routes.list(at.vehicle),
+            lo: at.pickup,
+            hi: at.delivery,
+        };
+        let pair = self.pair(p);
+        Some(first_in_rest(&rest, pair, s, left, asked))
+    }
+
+    // The run of a pair that is put into the list of another vehicle.
+    #[inline(always)]
+    fn first_put_elsewhere(
+        &self,
+        routes: &Routes,
+        p: u32,
+        at: PairPlaces,
+        w: u32,
+        s: u32,
+        asked: Asked,
+    ) -> Option<u32>
+        requires stands { StandsAlong self.now routes.now }
+        requires pair { p < length self.now.model.pairs }
+        requires places { ArePlaces routes.now.lists (pair_at self.now.model p) at.vehicle at.pickup at.delivery }
+        requires in_turn { at.pickup < at.delivery }
+        requires other { at.vehicle ≢ w }
+        requires order { asked.from ≤ asked.end }
+        ensures from { IfSome result (λ first. asked.from ≤ first) }
+        ensures within { IfSome result (λ first. first ≤ asked.end) }
+        ensures no_less { IfSome result (λ first. (t : ℕ) → asked.from ≤ t → t < first
+            → AddsNoLess self.now.model routes.now.lists (RelocatePair p w s t) asked.bound) }
+    {
+        if s > asked.from || w >= routes.vehicles() {
             return None;
         }
         if asked.end > routes.len(w) + 1 {

@@ -2,6 +2,7 @@
 
 ghost use Rattle.std.specs.Prelude.{◌≡◌, ℕ, ◌+◌, ◌<◌, ◌≤◌, ◌≤ℤ◌, IfSome, IsTrue, length};
 ghost use Rattle.vr_model.specs.routes.Routes.{route};
+ghost use Rattle.vr_model.specs.tables.Tables.{arc_cost};
 ghost use Rattle.vr_model.specs.declared.neighbours.Move.TheVariants.{Cross, Exchange, OrOpt, Relocate, TwoOpt};
 ghost use Rattle.vr_routes.specs.Runs.{with_last};
 ghost use Rattle.vr_arccosts.specs.Along.{StandsAlong};
@@ -11,7 +12,7 @@ ghost use Rattle.vr_arccosts.specs.Runs.{AddsNoLess, left_added};
 use crate::ArcCost;
 use crate::gaps::{
     Asked, Ends, cross_base, first_behind, first_gap, first_in_front, first_swap, first_turn,
-    node_at,
+    front_last, node_at,
 };
 use vr_model::Move;
 use vr_routes::Routes;
@@ -20,8 +21,9 @@ impl<'m> ArcCost<'m> {
     /// Goes over a run of moves of the committed lists, which differ in their last number: those of the numbers from
     /// `from` on, below `end`. Says from which number on some may add less than a bound, also where the lists after it
     /// are not valid: each move in front of it adds no less. The numbers of `mv`, of which the last is any, need not be
-    /// those of a move; of a run whose first move is to be asked alone it says `from`. `None` of kinds that it does not
-    /// go over.
+    /// those of a move: of a vehicle, a pair or a place that there is not it says `from` or `None`. `None` of kinds that
+    /// it does not go over (`MakeInactive`, `PairInactive` and `SwapActive`), and of fronts of vehicles with different
+    /// costs.
     #[inline(always)]
     pub fn first_below(
         &self,
@@ -44,7 +46,7 @@ impl<'m> ArcCost<'m> {
             Move::OrOpt { v, a, k, .. } => Some(self.first_shifted(routes, v, a, k, asked)),
             Move::Relocate { v, a, w, .. } => Some(self.first_relocated(routes, v, a, w, asked)),
             Move::Exchange { v, a, w, .. } => Some(self.first_exchanged(routes, v, a, w, asked)),
-            Move::Cross { v, a, w, .. } => Some(self.first_crossed(routes, v, a, w, asked)),
+            Move::Cross { v, a, w, .. } => self.first_crossed(routes, v, a, w, asked),
             Move::MakeActive { u, w, .. } => Some(self.first_made_active(routes, u, w, asked)),
             Move::PairActive { p, w, s, .. } => {
                 Some(self.first_pair_active(routes, p, w, s, asked))
@@ -147,8 +149,7 @@ impl<'m> ArcCost<'m> {
         first_gap(&line, ends, base, asked)
     }
 
-    // The run of a visit that changes places with those of a list, by the place there. Two that stand side by side are
-    // left to be asked alone.
+    // The run of a visit that changes places with those of a list, by the place there.
     #[inline(never)]
     fn first_exchanged(&self, routes: &Routes, v: u32, a: u32, w: u32, asked: Asked) -> u32
         requires stands { StandsAlong self.now routes.now }
@@ -162,41 +163,122 @@ impl<'m> ArcCost<'m> {
         if v >= vehicles || w >= vehicles || a >= routes.len(v) || asked.end > routes.len(w) {
             return asked.from;
         }
-        if v == w && asked.from <= a + 1 {
+        if v != w || asked.from > a + 1 {
+            return self.first_apart(routes, v, a, w, asked);
+        }
+        if asked.from <= a || asked.from == asked.end {
             return asked.from;
         }
+        // the visit next to it
+        if self.exchanged(routes, v, a, w, a + 1) < asked.bound {
+            return asked.from;
+        }
+        self.first_apart(routes, v, a, w, asked.starting(a + 2))
+    }
+
+    // The same run, where the visits do not stand side by side.
+    #[inline(always)]
+    fn first_apart(&self, routes: &Routes, v: u32, a: u32, w: u32, asked: Asked) -> u32
+        requires stands { StandsAlong self.now routes.now }
+        requires vehicle { v < length routes.now.lists }
+        requires other { w < length routes.now.lists }
+        requires place { a < length (route routes.now.lists v) }
+        requires order { asked.from ≤ asked.end }
+        requires places { asked.end ≤ length (route routes.now.lists w) }
+        requires apart { v ≡ w → a + 1 < asked.from }
+        ensures from { asked.from ≤ result }
+        ensures within { result ≤ asked.end }
+        ensures no_less { (b : ℕ) → asked.from ≤ b → b < result
+            → AddsNoLess self.now.model routes.now.lists (Exchange v a w b) asked.bound }
+    {
         let line = self.line_of(routes, v);
         let other = self.line_of(routes, w);
         first_swap(&line, a, &other, asked)
     }
 
-    // The run of a front that changes vehicles with those of another list, by the place behind the latter. It is gone
-    // over where both vehicles have the same costs; moves with an empty front are left to be asked alone.
+    // The run of a front that changes vehicles with those of another list, by the place behind the latter. `None` where
+    // the vehicles do not have the same costs.
     #[inline(never)]
-    fn first_crossed(&self, routes: &Routes, v: u32, a: u32, w: u32, asked: Asked) -> u32
+    fn first_crossed(&self, routes: &Routes, v: u32, a: u32, w: u32, asked: Asked) -> Option<u32>
         requires stands { StandsAlong self.now routes.now }
         requires order { asked.from ≤ asked.end }
+        ensures from { IfSome result (λ first. asked.from ≤ first) }
+        ensures within { IfSome result (λ first. first ≤ asked.end) }
+        ensures no_less { IfSome result (λ first. (b : ℕ) → asked.from ≤ b → b < first
+            → AddsNoLess self.now.model routes.now.lists (Cross v a w b) asked.bound) }
+    {
+        if v >= w || w >= routes.vehicles() || a > routes.len(v) {
+            return None;
+        }
+        if asked.end > routes.len(w) + 1 || !self.have_same_costs(v, w) {
+            return None;
+        }
+        if asked.from == asked.end {
+            return Some(asked.end);
+        }
+        if asked.from > 0 {
+            return Some(self.first_fronts(routes, v, a, w, asked));
+        }
+        // the other front is empty
+        if a > 0 && self.crossed(routes, v, a, w, 0) < asked.bound {
+            return Some(0);
+        }
+        Some(self.first_fronts(routes, v, a, w, asked.starting(1)))
+    }
+
+    // The same run, where the other front has a visit: fronts that leave one list empty are asked alone.
+    #[inline(always)]
+    fn first_fronts(&self, routes: &Routes, v: u32, a: u32, w: u32, asked: Asked) -> u32
+        requires stands { StandsAlong self.now routes.now }
+        requires vehicles { v < w }
+        requires other { w < length routes.now.lists }
+        requires gap { a ≤ length (route routes.now.lists v) }
+        requires costs { (i j : ℕ) → arc_cost self.now.model w i j ≡ arc_cost self.now.model v i j }
+        requires some { 1 ≤ asked.from }
+        requires order { asked.from ≤ asked.end }
+        requires places { asked.end ≤ length (route routes.now.lists w) + 1 }
         ensures from { asked.from ≤ result }
         ensures within { result ≤ asked.end }
         ensures no_less { (b : ℕ) → asked.from ≤ b → b < result
             → AddsNoLess self.now.model routes.now.lists (Cross v a w b) asked.bound }
     {
-        let vehicles = routes.vehicles();
-        if a == 0 || asked.from == 0 || v >= vehicles || w >= vehicles {
-            return asked.from;
+        let n = routes.len(w);
+        if a > 0 || asked.end <= n || asked.from == asked.end {
+            return self.first_left(routes, v, a, w, asked);
         }
-        if a > routes.len(v) || asked.end > routes.len(w) + 1 || routes.len(w) == 0 {
-            return asked.from;
+        let b = self.first_left(routes, v, a, w, asked.ending(n));
+        if b < n || self.crossed(routes, v, 0, w, n) < asked.bound {
+            return b;
         }
-        if !self.have_same_costs(v, w) {
-            return asked.from;
+        asked.end
+    }
+
+    // The same run, where neither list is left empty.
+    #[inline(always)]
+    fn first_left(&self, routes: &Routes, v: u32, a: u32, w: u32, asked: Asked) -> u32
+        requires stands { StandsAlong self.now routes.now }
+        requires vehicles { v < w }
+        requires other { w < length routes.now.lists }
+        requires gap { a ≤ length (route routes.now.lists v) }
+        requires costs { (i j : ℕ) → arc_cost self.now.model w i j ≡ arc_cost self.now.model v i j }
+        requires some { 1 ≤ asked.from }
+        requires order { asked.from ≤ asked.end }
+        requires places { asked.end ≤ length (route routes.now.lists w) + 1 }
+        requires left { a ≡ 0 → asked.from < asked.end → asked.end ≤ length (route routes.now.lists w) }
+        ensures from { asked.from ≤ result }
+        ensures within { result ≤ asked.end }
+        ensures no_less { (b : ℕ) → asked.from ≤ b → b < result
+            → AddsNoLess self.now.model routes.now.lists (Cross v a w b) asked.bound }
+    {
+        if asked.from == asked.end {
+            return asked.end;
         }
         let line = self.line_of(routes, v);
         let other = self.line_of(routes, w);
         let base = cross_base(&line, a, &other);
         let ends = Ends {
             first: node_at(&line, a),
-            last: routes.node_at(v, a - 1),
+            last: front_last(&line, a, &other),
         };
         first_gap(&other, ends, base, asked)
     }

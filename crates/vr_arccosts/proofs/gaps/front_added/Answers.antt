@@ -1,7 +1,9 @@
 use Rattle.std.proofs.Common.{◌≡◌, ◌∙◌, ℕ, List, take, ap, arith}
 use Rattle.std.proofs.lemmas.Int.{ints}
 use Rattle.std.proofs.lemmas.Slice.{between_from_start}
-use Rattle.std.specs.Prelude.{slice_index_or}
+use Rattle.std.specs.Prelude.{slice_index_or, slice_range}
+use Rattle.vr_arccosts.specs.Along.{between_cost}
+use Rattle.vr_arccosts.specs.Runs.{front_added}
 use Rattle.vr_model.specs.tables.Tables.{arc_cost, vehicle_at}
 use Rattle.vr_model.specs.declared.records.Model.{Model}
 use Rattle.vr_arccosts.specs.Chains.{chain_sum}
@@ -24,5 +26,19 @@ returns-clause-value c =
     let to-is : c.cost-to.result ≡ arc_cost model w start x = to.value ∙ (ap (λ (m : Model). arc_cost m w c.node_before.result x) c.requires.same ∙ ap (λ n. arc_cost model w n x) same-start) in
     let chain-is : c.chain-chain.result ≡ chain_sum (arc_cost model v) (take c.args.a list) = chain.value model v list line.sums c.requires.place ∙ ap (chain_sum (arc_cost model v)) (between_from_start list c.args.a) in
     let old-is = old.value model v list line.sums in
-    let front = front-cost model v w c.requires.costs start list c.args.a c.requires.front c.requires.place in
+    let some = c.if-a-eq0.false in
+    let front = front-cost model v w c.requires.costs start list c.args.a (omega (arith, some)) c.requires.place in
     omega (arith, ints, to-is, chain-is, old-is, front, to.not_negative, to.bound, chain.range.at_least, chain.range.at_most, old.range.at_least, old.range.at_most)
+
+pub returns-then-a-eq0-clause-value : goal.returns-then-a-eq0-clause-value
+returns-then-a-eq0-clause-value c =
+    let line = c.requires.line in
+    let model : Model = c.args.line.now.costs.model.now in
+    let v = c.args.line.now.costs.vehicle in
+    let w = c.args.other.now.costs.vehicle in
+    let list : List ℕ = c.args.line.now.list.now in
+    let old = c.stretch-old.ensures in
+    let old-is = old.value model v list line.sums in
+    let none : front_added model v list w c.args.a ≡ front_added model v list w 0 = ap (front_added model v list w) c.if-a-eq0.true in
+    let stretch : between_cost model v list 0 c.args.a (slice_range list 0 c.args.a) ≡ between_cost model v list 0 0 (slice_range list 0 0) = ap (λ n. between_cost model v list 0 n (slice_range list 0 n)) c.if-a-eq0.true in
+    omega (arith, ints, none, stretch, old-is, old.range.at_least, old.range.at_most)

@@ -1,24 +1,13 @@
-use Rattle.std.proofs.Common.{◌≡◌, ◌∙◌, ◌-◌, ◌<◌, ℕ, List, take, w64, to_z, of_z, ap, ap₂, sym, subst, arith}
+use Rattle.std.proofs.Common.{◌≡◌, ℕ, List, inl, inr, refl, subst, arith}
+use Rattle.std.specs.Prelude.{ℤ}
 use Rattle.std.proofs.lemmas.Int.{ints}
-use Rattle.std.specs.Prelude.{◌+ℤ◌, ◌≤ℤ◌}
-use Rattle.vr_model.specs.routes.Routes.{route}
-use Rattle.vr_model.specs.tables.Tables.{vehicle_at}
+use Rattle.std.proofs.lemmas.Bool.{cases_lt}
 use Rattle.vr_model.specs.declared.records.Model.{Model}
-use Rattle.vr_sums.specs.Sums.{last_of}
-use Rattle.vr_parts.proofs.PartLemmas.{small}
-use Rattle.vr_arccosts.specs.Runs.{at_place, cross_base, gap_added}
-use Rattle.vr_arccosts.proofs.CrossLemmas.{cross-no-less}
-use Rattle.vr_arccosts.proofs.PathLemmas.{last-kept}
+use Rattle.vr_model.specs.declared.neighbours.Move.TheVariants.{Cross}
+use Rattle.vr_routes.proofs.FactLemmas.{of_cross}
+use Rattle.vr_arccosts.specs.Runs.{AddsNoLess}
 use Rattle.vr_arccosts.proofs.arcs.ArcCost.first_crossed.Goals as goal
-
-pub first_gap-requires-clause-last : goal.first_gap-requires-clause-last
-first_gap-requires-clause-last c =
-    let s = small c.args.self.now.model c.requires.stands.well_formed c.args.routes.now.lists c.requires.stands.valid in
-    let some = c.if-a-eq0.false in
-    let place = c.if-a-len.false in
-    let many = c.len.ensures.value in
-    subst (λ (m : Model). c.node_at-2.result < m.nodes) (sym c.line_of-other.ensures.model)
-    (subst (λ n. n < c.args.self.now.model.nodes) (sym c.node_at-2.ensures) (s.below c.args.v (c.args.a - 1) 0 (omega (arith, some, place, many))))
+use Rattle.vr_arccosts.proofs.arcs.ArcCost.first_crossed.Goals.{else-a-gt0-via-then-a-gt0+else-crossed-asked, else-a-gt0-via-else-a-gt0}
 
 pub returns-clause-no_less : goal.returns-clause-no_less
 returns-clause-no_less c b low high =
@@ -27,28 +16,19 @@ returns-clause-no_less c b low high =
     let v = c.args.v in
     let w = c.args.w in
     let a = c.args.a in
-    let list : List ℕ = route lists v in
-    let line = c.line_of-line.ensures in
-    let other = c.line_of-other.ensures in
-    let m = c.line_of-line.result.costs.model.now in
-    let vn = c.line_of-line.result.costs.vehicle in
-    let mine : List ℕ = c.line_of-line.result.list.now in
-    let mo = c.line_of-other.result.costs.model.now in
-    let wn = c.line_of-other.result.costs.vehicle in
-    let his : List ℕ = c.line_of-other.result.list.now in
-    let some = c.if-a-eq0.false in
-    let begins = c.if-asked-eq0.false in
-    let within = c.if-a-len.false in
-    let base : c.cross_base-base.result ≡ cross_base model v list w (route lists w) a =
-    c.cross_base-base.ensures.value
-    ∙ (ap (λ (m : Model). cross_base m vn mine wn his a) line.model
-    ∙ (ap₂ (λ n l. cross_base model n l wn his a) line.vehicle line.list ∙ ap₂ (λ n l. cross_base model v list n l a) other.vehicle other.list)) in
-    let to : c.node_at.result ≡ at_place model v list a = c.node_at.ensures.value ∙ (ap (λ (m : Model). at_place m vn mine a) line.model ∙ ap₂ (λ n l. at_place model n l a) line.vehicle line.list) in
-    let last : c.node_at-2.result ≡ last_of (vehicle_at model w).start (take a list) = c.node_at-2.ensures ∙ sym (last-kept (vehicle_at model w).start list a (omega (arith, some)) (omega (arith, within))) in
-    let gap : gap_added mo wn his c.node_at.result c.node_at-2.result b ≡ gap_added model w (route lists w) (at_place model v list a) (last_of (vehicle_at model w).start (take a list)) b =
-    ap (λ (m : Model). gap_added m wn his c.node_at.result c.node_at-2.result b) other.model
-    ∙ (ap₂ (λ n l. gap_added model n l c.node_at.result c.node_at-2.result b) other.vehicle other.list ∙ ap₂ (λ x y. gap_added model w (route lists w) x y b) to last) in
-    let read = to_z w64 (of_z w64 c.cross_base-base.result) in
-    let r = c.cross_base-base.ensures.range in
-    cross-no-less model lists v a w b c.args.asked.bound read (c.have_same_costs.ensures c.if-not-have_same_costs.false) (omega (arith, some)) (omega (arith, begins, low)) (omega (arith, ints, base, r.low, r.high))
-    (subst (λ d. c.args.asked.bound ≤ℤ (read +ℤ d)) gap (c.first_gap.ensures.no_less b low high))
+    let next = c.starting.ensures in
+    let from = next.from in
+    elim (cases_lt 0 b) [
+      | inl behind ↦ subst (λ (d : ℤ). AddsNoLess model lists (Cross v a w b) d) next.bound (c.first_fronts-2.ensures.no_less b (omega (arith, from, behind)) high)
+      | inr here ↦ (
+          let same : 0 ≡ b = omega (arith, here) in
+          subst (λ n. AddsNoLess model lists (Cross v a w n) c.args.asked.bound) same (elim c.else-a-gt0.branch [
+            | else-a-gt0-via-then-a-gt0+else-crossed-asked x ↦ (
+                let one = x.crossed.ensures in
+                let no = x.if-crossed-asked.false in
+                λ _. omega (arith, ints, one.exact, one.range.low, one.range.high, no))
+            | else-a-gt0-via-else-a-gt0 x ↦ (
+                let none = x.if-a-gt0.false in
+                λ one. absurd ((of_cross model lists v a w 0 one).some (omega (arith, none)) refl))
+          ]))
+    ]

@@ -1,11 +1,12 @@
-use Rattle.std.proofs.Common.{◌≡◌, ◌∙◌, ◌+◌, ◌<◌, ℕ, List, ap, ap₂, subst, arith}
-use Rattle.std.specs.Prelude.{◌+ℤ◌, ◌≤ℤ◌, slice_index}
-use Rattle.vr_model.specs.routes.Routes.{route}
+use Rattle.std.proofs.Common.{◌≡◌, ◌+◌, ℕ, List, inl, inr, subst, arith}
+use Rattle.std.specs.Prelude.{ℤ, ◌≤ℤ◌}
+use Rattle.std.proofs.lemmas.Int.{ints}
+use Rattle.std.proofs.lemmas.Bool.{cases_lt}
 use Rattle.vr_model.specs.declared.records.Model.{Model}
-use Rattle.vr_arccosts.specs.Runs.{swap_added}
-use Rattle.vr_arccosts.proofs.RunLemmas.{swap-no-less}
+use Rattle.vr_model.specs.declared.neighbours.Move.TheVariants.{Exchange}
+use Rattle.vr_arccosts.specs.ArcMoves.{arcs_added}
+use Rattle.vr_arccosts.specs.Runs.{AddsNoLess}
 use Rattle.vr_arccosts.proofs.arcs.ArcCost.first_exchanged.Goals as goal
-use Rattle.vr_arccosts.proofs.arcs.ArcCost.first_exchanged.Goals.{else-v-w-via-then-v-w+else-asked-a, else-v-w-via-else-v-w}
 
 pub returns-clause-no_less : goal.returns-clause-no_less
 returns-clause-no_less c b low high =
@@ -14,23 +15,14 @@ returns-clause-no_less c b low high =
     let v = c.args.v in
     let w = c.args.w in
     let a = c.args.a in
-    let line = c.line_of-line.ensures in
-    let other = c.line_of-other.ensures in
-    let m = c.line_of-line.result.costs.model.now in
-    let vn = c.line_of-line.result.costs.vehicle in
-    let wn = c.line_of-other.result.costs.vehicle in
-    let mine : List ℕ = c.line_of-line.result.list.now in
-    let his : List ℕ = c.line_of-other.result.list.now in
-    let far : v ≡ w → a + 1 < b = λ same. elim c.else-v-w.branch [
-      | else-v-w-via-then-v-w+else-asked-a x ↦ (let more = x.if-asked-a.false in omega (arith, more, low))
-      | else-v-w-via-else-v-w x ↦ absurd (x.if-v-w.false same)
-    ] in
-    let one : swap_added m vn mine a (slice_index his b) ≡ swap_added model v (route lists v) a (slice_index (route lists w) b) =
-    ap (λ (m : Model). swap_added m vn mine a (slice_index his b)) line.model
-    ∙ (ap (λ n. swap_added model n mine a (slice_index his b)) line.vehicle
-    ∙ ap₂ (λ l k. swap_added model v l a (slice_index k b)) line.list other.list) in
-    let two : swap_added m wn his b (slice_index mine a) ≡ swap_added model w (route lists w) b (slice_index (route lists v) a) =
-    ap (λ (m : Model). swap_added m wn his b (slice_index mine a)) line.model
-    ∙ (ap (λ n. swap_added model n his b (slice_index mine a)) other.vehicle
-    ∙ ap₂ (λ l k. swap_added model w k b (slice_index l a)) line.list other.list) in
-    swap-no-less model lists v a w b c.args.asked.bound far (subst (λ d. c.args.asked.bound ≤ℤ d) (ap₂ (λ x y. x +ℤ y) one two) (c.first_swap.ensures.no_less b low high))
+    let next = c.starting.ensures in
+    let from = next.from in
+    elim (cases_lt (a + 1) b) [
+      | inl behind ↦ subst (λ (d : ℤ). AddsNoLess model lists (Exchange v a w b) d) next.bound (c.first_apart-2.ensures.no_less b (omega (arith, from, behind)) high)
+      | inr here ↦ (
+          let after = c.if-asked-a-2.false in
+          let same : a + 1 ≡ b = omega (arith, here, after, low) in
+          let one = c.exchanged.ensures in
+          let no = c.if-exchanged-asked.false in
+          λ _. subst (λ n. c.args.asked.bound ≤ℤ arcs_added model lists (Exchange v a w n)) same (omega (arith, ints, one.exact, one.range.low, one.range.high, no)))
+    ]

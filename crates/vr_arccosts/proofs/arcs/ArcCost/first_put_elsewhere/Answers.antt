@@ -1,4 +1,4 @@
-use Rattle.std.proofs.Common.{ℕ, List, w64, to_z, of_z, subst, sym, arith}
+use Rattle.std.proofs.Common.{ℕ, List, w64, to_z, of_z, subst, arith}
 use Rattle.std.proofs.lemmas.Int.{ints}
 use Rattle.std.specs.Prelude.{◌+ℤ◌, ◌≤ℤ◌}
 use Rattle.vr_model.specs.routes.Routes.{route}
@@ -19,5 +19,5 @@ returns-clause-no_less c t low high =
     let put = put-told model c.args.w (route lists c.args.w) c.args.s t (pair_at model c.args.p) line.result.costs.model.now line.result.costs.vehicle line.result.list.now c.pair-pair.result
     line.ensures.model line.ensures.vehicle line.ensures.list c.pair-pair.ensures.value in
     elsewhere-no-less model lists c.args.p c.args.w c.args.s t at.vehicle at.pickup at.delivery c.args.asked.bound read (once-valid model lists c.requires.stands.valid) c.requires.places c.requires.in_turn
-    (λ e. c.if-w-at.false (sym e)) (omega (arith, ints, left.value, left.range.low, left.range.high))
+    c.requires.other (omega (arith, ints, left.value, left.range.low, left.range.high))
     (subst (λ d. c.args.asked.bound ≤ℤ (read +ℤ d)) put (c.first_delivery.ensures.no_less t low high))

@@ -1,0 +1,21 @@
+use Rattle.std.proofs.Common.{◌∙◌, ℕ, List, take, ap, sym, arith}
+use Rattle.vr_model.specs.tables.Tables.{vehicle_at}
+use Rattle.vr_model.specs.declared.records.Model.{Model}
+use Rattle.vr_sums.specs.Sums.{last_of}
+use Rattle.vr_arccosts.proofs.PathLemmas.{last-kept}
+use Rattle.vr_arccosts.proofs.gaps.front_last.Goals as goal
+
+pub returns-then-a-eq0-clause-value : goal.returns-then-a-eq0-clause-value
+returns-then-a-eq0-clause-value c =
+    let w = c.args.other.now.costs.vehicle in
+    let list : List ℕ = c.args.line.now.list.now in
+    c.node_before.ensures.value ∙ (ap (λ (m : Model). (vehicle_at m w).start) c.requires.same
+    ∙ ap (λ n. last_of (vehicle_at c.args.line.now.costs.model.now w).start (take n list)) (sym c.if-a-eq0.true))
+
+pub returns-clause-value : goal.returns-clause-value
+returns-clause-value c =
+    let model : Model = c.args.line.now.costs.model.now in
+    let list : List ℕ = c.args.line.now.list.now in
+    let some = c.if-a-eq0.false in
+    c.node_before-2.ensures.value ∙ last-kept (vehicle_at model c.args.line.now.costs.vehicle).start list c.args.a (omega (arith, some)) c.requires.place
+    ∙ sym (last-kept (vehicle_at model c.args.other.now.costs.vehicle).start list c.args.a (omega (arith, some)) c.requires.place)

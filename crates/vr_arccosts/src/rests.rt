@@ -1,0 +1,161 @@
+//! The list of a vehicle without a pair: what the pair adds where it is put into it.
+
+ghost use Rattle.std.specs.Prelude.{◌≡◌, ℕ, ◌+◌, ◌<◌, ◌≤◌, ◌+ℤ◌, ◌≤ℤ◌, length};
+ghost use Rattle.vr_parts.specs.Bounds.{IsAddedByChange, IsAddedByList};
+ghost use Rattle.vr_routes.specs.Pairs.{without_two};
+ghost use Rattle.vr_arccosts.specs.Runs.{at_place, before_place, gap_added, pair_added, place_of, IsRest};
+
+use crate::costs::ArcCosts;
+use crate::gaps::{Asked, Ends};
+use vr_model::Pair;
+
+/// The list of a vehicle without the nodes at two places, of which `lo` comes first, and what its arcs cost.
+#[derive(Drop)]
+pub struct Rest<'a, 'm> {
+    pub costs: ArcCosts<'m>,
+    pub list: &'a [u32],
+    pub lo: u32,
+    pub hi: u32,
+}
+
+/// The first place of a rest before which the delivery of a pair can be put so that, with the pickup before place `s`,
+/// which is not behind the first number, and with what else the move adds, the arcs cost less than the bound more;
+/// `end` where there is none.
+#[inline(never)]
+pub fn first_in_rest(rest: &Rest, pair: Pair, s: u32, base: i64, asked: Asked) -> u32
+    requires rest { IsRest rest.now.costs.model.now rest.now.costs.vehicle rest.now.list.now rest.now.lo rest.now.hi }
+    requires pickup { pair.pickup < rest.now.costs.model.now.nodes }
+    requires delivery { pair.delivery < rest.now.costs.model.now.nodes }
+    requires base { IsAddedByList base }
+    requires order { s ≤ asked.from }
+    requires asked { asked.from ≤ asked.end }
+    requires places { asked.end + 1 ≤ length rest.now.list.now }
+    ensures from { asked.from ≤ result }
+    ensures within { result ≤ asked.end }
+    ensures no_less { (t : ℕ) → asked.from ≤ t → t < result → asked.bound
+        ≤ℤ (base +ℤ pair_added rest.now.costs.model.now rest.now.costs.vehicle
+        (without_two rest.now.list.now rest.now.lo rest.now.hi) pair s t) }
+{
+    if asked.from == asked.end {
+        return asked.end;
+    }
+    let pickup = Ends {
+        first: pair.pickup,
+        last: pair.pickup,
+    };
+    let with_pickup = put(rest, pickup, s);
+    for t in asked.from..asked.end {
+        if base + put_pair(rest, pair, s, with_pickup, t) < asked.bound {
+            return t;
+        }
+    }
+    asked.end
+}
+
+// How much more the arcs of a rest cost where a pair is put into it, by what they cost with the pickup alone.
+#[inline(always)]
+fn put_pair(rest: &Rest, pair: Pair, s: u32, with_pickup: i64, t: u32) -> i64
+    requires rest { IsRest rest.now.costs.model.now rest.now.costs.vehicle rest.now.list.now rest.now.lo rest.now.hi }
+    requires pickup { pair.pickup < rest.now.costs.model.now.nodes }
+    requires delivery { pair.delivery < rest.now.costs.model.now.nodes }
+    requires with_pickup { with_pickup ≡ gap_added rest.now.costs.model.now rest.now.costs.vehicle
+        (without_two rest.now.list.now rest.now.lo rest.now.hi) pair.pickup pair.pickup s }
+    requires range { IsAddedByList with_pickup }
+    requires order { s ≤ t }
+    requires place { t + 2 ≤ length rest.now.list.now }
+    ensures value { result ≡ pair_added rest.now.costs.model.now rest.now.costs.vehicle
+        (without_two rest.now.list.now rest.now.lo rest.now.hi) pair s t }
+    ensures range { IsAddedByChange result }
+{
+    if s == t {
+        let both = Ends {
+            first: pair.pickup,
+            last: pair.delivery,
+        };
+        let inner = rest.costs.cost(pair.pickup, pair.delivery);
+        return put(rest, both, s) + inner;
+    }
+    let delivery = Ends {
+        first: pair.delivery,
+        last: pair.delivery,
+    };
+    with_pickup + put(rest, delivery, t)
+}
+
+// How much more the arcs to and from a chain cost than the arc between the stops beside a place of a rest.
+#[inline(always)]
+fn put(rest: &Rest, ends: Ends, t: u32) -> i64
+    requires rest { IsRest rest.now.costs.model.now rest.now.costs.vehicle rest.now.list.now rest.now.lo rest.now.hi }
+    requires first { ends.first < rest.now.costs.model.now.nodes }
+    requires last { ends.last < rest.now.costs.model.now.nodes }
+    requires place { t + 2 ≤ length rest.now.list.now }
+    ensures value { result ≡ gap_added rest.now.costs.model.now rest.now.costs.vehicle
+        (without_two rest.now.list.now rest.now.lo rest.now.hi) ends.first ends.last t }
+    ensures range { IsAddedByList result }
+{
+    let before = node_before(rest, t);
+    let next = node_at(rest, t);
+    let to = rest.costs.cost(before, ends.first);
+    let on = rest.costs.cost(ends.last, next);
+    if rest.list.len() == 2 {
+        return to + on;
+    }
+    let old = rest.costs.cost(before, next);
+    to + on - old
+}
+
+// The node of the stop before a place of a rest.
+#[inline(always)]
+fn node_before(rest: &Rest, place: u32) -> u32
+    requires rest { IsRest rest.now.costs.model.now rest.now.costs.vehicle rest.now.list.now rest.now.lo rest.now.hi }
+    requires place { place + 2 ≤ length rest.now.list.now }
+    ensures value { result ≡ before_place rest.now.costs.model.now rest.now.costs.vehicle
+        (without_two rest.now.list.now rest.now.lo rest.now.hi) place }
+    ensures known { result < rest.now.costs.model.now.nodes }
+{
+    if place == 0 {
+        return rest
+            .costs
+            .model
+            .vehicles
+            .get(rest.costs.vehicle as usize)
+            .start;
+    }
+    rest.list[place_of(place - 1, rest.lo, rest.hi) as usize]
+}
+
+// The node of the stop at a place of a rest.
+#[inline(always)]
+fn node_at(rest: &Rest, place: u32) -> u32
+    requires rest { IsRest rest.now.costs.model.now rest.now.costs.vehicle rest.now.list.now rest.now.lo rest.now.hi }
+    requires place { place + 2 ≤ length rest.now.list.now }
+    ensures value { result ≡ at_place rest.now.costs.model.now rest.now.costs.vehicle
+        (without_two rest.now.list.now rest.now.lo rest.now.hi) place }
+    ensures known { result < rest.now.costs.model.now.nodes }
+{
+    if place as usize + 2 == rest.list.len() {
+        return rest
+            .costs
+            .model
+            .vehicles
+            .get(rest.costs.vehicle as usize)
+            .end;
+    }
+    rest.list[place_of(place, rest.lo, rest.hi) as usize]
+}
+
+// Where a node of a rest stands in the list.
+#[inline(always)]
+fn place_of(place: u32, lo: u32, hi: u32) -> u32
+    requires order { lo < hi }
+    requires few { place ≤ 1000 }
+    ensures { result ≡ place_of place lo hi }
+{
+    if place < lo {
+        return place;
+    }
+    if place + 1 < hi {
+        return place + 1;
+    }
+    place + 2
+}
