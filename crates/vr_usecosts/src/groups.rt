@@ -302,14 +302,14 @@ impl<'m> GroupCost<'m> {
         added
     }
 
-    /// What each move of a run saves of the penalties, whose moves differ in their last number, where the lists after it
-    /// are valid: what a visit or a pair saves that is put into a list. `None` of moves of other kinds.
+    /// What each move of a run saves of the penalties, where the lists after it are valid: what a visit or a pair saves
+    /// that is put into a list. The moves of a run differ in their last number. `None` of moves of other kinds.
     #[inline]
     pub fn saved_by_run(&self, routes: &Routes, mv: Move) -> Option<i64>
         requires stands { StandsGroups self.now routes.now }
         ensures exact { IfSome result (λ saved. (k : ℕ)
             → Saves self.now.model routes.now.lists (with_last mv k) saved) }
-        ensures range { IfSome result (IsUpTo 2) }
+        ensures range { IfSome result IsAddedByChange }
     {
         match mv {
             Move::MakeActive { u, .. } => Some(self.saved_by_visit(routes, u)),
@@ -323,7 +323,7 @@ impl<'m> GroupCost<'m> {
     fn saved_by_visit(&self, _routes: &Routes, u: u32) -> i64
         requires stands { StandsGroups self.now _routes.now }
         ensures exact { (w t : ℕ) → Saves self.now.model _routes.now.lists (MakeActive u w t) result }
-        ensures range { IsUpTo 2 result }
+        ensures range { IsAddedByChange result }
     {
         saved_at(&self.saved, u)
     }
@@ -334,7 +334,7 @@ impl<'m> GroupCost<'m> {
         requires stands { StandsGroups self.now _routes.now }
         ensures exact { IfSome result (λ saved. (w s t : ℕ)
             → Saves self.now.model _routes.now.lists (PairActive p w s t) saved) }
-        ensures range { IfSome result (IsUpTo 2) }
+        ensures range { IfSome result IsAddedByChange }
     {
         if p as usize >= self.model.pairs.len() {
             return None;
