@@ -15,13 +15,29 @@ use Rattle.vr_model.proofs.routes.CostBounds.{penalties-up_to}
 use Rattle.vr_routes.specs.Judging.{IsLeast}
 use Rattle.vr_routes.specs.Runs.{with_last}
 use Rattle.vr_known.specs.Blocks.{kind_of}
-use Rattle.vr_known.proofs.Activity.{same_active}
+use Rattle.vr_usecosts.specs.Groups.{Saves}
+use Rattle.vr_judge.proofs.PairLemmas.{stay_active}
 use Rattle.vr_arccosts.specs.ArcMoves.{arcs_added}
-use Rattle.vr_judge.specs.Costs.{AddArcsAtLeast, PaysArcsAndGroups}
+use Rattle.vr_arccosts.specs.Runs.{AddsNoLess}
+use Rattle.vr_judge.specs.Costs.{AddArcsAtLeast, AddArcsBut, PaysArcsAndGroups}
 
 -- penalties, by which visits are active
 abbrev penalties : Model → (ℕ → Bool) → ℤ
 penalties model active = total_by (λ group. penalty_for group.penalty group.max (count_by active group.nodes)) model.groups
+
+-- a move with another last number is of the same kind
+pub same_kind : (mv : Move) (k : ℕ) → kind_of (with_last mv k) ≡ kind_of mv
+same_kind (TwoOpt v a b) k = refl
+same_kind (OrOpt v a n t) k = refl
+same_kind (Relocate v a w t) k = refl
+same_kind (Exchange v a w b) k = refl
+same_kind (Cross v a w b) k = refl
+same_kind (RelocatePair p w s t) k = refl
+same_kind (PairActive p w s t) k = refl
+same_kind (PairInactive p) k = refl
+same_kind (MakeActive u w t) k = refl
+same_kind (MakeInactive v a) k = refl
+same_kind (SwapActive v a u) k = refl
 
 module _ (model : Model) (pays : PaysArcsAndGroups model) (lists : List (List ℕ)) (valid : IsTrue (is_valid model lists)) where
   -- the penalties do not fall
@@ -40,10 +56,28 @@ module _ (model : Model) (pays : PaysArcsAndGroups model) (lists : List (List �
       omega (arith, ints, low, none)
 
   -- the same visits are active, and so the penalties stay
-  pub same_to_pay : (kind : ℕ) → kind < 5 → AddArcsAtLeast model lists kind
+  pub same_to_pay : (kind : ℕ) → kind < 6 → AddArcsAtLeast model lists kind
   same_to_pay kind low mv same one = by_groups mv λ after.
-      let stay : penalty_part model (apply model lists mv) ≡ penalty_part model lists = ap (penalties model) (same_active model lists mv one (subst (λ k. k < 5) (sym same) low)) in
+      let stay : penalty_part model (apply model lists mv) ≡ penalty_part model lists = ap (penalties model) (stay_active model lists mv one (subst (λ k. k < 6) (sym same) low)) in
       omega (arith, ints, stay)
+
+  -- the moves of a run save so much of the penalties
+  groups_save : (mv : Move) (saved : ℤ) → ((k : ℕ) → Saves model lists (with_last mv k) saved) → AddArcsBut model lists mv saved
+  groups_save mv saved save k one after =
+      let later : List (List ℕ) = apply model lists (with_last mv k) in
+      let differ : cost model later -ℤ cost model lists ≡ (arcs_part model later -ℤ arcs_part model lists) +ℤ (penalty_part model later -ℤ penalty_part model lists) = pays lists later valid after in
+      let less = save k one after in
+      omega (arith, ints, differ, less)
+
+  pub all_save : (mv : Move) (told : Option ℤ) → IfSome told (λ saved. (k : ℕ) → Saves model lists (with_last mv k) saved) → IfSome told (AddArcsBut model lists mv)
+  all_save mv None save = cc
+  all_save mv (Some saved) save = groups_save mv saved save
+
+-- moves of a kind that add no less than the cost of arcs save nothing beside
+pub none_saved : (model : Model) (lists : List (List ℕ)) (mv : Move) → AddArcsAtLeast model lists (kind_of mv) → AddArcsBut model lists mv (pos 0)
+none_saved model lists mv least k one after =
+    let low = least (with_last mv k) (same_kind mv k) one after in
+    omega (arith, ints, low)
 
 -- what is known is the least
 pub known_least : (model : Model) (lists : List (List ℕ)) (mv : Move) (known : Option ℤ) (P : Type 0) → MatchOption known P (λ added. added ≡ arcs_added model lists mv)
@@ -51,16 +85,6 @@ pub known_least : (model : Model) (lists : List (List ℕ)) (mv : Move) (known :
 known_least model lists mv None P exact least = cc
 known_least model lists mv (Some added) P exact least = subst (IsLeast model lists mv) (sym exact) least
 
--- a move with another last number is of the same kind
-pub same_kind : (mv : Move) (k : ℕ) → kind_of (with_last mv k) ≡ kind_of mv
-same_kind (TwoOpt v a b) k = refl
-same_kind (OrOpt v a n t) k = refl
-same_kind (Relocate v a w t) k = refl
-same_kind (Exchange v a w b) k = refl
-same_kind (Cross v a w b) k = refl
-same_kind (RelocatePair p w s t) k = refl
-same_kind (PairActive p w s t) k = refl
-same_kind (PairInactive p) k = refl
-same_kind (MakeActive u w t) k = refl
-same_kind (MakeInactive v a) k = refl
-same_kind (SwapActive v a u) k = refl
+-- what is told of the arcs of a model that is the same
+pub told_of : (m model : Model) (lists : List (List ℕ)) (mv : Move) (bound : ℤ) → m ≡ model → AddsNoLess m lists mv bound → AddsNoLess model lists mv bound
+told_of m model lists mv bound same less = subst (λ (m : Model). AddsNoLess m lists mv bound) same less

@@ -4,4 +4,5 @@ pub mod DimensionLemmas
 pub mod SumLemmas
 pub mod StandLemmas
 pub mod VerdictLemmas
+pub mod PairLemmas
 pub mod LeastLemmas

@@ -1,11 +1,12 @@
 -- Where the parts of the cost stand.
-use Rattle.std.specs.Prelude.{◌≡◌, ℕ, Bool, IsTrue, List, ◌+ℤ◌, ◌-ℤ◌}
+use Rattle.std.specs.Prelude.{◌≡◌, ℕ, ℤ, Bool, IsTrue, List, ◌+ℤ◌, ◌-ℤ◌}
 use Rattle.vr_model.specs.routes.Costs.{arcs_part, cost, penalty_part}
 use Rattle.vr_model.specs.moves.MoveTests.{is_move}
 use Rattle.vr_model.specs.routes.Rules.{is_valid}
 use Rattle.vr_model.specs.declared.neighbours.Move.{Move}
 use Rattle.vr_model.specs.declared.records.Model.{Model}
 use Rattle.vr_routes.specs.Judging.{IsLeast}
+use Rattle.vr_routes.specs.Runs.{with_last}
 use Rattle.vr_routes.specs.Tours.{Tours}
 use Rattle.vr_known.specs.Blocks.{kind_of}
 use Rattle.vr_arccosts.specs.Along.{KeptAlong, StandsAlong}
@@ -28,6 +29,13 @@ abbrev pub AddArcsAtLeast : Model → List (List ℕ) → ℕ → Type 0
 AddArcsAtLeast model lists kind =
     (mv : Move) → kind_of mv ≡ kind → IsTrue (is_move model lists mv)
     → IsLeast model lists mv (arcs_added model lists mv)
+
+-- each move of a run, whose moves differ in their last number, adds no less to the cost of lists than it adds to the
+-- cost of their arcs, but for what it saves
+abbrev pub AddArcsBut : Model → List (List ℕ) → Move → ℤ → Type 0
+AddArcsBut model lists mv saved =
+    (k : ℕ) → IsTrue (is_move model lists (with_last mv k))
+    → IsLeast model lists (with_last mv k) (arcs_added model lists (with_last mv k) -ℤ saved)
 
 -- what contracts see of the parts of the cost, and whether it is said that arcs and groups alone are paid
 pub record KeptCosts : Type 0 where

@@ -14,7 +14,8 @@ ghost use Rattle.vr_routes.specs.Runs.{with_last};
 ghost use Rattle.vr_known.specs.Blocks.{kind_of};
 ghost use Rattle.vr_arccosts.specs.ArcMoves.{arcs_added};
 ghost use Rattle.vr_usecosts.specs.Fixed.{StandsFixed};
-ghost use Rattle.vr_judge.specs.Costs.{AddArcsAtLeast, PaysArcsAndGroups, StandsCosts};
+ghost use Rattle.vr_parts.specs.Bounds.{IsAddedByChange};
+ghost use Rattle.vr_judge.specs.Costs.{AddArcsAtLeast, AddArcsBut, PaysArcsAndGroups, StandsCosts};
 
 use crate::both::both;
 use std::alloc::Global;
@@ -71,7 +72,7 @@ fn are_idle(routes: &Routes, fixed: &FixedCost, plans: &PlanCost, spans: &Global
 // Whether a move leaves each node active that is, and no other: so do those that put visits elsewhere.
 #[inline(always)]
 fn keeps_activity(mv: Move) -> bool
-    ensures { result ≡ nat_lt (kind_of mv) 5 }
+    ensures { result ≡ nat_lt (kind_of mv) 6 }
 {
     match mv {
         Move::TwoOpt { .. } => true,
@@ -79,7 +80,7 @@ fn keeps_activity(mv: Move) -> bool
         Move::Relocate { .. } => true,
         Move::Exchange { .. } => true,
         Move::Cross { .. } => true,
-        Move::RelocatePair { .. } => false,
+        Move::RelocatePair { .. } => true,
         Move::PairActive { .. } => false,
         Move::PairInactive { .. } => false,
         Move::MakeActive { .. } => false,
@@ -160,22 +161,47 @@ impl<'m> Costs<'m> {
         self.arcs.added_by_numbers(routes, mv)
     }
 
+    // What each move of a run saves at most beside what it adds to the cost of arcs: the penalties of what it puts into
+    // a list. The moves of a run differ in their last number. `None` where it cannot be told of all at once.
+    #[inline(always)]
+    fn saved_by_run(&self, routes: &Routes, mv: Move) -> Option<i64>
+        requires stands { StandsCosts self.now routes.now }
+        ensures least { IfSome result (AddArcsBut self.now.model routes.now.lists mv) }
+        ensures range { IfSome result IsAddedByChange }
+    {
+        if self.adds_arcs_at_least(routes, mv) {
+            return Some(0);
+        }
+        if !self.arcs_and_groups {
+            return None;
+        }
+        self.groups.saved_by_run(routes, mv)
+    }
+
     /// Goes over a run of moves of the committed lists, which differ in their last number: those of the numbers from
     /// `from` on, below `end`. Says from which number on some may make a difference below a bound, told by the cost of
-    /// arcs alone: `from` where more than arcs may be paid.
+    /// arcs, less the penalties that are saved where all moves save the same. `None` where more may be paid than these,
+    /// and of a kind of which no run is gone over.
     #[inline(always)]
-    pub fn first_below(&self, routes: &Routes, mv: Move, from: u32, end: u32, bound: i64) -> u32
+    pub fn first_below(
+        &self,
+        routes: &Routes,
+        mv: Move,
+        from: u32,
+        end: u32,
+        bound: i64,
+    ) -> Option<u32>
         requires stands { StandsCosts self.now routes.now }
         requires order { from ≤ end }
-        ensures from { from ≤ result }
-        ensures within { result ≤ end }
-        ensures no_less { (k : ℕ) → from ≤ k → k < result
-            → IsNoLess self.now.model routes.now.lists (with_last mv k) bound }
+        ensures from { IfSome result (λ first. from ≤ first) }
+        ensures within { IfSome result (λ first. first ≤ end) }
+        ensures no_less { IfSome result (λ first. (k : ℕ) → from ≤ k → k < first
+            → IsNoLess self.now.model routes.now.lists (with_last mv k) bound) }
     {
-        if !self.adds_arcs_at_least(routes, mv) {
-            return from;
-        }
-        self.arcs.first_below(routes, mv, from, end, bound)
+        let saved = self.saved_by_run(routes, mv)?;
+        let enough = bound.checked_add(saved)?;
+        let first = self.arcs.first_below(routes, mv, from, end, enough)?;
+        Some(first)
     }
 
     /// What a change of the committed lists adds to their cost.

@@ -107,7 +107,10 @@ impl<'m, F: PathFilter + Drop> Judge for Judging<'m, F> {
 
     #[inline(always)]
     fn first_below(&self, routes: &Routes, mv: Move, from: u32, end: u32, bound: i64) -> u32 {
-        self.costs.first_below(routes, mv, from, end, bound)
+        match self.costs.first_below(routes, mv, from, end, bound) {
+            Some(first) => first,
+            None => from,
+        }
     }
 
     /// Filters and parts of the cost are made ready first; then all are changed, which takes no memory.

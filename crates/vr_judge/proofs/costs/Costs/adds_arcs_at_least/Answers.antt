@@ -27,5 +27,5 @@ returns c kept =
     let lists = c.args._routes.now.lists in
     let pays = h.arcs_and_groups (ap (λ k. k.arcs_and_groups) (sym c.self.view_is) ∙ c.if-not-self.false) in
     let valid = subst (λ (m : Model). IsTrue (is_valid m lists)) h.groups_model h.groups.valid in
-    let low = lt_of_test (kind_of c.args.mv) 5 (sym c.keeps_activity.ensures ∙ kept) in
+    let low = lt_of_test (kind_of c.args.mv) 6 (sym c.keeps_activity.ensures ∙ kept) in
     same_to_pay c.args.self.now.model pays lists valid (kind_of c.args.mv) low

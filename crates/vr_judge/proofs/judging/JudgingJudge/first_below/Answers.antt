@@ -1,4 +1,5 @@
-use Rattle.std.proofs.Common.{◌≡◌, ◌∙◌, ℕ, List, sym, ap, ap₂, subst, arith, w64, to_z, of_z}
+use Rattle.std.proofs.Common.{◌≡◌, ◌∙◌, ◌<◌, ◌≤◌, ℕ, List, sym, ap, ap₂, subst, arith, w64, to_z, of_z}
+use Rattle.std.specs.Prelude.{IfSome}
 use Rattle.std.proofs.lemmas.Int.{ints}
 use Rattle.vr_model.specs.tables.Tables.{visits}
 use Rattle.vr_model.specs.declared.records.Model.{Model}
@@ -15,10 +16,12 @@ first_below-requires-clause-stands g c =
     (sym c.requires.holds.same ∙ ap (λ h. h.lists) (sym c.self.view_is)) in
     subst (λ t. StandsCosts c.self.inside.costs t) (sym same) c.self.invariant.costs_stand
 
-pub returns-clause-no_less : goal.returns-clause-no_less
-returns-clause-no_less g c k low high =
+pub returns-in-Some-clause-no_less : goal.returns-in-Some-clause-no_less
+returns-in-Some-clause-no_less g c k low high =
+    let lists : List (List ℕ) = c.args.routes.now.lists in
     let same : c.self.inside.costs.model ≡ c.args.self.now.model = c.self.invariant.costs_model ∙ ap (λ h. h.model) c.self.view_is in
     let range = c.ranges.bound in
     let read : to_z w64 (of_z w64 c.args.bound) ≡ c.args.bound = omega (arith, ints, range) in
-    subst (λ b. IsNoLess c.args.self.now.model c.args.routes.now.lists (with_last c.args.mv k) b) read
-    (subst (λ (m : Model). IsNoLess m c.args.routes.now.lists (with_last c.args.mv k) (to_z w64 (of_z w64 c.args.bound))) same (c.first_below.ensures.no_less k low high))
+    let told = subst (λ r. IfSome r (λ first. (k : ℕ) → c.args.from ≤ k → k < first → IsNoLess c.self.inside.costs.model lists (with_last c.args.mv k) (to_z w64 (of_z w64 c.args.bound)))) c.in-Some.is c.first_below.ensures.no_less in
+    subst (λ b. IsNoLess c.args.self.now.model lists (with_last c.args.mv k) b) read
+    (subst (λ (m : Model). IsNoLess m lists (with_last c.args.mv k) (to_z w64 (of_z w64 c.args.bound))) same (told k low high))
