@@ -44,6 +44,16 @@ impl Rows {
         }
     }
 
+    /// No rows, with room for those of lines of so many stops.
+    pub fn with_room(alloc: Global, stops: usize) -> Result<Rows, NoMemory>
+        ensures { IfOk result (λ rows. rows ≡ record { forward = []; backward = [] }) }
+    {
+        Ok(Rows {
+            ahead: Sweep::with_room(alloc, stops)?,
+            behind: Sweep::with_room(alloc, stops)?,
+        })
+    }
+
     /// The rows of a line.
     pub fn build(alloc: Global, line: &Line) -> Result<Rows, NoMemory>
         requires { IsSoundLine line.now }
