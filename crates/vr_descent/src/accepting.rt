@@ -1,6 +1,6 @@
 //! The trait of what a search accepts.
 
-ghost use Rattle.std.specs.Prelude.{◌≡◌, ◌<◌, ◌≤◌, ℕ, ℤ, Bool, false, List, IsTrue};
+ghost use Rattle.std.specs.Prelude.{◌≡◌, ◌<◌, ◌≤◌, ℕ, ℤ, Bool, false, List, IfSome, IsTrue};
 ghost use Rattle.vr_descent.specs.Refused.{IsRefused};
 ghost use Rattle.vr_descent.specs.Scanned.{is_acceptable, IsPassedOver};
 ghost use Rattle.vr_model.specs.moves.Moves.{apply};
@@ -56,20 +56,27 @@ pub trait Accept {
     /// Goes over a run of moves, which differ in their last number: those of the numbers from `from` on, below `end`.
     /// Says from which number on a search has to ask about them one by one: no move in front of it is acceptable. The
     /// numbers of `mv`, of which the last is any, need not be those of a move, and of numbers that are no move nothing
-    /// is said. Takes no memory.
+    /// is said. `None` where nothing can be told of such a run. Takes no memory.
     #[inline]
-    fn first_open<J: Judge>(&self, judge: &J, routes: &Routes, mv: Move, from: u32, end: u32) -> u32
+    fn first_open<J: Judge>(
+        &self,
+        judge: &J,
+        routes: &Routes,
+        mv: Move,
+        from: u32,
+        end: u32,
+    ) -> Option<u32>
         requires well_formed { IsWellFormed (model self.now) }
         requires judge_model { J.model judge.now ≡ model self.now }
         requires stands { stands_at self.now routes.now.lists }
         requires holds { HoldSame (model self.now) (J.committed judge.now) routes.now }
         requires order { from ≤ end }
-        ensures from { from ≤ result }
-        ensures within { result ≤ end }
-        ensures refused { (k : ℕ) → from ≤ k → k < result
-            → IsRefused (model self.now) (takes self.now) routes.now.lists (with_last mv k) }
+        ensures from { IfSome result (λ first. from ≤ first) }
+        ensures within { IfSome result (λ first. first ≤ end) }
+        ensures refused { IfSome result (λ first. (k : ℕ) → from ≤ k → k < first
+            → IsRefused (model self.now) (takes self.now) routes.now.lists (with_last mv k)) }
     {
-        from
+        None
     }
 
     /// Whether the move may be taken where it makes a difference of `least` or more: false only where it is not. A

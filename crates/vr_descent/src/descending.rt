@@ -48,7 +48,7 @@ impl<'m> Accept for Cheaper<'m> {
         mv: Move,
         from: u32,
         end: u32,
-    ) -> u32 {
+    ) -> Option<u32> {
         judge.first_below(routes, mv, from, end, 0)
     }
 

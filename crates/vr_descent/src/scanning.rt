@@ -61,9 +61,9 @@ impl<'a, J: Judge, A: Accept> Sieve for Refusals<'a, J, A> {
     }
 
     #[inline(always)]
-    fn first(&self, mv: Move, from: u32, end: u32) -> u32 {
+    fn first(&self, mv: Move, from: u32, end: u32) -> Option<u32> {
         if self.rest > FEW {
-            return from;
+            return None;
         }
         self.accept
             .first_open(self.judge, self.routes, mv, from, end)

@@ -55,10 +55,10 @@ impl<'m> Accept for Guiding<'m> {
         mv: Move,
         from: u32,
         end: u32,
-    ) -> u32 {
+    ) -> Option<u32> {
         match self.enough_for(routes, mv) {
             Some(enough) => judge.first_below(routes, mv, from, end, enough),
-            None => from,
+            None => None,
         }
     }
 

@@ -98,7 +98,14 @@ impl<'m> Judge for FilterJudge<'m> {
     }
 
     #[inline(always)]
-    fn first_below(&self, routes: &Routes, mv: Move, from: u32, end: u32, bound: i64) -> u32 {
+    fn first_below(
+        &self,
+        routes: &Routes,
+        mv: Move,
+        from: u32,
+        end: u32,
+        bound: i64,
+    ) -> Option<u32> {
         self.judging.first_below(routes, mv, from, end, bound)
     }
 

@@ -106,11 +106,15 @@ impl<'m, F: PathFilter + Drop> Judge for Judging<'m, F> {
     }
 
     #[inline(always)]
-    fn first_below(&self, routes: &Routes, mv: Move, from: u32, end: u32, bound: i64) -> u32 {
-        match self.costs.first_below(routes, mv, from, end, bound) {
-            Some(first) => first,
-            None => from,
-        }
+    fn first_below(
+        &self,
+        routes: &Routes,
+        mv: Move,
+        from: u32,
+        end: u32,
+        bound: i64,
+    ) -> Option<u32> {
+        self.costs.first_below(routes, mv, from, end, bound)
     }
 
     /// Filters and parts of the cost are made ready first; then all are changed, which takes no memory.

@@ -1,6 +1,6 @@
 -- Moves that are passed over one after the other.
 use Rattle.std.proofs.Common.{◌≡◌, ◌∙◌, ℕ, zero, suc, ◌+◌, ◌-◌, ◌<◌, ◌≤◌, ◌^◌, Bool, true, List, [], ◌∷◌, ◌++◌, length, map, refl, sym, ap, subst, false, arith, nat_lt, append_assoc, length-append, ◌&&◌, cond}
-use Rattle.std.specs.Prelude.{min, Option, Some, None, All, IsTrue, filter}
+use Rattle.std.specs.Prelude.{min, Option, Some, None, IfSome, All, IsTrue, filter}
 use Rattle.std.specs.List.{range_with_len}
 use Rattle.std.proofs.lemmas.List.{append-nil, length-map, map-append}
 use Rattle.std.proofs.lemmas.List.Elements.{All-append, All-cons, All-head, All-nil, filter-append}
@@ -91,6 +91,12 @@ module _ (covers : Move → Type 0) where
     covered = run_covered p f a (m - a) (λ k low high. each k low (omega (arith, high, order)));
     counts = counts ∙ ap (λ n. capped (count + n)) (number ∙ sym (length-map (filter p (from_to a m)) f));
   }
+
+-- what is told of the moves in front of a number, where one is told
+pub told_of_each : (P Q : ℕ → Type 0) → ((k : ℕ) → P k → Q k) → (from : ℕ) (told : Option ℕ)
+    → IfSome told (λ first. (k : ℕ) → from ≤ k → k < first → P k) → IfSome told (λ first. (k : ℕ) → from ≤ k → k < first → Q k)
+told_of_each P Q so from None each = tt
+told_of_each P Q so from (Some first) each = λ k low high. so k (each k low high)
 
 -- ---- where nothing is covered, no move is passed
 

@@ -1,6 +1,6 @@
 //! What tells of moves, without asking about each, that none is to be tried.
 
-ghost use Rattle.std.specs.Prelude.{◌≡◌, ℕ, ◌<◌, ◌≤◌, IsTrue};
+ghost use Rattle.std.specs.Prelude.{◌≡◌, ℕ, ◌<◌, ◌≤◌, IfSome, IsTrue};
 ghost use Rattle.vr_model.specs.declared.neighbours.Move.{Move as Moved};
 ghost use Rattle.vr_routes.specs.Runs.{with_last};
 ghost use Rattle.vr_known.specs.Blocks.{covers, kind_at};
@@ -28,16 +28,17 @@ pub trait Sieve {
 
     /// Goes over a run of moves, which differ in their last number: those of the numbers from `from` on, below `end`.
     /// Says from which number on they are to be tried: all in front of it can be passed over. The last number of `mv`
-    /// is any.
+    /// is any. `None` where it cannot tell anything of such a run, from whichever number on it is asked.
     #[inline]
-    fn first(&self, mv: Move, from: u32, end: u32) -> u32
+    fn first(&self, mv: Move, from: u32, end: u32) -> Option<u32>
         requires ready { is_ready self.now }
         requires order { from ≤ end }
-        ensures from { from ≤ result }
-        ensures within { result ≤ end }
-        ensures passed { (k : ℕ) → from ≤ k → k < result → covers self.now (with_last mv k) }
+        ensures from { IfSome result (λ first. from ≤ first) }
+        ensures within { IfSome result (λ first. first ≤ end) }
+        ensures passed { IfSome result (λ first. (k : ℕ) → from ≤ k → k < first
+            → covers self.now (with_last mv k)) }
     {
-        from
+        None
     }
 }
 

@@ -88,19 +88,19 @@ pub trait Judge {
     /// Goes over a run of moves, which differ in their last number: those of the numbers from `from` on, below `end`.
     /// Says from which number on some may make a difference below a bound: each move in front of it makes none, or
     /// leads to lists that are not valid. The numbers of `mv`, of which the last is any, need not be those of a move,
-    /// and of numbers that are no move nothing is said. It judges none of them, takes no memory and counts no steps. A
-    /// judge that cannot tell it of a run at once says `from`.
+    /// and of numbers that are no move nothing is said. `None` where the judge cannot tell anything of such a run, from
+    /// whichever number on it is asked. It judges none of the moves, takes no memory and counts no steps.
     #[inline]
-    fn first_below(&self, routes: &Routes, mv: Move, from: u32, end: u32, bound: i64) -> u32
+    fn first_below(&self, routes: &Routes, mv: Move, from: u32, end: u32, bound: i64) -> Option<u32>
         requires well_formed { IsWellFormed (model self.now) }
         requires holds { HoldSame (model self.now) (committed self.now) routes.now }
         requires order { from ≤ end }
-        ensures from { from ≤ result }
-        ensures within { result ≤ end }
-        ensures no_less { (k : ℕ) → from ≤ k → k < result
-            → IsNoLess (model self.now) routes.now.lists (with_last mv k) bound }
+        ensures from { IfSome result (λ first. from ≤ first) }
+        ensures within { IfSome result (λ first. first ≤ end) }
+        ensures no_less { IfSome result (λ first. (k : ℕ) → from ≤ k → k < first
+            → IsNoLess (model self.now) routes.now.lists (with_last mv k) bound) }
     {
-        from
+        None
     }
 
     /// Makes a move after which the lists are valid: routes and judge then both hold the lists after it. Where memory

@@ -25,10 +25,10 @@ impl<'a, J: Judge> Sieve for NoBetter<'a, J> {
     }
 
     #[inline(always)]
-    fn first(&self, mv: Move, from: u32, end: u32) -> u32 {
+    fn first(&self, mv: Move, from: u32, end: u32) -> Option<u32> {
         match self.bound {
             Some(bound) => self.judge.first_below(self.routes, mv, from, end, bound),
-            None => from,
+            None => None,
         }
     }
 }

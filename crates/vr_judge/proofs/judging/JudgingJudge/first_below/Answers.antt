@@ -6,6 +6,7 @@ use Rattle.vr_model.specs.declared.records.Model.{Model}
 use Rattle.vr_routes.specs.Judging.{IsNoLess}
 use Rattle.vr_routes.specs.Runs.{with_last}
 use Rattle.vr_routes.specs.Tours.{Tours}
+use Rattle.vr_known.proofs.PassingLemmas.{told_of_each}
 use Rattle.vr_judge.specs.Costs.{StandsCosts}
 use Rattle.vr_judge.proofs.judging.JudgingJudge.first_below.Goals as goal
 
@@ -16,12 +17,14 @@ first_below-requires-clause-stands g c =
     (sym c.requires.holds.same ∙ ap (λ h. h.lists) (sym c.self.view_is)) in
     subst (λ t. StandsCosts c.self.inside.costs t) (sym same) c.self.invariant.costs_stand
 
-pub returns-in-Some-clause-no_less : goal.returns-in-Some-clause-no_less
-returns-in-Some-clause-no_less g c k low high =
-    let lists : List (List ℕ) = c.args.routes.now.lists in
+pub returns-clause-no_less : goal.returns-clause-no_less
+returns-clause-no_less g c =
     let same : c.self.inside.costs.model ≡ c.args.self.now.model = c.self.invariant.costs_model ∙ ap (λ h. h.model) c.self.view_is in
     let range = c.ranges.bound in
-    let read : to_z w64 (of_z w64 c.args.bound) ≡ c.args.bound = omega (arith, ints, range) in
-    let told = subst (λ r. IfSome r (λ first. (k : ℕ) → c.args.from ≤ k → k < first → IsNoLess c.self.inside.costs.model lists (with_last c.args.mv k) (to_z w64 (of_z w64 c.args.bound)))) c.in-Some.is c.first_below.ensures.no_less in
-    subst (λ b. IsNoLess c.args.self.now.model lists (with_last c.args.mv k) b) read
-    (subst (λ (m : Model). IsNoLess m lists (with_last c.args.mv k) (to_z w64 (of_z w64 c.args.bound))) same (told k low high))
+    let bound = to_z w64 (of_z w64 c.args.bound) in
+    let read : bound ≡ c.args.bound = omega (arith, ints, range) in
+    let lists = c.args.routes.now.lists in
+    told_of_each (λ k. IsNoLess c.self.inside.costs.model lists (with_last c.args.mv k) bound) (λ k. IsNoLess c.args.self.now.model lists (with_last c.args.mv k) c.args.bound)
+    (λ k told. subst (λ b. IsNoLess c.args.self.now.model lists (with_last c.args.mv k) b) read
+    (subst (λ (m : Model). IsNoLess m lists (with_last c.args.mv k) bound) same told))
+    c.args.from c.first_below.result c.first_below.ensures.no_less
