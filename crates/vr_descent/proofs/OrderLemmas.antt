@@ -1,5 +1,5 @@
 -- Which moves stand in front of a move in the list of all moves.
-use Rattle.std.proofs.Common.{◌≡◌, ◌∙◌, ℕ, zero, suc, ◌+◌, ◌<◌, ◌≤◌, false, cond, List, [], ◌∷◌, ◌++◌, length, map, refl, sym, ap, subst, arith, inl, inr, ◌⊎◌, append_assoc}
+use Rattle.std.proofs.Common.{◌≡◌, ◌∙◌, ℕ, zero, suc, ◌+◌, ◌<◌, ◌≤◌, Bool, true, false, cond, List, [], ◌∷◌, ◌++◌, length, map, refl, sym, ap, subst, arith, inl, inr, ◌⊎◌, append_assoc}
 use Rattle.std.specs.Prelude.{IsTrue, ◌-◌, filter, ◌==◌, ◌&&◌, ◌||◌, nat_lt}
 use Rattle.std.specs.List.{range_with_len}
 use Rattle.std.proofs.lemmas.Bool.Decides.{eqb_tells}
@@ -56,6 +56,25 @@ begins {A} (x ∷ xs) ys (b ∷ bs) mv after e out =
 
     second : x ∷ (xs ++ ys) ≡ b ∷ (bs ++ mv ∷ after) → xs ++ ys ≡ bs ++ mv ∷ after
     second e = Prim.cc
+
+-- the lists of those that pass, joined
+each_filter : (p : ℕ → Bool) (f : ℕ → List Move) (xs : List ℕ) → each (filter p xs) f ≡ each xs (λ v. cond (p v) (f v) [])
+each_filter p f [] = refl
+each_filter p f (x ∷ xs) = by (p x) (each_filter p f xs)
+  where
+    by : (b : Bool) → each (filter p xs) f ≡ each xs (λ v. cond (p v) (f v) []) → each (cond b (x ∷ filter p xs) (filter p xs)) f ≡ cond b (f x) [] ++ each xs (λ v. cond (p v) (f v) [])
+    by true same = ap (λ l. f x ++ l) same
+    by false same = same
+
+-- all moves of a kind that changes activity are one row
+one_row : (mv : Move) → 5 < kind_of mv → first_of mv ≡ 0
+one_row (TwoOpt v a b) high = absurd (omega (arith, high))
+one_row (OrOpt v a k t) high = absurd (omega (arith, high))
+one_row (Relocate v a w t) high = absurd (omega (arith, high))
+one_row (Exchange v a w b) high = absurd (omega (arith, high))
+one_row (Cross v a w b) high = absurd (omega (arith, high))
+one_row (RelocatePair p w s t) high = absurd (omega (arith, high))
+one_row other high = refl
 
 -- ---- kinds
 
@@ -172,6 +191,14 @@ module _ (model : Model) (lists : List (List ℕ)) where
         | inr later ↦ in_right (f a) r.rest m (before_rows f firsts (a + 1) n ys r.rest mv after r.left m later low)
       ])
 
+  -- the moves of a pair, and none where it is not served
+  abbrev moves_of_pair : ℕ → List Move
+  moves_of_pair p = each (vehicles lists) λ w. each (gaps (without_pair (pair_at model p) (route lists w))) λ s.
+      map (RelocatePair p w s) (filter (changes_the_list (pair_at model p) (route lists w) (without_pair (pair_at model p) (route lists w)) s) (gaps_from (without_pair (pair_at model p) (route lists w)) s))
+
+  abbrev moves_where_served : ℕ → List Move
+  moves_where_served p = cond (is_pair_served model lists p) (moves_of_pair p) []
+
   first_two_opt : (v : ℕ) (mv : Move) → In (each (places (route lists v)) λ a. map (TwoOpt v a) (from_to (suc a) (length (route lists v)))) mv → first_of mv ≡ v
   first_two_opt v mv h2 = from_each _ (places (route lists v)) mv h2 λ a _ h3. from_map (TwoOpt v a) (from_to (suc a) (length (route lists v))) mv h3 λ b _ e. ap first_of e
 
@@ -192,15 +219,34 @@ module _ (model : Model) (lists : List (List ℕ)) where
   first_cross v mv h2 = from_each _ (gaps (route lists v)) mv h2 λ a _ h3.
       from_each _ (from_to (suc v) (length lists)) mv h3 λ w _ h4. from_map (Cross v a w) (filter (has_some_front a) (gaps (route lists w))) mv h4 λ b _ e. ap first_of e
 
-  -- in a neighbourhood the moves of a vehicle stand in front of those of the next
-  before_kind : (n : Neighbourhood) → kind_at n < 5 → (ys before : List Move) (mv : Move) (after : List Move) → moves_in model lists n ++ ys ≡ before ++ mv ∷ after
+  first_relocate_pair : (p : ℕ) (mv : Move) → In (moves_of_pair p) mv → first_of mv ≡ p
+  first_relocate_pair p mv h2 = from_each _ (vehicles lists) mv h2 λ w _ h3.
+      from_each _ (gaps (without_pair (pair_at model p) (route lists w))) mv h3 λ s _ h4.
+      from_map (RelocatePair p w s) (filter (changes_the_list (pair_at model p) (route lists w) (without_pair (pair_at model p) (route lists w)) s) (gaps_from (without_pair (pair_at model p) (route lists w)) s)) mv h4 λ t _ e. ap first_of e
+
+  first_where : (p : ℕ) (mv : Move) → In (moves_where_served p) mv → first_of mv ≡ p
+  first_where p mv h = by (is_pair_served model lists p) h
+    where
+      by : (b : Bool) → In (cond b (moves_of_pair p) []) mv → first_of mv ≡ p
+      by true there = first_relocate_pair p mv there
+      by false there = absurd there
+
+  -- in a neighbourhood the moves of a row stand in front of those of the next
+  before_kind : (n : Neighbourhood) (ys before : List Move) (mv : Move) (after : List Move) → kind_at n ≡ kind_of mv → moves_in model lists n ++ ys ≡ before ++ mv ∷ after
       → (m : Move) → In (moves_in model lists n) m → first_of m < first_of mv → In before m
-  before_kind all.TwoOpt kind ys before mv after e m h low = before_rows _ first_two_opt 0 (length lists) ys before mv after e m h low
-  before_kind all.OrOpt kind ys before mv after e m h low = before_rows _ first_or_opt 0 (length lists) ys before mv after e m h low
-  before_kind all.Relocate kind ys before mv after e m h low = before_rows _ first_relocate 0 (length lists) ys before mv after e m h low
-  before_kind all.Exchange kind ys before mv after e m h low = before_rows _ first_exchange 0 (length lists) ys before mv after e m h low
-  before_kind all.Cross kind ys before mv after e m h low = before_rows _ first_cross 0 (length lists) ys before mv after e m h low
-  before_kind n kind ys before mv after e m h low = absurd (omega (arith, kind))
+  before_kind all.TwoOpt ys before mv after same e m h low = before_rows _ first_two_opt 0 (length lists) ys before mv after e m h low
+  before_kind all.OrOpt ys before mv after same e m h low = before_rows _ first_or_opt 0 (length lists) ys before mv after e m h low
+  before_kind all.Relocate ys before mv after same e m h low = before_rows _ first_relocate 0 (length lists) ys before mv after e m h low
+  before_kind all.Exchange ys before mv after same e m h low = before_rows _ first_exchange 0 (length lists) ys before mv after e m h low
+  before_kind all.Cross ys before mv after same e m h low = before_rows _ first_cross 0 (length lists) ys before mv after e m h low
+  before_kind all.RelocatePair ys before mv after same e m h low =
+      let as_rows = each_filter (is_pair_served model lists) moves_of_pair (pairs model) in
+      before_rows moves_where_served first_where 0 (length model.pairs) ys before mv after (ap (λ l. l ++ ys) (sym as_rows) ∙ e) m (subst (λ l. In l m) as_rows h) low
+  before_kind all.PairActive ys before mv after same e m h low = let none = one_row mv (omega (arith, same)) in absurd (omega (arith, none, low))
+  before_kind all.PairInactive ys before mv after same e m h low = let none = one_row mv (omega (arith, same)) in absurd (omega (arith, none, low))
+  before_kind all.MakeActive ys before mv after same e m h low = let none = one_row mv (omega (arith, same)) in absurd (omega (arith, none, low))
+  before_kind all.MakeInactive ys before mv after same e m h low = let none = one_row mv (omega (arith, same)) in absurd (omega (arith, none, low))
+  before_kind all.SwapActive ys before mv after same e m h low = let none = one_row mv (omega (arith, same)) in absurd (omega (arith, none, low))
 
   over_more : (n : Neighbourhood) (ns : List Neighbourhood) → moves_over model (n ∷ ns) lists ≡ moves_in model lists n ++ moves_over model ns lists
   unfolding moves_over
@@ -208,21 +254,21 @@ module _ (model : Model) (lists : List (List ℕ)) where
 
   -- the moves that are said to stand in front of a move do
   pub stand_before : (ns : List Neighbourhood) (before : List Move) (mv : Move) (after : List Move) → moves_over model ns lists ≡ before ++ mv ∷ after
-      → (m : Move) → IsTrue (is_move model lists m) → kind_of m < 5 → IsTrue (is_behind ns (kind_of m) (first_of m) mv) → In before m
-  stand_before [] before mv after e m one kind h = absurd (clash false h refl)
-  stand_before (n ∷ ns) before mv after e m one kind h = elim (eqb_tells (kind_at n) (kind_of mv)) [
+      → (m : Move) → IsTrue (is_move model lists m) → IsTrue (is_behind ns (kind_of m) (first_of m) mv) → In before m
+  stand_before [] before mv after e m one h = absurd (clash false h refl)
+  stand_before (n ∷ ns) before mv after e m one h = elim (eqb_tells (kind_at n) (kind_of mv)) [
     | inl same ↦ (
         let here : IsTrue ((kind_of m == kind_of mv) && nat_lt (first_of m) (first_of mv)) = sym (ap (λ b. cond b ((kind_of m == kind_of mv) && nat_lt (first_of m) (first_of mv)) ((kind_of m == kind_at n) || is_behind ns (kind_of m) (first_of m) mv)) same.0) ∙ h in
         let alike : kind_of m ≡ kind_of mv = eq_of_test (kind_of m) (kind_of mv) (and_left (kind_of m == kind_of mv) _ here) in
         let at : kind_at n ≡ kind_of m = same.1 ∙ sym alike in
-        before_kind n (subst (λ k. k < 5) (sym at) kind) (moves_over model ns lists) before mv after (sym (over_more n ns) ∙ e) m (one_of m one n at)
+        before_kind n (moves_over model ns lists) before mv after same.1 (sym (over_more n ns) ∙ e) m (one_of m one n at)
         (lt_of_test (first_of m) (first_of mv) (and_right (kind_of m == kind_of mv) _ here)))
     | inr other ↦ (
         let later : IsTrue ((kind_of m == kind_at n) || is_behind ns (kind_of m) (first_of m) mv) = sym (ap (λ b. cond b ((kind_of m == kind_of mv) && nat_lt (first_of m) (first_of mv)) ((kind_of m == kind_at n) || is_behind ns (kind_of m) (first_of m) mv)) other.0) ∙ h in
         let r = begins (moves_in model lists n) (moves_over model ns lists) before mv after (sym (over_more n ns) ∙ e) (λ there. other.1 (sym (of_kind n mv there))) in
         subst (λ l. In l m) (sym r.before_is) (elim (or_cases (kind_of m == kind_at n) _ later) [
           | inl here ↦ in_left (moves_in model lists n) r.rest m (one_of m one n (sym (eq_of_test (kind_of m) (kind_at n) here)))
-          | inr behind ↦ in_right (moves_in model lists n) r.rest m (stand_before ns r.rest mv after r.left m one kind behind)
+          | inr behind ↦ in_right (moves_in model lists n) r.rest m (stand_before ns r.rest mv after r.left m one behind)
         ]))
   ]
 

@@ -1,13 +1,15 @@
 -- What is remembered stays true: after a scan, and after the move that it accepted.
-use Rattle.std.proofs.Common.{◌≡◌, ◌∙◌, ℕ, suc, ◌+◌, ◌^◌, ◌<◌, ◌≤◌, Bool, true, false, cond, List, [], ◌∷◌, ◌++◌, length, length-append, Some, None, w64, to_z, of_z, refl, sym, ap, arith, inl, inr, ◌⊎◌, ◌&&◌, nat_le}
+use Rattle.std.proofs.Common.{◌≡◌, ◌≢◌, ◌∙◌, ℕ, suc, ◌+◌, ◌^◌, ◌<◌, ◌≤◌, Bool, true, false, cond, List, [], ◌∷◌, ◌++◌, length, length-append, Some, None, w64, to_z, of_z, refl, sym, ap, arith, inl, inr, ◌⊎◌, ◌&&◌, nat_le}
 use Rattle.std.specs.Prelude.{All, IsTrue, ℤ, ◌≤ℤ◌, pos, int_lt, nat_lt}
 use Rattle.std.specs.List.{list_all}
 use Rattle.std.proofs.lemmas.List.Elements.{All-head}
 use Rattle.vr_model.specs.deciding.Testing.{and_both, and_left, and_right}
 use Rattle.vr_model.specs.tables.WellFormed.{IsWellFormed}
 use Rattle.vr_model.proofs.tables.Tests.{clash, lt_of_test, test_of_lt}
-use Rattle.vr_model.specs.moves.Moves.{apply, moves}
-use Rattle.vr_model.specs.moves.MoveTests.{is_move}
+use Rattle.vr_model.specs.moves.Moves.{apply, moves, is_pair_served, without_pair}
+use Rattle.vr_model.specs.tables.Tables.{pair_at}
+use Rattle.vr_model.specs.routes.Routes.{route}
+use Rattle.vr_model.specs.moves.MoveTests.{is_move, may_put_pair}
 use Rattle.vr_model.specs.routes.Rules.{is_valid}
 use Rattle.vr_model.specs.search.Scans.{scan, scan_from}
 use Rattle.vr_model.specs.search.Scans.Scan.{Accepted, Complete, Cut}
@@ -16,17 +18,19 @@ use Rattle.vr_model.specs.declared.neighbours.Move.{Move}
 use Rattle.std.proofs.lemmas.Bool.{cases_lt}
 use Rattle.std.proofs.lemmas.Int.{ints}
 use Rattle.vr_model.proofs.routes.Lists.{are-lists, are_lists-count}
-use Rattle.vr_model.specs.declared.neighbours.Move.TheVariants.{TwoOpt, OrOpt, Relocate, Exchange, Cross}
+use Rattle.vr_model.specs.declared.neighbours.Move.TheVariants.{TwoOpt, OrOpt, Relocate, Exchange, Cross, RelocatePair, PairActive, PairInactive, MakeActive, MakeInactive, SwapActive}
 use Rattle.vr_model.proofs.routes.CostFits.{costs_are_bounded}
+use Rattle.vr_model.proofs.moves.Kept.{pair_of_test}
 use Rattle.vr_model.proofs.moves.KeptLists.{as_many}
 use Rattle.vr_descent.proofs.EndLemmas.{both}
 use Rattle.vr_routes.specs.Judging.{cost_change, IsNoLess}
 use Rattle.vr_descent.specs.Scanned.{is_acceptable, scan_end, taken}
 use Rattle.vr_descent.specs.declared.scanning.ScanEnd.TheVariants as ends
 use Rattle.vr_descent.proofs.DescentLemmas.{takes_less}
-use Rattle.vr_known.specs.Blocks.{Memory, is_known, covers, kind_of, first_of, second_of, is_behind, is_kind_of, IsApart, Agree}
+use Rattle.vr_known.specs.Blocks.{Memory, is_known, covers, kind_of, first_of, second_of, is_behind, is_kind_of, is_remembered, rows_of, IsApart, Agree}
 use Rattle.vr_known.specs.Locality.{HasNoGlobalSpans}
-use Rattle.vr_known.proofs.Applied.{first_low, second_low, stays, moves_local}
+use Rattle.vr_known.proofs.Applied.{first_low}
+use Rattle.vr_known.proofs.Local.{activity_stays, moves_local}
 use Rattle.vr_known.proofs.Locality.{validity_is_local}
 use Rattle.vr_known.proofs.CostLocality.{cost_is_local}
 use Rattle.vr_known.proofs.PassingLemmas.{capped_small, covers_known}
@@ -42,79 +46,89 @@ less_stays model well none lists other mv both = λ i. validity_is_local model w
 
 -- nothing is remembered
 pub nothing_refused : (model : Model) (takes : List (List ℕ) → Move → ℤ → Bool) (lists : List (List ℕ)) (memory : Memory) → ((kind v w : ℕ) → is_known memory kind v w ≡ false) → AreRefused model takes lists memory
-nothing_refused model takes lists memory none mv one covered = absurd (clash (is_known memory (kind_of mv) (first_of mv) (second_of mv)) (and_right (nat_lt (kind_of mv) 5) _ covered) (none (kind_of mv) (first_of mv) (second_of mv)))
+nothing_refused model takes lists memory none mv one covered = absurd (clash (is_known memory (kind_of mv) (first_of mv) (second_of mv)) (and_right (is_remembered (kind_of mv)) _ covered) (none (kind_of mv) (first_of mv) (second_of mv)))
 
 module _ (model : Model) (takes : List (List ℕ) → Move → ℤ → Bool) (lists : List (List ℕ)) where
   -- ---- after a scan
 
-  -- a move names a vehicle of few
-  named_low : (mv : Move) → IsTrue (is_move model lists mv) → kind_of mv < 5 → length lists < 101 → first_of mv < 100
-  named_low mv one kind few = let low = first_low model lists mv one kind in omega (arith, low, few)
+  -- a move is of a row of its kind
+  pub row_low : IsWellFormed model → length lists < 101 → (mv : Move) → IsTrue (is_move model lists mv) → first_of mv < rows_of (kind_of mv)
+  row_low well few (TwoOpt v a b) one = let low = first_low model lists (TwoOpt v a b) one (omega arith) in omega (arith, low, few)
+  row_low well few (OrOpt v a k t) one = let low = first_low model lists (OrOpt v a k t) one (omega arith) in omega (arith, low, few)
+  row_low well few (Relocate v a w t) one = let low = first_low model lists (Relocate v a w t) one (omega arith) in omega (arith, low, few)
+  row_low well few (Exchange v a w b) one = let low = first_low model lists (Exchange v a w b) one (omega arith) in omega (arith, low, few)
+  row_low well few (Cross v a w b) one = let low = first_low model lists (Cross v a w b) one (omega arith) in omega (arith, low, few)
+  row_low well few (RelocatePair p w s t) one =
+      let others = and_right (is_pair_served model lists p) _ one in
+      let low = pair_of_test model lists p (and_left (nat_lt p (length model.pairs)) _ (and_left (may_put_pair model lists p w (length (without_pair (pair_at model p) (route lists w))) s t) _ others)) in
+      let most : length model.pairs ≤ 500 = well.number_of_pairs in
+      omega (arith, low, most)
+  row_low well few (PairActive p w s t) one = omega arith
+  row_low well few (PairInactive p) one = omega arith
+  row_low well few (MakeActive u w t) one = omega arith
+  row_low well few (MakeInactive v a) one = omega arith
+  row_low well few (SwapActive v a u) one = omega arith
 
   -- what was remembered, and the moves in front of the one that was accepted, are refused
-  pub noted : (old new : Memory) (place rest : ℕ) (mv : Move) → length lists < 101 → scan (moves model lists) (is_acceptable model takes lists) rest ≡ Accepted place mv
-      → ((k u w : ℕ) → u < 100 → IsTrue (is_known new k u w) → IsTrue (is_known old k u w) ⊎ IsTrue (is_behind model.search.neighbourhoods k u mv))
+  pub noted : (old new : Memory) (place rest : ℕ) (mv : Move) → IsWellFormed model → length lists < 101 → scan (moves model lists) (is_acceptable model takes lists) rest ≡ Accepted place mv
+      → ((k u w : ℕ) → u < rows_of k → IsTrue (is_known new k u w) → IsTrue (is_known old k u w) ⊎ IsTrue (is_behind model.search.neighbourhoods k u mv))
       → AreRefused model takes lists old → AreRefused model takes lists new
-  noted old new place rest mv few scanned learned refused m one covered =
-      let kind = lt_of_test (kind_of m) 5 (and_left (nat_lt (kind_of m) 5) _ covered) in
-      let known = and_right (nat_lt (kind_of m) 5) _ covered in
-      elim (learned (kind_of m) (first_of m) (second_of m) (named_low m one kind few) known) [
-        | inl before ↦ refused m one (and_both (nat_lt (kind_of m) 5) _ (test_of_lt (kind_of m) 5 kind) before)
+  noted old new place rest mv well few scanned learned refused m one covered =
+      let kept = and_left (is_remembered (kind_of m)) _ covered in
+      let known = and_right (is_remembered (kind_of m)) _ covered in
+      elim (learned (kind_of m) (first_of m) (second_of m) (row_low well few m one) known) [
+        | inl before ↦ refused m one (and_both (is_remembered (kind_of m)) _ kept before)
         | inr behind ↦ (
             let front = in_front (is_acceptable model takes lists) rest 0 (moves model lists) place mv scanned in
-            front.none m (stand_before model lists model.search.neighbourhoods front.before mv front.after front.split m one kind behind))
+            front.none m (stand_before model lists model.search.neighbourhoods front.before mv front.after front.split m one behind))
       ]
 
   -- what was remembered, and all moves of a scan that accepted none, are refused
-  pub noted_all : (old new : Memory) (n rest : ℕ) → length lists < 101 → scan (moves model lists) (is_acceptable model takes lists) rest ≡ Complete n
-      → ((k u w : ℕ) → u < 100 → IsTrue (is_known new k u w) → IsTrue (is_known old k u w) ⊎ IsTrue (is_kind_of model.search.neighbourhoods k))
+  pub noted_all : (old new : Memory) (n rest : ℕ) → IsWellFormed model → length lists < 101 → scan (moves model lists) (is_acceptable model takes lists) rest ≡ Complete n
+      → ((k u w : ℕ) → u < rows_of k → IsTrue (is_known new k u w) → IsTrue (is_known old k u w) ⊎ IsTrue (is_kind_of model.search.neighbourhoods k))
       → AreRefused model takes lists old → AreRefused model takes lists new
-  noted_all old new n rest few scanned learned refused m one covered =
-      let kind = lt_of_test (kind_of m) 5 (and_left (nat_lt (kind_of m) 5) _ covered) in
-      let known = and_right (nat_lt (kind_of m) 5) _ covered in
-      elim (learned (kind_of m) (first_of m) (second_of m) (named_low m one kind few) known) [
-        | inl before ↦ refused m one (and_both (nat_lt (kind_of m) 5) _ (test_of_lt (kind_of m) 5 kind) before)
+  noted_all old new n rest well few scanned learned refused m one covered =
+      let kept = and_left (is_remembered (kind_of m)) _ covered in
+      let known = and_right (is_remembered (kind_of m)) _ covered in
+      elim (learned (kind_of m) (first_of m) (second_of m) (row_low well few m one) known) [
+        | inl before ↦ refused m one (and_both (is_remembered (kind_of m)) _ kept before)
         | inr listed ↦ none_taken (is_acceptable model takes lists) rest 0 (moves model lists) n scanned m (are_listed model lists model.search.neighbourhoods m one listed)
       ]
 
   -- ---- after a move
 
-  module _ (mv : Move) (one : IsTrue (is_move model lists mv)) where
-    -- the lists of vehicles that the move does not name are the same after it
-    agree_after : (m : Move) → IsApart mv (first_of m) (second_of m) → Agree m (apply model lists mv) lists
+  module _ (mv : Move) (one : IsTrue (is_move model lists mv)) (first second : ℕ) (others : (u : ℕ) → u ≢ first → u ≢ second → route (apply model lists mv) u ≡ route lists u) where
+    -- of a move that it did not change nothing differs after it
+    agree_after : (m : Move) → IsApart model (apply model lists mv) mv first second m → Agree model m (apply model lists mv) lists
     agree_after m apart = record {
       many = as_many model lists mv;
-      first = stays model lists mv (first_of m) apart.kind apart.first_is apart.first_is_second;
-      second = stays model lists mv (second_of m) apart.kind apart.second_is_first apart.second_is;
+      source = λ v is. let off = apart.source v is in others v off.0 off.1;
+      second = others (second_of m) apart.target.0 apart.target.1;
+      active = λ high. activity_stays model lists mv one (apart.active high);
     }
 
-    agree_before : (m : Move) → IsApart mv (first_of m) (second_of m) → Agree m lists (apply model lists mv)
-    agree_before m apart = let a = agree_after m apart in record { many = sym a.many; first = sym a.first; second = sym a.second }
-
     -- what is still remembered after the move is refused
-    pub changed : (old new : Memory) → length lists < 101 → IsTrue (is_valid model lists) → IsTrue (is_valid model (apply model lists mv))
+    pub changed : (old new : Memory) → IsTrue (is_valid model lists) → IsTrue (is_valid model (apply model lists mv))
         → ((k u w : ℕ) → IsTrue (is_known new k u w) → StaysRefused model takes)
         → ((k u w : ℕ) → IsTrue (is_known new k u w) → IsTrue (is_known old k u w))
-        → ((k u w : ℕ) → u < 100 → IsTrue (is_known new k u w) → IsApart mv u w)
+        → ((m : Move) → IsTrue (is_move model (apply model lists mv) m) → IsTrue (covers new m) → IsApart model (apply model lists mv) mv first second m)
         → AreRefused model takes lists old → AreRefused model takes (apply model lists mv) new
-    changed old new few valid valid_after local fewer apart refused m there covered =
+    changed old new valid valid_after local fewer apart refused m there covered =
         let after : List (List ℕ) = apply model lists mv in
-        let kind = lt_of_test (kind_of m) 5 (and_left (nat_lt (kind_of m) 5) _ covered) in
-        let known = and_right (nat_lt (kind_of m) 5) _ covered in
-        let many = as_many model lists mv in
-        let low = first_low model after m there kind in
-        let off = apart (kind_of m) (first_of m) (second_of m) (omega (arith, low, few, many)) known in
-        let here : IsTrue (is_move model lists m) = moves_local model after lists m kind (agree_after m off) ∙ there in
-        sym (local (kind_of m) (first_of m) (second_of m) known lists after m (record { valid = valid; other_valid = valid_after; is_one = here; kind = kind; agree = agree_before m off }))
-        ∙ refused m here (and_both (nat_lt (kind_of m) 5) _ (test_of_lt (kind_of m) 5 kind) (fewer (kind_of m) (first_of m) (second_of m) known))
+        let kept = and_left (is_remembered (kind_of m)) _ covered in
+        let known = and_right (is_remembered (kind_of m)) _ covered in
+        let agree = agree_after m (apart m there covered) in
+        let here : IsTrue (is_move model lists m) = moves_local model after lists m there kept agree ∙ there in
+        local (kind_of m) (first_of m) (second_of m) known after lists m (record { valid = valid_after; other_valid = valid; is_one = there; kind = kept; agree = agree })
+        ∙ refused m here (and_both (is_remembered (kind_of m)) _ kept (fewer (kind_of m) (first_of m) (second_of m) known))
 
 -- ---- what a scan passes over
 
 -- the moves of a block that is remembered
-pub passes_known : (model : Model) (takes : List (List ℕ) → Move → ℤ → Bool) (lists : List (List ℕ)) (rest : ℕ) (memory : Memory) (kind v w : ℕ) → rest ≤ 1000000000 → kind < 5
+pub passes_known : (model : Model) (takes : List (List ℕ) → Move → ℤ → Bool) (lists : List (List ℕ)) (rest : ℕ) (memory : Memory) (kind v w : ℕ) → rest ≤ 1000000000 → IsTrue (is_remembered kind)
     → AreRefused model takes lists memory → IsTrue (is_known memory kind v w) → CoversBlock (IsPassed model takes lists rest) kind v w
-passes_known model takes lists rest memory kind v w few low refused known mv k f s =
-    record { few = few; refused = λ one. refused mv one (covers_known memory kind v w low known mv k f s) }
+passes_known model takes lists rest memory kind v w few kept refused known mv k f s =
+    record { few = few; refused = λ one. refused mv one (covers_known memory kind v w kept known mv k f s) }
 
 -- a move that makes no less is not taken by a descent
 pub no_less_refused : (model : Model) (lists : List (List ℕ)) (mv : Move) → IsNoLess model lists mv (pos 0) → IsRefused model takes_less lists mv
@@ -233,32 +247,3 @@ module _ (model : Model) (takes : List (List ℕ) → Move → ℤ → Bool) (li
 -- the lists of a model are few
 pub few_lists : (model : Model) → IsWellFormed model → (lists : List (List ℕ)) → IsTrue (is_valid model lists) → length lists < 101
 few_lists model well lists valid = let many = are_lists-count model lists (are-lists model lists valid) in let most = well.number_of_vehicles.at_most in omega (arith, many, most)
-
-no_first : (mv : Move) → 5 ≤ kind_of mv → first_of mv ≡ 0
-no_first (TwoOpt v a b) high = absurd (omega (arith, high))
-no_first (OrOpt v a k t) high = absurd (omega (arith, high))
-no_first (Relocate v a w t) high = absurd (omega (arith, high))
-no_first (Exchange v a w b) high = absurd (omega (arith, high))
-no_first (Cross v a w b) high = absurd (omega (arith, high))
-no_first other high = refl
-
-no_second : (mv : Move) → 5 ≤ kind_of mv → second_of mv ≡ 0
-no_second (TwoOpt v a b) high = absurd (omega (arith, high))
-no_second (OrOpt v a k t) high = absurd (omega (arith, high))
-no_second (Relocate v a w t) high = absurd (omega (arith, high))
-no_second (Exchange v a w b) high = absurd (omega (arith, high))
-no_second (Cross v a w b) high = absurd (omega (arith, high))
-no_second other high = refl
-
-module _ (model : Model) (lists : List (List ℕ)) (few : length lists < 101) (mv : Move) (one : IsTrue (is_move model lists mv)) where
-  pub first_few : first_of mv < 100
-  first_few = elim (cases_lt (kind_of mv) 5) [
-    | inl low ↦ (let f = first_low model lists mv one low in omega (arith, f, few))
-    | inr high ↦ (let f = no_first mv high in omega (arith, f))
-  ]
-
-  pub second_few : second_of mv < 100
-  second_few = elim (cases_lt (kind_of mv) 5) [
-    | inl low ↦ (let f = second_low model lists mv one low in omega (arith, f, few))
-    | inr high ↦ (let f = no_second mv high in omega (arith, f))
-  ]

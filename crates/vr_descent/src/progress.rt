@@ -17,7 +17,7 @@ ghost use Rattle.vr_watch.specs.Told.{Told, ToldInPart};
 
 use crate::{Accept, ScanEnd, scan};
 use std::sync::ledger::Ledger;
-use vr_known::Known;
+use vr_known::{Known, Touched};
 use vr_model::{End, Event, Kind, Limit, Model, Move, NoMemory, Report, Steps};
 use vr_routes::{Judge, Routes};
 use vr_watch::{Watch, note_all};
@@ -32,7 +32,7 @@ pub struct Progress {
 
 impl Progress {
     /// One scan: the first acceptable move is made and told to the watchers; the tries are counted. What the scan
-    /// refused is known then, but for what names a vehicle whose list the move changed.
+    /// refused is known then, but for what names a vehicle whose list the move changed, or changes activity as it did.
     ///
     /// The only refusal is want of memory. Routes and judge then hold the same valid lists, and of the event in hand
     /// some watchers at the front were told.
@@ -94,8 +94,9 @@ impl Progress {
                 difference,
             } => {
                 known.note(model.search.neighbourhoods.as_slice(), mv);
+                let touched = Touched::of(model, routes, mv);
                 self.take(judge, routes, watch, place, mv, difference)?;
-                known.change(mv);
+                known.change(model, routes, mv, touched);
                 Ok(ended)
             }
             ScanEnd::Complete { length } => {

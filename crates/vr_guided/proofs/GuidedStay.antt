@@ -10,6 +10,7 @@ use Rattle.vr_model.specs.moves.Moves.{apply}
 use Rattle.vr_routes.specs.Judging.{cost_change}
 use Rattle.vr_known.specs.Locality.{HasNoGlobalSpans, Alike}
 use Rattle.vr_known.proofs.CostLocality.{over, sum_local, cost_is_local}
+use Rattle.vr_known.proofs.Local.{is_local}
 use Rattle.vr_known.proofs.Locality.{validity_is_local}
 use Rattle.vr_guided.specs.Guides.{makes_less, penalised_change}
 use Rattle.vr_guided.proofs.GuideLemmas.{makes_less_where}
@@ -25,7 +26,7 @@ module _ (model : Model) (lambda : Lambda) (penalties : Penalties) (none : HasNo
   -- the penalised arc costs grow by the same
   penalised_local : penalised_change model penalties lists mv ≡ penalised_change model penalties other mv
   penalised_local = four (penalised model penalties) (over (route_weight model penalties)) (apply model lists mv) lists (apply model other mv) other (sums model penalties)
-      (sum_local model mv lists other both.is_one both.kind both.agree (route_weight model penalties))
+      (sum_local model mv lists other (is_local model lists other mv both) (route_weight model penalties))
 
   less_local : makes_less model lambda penalties lists mv (cost_change model lists mv) ≡ makes_less model lambda penalties other mv (cost_change model other mv)
   less_local =
@@ -34,8 +35,8 @@ module _ (model : Model) (lambda : Lambda) (penalties : Penalties) (none : HasNo
       ∙ ap (λ x. int_lt ((lambda.q *ℤ cost_change model other mv) +ℤ (lambda.p *ℤ x)) (pos 0)) penalised_local
       ∙ makes_less_where model lambda penalties other mv (cost_change model other mv) (penalised_change model penalties other mv) refl refl
 
--- whether a move that changes no activity makes the augmented cost less depends on the lists of its vehicles alone, as
--- long as the penalties stay, where nothing is paid for global spans
+-- whether a move makes the augmented cost less depends on the lists of its vehicles alone, and on which visits are
+-- active where it changes that, as long as the penalties stay, where nothing is paid for global spans
 pub guided_stays : (model : Model) → IsWellFormed model → HasNoGlobalSpans model → (lambda : Lambda) (penalties : Penalties) → StaysRefused model (makes_less model lambda penalties)
 guided_stays model well none lambda penalties lists other mv both =
     λ i. validity_is_local model well lists other mv both i && less_local model lambda penalties none lists other mv both i

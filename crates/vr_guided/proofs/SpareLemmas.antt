@@ -21,11 +21,13 @@ use Rattle.vr_model.specs.declared.neighbours.Move.{Move}
 use Rattle.vr_model.proofs.tables.Tests.{clash, fails, fails_not, lt_of_test, test_of_lt}
 use Rattle.vr_model.proofs.tables.Totals.{sum_same, total_by-less}
 use Rattle.vr_model.proofs.routes.Lists.{are-lists, are_lists-count, route-visits, route_set_other}
-use Rattle.vr_model.proofs.moves.KeptLists.{as_many, moves_keep_lists}
+use Rattle.vr_model.proofs.moves.KeptLists.{as_many, few, moves_keep_lists}
 use Rattle.vr_model.proofs.moves.Times.{held_times, joined_times, times, times_in, times_of_distinct, times_set}
 use Rattle.vr_routes.specs.Judging.{cost_change}
-use Rattle.vr_known.specs.Blocks.{Memory, first_of, is_known, kind_of, second_of}
-use Rattle.vr_known.proofs.Applied.{same_or_not, stays}
+use Rattle.vr_known.specs.Blocks.{AreSettled, Memory, first_of, is_known, is_later, is_remembered, kind_of, second_of}
+use Rattle.vr_known.proofs.Applied.{same_or_not}
+use Rattle.vr_known.proofs.Local.{has_source, others_stay}
+use Rattle.vr_known.proofs.MemoryLemmas.{later_known, later_source}
 use Rattle.vr_descent.specs.Refused.{AreRefused}
 use Rattle.vr_guided.specs.Guides.{makes_less, penalised_change}
 use Rattle.vr_guided.specs.Sparing.{AreSpared, SparesKnown, StandsNowhereElse}
@@ -88,24 +90,23 @@ module _ (model : Model) (best : Worth) (origin target : ℕ) where
 held_false : (list : List ℕ) (node : ℕ) → (IsTrue (holds list node) → ⊥) → holds list node ≡ false
 held_false list node none = fails (holds list node) none
 
--- the arcs of a vehicle were raised, and no move is known any more that names it
+-- the arcs of a vehicle were raised, which changed since any move was refused
 pub spares_more : (model : Model) (best : Worth) (lists : List (List ℕ)) (v : ℕ) (first old new : Penalties) (before after : Memory)
     → new ≡ raised_in_turn model best old (arcs_of model v (route lists v))
-    → ((k u w : ℕ) → IsTrue (is_known after k u w) → IsTrue (is_known before k u w))
-    → ((k w : ℕ) → is_known after k v w ≡ false) → ((k u : ℕ) → is_known after k u v ≡ false)
+    → ((k r u : ℕ) → IsTrue (is_later after k r u) → IsTrue (is_later before k r u)) → ((k r : ℕ) → is_later after k r v ≡ false)
     → SparesKnown lists first old before → SparesKnown lists first new after
-spares_more model best lists v first old new before after raises fewer one two spares kind u w known origin target from to =
-    let not_first : v ≢ u = λ e. clash (is_known after kind v w) (subst (λ x. IsTrue (is_known after kind x w)) (sym e) known) (one kind w) in
-    let not_second : v ≢ w = λ e. clash (is_known after kind u v) (subst (λ x. IsTrue (is_known after kind u x)) (sym e) known) (two kind u) in
+spares_more model best lists v first old new before after raises earlier changes spares kind row u w one two origin target from to =
+    let not_first : v ≢ u = λ e. clash (is_later after kind row v) (subst (λ x. IsTrue (is_later after kind row x)) (sym e) one) (changes kind row) in
+    let not_second : v ≢ w = λ e. clash (is_later after kind row v) (subst (λ x. IsTrue (is_later after kind row x)) (sym e) two) (changes kind row) in
     ap (λ p. p origin target) raises
     ∙ left_as_is model best origin target old (arcs_of model v (route lists v)) (none_leads model v (route lists v) origin target
     (held_false (route lists v) origin (from v not_first not_second)) (held_false (route lists v) target (to v not_first not_second)))
-    ∙ spares kind u w (fewer kind u w known) origin target from to
+    ∙ spares kind row u w (earlier kind row u one) (earlier kind row w two) origin target from to
 
 -- nothing of the vehicle was raised
 pub spares_same : (lists : List (List ℕ)) (first old new : Penalties) (memory : Memory) → new ≡ old → SparesKnown lists first old memory → SparesKnown lists first new memory
-spares_same lists first old new memory same spares kind u w known origin target from to =
-    ap (λ p. p origin target) same ∙ spares kind u w known origin target from to
+spares_same lists first old new memory same spares kind row u w one two origin target from to =
+    ap (λ p. p origin target) same ∙ spares kind row u w one two origin target from to
 
 -- ---- nodes of two lists
 
@@ -180,13 +181,13 @@ module _ (model : Model) (p q : Penalties) (Meant : ℕ → Type 0) (same : (ori
 nothing_less : (x y : ℤ) → x -ℤ x ≡ y -ℤ y
 nothing_less x y = omega (arith, ints)
 
-module _ (model : Model) (well : IsWellFormed model) (lists : List (List ℕ)) (valid : IsTrue (is_valid model lists)) (m : Move) (one : IsTrue (is_move model lists m)) (kind : kind_of m < 5)
-    (p q : Penalties) (spared : AreSpared lists p q (first_of m) (second_of m)) where
+module _ (model : Model) (well : IsWellFormed model) (lists : List (List ℕ)) (valid : IsTrue (is_valid model lists)) (m : Move) (one : IsTrue (is_move model lists m))
+    (source : ℕ) (stay : (u : ℕ) → u ≢ source → u ≢ second_of m → route (apply model lists m) u ≡ route lists u) (p q : Penalties) (spared : AreSpared lists p q source (second_of m)) where
   abbrev after : List (List ℕ)
   after = apply model lists m
 
   abbrev Meant : ℕ → Type 0
-  Meant = StandsNowhereElse lists (first_of m) (second_of m)
+  Meant = StandsNowhereElse lists (source) (second_of m)
 
   are : are_lists model lists ≡ true
   are = are-lists model lists valid
@@ -206,33 +207,33 @@ module _ (model : Model) (well : IsWellFormed model) (lists : List (List ℕ)) (
     vehicle_low = let n = are_lists-count model lists are in omega (arith, n, low)
 
     start_meant : Meant (vehicle_at model v).start
-    start_meant = terminal_nowhere model lists are (vehicle_at model v).start (start_ends model v vehicle_low) (first_of m) (second_of m)
+    start_meant = terminal_nowhere model lists are (vehicle_at model v).start (start_ends model v vehicle_low) (source) (second_of m)
 
     end_meant : Meant (vehicle_at model v).end
-    end_meant = terminal_nowhere model lists are (vehicle_at model v).end (end_ends model v vehicle_low) (first_of m) (second_of m)
+    end_meant = terminal_nowhere model lists are (vehicle_at model v).end (end_ends model v vehicle_low) (source) (second_of m)
 
     weighs_same : (list : List ℕ) → ((x : ℕ) → IsTrue (holds list x) → Meant x) → route_weight model q v list ≡ route_weight model p v list
     weighs_same list each = same_route model p q Meant spared v (vehicle_at model v).end list refl start_meant end_meant each
 
     -- the list of a vehicle of the move, before and after it
-    named : (v ≡ first_of m) ⊎ (v ≡ second_of m) → added q v ≡ added p v
+    named : (v ≡ source) ⊎ (v ≡ second_of m) → added q v ≡ added p v
     named here =
-        let off : (w : ℕ) → w ≢ first_of m → w ≢ second_of m → w ≢ v = λ w f g e. elim here [ inl is ↦ f (e ∙ is) | inr is ↦ g (e ∙ is) ] in
+        let off : (w : ℕ) → w ≢ source → w ≢ second_of m → w ≢ v = λ w f g e. elim here [ inl is ↦ f (e ∙ is) | inr is ↦ g (e ∙ is) ] in
         ap₂ (λ x y. x -ℤ y)
         (weighs_same (route after v) (λ x held w f g there. once_only model after are_after x v w (omega (arith, low, many)) (off w f g) held
-        (subst (λ l. IsTrue (holds l x)) (sym (stays model lists m w kind f g)) there)))
+        (subst (λ l. IsTrue (holds l x)) (sym (stay w f g)) there)))
         (weighs_same (route lists v) (λ x held w f g there. once_only model lists are x v w low (off w f g) held there))
 
     added_same : added q v ≡ added p v
-    added_same = elim (same_or_not v (first_of m)) [
+    added_same = elim (same_or_not v (source)) [
       | inl here ↦ named (inl here)
       | inr apart ↦ elim (same_or_not v (second_of m)) [
         | inl here ↦ named (inr here)
         | inr too ↦ (
-            let stay = stays model lists m v kind apart too in
-            ap (λ l. route_weight model q v l -ℤ route_weight model q v (route lists v)) stay
+            let same = stay v apart too in
+            ap (λ l. route_weight model q v l -ℤ route_weight model q v (route lists v)) same
             ∙ nothing_less (route_weight model q v (route lists v)) (route_weight model p v (route lists v))
-            ∙ ap (λ l. route_weight model p v l -ℤ route_weight model p v (route lists v)) (sym stay))
+            ∙ ap (λ l. route_weight model p v l -ℤ route_weight model p v (route lists v)) (sym same))
       ]
     ]
 
@@ -253,10 +254,13 @@ module _ (model : Model) (well : IsWellFormed model) (lists : List (List ℕ)) (
 
 -- what is known still after a round is refused still
 pub still_refused : (model : Model) → IsWellFormed model → (lambda : Lambda) (p q : Penalties) (lists : List (List ℕ)) → IsTrue (is_valid model lists) → (old new : Memory)
-    → ((k u w : ℕ) → IsTrue (is_known new k u w) → IsTrue (is_known old k u w)) → SparesKnown lists p q new
+    → ((k u w : ℕ) → IsTrue (is_known new k u w) → IsTrue (is_known old k u w)) → SparesKnown lists p q new → AreSettled model lists new
     → AreRefused model (makes_less model lambda p) lists old → AreRefused model (makes_less model lambda q) lists new
-still_refused model well lambda p q lists valid old new fewer spares refused m one covered =
-    let kind = lt_of_test (kind_of m) 5 (and_left (nat_lt (kind_of m) 5) _ covered) in
-    let known = and_right (nat_lt (kind_of m) 5) _ covered in
-    ap (λ b. is_valid model (apply model lists m) && b) (less_same model well lists valid m one kind p q (spares (kind_of m) (first_of m) (second_of m) known) lambda)
-    ∙ refused m one (and_both (nat_lt (kind_of m) 5) _ (test_of_lt (kind_of m) 5 kind) (fewer (kind_of m) (first_of m) (second_of m) known))
+still_refused model well lambda p q lists valid old new fewer spares settled refused m one covered =
+    let kept = and_left (is_remembered (kind_of m)) _ covered in
+    let known = and_right (is_remembered (kind_of m)) _ covered in
+    let once = few model lists (are-lists model lists valid) in
+    let at = has_source model lists once m one in
+    let spared = spares (kind_of m) (first_of m) at.0 (second_of m) (later_source model lists new settled m one kept known at.0 at.1) (later_known new (kind_of m) (first_of m) (second_of m) known) in
+    ap (λ b. is_valid model (apply model lists m) && b) (less_same model well lists valid m one at.0 (others_stay model lists once m one at.0 at.1) p q spared lambda)
+    ∙ refused m one (and_both (is_remembered (kind_of m)) _ kept (fewer (kind_of m) (first_of m) (second_of m) known))

@@ -2,7 +2,7 @@
 use Rattle.std.specs.Prelude.{◌≡◌, ◌≢◌, ℕ, List, IsTrue}
 use Rattle.vr_model.specs.routes.Routes.{holds, route}
 use Rattle.vr_model.specs.search.GuidedSearches.{Penalties}
-use Rattle.vr_known.specs.Blocks.{Memory, is_known}
+use Rattle.vr_known.specs.Blocks.{Memory, is_later}
 
 -- a node stands in no list but those of two vehicles
 abbrev pub StandsNowhereElse : List (List ℕ) → ℕ → ℕ → ℕ → Type 0
@@ -13,6 +13,8 @@ abbrev pub AreSpared : List (List ℕ) → Penalties → Penalties → ℕ → �
 AreSpared lists old new u w = (origin target : ℕ) → StandsNowhereElse lists u w origin
     → StandsNowhereElse lists u w target → new origin target ≡ old origin target
 
--- where moves of two vehicles are known still, no arc was raised that leads to or from the nodes of these alone
+-- where the moves of a row were refused after two vehicles last changed, no arc was raised that leads to or from the
+-- nodes of these alone
 abbrev pub SparesKnown : List (List ℕ) → Penalties → Penalties → Memory → Type 0
-SparesKnown lists old new memory = (kind u w : ℕ) → IsTrue (is_known memory kind u w) → AreSpared lists old new u w
+SparesKnown lists old new memory = (kind row u w : ℕ) → IsTrue (is_later memory kind row u)
+    → IsTrue (is_later memory kind row w) → AreSpared lists old new u w

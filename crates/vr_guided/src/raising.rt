@@ -4,7 +4,7 @@ ghost use Rattle.std.specs.Prelude.{◌≡◌, ◌<◌, ◌≤◌, ◌+◌, ◌*
 ghost use Rattle.vr_guided.specs.Counts.{AtMost, counted};
 ghost use Rattle.vr_guided.specs.Sparing.{SparesKnown};
 ghost use Rattle.vr_guided.specs.Worths.{greatest, raised_in_turn, raised_once, worth_of, worthless};
-ghost use Rattle.vr_known.specs.Blocks.{Learns, is_known};
+ghost use Rattle.vr_known.specs.Blocks.{AreSettled, Learns, is_known};
 ghost use Rattle.vr_model.specs.search.GuidedSearches.{has_costly_arc, raised, Penalties as Raised};
 ghost use Rattle.vr_model.specs.routes.Routes.{arcs_of, route, used_arcs};
 ghost use Rattle.vr_model.specs.routes.Rules.{is_valid};
@@ -18,7 +18,7 @@ use vr_routes::Routes;
 
 impl Penalties {
     /// One more on each used arc of the greatest worth: its cost over one more than its penalty. No move is known any
-    /// more that names a vehicle whose arcs were raised. Takes no memory.
+    /// more that names a vehicle whose arcs were raised, or of a pair that such a vehicle serves. Takes no memory.
     pub fn raise(&mut self, model: &Model, routes: &Routes, known: &mut Known)
         requires well_formed { IsWellFormed model.now }
         requires valid { IsTrue (is_valid model.now routes.now.lists) }
@@ -29,12 +29,14 @@ impl Penalties {
         ensures raised { counted self.new ≡ raised model.now (counted self.old) routes.now.lists }
         ensures fewer { (k u w : ℕ) → IsTrue (is_known known.new k u w) → IsTrue (is_known known.old k u w) }
         ensures spares { SparesKnown routes.now.lists (counted self.old) (counted self.new) known.new }
+        ensures settled { AreSettled model.now routes.now.lists known.new }
         ensures learns { Learns known.new → Learns known.old }
     {
         let greatest = self.greatest(model, routes);
         for vehicle in 0..model.vehicles.len() as u32 {
             self.raise_vehicle(model, vehicle, routes.list(vehicle), &greatest, known);
         }
+        known.settle(model, routes);
     }
 
     // One more on each arc of a vehicle that is worth as much as the greatest. Where there is one, no move is known any

@@ -134,8 +134,10 @@ active_where lists more x same h =
     let b = joined_times x more in
     is_active-concat more x ∙ times_held x (concat more) (omega (arith, some, a, b, same))
 
+-- the same visits are active in lists in which each number stands as often
+pub active_same : (lists more : List (List ℕ)) → ((x : ℕ) → times_in x lists ≡ times_in x more) → is_active lists ≡ is_active more
+active_same lists more same = λ i x. same_tests (is_active lists x) (is_active more x) (active_where lists more x (same x)) (active_where more lists x (sym (same x))) i
+
 -- the same visits are active after the move as before it
 pub same_active : (model : Model) (lists : List (List ℕ)) (mv : Move) → IsTrue (is_move model lists mv) → kind_of mv < 5 → is_active (apply model lists mv) ≡ is_active lists
-same_active model lists mv h kind = λ i x. same_tests (is_active (apply model lists mv) x) (is_active lists x)
-    (active_where (apply model lists mv) lists x (as_often model lists mv h kind x))
-    (active_where lists (apply model lists mv) x (sym (as_often model lists mv h kind x))) i
+same_active model lists mv h kind = active_same (apply model lists mv) lists (as_often model lists mv h kind)

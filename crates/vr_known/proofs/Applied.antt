@@ -1,5 +1,4 @@
--- The lists after a move that changes no activity: those of its vehicles come from these vehicles' lists, and all others
--- stay.
+-- The lists after a move of one of five kinds: those of its vehicles come from these vehicles' lists, and all others stay.
 use Rattle.std.proofs.Common.{◌≡◌, ◌≢◌, ◌∙◌, ◌⊎◌, ℕ, suc, ◌<◌, List, ◌++◌, length, take, drop, sym, ap, ap₂, inl, inr, arith, length-set}
 use Rattle.std.specs.Prelude.{IsTrue, ◌==◌, ◌&&◌, ◌||◌, ◌-◌, nat_lt, nat_le, slice_set, insert, remove}
 use Rattle.std.proofs.lemmas.Bool.Decides.{eqb_tells}
@@ -10,13 +9,19 @@ use Rattle.vr_model.specs.declared.records.Model.{Model}
 use Rattle.vr_model.specs.declared.neighbours.Move.{Move}
 use Rattle.vr_model.specs.declared.neighbours.Move.TheVariants.{TwoOpt, OrOpt, Relocate, Exchange, Cross}
 use Rattle.vr_model.proofs.routes.Lists.{route_set_same, route_set_other}
-use Rattle.vr_known.specs.Blocks.{kind_of, first_of, second_of, Agree}
+use Rattle.vr_known.specs.Blocks.{kind_of, first_of, second_of}
 
 pub same_or_not : (u v : ℕ) → (u ≡ v) ⊎ (u ≢ v)
 same_or_not u v = elim (eqb_tells u v) [ inl same ↦ inl same.1 | inr other ↦ inr other.1 ]
 
+-- two lists have the same lists for the two vehicles that a move of one of five kinds names
+pub record NamesSame (mv : Move) (lists other : List (List ℕ)) : Type 0 where
+  pub many : length lists ≡ length other
+  pub first : route lists (first_of mv) ≡ route other (first_of mv)
+  pub second : route lists (second_of mv) ≡ route other (second_of mv)
+
 -- two lists in which vehicle v gets the same list
-set_alike : (lists other : List (List ℕ)) (v u : ℕ) (list more : List ℕ) → length lists ≡ length other → v < length lists → list ≡ more
+pub set_alike : (lists other : List (List ℕ)) (v u : ℕ) (list more : List ℕ) → length lists ≡ length other → v < length lists → list ≡ more
     → route lists u ≡ route other u → route (with_route lists v list) u ≡ route (with_route other v more) u
 set_alike lists other v u list more many low same there = elim (same_or_not u v) [
   | inl here ↦ ap (route (with_route lists v list)) here ∙ route_set_same lists v list low ∙ same
@@ -52,7 +57,7 @@ module _ (model : Model) (lists : List (List ℕ)) where
 
   module _ (other : List (List ℕ)) where
     -- where two lists agree at a vehicle, so do the lists after the move
-    pub alike : (mv : Move) → IsTrue (is_move model lists mv) → kind_of mv < 5 → Agree mv lists other → (u : ℕ) → route lists u ≡ route other u
+    pub alike : (mv : Move) → IsTrue (is_move model lists mv) → kind_of mv < 5 → NamesSame mv lists other → (u : ℕ) → route lists u ≡ route other u
         → route (apply model lists mv) u ≡ route (apply model other mv) u
     alike (TwoOpt v a b) h kind agree u there =
         set_alike lists other v u _ _ agree.many (first_low (TwoOpt v a b) h kind) (ap (λ l. reversed_between l a (suc b)) agree.first) there
@@ -89,15 +94,15 @@ module _ (model : Model) (lists : List (List ℕ)) where
     alike mv h kind agree u there = absurd (omega (arith, kind))
 
   -- a move of the one is a move of the other
-  pub moves_local : (other : List (List ℕ)) (mv : Move) → kind_of mv < 5 → Agree mv lists other → is_move model other mv ≡ is_move model lists mv
-  moves_local other (TwoOpt v a b) kind agree = let n = sym agree.many in let l = sym agree.first in
+  pub named_move_local : (other : List (List ℕ)) (mv : Move) → kind_of mv < 5 → NamesSame mv lists other → is_move model other mv ≡ is_move model lists mv
+  named_move_local other (TwoOpt v a b) kind agree = let n = sym agree.many in let l = sym agree.first in
       λ i. nat_lt v (n i) && (nat_lt a b && nat_lt b (length (l i)))
-  moves_local other (OrOpt v a k t) kind agree = let n = sym agree.many in let l = sym agree.first in
+  named_move_local other (OrOpt v a k t) kind agree = let n = sym agree.many in let l = sym agree.first in
       λ i. nat_lt v (n i) && ((nat_le 1 k && nat_le k 3) && (has_chain (l i) a k && (nat_le t (length (l i) - k) && is_other a t)))
-  moves_local other (Relocate v a w t) kind agree = let n = sym agree.many in let l = sym agree.first in let m = sym agree.second in
+  named_move_local other (Relocate v a w t) kind agree = let n = sym agree.many in let l = sym agree.first in let m = sym agree.second in
       λ i. nat_lt v (n i) && (nat_lt w (n i) && (is_other v w && (nat_lt a (length (l i)) && nat_le t (length (m i)))))
-  moves_local other (Exchange v a w b) kind agree = let n = sym agree.many in let l = sym agree.first in let m = sym agree.second in
+  named_move_local other (Exchange v a w b) kind agree = let n = sym agree.many in let l = sym agree.first in let m = sym agree.second in
       λ i. nat_lt v (n i) && (nat_lt w (n i) && (nat_lt a (length (l i)) && (nat_lt b (length (m i)) && (nat_lt v w || ((v == w) && nat_lt a b)))))
-  moves_local other (Cross v a w b) kind agree = let n = sym agree.many in let l = sym agree.first in let m = sym agree.second in
+  named_move_local other (Cross v a w b) kind agree = let n = sym agree.many in let l = sym agree.first in let m = sym agree.second in
       λ i. nat_lt w (n i) && (nat_lt v w && (nat_le a (length (l i)) && (nat_le b (length (m i)) && has_some_front a b)))
-  moves_local other mv kind agree = absurd (omega (arith, kind))
+  named_move_local other mv kind agree = absurd (omega (arith, kind))

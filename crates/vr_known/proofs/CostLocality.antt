@@ -1,4 +1,4 @@
--- What a move that changes no activity makes of the cost depends on the lists of its vehicles alone.
+-- What a move makes of the cost depends on the lists of its vehicles and on the active visits alone.
 use Rattle.std.proofs.Common.{◌⊎◌, ◌≡◌, ◌∙◌, ℕ, suc, ◌<◌, Bool, cond, List, [], length, sym, ap, inl, inr, arith}
 use Rattle.std.specs.Prelude.{IsTrue, ℤ, pos, ◌-ℤ◌, ◌*ℤ◌, slice_index_or, count_by}
 use Rattle.std.specs.List.{zip}
@@ -6,21 +6,18 @@ use Rattle.std.proofs.lemmas.Int.{ints}
 use Rattle.std.proofs.lemmas.List.FromFn.{get_or-map-range_with_len}
 use Rattle.vr_model.specs.tables.Numbers.{total_by, below, number_at}
 use Rattle.vr_model.specs.tables.Tables.{vehicle_at, dimension_at}
-use Rattle.vr_model.specs.routes.Routes.{route, is_empty, route_cost}
+use Rattle.vr_model.specs.routes.Routes.{route, is_active, is_empty, route_cost}
 use Rattle.vr_model.specs.schedules.Lines.{stop_rows}
 use Rattle.vr_model.specs.schedules.Schedules.{Plan, cumul}
 use Rattle.vr_model.specs.routes.Costs.{no_plan, fixed_part, global_part, global_span, penalty_part, penalty_for, soft_part, span_part, row_cost, chosen_plans, assigned, parts_at, sum_of, cost, over_plans}
 use Rattle.vr_model.specs.moves.Moves.{apply}
-use Rattle.vr_model.specs.moves.MoveTests.{is_move}
 use Rattle.vr_model.specs.declared.records.Model.{Model}
 use Rattle.vr_model.specs.declared.records.Parts.{Parts}
 use Rattle.vr_model.specs.declared.neighbours.Move.{Move}
 use Rattle.vr_model.proofs.tables.Totals.{sum_same, sum_nothing, total_by-failing, total_by-less, total_by-same}
 use Rattle.vr_model.proofs.moves.KeptLists.{as_many}
-use Rattle.vr_known.specs.Blocks.{kind_of, first_of, second_of, Agree}
 use Rattle.vr_known.specs.Locality.{HasNoGlobalSpans, CostIsLocal}
-use Rattle.vr_known.proofs.Applied.{same_or_not, stays, alike, moves_local}
-use Rattle.vr_known.proofs.Activity.{same_active}
+use Rattle.vr_known.proofs.Local.{ComesToSame, IsLocal, is_local}
 
 -- a sum over the lists of vehicles
 abbrev pub over : (ℕ → List ℕ → ℤ) → List (List ℕ) → ℤ
@@ -29,33 +26,22 @@ over f lists = total_by (λ v. f v (route lists v)) (below (length lists))
 nothing_less : (x y : ℤ) → x -ℤ x ≡ y -ℤ y
 nothing_less x y = omega (arith, ints)
 
-module _ (model : Model) (mv : Move) (lists other : List (List ℕ)) (h : IsTrue (is_move model lists mv)) (kind : kind_of mv < 5) (agree : Agree mv lists other) where
-  -- a vehicle is one of the move's, and so has the same list in both, or its list stays in both
-  pub each_vehicle : (u : ℕ) → (route lists u ≡ route other u) ⊎ ((route (apply model lists mv) u ≡ route lists u) × (route (apply model other mv) u ≡ route other u))
-  each_vehicle u = elim (same_or_not u (first_of mv)) [
-    | inl here ↦ inl (ap (route lists) here ∙ agree.first ∙ ap (route other) (sym here))
-    | inr apart ↦ elim (same_or_not u (second_of mv)) [
-      | inl here ↦ inl (ap (route lists) here ∙ agree.second ∙ ap (route other) (sym here))
-      | inr too ↦ inr (stays model lists mv u kind apart too, stays model other mv u kind apart too)
-    ]
-  ]
+-- what is made of something differs by the same where it comes to the same
+pub one_local : {A : Type 0} (f : A → ℤ) (before other after later : A) → ComesToSame before other after later → f after -ℤ f before ≡ f later -ℤ f other
+one_local f before other after later (inl same) = ap (λ x. f x -ℤ f before) same.1 ∙ ap (λ x. f later -ℤ f x) same.0
+one_local f before other after later (inr stay) = ap (λ x. f x -ℤ f before) stay.0 ∙ nothing_less (f before) (f other) ∙ ap (λ x. f x -ℤ f other) (sym stay.1)
 
-  module _ (f : ℕ → List ℕ → ℤ) where
-    one_local : (u : ℕ) → f u (route (apply model lists mv) u) -ℤ f u (route lists u) ≡ f u (route (apply model other mv) u) -ℤ f u (route other u)
-    one_local u = elim (each_vehicle u) [
-      | inl same ↦ ap (λ l. f u l -ℤ f u (route lists u)) (alike model lists other mv h kind agree u same) ∙ ap (λ l. f u (route (apply model other mv) u) -ℤ f u l) same
-      | inr stay ↦ ap (λ l. f u l -ℤ f u (route lists u)) stay.0 ∙ nothing_less (f u (route lists u)) (f u (route other u)) ∙ ap (λ l. f u l -ℤ f u (route other u)) (sym stay.1)
-    ]
-
-    -- what the move adds to a sum over the lists is the same
-    pub sum_local : over f (apply model lists mv) -ℤ over f lists ≡ over f (apply model other mv) -ℤ over f other
-    sum_local =
-        ap (λ n. total_by (λ v. f v (route (apply model lists mv) v)) (below n) -ℤ over f lists) (as_many model lists mv)
-        ∙ sym (total_by-less (λ v. f v (route (apply model lists mv) v)) (λ v. f v (route lists v)) (below (length lists)))
-        ∙ total_by-same (λ u. f u (route (apply model lists mv) u) -ℤ f u (route lists u)) (λ u. f u (route (apply model other mv) u) -ℤ f u (route other u)) one_local (below (length lists))
-        ∙ total_by-less (λ v. f v (route (apply model other mv) v)) (λ v. f v (route other v)) (below (length lists))
-        ∙ ap (λ n. total_by (λ v. f v (route (apply model other mv) v)) (below n) -ℤ total_by (λ v. f v (route other v)) (below n)) agree.many
-        ∙ ap (λ n. total_by (λ v. f v (route (apply model other mv) v)) (below n) -ℤ over f other) (sym (as_many model other mv))
+-- what the move adds to a sum over the lists is the same
+module _ (model : Model) (mv : Move) (lists other : List (List ℕ)) (local : IsLocal model mv lists other) (f : ℕ → List ℕ → ℤ) where
+  pub sum_local : over f (apply model lists mv) -ℤ over f lists ≡ over f (apply model other mv) -ℤ over f other
+  sum_local =
+      ap (λ n. total_by (λ v. f v (route (apply model lists mv) v)) (below n) -ℤ over f lists) (as_many model lists mv)
+      ∙ sym (total_by-less (λ v. f v (route (apply model lists mv) v)) (λ v. f v (route lists v)) (below (length lists)))
+      ∙ total_by-same (λ u. f u (route (apply model lists mv) u) -ℤ f u (route lists u)) (λ u. f u (route (apply model other mv) u) -ℤ f u (route other u))
+        (λ u. one_local (f u) (route lists u) (route other u) (route (apply model lists mv) u) (route (apply model other mv) u) (local.each u)) (below (length lists))
+      ∙ total_by-less (λ v. f v (route (apply model other mv) v)) (λ v. f v (route other v)) (below (length lists))
+      ∙ ap (λ n. total_by (λ v. f v (route (apply model other mv) v)) (below n) -ℤ total_by (λ v. f v (route other v)) (below n)) local.many
+      ∙ ap (λ n. total_by (λ v. f v (route (apply model other mv) v)) (below n) -ℤ over f other) (sym (as_many model other mv))
 
 -- ---- the parts as sums over the lists
 
@@ -114,9 +100,6 @@ module _ (model : Model) where
   abbrev penalties : (ℕ → Bool) → ℤ
   penalties active = total_by (λ group. penalty_for group.penalty group.max (count_by active group.nodes)) model.groups
 
-  penalty_stays : (lists : List (List ℕ)) (mv : Move) → IsTrue (is_move model lists mv) → kind_of mv < 5 → penalty_part model (apply model lists mv) ≡ penalty_part model lists
-  penalty_stays lists mv h kind = ap penalties (same_active model lists mv h kind)
-
 -- ---- the cost
 
 -- the sums of parts differ as their parts do
@@ -135,16 +118,13 @@ four f g a b c d same e = let p = same a in let q = same b in let r = same c in 
 pub cost_is_local : CostIsLocal
 unfolding cost
 cost_is_local model none lists other mv both =
-    let h = both.is_one in
-    let kind = both.kind in
-    let agree = both.agree in
-    let h_other : IsTrue (is_move model other mv) = moves_local model lists other mv kind agree ∙ h in
+    let local = is_local model lists other mv both in
     let after : List (List ℕ) = apply model lists mv in
     let later : List (List ℕ) = apply model other mv in
     sums_differ (parts_at model (assigned model after)) (parts_at model (assigned model lists)) (parts_at model (assigned model later)) (parts_at model (assigned model other))
-    (sum_local model mv lists other h kind agree (route_cost model))
-    (four (fixed_part model) (over (fixed_in model)) after lists later other (fixed_over model) (sum_local model mv lists other h kind agree (fixed_in model)))
+    (sum_local model mv lists other local (route_cost model))
+    (four (fixed_part model) (over (fixed_in model)) after lists later other (fixed_over model) (sum_local model mv lists other local (fixed_in model)))
     (none_differ _ _ _ _ (no_global model none after ∙ sym (no_global model none lists)) (no_global model none later ∙ sym (no_global model none other)))
-    (none_differ _ _ _ _ (penalty_stays model lists mv h kind) (penalty_stays model other mv h_other kind))
-    (four (λ l. soft_part model (assigned model l)) (over (planned model (soft_by model))) after lists later other (soft_over model) (sum_local model mv lists other h kind agree (planned model (soft_by model))))
-    (four (λ l. span_part model (assigned model l)) (over (planned model (span_by model))) after lists later other (span_over model) (sum_local model mv lists other h kind agree (planned model (span_by model))))
+    (one_local (penalties model) (is_active lists) (is_active other) (is_active after) (is_active later) local.active)
+    (four (λ l. soft_part model (assigned model l)) (over (planned model (soft_by model))) after lists later other (soft_over model) (sum_local model mv lists other local (planned model (soft_by model))))
+    (four (λ l. span_part model (assigned model l)) (over (planned model (span_by model))) after lists later other (span_over model) (sum_local model mv lists other local (planned model (span_by model))))

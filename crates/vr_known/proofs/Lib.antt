@@ -1,5 +1,7 @@
 pub mod Applied
 pub mod Activity
+pub mod Pairs
+pub mod Local
 pub mod CostLocality
 pub mod Locality
 pub mod MemoryLemmas

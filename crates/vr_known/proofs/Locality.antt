@@ -1,4 +1,4 @@
--- Whether a move that changes no activity leaves valid lists depends on the lists of its vehicles alone.
+-- Whether a move leaves valid lists depends on the lists of its vehicles and on the active visits alone.
 use Rattle.std.proofs.Common.{◌≡◌, ◌∙◌, ℕ, zero, suc, ◌+◌, ◌<◌, Bool, true, false, List, length, refl, sym, ap, ap₂, inl, inr, arith}
 use Rattle.std.specs.Prelude.{IsTrue, ◌&&◌, ◌||◌, nat_le, count_by}
 use Rattle.std.specs.List.{list_all, range_with_len}
@@ -14,11 +14,8 @@ use Rattle.vr_model.specs.declared.records.Model.{Model}
 use Rattle.vr_model.specs.declared.neighbours.Move.{Move}
 use Rattle.vr_model.proofs.routes.Lists.{are-lists}
 use Rattle.vr_model.proofs.moves.KeptLists.{as_many, moves_keep_lists}
-use Rattle.vr_known.specs.Blocks.{kind_of}
-use Rattle.vr_known.specs.Locality.{ValidityIsLocal, MovesAreLocal}
-use Rattle.vr_known.proofs.Applied.{alike, moves_local}
-use Rattle.vr_known.proofs.Activity.{same_active}
-use Rattle.vr_known.proofs.CostLocality.{each_vehicle}
+use Rattle.vr_known.specs.Locality.{Alike, ValidityIsLocal, MovesAreLocal}
+use Rattle.vr_known.proofs.Local.{ComesToSame, IsLocal, is_local, moves_local}
 
 all_same : (p q : ℕ → Bool) (a n : ℕ) → ((k : ℕ) → k < a + n → p k ≡ q k) → list_all p (range_with_len a n) ≡ list_all q (range_with_len a n)
 all_same p q a zero same = refl
@@ -64,47 +61,53 @@ module _ (model : Model) where
         full = and_right (required (is_active lists)) _ second;
       }
 
-  only : (b : Bool) → together true b true true true ≡ b
-  only true = refl
-  only false = refl
+  open_at : (lists : List (List ℕ)) → IsTrue (is_valid model lists) → (v : ℕ) → v < length lists → is_route_open model v (route lists v) ≡ true
+  open_at lists valid v low = list_all_range (λ v. is_route_open model v (route lists v)) 0 (length lists) (keeps lists valid).open_routes v (omega arith) (omega (arith, low))
 
-  module _ (well : IsWellFormed model) (lists : List (List ℕ)) (valid : IsTrue (is_valid model lists)) (mv : Move) (h : IsTrue (is_move model lists mv)) (kind : kind_of mv < 5) where
-    -- the lists after the move are valid where each list is open
-    valid_after : is_valid model (apply model lists mv) ≡ opens (apply model lists mv)
-    valid_after =
-        let after : List (List ℕ) = apply model lists mv in
-        let known = keeps lists valid in
-        let active = same_active model lists mv h kind in
-        let o = opens after in
-        valid_is after
-        ∙ ap (λ b. together b o (fit (is_active after)) (required (is_active after)) (enough (is_active after))) (moves_keep_lists model well lists mv (are-lists model lists valid) h)
-        ∙ ap (λ f. together true o (fit f) (required f) (enough f)) active
-        ∙ ap (λ b. together true o b (required (is_active lists)) (enough (is_active lists))) known.fits
-        ∙ ap (λ b. together true o true b (enough (is_active lists))) known.needed
-        ∙ ap (λ b. together true o true true b) known.full
-        ∙ only o
+-- a test of what comes to the same, or passed and stays, says the same
+rule_local : {A : Type 0} (p : A → Bool) (before other after later : A) → p before ≡ true → p other ≡ true → ComesToSame before other after later → p after ≡ p later
+rule_local p before other after later passes passes_too (inl same) = ap p same.1
+rule_local p before other after later passes passes_too (inr stay) = ap p stay.0 ∙ passes ∙ sym passes_too ∙ ap p (sym stay.1)
 
-    open_at : (v : ℕ) → v < length lists → is_route_open model v (route lists v) ≡ true
-    open_at v low = list_all_range (λ v. is_route_open model v (route lists v)) 0 (length lists) (keeps lists valid).open_routes v (omega arith) (omega (arith, low))
+module _ (model : Model) (lists other : List (List ℕ)) (mv : Move) (both : Alike model mv lists other) where
+  abbrev after : List (List ℕ)
+  after = apply model lists mv
+
+  abbrev later : List (List ℕ)
+  later = apply model other mv
+
+  local : IsLocal model mv lists other
+  local = is_local model lists other mv both
+
+  opened : (u : ℕ) → u < length lists → is_route_open model u (route after u) ≡ is_route_open model u (route later u)
+  opened u low = rule_local (is_route_open model u) (route lists u) (route other u) (route after u) (route later u)
+      (open_at model lists both.valid u low) (open_at model other both.other_valid u (let many = local.many in omega (arith, low, many))) (local.each u)
+
+  opens_local : opens model after ≡ opens model later
+  opens_local =
+      ap (λ n. list_all (λ u. is_route_open model u (route after u)) (below n)) (as_many model lists mv)
+      ∙ all_same (λ u. is_route_open model u (route after u)) (λ u. is_route_open model u (route later u)) 0 (length lists) (λ u low. opened u (omega (arith, low)))
+      ∙ ap (λ n. list_all (λ u. is_route_open model u (route later u)) (below n)) (local.many ∙ sym (as_many model other mv))
+
+  -- a rule that asks which visits are active
+  by_activity : (p : (ℕ → Bool) → Bool) → p (is_active lists) ≡ true → p (is_active other) ≡ true → p (is_active after) ≡ p (is_active later)
+  by_activity p passes passes_too = rule_local p (is_active lists) (is_active other) (is_active after) (is_active later) passes passes_too local.active
 
 pub validity_is_local : ValidityIsLocal
 validity_is_local model well lists other mv both =
-    let h_other : IsTrue (is_move model other mv) = moves_local model lists other mv both.kind both.agree ∙ both.is_one in
-    let after : List (List ℕ) = apply model lists mv in
-    let later : List (List ℕ) = apply model other mv in
-    let many = both.agree.many in
-    let opened : (u : ℕ) → u < length lists → is_route_open model u (route after u) ≡ is_route_open model u (route later u) = λ u low.
-    elim (each_vehicle model mv lists other both.is_one both.kind both.agree u) [
-      | inl same ↦ ap (is_route_open model u) (alike model lists other mv both.is_one both.kind both.agree u same)
-      | inr stay ↦ ap (is_route_open model u) stay.0 ∙ open_at model well lists both.valid mv both.is_one both.kind u low
-          ∙ sym (open_at model well other both.other_valid mv h_other both.kind u (omega (arith, low, many))) ∙ ap (is_route_open model u) (sym stay.1)
-    ]
-    in
-    valid_after model well lists both.valid mv both.is_one both.kind
-    ∙ ap (λ n. list_all (λ u. is_route_open model u (route after u)) (below n)) (as_many model lists mv)
-    ∙ all_same (λ u. is_route_open model u (route after u)) (λ u. is_route_open model u (route later u)) 0 (length lists) (λ u low. opened u (omega (arith, low)))
-    ∙ ap (λ n. list_all (λ u. is_route_open model u (route later u)) (below n)) (many ∙ sym (as_many model other mv))
-    ∙ sym (valid_after model well other both.other_valid mv h_other both.kind)
+    let h_other : IsTrue (is_move model other mv) = moves_local model lists other mv both.is_one both.kind both.agree ∙ both.is_one in
+    let now : List (List ℕ) = apply model lists mv in
+    let then : List (List ℕ) = apply model other mv in
+    let here = keeps model lists both.valid in
+    let there = keeps model other both.other_valid in
+    let are : are_lists model now ≡ are_lists model then = moves_keep_lists model well lists mv (are-lists model lists both.valid) both.is_one ∙ sym (moves_keep_lists model well other mv (are-lists model other both.other_valid) h_other) in
+    valid_is model now
+    ∙ ap (λ b. together model b (opens model now) (fit model (is_active now)) (required model (is_active now)) (enough model (is_active now))) are
+    ∙ ap (λ b. together model (are_lists model then) b (fit model (is_active now)) (required model (is_active now)) (enough model (is_active now))) (opens_local model lists other mv both)
+    ∙ ap (λ b. together model (are_lists model then) (opens model then) b (required model (is_active now)) (enough model (is_active now))) (by_activity model lists other mv both (fit model) here.fits there.fits)
+    ∙ ap (λ b. together model (are_lists model then) (opens model then) (fit model (is_active then)) b (enough model (is_active now))) (by_activity model lists other mv both (required model) here.needed there.needed)
+    ∙ ap (λ b. together model (are_lists model then) (opens model then) (fit model (is_active then)) (required model (is_active then)) b) (by_activity model lists other mv both (enough model) here.full there.full)
+    ∙ sym (valid_is model then)
 
 pub moves_are_local : MovesAreLocal
-moves_are_local model lists other mv h kind agree = moves_local model lists other mv kind agree
+moves_are_local model lists other mv h kind agree = moves_local model lists other mv h kind agree

@@ -1,7 +1,9 @@
 -- Blocks of moves: those of one kind that name the same vehicles. What is known of blocks.
-use Rattle.std.specs.Prelude.{◌≡◌, ◌≢◌, ℕ, ◌+◌, ◌*◌, ◌<◌, Bool, false, ◌&&◌, ◌||◌, ◌==◌, cond, nat_lt, List, [], ◌∷◌}
-use Rattle.std.specs.Prelude.{slice_index_or, length, Option, Some, None}
-use Rattle.vr_model.specs.routes.Routes.{route}
+use Rattle.std.specs.Prelude.{◌≡◌, ◌≢◌, ℕ, ◌+◌, ◌*◌, ◌<◌, Bool, false, not, ◌&&◌, ◌||◌, ◌==◌, cond, nat_lt, List, [], ◌∷◌}
+use Rattle.std.specs.Prelude.{slice_index_or, length, Option, Some, None, IsTrue}
+use Rattle.vr_model.specs.routes.Routes.{route, holds, is_active}
+use Rattle.vr_model.specs.tables.Tables.{pair_at}
+use Rattle.vr_model.specs.declared.records.Model.{Model}
 use Rattle.vr_model.specs.declared.neighbours.Move.{Move}
 use Rattle.vr_model.specs.declared.neighbours.Move.TheVariants.{TwoOpt, OrOpt, Relocate, Exchange, Cross, RelocatePair}
 use Rattle.vr_model.specs.declared.neighbours.Move.TheVariants.{PairActive, PairInactive, MakeActive, MakeInactive}
@@ -9,7 +11,7 @@ use Rattle.vr_model.specs.declared.neighbours.Move.TheVariants.{SwapActive}
 use Rattle.vr_model.specs.declared.neighbours.Neighbourhood.{Neighbourhood}
 use Rattle.vr_model.specs.declared.neighbours.Neighbourhood.TheVariants as all
 
--- the number of a kind of moves: those below 5 change no activity and name their vehicles
+-- the number of a kind of moves: those below 5 name their vehicles, those below 6 change no activity
 abbrev pub kind_at : Neighbourhood → ℕ
 kind_at all.TwoOpt = 0
 kind_at all.OrOpt = 1
@@ -37,39 +39,64 @@ kind_of (MakeActive u w t) = 8
 kind_of (MakeInactive v a) = 9
 kind_of (SwapActive v a u) = 10
 
--- the first vehicle that a move of a kind below 5 names
+-- the row of a move among those of its kind: of a kind below 5 the first vehicle that it names, of relocate_pair the
+-- pair; all moves of any other kind are one row
 abbrev pub first_of : Move → ℕ
 first_of (TwoOpt v a b) = v
 first_of (OrOpt v a k t) = v
 first_of (Relocate v a w t) = v
 first_of (Exchange v a w b) = v
 first_of (Cross v a w b) = v
-first_of (RelocatePair p w s t) = 0
+first_of (RelocatePair p w s t) = p
 first_of (PairActive p w s t) = 0
 first_of (PairInactive p) = 0
 first_of (MakeActive u w t) = 0
 first_of (MakeInactive v a) = 0
 first_of (SwapActive v a u) = 0
 
--- the second one, which may be the first
+-- the vehicle that a move names last, 0 where it names none
 abbrev pub second_of : Move → ℕ
 second_of (TwoOpt v a b) = v
 second_of (OrOpt v a k t) = v
 second_of (Relocate v a w t) = w
 second_of (Exchange v a w b) = w
 second_of (Cross v a w b) = w
-second_of (RelocatePair p w s t) = 0
-second_of (PairActive p w s t) = 0
+second_of (RelocatePair p w s t) = w
+second_of (PairActive p w s t) = w
 second_of (PairInactive p) = 0
-second_of (MakeActive u w t) = 0
-second_of (MakeInactive v a) = 0
-second_of (SwapActive v a u) = 0
+second_of (MakeActive u w t) = w
+second_of (MakeInactive v a) = v
+second_of (SwapActive v a u) = v
 
--- what is remembered: for each kind and first vehicle, when its moves were last found not to be acceptable; for each
--- vehicle, when its list last changed; and the time
+-- how many rows a kind has at most
+abbrev pub rows_of : ℕ → ℕ
+rows_of kind = cond (nat_lt kind 5) 100 (cond (nat_lt kind 6) 500 1)
+
+-- moves of a kind are remembered: all but those that take a pair out, of which there are as many as pairs at most
+abbrev pub is_remembered : ℕ → Bool
+is_remembered kind = not (kind == 7)
+
+-- a vehicle whose list a move changes, and which is not its second one: the vehicle that serves the pair of
+-- relocate_pair and of pair_inactive, the first one of the others
+abbrev pub IsSource : Model → List (List ℕ) → Move → ℕ → Type 0
+IsSource model lists (TwoOpt v a b) x = x ≡ v
+IsSource model lists (OrOpt v a k t) x = x ≡ v
+IsSource model lists (Relocate v a w t) x = x ≡ v
+IsSource model lists (Exchange v a w b) x = x ≡ v
+IsSource model lists (Cross v a w b) x = x ≡ v
+IsSource model lists (RelocatePair p w s t) x = IsTrue (holds (route lists x) (pair_at model p).pickup)
+IsSource model lists (PairActive p w s t) x = x ≡ w
+IsSource model lists (PairInactive p) x = IsTrue (holds (route lists x) (pair_at model p).pickup)
+IsSource model lists (MakeActive u w t) x = x ≡ w
+IsSource model lists (MakeInactive v a) x = x ≡ v
+IsSource model lists (SwapActive v a u) x = x ≡ v
+
+-- what is remembered: for each row of a kind, when its moves were last found not to be acceptable; for each vehicle,
+-- when its list last changed; when the activity of visits last changed; and the time
 pub record Memory : Type 0 where
   pub seen : List ℕ
   pub changed : List ℕ
+  pub active : ℕ
   pub clock : ℕ
 
 -- one that has no stamps learns nothing
@@ -78,52 +105,70 @@ Learns memory = 0 < length memory.seen
 
 -- what a memory without stamps is
 abbrev pub none : Memory
-none = record { seen = []; changed = []; clock = 0 }
+none = record { seen = []; changed = []; active = 0; clock = 0 }
 
 -- the memory that may be there
 abbrev pub memory_of : Option Memory → Memory
 memory_of None = none
 memory_of (Some memory) = memory
 
--- when the moves of a kind and a first vehicle were last found not to be acceptable
+-- where the stamp of a row of a kind stands
+abbrev pub stamp_of : ℕ → ℕ → ℕ
+stamp_of kind row = cond (nat_lt kind 6) (kind * 100 + row) (1000 + kind)
+
+-- when the moves of a row were last found not to be acceptable
 abbrev pub seen_at : Memory → ℕ → ℕ → ℕ
-seen_at memory kind v = slice_index_or memory.seen (kind * 100 + v) 0
+seen_at memory kind row = slice_index_or memory.seen (stamp_of kind row) 0
 
 -- when the list of a vehicle last changed
 abbrev pub changed_at : Memory → ℕ → ℕ
 changed_at memory v = slice_index_or memory.changed v 0
 
--- the moves of a block were found not to be acceptable after the lists of its vehicles last changed
+-- the moves of a row were found not to be acceptable after the list of a vehicle last changed
+abbrev pub is_later : Memory → ℕ → ℕ → ℕ → Bool
+is_later memory kind row v = nat_lt (changed_at memory v) (seen_at memory kind row)
+
+-- when what the moves of a row have in common last changed: the list of the first vehicle, or which visits are active;
+-- a row of a pair is forgotten once the vehicle that serves the pair has another list
+abbrev pub common_change : Memory → ℕ → ℕ → ℕ
+common_change memory kind row = cond (nat_lt kind 5) (changed_at memory row) (cond (nat_lt kind 6) 0 memory.active)
+
+-- the moves of a block were found not to be acceptable after the last change of anything that they depend on
 abbrev pub is_known : Memory → ℕ → ℕ → ℕ → Bool
-is_known memory kind v w = nat_lt (changed_at memory v) (seen_at memory kind v)
-    && nat_lt (changed_at memory w) (seen_at memory kind v)
+is_known memory kind row w =
+    nat_lt (common_change memory kind row) (seen_at memory kind row) && is_later memory kind row w
 
--- a move changes no activity, and its block is known
+-- the block of a move is known
 abbrev pub covers : Memory → Move → Bool
-covers memory mv = nat_lt (kind_of mv) 5 && is_known memory (kind_of mv) (first_of mv) (second_of mv)
+covers memory mv = is_remembered (kind_of mv) && is_known memory (kind_of mv) (first_of mv) (second_of mv)
 
--- all moves of a kind and a first vehicle stand in front of a move in the list of some neighbourhoods
+-- where the row of a pair is known, the list of the vehicle that serves it has not changed since
+abbrev pub AreSettled : Model → List (List ℕ) → Memory → Type 0
+AreSettled model lists memory = (p w v : ℕ) → p < length model.pairs → IsTrue (is_known memory 5 p w)
+    → IsTrue (holds (route lists v) (pair_at model p).pickup) → IsTrue (is_later memory 5 p v)
+
+-- all moves of a row stand in front of a move in the list of some neighbourhoods
 abbrev pub is_behind : List Neighbourhood → ℕ → ℕ → Move → Bool
-is_behind [] kind v mv = false
-is_behind (n ∷ ns) kind v mv = cond (kind_at n == kind_of mv)
-    ((kind == kind_of mv) && nat_lt v (first_of mv))
-    ((kind == kind_at n) || is_behind ns kind v mv)
+is_behind [] kind row mv = false
+is_behind (n ∷ ns) kind row mv = cond (kind_at n == kind_of mv)
+    ((kind == kind_of mv) && nat_lt row (first_of mv))
+    ((kind == kind_at n) || is_behind ns kind row mv)
 
 -- some neighbourhood of a list has moves of a kind
 abbrev pub is_kind_of : List Neighbourhood → ℕ → Bool
 is_kind_of [] kind = false
 is_kind_of (n ∷ ns) kind = (kind == kind_at n) || is_kind_of ns kind
 
--- two lists have the same lists for the vehicles of a move
-pub record Agree (mv : Move) (lists other : List (List ℕ)) : Type 0 where
+-- two lists have the same lists for the vehicles of a move, and the same active visits where it changes these
+pub record Agree (model : Model) (mv : Move) (lists other : List (List ℕ)) : Type 0 where
   pub many : length lists ≡ length other
-  pub first : route lists (first_of mv) ≡ route other (first_of mv)
+  pub source : (v : ℕ) → IsSource model lists mv v → route lists v ≡ route other v
   pub second : route lists (second_of mv) ≡ route other (second_of mv)
+  pub active : 5 < kind_of mv → is_active lists ≡ is_active other
 
--- a move of one of five kinds names neither of two vehicles
-pub record IsApart (mv : Move) (u w : ℕ) : Type 0 where
-  pub kind : kind_of mv < 5
-  pub first_is : u ≢ first_of mv
-  pub first_is_second : u ≢ second_of mv
-  pub second_is_first : w ≢ first_of mv
-  pub second_is : w ≢ second_of mv
+-- a move of lists is not one of those that a move changed which was made before: its vehicles are others than two, and
+-- where it changes activity, that one did not
+pub record IsApart (model : Model) (lists : List (List ℕ)) (made : Move) (first second : ℕ) (mv : Move) : Type 0 where
+  pub source : (v : ℕ) → IsSource model lists mv v → (v ≢ first) × (v ≢ second)
+  pub target : (second_of mv ≢ first) × (second_of mv ≢ second)
+  pub active : 5 < kind_of mv → kind_of made < 6

@@ -1,6 +1,6 @@
-//! The kind of a move and the vehicles that it names, as numbers.
+//! The kind of a move and its row among those of its kind, as numbers.
 
-ghost use Rattle.std.specs.Prelude.{◌≡◌};
+ghost use Rattle.std.specs.Prelude.{◌≡◌, ◌<◌};
 ghost use Rattle.vr_known.specs.Blocks as blocks;
 
 use vr_model::{Move, Neighbourhood};
@@ -8,7 +8,8 @@ use vr_model::{Move, Neighbourhood};
 /// The number of a kind of moves.
 #[inline(always)]
 pub(crate) fn kind_at(neighbourhood: Neighbourhood) -> u32
-    ensures { result ≡ blocks.kind_at neighbourhood }
+    ensures value { result ≡ blocks.kind_at neighbourhood }
+    ensures few { result < 11 }
 {
     match neighbourhood {
         Neighbourhood::TwoOpt => 0,
@@ -44,7 +45,8 @@ pub(crate) fn kind_of(mv: Move) -> u32
     }
 }
 
-/// The first vehicle that a move of a kind below 5 names, 0 of other moves.
+/// The row of a move among those of its kind: of a kind below 5 the first vehicle that it names, of `RelocatePair` the
+/// pair. All moves of any other kind are row 0.
 pub(crate) fn first_of(mv: Move) -> u32
     ensures { result ≡ blocks.first_of mv }
 {
@@ -54,20 +56,34 @@ pub(crate) fn first_of(mv: Move) -> u32
         Move::Relocate { v, .. } => v,
         Move::Exchange { v, .. } => v,
         Move::Cross { v, .. } => v,
+        Move::RelocatePair { p, .. } => p,
         _ => 0,
     }
 }
 
-/// The second one, which may be the first; 0 of other moves.
-pub(crate) fn second_of(mv: Move) -> u32
-    ensures { result ≡ blocks.second_of mv }
+/// How many rows a kind has at most.
+#[inline(always)]
+pub(crate) fn rows_of(kind: u32) -> u32
+    ensures { result ≡ blocks.rows_of kind }
 {
-    match mv {
-        Move::TwoOpt { v, .. } => v,
-        Move::OrOpt { v, .. } => v,
-        Move::Relocate { w, .. } => w,
-        Move::Exchange { w, .. } => w,
-        Move::Cross { w, .. } => w,
-        _ => 0,
+    if kind < 5 {
+        return 100;
     }
+    if kind < 6 { 500 } else { 1 }
+}
+
+/// Where the stamp of a row of a kind stands.
+#[inline(always)]
+pub(crate) fn stamp_of(kind: u32, row: u32) -> usize
+    requires kind { kind < 11 }
+    requires row { row < blocks.rows_of kind }
+    ensures value { result ≡ blocks.stamp_of kind row }
+    ensures within { result < 1011 }
+{
+    let place = if kind < 6 {
+        kind * 100 + row
+    } else {
+        1000 + kind
+    };
+    place as usize
 }

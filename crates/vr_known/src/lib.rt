@@ -20,7 +20,9 @@ mod memory;
 pub mod nests;
 mod sieve;
 mod stamps;
+mod touched;
 
 pub use laws::{cost_is_local, moves_are_local, validity_is_local};
 pub use memory::Known;
 pub use sieve::Sieve;
+pub use touched::Touched;

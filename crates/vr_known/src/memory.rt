@@ -1,16 +1,21 @@
 //! Which moves are known to be refused.
 
 ghost use Rattle.std.specs.Prelude.{◌≡◌, ℕ, ◌⊎◌, ◌<◌, false, IsTrue};
-ghost use Rattle.vr_known.specs.Blocks.{IsApart, Learns, first_of, is_behind, is_kind_of, is_known, kind_at, second_of};
+ghost use Rattle.vr_known.specs.Blocks.{AreSettled, IsApart, Learns, covers, first_of, is_behind, is_kind_of};
+ghost use Rattle.vr_known.specs.Blocks.{is_known, is_later, is_remembered, kind_at, kind_of, rows_of};
 ghost use Rattle.vr_known.specs.Locality.{HasNoGlobalSpans};
+ghost use Rattle.vr_model.specs.moves.MoveTests.{is_move};
+ghost use Rattle.vr_model.specs.tables.WellFormed.{IsWellFormed};
+ghost use Rattle.vr_model.specs.declared.neighbours.Move.{Move as Moved};
 
-use crate::blocks;
 use crate::stamps::Stamps;
+use crate::{Touched, blocks};
 use std::marker::Model;
 use vr_model::{Model as RoutingModel, Move, Neighbourhood};
+use vr_routes::Routes;
 
-/// What is known of moves: those of some kinds and vehicles were refused, and the lists of these vehicles have not
-/// changed since. It takes no memory.
+/// What is known of moves: those of some rows and vehicles were refused, and nothing on which they depend has changed
+/// since: the lists of their vehicles, and which visits are active where they change that. It takes no memory.
 #[derive(Drop)]
 pub struct Known {
     // none where nothing is ever learned
@@ -49,12 +54,13 @@ impl Known {
         }
     }
 
-    /// Whether no move of a neighbourhood that names these vehicles is acceptable, as far as is known. The
-    /// neighbourhood is one of the five whose moves name their vehicles and change no activity.
+    /// Whether no move of a neighbourhood, of a row and of the vehicle that it names last is acceptable, as far as is
+    /// known. The row is the first vehicle where moves change one list or two that they name and no activity, the pair
+    /// where it is put elsewhere, and else 0. Of the moves that take a pair out nothing is known.
     #[inline(always)]
     pub fn has(&self, neighbourhood: Neighbourhood, v: u32, w: u32) -> bool
-        requires kind { kind_at neighbourhood < 5 }
-        requires first { v < 100 }
+        requires kind { IsTrue (is_remembered (kind_at neighbourhood)) }
+        requires first { v < rows_of (kind_at neighbourhood) }
         requires second { w < 100 }
         ensures { result ≡ is_known self.now (kind_at neighbourhood) v w }
     {
@@ -66,8 +72,8 @@ impl Known {
 
     /// The moves in front of one were refused, in the list of the moves of some neighbourhoods.
     pub fn note(&mut self, neighbourhoods: &[Neighbourhood], mv: Move)
-        requires first { first_of mv < 100 }
-        ensures learned { (k u w : ℕ) → u < 100 → IsTrue (is_known self.new k u w)
+        requires first { first_of mv < rows_of (kind_of mv) }
+        ensures learned { (k u w : ℕ) → u < rows_of k → IsTrue (is_known self.new k u w)
             → IsTrue (is_known self.old k u w) ⊎ IsTrue (is_behind neighbourhoods.now k u mv) }
         ensures learns { Learns self.new → Learns self.old }
     {
@@ -80,7 +86,7 @@ impl Known {
 
     /// All moves of some neighbourhoods were refused.
     pub fn note_all(&mut self, neighbourhoods: &[Neighbourhood])
-        ensures learned { (k u w : ℕ) → u < 100 → IsTrue (is_known self.new k u w)
+        ensures learned { (k u w : ℕ) → u < rows_of k → IsTrue (is_known self.new k u w)
             → IsTrue (is_known self.old k u w) ⊎ IsTrue (is_kind_of neighbourhoods.now k) }
         ensures learns { Learns self.new → Learns self.old }
     {
@@ -91,28 +97,32 @@ impl Known {
         }
     }
 
-    /// A move was made: those moves stay known that name no vehicle whose list it changes.
-    pub fn change(&mut self, mv: Move)
-        requires first { first_of mv < 100 }
-        requires second { second_of mv < 100 }
+    /// A move was made, and `routes` are those after it: those moves stay known that name no vehicle whose list it
+    /// changed, and which change no activity where it did.
+    pub fn change(&mut self, model: &RoutingModel, routes: &Routes, mv: Move, touched: Touched)
+        requires well_formed { IsWellFormed model.now }
+        requires first { touched.first < 100 }
+        requires second { touched.second < 100 }
         ensures fewer { (k u w : ℕ) → IsTrue (is_known self.new k u w) → IsTrue (is_known self.old k u w) }
-        ensures apart { (k u w : ℕ) → u < 100 → IsTrue (is_known self.new k u w) → IsApart mv u w }
+        ensures apart { (m : Moved) → IsTrue (is_move model.now routes.now.lists m) → IsTrue (covers self.new m)
+            → IsApart model.now routes.now.lists mv touched.first touched.second m }
         ensures known { (k u w : ℕ) → IsTrue (is_known self.new k u w) → Learns self.new }
         ensures learns { Learns self.new → Learns self.old }
     {
         if let Some(stamps) = &mut self.stamps {
             stamps.know_room();
-            stamps.change(mv);
+            stamps.change(model, routes, mv, touched);
             stamps.know_room();
         }
     }
 
-    /// Something else than its list changed of a vehicle: those moves stay known that do not name it.
+    /// Something else than its list changed of a vehicle: those moves stay known that do not name it, but for those of
+    /// pairs that it serves, which are forgotten by [`Known::settle`].
     pub fn forget(&mut self, v: u32)
         requires vehicle { v < 100 }
         ensures fewer { (k u w : ℕ) → IsTrue (is_known self.new k u w) → IsTrue (is_known self.old k u w) }
-        ensures first { (k w : ℕ) → is_known self.new k v w ≡ false }
-        ensures second { (k u : ℕ) → is_known self.new k u v ≡ false }
+        ensures earlier { (k u w : ℕ) → IsTrue (is_later self.new k u w) → IsTrue (is_later self.old k u w) }
+        ensures changes { (k u : ℕ) → is_later self.new k u v ≡ false }
         ensures known { (k u w : ℕ) → IsTrue (is_known self.new k u w) → Learns self.new }
         ensures learns { Learns self.new → Learns self.old }
     {
@@ -120,6 +130,21 @@ impl Known {
             stamps.know_room();
             stamps.forget(v);
             stamps.go_on();
+            stamps.know_room();
+        }
+    }
+
+    /// Moves of pairs are forgotten whose vehicle changed since they were refused.
+    pub fn settle(&mut self, model: &RoutingModel, routes: &Routes)
+        requires well_formed { IsWellFormed model.now }
+        ensures fewer { (k u w : ℕ) → IsTrue (is_known self.new k u w) → IsTrue (is_known self.old k u w) }
+        ensures earlier { (k u w : ℕ) → IsTrue (is_later self.new k u w) → IsTrue (is_later self.old k u w) }
+        ensures settled { AreSettled model.now routes.now.lists self.new }
+        ensures learns { Learns self.new → Learns self.old }
+    {
+        if let Some(stamps) = &mut self.stamps {
+            stamps.know_room();
+            stamps.settle(model, routes);
             stamps.know_room();
         }
     }

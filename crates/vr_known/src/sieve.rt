@@ -3,7 +3,7 @@
 ghost use Rattle.std.specs.Prelude.{◌≡◌, ℕ, ◌<◌, ◌≤◌, IfSome, IsTrue};
 ghost use Rattle.vr_model.specs.declared.neighbours.Move.{Move as Moved};
 ghost use Rattle.vr_routes.specs.Runs.{with_last};
-ghost use Rattle.vr_known.specs.Blocks.{covers, kind_at};
+ghost use Rattle.vr_known.specs.Blocks.{covers, is_remembered, kind_at, rows_of};
 ghost use Rattle.vr_known.specs.Passing.{CoversBlock};
 
 use crate::Known;
@@ -17,12 +17,12 @@ pub trait Sieve {
     /// What is known of a move that is passed over.
     ghost covers: { Self → Moved → Type 0 };
 
-    /// Whether all moves of a neighbourhood that name these vehicles can be passed over. The neighbourhood is one of
-    /// the five whose moves name their vehicles and change no activity.
+    /// Whether all moves of a neighbourhood, of a row and of the vehicle that they name last can be passed over, as
+    /// [`Known::has`] says of rows.
     fn has(&self, neighbourhood: Neighbourhood, v: u32, w: u32) -> bool
         requires ready { is_ready self.now }
-        requires kind { kind_at neighbourhood < 5 }
-        requires first { v < 100 }
+        requires kind { IsTrue (is_remembered (kind_at neighbourhood)) }
+        requires first { v < rows_of (kind_at neighbourhood) }
         requires second { w < 100 }
         ensures { IsTrue result → CoversBlock (covers self.now) (kind_at neighbourhood) v w };
 

@@ -1,19 +1,27 @@
-//! When moves were refused, and when lists changed.
+//! When moves were refused, and when lists and activity changed.
 
-ghost use Rattle.std.specs.Prelude.{◌≡◌, ℕ, ◌⊎◌, ◌<◌, ◌≤◌, false, IsTrue, slice_index_or};
-ghost use Rattle.vr_known.specs.Blocks.{IsApart, Learns, first_of, is_behind, is_kind_of, is_known, second_of};
+ghost use Rattle.std.specs.Prelude.{◌≡◌, ℕ, ◌⊎◌, ◌<◌, ◌≤◌, false, IsTrue, length, slice_index_or};
+ghost use Rattle.vr_known.specs.Blocks.{AreSettled, IsApart, Learns, common_change, covers, first_of, is_behind};
+ghost use Rattle.vr_known.specs.Blocks.{is_kind_of, is_known, is_later, kind_of, rows_of};
+ghost use Rattle.vr_model.specs.moves.MoveTests.{is_move};
+ghost use Rattle.vr_model.specs.tables.WellFormed.{IsWellFormed};
+ghost use Rattle.vr_model.specs.declared.neighbours.Move.{Move as Moved};
 
-use crate::blocks::{first_of, kind_at, kind_of, second_of};
+use crate::Touched;
+use crate::blocks::{first_of, kind_at, kind_of, rows_of, stamp_of};
 use std::marker::Model;
-use vr_model::{Move, Neighbourhood};
+use vr_model::{Model as RoutingModel, Move, Neighbourhood};
+use vr_routes::Routes;
 
 /// A clock, and what was stamped with it.
 #[derive(Drop)]
 pub(crate) struct Stamps {
-    // For each kind and first vehicle, when its moves were last refused.
-    seen: [u64; 500],
+    // For each row of a kind, when its moves were last refused.
+    seen: [u64; 1011],
     // For each vehicle, when its list last changed.
     changed: [u64; 100],
+    // When it last changed which visits are active.
+    active: u64,
     clock: u64,
 }
 
@@ -23,7 +31,7 @@ impl Model for Stamps {
 
     ghost Value = { Memory };
 
-    ghost view = { λ s. record { seen = s.seen; changed = s.changed; clock = s.clock } };
+    ghost view = { λ s. record { seen = s.seen; changed = s.changed; active = s.active; clock = s.clock } };
 
     ghost invariant = { λ s. (i : ℕ) → slice_index_or s.seen i 0 ≤ s.clock };
 }
@@ -31,11 +39,12 @@ impl Model for Stamps {
 impl Stamps {
     /// No moves were refused.
     pub(crate) fn new() -> Stamps
-        ensures { (kind v w : ℕ) → is_known result kind v w ≡ false }
+        ensures { (kind row w : ℕ) → is_known result kind row w ≡ false }
     {
         Stamps {
             seen: unseen(),
             changed: [0; 100],
+            active: 0,
             clock: 1,
         }
     }
@@ -48,71 +57,77 @@ impl Stamps {
         let _ = &self.seen;
     }
 
-    /// Whether the moves of a kind that name these vehicles were refused, and the lists of both have not changed since.
+    /// Whether the moves of a row and a vehicle were refused, and nothing on which they depend has changed since.
     #[inline(always)]
-    pub(crate) fn has(&self, kind: u32, v: u32, w: u32) -> bool
-        requires kind { kind < 5 }
-        requires first { v < 100 }
+    pub(crate) fn has(&self, kind: u32, row: u32, w: u32) -> bool
+        requires kind { kind < 11 }
+        requires row { row < rows_of kind }
         requires second { w < 100 }
-        ensures { result ≡ is_known self.now kind v w }
+        ensures { result ≡ is_known self.now kind row w }
     {
-        let seen = self.seen[(kind * 100 + v) as usize];
-        self.changed[v as usize] < seen && self.changed[w as usize] < seen
+        let seen = self.seen[stamp_of(kind, row)];
+        self.common_change(kind, row) < seen && self.changed[w as usize] < seen
     }
 
-    // The moves of a kind and a first vehicle were refused.
-    fn learn(&mut self, kind: u32, v: u32)
-        requires kind { kind < 5 }
-        requires first { v < 100 }
-        ensures { (k u w : ℕ) → u < 100 → IsTrue (is_known self.new k u w)
-            → IsTrue (is_known self.old k u w) ⊎ ((k ≡ kind) × (u ≡ v)) }
+    // When what the moves of a row have in common last changed.
+    #[inline(always)]
+    fn common_change(&self, kind: u32, row: u32) -> u64
+        requires row { row < rows_of kind }
+        ensures { result ≡ common_change self.now kind row }
     {
-        self.seen[(kind * 100 + v) as usize] = self.clock;
+        if kind < 5 {
+            return self.changed[row as usize];
+        }
+        if kind < 6 { 0 } else { self.active }
     }
 
-    // So were those of a kind and all vehicles below one.
+    // The moves of a row were refused.
+    fn learn(&mut self, kind: u32, row: u32)
+        requires kind { kind < 11 }
+        requires row { row < rows_of kind }
+        ensures { (k u w : ℕ) → u < rows_of k → IsTrue (is_known self.new k u w)
+            → IsTrue (is_known self.old k u w) ⊎ ((k ≡ kind) × (u ≡ row)) }
+    {
+        self.seen[stamp_of(kind, row)] = self.clock;
+    }
+
+    // So were those of a kind and all rows below one.
     fn learn_below(&mut self, kind: u32, end: u32)
-        requires kind { kind < 5 }
-        requires end { end ≤ 100 }
-        ensures { (k u w : ℕ) → u < 100 → IsTrue (is_known self.new k u w)
+        requires kind { kind < 11 }
+        requires end { end ≤ rows_of kind }
+        ensures { (k u w : ℕ) → u < rows_of k → IsTrue (is_known self.new k u w)
             → IsTrue (is_known self.old k u w) ⊎ ((k ≡ kind) × (u < end)) }
     {
-        for v in 0..end {
-            self.learn(kind, v);
+        for row in 0..end {
+            self.learn(kind, row);
         }
     }
 
     /// The moves in front of one were refused, in the list of the moves of some neighbourhoods.
     pub(crate) fn note(&mut self, neighbourhoods: &[Neighbourhood], mv: Move)
-        requires first { first_of mv < 100 }
-        ensures { (k u w : ℕ) → u < 100 → IsTrue (is_known self.new k u w)
+        requires first { first_of mv < rows_of (kind_of mv) }
+        ensures { (k u w : ℕ) → u < rows_of k → IsTrue (is_known self.new k u w)
             → IsTrue (is_known self.old k u w) ⊎ IsTrue (is_behind neighbourhoods.now k u mv) }
     {
         let last = kind_of(mv);
         for k in 0..neighbourhoods.len() {
             let kind = kind_at(neighbourhoods[k]);
             if kind == last {
-                if kind < 5 {
-                    self.learn_below(kind, first_of(mv));
-                }
+                self.learn_below(kind, first_of(mv));
                 return;
             }
-            if kind < 5 {
-                self.learn_below(kind, 100);
-            }
+            self.learn_below(kind, rows_of(kind));
         }
     }
 
     /// All moves of some neighbourhoods were refused.
     pub(crate) fn note_all(&mut self, neighbourhoods: &[Neighbourhood])
-        ensures { (k u w : ℕ) → u < 100 → IsTrue (is_known self.new k u w)
+        ensures { (k u w : ℕ) → u < rows_of k → IsTrue (is_known self.new k u w)
             → IsTrue (is_known self.old k u w) ⊎ IsTrue (is_kind_of neighbourhoods.now k) }
     {
         for k in 0..neighbourhoods.len() {
             let kind = kind_at(neighbourhoods[k]);
-            if kind < 5 {
-                self.learn_below(kind, 100);
-            }
+            self.learn_below(kind, rows_of(kind));
         }
     }
 
@@ -120,49 +135,105 @@ impl Stamps {
     pub(crate) fn forget(&mut self, v: u32)
         requires vehicle { v < 100 }
         ensures fewer { (k u w : ℕ) → IsTrue (is_known self.new k u w) → IsTrue (is_known self.old k u w) }
-        ensures first { (k w : ℕ) → is_known self.new k v w ≡ false }
-        ensures second { (k u : ℕ) → is_known self.new k u v ≡ false }
+        ensures earlier { (k u w : ℕ) → IsTrue (is_later self.new k u w) → IsTrue (is_later self.old k u w) }
+        ensures changes { (k u : ℕ) → is_later self.new k u v ≡ false }
     {
         self.changed[v as usize] = self.clock;
     }
 
-    /// The lists of all vehicles change now.
-    pub(crate) fn forget_all(&mut self)
+    // Other visits are active now.
+    fn forget_active(&mut self)
         ensures fewer { (k u w : ℕ) → IsTrue (is_known self.new k u w) → IsTrue (is_known self.old k u w) }
-        ensures none { (k u w : ℕ) → u < 100 → is_known self.new k u w ≡ false }
+        ensures earlier { (k u w : ℕ) → IsTrue (is_later self.new k u w) → IsTrue (is_later self.old k u w) }
+        ensures changes { (k u w : ℕ) → 5 < k → is_known self.new k u w ≡ false }
     {
-        for v in 0..100 {
-            self.forget(v);
-        }
+        self.active = self.clock;
     }
 
     /// What is refused from now on is refused after all changes so far.
     pub(crate) fn go_on(&mut self)
-        ensures { (k u w : ℕ) → is_known self.new k u w ≡ is_known self.old k u w }
+        ensures known { (k u w : ℕ) → is_known self.new k u w ≡ is_known self.old k u w }
+        ensures later { (k u w : ℕ) → is_later self.new k u w ≡ is_later self.old k u w }
     {
         self.clock = self.clock.saturating_add(1);
     }
 
-    /// The lists of the vehicles that a move names change, where it changes no activity, and else all lists.
-    pub(crate) fn change(&mut self, mv: Move)
-        requires first { first_of mv < 100 }
-        requires second { second_of mv < 100 }
+    /// A move was made, and `routes` are those after it: the lists of the vehicles that it touched changed, and where it
+    /// is of a kind that changes activity, so did that.
+    pub(crate) fn change(
+        &mut self,
+        model: &RoutingModel,
+        routes: &Routes,
+        mv: Move,
+        touched: Touched,
+    )
+        requires well_formed { IsWellFormed model.now }
+        requires first { touched.first < 100 }
+        requires second { touched.second < 100 }
         ensures fewer { (k u w : ℕ) → IsTrue (is_known self.new k u w) → IsTrue (is_known self.old k u w) }
-        ensures apart { (k u w : ℕ) → u < 100 → IsTrue (is_known self.new k u w) → IsApart mv u w }
+        ensures apart { (m : Moved) → IsTrue (is_move model.now routes.now.lists m) → IsTrue (covers self.new m)
+            → IsApart model.now routes.now.lists mv touched.first touched.second m }
     {
-        if kind_of(mv) < 5 {
-            self.forget(first_of(mv));
-            self.forget(second_of(mv));
-        } else {
-            self.forget_all();
+        self.stamp(mv, touched);
+        self.settle(model, routes);
+    }
+
+    // The lists of two vehicles change now, and activity where a move changes it.
+    fn stamp(&mut self, mv: Move, touched: Touched)
+        requires first { touched.first < 100 }
+        requires second { touched.second < 100 }
+        ensures fewer { (k u w : ℕ) → IsTrue (is_known self.new k u w) → IsTrue (is_known self.old k u w) }
+        ensures first { (k u : ℕ) → is_later self.new k u touched.first ≡ false }
+        ensures second { (k u : ℕ) → is_later self.new k u touched.second ≡ false }
+        ensures active { (k u w : ℕ) → 5 < k → IsTrue (is_known self.new k u w) → kind_of mv < 6 }
+    {
+        self.forget(touched.first);
+        self.forget(touched.second);
+        if kind_of(mv) > 5 {
+            self.forget_active();
         }
         self.go_on();
+    }
+
+    /// The row of each pair is forgotten whose vehicle has another list than when the row was refused.
+    pub(crate) fn settle(&mut self, model: &RoutingModel, routes: &Routes)
+        requires well_formed { IsWellFormed model.now }
+        ensures fewer { (k u w : ℕ) → IsTrue (is_known self.new k u w) → IsTrue (is_known self.old k u w) }
+        ensures earlier { (k u w : ℕ) → IsTrue (is_later self.new k u w) → IsTrue (is_later self.old k u w) }
+        ensures settled { AreSettled model.now routes.now.lists self.new }
+    {
+        routes.know_once();
+        let _few = routes.vehicles();
+        for p in 0..model.pairs.len() {
+            let pair = model.pairs.get(p);
+            match routes.vehicle_of(pair.pickup) {
+                Some(v) => self.settle_pair(p as u32, v),
+                None => {}
+            }
+        }
+    }
+
+    // The row of a pair is forgotten where the list of a vehicle has changed since.
+    fn settle_pair(&mut self, p: u32, v: u32)
+        requires pair { p < 500 }
+        requires vehicle { v < 100 }
+        ensures fewer { (k u w : ℕ) → IsTrue (is_known self.new k u w) → IsTrue (is_known self.old k u w) }
+        ensures earlier { (k u w : ℕ) → IsTrue (is_later self.new k u w) → IsTrue (is_later self.old k u w) }
+        ensures keeps { (k u w x : ℕ) → IsTrue (is_known self.new k u w) → IsTrue (is_later self.old k u x)
+            → IsTrue (is_later self.new k u x) }
+        ensures settled { (w : ℕ) → IsTrue (is_known self.new 5 p w) → IsTrue (is_later self.new 5 p v) }
+    {
+        let place = stamp_of(5, p);
+        if self.changed[v as usize] < self.seen[place] {
+            return;
+        }
+        self.seen[place] = 0;
     }
 }
 
 // No stamps.
-fn unseen() -> [u64; 500]
+fn unseen() -> [u64; 1011]
     ensures { (i : ℕ) → slice_index_or result i 0 ≡ 0 }
 {
-    [0; 500]
+    [0; 1011]
 }

@@ -2,7 +2,7 @@
 
 ghost use Rattle.std.specs.Prelude.{◌≡◌, ⊤, ℕ, ◌≤◌, suc, true, length, slice_index, map};
 ghost use Rattle.std.specs.Iterator.{YieldsFirst, item_count};
-ghost use Rattle.vr_known.specs.Passing.{Takes};
+ghost use Rattle.vr_known.specs.Passing.{ArePassed, Takes};
 ghost use Rattle.vr_model.specs.tables.Numbers.{each};
 ghost use Rattle.vr_model.specs.tables.Tables.{visits};
 ghost use Rattle.vr_model.specs.routes.Routes.{route, vehicles};
@@ -14,7 +14,7 @@ ghost use Rattle.vr_model.specs.declared.neighbours.Neighbourhood.TheVariants.{M
 use std::marker::Model;
 use vr_known::Sieve;
 use vr_known::nests::{Each, Family, Listed, Numbered, Run, next_of};
-use vr_model::Move;
+use vr_model::{Move, Neighbourhood};
 use vr_routes::Routes;
 
 // The places of `w` before which `u` may be put.
@@ -79,6 +79,15 @@ impl<'a> Family for Targets<'a> {
     #[inline]
     fn open(&self, k: u32) -> Option<Run<Gaps>> {
         Some(Run::new(Gaps { u: self.u, w: k }, 0, self.routes.len(k) + 1))
+    }
+
+    #[inline]
+    fn passed<S: Sieve>(&self, k: u32, sieve: &S) -> Option<u64> {
+        let _few = self.routes.vehicles();
+        if sieve.has(Neighbourhood::MakeActive, 0, k) {
+            return Some(self.routes.len(k) as u64 + 1);
+        }
+        None
     }
 }
 

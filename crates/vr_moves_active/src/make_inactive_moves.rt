@@ -2,7 +2,7 @@
 
 ghost use Rattle.std.specs.Prelude.{◌≡◌, ⊤, ℕ, true, length, map};
 ghost use Rattle.std.specs.Iterator.{YieldsFirst, item_count};
-ghost use Rattle.vr_known.specs.Passing.{Takes};
+ghost use Rattle.vr_known.specs.Passing.{ArePassed, Takes};
 ghost use Rattle.vr_model.specs.routes.Routes.{route};
 ghost use Rattle.vr_model.specs.moves.Moves.{places, moves_in};
 ghost use Rattle.vr_model.specs.declared.records.Model.{Model as Defined};
@@ -12,7 +12,7 @@ ghost use Rattle.vr_model.specs.declared.neighbours.Neighbourhood.TheVariants.{M
 use std::marker::Model;
 use vr_known::Sieve;
 use vr_known::nests::{Each, Family, Listed, Numbered, Run, next_of};
-use vr_model::Move;
+use vr_model::{Move, Neighbourhood};
 use vr_routes::Routes;
 
 // The places of `v`.
@@ -61,6 +61,15 @@ impl<'a> Family for Vehicles<'a> {
     #[inline]
     fn open(&self, k: u32) -> Option<Run<Places>> {
         Some(Run::new(Places { v: k }, 0, self.routes.len(k)))
+    }
+
+    #[inline]
+    fn passed<S: Sieve>(&self, k: u32, sieve: &S) -> Option<u64> {
+        let _few = self.routes.vehicles();
+        if sieve.has(Neighbourhood::MakeInactive, 0, k) {
+            return Some(self.routes.len(k) as u64);
+        }
+        None
     }
 }
 

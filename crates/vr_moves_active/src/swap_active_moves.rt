@@ -1,8 +1,8 @@
 //! Inactive visits that take the place of nodes.
 
-ghost use Rattle.std.specs.Prelude.{◌≡◌, ⊤, ℕ, ◌≤◌, true, length, slice_index, map};
+ghost use Rattle.std.specs.Prelude.{◌≡◌, ⊤, ℕ, ◌<◌, ◌≤◌, true, length, slice_index, map};
 ghost use Rattle.std.specs.Iterator.{YieldsFirst, item_count};
-ghost use Rattle.vr_known.specs.Passing.{Takes};
+ghost use Rattle.vr_known.specs.Passing.{ArePassed, Takes};
 ghost use Rattle.vr_model.specs.tables.Numbers.{each};
 ghost use Rattle.vr_model.specs.tables.Tables.{visits};
 ghost use Rattle.vr_model.specs.routes.Routes.{route};
@@ -14,7 +14,7 @@ ghost use Rattle.vr_model.specs.declared.neighbours.Neighbourhood.TheVariants.{S
 use std::marker::Model;
 use vr_known::Sieve;
 use vr_known::nests::{Each, Family, Listed, Numbered, Run, next_of};
-use vr_model::Move;
+use vr_model::{Move, Neighbourhood};
 use vr_routes::Routes;
 
 // The inactive visits that may take the place of the node at place `a` of `v`.
@@ -59,7 +59,7 @@ struct Places<'a> {
 impl<'a> Family for Places<'a> {
     type Inner = Run<Newcomers<'a>>;
 
-    ghost is_sound = { λ s. length s.nodes.now ≤ 1000 };
+    ghost is_sound = { λ s. (length s.nodes.now ≤ 1000) × (s.v < 100) };
 
     ghost count = { λ s. 4294967296 };
 
@@ -75,6 +75,14 @@ impl<'a> Family for Places<'a> {
             nodes: self.nodes,
         };
         Some(Run::new(newcomers, 0, self.nodes.len() as u32))
+    }
+
+    #[inline]
+    fn passed<S: Sieve>(&self, _k: u32, sieve: &S) -> Option<u64> {
+        if sieve.has(Neighbourhood::SwapActive, 0, self.v) {
+            return Some(self.nodes.len() as u64);
+        }
+        None
     }
 }
 
@@ -98,6 +106,7 @@ impl<'a> Family for Vehicles<'a> {
 
     #[inline]
     fn open(&self, k: u32) -> Option<Each<Places<'a>>> {
+        let _few = self.routes.vehicles();
         let places = Places {
             v: k,
             nodes: self.nodes,

@@ -1,8 +1,8 @@
 //! Inactive pairs that are put in.
 
-ghost use Rattle.std.specs.Prelude.{◌≡◌, ⊤, ℕ, ◌≤◌, suc, true, length, map};
+ghost use Rattle.std.specs.Prelude.{◌≡◌, ⊤, ℕ, ◌<◌, ◌≤◌, suc, true, length, map};
 ghost use Rattle.std.specs.Iterator.{YieldsFirst, item_count};
-ghost use Rattle.vr_known.specs.Passing.{Takes};
+ghost use Rattle.vr_known.specs.Passing.{ArePassed, Takes};
 ghost use Rattle.vr_model.specs.tables.Numbers.{each, from_to};
 ghost use Rattle.vr_model.specs.routes.Routes.{route, vehicles};
 ghost use Rattle.vr_model.specs.moves.Moves.{gaps, is_pair_inactive, moves_in};
@@ -13,7 +13,7 @@ ghost use Rattle.vr_model.specs.declared.neighbours.Neighbourhood.TheVariants.{P
 use std::marker::Model;
 use vr_known::Sieve;
 use vr_known::nests::{Each, Family, Listed, Numbered, Run, next_of};
-use vr_model::{Model as RoutingModel, Move};
+use vr_model::{Model as RoutingModel, Move, Neighbourhood};
 use vr_routes::{Routes, is_pair_inactive};
 
 // The places of `w` before which the delivery may be put, where the pickup is put before place `s`.
@@ -70,7 +70,7 @@ struct Pickups {
 impl Family for Pickups {
     type Inner = Run<Deliveries>;
 
-    ghost is_sound = { λ s. s.n ≤ 1000 };
+    ghost is_sound = { λ s. (s.n ≤ 1000) × (s.w < 100) };
 
     ghost count = { λ s. suc s.n };
 
@@ -86,6 +86,14 @@ impl Family for Pickups {
             s: k,
         };
         Some(Run::new(deliveries, k, self.n + 1))
+    }
+
+    #[inline]
+    fn passed<S: Sieve>(&self, k: u32, sieve: &S) -> Option<u64> {
+        if sieve.has(Neighbourhood::PairActive, 0, self.w) {
+            return Some((self.n + 1 - k) as u64);
+        }
+        None
     }
 }
 
@@ -110,6 +118,7 @@ impl<'a> Family for Targets<'a> {
 
     #[inline]
     fn open(&self, k: u32) -> Option<Each<Pickups>> {
+        let _few = self.routes.vehicles();
         let n = self.routes.len(k);
         Some(Each::new(Pickups { p: self.p, w: k, n }, 0, n + 1))
     }

@@ -2,7 +2,7 @@
 
 ghost use Rattle.std.specs.Prelude.{◌≡◌, ⊤, ℕ, ◌<◌, ◌≤◌, suc, true, length, map, filter};
 ghost use Rattle.std.specs.Iterator.{YieldsFirst, item_count};
-ghost use Rattle.vr_known.specs.Passing.{Takes};
+ghost use Rattle.vr_known.specs.Passing.{ArePassed, Takes};
 ghost use Rattle.vr_model.specs.tables.Numbers.{each, from_to};
 ghost use Rattle.vr_model.specs.routes.Routes.{route, vehicles};
 ghost use Rattle.vr_model.specs.tables.Tables.{pair_at};
@@ -16,7 +16,7 @@ ghost use Rattle.vr_moves_pair.specs.Putting.{puts_into};
 use std::marker::Model;
 use vr_known::Sieve;
 use vr_known::nests::{Each, Family, Listed, Numbered, Run, next_of};
-use vr_model::{Model as RoutingModel, Move};
+use vr_model::{Model as RoutingModel, Move, Neighbourhood};
 use vr_routes::{PairPlaces, Routes, is_elsewhere, pair_served, rest_len};
 
 // The places of the rest of `w` before which the delivery may be put, where the pickup is put before place `s`. The
@@ -77,10 +77,25 @@ struct Pickups {
     at: PairPlaces,
 }
 
+impl Pickups {
+    // The places of the delivery, where the pickup is put before place `s`.
+    #[inline]
+    fn deliveries(&self, s: u32) -> Deliveries
+        ensures { result ≡ record { p = self.now.p; w = self.now.w; s = s; at = self.now.at } }
+    {
+        Deliveries {
+            p: self.p,
+            w: self.w,
+            s,
+            at: self.at,
+        }
+    }
+}
+
 impl Family for Pickups {
     type Inner = Run<Deliveries>;
 
-    ghost is_sound = { λ m. (m.n ≤ 1000) × (m.at.pickup < m.at.delivery) };
+    ghost is_sound = { λ m. (m.n ≤ 1000) × (m.at.pickup < m.at.delivery) × (m.p < 500) × (m.w < 100) };
 
     ghost count = { λ m. suc m.n };
 
@@ -91,13 +106,15 @@ impl Family for Pickups {
 
     #[inline]
     fn open(&self, k: u32) -> Option<Run<Deliveries>> {
-        let deliveries = Deliveries {
-            p: self.p,
-            w: self.w,
-            s: k,
-            at: self.at,
-        };
-        Some(Run::new(deliveries, k, self.n + 1))
+        Some(Run::new(self.deliveries(k), k, self.n + 1))
+    }
+
+    #[inline]
+    fn passed<S: Sieve>(&self, k: u32, sieve: &S) -> Option<u64> {
+        if sieve.has(Neighbourhood::RelocatePair, self.p, self.w) {
+            return Some(self.deliveries(k).many(k, self.n + 1) as u64);
+        }
+        None
     }
 }
 
@@ -114,7 +131,7 @@ impl<'a> Family for Targets<'a> {
     type Inner = Each<Pickups>;
 
     ghost is_sound = { λ m. (m.at.pickup < m.at.delivery)
-        × ArePlaces m.routes.now.lists (pair_at m.model.now m.p) m.at.vehicle m.at.pickup m.at.delivery };
+        × ArePlaces m.routes.now.lists (pair_at m.model.now m.p) m.at.vehicle m.at.pickup m.at.delivery × (m.p < 500) };
 
     ghost count = { λ m. length m.routes.now.lists };
 
@@ -125,6 +142,7 @@ impl<'a> Family for Targets<'a> {
     #[inline]
     fn open(&self, k: u32) -> Option<Each<Pickups>> {
         self.routes.know_once();
+        let _few = self.routes.vehicles();
         let n = rest_len(self.routes, self.at, k);
         let pickups = Pickups {
             p: self.p,
@@ -147,7 +165,7 @@ struct Pairs<'a> {
 impl<'a> Family for Pairs<'a> {
     type Inner = Each<Targets<'a>>;
 
-    ghost is_sound = { λ m. m.vehicles ≡ length m.routes.now.lists };
+    ghost is_sound = { λ m. (m.vehicles ≡ length m.routes.now.lists) × (length m.model.now.pairs ≤ 500) };
 
     ghost count = { λ m. length m.model.now.pairs };
 

@@ -278,7 +278,7 @@ scans-preserved g c =
           (goes_more (λ w. (goal.Watch-dyn g (w.vtable, w.value)).after w.value) (from_state c.args.model.now c.args.limit c.args.lambda c.args.routes.now.lists c.args.state.now) (from_here c.args.model.now c.args.limit c.args.lambda (raised c.args.model.now (counted c.scans.state.penalties) c.scans.routes.lists) c.scans.routes.lists c.scans.state.best.routes.lists (c.scans.state.at.used + c.in-Complete.length) c.scans.state.at.found) (event_at c.args.model.now (tried (standing c.scans.routes.lists c.scans.state.best.routes.lists c.scans.state.at.used c.scans.state.at.found) c.in-Complete.length) kind.Round ∷ []) _ _ _ at_event
           (subst (λ event. Told (λ w. (goal.Watch-dyn g (w.vtable, w.value)).after w.value) c.advance.new.watch.items c.note_all.new.watch.items (event ∷ [])) round c.in_ok-note_all-in-Complete.ensures.told))));
       known = still_refused c.args.model.now c.requires.well_formed c.args.lambda (counted c.scans.state.penalties) (counted c.raise.new.self) c.advance.new.routes.lists c.in_ok-ended.ensures.holds.valid
-          c.advance.new.known c.raise.new.known c.raise.ensures.fewer c.raise.ensures.spares c.in_ok-ended.ensures.known;
+          c.advance.new.known c.raise.new.known c.raise.ensures.fewer c.raise.ensures.spares c.raise.ensures.settled c.in_ok-ended.ensures.known;
       learns = λ h. c.scans.invariant.learns (c.in_ok-ended.ensures.learns (c.raise.ensures.learns h));
     }
 

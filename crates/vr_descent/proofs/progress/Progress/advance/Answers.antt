@@ -16,9 +16,10 @@ use Rattle.vr_model.specs.routes.CostLaws.{HasBoundedCost}
 use Rattle.vr_descent.specs.Scanned.{tries_of}
 use Rattle.vr_descent.specs.Searching.{after_move, events_after, move_event, progress_after, routes_after}
 use Rattle.vr_descent.proofs.EndLemmas.{accepted_at, completed, was_cut}
-use Rattle.vr_known.specs.Blocks.{is_behind, is_kind_of, is_known}
+use Rattle.vr_model.specs.declared.neighbours.Move.{Move}
+use Rattle.vr_known.specs.Blocks.{IsApart, covers, is_behind, is_kind_of, is_known, rows_of}
 use Rattle.vr_descent.specs.Refused.{AreRefused}
-use Rattle.vr_descent.proofs.RefusedLemmas.{changed, few_lists, first_few, noted, noted_all, second_few}
+use Rattle.vr_descent.proofs.RefusedLemmas.{changed, few_lists, noted, noted_all, row_low}
 use Rattle.vr_descent.proofs.progress.Progress.advance.Goals as goal
 
 pub returns-in_err-ended-clause-told_in_part : goal.returns-in_err-ended-clause-told_in_part
@@ -203,31 +204,34 @@ returns-in-Cut-clause-holds g c =
 
 pub note-requires : goal.note-requires
 note-requires g c =
-    let at = accepted_at c.args.model.now (g.A.Accept.takes c.args.accept.now) c.args.routes.now.lists (c.args.limit.tries - c.args.self.now.used) c.in-Accepted.place c.in-Accepted.mv c.in-Accepted.difference (sym c.in-Accepted.is ∙ c.in_ok-ended.ensures.ends) in
-    record { first = first_few c.args.model.now c.args.routes.now.lists (few_lists c.args.model.now c.requires.well_formed c.args.routes.now.lists c.requires.holds.valid) c.in-Accepted.mv at.is_one }
+    let model = c.args.model.now in
+    let lists = c.args.routes.now.lists in
+    let at = accepted_at model (g.A.Accept.takes c.args.accept.now) lists (c.args.limit.tries - c.args.self.now.used) c.in-Accepted.place c.in-Accepted.mv c.in-Accepted.difference (sym c.in-Accepted.is ∙ c.in_ok-ended.ensures.ends) in
+    record { first = row_low model (g.A.Accept.takes c.args.accept.now) lists c.requires.well_formed (few_lists model c.requires.well_formed lists c.requires.holds.valid) c.in-Accepted.mv at.is_one }
 
-pub change-requires-clause-first : goal.change-requires-clause-first
-change-requires-clause-first g c =
+pub of-touched-requires : goal.of-touched-requires
+of-touched-requires g c =
     let at = accepted_at c.args.model.now (g.A.Accept.takes c.args.accept.now) c.args.routes.now.lists (c.args.limit.tries - c.args.self.now.used) c.in-Accepted.place c.in-Accepted.mv c.in-Accepted.difference (sym c.in-Accepted.is ∙ c.in_ok-ended.ensures.ends) in
-    first_few c.args.model.now c.args.routes.now.lists (few_lists c.args.model.now c.requires.well_formed c.args.routes.now.lists c.requires.holds.valid) c.in-Accepted.mv at.is_one
-
-pub change-requires-clause-second : goal.change-requires-clause-second
-change-requires-clause-second g c =
-    let at = accepted_at c.args.model.now (g.A.Accept.takes c.args.accept.now) c.args.routes.now.lists (c.args.limit.tries - c.args.self.now.used) c.in-Accepted.place c.in-Accepted.mv c.in-Accepted.difference (sym c.in-Accepted.is ∙ c.in_ok-ended.ensures.ends) in
-    second_few c.args.model.now c.args.routes.now.lists (few_lists c.args.model.now c.requires.well_formed c.args.routes.now.lists c.requires.holds.valid) c.in-Accepted.mv at.is_one
+    record { mv = at.is_one }
 
 pub returns-in_ok-take-in-Accepted-clause-known : goal.returns-in_ok-take-in-Accepted-clause-known
 returns-in_ok-take-in-Accepted-clause-known g c =
     let model = c.args.model.now in
     let takes = g.A.Accept.takes c.args.accept.now in
     let lists = c.args.routes.now.lists in
+    let mv = c.in-Accepted.mv in
+    let first = c.of-touched.result.first in
+    let second = c.of-touched.result.second in
     let same : g.J.Judge.model c.scan.new.judge ≡ model = c.in_ok-ended.ensures.model ∙ c.requires.judge_model in
-    let at = accepted_at c.args.model.now (g.A.Accept.takes c.args.accept.now) c.args.routes.now.lists (c.args.limit.tries - c.args.self.now.used) c.in-Accepted.place c.in-Accepted.mv c.in-Accepted.difference (sym c.in-Accepted.is ∙ c.in_ok-ended.ensures.ends) in
-    let few = few_lists c.args.model.now c.requires.well_formed c.args.routes.now.lists c.requires.holds.valid in
-    let learned = subst (λ ns. (k u w : ℕ) → u < 100 → IsTrue (is_known c.note.new.self k u w) → IsTrue (is_known c.args.known.now k u w) ⊎ IsTrue (is_behind ns k u c.in-Accepted.mv)) c.as_slice.ensures c.note.ensures.learned in
-    let before = noted model takes lists c.args.known.now c.note.new.self c.in-Accepted.place (c.args.limit.tries - c.args.self.now.used) c.in-Accepted.mv few at.scanned learned c.requires.known in
-    let after = changed model takes lists c.in-Accepted.mv at.is_one c.note.new.self c.change.new.self few c.requires.holds.valid at.valid (λ k u w h. c.requires.stays (c.note.ensures.learns (c.change.ensures.learns (c.change.ensures.known k u w h)))) c.change.ensures.fewer c.change.ensures.apart before in
-    subst (λ r. AreRefused model takes r.lists c.change.new.self) (sym (c.in_ok-take-in-Accepted.ensures.routes ∙ ap (λ k. moved k c.args.routes.now c.in-Accepted.mv) same)) after
+    let at = accepted_at model takes lists (c.args.limit.tries - c.args.self.now.used) c.in-Accepted.place mv c.in-Accepted.difference (sym c.in-Accepted.is ∙ c.in_ok-ended.ensures.ends) in
+    let few = few_lists model c.requires.well_formed lists c.requires.holds.valid in
+    let learned = subst (λ ns. (k u w : ℕ) → u < rows_of k → IsTrue (is_known c.note.new.self k u w) → IsTrue (is_known c.args.known.now k u w) ⊎ IsTrue (is_behind ns k u mv)) c.as_slice.ensures c.note.ensures.learned in
+    let before = noted model takes lists c.args.known.now c.note.new.self c.in-Accepted.place (c.args.limit.tries - c.args.self.now.used) mv c.requires.well_formed few at.scanned learned c.requires.known in
+    let routes_are : c.take.new.routes ≡ moved model c.args.routes.now mv = c.in_ok-take-in-Accepted.ensures.routes ∙ ap (λ k. moved k c.args.routes.now mv) same in
+    let apart = subst (λ r. (m : Move) → IsTrue (is_move model r.lists m) → IsTrue (covers c.change.new.self m) → IsApart model r.lists mv first second m) routes_are c.change.ensures.apart in
+    let after = changed model takes lists mv at.is_one first second c.of-touched.ensures.others c.note.new.self c.change.new.self c.requires.holds.valid at.valid
+        (λ k u w h. c.requires.stays (c.note.ensures.learns (c.change.ensures.learns (c.change.ensures.known k u w h)))) c.change.ensures.fewer apart before in
+    subst (λ r. AreRefused model takes r.lists c.change.new.self) (sym routes_are) after
 
 pub returns-in-Complete-clause-known : goal.returns-in-Complete-clause-known
 returns-in-Complete-clause-known g c =
@@ -236,5 +240,5 @@ returns-in-Complete-clause-known g c =
     let lists = c.args.routes.now.lists in
     let done = completed model takes lists (c.args.limit.tries - c.args.self.now.used) c.in-Complete.length (sym c.in-Complete.is ∙ c.in_ok-ended.ensures.ends) in
     let few = few_lists model c.requires.well_formed lists c.requires.holds.valid in
-    let learned = subst (λ ns. (k u w : ℕ) → u < 100 → IsTrue (is_known c.note_all.new.self k u w) → IsTrue (is_known c.args.known.now k u w) ⊎ IsTrue (is_kind_of ns k)) c.as_slice-in-Complete.ensures c.note_all.ensures.learned in
-    noted_all model takes lists c.args.known.now c.note_all.new.self c.in-Complete.length (c.args.limit.tries - c.args.self.now.used) few done.0 learned c.requires.known
+    let learned = subst (λ ns. (k u w : ℕ) → u < rows_of k → IsTrue (is_known c.note_all.new.self k u w) → IsTrue (is_known c.args.known.now k u w) ⊎ IsTrue (is_kind_of ns k)) c.as_slice-in-Complete.ensures c.note_all.ensures.learned in
+    noted_all model takes lists c.args.known.now c.note_all.new.self c.in-Complete.length (c.args.limit.tries - c.args.self.now.used) c.requires.well_formed few done.0 learned c.requires.known

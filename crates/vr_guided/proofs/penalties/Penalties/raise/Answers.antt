@@ -21,7 +21,7 @@ loop-vehicle-init c =
       nodes = c.requires.covers;
       few = at_most_more old 1000000000 _ (omega arith) c.requires.few;
       fewer = λ k u w h. h;
-      spares = λ k u w h origin target from to. refl;
+      spares = λ k r u w one two origin target from to. refl;
       learns = λ h. h;
     }
 
@@ -55,3 +55,12 @@ loop-vehicle-preserved c =
       spares = c.raise_vehicle.ensures.spares c.args.routes.now.lists (counted c.args.self.now) c.list.ensures.value c.loop-vehicle.invariant.spares;
       learns = λ h. c.loop-vehicle.invariant.learns (c.raise_vehicle.ensures.learns h);
     }
+
+pub returns-clause-fewer : goal.returns-clause-fewer
+returns-clause-fewer c k u w h = c.loop-vehicle.invariant.fewer k u w (c.settle.ensures.fewer k u w h)
+
+pub returns-clause-spares : goal.returns-clause-spares
+returns-clause-spares c k r u w one two = c.loop-vehicle.invariant.spares k r u w (c.settle.ensures.earlier k r u one) (c.settle.ensures.earlier k r w two)
+
+pub returns-clause-learns : goal.returns-clause-learns
+returns-clause-learns c h = c.loop-vehicle.invariant.learns (c.settle.ensures.learns h)

@@ -1,10 +1,10 @@
 use Rattle.std.proofs.Common.{◌≡◌, ◌⊎◌, ℕ, ◌<◌}
 use Rattle.std.specs.Prelude.{IsTrue}
-use Rattle.vr_known.specs.Blocks.{is_known}
+use Rattle.vr_known.specs.Blocks.{is_known, rows_of}
 use Rattle.vr_known.proofs.stamps.Stamps.learn_below.Given as goal
 
--- the vehicles so far are learned
-abbrev pub invariant-loop-v : goal.invariant-loop-v
-invariant-loop-v l = record {
-  learned : (k u w : ℕ) → u < 100 → IsTrue (is_known l.self k u w) → IsTrue (is_known l.initial.self k u w) ⊎ ((k ≡ l.kind) × (u < l.v));
+-- the rows so far are learned
+abbrev pub invariant-loop-row : goal.invariant-loop-row
+invariant-loop-row l = record {
+  learned : (k u w : ℕ) → u < rows_of k → IsTrue (is_known l.self k u w) → IsTrue (is_known l.initial.self k u w) ⊎ ((k ≡ l.kind) × (u < l.row));
 }
