@@ -1,17 +1,17 @@
 -- Lists that are lists of a model.
-use Rattle.std.proofs.Common.{◌⊎◌, ◌≡◌, ◌∙◌, ℕ, ◌+◌, ◌<◌, ◌≤◌, true, false, List, [], ◌++◌, length, take, sym, ap, subst, inl, inr, arith, length-set}
+use Rattle.std.proofs.Common.{◌⊎◌, ◌≡◌, ◌∙◌, ℕ, ◌+◌, ◌<◌, ◌≤◌, true, false, List, [], ◌++◌, length, take, refl, sym, ap, subst, inl, inr, arith, length-set}
 use Rattle.std.specs.Prelude.{IsTrue, ◌==◌, slice_index, slice_set}
 use Rattle.std.specs.List.{list_all, concat}
 use Rattle.std.proofs.lemmas.Bool.{cases_lt}
 use Rattle.std.proofs.lemmas.Bool.Decides.{eqb_tells}
-use Rattle.std.proofs.lemmas.List.{length-append, get_or-append-add}
+use Rattle.std.proofs.lemmas.List.{get_or_past, length-append, get_or-append-add}
 use Rattle.std.proofs.Math.Seq.{take-append-add}
 use Rattle.vr_model.proofs.routes.Lists.{route_set_other, route_set_same}
 use Rattle.vr_model.specs.deciding.Testing.{and_left, and_right, and_both, eq_of_test, test_of_eq}
 use Rattle.vr_model.specs.routes.Routes.{route, holds, is_active, are_lists}
 use Rattle.vr_model.specs.tables.Tables.{is_visit}
 use Rattle.vr_model.specs.declared.records.Model.{Model}
-use Rattle.vr_routes.specs.Seats.{IsSeat, IsOnce}
+use Rattle.vr_routes.specs.Seats.{IsSeat, IsOnce, IsSameOrEmpty}
 use Rattle.vr_routes.specs.Tours.{HaveVisits}
 use Rattle.vr_routes.proofs.SeatLemmas.{seat_of_active, active_at}
 use Rattle.vr_model.proofs.moves.Times.{times_in, joined_times, held_times, times_held, distinct_of_times, times_of_distinct, all_held, all_of_held}
@@ -107,3 +107,43 @@ next_visit model old v i list low i_low visits =
     (omega (arith, low, length-set old v (front ++ list)))
     (subst (λ l. length front + i < length l) (sym row) (omega (arith, i_low, length-append front list)))
     (ap (λ l. slice_index l (length front + i)) row ∙ get_or-append-add front list i 0))
+
+-- ---- lists that are cleared where they are others, and filled again
+
+one_set : (P : ℕ → List ℕ → Type 0) (now : List (List ℕ)) (v : ℕ) (list : List ℕ) → v < length now → P v list → (w : ℕ) → P w (route now w) → P w (route (slice_set now v list) w)
+one_set P now v list low here w there = elim (eqb_tells w v) [
+  | inl same ↦ subst (λ u. P u (route (slice_set now v list) u)) (sym same.1) (subst (P v) (sym (route_set_same now v list low)) here)
+  | inr other ↦ subst (P w) (sym (route_set_other now v w list other.1)) there
+]
+
+-- one list more is that which is wanted, or empty
+pub one_cleared : (whole now : List (List ℕ)) (v : ℕ) (left : List ℕ) → v < length now → IsSameOrEmpty (route whole v) left → ((w : ℕ) → w < v → IsSameOrEmpty (route whole w) (route now w))
+    → (w : ℕ) → w < v + 1 → IsSameOrEmpty (route whole w) (route (slice_set now v left) w)
+one_cleared whole now v left low is done w w_low = elim (cases_lt w v) [
+  | inl before ↦ one_set (λ u l. IsSameOrEmpty (route whole u) l) now v left low is w (done w before)
+  | inr from ↦ (let same : v ≡ w = omega (arith, w_low, from) in
+      subst (λ u. IsSameOrEmpty (route whole u) (route (slice_set now v left) u)) same (subst (IsSameOrEmpty (route whole v)) (sym (route_set_same now v left low)) is))
+]
+
+-- one list more is that which is wanted
+pub one_filled : (whole now : List (List ℕ)) (v : ℕ) → v < length now → ((w : ℕ) → w < v → route now w ≡ route whole w) → (w : ℕ) → w < v + 1 → route (slice_set now v (route whole v)) w ≡ route whole w
+one_filled whole now v low done w w_low = elim (cases_lt w v) [
+  | inl before ↦ one_set (λ u l. l ≡ route whole u) now v (route whole v) low refl w (done w before)
+  | inr from ↦ (let same : v ≡ w = omega (arith, w_low, from) in
+      subst (λ u. route (slice_set now v (route whole v)) u ≡ route whole u) same (route_set_same now v (route whole v) low))
+]
+
+pub same_filled : (whole now : List (List ℕ)) (v : ℕ) → v < length now → ((w : ℕ) → w < length whole → IsSameOrEmpty (route whole w) (route now w))
+    → (w : ℕ) → w < length whole → IsSameOrEmpty (route whole w) (route (slice_set now v (route whole v)) w)
+same_filled whole now v low some w w_low = one_set (λ u l. IsSameOrEmpty (route whole u) l) now v (route whole v) low (inl refl) w (some w w_low)
+
+-- no node stands twice in them
+pub filled_once : (whole now : List (List ℕ)) (v : ℕ) → length now ≡ length whole → v < length whole → ((w : ℕ) → w < length whole → IsSameOrEmpty (route whole w) (route now w)) → IsOnce whole
+    → IsOnce (slice_set now v (route whole v))
+filled_once whole now v many low some once = part_once whole (slice_set now v (route whole v)) (length-set now v (route whole v) ∙ many) each once
+  where
+    each : (w : ℕ) → (route (slice_set now v (route whole v)) w ≡ route whole w) ⊎ (route (slice_set now v (route whole v)) w ≡ [])
+    each w = elim (cases_lt w (length whole)) [
+      | inl there ↦ same_filled whole now v (omega (arith, low, many)) some w there
+      | inr past ↦ inr (get_or_past (slice_set now v (route whole v)) w [] (omega (arith, past, many, length-set now v (route whole v))))
+    ]

@@ -1,5 +1,5 @@
 -- Where each node of lists stands.
-use Rattle.std.specs.Prelude.{◌≡◌, ℕ, ◌<◌, List, length, slice_index, slice_index_or, IsTrue, Option, Some, None}
+use Rattle.std.specs.Prelude.{◌≡◌, ◌⊎◌, ℕ, ◌<◌, List, [], length, slice_index, slice_index_or, IsTrue, Option, Some, None}
 use Rattle.vr_model.specs.routes.Routes.{route, is_active}
 use Rattle.vr_routes.specs.declared.seats.Seat.{Seat}
 
@@ -31,3 +31,7 @@ IsOnce lists = (node v k w j : ℕ) → IsSeat lists node v k → IsSeat lists n
 -- each node of the lists is below n
 abbrev pub HaveNodes : ℕ → List (List ℕ) → Type 0
 HaveNodes n lists = (node : ℕ) → IsTrue (is_active lists node) → node < n
+
+-- a list is another one, or empty
+abbrev pub IsSameOrEmpty : List ℕ → List ℕ → Type 0
+IsSameOrEmpty whole list = (list ≡ whole) ⊎ (list ≡ [])

@@ -118,6 +118,19 @@ impl Routes {
         write_inactive(&self.seating, self.visits.list(0), &mut self.inactive);
     }
 
+    /// Takes other lists over in place, as many as these, of visits of which none stands twice. It takes no memory, and
+    /// a list that is the same is left alone.
+    pub fn set_lists(&mut self, lists: &[Seq<u32>])
+        requires many { length self.old.lists ≡ length lists.now }
+        requires visits { (node : ℕ) → IsTrue (is_active lists.now node) → IsTrue (holds self.old.visits node) }
+        requires once { IsOnce lists.now }
+        ensures visits { self.new.visits ≡ self.old.visits }
+        ensures lists { self.new.lists ≡ lists.now }
+    {
+        self.seating.set_lists(lists);
+        write_inactive(&self.seating, self.visits.list(0), &mut self.inactive);
+    }
+
     /// How many lists there are.
     #[inline]
     pub fn vehicles(&self) -> u32

@@ -1,15 +1,15 @@
 //! Lists with the place of each node beside them.
 
 ghost use Rattle.std.specs.Prelude.{◌≡◌, ℕ, ◌≢◌, ◌<◌, ◌≤◌, false, All, [], ◌∷◌, ◌++◌, length, slice_index, replicate};
-ghost use Rattle.std.specs.Prelude.{MatchOption, IfOk};
+ghost use Rattle.std.specs.Prelude.{IsTrue, MatchOption, IfOk};
 ghost use Rattle.vr_model.specs.routes.Routes.{route, is_active};
 ghost use Rattle.vr_model.specs.moves.Moves.{with_route};
-ghost use Rattle.vr_routes.specs.Seats.{HaveNodes, IsSeat, IsOnce};
+ghost use Rattle.vr_routes.specs.Seats.{HaveNodes, IsSeat, IsOnce, IsSameOrEmpty};
 
 use crate::rows::Row;
 use std::alloc::Global;
 use std::marker::Model;
-use vr_model::NoMemory;
+use vr_model::{NoMemory, Seq};
 
 /// Where a node stands.
 #[derive(Clone, Copy, Debug, PartialEq, Eq)]
@@ -215,6 +215,61 @@ impl Seating {
         }
     }
 
+    /// Gives each vehicle its list of `lists`, in which no node stands twice. A list that is the same is left alone.
+    pub fn set_lists(&mut self, lists: &[Seq<u32>])
+        requires many { length self.old.lists ≡ length lists.now }
+        requires few { self.old.nodes ≤ 1000 }
+        requires few_vehicles { length self.old.lists ≤ 100 }
+        requires nodes { HaveNodes self.old.nodes lists.now }
+        requires once { IsOnce lists.now }
+        ensures lists { self.new.lists ≡ lists.now }
+        ensures nodes { self.new.nodes ≡ self.old.nodes }
+    {
+        self.clear_others(lists);
+        for v in 0..lists.len() {
+            self.fill(v as u32, lists[v].as_slice());
+        }
+    }
+
+    // Takes all nodes out of each list that is another one in `lists`.
+    fn clear_others(&mut self, lists: &[Seq<u32>])
+        requires many { length self.old.lists ≡ length lists.now }
+        requires few_vehicles { length self.old.lists ≤ 100 }
+        ensures each { (v : ℕ) → v < length lists.now → IsSameOrEmpty (route lists.now v) (route self.new.lists v) }
+        ensures many { length self.new.lists ≡ length self.old.lists }
+        ensures nodes { self.new.nodes ≡ self.old.nodes }
+    {
+        for v in 0..lists.len() {
+            self.clear_other(v as u32, lists[v].as_slice());
+        }
+    }
+
+    // Takes all nodes of a list out where it is another one.
+    fn clear_other(&mut self, v: u32, nodes: &[u32])
+        requires vehicle { v < length self.old.lists }
+        ensures left { (left : _) × IsSameOrEmpty nodes.now left × (self.new.lists ≡ with_route self.old.lists v left) }
+        ensures nodes { self.new.nodes ≡ self.old.nodes }
+    {
+        if !is_same(self.list(v), nodes) {
+            self.clear(v);
+        }
+    }
+
+    // Gives a vehicle a list, with which no node stands twice, where it has not got it: then it has none.
+    fn fill(&mut self, v: u32, nodes: &[u32])
+        requires vehicle { v < length self.old.lists }
+        requires nodes { All (λ node. node < self.old.nodes) nodes.now }
+        requires few { self.old.nodes ≤ 1000 }
+        requires once { IsOnce (with_route self.old.lists v nodes.now) }
+        requires there { IsSameOrEmpty nodes.now (route self.old.lists v) }
+        ensures lists { self.new.lists ≡ with_route self.old.lists v nodes.now }
+        ensures nodes { self.new.nodes ≡ self.old.nodes }
+    {
+        if self.len(v) == 0 {
+            self.set_list(v, nodes);
+        }
+    }
+
     // Takes all nodes out.
     fn clear_all(&mut self)
         requires few_vehicles { length self.old.lists ≤ 100 }
@@ -234,6 +289,13 @@ impl Seating {
         // To read a field is to know what holds of all seatings.
         let _rows = &self.rows;
     }
+}
+
+// Whether two lists have the same nodes in the same order.
+fn is_same(one: &[u32], other: &[u32]) -> bool
+    ensures { IsTrue result → one.now ≡ other.now }
+{
+    one == other
 }
 
 // The same rows.
