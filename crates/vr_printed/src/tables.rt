@@ -1,9 +1,13 @@
 //! The tables of a printed solution.
 
+ghost use Rattle.serde_json.specs.View.{view};
+ghost use Rattle.vr_json.specs.Reading.{Answers};
+ghost use Rattle.vr_printed.specs.Tables as tables;
+
 use crate::{Printed, PrintedPlan, PrintedRoute};
 use serde_json::Value;
 use std::alloc::Global;
-use vr_json::{Array, Below, Choice, Place, ReadFail, Reader, Whole, known, required, text};
+use vr_json::{Array, Below, Choice, Path, Place, ReadFail, Reader, Whole, known, required, text};
 use vr_model::{Parts, Text};
 
 // Any whole number of 64 bits.
@@ -56,23 +60,30 @@ impl Reader for PlanTable {
         place: Place<'_>,
     ) -> Result<PrintedPlan, ReadFail> {
         let path = place.path()?;
-        let numbers = Array {
-            lo: 0,
-            hi: usize::MAX,
-            entry: ANY_WHOLE,
-        };
-        let breaks = required(alloc, value, "breaks", &path, &numbers)?;
-        let cumuls = required(alloc, value, "cumuls", &path, &numbers)?;
-        let name = required(alloc, value, "name", &path, &AnyText)?;
-        let slacks = required(alloc, value, "slacks", &path, &numbers)?;
-        known(alloc, value, &["breaks", "cumuls", "name", "slacks"], &path)?;
-        Ok(PrintedPlan {
-            name,
-            cumuls,
-            slacks,
-            breaks,
-        })
+        read_plan(alloc, value, &path)
     }
+}
+
+// The plan at a path.
+fn read_plan(alloc: Global, value: &Value, path: &Path) -> Result<PrintedPlan, ReadFail>
+    ensures { Answers result (tables.plan path.now (view value.now)) }
+{
+    let numbers = Array {
+        lo: 0,
+        hi: usize::MAX,
+        entry: ANY_WHOLE,
+    };
+    let breaks = required(alloc, value, "breaks", path, &numbers)?;
+    let cumuls = required(alloc, value, "cumuls", path, &numbers)?;
+    let name = required(alloc, value, "name", path, &AnyText)?;
+    let slacks = required(alloc, value, "slacks", path, &numbers)?;
+    known(alloc, value, &["breaks", "cumuls", "name", "slacks"], path)?;
+    Ok(PrintedPlan {
+        name,
+        cumuls,
+        slacks,
+        breaks,
+    })
 }
 
 /// A route, in a model of so many nodes.
@@ -137,27 +148,34 @@ impl Reader for PartsTable {
         place: Place<'_>,
     ) -> Result<Parts, ReadFail> {
         let path = place.path()?;
-        let arcs = required(alloc, value, "arcs", &path, &ANY_WHOLE)?;
-        let fixed = required(alloc, value, "fixed", &path, &ANY_WHOLE)?;
-        let global = required(alloc, value, "global", &path, &ANY_WHOLE)?;
-        let penalty = required(alloc, value, "penalty", &path, &ANY_WHOLE)?;
-        let soft = required(alloc, value, "soft", &path, &ANY_WHOLE)?;
-        let span = required(alloc, value, "span", &path, &ANY_WHOLE)?;
-        known(
-            alloc,
-            value,
-            &["arcs", "fixed", "global", "penalty", "soft", "span"],
-            &path,
-        )?;
-        Ok(Parts {
-            arcs,
-            fixed,
-            global,
-            penalty,
-            soft,
-            span,
-        })
+        read_parts(alloc, value, &path)
     }
+}
+
+// The parts at a path.
+fn read_parts(alloc: Global, value: &Value, path: &Path) -> Result<Parts, ReadFail>
+    ensures { Answers result (tables.printed_parts path.now (view value.now)) }
+{
+    let arcs = required(alloc, value, "arcs", path, &ANY_WHOLE)?;
+    let fixed = required(alloc, value, "fixed", path, &ANY_WHOLE)?;
+    let global = required(alloc, value, "global", path, &ANY_WHOLE)?;
+    let penalty = required(alloc, value, "penalty", path, &ANY_WHOLE)?;
+    let soft = required(alloc, value, "soft", path, &ANY_WHOLE)?;
+    let span = required(alloc, value, "span", path, &ANY_WHOLE)?;
+    known(
+        alloc,
+        value,
+        &["arcs", "fixed", "global", "penalty", "soft", "span"],
+        path,
+    )?;
+    Ok(Parts {
+        arcs,
+        fixed,
+        global,
+        penalty,
+        soft,
+        span,
+    })
 }
 
 /// A solution, in a model of so many nodes.
