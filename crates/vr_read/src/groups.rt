@@ -2,6 +2,8 @@
 
 ghost use Rattle.std.specs.Prelude.{◌≡◌, ◌||◌, ◌==◌};
 ghost use Rattle.std.specs.List.{list_any};
+ghost use Rattle.serde_json.specs.View.{view};
+ghost use Rattle.vr_json.specs.Reading.{Answers};
 ghost use Rattle.vr_model.specs.routes.Routes.{holds};
 ghost use Rattle.vr_read.specs.Visits as visit_tables;
 
@@ -9,8 +11,8 @@ use crate::Visit;
 use serde_json::Value;
 use std::alloc::Global;
 use vr_json::{
-    Array, Below, Cause, Count, Place, ReadFail, Reader, Whole, known, maybe, optional, refuse_if,
-    required,
+    Array, Below, Cause, Count, Path, Place, ReadFail, Reader, Whole, known, maybe, optional,
+    refuse_if, required,
 };
 use vr_model::limits::GREATEST_COST;
 use vr_model::{Allowed, Group, Pair, Vehicle};
@@ -96,6 +98,23 @@ impl Reader for GroupTable<'_> {
         place: Place<'_>,
     ) -> Result<Group, ReadFail> {
         let path = place.path()?;
+        self.read_at(alloc, earlier, value, &path)
+    }
+}
+
+impl GroupTable<'_> {
+    // The group at a path.
+    fn read_at(
+        &self,
+        alloc: Global,
+        earlier: &[Group],
+        value: &Value,
+        path: &Path,
+    ) -> Result<Group, ReadFail>
+        ensures { Answers result
+            (visit_tables.group self.now.visit.nodes self.now.visit.vehicles.now earlier.now
+            path.now (view value.now)) }
+    {
         let members = Array {
             lo: 1,
             hi: 1000,
@@ -108,11 +127,11 @@ impl Reader for GroupTable<'_> {
             lo: 0,
             hi: GREATEST_COST,
         };
-        let nodes = required(alloc, value, "nodes", &path, &members)?;
+        let nodes = required(alloc, value, "nodes", path, &members)?;
         let count = nodes.len() as u32;
-        let penalty = maybe(alloc, value, "penalty", &path, &cost)?;
-        let max = optional(alloc, value, "max", &path, 1, &Count { lo: 1, hi: count })?;
-        known(alloc, value, &["nodes", "penalty", "max"], &path)?;
+        let penalty = maybe(alloc, value, "penalty", path, &cost)?;
+        let max = optional(alloc, value, "max", path, 1, &Count { lo: 1, hi: count })?;
+        known(alloc, value, &["nodes", "penalty", "max"], path)?;
         Ok(Group {
             nodes,
             penalty,
@@ -142,13 +161,30 @@ impl Reader for PairTable<'_> {
         place: Place<'_>,
     ) -> Result<Pair, ReadFail> {
         let path = place.path()?;
-        let pickup = required(alloc, value, "pickup", &path, &self.visit)?;
+        self.read_at(alloc, earlier, value, &path)
+    }
+}
+
+impl PairTable<'_> {
+    // The pair at a path.
+    fn read_at(
+        &self,
+        alloc: Global,
+        earlier: &[Pair],
+        value: &Value,
+        path: &Path,
+    ) -> Result<Pair, ReadFail>
+        ensures { Answers result
+            (visit_tables.pair self.now.visit.nodes self.now.visit.vehicles.now earlier.now
+            path.now (view value.now)) }
+    {
+        let pickup = required(alloc, value, "pickup", path, &self.visit)?;
         let paired = is_paired(earlier, pickup);
         refuse_if(alloc, paired, Cause::Repeated, path.field("pickup"))?;
-        let delivery = required(alloc, value, "delivery", &path, &self.visit)?;
+        let delivery = required(alloc, value, "delivery", path, &self.visit)?;
         let stands = is_paired(earlier, delivery) || pickup == delivery;
         refuse_if(alloc, stands, Cause::Repeated, path.field("delivery"))?;
-        known(alloc, value, &["pickup", "delivery"], &path)?;
+        known(alloc, value, &["pickup", "delivery"], path)?;
         Ok(Pair { pickup, delivery })
     }
 }

@@ -179,23 +179,32 @@ impl Reader for SearchTable {
         place: Place<'_>,
     ) -> Result<SearchRow, ReadFail> {
         let path = place.path()?;
-        let choices = choices(alloc, value, &path)?;
+        self.read_at(alloc, value, &path)
+    }
+}
+
+impl SearchTable {
+    // The search at a path.
+    fn read_at(&self, alloc: Global, value: &Value, path: &Path) -> Result<SearchRow, ReadFail>
+        ensures { Answers result (search_tables.search_row path.now (view value.now)) }
+    {
+        let choices = choices(alloc, value, path)?;
         let weight = TwoEntries {
             entry: Whole { lo: 1, hi: 1000 },
         };
-        let lambda = optional(alloc, value, "lambda", &path, (1, 10), &weight)?;
+        let lambda = optional(alloc, value, "lambda", path, (1, 10), &weight)?;
         let words = Array {
             lo: 0,
             hi: 11,
             entry: NeighbourhoodTable,
         };
         let all = Neighbourhood::all(alloc)?;
-        let neighbourhoods = optional(alloc, value, "neighbourhoods", &path, all, &words)?;
+        let neighbourhoods = optional(alloc, value, "neighbourhoods", path, all, &words)?;
         let count = Count { lo: 1, hi: 100 };
-        let cut = optional(alloc, value, "cut", &path, CUT, &count)?;
+        let cut = optional(alloc, value, "cut", path, CUT, &count)?;
         let count = Count { lo: 1, hi: 1000 };
-        let tenure = optional(alloc, value, "tenure", &path, TENURE, &count)?;
-        known(alloc, value, &FIELDS, &path)?;
+        let tenure = optional(alloc, value, "tenure", path, TENURE, &count)?;
+        known(alloc, value, &FIELDS, path)?;
         Ok(SearchRow {
             first: choices.first,
             improve: choices.improve,

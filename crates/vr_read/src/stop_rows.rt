@@ -174,12 +174,21 @@ impl Reader for BreakTable {
         place: Place<'_>,
     ) -> Result<BreakRow, ReadFail> {
         let path = place.path()?;
+        self.read_at(alloc, value, &path)
+    }
+}
+
+impl BreakTable {
+    // The break at a path.
+    fn read_at(&self, alloc: Global, value: &Value, path: &Path) -> Result<BreakRow, ReadFail>
+        ensures { Answers result (stop_tables.break_row path.now (view value.now)) }
+    {
         let cumul = Whole { lo: 0, hi: HORIZON };
         let length = Whole { lo: 1, hi: HORIZON };
-        let from = required(alloc, value, "from", &path, &cumul)?;
-        let to = required(alloc, value, "to", &path, &cumul)?;
-        let duration = required(alloc, value, "duration", &path, &length)?;
-        known(alloc, value, &["from", "to", "duration"], &path)?;
+        let from = required(alloc, value, "from", path, &cumul)?;
+        let to = required(alloc, value, "to", path, &cumul)?;
+        let duration = required(alloc, value, "duration", path, &length)?;
+        known(alloc, value, &["from", "to", "duration"], path)?;
         refuse_if(alloc, to < from, Cause::Reversed, path.here())?;
         Ok(BreakRow { from, to, duration })
     }
@@ -213,6 +222,21 @@ impl Reader for VehicleBreaksTable {
         place: Place<'_>,
     ) -> Result<VehicleBreaks, ReadFail> {
         let path = place.path()?;
+        self.read_at(alloc, earlier, value, &path)
+    }
+}
+
+impl VehicleBreaksTable {
+    // The breaks of a vehicle at a path.
+    fn read_at(
+        &self,
+        alloc: Global,
+        earlier: &[VehicleBreaks],
+        value: &Value,
+        path: &Path,
+    ) -> Result<VehicleBreaks, ReadFail>
+        ensures { Answers result (stop_tables.vehicle_breaks self.now.vehicles earlier.now path.now (view value.now)) }
+    {
         let number = Below {
             count: self.vehicles,
         };
@@ -221,15 +245,15 @@ impl Reader for VehicleBreaksTable {
             hi: 8,
             entry: BreakTable,
         };
-        let vehicle = required(alloc, value, "vehicle", &path, &number)?;
+        let vehicle = required(alloc, value, "vehicle", path, &number)?;
         refuse_if(
             alloc,
             has_breaks(earlier, vehicle),
             Cause::Repeated,
             path.field("vehicle"),
         )?;
-        let rows = required(alloc, value, "breaks", &path, &breaks)?;
-        known(alloc, value, &["vehicle", "breaks"], &path)?;
+        let rows = required(alloc, value, "breaks", path, &breaks)?;
+        known(alloc, value, &["vehicle", "breaks"], path)?;
         Ok(VehicleBreaks { vehicle, rows })
     }
 }

@@ -95,6 +95,16 @@ impl Reader for VehicleTable {
         place: Place<'_>,
     ) -> Result<Vehicle, ReadFail> {
         let path = place.path()?;
+        self.read_at(alloc, value, &path)
+    }
+}
+
+impl VehicleTable {
+    // The vehicle at a path.
+    fn read_at(&self, alloc: Global, value: &Value, path: &Path) -> Result<Vehicle, ReadFail>
+        ensures { Answers result
+            (vehicle_tables.vehicle self.now.format self.now.nodes self.now.matrices path.now (view value.now)) }
+    {
         let matrix = Below {
             count: self.matrices,
         };
@@ -102,13 +112,13 @@ impl Reader for VehicleTable {
             lo: 0,
             hi: GREATEST_COST,
         };
-        let ends = self.ends(alloc, value, &path)?;
-        let costs = optional(alloc, value, "costs", &path, 0, &matrix)?;
-        let fixed = optional(alloc, value, "fixed", &path, 0, &cost)?;
+        let ends = self.ends(alloc, value, path)?;
+        let costs = optional(alloc, value, "costs", path, 0, &matrix)?;
+        let fixed = optional(alloc, value, "fixed", path, 0, &cost)?;
         let policy = Choice { words: &POLICIES };
-        let policy = optional(alloc, value, "policy", &path, Policy::Any, &policy)?;
-        let schedule = self.schedule(alloc, value, &path)?;
-        self.keep_fields(alloc, value, &path)?;
+        let policy = optional(alloc, value, "policy", path, Policy::Any, &policy)?;
+        let schedule = self.schedule(alloc, value, path)?;
+        self.keep_fields(alloc, value, path)?;
         Ok(Vehicle {
             start: ends.0,
             end: ends.1,
