@@ -45,12 +45,12 @@ impl Rebuild for Insertion {
         &mut self,
         model: &Model,
         lookups: &NodeTables<'_>,
-        routes: &Routes,
-    ) -> Result<Routes, NoMemory> {
+        routes: &mut Routes,
+    ) -> Result<(), NoMemory> {
         match &mut self.rebuilder {
             Some(rebuilder) => {
-                let after = rebuilder.rebuild(model, lookups, routes)?;
-                Ok(after)
+                rebuilder.rebuild(model, lookups, routes)?;
+                Ok(())
             }
             None => unreachable!(),
         }

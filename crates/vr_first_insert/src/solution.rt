@@ -1,6 +1,6 @@
 //! Routes that are rebuilt, and the first solution.
 
-ghost use Rattle.std.specs.Prelude.{◌≡◌, Some, None, cond, IfOk, IfSome, IsTrue, OnOk, length};
+ghost use Rattle.std.specs.Prelude.{◌≡◌, Some, None, cond, IfOk, IfSome, IsTrue, OnErr, OnOk, length};
 ghost use Rattle.vr_model.specs.first.CheapestInsertion.{parallel_cheapest_insertion, rebuilt};
 ghost use Rattle.vr_model.specs.first.Items.{items};
 ghost use Rattle.vr_model.specs.routes.Routes.{are_lists};
@@ -22,7 +22,6 @@ use vr_rules::complete_routes;
 /// anew.
 #[derive(Drop)]
 pub struct Rebuilder {
-    alloc: Global,
     // on the heap, since it is large
     keeper: Box<Keeper>,
 }
@@ -40,35 +39,60 @@ impl Rebuilder {
     {
         let keeper = Keeper::open(alloc, model, lookups)?;
         Ok(Rebuilder {
-            alloc,
             keeper: Box::new(alloc, keeper)?,
         })
     }
 
-    /// The routes at which parallel cheapest insertion ends when it begins with these open routes, as `rebuild` gives
-    /// them.
+    /// Makes open routes of the model those at which parallel cheapest insertion ends when it begins with them, as
+    /// `rebuild` gives them.
     ///
-    /// After `NoMemory` nothing is said of what is kept.
+    /// After `NoMemory` the routes are as before, and nothing is said of what is kept.
     pub fn rebuild(
         &mut self,
         model: &Model,
         lookups: &NodeTables<'_>,
-        routes: &Routes,
-    ) -> Result<Routes, NoMemory>
+        routes: &mut Routes,
+    ) -> Result<(), NoMemory>
         requires well_formed { IsWellFormed model.now }
         requires lookups { lookups.now ≡ model.now }
         requires rebuilder { IsRebuilder model.now self.old }
-        requires lists { IsTrue (are_lists model.now routes.now.lists) }
-        requires open_lists { IsTrue (is_open model.now routes.now.lists) }
+        requires of_model { routes.old.visits ≡ visits model.now }
+        requires lists { IsTrue (are_lists model.now routes.old.lists) }
+        requires open_lists { IsTrue (is_open model.now routes.old.lists) }
         ensures rebuilder { OnOk result (IsRebuilder model.now self.new) }
-        ensures lists { IfOk result (λ after. after.lists
-            ≡ rebuilt model.now (length (items model.now)) routes.now.lists) }
-        ensures visits { IfOk result (λ after. after.visits ≡ visits model.now) }
-        ensures built { IfOk result (λ after. AreBuilt model.now after.lists) }
+        ensures lists { OnOk result (routes.new.lists
+            ≡ rebuilt model.now (length (items model.now)) routes.old.lists) }
+        ensures built { OnOk result (AreBuilt model.now routes.new.lists) }
+        ensures as_before { OnErr result (routes.new.lists ≡ routes.old.lists) }
+        ensures visits { routes.new.visits ≡ routes.old.visits }
     {
-        let after = rebuilt_routes(self.alloc, &mut self.keeper, model, lookups, routes)?;
-        Ok(after)
+        rebuild_in_place(&mut self.keeper, model, lookups, routes)?;
+        Ok(())
     }
+}
+
+// Makes routes those at which insertion ends, by what is kept of lists.
+fn rebuild_in_place(
+    keeper: &mut Keeper,
+    model: &Model,
+    lookups: &NodeTables<'_>,
+    routes: &mut Routes,
+) -> Result<(), NoMemory>
+    requires well_formed { IsWellFormed model.now }
+    requires lookups { lookups.now ≡ model.now }
+    requires keeper { IsKeeper model.now keeper.old }
+    requires of_model { routes.old.visits ≡ visits model.now }
+    requires lists { IsTrue (are_lists model.now routes.old.lists) }
+    requires open_lists { IsTrue (is_open model.now routes.old.lists) }
+    ensures keeper { OnOk result (IsKeeper model.now keeper.new) }
+    ensures lists { OnOk result (routes.new.lists ≡ rebuilt model.now (length (items model.now)) routes.old.lists) }
+    ensures built { OnOk result (AreBuilt model.now routes.new.lists) }
+    ensures as_before { OnErr result (routes.new.lists ≡ routes.old.lists) }
+    ensures visits { routes.new.visits ≡ routes.old.visits }
+{
+    keeper.rebuild(model, lookups, routes)?;
+    routes.set_lists(&keeper.lists);
+    Ok(())
 }
 
 // The routes at which insertion ends, by what is kept of lists.

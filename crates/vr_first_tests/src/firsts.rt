@@ -3,6 +3,7 @@
 ghost use Rattle.std.specs.Prelude.{◌≡◌, IfOk, IfSome, IsTrue, OnOk};
 ghost use Rattle.vr_model.specs.routes.Routes.{are_lists};
 ghost use Rattle.vr_model.specs.routes.Rules.{is_open};
+ghost use Rattle.vr_model.specs.tables.Tables.{visits};
 ghost use Rattle.vr_model.specs.tables.WellFormed.{IsWellFormed};
 ghost use Rattle.vr_first_insert.specs.Keeping.{IsRebuilder};
 
@@ -52,6 +53,7 @@ fn by_savings(alloc: Global, model: &Model, list: &[u32]) -> Result<bool, NoMemo
 // Open routes with a list of the one vehicle, where there are such.
 fn open_routes(alloc: Global, model: &Model, list: &[u32]) -> Result<Option<Routes>, NoMemory>
     requires { IsWellFormed model.now }
+    ensures of_model { IfOk result (λ found. IfSome found (λ routes. routes.visits ≡ visits model.now)) }
     ensures lists { IfOk result (λ found. IfSome found (λ routes. IsTrue (are_lists model.now routes.lists))) }
     ensures open_lists { IfOk result (λ found. IfSome found (λ routes. IsTrue (is_open model.now routes.lists))) }
 {
@@ -80,6 +82,7 @@ fn rebuilds(alloc: Global, model: &Model, list: &[u32], after: &[u32]) -> Result
 
 // Whether what keeps lists from call to call rebuilds open routes to this list of the one vehicle.
 fn gives(
+    alloc: Global,
     rebuilder: &mut Rebuilder,
     model: &Model,
     lookups: &NodeTables<'_>,
@@ -89,16 +92,19 @@ fn gives(
     requires well_formed { IsWellFormed model.now }
     requires lookups { lookups.now ≡ model.now }
     requires rebuilder { IsRebuilder model.now rebuilder.old }
+    requires of_model { routes.now.visits ≡ visits model.now }
     requires lists { IsTrue (are_lists model.now routes.now.lists) }
     requires open_lists { IsTrue (is_open model.now routes.now.lists) }
     ensures { OnOk result (IsRebuilder model.now rebuilder.new) }
 {
-    let rebuilt = rebuilder.rebuild(model, lookups, routes)?;
+    let mut rebuilt = routes.copy(alloc)?;
+    rebuilder.rebuild(model, lookups, &mut rebuilt)?;
     Ok(are(Some(rebuilt), after))
 }
 
 // Whether it rebuilds a list with node 1, one with node 2, and the first again as it does each alone.
 fn gives_in_turn(
+    alloc: Global,
     rebuilder: &mut Rebuilder,
     model: &Model,
     lookups: &NodeTables<'_>,
@@ -108,14 +114,16 @@ fn gives_in_turn(
     requires well_formed { IsWellFormed model.now }
     requires lookups { lookups.now ≡ model.now }
     requires rebuilder { IsRebuilder model.now rebuilder.old }
+    requires of_model { first.now.visits ≡ visits model.now }
     requires lists { IsTrue (are_lists model.now first.now.lists) }
     requires open_lists { IsTrue (is_open model.now first.now.lists) }
+    requires other_of_model { second.now.visits ≡ visits model.now }
     requires other_lists { IsTrue (are_lists model.now second.now.lists) }
     requires other_open_lists { IsTrue (is_open model.now second.now.lists) }
 {
-    let one = gives(rebuilder, model, lookups, first, &[2, 1])?;
-    let other = gives(rebuilder, model, lookups, second, &[1, 2])?;
-    let again = gives(rebuilder, model, lookups, first, &[2, 1])?;
+    let one = gives(alloc, rebuilder, model, lookups, first, &[2, 1])?;
+    let other = gives(alloc, rebuilder, model, lookups, second, &[1, 2])?;
+    let again = gives(alloc, rebuilder, model, lookups, first, &[2, 1])?;
     Ok(one && other && again)
 }
 
@@ -127,14 +135,16 @@ fn opened_in_turn(
     second: &Routes,
 ) -> Result<bool, NoMemory>
     requires well_formed { IsWellFormed model.now }
+    requires of_model { first.now.visits ≡ visits model.now }
     requires lists { IsTrue (are_lists model.now first.now.lists) }
     requires open_lists { IsTrue (is_open model.now first.now.lists) }
+    requires other_of_model { second.now.visits ≡ visits model.now }
     requires other_lists { IsTrue (are_lists model.now second.now.lists) }
     requires other_open_lists { IsTrue (is_open model.now second.now.lists) }
 {
     let lookups = NodeTables::open(alloc, model)?;
     let mut rebuilder = Rebuilder::open(alloc, model, &lookups)?;
-    gives_in_turn(&mut rebuilder, model, &lookups, first, second)
+    gives_in_turn(alloc, &mut rebuilder, model, &lookups, first, second)
 }
 
 // The same of the lists with one node each.

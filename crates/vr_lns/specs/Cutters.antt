@@ -1,5 +1,8 @@
 -- What cuts are made by.
-use Rattle.std.specs.Prelude.{◌≡◌, ℕ, ◌≤◌}
+use Rattle.std.specs.Prelude.{◌≡◌, ℕ, ◌≤◌, Bool, cond, List, IsTrue, Option, Some, None}
+use Rattle.vr_model.specs.routes.Routes.{are_lists}
+use Rattle.vr_model.specs.tables.Tables.{visits}
+use Rattle.vr_routes.specs.Tours.{Tours}
 use Rattle.vr_model.specs.declared.records.Model.{Model}
 
 -- a model, and how many visits a cut takes out at most
@@ -11,3 +14,12 @@ pub record Cutter : Type 0 where
 pub record IsCutter (looked_up ruled : Model) (most : ℕ) : Type 0 where
   pub same : ruled ≡ looked_up
   pub few : most ≤ 100
+
+-- routes of a model: they have its visits, and their lists are lists of it
+pub record AreRoutesOf (model : Model) (routes : Tours) : Type 0 where
+  pub visits_are : routes.visits ≡ visits model
+  pub lists_are : IsTrue (are_lists model routes.lists)
+
+-- lists where there is a result
+abbrev pub result_in : Bool → List (List ℕ) → Option (List (List ℕ))
+result_in there lists = cond there (Some lists) None

@@ -1,10 +1,10 @@
 //! What a cut leaves of routes.
 
-ghost use Rattle.std.specs.Prelude.{◌≡◌, ◌+◌, ◌<◌, ◌≤◌, IfOk, IsTrue, length, map, min};
+ghost use Rattle.std.specs.Prelude.{◌≡◌, ◌+◌, ◌<◌, ◌≤◌, IfOk, IsTrue, OnOk, length, map, min};
 ghost use Rattle.vr_model.specs.first.Items.{pair_of};
 ghost use Rattle.vr_model.specs.routes.Routes.{are_lists, holds, route};
-ghost use Rattle.vr_model.specs.tables.Tables.{visits};
 ghost use Rattle.vr_lns.specs.Chains.{is_between as is_between_of};
+ghost use Rattle.vr_lns.specs.Cutters.{AreRoutesOf};
 ghost use Rattle.vr_lns.specs.Cuts.{chain_of, goes_with as goes_with_of, left_by, without_chain as without_chain_of};
 
 use crate::cutting::Cut;
@@ -97,24 +97,25 @@ fn lists_left(
     Ok(left)
 }
 
-/// The routes that a cut leaves: without the chain, and without the other node of the pair of each of its nodes.
-pub(crate) fn routes_left(
+/// Makes routes of the model those that a cut leaves: without the chain, and without the other node of the pair of each
+/// of its nodes.
+pub(crate) fn leave(
     alloc: Global,
     routes: &Routes,
     lookups: &NodeTables<'_>,
     at: Cut,
     most: u32,
-) -> Result<Routes, NoMemory>
+    left: &mut Routes,
+) -> Result<(), NoMemory>
     requires lists { IsTrue (are_lists lookups.now routes.now.lists) }
     requires vehicle { at.vehicle < length routes.now.lists }
     requires place { at.place < length (route routes.now.lists at.vehicle) }
     requires few { most ≤ 100 }
-    ensures lists { IfOk result (λ left. left.lists ≡ left_by lookups.now most routes.now.lists at) }
-    ensures are { IfOk result (λ left. IsTrue (are_lists lookups.now left.lists)) }
+    requires of_model { AreRoutesOf lookups.now left.old }
+    ensures lists { OnOk result (left.new.lists ≡ left_by lookups.now most routes.now.lists at) }
+    ensures of_model { AreRoutesOf lookups.now left.new }
 {
     let lists = lists_left(alloc, routes, lookups, at, most)?;
-    match Routes::from_lists(alloc, lookups.model(), &lists)? {
-        Some(left) => Ok(left),
-        None => unreachable!(),
-    }
+    left.set_lists(&lists);
+    Ok(())
 }

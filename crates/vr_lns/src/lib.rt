@@ -13,6 +13,7 @@
 //! for each cut that leaves open lists, no more often than the limit allows tries.
 #![tactic(auto)]
 
+mod cutter;
 mod cutting;
 mod laws;
 mod leaving;

@@ -1,6 +1,6 @@
 //! The trait of what rebuilds routes.
 
-ghost use Rattle.std.specs.Prelude.{◌≡◌, ◌+◌, ◌≤◌, ℕ, IsTrue, IfOk, OnOk, length};
+ghost use Rattle.std.specs.Prelude.{◌≡◌, ◌+◌, ◌≤◌, ℕ, IsTrue, IfOk, OnErr, OnOk, length};
 ghost use Rattle.vr_model.specs.first.CheapestInsertion.{rebuilt};
 ghost use Rattle.vr_model.specs.first.Items.{items};
 ghost use Rattle.vr_model.specs.routes.Routes.{are_lists};
@@ -45,23 +45,27 @@ pub trait Rebuild {
         ensures knows { OnOk result (knows self.new model.now) }
         ensures made { made self.new ≡ made self.old };
 
-    /// The same as `rebuild`, of the model that it knows: what it found of lists in the call before it may keep for
-    /// lists that are the same.
+    /// Makes open routes those that `rebuild` gives, of the model that it knows: what it found of lists in the call before
+    /// it may keep for lists that are the same.
+    ///
+    /// The only refusal is want of memory. The routes are as before then.
     fn rebuild_known(
         &mut self,
         model: &Model,
         lookups: &NodeTables<'_>,
-        routes: &Routes,
-    ) -> Result<Routes, NoMemory>
+        routes: &mut Routes,
+    ) -> Result<(), NoMemory>
         requires well_formed { IsWellFormed model.now }
         requires lookups { lookups.now ≡ model.now }
         requires knows { knows self.old model.now }
-        requires lists { IsTrue (are_lists model.now routes.now.lists) }
-        requires open_lists { IsTrue (is_open model.now routes.now.lists) }
-        ensures lists { IfOk result (λ after. after.lists
-            ≡ rebuilt model.now (length (items model.now)) routes.now.lists) }
-        ensures visits { IfOk result (λ after. after.visits ≡ visits model.now) }
-        ensures built { IfOk result (λ after. AreBuilt model.now after.lists) }
+        requires of_model { routes.old.visits ≡ visits model.now }
+        requires lists { IsTrue (are_lists model.now routes.old.lists) }
+        requires open_lists { IsTrue (is_open model.now routes.old.lists) }
+        ensures lists { OnOk result (routes.new.lists
+            ≡ rebuilt model.now (length (items model.now)) routes.old.lists) }
+        ensures built { OnOk result (AreBuilt model.now routes.new.lists) }
+        ensures as_before { OnErr result (routes.new.lists ≡ routes.old.lists) }
+        ensures visits { routes.new.visits ≡ routes.old.visits }
         ensures knows { OnOk result (knows self.new model.now) }
         ensures made { made self.new ≤ made self.old + 1 };
 }

@@ -53,10 +53,11 @@ impl Rebuild for Inserting {
         &mut self,
         model: &Model,
         _lookups: &NodeTables<'_>,
-        routes: &Routes,
-    ) -> Result<Routes, NoMemory> {
+        routes: &mut Routes,
+    ) -> Result<(), NoMemory> {
         let after = self.rebuild(model, routes)?;
-        Ok(after)
+        routes.assign(&after);
+        Ok(())
     }
 }
 

@@ -1,7 +1,7 @@
 use Rattle.std.proofs.Common.{◌∙◌, sym}
 use Rattle.vr_model.proofs.routes.Lists.{are-lists, are_lists-count}
 use Rattle.vr_rules.proofs.PlacingLemmas.{built-count}
-use Rattle.vr_lns.proofs.cutting.Cutting.take.Goals as goal
+use Rattle.vr_lns.proofs.cutter.Cutter.take.Goals as goal
 
 pub assign-requires-clause-many : goal.assign-requires-clause-many
 assign-requires-clause-many c =
