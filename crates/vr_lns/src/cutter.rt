@@ -21,7 +21,8 @@ use vr_model::{Model as RoutingModel, NoMemory};
 use vr_routes::Routes;
 use vr_rules::Rules;
 
-/// What cuts are made by, and their results judged. Contracts see the model, and how many visits a cut takes out at most.
+/// What cuts are made by, and their results judged. Contracts see the model, and how many visits a cut takes out at
+/// most.
 #[derive(Drop)]
 pub(crate) struct Cutter<'m> {
     alloc: Global,
@@ -78,7 +79,8 @@ impl<'m> Cutter<'m> {
         Ok(())
     }
 
-    /// Makes routes of the model the result of a cut: what it leaves, rebuilt. Answers whether there is one: it is open.
+    /// Makes routes of the model the result of a cut: what it leaves, rebuilt. Answers whether there is one, which is
+    /// where what is left is open.
     pub(crate) fn write_result<R: Rebuild>(
         &mut self,
         rebuild: &mut R,

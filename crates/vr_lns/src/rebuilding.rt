@@ -45,8 +45,8 @@ pub trait Rebuild {
         ensures knows { OnOk result (knows self.new model.now) }
         ensures made { made self.new ≡ made self.old };
 
-    /// Makes open routes those that `rebuild` gives, of the model that it knows: what it found of lists in the call before
-    /// it may keep for lists that are the same.
+    /// Makes open routes those that `rebuild` gives, of the model that it knows: what it found of lists in the call
+    /// before it may keep for lists that are the same.
     ///
     /// The only refusal is want of memory. The routes are as before then.
     fn rebuild_known(
