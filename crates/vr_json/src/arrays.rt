@@ -65,7 +65,7 @@ pub struct TwoEntries<R> {
     pub entry: R,
 }
 
-#[tactic(auto, unfolding(crate::specs::Reading::and_then, crate::specs::Reading::two_entries, crate::specs::Reading::first_two))]
+#[tactic(auto, unfolding(crate::specs::Reading::and_then, crate::specs::Reading::two_entries))]
 impl<R: Reader> Reader for TwoEntries<R> {
     ghost use Rattle.std.specs.Prelude.{[]};
     ghost use Rattle.vr_json.specs.Reading.{two_entries};
@@ -82,14 +82,28 @@ impl<R: Reader> Reader for TwoEntries<R> {
         place: Place<'_>,
     ) -> Result<(R::Item, R::Item), ReadFail> {
         let path = place.path()?;
-        match list(alloc, value, 2, 2, &path)? {
-            [first, second] => {
-                let one = self.entry.read(alloc, &[], first, path.entry(0))?;
-                let other = self.entry.read(alloc, &[], second, path.entry(1))?;
-                Ok((one, other))
-            }
-            _ => Err(refusal(alloc, Cause::WrongLength, path.here())),
+        let items = list(alloc, value, 2, 2, &path)?;
+        first_two(alloc, &self.entry, items, &path)
+    }
+}
+
+// What stands in an array of two entries.
+#[tactic(auto, unfolding(crate::specs::Reading::and_then, crate::specs::Reading::first_two))]
+fn first_two<R: Reader>(
+    alloc: Global,
+    entry: &R,
+    items: &[Value],
+    path: &Path,
+) -> Result<(R::Item, R::Item), ReadFail>
+    ensures { Answers result (reading.first_two (R.reads entry.now []) path.now (map view items.now)) }
+{
+    match items {
+        [first, second] => {
+            let one = entry.read(alloc, &[], first, path.entry(0))?;
+            let other = entry.read(alloc, &[], second, path.entry(1))?;
+            Ok((one, other))
         }
+        _ => Err(refusal(alloc, Cause::WrongLength, path.here())),
     }
 }
 
