@@ -152,18 +152,8 @@ fn cross_over<L: Ledger>(
     ensures normal { All IsNormal from.now }
 {
     count_forward(from, steps);
-    let rows = breaks.rows.as_slice();
     let mut room = Room::beside(next);
-    if out.fit(rows.len()).is_err() {
-        return Err(NoMemory);
-    }
-    if write_arrivals(from, hop, next, rows, 0, &mut out.first, &mut room).is_err() {
-        return Err(NoMemory);
-    }
-    if write_further_arrivals(from, hop, next, rows, &mut out.more, &mut room).is_err() {
-        return Err(NoMemory);
-    }
-    Ok(())
+    write_all_arrivals(from, hop, next, breaks, out, &mut room)
 }
 
 // As `cross_back_into`, where there are breaks.
@@ -184,15 +174,57 @@ fn cross_back_over<L: Ledger>(
     ensures normal { All IsNormal to.now }
 {
     count_backward(to, steps);
-    let rows = breaks.rows.as_slice();
     let mut room = Room::beside(here);
+    write_all_departures(to, hop, here, breaks, out, &mut room)
+}
+
+// Writes the levels behind an arc over `out`, each with the breaks taken on the way.
+fn write_all_arrivals(
+    from: &Levels,
+    hop: Hop,
+    next: &Spans,
+    breaks: &Breaks,
+    out: &mut Levels,
+    room: &mut Room,
+) -> Result<(), NoMemory>
+    requires { IsCrossing from.now hop next.now breaks.now }
+    ensures exact { OnOk result (AreCrossed from.now hop next.now breaks.now out.new) }
+    ensures levels { OnOk result (AreLevels breaks.now out.new) }
+{
+    let rows = breaks.rows.as_slice();
     if out.fit(rows.len()).is_err() {
         return Err(NoMemory);
     }
-    if write_departures(to, hop, here, rows, 0, &mut out.first, &mut room).is_err() {
+    if write_arrivals(from, hop, next, rows, 0, &mut out.first, room).is_err() {
         return Err(NoMemory);
     }
-    if write_further_departures(to, hop, here, rows, &mut out.more, &mut room).is_err() {
+    if write_further_arrivals(from, hop, next, rows, &mut out.more, room).is_err() {
+        return Err(NoMemory);
+    }
+    Ok(())
+}
+
+// Writes the levels before an arc over `out`, each with the breaks taken on the way.
+fn write_all_departures(
+    to: &Levels,
+    hop: Hop,
+    here: &Spans,
+    breaks: &Breaks,
+    out: &mut Levels,
+    room: &mut Room,
+) -> Result<(), NoMemory>
+    requires { IsCrossing to.now hop here.now breaks.now }
+    ensures exact { OnOk result (AreCrossedBack to.now hop here.now breaks.now out.new) }
+    ensures levels { OnOk result (AreLevels breaks.now out.new) }
+{
+    let rows = breaks.rows.as_slice();
+    if out.fit(rows.len()).is_err() {
+        return Err(NoMemory);
+    }
+    if write_departures(to, hop, here, rows, 0, &mut out.first, room).is_err() {
+        return Err(NoMemory);
+    }
+    if write_further_departures(to, hop, here, rows, &mut out.more, room).is_err() {
         return Err(NoMemory);
     }
     Ok(())
