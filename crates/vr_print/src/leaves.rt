@@ -27,8 +27,8 @@ pub(crate) fn counts(alloc: Global, nodes: &[u32]) -> Result<Value, NoMemory>
     Ok(Value::Array(items))
 }
 
-/// An array of whole numbers.
-pub(crate) fn wholes(alloc: Global, values: &[i64]) -> Result<Value, NoMemory>
+/// An array of whole numbers, in their order. The only refusal is want of memory.
+pub fn wholes(alloc: Global, values: &[i64]) -> Result<Value, NoMemory>
     ensures { IfOk result (λ v. view v ≡ numbers.wholes values.now) }
 {
     let mut items = Vec::new(alloc);

@@ -6,4 +6,5 @@ mod plans;
 mod routes;
 mod solution;
 
+pub use leaves::wholes;
 pub use solution::{solution_line, solution_tree};
