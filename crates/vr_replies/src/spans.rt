@@ -14,7 +14,6 @@ ghost use Rattle.vr_model.specs.tables.Tables.{dimension_at, is_visit};
 ghost use Rattle.vr_model.specs.tables.WellFormed.{IsIn, IsWellFormed};
 ghost use Rattle.vr_plan.specs.Plans.{seen};
 ghost use Rattle.vr_plan.specs.Settled.{IsUnfeasible};
-ghost use Rattle.vr_print.specs.Numbers as numbers;
 ghost use Rattle.vr_printed.specs.Printed.{assignment_of, lists_of, plan_of};
 ghost use Rattle.vr_replies.specs.Checked.{checked_pair};
 ghost use Rattle.vr_replies.specs.Spans as spans;
@@ -25,20 +24,10 @@ use serde_json::{Value, json};
 use std::alloc::Global;
 use vr_json::Tree;
 use vr_model::{Dimension, Model, NoMemory, Seq};
+use vr_print::wholes;
 use vr_printed::{PrintedPlan, PrintedRoute, printed_lists, read_printed};
 use vr_span::{Least, span};
 use vr_steps::Line;
-
-// An array of whole numbers.
-fn wholes(alloc: Global, values: &[i64]) -> Result<Value, NoMemory>
-    ensures { IfOk result (λ v. view v ≡ numbers.wholes values.now) }
-{
-    let mut items = Vec::new(alloc);
-    for &value in values {
-        items.push(Value::from(value))?;
-    }
-    Ok(Value::Array(items))
-}
 
 // What is told of a vehicle in a dimension.
 #[tactic(auto, unfolding(crate::specs::Spans::span_tree))]
