@@ -22,7 +22,7 @@ ghost use Rattle.vr_pathfilters.specs.Known.{KnowsLoads, KnowsRows};
 ghost use Rattle.vr_pathfilters.specs.Tries.{tries_in};
 
 use crate::loads::{all_carried, loads_of, put_list};
-use crate::rows::{rows_unless, write_part};
+use crate::rows::{most_stops, rows_unless, write_part};
 use std::alloc::Global;
 use std::marker::Brand;
 use std::mem;
@@ -85,6 +85,11 @@ impl<'m> DimensionFilter<'m> {
         routes.know_entries();
         let stops = Stops::build(alloc, model, d)?;
         let (loads, known) = kept_of::<Brand>(alloc, model, d, &stops, routes, Blank::new(1))?;
+        let room = if loads.is_some() {
+            0
+        } else {
+            most_stops(model)
+        };
         Ok(DimensionFilter {
             model,
             d,
@@ -95,8 +100,8 @@ impl<'m> DimensionFilter<'m> {
             walk: Walk::new(alloc),
             list: Row::new(),
             line: no_line(alloc),
-            first: Rows::new(alloc),
-            second: Rows::new(alloc),
+            first: Rows::with_room(alloc, room)?,
+            second: Rows::with_room(alloc, room)?,
             is_prepared: false,
         })
     }

@@ -114,7 +114,12 @@ pub(crate) fn rows_unless<L: Ledger>(
     Ok(known)
 }
 
-// The rows of each vehicle with its list.
+/// More stops than the line of any list has: room for so many is never too little.
+pub(crate) fn most_stops(model: &Model) -> usize {
+    model.nodes as usize + 2
+}
+
+// The rows of each vehicle with its list, with room for those of each other list.
 fn know_all<L: Ledger>(
     alloc: Global,
     model: &Model,
@@ -132,7 +137,7 @@ fn know_all<L: Ledger>(
 {
     let mut known = Vec::with_capacity(alloc, routes.vehicles() as usize)?;
     for v in 0..routes.vehicles() {
-        let mut rows = Rows::new(alloc);
+        let mut rows = Rows::with_room(alloc, most_stops(model))?;
         write_list(
             alloc,
             model,
