@@ -187,7 +187,7 @@ module _ (model : Model) (well : IsWellFormed model) (lists : List (List ℕ)) (
   after = apply model lists m
 
   abbrev Meant : ℕ → Type 0
-  Meant = StandsNowhereElse lists (source) (second_of m)
+  Meant = StandsNowhereElse lists source (second_of m)
 
   are : are_lists model lists ≡ true
   are = are-lists model lists valid
@@ -207,10 +207,10 @@ module _ (model : Model) (well : IsWellFormed model) (lists : List (List ℕ)) (
     vehicle_low = let n = are_lists-count model lists are in omega (arith, n, low)
 
     start_meant : Meant (vehicle_at model v).start
-    start_meant = terminal_nowhere model lists are (vehicle_at model v).start (start_ends model v vehicle_low) (source) (second_of m)
+    start_meant = terminal_nowhere model lists are (vehicle_at model v).start (start_ends model v vehicle_low) source (second_of m)
 
     end_meant : Meant (vehicle_at model v).end
-    end_meant = terminal_nowhere model lists are (vehicle_at model v).end (end_ends model v vehicle_low) (source) (second_of m)
+    end_meant = terminal_nowhere model lists are (vehicle_at model v).end (end_ends model v vehicle_low) source (second_of m)
 
     weighs_same : (list : List ℕ) → ((x : ℕ) → IsTrue (holds list x) → Meant x) → route_weight model q v list ≡ route_weight model p v list
     weighs_same list each = same_route model p q Meant spared v (vehicle_at model v).end list refl start_meant end_meant each
@@ -225,7 +225,7 @@ module _ (model : Model) (well : IsWellFormed model) (lists : List (List ℕ)) (
         (weighs_same (route lists v) (λ x held w f g there. once_only model lists are x v w low (off w f g) held there))
 
     added_same : added q v ≡ added p v
-    added_same = elim (same_or_not v (source)) [
+    added_same = elim (same_or_not v source) [
       | inl here ↦ named (inl here)
       | inr apart ↦ elim (same_or_not v (second_of m)) [
         | inl here ↦ named (inr here)

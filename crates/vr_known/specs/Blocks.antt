@@ -1,6 +1,6 @@
 -- Blocks of moves: those of one kind that name the same vehicles. What is known of blocks.
-use Rattle.std.specs.Prelude.{◌≡◌, ◌≢◌, ℕ, ◌+◌, ◌*◌, ◌<◌, Bool, false, not, ◌&&◌, ◌||◌, ◌==◌, cond, nat_lt, List, [], ◌∷◌}
-use Rattle.std.specs.Prelude.{slice_index_or, length, Option, Some, None, IsTrue}
+use Rattle.std.specs.Prelude.{◌≡◌, ◌≢◌, ℕ, ◌+◌, ◌*◌, ◌<◌, Bool, false, not, ◌&&◌, ◌||◌, ◌==◌, cond, nat_lt}
+use Rattle.std.specs.Prelude.{List, [], ◌∷◌, slice_index_or, length, Option, Some, None, IsTrue}
 use Rattle.vr_model.specs.routes.Routes.{route, holds, is_active}
 use Rattle.vr_model.specs.tables.Tables.{pair_at}
 use Rattle.vr_model.specs.declared.records.Model.{Model}

@@ -1,17 +1,18 @@
 //! Moves that are known to be refused: a search does not ask about them again.
 //!
-//! What a scan has refused stays refused until a commit changes one of the lists that the move names: a move that
-//! changes no activity depends on the lists of its vehicles alone ([`validity_is_local`], [`cost_is_local`]). So
-//! [`Known`] keeps, for each kind and first vehicle, when all moves of these were last refused, and for each vehicle
-//! when its list last changed. The ranges of moves ([`nests`]) pass over those of which a sieve ([`Sieve`]) says so,
-//! and count them: what is known is one, and a search has another, which also goes over runs of moves by what they
-//! cost.
+//! What a scan has refused stays refused until a commit changes the list of one of its vehicles, or other visits are
+//! active where it changes that: on no more does it depend what a move makes ([`validity_is_local`],
+//! [`cost_is_local`]). So [`Known`] keeps, for each row of a kind, when all its moves were last refused, for each
+//! vehicle when its list last changed, and when activity last did. A row is a first vehicle or a pair that is put
+//! elsewhere; the moves of each other kind are one row. The ranges of moves ([`nests`]) pass over those of which a
+//! sieve ([`Sieve`]) says so, and count them: what is known is one, and a search has another, which also goes over
+//! runs of moves by what they cost.
 //!
 //! No stamp is above the clock, so what changes now is later than all that was learned.
 //!
-//! `vr_moves_route` and `vr_moves_cross` list their moves by these ranges and say how many a range has that is known;
-//! `vr_moves_active` and `vr_moves_pair` list theirs alike, and none of them is ever known. `vr_descent` learns at the
-//! end of each scan, and forgets where a move is made.
+//! `vr_moves_route`, `vr_moves_cross`, `vr_moves_active` and `vr_moves_pair` list their moves by these ranges and say
+//! how many a range has that is known, but for pairs that are taken out, of which none ever is. `vr_descent` learns at
+//! the end of each scan, and forgets where a move is made, by the vehicles that it touches ([`Touched`]).
 #![tactic(auto)]
 
 mod blocks;

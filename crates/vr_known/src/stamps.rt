@@ -158,8 +158,8 @@ impl Stamps {
         self.clock = self.clock.saturating_add(1);
     }
 
-    /// A move was made, and `routes` are those after it: the lists of the vehicles that it touched changed, and where it
-    /// is of a kind that changes activity, so did that.
+    /// A move was made, and `routes` are those after it: the lists of the vehicles that it touched changed, and where
+    /// it is of a kind that changes activity, so did that.
     pub(crate) fn change(
         &mut self,
         model: &RoutingModel,
