@@ -1,17 +1,17 @@
 -- Fronts of two lists that change vehicles: what the move adds, by the gap of the other list.
 use Rattle.std.proofs.Common.{◌≡◌, ◌∙◌, ℕ, zero, suc, ◌-◌, ◌<◌, ◌≤◌, List, [], ◌∷◌, ◌++◌, length, take, drop, refl, ap, ap₂, arith}
-use Rattle.std.specs.Prelude.{ℤ, ◌+ℤ◌, ◌-ℤ◌, ◌≤ℤ◌, slice_range, slice_index_or}
+use Rattle.std.specs.Prelude.{ℤ, cond, pos, ◌+ℤ◌, ◌-ℤ◌, ◌≤ℤ◌, slice_range, slice_index_or}
 use Rattle.std.proofs.lemmas.Int.{ints}
-use Rattle.std.proofs.lemmas.List.{length-take-le, get_or-take}
+use Rattle.std.proofs.lemmas.List.{drop_all, length-take-le, get_or-take}
 use Rattle.vr_model.specs.tables.Tables.{arc_cost, vehicle_at}
-use Rattle.vr_model.specs.routes.Routes.{route}
+use Rattle.vr_model.specs.routes.Routes.{is_empty, route}
 use Rattle.vr_model.specs.declared.records.Model.{Model}
 use Rattle.vr_model.specs.declared.neighbours.Move.TheVariants.{Cross}
 use Rattle.vr_sums.specs.Sums.{last_of, path_sum}
 use Rattle.vr_routes.proofs.FactLemmas.{of_cross}
 use Rattle.vr_arccosts.specs.Along.{between_cost}
 use Rattle.vr_arccosts.specs.Chains.{chain_sum}
-use Rattle.vr_arccosts.specs.Runs.{AddsNoLess, at_place, before_place, cross_base, gap_added}
+use Rattle.vr_arccosts.specs.Runs.{AddsNoLess, at_place, before_place, cross_base, fronts_added, gap_added}
 use Rattle.vr_arccosts.proofs.ChainLemmas.{path-first}
 use Rattle.vr_arccosts.proofs.MoveLemmas.{two-lists}
 use Rattle.vr_arccosts.proofs.PathLemmas.{cost-between, last-kept}
@@ -133,3 +133,50 @@ module _ (model : Model) (lists : List (List ℕ)) where
       → AddsNoLess model lists (Cross v a w b) bound
   fronts-no-less v zero w b bound base same some left is low = first-no-less v w b bound base same some (left refl) is low
   fronts-no-less v (suc a) w b bound base same some left is low = cross-no-less v (suc a) w b bound base same (omega arith) some is low
+
+-- what both fronts cost that change vehicles with different costs
+module _ (model : Model) where
+  pub front-given : (v : ℕ) (list other : List ℕ) (a b : ℕ) → 1 ≤ b → b ≤ length other
+      → between_cost model v list 0 a (take b other)
+      ≡ arc_cost model v (vehicle_at model v).start (slice_index_or other 0 0) +ℤ chain_sum (arc_cost model v) (take b other)
+      +ℤ arc_cost model v (slice_index_or other (b - 1) 0) (at_place model v list a)
+  front-given v list other a b some low =
+      let cost = arc_cost model v in
+      let start = (vehicle_at model v).start in
+      let to : ℕ = at_place model v list a in
+      let long = length-take-le b other low in
+      let used = between-used model v list 0 a (take b other) (omega (arith, long, some)) in
+      let path = front-path cost start other b some low in
+      let last : cost (last_of start (take b other)) to ≡ cost (slice_index_or other (b - 1) 0) to = ap (λ n. cost n to) (last-kept start other b some low) in
+      omega (arith, ints, used, path, last)
+
+  pub front-left : (w : ℕ) (list other : List ℕ) (a b : ℕ) → a ≤ length list → b ≤ length other → (a ≡ 0 → b < length other)
+      → between_cost model w other 0 b (take a list)
+      ≡ path_sum (arc_cost model w) (vehicle_at model w).start (take a list) +ℤ arc_cost model w (last_of (vehicle_at model w).start (take a list)) (at_place model w other b)
+  front-left w list other zero b within low some =
+      let less = some refl in
+      let is = bare model w other 0 b (omega arith) low (omega (arith, less)) in
+      omega (arith, ints, is)
+  front-left w list other (suc a) b within low some =
+      let long = length-take-le (suc a) list within in
+      between-used model w other 0 b (take (suc a) list) (omega (arith, long))
+
+  pub front-gone : (w : ℕ) (list other : List ℕ) (a b : ℕ) → a ≡ 0 → b ≡ length other → between_cost model w other 0 b (take a list) ≡ pos 0
+  front-gone w list other a b none all =
+      let x : ℤ = path_sum (arc_cost model w) (before_place model w other 0) [] +ℤ arc_cost model w (last_of (before_place model w other 0) []) (at_place model w other b) in
+      ap (λ n. between_cost model w other 0 b (take n list)) none
+      ∙ ap (λ e. cond e (pos 0) x) (ap is_empty (drop_all b other (omega (arith, all))))
+
+  pub front-sum : (w : ℕ) (list : List ℕ) (a : ℕ) → 1 ≤ a → a ≤ length list
+      → path_sum (arc_cost model w) (vehicle_at model w).start (take a list) ≡ arc_cost model w (vehicle_at model w).start (slice_index_or list 0 0) +ℤ chain_sum (arc_cost model w) (take a list)
+  front-sum w list a some low = front-path (arc_cost model w) (vehicle_at model w).start list a some low
+
+  pub fronts-told : (lists : List (List ℕ)) (v a w b : ℕ) (bound : ℤ) → bound ≤ℤ fronts_added model v (route lists v) w (route lists w) a b → AddsNoLess model lists (Cross v a w b) bound
+  fronts-told lists v a w b bound low one =
+      let list : List ℕ = route lists v in
+      let other : List ℕ = route lists w in
+      let facts = of_cross model lists v a w b one in
+      let mine = cost-between model v list (take b other) 0 a (omega arith) facts.gap in
+      let his = cost-between model w other (take a list) 0 b (omega arith) facts.other_gap in
+      let added = two-lists model lists (Cross v a w b) v w (take b other ++ drop a list) (take a list ++ drop b other) facts.vehicle facts.other facts.apart refl in
+      omega (arith, ints, mine, his, added, low)

@@ -93,3 +93,10 @@ cross_base model v list w other a =
     (arc_cost model v (vehicle_at model v).start (slice_index_or other 0 0)
     -ℤ arc_cost model w (vehicle_at model w).start (slice_index_or other 0 0))
     +ℤ front_added model v list w a
+
+-- what the move adds that lets the front of the list of vehicle v, up to place a, change vehicles with one of
+-- vehicle w, up to place b
+abbrev pub fronts_added : Model → ℕ → List ℕ → ℕ → List ℕ → ℕ → ℕ → ℤ
+fronts_added model v list w other a b =
+    (between_cost model v list 0 a (take b other) -ℤ between_cost model v list 0 a (slice_range list 0 a))
+    +ℤ (between_cost model w other 0 b (take a list) -ℤ between_cost model w other 0 b (slice_range other 0 b))

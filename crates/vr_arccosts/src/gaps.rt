@@ -376,9 +376,9 @@ pub fn front_last(line: &Line, a: u32, other: &Line) -> u32
     node_before(line, a)
 }
 
-// The node of the stop before a place of the list of a vehicle.
+/// The node of the stop before a place of the list of a vehicle.
 #[inline(always)]
-fn node_before(line: &Line, place: u32) -> u32
+pub fn node_before(line: &Line, place: u32) -> u32
     requires well_formed { IsWellFormed line.now.costs.model.now }
     requires vehicle { line.now.costs.vehicle < length line.now.costs.model.now.vehicles }
     requires nodes { All (λ node. node < line.now.costs.model.now.nodes) line.now.list.now }

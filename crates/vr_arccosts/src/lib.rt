@@ -11,6 +11,7 @@
 
 mod arcs;
 mod costs;
+mod fronts;
 mod gaps;
 mod lines;
 mod moves;

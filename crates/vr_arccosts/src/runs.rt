@@ -10,6 +10,7 @@ ghost use Rattle.vr_parts.specs.Bounds.{IsAddedByChange};
 ghost use Rattle.vr_arccosts.specs.Runs.{AddsNoLess, left_added};
 
 use crate::ArcCost;
+use crate::fronts::first_front;
 use crate::gaps::{
     Asked, Ends, cross_base, first_behind, first_gap, first_in_front, first_swap, first_turn,
     front_last, node_at,
@@ -21,9 +22,8 @@ impl<'m> ArcCost<'m> {
     /// Goes over a run of moves of the committed lists, which differ in their last number: those of the numbers from
     /// `from` on, below `end`. Says from which number on some may add less than a bound, also where the lists after it
     /// are not valid: each move in front of it adds no less. The numbers of `mv`, of which the last is any, need not be
-    /// those of a move: of a vehicle, a pair or a place that there is not it says `from` or `None`. `None` of kinds that
-    /// it does not go over (`MakeInactive`, `PairInactive` and `SwapActive`), and of fronts of vehicles with different
-    /// costs.
+    /// those of a move: of a vehicle, a pair or a place that there is not it says `from` or `None`. `None` of kinds
+    /// that it does not go over (`MakeInactive`, `PairInactive` and `SwapActive`).
     #[inline(always)]
     pub fn first_below(
         &self,
@@ -46,7 +46,7 @@ impl<'m> ArcCost<'m> {
             Move::OrOpt { v, a, k, .. } => Some(self.first_shifted(routes, v, a, k, asked)),
             Move::Relocate { v, a, w, .. } => Some(self.first_relocated(routes, v, a, w, asked)),
             Move::Exchange { v, a, w, .. } => Some(self.first_exchanged(routes, v, a, w, asked)),
-            Move::Cross { v, a, w, .. } => self.first_crossed(routes, v, a, w, asked),
+            Move::Cross { v, a, w, .. } => Some(self.first_crossed(routes, v, a, w, asked)),
             Move::MakeActive { u, w, .. } => Some(self.first_made_active(routes, u, w, asked)),
             Move::PairActive { p, w, s, .. } => {
                 Some(self.first_pair_active(routes, p, w, s, asked))
@@ -196,37 +196,77 @@ impl<'m> ArcCost<'m> {
         first_swap(&line, a, &other, asked)
     }
 
-    // The run of a front that changes vehicles with those of another list, by the place behind the latter. `None` where
-    // the vehicles do not have the same costs.
+    // The run of a front that changes vehicles with those of another list, by the place behind the latter.
     #[inline(never)]
-    fn first_crossed(&self, routes: &Routes, v: u32, a: u32, w: u32, asked: Asked) -> Option<u32>
+    fn first_crossed(&self, routes: &Routes, v: u32, a: u32, w: u32, asked: Asked) -> u32
         requires stands { StandsAlong self.now routes.now }
         requires order { asked.from ≤ asked.end }
-        ensures from { IfSome result (λ first. asked.from ≤ first) }
-        ensures within { IfSome result (λ first. first ≤ asked.end) }
-        ensures no_less { IfSome result (λ first. (b : ℕ) → asked.from ≤ b → b < first
-            → AddsNoLess self.now.model routes.now.lists (Cross v a w b) asked.bound) }
+        ensures from { asked.from ≤ result }
+        ensures within { result ≤ asked.end }
+        ensures no_less { (b : ℕ) → asked.from ≤ b → b < result
+            → AddsNoLess self.now.model routes.now.lists (Cross v a w b) asked.bound }
     {
         if v >= w || w >= routes.vehicles() || a > routes.len(v) {
-            return None;
+            return asked.from;
         }
-        if asked.end > routes.len(w) + 1 || !self.have_same_costs(v, w) {
-            return None;
+        if asked.end > routes.len(w) + 1 {
+            return asked.from;
         }
         if asked.from == asked.end {
-            return Some(asked.end);
+            return asked.end;
         }
         if asked.from > 0 {
-            return Some(self.first_fronts(routes, v, a, w, asked));
+            return self.first_both(routes, v, a, w, asked);
         }
         // the other front is empty
         if a > 0 && self.crossed(routes, v, a, w, 0) < asked.bound {
-            return Some(0);
+            return 0;
         }
-        Some(self.first_fronts(routes, v, a, w, asked.starting(1)))
+        self.first_both(routes, v, a, w, asked.starting(1))
     }
 
-    // The same run, where the other front has a visit: fronts that leave one list empty are asked alone.
+    // The same run, where the other front has a visit.
+    #[inline(always)]
+    fn first_both(&self, routes: &Routes, v: u32, a: u32, w: u32, asked: Asked) -> u32
+        requires stands { StandsAlong self.now routes.now }
+        requires vehicles { v < w }
+        requires other { w < length routes.now.lists }
+        requires gap { a ≤ length (route routes.now.lists v) }
+        requires some { 1 ≤ asked.from }
+        requires order { asked.from ≤ asked.end }
+        requires places { asked.end ≤ length (route routes.now.lists w) + 1 }
+        ensures from { asked.from ≤ result }
+        ensures within { result ≤ asked.end }
+        ensures no_less { (b : ℕ) → asked.from ≤ b → b < result
+            → AddsNoLess self.now.model routes.now.lists (Cross v a w b) asked.bound }
+    {
+        if self.have_same_costs(v, w) {
+            return self.first_fronts(routes, v, a, w, asked);
+        }
+        self.first_unlike(routes, v, a, w, asked)
+    }
+
+    // The same run, where the vehicles need not have the same costs.
+    #[inline(always)]
+    fn first_unlike(&self, routes: &Routes, v: u32, a: u32, w: u32, asked: Asked) -> u32
+        requires stands { StandsAlong self.now routes.now }
+        requires vehicles { v < w }
+        requires other { w < length routes.now.lists }
+        requires gap { a ≤ length (route routes.now.lists v) }
+        requires some { 1 ≤ asked.from }
+        requires order { asked.from ≤ asked.end }
+        requires places { asked.end ≤ length (route routes.now.lists w) + 1 }
+        ensures from { asked.from ≤ result }
+        ensures within { result ≤ asked.end }
+        ensures no_less { (b : ℕ) → asked.from ≤ b → b < result
+            → AddsNoLess self.now.model routes.now.lists (Cross v a w b) asked.bound }
+    {
+        let line = self.line_of(routes, v);
+        let other = self.line_of(routes, w);
+        first_front(&line, a, &other, asked)
+    }
+
+    // The same run, where both vehicles have the same costs: fronts that leave one list empty are told alone.
     #[inline(always)]
     fn first_fronts(&self, routes: &Routes, v: u32, a: u32, w: u32, asked: Asked) -> u32
         requires stands { StandsAlong self.now routes.now }

@@ -242,9 +242,9 @@ fn chain_cost(
     along[w as usize].chain(reversed, from, to)
 }
 
-// The arc costs of a vehicle along a chain, or along the chain backwards, added up.
+/// The arc costs of a vehicle along a chain, or along the chain backwards, added up.
 #[inline(never)]
-fn costs_along(costs: &ArcCosts, reversed: bool, chain: &[u32]) -> i64
+pub fn costs_along(costs: &ArcCosts, reversed: bool, chain: &[u32]) -> i64
     requires well_formed { IsWellFormed costs.now.model.now }
     requires vehicle { costs.now.vehicle < length costs.now.model.now.vehicles }
     requires few { length chain.now ≤ 1000 }

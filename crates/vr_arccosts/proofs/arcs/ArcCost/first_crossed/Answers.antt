@@ -19,7 +19,7 @@ returns-clause-no_less c b low high =
     let next = c.starting.ensures in
     let from = next.from in
     elim (cases_lt 0 b) [
-      | inl behind ↦ subst (λ (d : ℤ). AddsNoLess model lists (Cross v a w b) d) next.bound (c.first_fronts-2.ensures.no_less b (omega (arith, from, behind)) high)
+      | inl behind ↦ subst (λ (d : ℤ). AddsNoLess model lists (Cross v a w b) d) next.bound (c.first_both-2.ensures.no_less b (omega (arith, from, behind)) high)
       | inr here ↦ (
           let same : 0 ≡ b = omega (arith, here) in
           subst (λ n. AddsNoLess model lists (Cross v a w n) c.args.asked.bound) same (elim c.else-a-gt0.branch [
