@@ -1,6 +1,6 @@
 -- Insertions as code compares them.
 use Rattle.std.specs.Prelude.{◌≡◌, ℕ, suc, ◌<◌, ◌≤◌, Bool, true, false, cond, List, [], ◌∷◌, map, fold, length}
-use Rattle.std.specs.Prelude.{◌+◌, ◌^◌, insert, slice_index_or, ℤ, pos, neg_ℤ, ◌≤ℤ◌, int_le, nat_lt, nat_le}
+use Rattle.std.specs.Prelude.{◌+◌, ◌^◌, insert, slice_index_or, ℤ, pos, neg_ℤ, ◌+ℤ◌, ◌≤ℤ◌, int_le, nat_lt, nat_le}
 use Rattle.std.specs.Prelude.{◌&&◌, ◌||◌, IsTrue, Option, Some, None}
 use Rattle.std.specs.List.{list_all}
 use Rattle.vr_model.specs.tables.Numbers.{from_to, each, below}
@@ -141,3 +141,10 @@ pub record IsLeastAhead (model : Model) (v : ℕ) (list : List ℕ) (node k : �
 pub record AreLeastAhead (model : Model) (v : ℕ) (list : List ℕ) (node : ℕ) (ahead : List ℤ) : Type 0 where
   pub one_of_each : length ahead ≡ suc (length list)
   pub each : (k : ℕ) (d : ℤ) → k < length ahead → IsLeastAhead model v list node k (slice_index_or ahead k d)
+
+-- of the places before which a visit adds least to the list of vehicle v, the first
+pub record IsFirstLeast (model : Model) (v : ℕ) (list : List ℕ) (node place : ℕ) : Type 0 where
+  pub within : place ≤ length list
+  pub least : (t : ℕ) → t ≤ length list → visit_increase model v list node place ≤ℤ visit_increase model v list node t
+  pub before : (t : ℕ) → t < place
+      → (visit_increase model v list node place +ℤ pos 1) ≤ℤ visit_increase model v list node t

@@ -1,9 +1,9 @@
 //! What no place of a list can do better than.
 
-ghost use Rattle.std.specs.Prelude.{◌≡◌, ℕ, ◌<◌, ◌≤◌, ◌^◌, All, OnOk, length, neg_ℤ, pos, ◌+ℤ◌, ◌≤ℤ◌};
+ghost use Rattle.std.specs.Prelude.{◌≡◌, ℕ, ◌<◌, ◌≤◌, ◌^◌, All, OnOk, cond, int_lt, length, neg_ℤ, pos, ◌+ℤ◌, ◌≤ℤ◌};
 ghost use Rattle.vr_model.specs.tables.WellFormed.{IsWellFormed};
 ghost use Rattle.vr_first_insert.specs.Increases.{pair_increase as pair_increase_of};
-ghost use Rattle.vr_first_insert.specs.Placings.{AreLeastAhead, IsLeast};
+ghost use Rattle.vr_first_insert.specs.Placings.{AreLeastAhead, IsFirstLeast, IsLeast};
 
 use crate::increase::{pair_increase, visit_increase};
 use vr_model::{Model, NoMemory, Seq};
@@ -23,6 +23,45 @@ pub(crate) fn least_visit(model: &Model, v: u32, list: &[u32], node: u32) -> i64
         least = least.min(visit_increase(model, v, list, node, t));
     }
     least
+}
+
+/// A place, and what a visit adds before it.
+#[derive(Clone, Copy)]
+pub(crate) struct Cheapest {
+    pub(crate) place: usize,
+    pub(crate) least: i64,
+}
+
+// The cheaper of two places, the first of equal ones.
+fn cheaper(at: Cheapest, t: usize, next: i64) -> Cheapest
+    ensures { result ≡ cond (int_lt next at.least) (record { place = t; least = next }) at }
+{
+    if next < at.least {
+        Cheapest {
+            place: t,
+            least: next,
+        }
+    } else {
+        at
+    }
+}
+
+/// The first of the places of the list of vehicle `v` before which a visit adds least.
+pub(crate) fn least_place(model: &Model, v: u32, list: &[u32], node: u32) -> usize
+    requires well_formed { IsWellFormed model.now }
+    requires vehicle { v < length model.now.vehicles }
+    requires nodes { All (λ node. node < model.now.nodes) list.now }
+    requires visit { node < model.now.nodes }
+    ensures { IsFirstLeast model.now v list.now node result }
+{
+    let mut at = Cheapest {
+        place: 0,
+        least: visit_increase(model, v, list, node, 0),
+    };
+    for t in 1..list.len() + 1 {
+        at = cheaper(at, t, visit_increase(model, v, list, node, t));
+    }
+    at.place
 }
 
 /// Writes the least that a visit adds to the list of vehicle `v` before its last places: before the last one, before

@@ -1,21 +1,21 @@
 //! The best places of an item in one list.
 
 ghost use Rattle.std.specs.Prelude.{◌≡◌, ℕ, suc, ◌+◌, ◌<◌, ◌≤◌, ◌^◌, fold, insert, map, IfOk, IsTrue, length};
-ghost use Rattle.std.specs.Prelude.{neg_ℤ, pos, ◌≤ℤ◌};
+ghost use Rattle.std.specs.Prelude.{neg_ℤ, pos, ◌≤ℤ◌, ◌&&◌};
 ghost use Rattle.std.specs.List.{list_all};
 ghost use Rattle.vr_model.specs.moves.Moves.{gaps};
-ghost use Rattle.vr_model.specs.routes.Rules.{allows_vehicle};
+ghost use Rattle.vr_model.specs.routes.Rules.{allows_vehicle, is_route_open};
 ghost use Rattle.vr_model.specs.tables.Numbers.{each, from_to};
 ghost use Rattle.vr_model.specs.tables.WellFormed.{IsWellFormed};
 ghost use Rattle.vr_rules.specs.declared.items.Item.TheVariants.{Visit, PickupAndDelivery};
-ghost use Rattle.vr_rules.specs.Placing.{nodes_of};
+ghost use Rattle.vr_rules.specs.Placing.{improves as improves_by, nodes_of};
 ghost use Rattle.vr_inserting.specs.Probes.{AreReachedAt};
-ghost use Rattle.vr_first_insert.specs.Placings.{best_in, pair_choice, visit_choice, weigh};
+ghost use Rattle.vr_first_insert.specs.Placings.{best_in, key_of, pair_choice, visit_choice, weigh};
 ghost use Rattle.vr_first_insert.specs.Placings.{placed, AreLeastAhead, IsLeast, MayHold};
 ghost use Rattle.vr_first_insert.specs.declared.choice.Placing.TheVariants.{One, Two};
 ghost use Rattle.vr_first_insert.specs.Ready.{IsReady};
 
-use crate::bound::{least_apart, least_behind, least_further, write_ahead};
+use crate::bound::{least_apart, least_behind, least_further, least_place, write_ahead};
 use crate::choice::{Choice, Placing, improves, may_improve};
 use crate::increase::{pair_increase, visit_increase};
 use crate::place::{move_on, write_placed};
@@ -77,8 +77,66 @@ fn weigh_visit(
     }
 }
 
-// The best beside a visit before each place of the list of vehicle `v`.
+// Whether a visit before place `t` is better than the best so far, and vehicle `v` may drive its list with it.
+fn is_visit_taken(
+    trying: &mut Trying,
+    model: &Model,
+    keeps: &[Kept],
+    v: u32,
+    list: &[u32],
+    class: u32,
+    node: u32,
+    t: usize,
+    best: Option<Choice>,
+) -> Result<bool, NoMemory>
+    requires well_formed { IsWellFormed model.now }
+    requires vehicle { v < length model.now.vehicles }
+    requires ready { IsReady model.now v list.now keeps.now }
+    requires may_hold { MayHold model.now list.now (Visit node) }
+    requires allowed { IsTrue (list_all (allows_vehicle model.now v) (nodes_of (Visit node))) }
+    requires within { t ≤ length list.now }
+    requires longer { trying.old.longer ≡ placed list.now (One node t) }
+    ensures { IfOk result (λ taken. taken ≡ (improves_by key_of best (visit_choice model.now v list.now class node t)
+        && is_route_open model.now v (placed list.now (One node t)))) }
+{
+    if !improves(best, visit_at(model, v, list, class, node, t)) {
+        return Ok(false);
+    }
+    may_visit(trying, model, keeps, v, list, node, t)
+}
+
+// The best beside a visit before each place of the list of vehicle `v`. The first place at which it adds least comes
+// first: where that is taken, no other is looked at.
 fn best_visit(
+    room: &mut Room,
+    model: &Model,
+    keeps: &[Kept],
+    v: u32,
+    list: &[u32],
+    class: u32,
+    node: u32,
+    best: Option<Choice>,
+) -> Result<Option<Choice>, NoMemory>
+    requires well_formed { IsWellFormed model.now }
+    requires vehicle { v < length model.now.vehicles }
+    requires ready { IsReady model.now v list.now keeps.now }
+    requires may_hold { MayHold model.now list.now (Visit node) }
+    requires allowed { IsTrue (list_all (allows_vehicle model.now v) (nodes_of (Visit node))) }
+    ensures { IfOk result (λ chosen. chosen ≡ fold (weigh model.now list.now) best
+        (map (visit_choice model.now v list.now class node) (gaps list.now))) }
+{
+    let t = least_place(model, v, list, node);
+    let trying = &mut room.trying;
+    write_placed(list, Placing::One(node, t as u32), &mut trying.longer)?;
+    if is_visit_taken(trying, model, keeps, v, list, class, node, t, best)? {
+        return Ok(Some(visit_at(model, v, list, class, node, t)));
+    }
+    let best = best_of_places(room, model, keeps, v, list, class, node, best)?;
+    Ok(best)
+}
+
+// The same, by one place after another.
+fn best_of_places(
     room: &mut Room,
     model: &Model,
     keeps: &[Kept],

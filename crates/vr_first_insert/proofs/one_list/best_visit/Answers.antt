@@ -1,44 +1,26 @@
-use Rattle.std.proofs.Common.{◌≡◌, ◌∙◌, ◌+◌, ℕ, suc, ap, sym, arith, length}
-use Rattle.std.specs.Prelude.{fold, map}
-use Rattle.std.proofs.lemmas.List.Edits.{length-insert}
+use Rattle.std.proofs.Common.{◌≡◌, ◌∙◌, ℕ, Some, true, ap, sym, arith}
+use Rattle.std.specs.Prelude.{◌&&◌}
 use Rattle.vr_lists.proofs.VisitLists.{visits-few}
-use Rattle.vr_model.specs.tables.Numbers.{below}
-use Rattle.vr_model.proofs.tables.Ranges.{below-more}
-use Rattle.vr_first_insert.specs.declared.choice.Choice.{Choice}
-use Rattle.vr_first_insert.specs.Placings.{visit_choice, weigh}
-use Rattle.vr_first_insert.proofs.InsertLemmas.{fold-one}
+use Rattle.vr_model.specs.deciding.Testing.{and_left, and_right}
+use Rattle.vr_model.specs.routes.Rules.{is_route_open}
+use Rattle.vr_rules.specs.Placing.{improves}
+use Rattle.vr_first_insert.specs.declared.choice.Placing.TheVariants.{One}
+use Rattle.vr_first_insert.specs.Placings.{key_of, placed, visit_choice}
+use Rattle.vr_first_insert.proofs.FirstPlace.{first-taken}
 use Rattle.vr_first_insert.proofs.one_list.best_visit.Goals as goal
 
 pub write_placed-requires-clause-few : goal.write_placed-requires-clause-few
 write_placed-requires-clause-few c = omega (arith, visits-few c.args.model.now c.args.list.now c.requires.may_hold.visits c.requires.may_hold.distinct, c.requires.well_formed.number_of_nodes.1)
 
-pub move_on-requires : goal.move_on-requires
-move_on-requires c =
-    let list = c.args.list.now in
-    let t : ℕ = c.loop-t.t in
-    let long = ap length c.loop-t.invariant.longer ∙ length-insert list t c.args.node (omega arith) in
-    omega (arith, long, c.loop-t-test.true)
+pub overflow_cast-t : goal.overflow_cast-t
+overflow_cast-t c = omega (arith, visits-few c.args.model.now c.args.list.now c.requires.may_hold.visits c.requires.may_hold.distinct, c.requires.well_formed.number_of_nodes.1, c.least_place-t.ensures.within)
 
-pub weigh_visit-requires-in-loop-t-clause-longer : goal.weigh_visit-requires-in-loop-t-clause-longer
-weigh_visit-requires-in-loop-t-clause-longer c = c.move_on.ensures c.args.list.now c.args.node c.loop-t-test.true c.loop-t.invariant.longer
-
-pub loop-t-preserved : goal.loop-t-preserved
-loop-t-preserved c =
+pub returns-then-branch : goal.returns-then-branch
+returns-then-branch c =
     let model = c.args.model.now in
     let list = c.args.list.now in
-    let t : ℕ = c.loop-t.t in
-    let f : ℕ → Choice = visit_choice model c.args.v list c.args.class c.args.node in
-    record {
-      best = c.in_ok-best.ensures.best
-          ∙ ap (λ best. weigh model list best (f (t + 1))) c.loop-t.invariant.best
-          ∙ sym (fold-one (weigh model list) c.args.best f (below (t + 1)) (t + 1)) ∙ sym (ap (λ ks. fold (weigh model list) c.args.best (map f ks)) (below-more (t + 1)));
-      longer = c.in_ok-best.ensures.longer ∙ c.move_on.ensures list c.args.node c.loop-t-test.true c.loop-t.invariant.longer;
-    }
-
-pub returns : goal.returns
-returns c =
-    let model = c.args.model.now in
-    let list = c.args.list.now in
-    let f : ℕ → Choice = visit_choice model c.args.v list c.args.class c.args.node in
-    let end : c.loop-t.t + 1 ≡ suc (length list) = omega arith in
-    c.loop-t.invariant.best ∙ ap (λ n. fold (weigh model list) c.args.best (map f (below n))) end
+    let place : ℕ = c.least_place-t.result in
+    let better = improves key_of c.args.best (visit_choice model c.args.v list c.args.class c.args.node place) in
+    let opens = is_route_open model c.args.v (placed list (One c.args.node place)) in
+    let taken : (better && opens) ≡ true = sym c.in_ok-is_visit_taken.ensures ∙ c.if-branch.true in
+    ap Some c.visit_at.ensures ∙ first-taken model c.args.v list c.args.class c.args.node place c.least_place-t.ensures c.args.best (and_left better opens taken) (and_right better opens taken)

@@ -2,7 +2,7 @@ use Rattle.std.proofs.Common.{◌≡◌, ◌+◌}
 use Rattle.std.specs.Prelude.{fold, insert, map}
 use Rattle.vr_model.specs.tables.Numbers.{below}
 use Rattle.vr_first_insert.specs.Placings.{visit_choice, weigh}
-use Rattle.vr_first_insert.proofs.one_list.best_visit.Given as goal
+use Rattle.vr_first_insert.proofs.one_list.best_of_places.Given as goal
 
 -- the best beside the places so far, of which the last one is written
 abbrev pub invariant-loop-t : goal.invariant-loop-t
