@@ -1,5 +1,5 @@
 -- What is known of items in lists.
-use Rattle.std.proofs.Common.{◌≡◌, ◌∙◌, ◌<◌, ℕ, zero, suc, List, [], Bool, true, false, Option, Some, None, ℤ, ◌≤ℤ◌, refl, ap, sym, subst, inl, inr, arith, length, length-set}
+use Rattle.std.proofs.Common.{◌≡◌, ◌∙◌, ◌<◌, ◌+◌, ℕ, zero, suc, List, [], Bool, true, false, Option, Some, None, ℤ, ◌≤ℤ◌, refl, ap, sym, subst, inl, inr, arith, length, length-set}
 use Rattle.std.specs.Prelude.{map, not, replicate, slice_index_or, slice_set}
 use Rattle.std.specs.List.{list_all}
 use Rattle.std.proofs.lemmas.Bool.Decides.{eqb_tells}
@@ -20,7 +20,7 @@ use Rattle.vr_first_insert.specs.declared.choice.Placing.TheVariants.{One, Two}
 use Rattle.vr_first_insert.specs.declared.known.Known.{Known}
 use Rattle.vr_first_insert.specs.declared.known.Known.TheVariants.{Nothing, AtLeast, Best}
 use Rattle.vr_model.proofs.tables.Tests.{clash}
-use Rattle.vr_first_insert.specs.Kept.{best_of, is_settled, row_at, unread, AddsAtLeast, AreKnown, AreRows, IsKnown}
+use Rattle.vr_first_insert.specs.Kept.{best_of, candidate_at, is_settled, row_at, AddsAtLeast, AreKnown, AreRows, IsForgotten, IsKnown}
 use Rattle.vr_first_insert.specs.Placings.{best_in, choices_in, key_of, may_improve, pair_choice, placed, visit_choice}
 use Rattle.vr_first_insert.proofs.ReadyLemmas.{closed-by_vehicle, passed-closed}
 use Rattle.vr_first_insert.proofs.BoundLemmas.{none-improves, passed-over}
@@ -80,50 +80,63 @@ settled-is model v list candidate Nothing best h is = absurd (clash false h refl
 settled-is model v list candidate (AtLeast least) best h is = item-passed_over model v list candidate best least is (no-better (may_improve best candidate.class least) h)
 settled-is model v list candidate (Best found) best h is = best-merged model v list candidate found best is
 
--- what is known of one list is written
-pub known-written : (model : Model) (lists : List (List ℕ)) (candidate : Candidate) (row : List Known) (v : ℕ) (known : Known) → AreKnown model lists candidate row → IsKnown model v (route lists v) candidate known
-    → AreKnown model lists candidate (slice_set row v known)
-known-written model lists candidate row v known are is = record {
-  many = length-set row v known ∙ are.many;
-  each = λ w low. elim (eqb_tells w v) [
-    | inl same ↦ subst (λ u. IsKnown model u (route lists u) candidate (slice_index_or (slice_set row v known) u Nothing)) (sym same.1)
-        (subst (IsKnown model v (route lists v) candidate) (sym (get_or-set_same row v known Nothing (let m = are.many in let e = same.1 in omega (arith, low, m, e)))) is)
-    | inr other ↦ subst (IsKnown model w (route lists w) candidate) (sym (get_or-set_other row v w known Nothing other.1)) (are.each w low)
+-- what is known of one candidate is written
+pub known-written : (model : Model) (v : ℕ) (list : List ℕ) (candidates : List Candidate) (row : List Known) (i : ℕ) (known : Known) → AreKnown model v list candidates row → IsKnown model v list (candidate_at candidates i) known
+    → AreKnown model v list candidates (slice_set row i known)
+known-written model v list candidates row i known are is = record {
+  many = length-set row i known ∙ are.many;
+  each = λ k low. elim (eqb_tells k i) [
+    | inl same ↦ subst (λ u. IsKnown model v list (candidate_at candidates u) (slice_index_or (slice_set row i known) u Nothing)) (sym same.1)
+        (subst (IsKnown model v list (candidate_at candidates i)) (sym (get_or-set_same row i known Nothing (let m = are.many in let e = same.1 in omega (arith, low, m, e)))) is)
+    | inr other ↦ subst (IsKnown model v list (candidate_at candidates k)) (sym (get_or-set_other row i k known Nothing other.1)) (are.each k low)
   ];
-}
-
--- a list has changed, and nothing is known of it
-pub known-forgotten : (model : Model) (lists : List (List ℕ)) (candidate : Candidate) (row : List Known) (v : ℕ) (list : List ℕ) → v < length lists → AreKnown model lists candidate row
-    → AreKnown model (with_route lists v list) candidate (slice_set row v Nothing)
-known-forgotten model lists candidate row v list there are = record {
-  many = length-set row v Nothing ∙ are.many ∙ sym (length-set lists v list);
-  each = λ w low. elim (eqb_tells w v) [
-    | inl same ↦ subst (λ u. IsKnown model u (route (with_route lists v list) u) candidate (slice_index_or (slice_set row v Nothing) u Nothing)) (sym same.1)
-        (subst (IsKnown model v (route (with_route lists v list) v) candidate) (sym (get_or-set_same row v Nothing Nothing (let m = are.many in omega (arith, there, m)))) tt)
-    | inr other ↦ subst (λ l. IsKnown model w l candidate (slice_index_or (slice_set row v Nothing) w Nothing)) (sym (route_set_other lists v w list other.1))
-        (subst (IsKnown model w (route lists w) candidate) (sym (get_or-set_other row v w Nothing Nothing other.1)) (are.each w (let m = length-set lists v list in omega (arith, low, m))))
-  ];
-}
-
-pub rows-forgotten : (model : Model) (lists : List (List ℕ)) (candidates : List Candidate) (rows after : List (List Known)) (v : ℕ) (list : List ℕ) → v < length lists → AreRows model lists candidates rows
-    → length after ≡ length rows → ((i : ℕ) → i < length rows → row_at after i ≡ slice_set (row_at rows i) v Nothing) → AreRows model (with_route lists v list) candidates after
-rows-forgotten model lists candidates rows after v list there are many each = record {
-  many = many ∙ are.many;
-  each = λ i low. subst (AreKnown model (with_route lists v list) (slice_index_or candidates i unread)) (sym (each i (let m = are.many in omega (arith, low, m))))
-      (known-forgotten model lists (slice_index_or candidates i unread) (row_at rows i) v list there (are.each i low));
 }
 
 -- one row is written
-pub row-written : (model : Model) (lists : List (List ℕ)) (candidates : List Candidate) (rows : List (List Known)) (i : ℕ) (row : List Known) → AreRows model lists candidates rows
-    → AreKnown model lists (slice_index_or candidates i unread) row → AreRows model lists candidates (slice_set rows i row)
-row-written model lists candidates rows i row are is = record {
-  many = length-set rows i row ∙ are.many;
-  each = λ k low. elim (eqb_tells k i) [
-    | inl same ↦ subst (λ j. AreKnown model lists (slice_index_or candidates j unread) (row_at (slice_set rows i row) j)) (sym same.1)
-        (subst (AreKnown model lists (slice_index_or candidates i unread)) (sym (get_or-set_same rows i row [] (let m = are.many in let e = same.1 in omega (arith, low, m, e)))) is)
-    | inr other ↦ subst (AreKnown model lists (slice_index_or candidates k unread)) (sym (get_or-set_other rows i k row [] other.1)) (are.each k low)
+pub row-written : (model : Model) (lists : List (List ℕ)) (candidates : List Candidate) (rows : List (List Known)) (v : ℕ) (row : List Known) → AreRows model lists candidates rows
+    → AreKnown model v (route lists v) candidates row → AreRows model lists candidates (slice_set rows v row)
+row-written model lists candidates rows v row are is = record {
+  many = length-set rows v row ∙ are.many;
+  each = λ w low. elim (eqb_tells w v) [
+    | inl same ↦ subst (λ u. AreKnown model u (route lists u) candidates (row_at (slice_set rows v row) u)) (sym same.1)
+        (subst (AreKnown model v (route lists v) candidates) (sym (get_or-set_same rows v row [] (let m = are.many in let e = same.1 in omega (arith, low, m, e)))) is)
+    | inr other ↦ subst (AreKnown model w (route lists w) candidates) (sym (get_or-set_other rows v w row [] other.1)) (are.each w low)
   ];
 }
+
+-- one candidate more is forgotten
+pub nothing-more : (row : List Known) (i : ℕ) → i < length row → ((k : ℕ) → k < i → slice_index_or row k Nothing ≡ Nothing) → (k : ℕ) → k < i + 1 → slice_index_or (slice_set row i Nothing) k Nothing ≡ Nothing
+nothing-more row i there done k low = elim (eqb_tells k i) [
+  | inl same ↦ subst (λ j. slice_index_or (slice_set row i Nothing) j Nothing ≡ Nothing) (sym same.1) (get_or-set_same row i Nothing Nothing there)
+  | inr other ↦ get_or-set_other row i k Nothing Nothing other.1 ∙ done k (less-of k i low other.1)
+]
+  where
+    less-of : (k i : ℕ) → k < i + 1 → (k ≡ i → ⊥) → k < i
+    less-of zero zero low e = absurd (e refl)
+    less-of zero (suc i) low e = omega arith
+    less-of (suc k) zero low e = absurd (omega (arith, low))
+    less-of (suc k) (suc i) low e = let l = less-of k i (omega (arith, low)) (λ same. e (ap suc same)) in omega (arith, l)
+
+-- nothing is known of a list
+known-nothing : (model : Model) (v : ℕ) (list : List ℕ) (candidates : List Candidate) (row : List Known) → length row ≡ length candidates → ((i : ℕ) → slice_index_or row i Nothing ≡ Nothing) → AreKnown model v list candidates row
+known-nothing model v list candidates row many nothing = record {
+  many = many;
+  each = λ i low. subst (IsKnown model v list (candidate_at candidates i)) (sym (nothing i)) tt;
+}
+
+-- a list has changed, and nothing is known of it
+pub rows-forgotten : (model : Model) (lists : List (List ℕ)) (candidates : List Candidate) (rows after : List (List Known)) (v : ℕ) (list : List ℕ) → v < length lists → AreRows model lists candidates rows
+    → IsForgotten v rows after → AreRows model (with_route lists v list) candidates after
+rows-forgotten model lists candidates rows after v list there are is = subst (AreRows model (with_route lists v list) candidates) (sym is.rows_are) (record {
+  many = length-set rows v is.row ∙ are.many ∙ sym (length-set lists v list);
+  each = λ w low. elim (eqb_tells w v) [
+    | inl same ↦ subst (λ u. AreKnown model u (route (with_route lists v list) u) candidates (row_at (slice_set rows v is.row) u)) (sym same.1)
+        (subst (AreKnown model v (route (with_route lists v list) v) candidates) (sym (get_or-set_same rows v is.row [] (let m = are.many in omega (arith, there, m))))
+        (known-nothing model v (route (with_route lists v list) v) candidates is.row (is.many ∙ (are.each v there).many) is.nothing))
+    | inr other ↦ subst (λ l. AreKnown model w l candidates (row_at (slice_set rows v is.row) w)) (sym (route_set_other lists v w list other.1))
+        (subst (AreKnown model w (route lists w) candidates) (sym (get_or-set_other rows v w is.row [] other.1)) (are.each w (let m = length-set lists v list in omega (arith, low, m))))
+  ];
+})
 
 replicated : {A : Type 0} (n k : ℕ) (x d : A) → k < n → slice_index_or (replicate n x) k d ≡ x
 replicated zero k x d low = absurd (omega (arith, low))
@@ -135,11 +148,14 @@ many-replicated zero x = refl
 many-replicated (suc n) x = ap suc (many-replicated n x)
 
 -- nothing is known of any list
-pub rows-begun : (model : Model) (lists : List (List ℕ)) (candidates : List Candidate) (vehicles : ℕ) → length lists ≡ vehicles → AreRows model lists candidates (replicate (length candidates) (replicate vehicles Nothing))
+pub rows-begun : (model : Model) (lists : List (List ℕ)) (candidates : List Candidate) (vehicles : ℕ) → length lists ≡ vehicles → AreRows model lists candidates (replicate vehicles (replicate (length candidates) Nothing))
 rows-begun model lists candidates vehicles many = record {
-  many = many-replicated (length candidates) (replicate vehicles Nothing);
-  each = λ i low. subst (AreKnown model lists (slice_index_or candidates i unread)) (sym (replicated (length candidates) i (replicate vehicles Nothing) [] low)) (record {
-    many = many-replicated vehicles Nothing ∙ sym many;
-    each = λ v v_low. subst (IsKnown model v (route lists v) (slice_index_or candidates i unread)) (sym (replicated vehicles v Nothing Nothing (omega (arith, v_low, many)))) tt;
-  });
+  many = many-replicated vehicles (replicate (length candidates) Nothing) ∙ sym many;
+  each = λ v low. subst (AreKnown model v (route lists v) candidates) (sym (replicated vehicles v (replicate (length candidates) Nothing) [] (omega (arith, low, many))))
+      (known-nothing model v (route lists v) candidates (replicate (length candidates) Nothing) (many-replicated (length candidates) Nothing) (nothing (length candidates)));
 }
+  where
+    nothing : (n i : ℕ) → slice_index_or (replicate n Nothing) i Nothing ≡ Nothing
+    nothing zero i = refl
+    nothing (suc n) zero = refl
+    nothing (suc n) (suc i) = nothing n i

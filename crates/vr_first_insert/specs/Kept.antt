@@ -1,6 +1,6 @@
 -- What is known of items in lists.
 use Rattle.std.specs.Prelude.{◌≡◌, ℕ, ◌<◌, ◌≤◌, ⊤, Bool, true, false, not, List, [], length, ℤ, ◌≤ℤ◌}
-use Rattle.std.specs.Prelude.{slice_index_or, Option, Some, None}
+use Rattle.std.specs.Prelude.{slice_index_or, slice_set, Option, Some, None}
 use Rattle.vr_model.specs.routes.Routes.{route}
 use Rattle.vr_model.specs.first.Choosing.{better}
 use Rattle.vr_model.specs.declared.records.Model.{Model}
@@ -42,21 +42,34 @@ IsKnown model v list candidate Nothing = ⊤
 IsKnown model v list candidate (AtLeast least) = AddsAtLeast model v list candidate.item least
 IsKnown model v list candidate (Best best) = best ≡ best_in model v list candidate None
 
--- what is known of a candidate in each list is so
-pub record AreKnown (model : Model) (lists : List (List ℕ)) (candidate : Candidate) (row : List Known) : Type 0 where
-  pub many : length row ≡ length lists
-  pub each : (v : ℕ) → v < length lists → IsKnown model v (route lists v) candidate (slice_index_or row v Nothing)
-
--- row i of rows
+-- row v of rows
 abbrev pub row_at : List (List Known) → ℕ → List Known
-row_at rows i = slice_index_or rows i []
+row_at rows v = slice_index_or rows v []
 
 -- the candidate that is read where there is none
 abbrev pub unread : Candidate
 unread = record { item = Visit 0; class = 0 }
 
--- what is known of each candidate in each list is so
+-- candidate i
+abbrev pub candidate_at : List Candidate → ℕ → Candidate
+candidate_at candidates i = slice_index_or candidates i unread
+
+-- what is known of each candidate in the list of vehicle v is so
+pub record AreKnown (model : Model) (v : ℕ) (list : List ℕ) (candidates : List Candidate)
+    (row : List Known) : Type 0 where
+  pub many : length row ≡ length candidates
+  pub each : (i : ℕ) → i < length candidates
+      → IsKnown model v list (candidate_at candidates i) (slice_index_or row i Nothing)
+
+-- the same of each list
 pub record AreRows (model : Model) (lists : List (List ℕ)) (candidates : List Candidate)
     (rows : List (List Known)) : Type 0 where
-  pub many : length rows ≡ length candidates
-  pub each : (i : ℕ) → i < length candidates → AreKnown model lists (slice_index_or candidates i unread) (row_at rows i)
+  pub many : length rows ≡ length lists
+  pub each : (v : ℕ) → v < length lists → AreKnown model v (route lists v) candidates (row_at rows v)
+
+-- nothing is known of any candidate in the list of vehicle v any more
+pub record IsForgotten (v : ℕ) (rows after : List (List Known)) : Type 0 where
+  pub row : List Known
+  pub many : length row ≡ length (row_at rows v)
+  pub nothing : (i : ℕ) → slice_index_or row i Nothing ≡ Nothing
+  pub rows_are : after ≡ slice_set rows v row

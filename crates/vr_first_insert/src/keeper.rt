@@ -1,6 +1,6 @@
 //! Lists, and what is known of them, kept from one rebuild to the next.
 
-ghost use Rattle.std.specs.Prelude.{◌≡◌, ℕ, ◌<◌, List, IfOk, IsTrue, OnOk, length};
+ghost use Rattle.std.specs.Prelude.{◌≡◌, ◌<◌, List, IfOk, IsTrue, OnOk, length};
 ghost use Rattle.vr_model.specs.first.CheapestInsertion.{rebuilt};
 ghost use Rattle.vr_model.specs.first.Items.{items};
 ghost use Rattle.vr_model.specs.moves.Moves.{with_route};
@@ -12,9 +12,10 @@ ghost use Rattle.vr_rules.specs.declared.items.Candidate.{Candidate as AnyCandid
 ghost use Rattle.vr_rules.specs.Placing.{AreBuilt, AreCandidates, AreMarks};
 ghost use Rattle.vr_inserting.specs.Kept.{AreKept};
 ghost use Rattle.vr_first_insert.specs.Keeping.{IsKeeper};
-ghost use Rattle.vr_first_insert.specs.Kept.{row_at, AreRows};
+ghost use Rattle.vr_first_insert.specs.Kept.{AreRows};
 
 use crate::known::{Known, forget, rows_of};
+use crate::place::write_list;
 use crate::room::Room;
 use crate::search::insert_all;
 use std::alloc::Global;
@@ -30,7 +31,7 @@ pub(crate) struct Keeper {
     candidates: Vec<Candidate>,
     pub(crate) lists: Vec<Seq<u32>>,
     keeps: Vec<Kept>,
-    // for each candidate
+    // what is known of the candidates in each list
     rows: Vec<Seq<Known>>,
     room: Room,
 }
@@ -40,15 +41,6 @@ fn is_same(one: &[u32], other: &[u32]) -> bool
     ensures { IsTrue result → one.now ≡ other.now }
 {
     one == other
-}
-
-// Writes a list over another.
-fn write_list(list: &[u32], out: &mut Seq<u32>) -> Result<(), NoMemory>
-    ensures { OnOk result (out.new ≡ list.now) }
-{
-    out.truncate(0);
-    out.extend_from_slice(list)?;
-    Ok(())
 }
 
 // Takes a list over as that of vehicle `v`. Where it is another than before, its rows are written, and of items in it
@@ -67,7 +59,7 @@ fn take_list(
     requires there { v < length lists.old }
     requires tour { IsTour model.now list.now }
     requires kept { AreKept model.now lists.old keeps.old }
-    requires wide { (i : ℕ) → i < length rows.old → v < length (row_at rows.old i) }
+    requires row { v < length rows.old }
     ensures lists { OnOk result (lists.new ≡ with_route lists.old v list.now) }
     ensures kept { OnOk result (AreKept model.now lists.new keeps.new) }
     ensures rows { OnOk result ((known : List AnyCandidate) → AreRows model.now lists.old known rows.old
@@ -128,7 +120,7 @@ impl Keeper {
     {
         let candidates = candidates(alloc, lookups)?;
         let lists = empty_lists(alloc, model)?;
-        let rows = rows_of(alloc, candidates.len(), model.vehicles.len())?;
+        let rows = rows_of(alloc, model.vehicles.len(), candidates.len())?;
         let keeps = keep_each(alloc, model, &lists)?;
         Ok(Keeper {
             candidates,

@@ -1,9 +1,9 @@
 //! What is known of items in lists that have not changed since.
 
-ghost use Rattle.std.specs.Prelude.{◌≡◌, ℕ, ◌<◌, IfOk, length, replicate, slice_set};
+ghost use Rattle.std.specs.Prelude.{◌≡◌, ℕ, ◌<◌, IfOk, length, replicate, slice_index_or};
 ghost use Rattle.vr_model.specs.tables.WellFormed.{IsWellFormed};
-ghost use Rattle.vr_first_insert.specs.Kept.{best_of, better_choice, is_settled as is_settled_of, row_at};
-ghost use Rattle.vr_first_insert.specs.Kept.{AddsAtLeast, IsKnown};
+ghost use Rattle.vr_first_insert.specs.Kept.{best_of, better_choice, is_settled as is_settled_of};
+ghost use Rattle.vr_first_insert.specs.Kept.{AddsAtLeast, IsForgotten, IsKnown};
 ghost use Rattle.vr_first_insert.specs.Placings.{best_in, MayHold};
 ghost use Rattle.vr_first_insert.specs.Ready.{IsReady};
 ghost use Rattle.vr_first_insert.specs.declared.known.Known.TheVariants.{Nothing};
@@ -138,26 +138,26 @@ fn tried(
     Ok(Known::Best(found))
 }
 
-/// A row for each of `count` items, in which nothing is known of any of `vehicles` lists.
+/// A row for each of `vehicles` lists, in which nothing is known of any of `count` items.
 pub(crate) fn rows_of(
     alloc: Global,
-    count: usize,
     vehicles: usize,
+    count: usize,
 ) -> Result<Vec<Seq<Known>>, NoMemory>
-    ensures { IfOk result (λ rows. rows.items ≡ replicate count (replicate vehicles Nothing)) }
+    ensures { IfOk result (λ rows. rows.items ≡ replicate vehicles (replicate count Nothing)) }
 {
-    let mut rows = Vec::with_capacity(alloc, count)?;
-    for _i in 0..count {
-        rows.push(row_of(alloc, vehicles)?)?;
+    let mut rows = Vec::with_capacity(alloc, vehicles)?;
+    for _v in 0..vehicles {
+        rows.push(row_of(alloc, count)?)?;
     }
     Ok(rows)
 }
 
-fn row_of(alloc: Global, vehicles: usize) -> Result<Seq<Known>, NoMemory>
-    ensures { IfOk result (λ row. row ≡ replicate vehicles Nothing) }
+fn row_of(alloc: Global, count: usize) -> Result<Seq<Known>, NoMemory>
+    ensures { IfOk result (λ row. row ≡ replicate count Nothing) }
 {
-    let mut row = Seq::with_capacity(alloc, vehicles)?;
-    for _v in 0..vehicles {
+    let mut row = Seq::with_capacity(alloc, count)?;
+    for _i in 0..count {
         row.push(Known::Nothing)?;
     }
     Ok(row)
@@ -165,11 +165,18 @@ fn row_of(alloc: Global, vehicles: usize) -> Result<Seq<Known>, NoMemory>
 
 /// Nothing is known of the list of vehicle `v` any more.
 pub(crate) fn forget(rows: &mut [Seq<Known>], v: u32)
-    requires vehicle { (i : ℕ) → i < length rows.old → v < length (row_at rows.old i) }
-    ensures many { length rows.new ≡ length rows.old }
-    ensures each { (i : ℕ) → i < length rows.old → row_at rows.new i ≡ slice_set (row_at rows.old i) v Nothing }
+    requires vehicle { v < length rows.old }
+    ensures { IsForgotten v rows.old rows.new }
 {
-    for i in 0..rows.len() {
-        rows[i].set(v as usize, Known::Nothing);
+    forget_row(&mut rows[v as usize]);
+}
+
+// Nothing is known of any item of a row any more.
+fn forget_row(row: &mut Seq<Known>)
+    ensures many { length row.new ≡ length row.old }
+    ensures nothing { (i : ℕ) → slice_index_or row.new i Nothing ≡ Nothing }
+{
+    for i in 0..row.len() {
+        row.set(i, Known::Nothing);
     }
 }

@@ -6,7 +6,6 @@ ghost use Rattle.vr_model.specs.routes.Routes.{route};
 ghost use Rattle.vr_first_insert.specs.Placings.{placed as placed_of, AreWithin};
 
 use crate::choice::Placing;
-use std::alloc::Global;
 use vr_model::{NoMemory, Seq};
 
 /// Writes the list with an item placed in it over another list.
@@ -48,9 +47,19 @@ pub(crate) fn move_on(longer: &mut Seq<u32>, t: usize)
     longer.swap(t, t + 1);
 }
 
-/// Places an item in a list among lists.
+/// Writes a list over another.
+pub(crate) fn write_list(list: &[u32], out: &mut Seq<u32>) -> Result<(), NoMemory>
+    ensures { OnOk result (out.new ≡ list.now) }
+{
+    out.truncate(0);
+    out.extend_from_slice(list)?;
+    Ok(())
+}
+
+/// Places an item in a list among lists; the list is written over `longer` first. It takes memory only where either is
+/// longer than any before.
 pub(crate) fn place_in(
-    alloc: Global,
+    longer: &mut Seq<u32>,
     lists: &mut [Seq<u32>],
     v: u32,
     placing: Placing,
@@ -60,9 +69,7 @@ pub(crate) fn place_in(
     requires few { length (route lists.now v) ≤ 1000 }
     ensures { OnOk result (lists.new ≡ with_route lists.old v (placed_of (route lists.old v) placing)) }
 {
-    let list = lists[v as usize].as_slice();
-    let mut longer = Seq::with_capacity(alloc, list.len() + 2)?;
-    write_placed(list, placing, &mut longer)?;
-    lists[v as usize] = longer;
+    write_placed(lists[v as usize].as_slice(), placing, longer)?;
+    write_list(longer.as_slice(), &mut lists[v as usize])?;
     Ok(())
 }

@@ -1,7 +1,7 @@
 //! The insertion that is made next.
 
 ghost use Rattle.std.specs.Prelude.{◌≡◌, ℕ, ◌<◌, true, IfOk, IfSome, IsTrue, OnOk, length};
-ghost use Rattle.std.specs.Prelude.{option_map, slice_index_or};
+ghost use Rattle.std.specs.Prelude.{option_map};
 ghost use Rattle.std.specs.List.{list_all};
 ghost use Rattle.vr_model.specs.first.CheapestInsertion.{next_inserted, rebuilt};
 ghost use Rattle.vr_model.specs.first.Items.{first_node, items};
@@ -9,8 +9,7 @@ ghost use Rattle.vr_model.specs.routes.Routes.{route};
 ghost use Rattle.vr_model.specs.tables.WellFormed.{IsWellFormed};
 ghost use Rattle.vr_rules.specs.Placing.{fits_by, nodes_of, AreBuilt, AreCandidates, AreMarks};
 ghost use Rattle.vr_inserting.specs.Kept.{AreKept};
-ghost use Rattle.vr_first_insert.specs.Kept.{best_of, AreKnown, AreRows};
-ghost use Rattle.vr_first_insert.specs.declared.known.Known.TheVariants.{Nothing};
+ghost use Rattle.vr_first_insert.specs.Kept.{candidate_at, AreKnown, AreRows};
 ghost use Rattle.vr_first_insert.specs.Placings.{best_beside, best_in, best_in_lists as best_in_lists_of};
 ghost use Rattle.vr_first_insert.specs.Placings.{counts as counts_of, insertion_of, MayBeInserted, MayHold};
 ghost use Rattle.vr_first_insert.specs.Ready.{AreReady};
@@ -24,8 +23,8 @@ use vr_lists::NodeTables;
 use vr_model::{Model, NoMemory, Seq};
 use vr_rules::{Candidate, groups_have_room, mark_item};
 
-// Makes known what is best of an item in the list of vehicle `v`, where that may be better than the best so far. Where
-// what is known tells that already, nothing is written.
+// The best beside a candidate in the list of vehicle `v`, where `row` has what is known of the candidates in it. Where
+// that does not tell, the list is asked, and what it says is written.
 fn settle(
     room: &mut Room,
     model: &Model,
@@ -33,48 +32,8 @@ fn settle(
     keeps: &[Kept],
     lists: &[Seq<u32>],
     v: usize,
-    candidate: Candidate,
-    row: &mut Seq<Known>,
-    best: Option<Choice>,
-) -> Result<(), NoMemory>
-    requires well_formed { IsWellFormed model.now }
-    requires lookups { lookups.now ≡ model.now }
-    requires ready { AreReady model.now lists.now keeps.now }
-    requires vehicles { length lists.now ≡ length model.now.vehicles }
-    requires may_hold { (v : ℕ) → v < length lists.now → MayHold model.now (route lists.now v) candidate.item }
-    requires there { v < length lists.now }
-    requires row { AreKnown model.now lists.now candidate row.old }
-    ensures better { OnOk result (best_of (slice_index_or row.new v Nothing) best
-        ≡ best_in model.now v (route lists.now v) candidate best) }
-    ensures row { OnOk result (AreKnown model.now lists.now candidate row.new) }
-{
-    if is_settled(row.get(v), candidate.class, best) {
-        return Ok(());
-    }
-    let list = lists[v].as_slice();
-    let known = asked(
-        room,
-        model,
-        lookups,
-        keeps,
-        v as u32,
-        list,
-        candidate,
-        *row.get(v),
-        best,
-    )?;
-    row.set(v, known);
-    Ok(())
-}
-
-// The best beside an item in each list, where `row` has what is known of the item in each.
-fn best_in_lists(
-    room: &mut Room,
-    model: &Model,
-    lookups: &NodeTables<'_>,
-    keeps: &[Kept],
-    lists: &[Seq<u32>],
-    candidate: Candidate,
+    candidates: &[Candidate],
+    i: usize,
     row: &mut Seq<Known>,
     best: Option<Choice>,
 ) -> Result<Option<Choice>, NoMemory>
@@ -82,16 +41,58 @@ fn best_in_lists(
     requires lookups { lookups.now ≡ model.now }
     requires ready { AreReady model.now lists.now keeps.now }
     requires vehicles { length lists.now ≡ length model.now.vehicles }
-    requires may_hold { (v : ℕ) → v < length lists.now → MayHold model.now (route lists.now v) candidate.item }
-    requires row { AreKnown model.now lists.now candidate row.old }
+    requires candidate { i < length candidates.now }
+    requires may_hold { (v : ℕ) → v < length lists.now
+        → MayHold model.now (route lists.now v) (candidate_at candidates.now i).item }
+    requires there { v < length lists.now }
+    requires row { AreKnown model.now v (route lists.now v) candidates.now row.old }
     ensures best { IfOk result (λ chosen. chosen
-        ≡ best_in_lists_of model.now lists.now candidate (length lists.now) best) }
-    ensures row { OnOk result (AreKnown model.now lists.now candidate row.new) }
+        ≡ best_in model.now v (route lists.now v) (candidate_at candidates.now i) best) }
+    ensures row { OnOk result (AreKnown model.now v (route lists.now v) candidates.now row.new) }
+{
+    let candidate = candidates[i];
+    let known = *row.get(i);
+    if is_settled(&known, candidate.class, best) {
+        return Ok(better_of(best, &known));
+    }
+    let list = lists[v].as_slice();
+    let told = asked(
+        room, model, lookups, keeps, v as u32, list, candidate, known, best,
+    )?;
+    row.set(i, told);
+    Ok(better_of(best, &told))
+}
+
+// The best beside a candidate in each list, where `rows` have what is known of the candidates in each.
+fn best_in_lists(
+    room: &mut Room,
+    model: &Model,
+    lookups: &NodeTables<'_>,
+    keeps: &[Kept],
+    lists: &[Seq<u32>],
+    candidates: &[Candidate],
+    i: usize,
+    rows: &mut [Seq<Known>],
+    best: Option<Choice>,
+) -> Result<Option<Choice>, NoMemory>
+    requires well_formed { IsWellFormed model.now }
+    requires lookups { lookups.now ≡ model.now }
+    requires ready { AreReady model.now lists.now keeps.now }
+    requires vehicles { length lists.now ≡ length model.now.vehicles }
+    requires candidate { i < length candidates.now }
+    requires may_hold { (v : ℕ) → v < length lists.now
+        → MayHold model.now (route lists.now v) (candidate_at candidates.now i).item }
+    requires rows { AreRows model.now lists.now candidates.now rows.old }
+    ensures best { IfOk result (λ chosen. chosen
+        ≡ best_in_lists_of model.now lists.now (candidate_at candidates.now i) (length lists.now) best) }
+    ensures rows { OnOk result (AreRows model.now lists.now candidates.now rows.new) }
 {
     let mut best = best;
     for v in 0..lists.len() {
-        settle(room, model, lookups, keeps, lists, v, candidate, row, best)?;
-        best = better_of(best, row.get(v));
+        let row = &mut rows[v];
+        best = settle(
+            room, model, lookups, keeps, lists, v, candidates, i, row, best,
+        )?;
     }
     Ok(best)
 }
@@ -120,8 +121,9 @@ fn beside(
     keeps: &[Kept],
     lists: &[Seq<u32>],
     marks: &[bool],
-    candidate: Candidate,
-    row: &mut Seq<Known>,
+    candidates: &[Candidate],
+    i: usize,
+    rows: &mut [Seq<Known>],
     best: &mut Option<Choice>,
 ) -> Result<(), NoMemory>
     requires well_formed { IsWellFormed model.now }
@@ -130,17 +132,21 @@ fn beside(
     requires vehicles { length lists.now ≡ length model.now.vehicles }
     requires marks { length marks.now ≡ model.now.nodes }
     requires fit { IsTrue (list_all (fits_by marks.now) model.now.groups) }
-    requires first { first_node (nodes_of candidate.item) < model.now.nodes }
-    requires may_hold { counts_of model.now marks.now candidate ≡ true → (v : ℕ) → v < length lists.now
-        → MayHold model.now (route lists.now v) candidate.item }
-    requires row { AreKnown model.now lists.now candidate row.old }
-    ensures best { OnOk result (best.new ≡ best_beside model.now lists.now marks.now candidate best.old) }
-    ensures row { OnOk result (AreKnown model.now lists.now candidate row.new) }
+    requires candidate { i < length candidates.now }
+    requires first { first_node (nodes_of (candidate_at candidates.now i).item) < model.now.nodes }
+    requires may_hold { counts_of model.now marks.now (candidate_at candidates.now i) ≡ true
+        → (v : ℕ) → v < length lists.now → MayHold model.now (route lists.now v) (candidate_at candidates.now i).item }
+    requires rows { AreRows model.now lists.now candidates.now rows.old }
+    ensures best { OnOk result (best.new
+        ≡ best_beside model.now lists.now marks.now (candidate_at candidates.now i) best.old) }
+    ensures rows { OnOk result (AreRows model.now lists.now candidates.now rows.new) }
 {
-    if !counts(model, lookups, marks, candidate) {
+    if !counts(model, lookups, marks, candidates[i]) {
         return Ok(());
     }
-    *best = best_in_lists(room, model, lookups, keeps, lists, candidate, row, *best)?;
+    *best = best_in_lists(
+        room, model, lookups, keeps, lists, candidates, i, rows, *best,
+    )?;
     Ok(())
 }
 
@@ -168,17 +174,8 @@ fn next_insertion(
 {
     let mut best: Option<Choice> = None;
     for i in 0..candidates.len() {
-        let candidate = candidates[i];
         beside(
-            room,
-            model,
-            lookups,
-            keeps,
-            lists,
-            marks,
-            candidate,
-            &mut rows[i],
-            &mut best,
+            room, model, lookups, keeps, lists, marks, candidates, i, rows, &mut best,
         )?;
     }
     Ok(best)
@@ -215,7 +212,7 @@ pub(crate) fn insert_all(
         match next_insertion(room, model, lookups, keeps, candidates, marks, lists, rows)? {
             Some(choice) => {
                 let v = choice.vehicle;
-                place_in(room.alloc, lists, v, choice.placing)?;
+                place_in(&mut room.trying.longer, lists, v, choice.placing)?;
                 learn(room.alloc, model, keeps, v, lists, &mut room.line)?;
                 mark_item(marks, choice.placing.item());
                 forget(rows, v);

@@ -26,14 +26,12 @@ take_list-requires-clause-tour c =
     let v : ℕ = c.loop-v.v in
     subst (IsTour model) (sym c.list.ensures.value) (record { visits = built-visits model lists v c.requires.built; distinct = built-distinct model lists v c.requires.built })
 
-pub take_list-requires-clause-wide : goal.take_list-requires-clause-wide
-take_list-requires-clause-wide c = λ i low.
+pub take_list-requires-clause-row : goal.take_list-requires-clause-row
+take_list-requires-clause-row c =
     let count = built-count c.args.model.now c.args.routes.now.lists c.requires.built in
     let many = c.loop-v.invariant.vehicles in
-    let rows = c.loop-v.invariant.rows in
-    let all = rows.many in
-    let row = (rows.each i (omega (arith, low, all))).many in
-    omega (arith, c.loop-v-test.true, c.vehicles-v-end.ensures.value, count, many, row)
+    let rows = c.loop-v.invariant.rows.many in
+    omega (arith, c.loop-v-test.true, c.vehicles-v-end.ensures.value, count, many, rows)
 
 pub loop-v-preserved : goal.loop-v-preserved
 loop-v-preserved c =

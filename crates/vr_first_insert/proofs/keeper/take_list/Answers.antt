@@ -29,11 +29,11 @@ learn-requires-clause-tour c =
     subst (IsTour c.args.model.now) (sym (route_set_same c.args.lists.now c.args.v c.write_list.new.out c.requires.there ∙ c.in_ok-write_list.ensures)) c.requires.tour
 
 pub forget-requires : goal.forget-requires
-forget-requires c = record { vehicle = c.requires.wide }
+forget-requires c = record { vehicle = c.requires.row }
 
 pub returns-clause-lists : goal.returns-clause-lists
 returns-clause-lists c = ap (with_route c.args.lists.now c.args.v) c.in_ok-write_list.ensures
 
 pub returns-clause-rows : goal.returns-clause-rows
 returns-clause-rows c = λ known are.
-    rows-forgotten c.args.model.now c.args.lists.now known c.args.rows.now c.forget.new.rows c.args.v c.write_list.new.out c.requires.there are c.forget.ensures.many c.forget.ensures.each
+    rows-forgotten c.args.model.now c.args.lists.now known c.args.rows.now c.forget.new.rows c.args.v c.write_list.new.out c.requires.there are c.forget.ensures

@@ -2,5 +2,5 @@ use Rattle.std.proofs.Common.{◌≡◌, replicate}
 use Rattle.vr_first_insert.specs.declared.known.Known.TheVariants.{Nothing}
 use Rattle.vr_first_insert.proofs.known.row_of.Given as goal
 
-abbrev pub invariant-loop-v : goal.invariant-loop-v
-invariant-loop-v l = l.row ≡ replicate l._v Nothing
+abbrev pub invariant-loop-i : goal.invariant-loop-i
+invariant-loop-i l = l.row ≡ replicate l._i Nothing

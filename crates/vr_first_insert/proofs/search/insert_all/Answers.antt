@@ -56,7 +56,7 @@ loop-step-preserved c =
           (AreMarks-added model lists v list nodes c.loop-step.marks c.mark_item.new.marks c.loop-step.invariant.marked may.vehicle added.nodes_are c.mark_item.ensures.count
           (λ node d low. c.mark_item.ensures.each node d low ∙ ap (λ item. holds (nodes_of item) node || slice_index_or c.loop-step.marks node d) c.item.ensures));
       rows = subst (λ lists. AreRows model lists c.args.candidates.now c.forget.new.rows) (sym is)
-          (rows-forgotten model lists c.args.candidates.now c.next_insertion.new.rows c.forget.new.rows v list may.vehicle c.in_ok-choice.ensures.rows c.forget.ensures.many c.forget.ensures.each);
+          (rows-forgotten model lists c.args.candidates.now c.next_insertion.new.rows c.forget.new.rows v list may.vehicle c.in_ok-choice.ensures.rows c.forget.ensures);
       kept = c.in_ok-learn-in-Some.ensures;
     }
 
@@ -64,13 +64,8 @@ pub forget-requires : goal.forget-requires
 forget-requires c =
     let may : MayBeInserted c.args.model.now c.loop-step.lists c.in-Some.choice = rw c.in-Some.is at c.in_ok-choice.ensures.may in
     let there = may.vehicle in
-    record {
-      vehicle = λ i low.
-          let rows = c.in_ok-choice.ensures.rows in
-          let many = rows.many in
-          let row = (rows.each i (omega (arith, low, many))).many in
-          omega (arith, there, row);
-    }
+    let many = c.in_ok-choice.ensures.rows.many in
+    record { vehicle = omega (arith, there, many) }
 
 pub learn-requires-clause-others : goal.learn-requires-clause-others
 learn-requires-clause-others c =
