@@ -9,13 +9,22 @@ use Rattle.vr_model.specs.search.Scans.{scan_from}
 use Rattle.vr_model.specs.search.Scans.Scan.{Accepted, Complete, Cut}
 use Rattle.vr_model.specs.declared.neighbours.Move.{Move}
 use Rattle.vr_model.proofs.tables.Members.{In}
-use Rattle.vr_known.specs.Passing.{capped}
+use Rattle.vr_known.specs.Passing.{capped, within}
 
 pub capped_low : (n : ℕ) → capped n < 2 ^ 64 - 1 → capped n ≡ n
 capped_low n low = Prim.grind arith
 
 pub capped_most : (n : ℕ) → capped n ≤ n
 capped_most n = Prim.grind arith
+
+-- as many questions as tries, and as there may be
+pub looks_few : (rest before after place reached : ℕ) → rest < 2 ^ 64 → place ≤ rest → after + within rest place ≤ before + within rest reached
+    → (after + place ≤ before + reached) × (after + place ≤ before + rest)
+looks_few rest before after place reached fits low few = (Prim.grind arith, Prim.grind arith)
+
+-- a count of tries does not fall
+pub at_or_behind : (rest place counted n : ℕ) → counted ≡ capped (place + n) → rest < 2 ^ 64 → place ≤ rest → place ≤ counted
+at_or_behind rest place counted n counts fits low = Prim.grind arith
 
 module _ (acceptable : Move → Bool) (rest : ℕ) where
   -- moves that are not acceptable are tries alone

@@ -23,10 +23,9 @@ use Rattle.vr_model.proofs.routes.CostFits.{costs_are_bounded}
 use Rattle.vr_model.proofs.moves.Kept.{pair_of_test}
 use Rattle.vr_model.proofs.moves.KeptLists.{as_many}
 use Rattle.vr_descent.proofs.EndLemmas.{both}
-use Rattle.vr_routes.specs.Judging.{cost_change, IsNoLess}
-use Rattle.vr_descent.specs.Scanned.{is_acceptable, scan_end, taken}
+use Rattle.vr_routes.specs.Judging.{cost_change}
+use Rattle.vr_descent.specs.Scanned.{is_acceptable, scan_end, taken, takes_less}
 use Rattle.vr_descent.specs.declared.scanning.ScanEnd.TheVariants as ends
-use Rattle.vr_descent.proofs.DescentLemmas.{takes_less}
 use Rattle.vr_known.specs.Blocks.{Memory, is_known, covers, kind_of, first_of, second_of, is_behind, is_kind_of, is_remembered, rows_of, IsApart, Agree}
 use Rattle.vr_known.specs.Locality.{HasNoGlobalSpans}
 use Rattle.vr_known.proofs.Applied.{first_low}
@@ -35,7 +34,7 @@ use Rattle.vr_known.proofs.Locality.{validity_is_local}
 use Rattle.vr_known.proofs.CostLocality.{cost_is_local}
 use Rattle.vr_known.proofs.PassingLemmas.{capped_small, covers_known}
 use Rattle.vr_known.specs.Passing.{capped, CoversBlock, Passes}
-use Rattle.vr_descent.specs.Refused.{AreRefused, IsPassed, IsRefused, StaysRefused}
+use Rattle.vr_descent.specs.Refused.{AreRefused, IsPassed, StaysRefused}
 use Rattle.vr_descent.proofs.PassedLemmas.{all_left, all_right, at_each, of_each, capped_low, in_front, none_taken, over}
 use Rattle.vr_descent.proofs.OrderLemmas.{are_listed, stand_before}
 
@@ -130,16 +129,9 @@ pub passes_known : (model : Model) (takes : List (List ℕ) → Move → ℤ →
 passes_known model takes lists rest memory kind v w few kept refused known mv k f s =
     record { few = few; refused = λ one. refused mv one (covers_known memory kind v w kept known mv k f s) }
 
--- a move that makes no less is not taken by a descent
-pub no_less_refused : (model : Model) (lists : List (List ℕ)) (mv : Move) → IsNoLess model lists mv (pos 0) → IsRefused model takes_less lists mv
-no_less_refused model lists mv least one = by (is_valid model (apply model lists mv)) (least one)
-  where
-    not_less : (d : ℤ) → pos 0 ≤ℤ d → int_lt d (pos 0) ≡ false
-    not_less d low = Prim.grind arith
-
-    by : (b : Bool) → (IsTrue b → pos 0 ≤ℤ cost_change model lists mv) → (b && int_lt (cost_change model lists mv) (pos 0)) ≡ false
-    by true low = not_less (cost_change model lists mv) (low refl)
-    by false low = refl
+-- a difference that is not below 0 makes the cost no less
+pub not_less : (d : ℤ) → pos 0 ≤ℤ d → int_lt d (pos 0) ≡ false
+not_less d low = Prim.grind arith
 
 -- ---- a step of a scan
 

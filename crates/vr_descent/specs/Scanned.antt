@@ -1,12 +1,14 @@
 -- What a scan answers.
-use Rattle.std.specs.Prelude.{◌≡◌, ℕ, Bool, false, ◌&&◌, cond, IsTrue, List, ℤ, ◌≤ℤ◌, Option, Some, None}
+use Rattle.std.specs.Prelude.{◌≡◌, ℕ, Bool, false, ◌&&◌, cond, IsTrue, List, ℤ, ◌≤ℤ◌, int_lt, pos, Option, Some, None}
 use Rattle.vr_model.specs.moves.Moves.{apply}
+use Rattle.vr_model.specs.moves.MoveTests.{is_move}
 use Rattle.vr_model.specs.routes.Rules.{is_valid}
 use Rattle.vr_model.specs.search.Scans.{Scan}
 use Rattle.vr_model.specs.search.Scans.Scan.{Accepted as accepted, Complete as complete, Cut as cut}
 use Rattle.vr_model.specs.declared.records.Model.{Model}
 use Rattle.vr_model.specs.declared.neighbours.Move.{Move}
 use Rattle.vr_routes.specs.Judging.{cost_change}
+use Rattle.vr_routes.specs.Runs.{with_last}
 use Rattle.vr_descent.specs.declared.scanning.ScanEnd.{ScanEnd}
 use Rattle.vr_descent.specs.declared.scanning.ScanEnd.TheVariants.{Accepted, Complete, Cut}
 
@@ -24,6 +26,15 @@ abbrev pub IsPassedOver : Model → (List (List ℕ) → Move → ℤ → Bool) 
 IsPassedOver model takes lists mv least =
     let difference = cost_change model lists mv in
     IsTrue (is_valid model (apply model lists mv)) → least ≤ℤ difference → takes lists mv difference ≡ false
+
+-- no move that differs from this one in its last number is taken where it makes such a difference in cost or more
+abbrev pub IsEnough : Model → (List (List ℕ) → Move → ℤ → Bool) → List (List ℕ) → Move → ℤ → Type 0
+IsEnough model takes lists mv difference =
+    (k : ℕ) → IsTrue (is_move model lists (with_last mv k)) → IsPassedOver model takes lists (with_last mv k) difference
+
+-- what a descent takes: each move that makes the cost less
+abbrev pub takes_less : List (List ℕ) → Move → ℤ → Bool
+takes_less lists mv difference = int_lt difference (pos 0)
 
 -- the end of a scan, with the difference of the move that was accepted
 abbrev pub scan_end : Model → List (List ℕ) → Scan → ScanEnd

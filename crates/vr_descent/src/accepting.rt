@@ -1,8 +1,7 @@
 //! The trait of what a search accepts.
 
-ghost use Rattle.std.specs.Prelude.{◌≡◌, ◌<◌, ◌≤◌, ℕ, ℤ, Bool, false, List, IfSome, IsTrue};
-ghost use Rattle.vr_descent.specs.Refused.{IsRefused};
-ghost use Rattle.vr_descent.specs.Scanned.{is_acceptable, IsPassedOver};
+ghost use Rattle.std.specs.Prelude.{◌≡◌, ℕ, ℤ, Bool, false, List, IfSome, IsTrue};
+ghost use Rattle.vr_descent.specs.Scanned.{IsEnough, IsPassedOver};
 ghost use Rattle.vr_model.specs.moves.Moves.{apply};
 ghost use Rattle.vr_model.specs.moves.MoveTests.{is_move};
 ghost use Rattle.vr_model.specs.routes.Rules.{is_valid};
@@ -11,14 +10,14 @@ ghost use Rattle.vr_model.specs.tables.WellFormed.{IsWellFormed};
 ghost use Rattle.vr_model.specs.declared.neighbours.Move.{Move as Step};
 ghost use Rattle.vr_model.specs.declared.records.Model.{Model as RoutingModel};
 ghost use Rattle.vr_routes.specs.Changes.{IsChange};
-ghost use Rattle.vr_routes.specs.Judging.{HoldSame, cost_change};
-ghost use Rattle.vr_routes.specs.Runs.{with_last};
+ghost use Rattle.vr_routes.specs.Judging.{cost_change};
 
 use vr_model::Move;
-use vr_routes::{Change, Judge, Routes};
+use vr_routes::{Change, Routes};
 
 /// Says which moves a search takes. It means a model, and a test on lists, a move of theirs and the difference that the
-/// move makes in cost. It is asked only about lists that it is ready for.
+/// move makes in cost. It is asked only about lists that it is ready for, and knows no judge: what one tells of a move
+/// is handed in.
 pub trait Accept {
     ghost model: { Self → RoutingModel };
 
@@ -39,42 +38,29 @@ pub trait Accept {
         requires difference { difference ≡ cost_change (model self.now) routes.now.lists mv }
         ensures { result ≡ takes self.now routes.now.lists mv difference };
 
-    /// Whether what the judge tells of a move by its numbers alone rules out that it is acceptable: true only where it
-    /// is not. A search asks this first, before it makes the change of the move. Takes no memory.
+    /// Whether the move may be taken where it makes a difference of `least` or more, as far as its numbers tell
+    /// (vehicles, places, nodes): false only where it is not. A search asks this first, before it makes the change of
+    /// the move. Takes no memory.
     #[inline]
-    fn passes_over<J: Judge>(&self, judge: &J, routes: &Routes, mv: Move) -> bool
+    fn may_accept_by_numbers(&self, routes: &Routes, mv: Move, least: i64) -> bool
         requires well_formed { IsWellFormed (model self.now) }
-        requires judge_model { J.model judge.now ≡ model self.now }
         requires stands { stands_at self.now routes.now.lists }
-        requires holds { HoldSame (model self.now) (J.committed judge.now) routes.now }
+        requires valid { IsTrue (is_valid (model self.now) routes.now.lists) }
         requires mv { IsTrue (is_move (model self.now) routes.now.lists mv) }
-        ensures { IsTrue result → is_acceptable (model self.now) (takes self.now) routes.now.lists mv ≡ false }
+        ensures passed { result ≡ false → IsPassedOver (model self.now) (takes self.now) routes.now.lists mv least }
     {
-        false
+        true
     }
 
-    /// Goes over a run of moves, which differ in their last number: those of the numbers from `from` on, below `end`.
-    /// Says from which number on a search has to ask about them one by one: no move in front of it is acceptable. The
-    /// numbers of `mv`, of which the last is any, need not be those of a move, and of numbers that are no move nothing
-    /// is said. `None` where nothing can be told of such a run. Takes no memory.
+    /// A difference with which, or with more, no move of a run is taken, which are those that differ from this one in
+    /// their last number. The numbers of `mv`, of which the last is any, need not be those of a move. `None` where none
+    /// is known, whichever the last number is. Takes no memory.
     #[inline]
-    fn first_open<J: Judge>(
-        &self,
-        judge: &J,
-        routes: &Routes,
-        mv: Move,
-        from: u32,
-        end: u32,
-    ) -> Option<u32>
+    fn open_below(&self, routes: &Routes, mv: Move) -> Option<i64>
         requires well_formed { IsWellFormed (model self.now) }
-        requires judge_model { J.model judge.now ≡ model self.now }
         requires stands { stands_at self.now routes.now.lists }
-        requires holds { HoldSame (model self.now) (J.committed judge.now) routes.now }
-        requires order { from ≤ end }
-        ensures from { IfSome result (λ first. from ≤ first) }
-        ensures within { IfSome result (λ first. first ≤ end) }
-        ensures refused { IfSome result (λ first. (k : ℕ) → from ≤ k → k < first
-            → IsRefused (model self.now) (takes self.now) routes.now.lists (with_last mv k)) }
+        requires valid { IsTrue (is_valid (model self.now) routes.now.lists) }
+        ensures enough { IfSome result (IsEnough (model self.now) (takes self.now) routes.now.lists mv) }
     {
         None
     }
@@ -88,7 +74,7 @@ pub trait Accept {
         requires valid { IsTrue (is_valid (model self.now) routes.now.lists) }
         requires mv { IsTrue (is_move (model self.now) routes.now.lists mv) }
         requires change { IsChange (model self.now) routes.now.lists mv change.now }
-        ensures { result ≡ false → IsPassedOver (model self.now) (takes self.now) routes.now.lists mv least }
+        ensures passed { result ≡ false → IsPassedOver (model self.now) (takes self.now) routes.now.lists mv least }
     {
         true
     }

@@ -1,6 +1,7 @@
 //! Greedy descent.
 
-ghost use Rattle.std.specs.Prelude.{◌≡◌, ◌+◌, ◌≤◌, ◌≤ℤ◌, int_lt, pos, IfOk, OnOk, OnErr};
+ghost use Rattle.std.specs.Prelude.{◌≡◌, ◌+◌, ◌*◌, ◌≤◌, ◌≤ℤ◌, false, int_lt, pos, Some, IfOk, IfSome, OnOk, OnErr};
+ghost use Rattle.vr_descent.specs.Scanned.{takes_less, IsEnough, IsPassedOver};
 ghost use Rattle.vr_model.specs.routes.Costs.{cost};
 ghost use Rattle.vr_model.specs.search.Descents.{descent};
 ghost use Rattle.vr_model.specs.tables.WellFormed.{IsWellFormed};
@@ -25,7 +26,7 @@ impl<'m> Accept for Cheaper<'m> {
 
     ghost stands_at = { λ s lists. Unit {0} };
 
-    ghost takes = { λ s lists mv difference. int_lt difference (pos 0) };
+    ghost takes = { λ s. takes_less };
 
     #[inline]
     fn accepts(&self, _routes: &Routes, _mv: Move, difference: i64) -> bool {
@@ -33,27 +34,26 @@ impl<'m> Accept for Cheaper<'m> {
     }
 
     #[inline(always)]
-    fn passes_over<J: Judge>(&self, judge: &J, routes: &Routes, mv: Move) -> bool {
-        match judge.least_by_numbers(routes, mv) {
-            Some(least) => least >= 0,
-            None => false,
-        }
+    fn may_accept_by_numbers(&self, _routes: &Routes, _mv: Move, least: i64) -> bool
+        ensures passed { result ≡ false → IsPassedOver self.now.model.now takes_less _routes.now.lists _mv least }
+        ensures exact { result ≡ int_lt least (pos 0) }
+    {
+        least < 0
     }
 
     #[inline(always)]
-    fn first_open<J: Judge>(
-        &self,
-        judge: &J,
-        routes: &Routes,
-        mv: Move,
-        from: u32,
-        end: u32,
-    ) -> Option<u32> {
-        judge.first_below(routes, mv, from, end, 0)
+    fn open_below(&self, _routes: &Routes, _mv: Move) -> Option<i64>
+        ensures enough { IfSome result (IsEnough self.now.model.now takes_less _routes.now.lists _mv) }
+        ensures exact { result ≡ Some (pos 0) }
+    {
+        Some(0)
     }
 
     #[inline]
-    fn may_accept(&self, _routes: &Routes, _mv: Move, _change: &Change, least: i64) -> bool {
+    fn may_accept(&self, _routes: &Routes, _mv: Move, _change: &Change, least: i64) -> bool
+        ensures passed { result ≡ false → IsPassedOver self.now.model.now takes_less _routes.now.lists _mv least }
+        ensures exact { result ≡ int_lt least (pos 0) }
+    {
         least < 0
     }
 }
@@ -65,6 +65,9 @@ impl<'m> Accept for Cheaper<'m> {
 /// The report's end is `Solutions` where as many solutions were found as the limit allows, which is asked first; else
 /// `Optimum` where no move of the last lists makes the cost less, and `Tries` where the tries ran out before that was
 /// known.
+///
+/// The judge is asked about no more moves than are tried, and at most three times as often what a move, or a run of
+/// moves, makes at least.
 ///
 /// The only refusal is want of memory. Routes and judge then hold the same valid lists, the judge was asked about no
 /// more moves than the limit has tries, and the watchers have been told the events up to there: of the event in hand,
@@ -105,6 +108,8 @@ pub fn descend<J: Judge, L: Ledger>(
     ensures told_in_part { OnErr result (ToldInPart (λ w later. after w later) watch.old.items watch.new.items
         (descent model.now routes.old.lists limit).events) }
     ensures asked_at_most { OnErr result (J.asked judge.new ≤ J.asked judge.old + limit.tries) }
+    ensures looked { IfOk result (λ report. J.looked judge.new ≤ J.looked judge.old + 3 * report.tries) }
+    ensures looked_at_most { OnErr result (J.looked judge.new ≤ J.looked judge.old + 3 * limit.tries) }
 {
     let cheaper = Cheaper { model };
     let mut known = Known::of(model);

@@ -1,11 +1,11 @@
 //! The moves of one neighbourhood, whichever it is.
 
-ghost use Rattle.std.specs.Prelude.{◌≡◌};
+ghost use Rattle.std.specs.Prelude.{◌≡◌, ◌+◌};
 ghost use Rattle.vr_descent.specs.Listing.{left_in};
 ghost use Rattle.vr_model.specs.moves.Moves.{moves_in};
 ghost use Rattle.vr_model.specs.tables.Tables.{visits};
 ghost use Rattle.vr_model.specs.tables.WellFormed.{IsWellFormed};
-ghost use Rattle.vr_known.specs.Passing.{Takes};
+ghost use Rattle.vr_known.specs.Passing.{Looked, Takes, tried};
 
 use vr_known::Sieve;
 use vr_model::{Model, Move, Neighbourhood};
@@ -61,22 +61,31 @@ impl<'a> Generator<'a> {
     /// Takes the first of the moves that are left, behind some that are passed over, which are counted. Takes no
     /// memory.
     #[inline(always)]
-    pub fn step<S: Sieve>(&mut self, sieve: &S, passed: &mut u64) -> Option<Move>
-        requires { S.is_ready sieve.now }
-        ensures { Takes (S.covers sieve.now) (left_in self.old) passed.old result (left_in self.new) passed.new }
+    pub fn step<S: Sieve>(
+        &mut self,
+        sieve: &S,
+        judge: &mut S::Judge,
+        passed: &mut u64,
+    ) -> Option<Move>
+        requires ready { S.is_ready sieve.now }
+        requires can_ask { S.can_ask sieve.now judge.old }
+        ensures takes { Takes (S.covers sieve.now) (left_in self.old) passed.old result
+            (left_in self.new) passed.new }
+        ensures looked { Looked (S.can_ask sieve.now) S.judged S.looked (S.tries sieve.now)
+            judge.old passed.old judge.new (passed.new + tried result) }
     {
         match self {
-            Generator::TwoOpt(moves) => moves.step(sieve, passed),
-            Generator::OrOpt(moves) => moves.step(sieve, passed),
-            Generator::Relocate(moves) => moves.step(sieve, passed),
-            Generator::Exchange(moves) => moves.step(sieve, passed),
-            Generator::Cross(moves) => moves.step(sieve, passed),
-            Generator::RelocatePair(moves) => moves.step(sieve, passed),
-            Generator::PairActive(moves) => moves.step(sieve, passed),
-            Generator::PairInactive(moves) => moves.step(sieve, passed),
-            Generator::MakeActive(moves) => moves.step(sieve, passed),
-            Generator::MakeInactive(moves) => moves.step(sieve, passed),
-            Generator::SwapActive(moves) => moves.step(sieve, passed),
+            Generator::TwoOpt(moves) => moves.step(sieve, judge, passed),
+            Generator::OrOpt(moves) => moves.step(sieve, judge, passed),
+            Generator::Relocate(moves) => moves.step(sieve, judge, passed),
+            Generator::Exchange(moves) => moves.step(sieve, judge, passed),
+            Generator::Cross(moves) => moves.step(sieve, judge, passed),
+            Generator::RelocatePair(moves) => moves.step(sieve, judge, passed),
+            Generator::PairActive(moves) => moves.step(sieve, judge, passed),
+            Generator::PairInactive(moves) => moves.step(sieve, judge, passed),
+            Generator::MakeActive(moves) => moves.step(sieve, judge, passed),
+            Generator::MakeInactive(moves) => moves.step(sieve, judge, passed),
+            Generator::SwapActive(moves) => moves.step(sieve, judge, passed),
         }
     }
 }

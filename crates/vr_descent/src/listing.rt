@@ -1,8 +1,8 @@
 //! The moves of the neighbourhoods of a model, in order.
 
-ghost use Rattle.std.specs.Prelude.{◌≡◌};
+ghost use Rattle.std.specs.Prelude.{◌≡◌, ◌+◌};
 ghost use Rattle.vr_descent.specs.Listing.{left_of};
-ghost use Rattle.vr_known.specs.Passing.{Takes};
+ghost use Rattle.vr_known.specs.Passing.{Looked, Takes, tried};
 ghost use Rattle.vr_model.specs.moves.Moves.{moves, moves_in};
 ghost use Rattle.vr_model.specs.tables.Tables.{visits};
 ghost use Rattle.vr_model.specs.tables.WellFormed.{IsWellFormed};
@@ -58,13 +58,21 @@ impl<'a> MoveList<'a> {
     /// memory.
     // Inlined, so that a move stays in registers.
     #[inline(always)]
-    pub fn step<S: Sieve>(&mut self, sieve: &S, passed: &mut u64) -> Option<Move>
-        requires { S.is_ready sieve.now }
-        ensures { Takes (S.covers sieve.now) self.old passed.old result self.new passed.new }
+    pub fn step<S: Sieve>(
+        &mut self,
+        sieve: &S,
+        judge: &mut S::Judge,
+        passed: &mut u64,
+    ) -> Option<Move>
+        requires ready { S.is_ready sieve.now }
+        requires can_ask { S.can_ask sieve.now judge.old }
+        ensures takes { Takes (S.covers sieve.now) self.old passed.old result self.new passed.new }
+        ensures looked { Looked (S.can_ask sieve.now) S.judged S.looked (S.tries sieve.now)
+            judge.old passed.old judge.new (passed.new + tried result) }
     {
         let _count = *passed;
         loop {
-            if let Some(mv) = step_in(&mut self.current, sieve, passed) {
+            if let Some(mv) = step_in(&mut self.current, sieve, judge, passed) {
                 return Some(mv);
             }
             match self.behind.split_first() {
@@ -90,19 +98,28 @@ impl<'a> Iterator for MoveList<'a> {
     #[inline(always)]
     fn next(&mut self) -> Option<Move> {
         let mut passed = 0;
-        self.step(&Known::none(), &mut passed)
+        self.step(&Known::none(), &mut (), &mut passed)
     }
 }
 
 // Takes the first of the moves that are left of a neighbourhood, where there is one in hand.
 #[inline(always)]
-fn step_in<S: Sieve>(current: &mut Option<Generator>, sieve: &S, passed: &mut u64) -> Option<Move>
-    requires { S.is_ready sieve.now }
-    ensures { Takes (S.covers sieve.now) (left_of current.old) passed.old result (left_of current.new) passed.new }
+fn step_in<S: Sieve>(
+    current: &mut Option<Generator>,
+    sieve: &S,
+    judge: &mut S::Judge,
+    passed: &mut u64,
+) -> Option<Move>
+    requires ready { S.is_ready sieve.now }
+    requires can_ask { S.can_ask sieve.now judge.old }
+    ensures takes { Takes (S.covers sieve.now) (left_of current.old) passed.old result
+        (left_of current.new) passed.new }
+    ensures looked { Looked (S.can_ask sieve.now) S.judged S.looked (S.tries sieve.now)
+        judge.old passed.old judge.new (passed.new + tried result) }
 {
     let _count = *passed;
     match current {
-        Some(current) => current.step(sieve, passed),
+        Some(current) => current.step(sieve, judge, passed),
         None => None,
     }
 }

@@ -1,6 +1,6 @@
 //! Where a search stands.
 
-ghost use Rattle.std.specs.Prelude.{◌≡◌, ◌+◌, ◌≤◌, ◌<◌, ◌^◌, [], ◌∷◌, IsTrue, IfOk, OnOk, OnErr};
+ghost use Rattle.std.specs.Prelude.{◌≡◌, ◌+◌, ◌*◌, ◌≤◌, ◌<◌, ◌^◌, [], ◌∷◌, IsTrue, IfOk, OnOk, OnErr};
 ghost use Rattle.vr_descent.specs.Refused.{AreRefused, StaysRefused};
 ghost use Rattle.vr_descent.specs.Scanned.{scan_end};
 ghost use Rattle.vr_descent.specs.Searching.{after_move, event_of, events_after, move_event};
@@ -68,6 +68,8 @@ impl Progress {
             (events_after model.now routes.old.lists self.old.used
             (scan_of model.now (A.takes accept.now) limit routes.old.lists self.old.used))) }
         ensures asked { OnOk result (J.asked judge.new + self.old.used ≤ J.asked judge.old + self.new.used) }
+        ensures looked { OnOk result (J.looked judge.new + 3 * self.old.used
+            ≤ J.looked judge.old + 3 * self.new.used) }
         ensures known { OnOk result (AreRefused model.now (A.takes accept.now) routes.new.lists known.new) }
         ensures learns { OnOk result (Learns known.new → Learns known.old) }
 
@@ -77,6 +79,8 @@ impl Progress {
             (events_after model.now routes.old.lists self.old.used
             (scan_of model.now (A.takes accept.now) limit routes.old.lists self.old.used))) }
         ensures asked_at_most { OnErr result (J.asked judge.new + self.old.used ≤ J.asked judge.old + limit.tries) }
+        ensures looked_at_most { OnErr result (J.looked judge.new + 3 * self.old.used
+            ≤ J.looked judge.old + 3 * limit.tries) }
     {
         let ended = scan(
             model,
@@ -136,6 +140,7 @@ impl Progress {
         ensures holds { HoldSame (J.model judge.old) (J.committed judge.new) routes.new }
         ensures model { J.model judge.new ≡ J.model judge.old }
         ensures asked { J.asked judge.new ≡ J.asked judge.old }
+        ensures looked { J.looked judge.new ≡ J.looked judge.old }
         ensures told { OnOk result (Told (λ w later. after w later) watch.old.items watch.new.items
             (move_event (J.model judge.old) routes.old.lists mv (self.old.used + place) ∷ [])) }
         ensures told_in_part { OnErr result (ToldInPart (λ w later. after w later) watch.old.items watch.new.items

@@ -1,9 +1,9 @@
 //! The scan of a list of moves for the first that is acceptable.
 
-ghost use Rattle.std.specs.Prelude.{◌≡◌, ◌+◌, ◌≤◌, IsTrue, IfOk, OnErr};
-ghost use Rattle.vr_descent.specs.Refused.{AreRefused, CanSift, IsPassed};
+ghost use Rattle.std.specs.Prelude.{◌≡◌, ◌+◌, ◌*◌, ◌≤◌, false, IsTrue, IfOk, OnErr};
+ghost use Rattle.vr_descent.specs.Refused.{AreRefused, CanJudge, CanSift, IsPassed};
 ghost use Rattle.vr_descent.specs.Scanned.{is_acceptable, scan_end, taken, tries_of};
-ghost use Rattle.vr_known.specs.Passing.{Takes};
+ghost use Rattle.vr_known.specs.Passing.{Takes, tried, within};
 ghost use Rattle.vr_model.specs.moves.Moves.{moves};
 ghost use Rattle.vr_model.specs.moves.MoveTests.{is_move};
 ghost use Rattle.vr_model.specs.search.Scans.{scan};
@@ -11,6 +11,7 @@ ghost use Rattle.vr_model.specs.tables.WellFormed.{IsWellFormed};
 ghost use Rattle.vr_routes.specs.Judging.{HoldSame};
 
 use crate::{Accept, MoveList, moves};
+use std::marker::PhantomData;
 use std::sync::ledger::Ledger;
 use vr_known::{Known, Sieve};
 use vr_model::{Model, Move, Neighbourhood, NoMemory, Steps};
@@ -39,18 +40,28 @@ const FEW: u64 = 1_000_000_000;
 // What tells a scan with so many tries left which moves are not acceptable.
 #[derive(Drop)]
 struct Refusals<'a, J: Judge, A: Accept> {
-    judge: &'a J,
     routes: &'a Routes,
     accept: &'a A,
     known: &'a Known,
     rest: u64,
+    judge: PhantomData<J>,
 }
 
 impl<'a, J: Judge, A: Accept> Sieve for Refusals<'a, J, A> {
-    ghost is_ready = { λ s. CanSift (A.model s.accept.now) (J.model s.judge.now) (J.committed s.judge.now)
-        (A.stands_at s.accept.now s.routes.now.lists) (A.takes s.accept.now) s.routes.now s.known.now };
+    type Judge = J;
+
+    ghost is_ready = { λ s. CanSift (A.model s.accept.now) (A.stands_at s.accept.now s.routes.now.lists)
+        (A.takes s.accept.now) s.routes.now s.known.now };
 
     ghost covers = { λ s. IsPassed (A.model s.accept.now) (A.takes s.accept.now) s.routes.now.lists s.rest };
+
+    ghost tries = { λ s. s.rest };
+
+    ghost can_ask = { λ s judge. CanJudge (A.model s.accept.now) s.routes.now (J.model judge) (J.committed judge) };
+
+    ghost judged = { J.asked };
+
+    ghost looked = { J.looked };
 
     #[inline(always)]
     fn has(&self, neighbourhood: Neighbourhood, v: u32, w: u32) -> bool {
@@ -61,20 +72,28 @@ impl<'a, J: Judge, A: Accept> Sieve for Refusals<'a, J, A> {
     }
 
     #[inline(always)]
-    fn first(&self, mv: Move, from: u32, end: u32) -> Option<u32> {
+    fn limit(&self) -> u64 {
+        self.rest
+    }
+
+    #[inline(always)]
+    fn first(&self, judge: &mut J, mv: Move, from: u32, end: u32) -> Option<u32> {
         if self.rest > FEW {
             return None;
         }
-        self.accept
-            .first_open(self.judge, self.routes, mv, from, end)
+        match self.accept.open_below(self.routes, mv) {
+            Some(bound) => judge.first_below(self.routes, mv, from, end, bound),
+            None => None,
+        }
     }
 }
 
 /// Tries the moves of the model's neighbourhoods in order, at most `rest` of them, up to the first that is acceptable:
-/// the lists after it are valid, and `accept` takes it. Each try is one step of the list of moves and at most one
-/// question to the judge: a move that `accept` does not take with the least difference that it may make is not judged,
-/// and where its numbers tell this, what it changes is not written. Else that is written once, for what it makes at
-/// least and for what `accept` says of that.
+/// the lists after it are valid, and `accept` takes it. Each try is one step of the list of moves, is judged at most
+/// once, and adds at most three to how often the judge is asked what moves make at least: a run of them, and a move by
+/// its numbers and by its change. A move that `accept` does not take with the least difference that it may make is not
+/// judged, and where its numbers tell this, what it changes is not written. Else that is written once, for what it
+/// makes at least and for what `accept` says of that.
 ///
 /// Moves that are known not to be acceptable are tries as any others, and nothing is asked about them. Of the moves of
 /// a run, which differ in their last number, the judge is asked at once which may be taken, and those in front of these
@@ -104,6 +123,8 @@ pub fn scan<J: Judge, A: Accept, L: Ledger>(
     ensures committed { J.committed judge.new ≡ J.committed judge.old }
     ensures asked { IfOk result (λ ended. J.asked judge.new ≤ J.asked judge.old + tries_of rest ended) }
     ensures asked_at_most { OnErr result (J.asked judge.new ≤ J.asked judge.old + rest) }
+    ensures looked { IfOk result (λ ended. J.looked judge.new ≤ J.looked judge.old + 3 * tries_of rest ended) }
+    ensures looked_at_most { OnErr result (J.looked judge.new ≤ J.looked judge.old + 3 * rest) }
 {
     let mut list = moves(model, routes);
     let mut change = Change::blank();
@@ -132,30 +153,57 @@ pub fn scan<J: Judge, A: Accept, L: Ledger>(
 #[inline(always)]
 fn next_open<J: Judge, A: Accept>(
     list: &mut MoveList,
-    judge: &J,
+    judge: &mut J,
     routes: &Routes,
     accept: &A,
     known: &Known,
     rest: u64,
     place: &mut u64,
 ) -> Option<Move>
-    requires ready { CanSift (A.model accept.now) (J.model judge.now) (J.committed judge.now)
-        (A.stands_at accept.now routes.now.lists) (A.takes accept.now) routes.now known.now }
-    ensures { Takes (IsPassed (A.model accept.now) (A.takes accept.now) routes.now.lists rest)
+    requires ready { CanSift (A.model accept.now) (A.stands_at accept.now routes.now.lists) (A.takes accept.now)
+        routes.now known.now }
+    requires can_judge { CanJudge (A.model accept.now) routes.now (J.model judge.old) (J.committed judge.old) }
+    ensures takes { Takes (IsPassed (A.model accept.now) (A.takes accept.now) routes.now.lists rest)
         list.old place.old result list.new place.new }
+    ensures model { J.model judge.new ≡ J.model judge.old }
+    ensures committed { J.committed judge.new ≡ J.committed judge.old }
+    ensures asked { J.asked judge.new ≡ J.asked judge.old }
+    ensures looked { J.looked judge.new + within rest place.old
+        ≤ J.looked judge.old + within rest (place.new + tried result) }
 {
-    let refusals = Refusals {
-        judge,
+    let refusals: Refusals<'_, J, A> = Refusals {
         routes,
         accept,
         known,
         rest,
+        judge: PhantomData,
     };
-    list.step(&refusals, place)
+    list.step(&refusals, judge, place)
+}
+
+// Whether the judge tells by the numbers of a move that it is not acceptable.
+#[inline(always)]
+fn is_ruled_out<J: Judge, A: Accept>(judge: &mut J, routes: &Routes, accept: &A, mv: Move) -> bool
+    requires well_formed { IsWellFormed (A.model accept.now) }
+    requires judge_model { J.model judge.old ≡ A.model accept.now }
+    requires accept_stands { A.stands_at accept.now routes.now.lists }
+    requires holds { HoldSame (A.model accept.now) (J.committed judge.old) routes.now }
+    requires mv { IsTrue (is_move (A.model accept.now) routes.now.lists mv) }
+    ensures refused { IsTrue result → is_acceptable (A.model accept.now) (A.takes accept.now) routes.now.lists mv
+        ≡ false }
+    ensures model { J.model judge.new ≡ J.model judge.old }
+    ensures committed { J.committed judge.new ≡ J.committed judge.old }
+    ensures asked { J.asked judge.new ≡ J.asked judge.old }
+    ensures looked { J.looked judge.new ≤ J.looked judge.old + 1 }
+{
+    match judge.least_by_numbers(routes, mv) {
+        Some(least) => !accept.may_accept_by_numbers(routes, mv, least),
+        None => false,
+    }
 }
 
 // The difference that a move makes, where it is acceptable. What it changes is written over `change`. The judge is
-// asked only where the move may be taken.
+// asked only where the move may be taken, told first by its numbers, and then by its change.
 #[inline(always)]
 fn try_move<J: Judge, A: Accept, L: Ledger>(
     model: &Model,
@@ -177,8 +225,9 @@ fn try_move<J: Judge, A: Accept, L: Ledger>(
     ensures model { J.model judge.new ≡ J.model judge.old }
     ensures committed { J.committed judge.new ≡ J.committed judge.old }
     ensures asked { J.asked judge.new ≤ J.asked judge.old + 1 }
+    ensures looked { J.looked judge.new ≤ J.looked judge.old + 2 }
 {
-    if accept.passes_over(judge, routes, mv) {
+    if is_ruled_out(judge, routes, accept, mv) {
         return Ok(None);
     }
     Change::write(model, routes, mv, change);

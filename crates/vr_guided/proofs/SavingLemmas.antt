@@ -1,6 +1,6 @@
 -- A move takes no more of the penalised arc costs than the arcs of the vehicles that it names add.
 use Rattle.std.proofs.Common.{◌≡◌, ◌≢◌, ◌∙◌, inl, inr, ℕ, zero, ◌<◌, Bool, true, false, cond, nat_lt, List, length, Option, Some, None, refl, sym, ap, subst, arith}
-use Rattle.std.specs.Prelude.{ℤ, pos, ◌+ℤ◌, ◌-ℤ◌, ◌≤ℤ◌, ◌==◌, ◌&&◌, IsTrue, IfSome}
+use Rattle.std.specs.Prelude.{ℤ, pos, ◌+ℤ◌, ◌-ℤ◌, ◌≤ℤ◌, ◌==◌, IsTrue, IfSome}
 use Rattle.std.proofs.lemmas.Int.{ints}
 use Rattle.std.proofs.lemmas.Bool.Decides.{eqb_tells}
 use Rattle.vr_model.specs.tables.Numbers.{below, total_by}
@@ -16,12 +16,10 @@ use Rattle.vr_model.specs.declared.records.Model.{Model}
 use Rattle.vr_model.specs.declared.search.Lambda.{Lambda}
 use Rattle.vr_model.proofs.moves.KeptLists.{moves_keep_lists}
 use Rattle.vr_model.proofs.routes.Lists.{are-lists, are_lists-count, route-below}
-use Rattle.vr_routes.specs.Judging.{IsLeast, cost_change}
 use Rattle.vr_routes.specs.Runs.{with_last}
 use Rattle.vr_routes.proofs.FactLemmas.{of_cross, of_exchange, of_make_active, of_make_inactive, of_or_opt, of_pair_active, of_relocate, of_swap_active, of_two_opt}
-use Rattle.vr_descent.specs.Scanned.{IsPassedOver, is_acceptable}
+use Rattle.vr_descent.specs.Scanned.{IsEnough, IsPassedOver}
 use Rattle.vr_guided.specs.Counts.{AtMost}
-use Rattle.vr_guided.specs.Enough.{IsEnough}
 use Rattle.vr_guided.specs.Guides.{is_gain, makes_less, penalised_change}
 use Rattle.vr_guided.specs.Named.{vehicles_of}
 use Rattle.vr_guided.specs.Savings.{named_weight}
@@ -173,12 +171,3 @@ pub enough_for_run : (model : Model) → IsWellFormed model → (p : Penalties) 
 enough_for_run model well p few lambda p_some q_some lists valid mv named e saved most None none = cc
 enough_for_run model well p few lambda p_some q_some lists valid mv named e saved most (Some enough) none = λ k one.
     never_a_gain model well p few lambda p_some q_some lists valid (with_last mv k) one named (same_named mv k ∙ e) saved most enough none
-
--- a move that makes no less than the least, and is not taken with that or more, is not acceptable
-pub refused_at_least : (model : Model) (takes : List (List ℕ) → Move → ℤ → Bool) (lists : List (List ℕ)) (mv : Move) (least : ℤ) → IsLeast model lists mv least → IsPassedOver model takes lists mv least
-    → is_acceptable model takes lists mv ≡ false
-refused_at_least model takes lists mv least is passed = by (is_valid model (apply model lists mv)) (λ valid. passed valid (is valid))
-  where
-    by : (b : Bool) → (IsTrue b → takes lists mv (cost_change model lists mv) ≡ false) → (b && takes lists mv (cost_change model lists mv)) ≡ false
-    by true none = none refl
-    by false none = refl

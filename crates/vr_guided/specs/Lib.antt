@@ -10,7 +10,6 @@ pub mod Worths
 pub mod Sparing
 pub mod Walks
 pub mod Savings
-pub mod Enough
 pub mod Nexts
 pub mod Answering
 pub mod Bounding

@@ -1,9 +1,7 @@
 //! What guided search takes.
 
 ghost use Rattle.std.specs.Prelude.{◌≡◌, ◌≤◌, ◌*◌, ◌^◌, ◌*ℤ◌, ◌-ℤ◌, ◌≤ℤ◌, false, pos, IfSome, IsTrue, unsigned_abs};
-ghost use Rattle.vr_descent.specs.Scanned.{IsPassedOver};
 ghost use Rattle.vr_guided.specs.Counts.{AtMost, IsSoundGuide, counted};
-ghost use Rattle.vr_guided.specs.Enough.{IsEnough};
 ghost use Rattle.vr_guided.specs.RouteSums.{AreAllRouteSums};
 ghost use Rattle.vr_guided.specs.Guides.{is_gain, makes_less, penalised_change};
 ghost use Rattle.vr_model.specs.moves.MoveTests.{is_move};
@@ -16,7 +14,7 @@ use crate::route_sums::AllRouteSums;
 use crate::two_vehicles::vehicles_of;
 use vr_descent::Accept;
 use vr_model::{Lambda, Model, Move};
-use vr_routes::{Change, Judge, Routes};
+use vr_routes::{Change, Routes};
 
 /// Takes each move that makes the augmented cost less.
 #[derive(Drop)]
@@ -40,26 +38,32 @@ impl<'m> Accept for Guiding<'m> {
     }
 
     #[inline(always)]
-    fn passes_over<J: Judge>(&self, judge: &J, routes: &Routes, mv: Move) -> bool {
-        match judge.least_by_numbers(routes, mv) {
-            Some(least) => self.is_ruled_out(routes, mv, least),
-            None => false,
-        }
+    fn may_accept_by_numbers(&self, routes: &Routes, mv: Move, least: i64) -> bool {
+        let Some(named) = vehicles_of(mv) else {
+            return true;
+        };
+        let saved = self
+            .penalties
+            .saved_by_lists(self.model, routes, self.route_sums, named);
+        self.gains(least, -saved)
     }
 
     #[inline]
-    fn first_open<J: Judge>(
-        &self,
-        judge: &J,
-        routes: &Routes,
-        mv: Move,
-        from: u32,
-        end: u32,
-    ) -> Option<u32> {
-        match self.enough_for(routes, mv) {
-            Some(enough) => judge.first_below(routes, mv, from, end, enough),
-            None => None,
+    fn open_below(&self, routes: &Routes, mv: Move) -> Option<i64> {
+        let Some(named) = vehicles_of(mv) else {
+            return None;
+        };
+        let vehicles = routes.vehicles();
+        if named.v >= vehicles {
+            return None;
         }
+        if named.w >= vehicles {
+            return None;
+        }
+        let saved = self
+            .penalties
+            .saved_by_lists(self.model, routes, self.route_sums, named);
+        self.enough_against(saved)
     }
 
     fn may_accept(&self, routes: &Routes, _mv: Move, change: &Change, least: i64) -> bool {
@@ -78,53 +82,6 @@ impl<'m> Accept for Guiding<'m> {
 }
 
 impl<'m> Guiding<'m> {
-    // Whether a move is not taken where it makes a difference of `least` or more, as far as the penalised arcs of the
-    // vehicles that it names tell.
-    #[inline]
-    fn is_ruled_out(&self, routes: &Routes, mv: Move, least: i64) -> bool
-        requires well_formed { IsWellFormed self.now.model.now }
-        requires valid { IsTrue (is_valid self.now.model.now routes.now.lists) }
-        requires mv { IsTrue (is_move self.now.model.now routes.now.lists mv) }
-        requires route_sums { AreAllRouteSums self.now.model.now (counted self.now.penalties.now) routes.now.lists
-            self.now.route_sums.now }
-        ensures { IsTrue result → IsPassedOver self.now.model.now
-            (makes_less self.now.model.now self.now.lambda (counted self.now.penalties.now)) routes.now.lists mv least }
-    {
-        let Some(named) = vehicles_of(mv) else {
-            return false;
-        };
-        let saved = self
-            .penalties
-            .saved_by_lists(self.model, routes, self.route_sums, named);
-        !self.gains(least, -saved)
-    }
-
-    // A difference in cost with which, or with more, no move is taken that differs from this one in its last number.
-    #[inline]
-    fn enough_for(&self, routes: &Routes, mv: Move) -> Option<i64>
-        requires well_formed { IsWellFormed self.now.model.now }
-        requires valid { IsTrue (is_valid self.now.model.now routes.now.lists) }
-        requires route_sums { AreAllRouteSums self.now.model.now (counted self.now.penalties.now) routes.now.lists
-            self.now.route_sums.now }
-        ensures { IfSome result (IsEnough self.now.model.now
-            (makes_less self.now.model.now self.now.lambda (counted self.now.penalties.now)) routes.now.lists mv) }
-    {
-        let Some(named) = vehicles_of(mv) else {
-            return None;
-        };
-        let vehicles = routes.vehicles();
-        if named.v >= vehicles {
-            return None;
-        }
-        if named.w >= vehicles {
-            return None;
-        }
-        let saved = self
-            .penalties
-            .saved_by_lists(self.model, routes, self.route_sums, named);
-        self.enough_against(saved)
-    }
-
     // A difference in cost that is no gain where so much of the penalised arc costs is saved: what this weighs over the
     // weight of a cost, rounded up. `None` where it might not fit 64 bits.
     #[inline]

@@ -1,6 +1,6 @@
 //! Guided local search.
 
-ghost use Rattle.std.specs.Prelude.{◌≡◌, ◌+◌, ◌≤◌, ◌==◌, ◌||◌, not, ◌≤ℤ◌, pos, IsTrue, IfOk, OnOk, OnErr};
+ghost use Rattle.std.specs.Prelude.{◌≡◌, ◌+◌, ◌*◌, ◌≤◌, ◌==◌, ◌||◌, not, ◌≤ℤ◌, pos, IsTrue, IfOk, OnOk, OnErr};
 ghost use Rattle.vr_guided.specs.Standing.{AreLimits, IsBegun, Stands, from_state, outcome_of};
 ghost use Rattle.vr_model.specs.routes.Costs.{cost};
 ghost use Rattle.vr_model.specs.search.GuidedSearches.{guided, has_costly_arc};
@@ -37,6 +37,9 @@ pub struct Guided {
 ///
 /// The report's end is `Optimum` where no move was left to try or no used arc costs anything, so that no penalty could
 /// help, `Tries` where the tries ran out, and `Solutions` where as many solutions were found as the limit allows.
+///
+/// The judge is asked about no more moves than are tried, and at most three times as often what a move, or a run of
+/// moves, makes at least.
 ///
 /// The only refusal is want of memory. Routes and judge then hold the same valid lists, the judge was asked about no
 /// more moves than the limit has tries, and the watchers have been told the events up to there: of the event in hand,
@@ -85,6 +88,8 @@ pub fn guide<J: Judge, L: Ledger>(
     ensures told_in_part { OnErr result (ToldInPart (λ w later. after w later) watch.old.items watch.new.items
         (guided model.now routes.old.lists limit lambda).events) }
     ensures asked_at_most { OnErr result (J.asked judge.new ≤ J.asked judge.old + limit.tries) }
+    ensures looked { IfOk result (λ answer. J.looked judge.new ≤ J.looked judge.old + 3 * answer.report.tries) }
+    ensures looked_at_most { OnErr result (J.looked judge.new ≤ J.looked judge.old + 3 * limit.tries) }
 {
     let at = Progress {
         used: 0,
@@ -154,6 +159,8 @@ fn improve<J: Judge, L: Ledger>(
     ensures told { OnOk result (Told (λ w later. after w later) watch.old.items watch.new.items
         (from_state model.now limit lambda routes.old.lists state.old).events) }
     ensures asked { OnOk result (J.asked judge.new + state.old.at.used ≤ J.asked judge.old + state.new.at.used) }
+    ensures looked { OnOk result (J.looked judge.new + 3 * state.old.at.used
+        ≤ J.looked judge.old + 3 * state.new.at.used) }
     ensures stands { OnOk result (Stands model.now limit (J.committed judge.new) routes.new state.new) }
     ensures no_dearer { OnOk result (state.new.best.cost ≤ℤ state.old.best.cost) }
 
@@ -162,6 +169,8 @@ fn improve<J: Judge, L: Ledger>(
     ensures told_in_part { OnErr result (ToldInPart (λ w later. after w later) watch.old.items watch.new.items
         (from_state model.now limit lambda routes.old.lists state.old).events) }
     ensures asked_at_most { OnErr result (J.asked judge.new + state.old.at.used ≤ J.asked judge.old + limit.tries) }
+    ensures looked_at_most { OnErr result (J.looked judge.new + 3 * state.old.at.used
+        ≤ J.looked judge.old + 3 * limit.tries) }
 {
     let mut known = Known::of(model);
     state.route_sums.write(model, &state.penalties, routes);

@@ -75,6 +75,8 @@ impl<'m> Judge for FilterJudge<'m> {
 
     ghost asked = { λ judge. 0 };
 
+    ghost looked = { λ judge. 0 };
+
     ghost weight = { λ judge mv. total_weight judge.model judge.lists (apply judge.model judge.lists mv) };
 
     fn judge<L: Ledger>(
@@ -93,13 +95,13 @@ impl<'m> Judge for FilterJudge<'m> {
     }
 
     #[inline(always)]
-    fn least_by_numbers(&self, routes: &Routes, mv: Move) -> Option<i64> {
+    fn least_by_numbers(&mut self, routes: &Routes, mv: Move) -> Option<i64> {
         self.judging.least_by_numbers(routes, mv)
     }
 
     #[inline(always)]
     fn first_below(
-        &self,
+        &mut self,
         routes: &Routes,
         mv: Move,
         from: u32,

@@ -79,6 +79,8 @@ impl<'m, F: PathFilter + Drop> Judge for Judging<'m, F> {
 
     ghost asked = { λ judging. 0 };
 
+    ghost looked = { λ judging. 0 };
+
     ghost weight = { λ judging mv. total_weight judging.model judging.lists (apply judging.model judging.lists mv) };
 
     fn judge<L: Ledger>(
@@ -101,13 +103,13 @@ impl<'m, F: PathFilter + Drop> Judge for Judging<'m, F> {
     }
 
     #[inline(always)]
-    fn least_by_numbers(&self, routes: &Routes, mv: Move) -> Option<i64> {
+    fn least_by_numbers(&mut self, routes: &Routes, mv: Move) -> Option<i64> {
         self.costs.least_by_numbers(routes, mv)
     }
 
     #[inline(always)]
     fn first_below(
-        &self,
+        &mut self,
         routes: &Routes,
         mv: Move,
         from: u32,

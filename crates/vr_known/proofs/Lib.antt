@@ -8,3 +8,4 @@ pub mod MemoryLemmas
 pub mod NestLemmas
 pub mod PassingLemmas
 pub mod Counts
+pub mod LookedLemmas

@@ -1,11 +1,11 @@
 //! Fronts of lists that change vehicles.
 
-ghost use Rattle.std.specs.Prelude.{◌≡◌, ⊤, ℕ, ◌<◌, ◌≤◌, suc, true, length, map, filter};
+ghost use Rattle.std.specs.Prelude.{◌≡◌, ◌+◌, ⊤, ℕ, ◌<◌, ◌≤◌, suc, true, length, map, filter};
 ghost use Rattle.std.specs.Iterator.{YieldsFirst, item_count};
 ghost use Rattle.vr_model.specs.tables.Numbers.{each, from_to};
 ghost use Rattle.vr_model.specs.routes.Routes.{route, vehicles};
 ghost use Rattle.vr_model.specs.moves.Moves.{gaps, has_some_front, moves_in};
-ghost use Rattle.vr_known.specs.Passing.{ArePassed, Takes};
+ghost use Rattle.vr_known.specs.Passing.{ArePassed, Looked, Takes, tried};
 ghost use Rattle.vr_model.specs.declared.records.Model.{Model as Defined};
 ghost use Rattle.vr_model.specs.declared.neighbours.Move.TheVariants.{Cross};
 ghost use Rattle.vr_model.specs.declared.neighbours.Neighbourhood.TheVariants.{Cross as CrossKind};
@@ -189,11 +189,19 @@ impl<'a> Model for CrossMoves<'a> {
 impl<'a> CrossMoves<'a> {
     /// Takes the first of the moves that are left, behind some that are passed over, which are counted.
     #[inline(always)]
-    pub fn step<S: Sieve>(&mut self, sieve: &S, passed: &mut u64) -> Option<Move>
-        requires { S.is_ready sieve.now }
-        ensures { Takes (S.covers sieve.now) self.old passed.old result self.new passed.new }
+    pub fn step<S: Sieve>(
+        &mut self,
+        sieve: &S,
+        judge: &mut S::Judge,
+        passed: &mut u64,
+    ) -> Option<Move>
+        requires ready { S.is_ready sieve.now }
+        requires can_ask { S.can_ask sieve.now judge.old }
+        ensures takes { Takes (S.covers sieve.now) self.old passed.old result self.new passed.new }
+        ensures looked { Looked (S.can_ask sieve.now) S.judged S.looked (S.tries sieve.now)
+            judge.old passed.old judge.new (passed.new + tried result) }
     {
-        self.left.step(sieve, passed)
+        self.left.step(sieve, judge, passed)
     }
 }
 

@@ -1,8 +1,8 @@
 //! Pairs that are taken out.
 
-ghost use Rattle.std.specs.Prelude.{◌≡◌, ⊤, ℕ, length};
+ghost use Rattle.std.specs.Prelude.{◌≡◌, ◌+◌, ⊤, ℕ, length};
 ghost use Rattle.std.specs.Iterator.{YieldsFirst, item_count};
-ghost use Rattle.vr_known.specs.Passing.{Takes};
+ghost use Rattle.vr_known.specs.Passing.{Looked, Takes, tried};
 ghost use Rattle.vr_model.specs.moves.Moves.{is_pair_together, moves_in};
 ghost use Rattle.vr_model.specs.tables.WellFormed.{IsWellFormed};
 ghost use Rattle.vr_model.specs.declared.neighbours.Move.TheVariants.{PairInactive};
@@ -62,11 +62,19 @@ impl<'a> Model for PairInactiveMoves<'a> {
 impl<'a> PairInactiveMoves<'a> {
     /// Takes the first of the moves that are left, behind some that are passed over, which are counted.
     #[inline(always)]
-    pub fn step<S: Sieve>(&mut self, sieve: &S, passed: &mut u64) -> Option<Move>
-        requires { S.is_ready sieve.now }
-        ensures { Takes (S.covers sieve.now) self.old passed.old result self.new passed.new }
+    pub fn step<S: Sieve>(
+        &mut self,
+        sieve: &S,
+        judge: &mut S::Judge,
+        passed: &mut u64,
+    ) -> Option<Move>
+        requires ready { S.is_ready sieve.now }
+        requires can_ask { S.can_ask sieve.now judge.old }
+        ensures takes { Takes (S.covers sieve.now) self.old passed.old result self.new passed.new }
+        ensures looked { Looked (S.can_ask sieve.now) S.judged S.looked (S.tries sieve.now)
+            judge.old passed.old judge.new (passed.new + tried result) }
     {
-        self.left.step(sieve, passed)
+        self.left.step(sieve, judge, passed)
     }
 }
 

@@ -18,7 +18,7 @@ use vr_routes::{Change, Judge, Routes, Verdict};
 use vr_rules::Rules;
 
 /// Judges a move by the rules and the cost of the whole lists after it, which it builds anew each time. It counts no
-/// questions and no steps: both of its numbers are 0.
+/// questions and no steps: all of its numbers are 0.
 ///
 /// All that a judged move needs is kept and written over: after the first moves one takes memory only where a set of
 /// cumuls has more than four runs, or a list is longer than any before.
@@ -76,6 +76,8 @@ impl<'m> Judge for PlainJudge<'m> {
     ghost committed = { λ judge. judge.lists };
 
     ghost asked = { λ judge. 0 };
+
+    ghost looked = { λ judge. 0 };
 
     ghost weight = { λ judge mv. 0 };
 

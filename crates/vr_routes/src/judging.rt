@@ -35,6 +35,9 @@ pub trait Judge {
     /// A number that rises by at most one where a move is judged.
     ghost asked: { Self → ℕ };
 
+    /// A number that rises by at most one where it is asked what a move, or a run of moves, makes at least.
+    ghost looked: { Self → ℕ };
+
     /// How many steps it takes at most to judge a move of the committed lists.
     ghost weight: { Self → Step → ℕ };
 
@@ -52,6 +55,7 @@ pub trait Judge {
         ensures model { model self.new ≡ model self.old }
         ensures committed { committed self.new ≡ committed self.old }
         ensures asked { asked self.new ≤ asked self.old + 1 }
+        ensures looked { looked self.new ≡ looked self.old }
         ensures steps { steps.new ≤ steps.old + weight self.old mv };
 
     /// A number that the difference of a move is never below, where the lists after it are valid; of other moves it
@@ -67,6 +71,7 @@ pub trait Judge {
         ensures model { model self.new ≡ model self.old }
         ensures committed { committed self.new ≡ committed self.old }
         ensures asked { asked self.new ≡ asked self.old }
+        ensures looked { looked self.new ≤ looked self.old + 1 }
     {
         laws::costs_are_bounded();
         i64::MIN
@@ -76,11 +81,15 @@ pub trait Judge {
     /// of the move itself (vehicles, places, nodes), so that a search can ask it before it makes the change. `None`
     /// where the judge cannot tell it so. Takes no memory and counts no steps.
     #[inline]
-    fn least_by_numbers(&self, routes: &Routes, mv: Move) -> Option<i64>
-        requires well_formed { IsWellFormed (model self.now) }
-        requires holds { HoldSame (model self.now) (committed self.now) routes.now }
-        requires mv { IsTrue (is_move (model self.now) routes.now.lists mv) }
-        ensures { IfSome result (IsLeast (model self.now) routes.now.lists mv) }
+    fn least_by_numbers(&mut self, routes: &Routes, mv: Move) -> Option<i64>
+        requires well_formed { IsWellFormed (model self.old) }
+        requires holds { HoldSame (model self.old) (committed self.old) routes.now }
+        requires mv { IsTrue (is_move (model self.old) routes.now.lists mv) }
+        ensures least { IfSome result (IsLeast (model self.old) routes.now.lists mv) }
+        ensures model { model self.new ≡ model self.old }
+        ensures committed { committed self.new ≡ committed self.old }
+        ensures asked { asked self.new ≡ asked self.old }
+        ensures looked { looked self.new ≤ looked self.old + 1 }
     {
         None
     }
@@ -91,14 +100,25 @@ pub trait Judge {
     /// and of numbers that are no move nothing is said. `None` where the judge cannot tell anything of such a run, from
     /// whichever number on it is asked. It judges none of the moves, takes no memory and counts no steps.
     #[inline]
-    fn first_below(&self, routes: &Routes, mv: Move, from: u32, end: u32, bound: i64) -> Option<u32>
-        requires well_formed { IsWellFormed (model self.now) }
-        requires holds { HoldSame (model self.now) (committed self.now) routes.now }
+    fn first_below(
+        &mut self,
+        routes: &Routes,
+        mv: Move,
+        from: u32,
+        end: u32,
+        bound: i64,
+    ) -> Option<u32>
+        requires well_formed { IsWellFormed (model self.old) }
+        requires holds { HoldSame (model self.old) (committed self.old) routes.now }
         requires order { from ≤ end }
         ensures from { IfSome result (λ first. from ≤ first) }
         ensures within { IfSome result (λ first. first ≤ end) }
         ensures no_less { IfSome result (λ first. (k : ℕ) → from ≤ k → k < first
-            → IsNoLess (model self.now) routes.now.lists (with_last mv k) bound) }
+            → IsNoLess (model self.old) routes.now.lists (with_last mv k) bound) }
+        ensures model { model self.new ≡ model self.old }
+        ensures committed { committed self.new ≡ committed self.old }
+        ensures asked { asked self.new ≡ asked self.old }
+        ensures looked { looked self.new ≤ looked self.old + 1 }
     {
         None
     }
@@ -115,5 +135,6 @@ pub trait Judge {
         ensures routes_stay { OnErr result (routes.new ≡ routes.old) }
         ensures committed_stay { OnErr result (committed self.new ≡ committed self.old) }
         ensures model { model self.new ≡ model self.old }
-        ensures asked { asked self.new ≡ asked self.old };
+        ensures asked { asked self.new ≡ asked self.old }
+        ensures looked { looked self.new ≡ looked self.old };
 }

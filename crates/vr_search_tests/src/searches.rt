@@ -1,7 +1,8 @@
 //! Whole searches by both judges, which must find the same, and how often they ask a judge: no more often than they try
-//! moves, and less often where what a move makes at least rules it out.
+//! moves, and less often where what a move makes at least rules it out; and at most three times a try what moves make at
+//! least.
 
-ghost use Rattle.std.specs.Prelude.{◌≡◌, ◌+◌, ◌<◌, ◌≤◌, IfOk, IsTrue, OnErr, OnOk};
+ghost use Rattle.std.specs.Prelude.{◌≡◌, ◌+◌, ◌*◌, ◌<◌, ◌≤◌, IfOk, IsTrue, OnErr, OnOk};
 ghost use Rattle.vr_model.specs.moves.Moves.{apply};
 ghost use Rattle.vr_model.specs.moves.MoveTests.{is_move};
 ghost use Rattle.vr_model.specs.routes.Costs.{cost};
@@ -41,10 +42,11 @@ pub(crate) struct Wanted {
     pub(crate) list: &'static [u32],
 }
 
-// A judge that counts the moves that it judges.
+// A judge that counts the moves that it judges, and how often it is asked what moves make at least.
 struct Counting<J: Judge> {
     judge: J,
     count: u64,
+    looks: u64,
 }
 
 impl<J: Judge> Judge for Counting<J> {
@@ -53,6 +55,8 @@ impl<J: Judge> Judge for Counting<J> {
     ghost committed = { λ counting. J.committed counting.judge };
 
     ghost asked = { λ counting. counting.count };
+
+    ghost looked = { λ counting. counting.looks };
 
     ghost weight = { λ counting mv. J.weight counting.judge mv };
 
@@ -68,11 +72,25 @@ impl<J: Judge> Judge for Counting<J> {
     }
 
     fn least_difference(&mut self, routes: &Routes, mv: Move, change: &Change) -> i64 {
+        self.looks = self.looks.saturating_add(1);
         self.judge.least_difference(routes, mv, change)
     }
 
-    fn least_by_numbers(&self, routes: &Routes, mv: Move) -> Option<i64> {
+    fn least_by_numbers(&mut self, routes: &Routes, mv: Move) -> Option<i64> {
+        self.looks = self.looks.saturating_add(1);
         self.judge.least_by_numbers(routes, mv)
+    }
+
+    fn first_below(
+        &mut self,
+        routes: &Routes,
+        mv: Move,
+        from: u32,
+        end: u32,
+        bound: i64,
+    ) -> Option<u32> {
+        self.looks = self.looks.saturating_add(1);
+        self.judge.first_below(routes, mv, from, end, bound)
     }
 
     fn commit(&mut self, routes: &mut Routes, mv: Move) -> Result<(), NoMemory> {
@@ -84,7 +102,11 @@ impl<J: Judge> Judge for Counting<J> {
 impl<J: Judge> Counting<J> {
     // The judge that was counted.
     fn into_judge(self) -> J {
-        let Counting { judge, count: _ } = self;
+        let Counting {
+            judge,
+            count: _,
+            looks: _,
+        } = self;
         judge
     }
 }
@@ -107,6 +129,7 @@ fn report_of<J: Judge, L: Ledger>(
     requires parts { blank.parts ≡ L.parts }
     requires some { 0 < blank.parts }
     ensures asked { IfOk result (λ report. J.asked judge.new ≤ J.asked judge.old + report.tries) }
+    ensures looked { IfOk result (λ report. J.looked judge.new ≤ J.looked judge.old + 3 * report.tries) }
 {
     let limit = Limit {
         tries: 1000,
@@ -131,10 +154,11 @@ fn report_of<J: Judge, L: Ledger>(
     }
 }
 
-// How a search went, and how often the judge was asked.
+// How a search went, how often the judge was asked about moves, and how often what moves make at least.
 #[derive(Clone, Copy)]
 struct Count {
     asked: u64,
+    looked: u64,
     report: Report,
 }
 
@@ -152,17 +176,20 @@ fn count_of<J: Judge, L: Ledger>(
     requires judge_model { J.model counting.old.judge ≡ model.now }
     requires holds { HoldSame model.now (J.committed counting.old.judge) routes.old }
     requires first_cost { first_cost ≡ cost model.now routes.old.lists }
-    requires none_yet { counting.old.count ≡ 0 }
+    requires none_judged { counting.old.count ≡ 0 }
+    requires no_looks { counting.old.looks ≡ 0 }
     requires name { blank.name ≡ L.name }
     requires parts { blank.parts ≡ L.parts }
     requires some { 0 < blank.parts }
-    ensures { IfOk result (λ count. count.asked ≤ count.report.tries) }
+    ensures asked { IfOk result (λ count. count.asked ≤ count.report.tries) }
+    ensures looked { IfOk result (λ count. count.looked ≤ 3 * count.report.tries) }
 {
     let report = report_of::<Counting<J>, L>(
         alloc, model, counting, routes, first_cost, search, blank,
     )?;
     Ok(Count {
         asked: counting.count,
+        looked: counting.looks,
         report,
     })
 }
@@ -181,7 +208,11 @@ fn plain_count(
     requires first_cost { first_cost ≡ cost model.now routes.old.lists }
 {
     let judge = PlainJudge::open(alloc, model, routes)?;
-    let mut counting = Counting { judge, count: 0 };
+    let mut counting = Counting {
+        judge,
+        count: 0,
+        looks: 0,
+    };
     let count = count_of::<PlainJudge<'_>, Brand>(
         alloc,
         model,
@@ -209,7 +240,11 @@ fn filter_count(
     requires first_cost { first_cost ≡ cost model.now routes.old.lists }
 {
     let judge = FilterJudge::open(alloc, model, routes)?;
-    let mut counting = Counting { judge, count: 0 };
+    let mut counting = Counting {
+        judge,
+        count: 0,
+        looks: 0,
+    };
     let count = count_of::<FilterJudge<'_>, Brand>(
         alloc,
         model,
@@ -230,6 +265,11 @@ fn is_asked_enough(by: By, asked: u64, tries: u64) -> bool {
         By::Rebuilding => asked > 0 && asked <= tries,
         By::Filters => asked > 0 && asked < tries,
     }
+}
+
+// Whether a judge is asked what moves make at least, and at most three times a try.
+fn is_looked_enough(looked: u64, tries: u64) -> bool {
+    looked > 0 && looked <= tries.saturating_mul(3)
 }
 
 /// Whether this is the list of the first vehicle.
@@ -258,6 +298,7 @@ pub(crate) fn finds(
     let tries = count.report.tries;
     Ok(
         is_asked_enough(by, count.asked, tries)
+            && is_looked_enough(count.looked, tries)
             && tries == wanted.tries
             && count.report.solutions == wanted.solutions
             && has_list(routes, wanted.list),

@@ -56,9 +56,10 @@ IsCeiling model tabus best lists ceiling =
     (mv : Move) → IsTrue (is_no_less ceiling (cost_change model lists mv))
     → is_candidate model tabus best lists mv ≡ false
 
--- a judge can be asked about moves of routes
-pub record CanPass (model : Model) (committed : List (List ℕ)) (routes : Tours) : Type 0 where
+-- a judge of this model that has committed these lists can be asked about moves of routes
+pub record CanPass (model : Model) (routes : Tours) (judged : Model) (committed : List (List ℕ)) : Type 0 where
   pub well_formed : IsWellFormed model
+  pub judge_model : judged ≡ model
   pub holds : HoldSame model committed routes
 
 -- the better of the best candidate so far and a move, where that is a candidate

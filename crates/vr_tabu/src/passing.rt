@@ -2,22 +2,36 @@
 
 ghost use Rattle.vr_tabu.specs.Rounds.{CanPass, IsPassed};
 
+use std::marker::PhantomData;
 use vr_known::Sieve;
-use vr_model::{Move, Neighbourhood};
+use vr_model::{Model, Move, Neighbourhood};
 use vr_routes::{Judge, Routes};
 
 /// What tells of a run of moves from which on some may make a difference below a bound.
 #[derive(Drop)]
 pub struct NoBetter<'a, J: Judge> {
-    pub judge: &'a J,
+    pub model: &'a Model,
     pub routes: &'a Routes,
     pub bound: Option<i64>,
+    /// How many moves may be tried.
+    pub rest: u64,
+    pub judge: PhantomData<J>,
 }
 
 impl<'a, J: Judge> Sieve for NoBetter<'a, J> {
-    ghost is_ready = { λ s. CanPass (J.model s.judge.now) (J.committed s.judge.now) s.routes.now };
+    type Judge = J;
 
-    ghost covers = { λ s. IsPassed (J.model s.judge.now) s.routes.now.lists s.bound };
+    ghost is_ready = { λ s. Unit {0} };
+
+    ghost covers = { λ s. IsPassed s.model.now s.routes.now.lists s.bound };
+
+    ghost tries = { λ s. s.rest };
+
+    ghost can_ask = { λ s judge. CanPass s.model.now s.routes.now (J.model judge) (J.committed judge) };
+
+    ghost judged = { J.asked };
+
+    ghost looked = { J.looked };
 
     #[inline(always)]
     fn has(&self, _neighbourhood: Neighbourhood, _v: u32, _w: u32) -> bool {
@@ -25,9 +39,14 @@ impl<'a, J: Judge> Sieve for NoBetter<'a, J> {
     }
 
     #[inline(always)]
-    fn first(&self, mv: Move, from: u32, end: u32) -> Option<u32> {
+    fn limit(&self) -> u64 {
+        self.rest
+    }
+
+    #[inline(always)]
+    fn first(&self, judge: &mut J, mv: Move, from: u32, end: u32) -> Option<u32> {
         match self.bound {
-            Some(bound) => self.judge.first_below(self.routes, mv, from, end, bound),
+            Some(bound) => judge.first_below(self.routes, mv, from, end, bound),
             None => None,
         }
     }

@@ -1,9 +1,9 @@
 //! One round: the best candidate among all moves.
 
-ghost use Rattle.std.specs.Prelude.{◌≡◌, ◌+◌, ◌≤◌, ◌&&◌, int_le, IsTrue, IfOk, IfSome, OnErr};
+ghost use Rattle.std.specs.Prelude.{◌≡◌, ◌+◌, ◌*◌, ◌≤◌, ◌&&◌, int_le, IsTrue, IfOk, IfSome, OnErr};
 ghost use Rattle.vr_model.specs.moves.MoveTests.{is_move};
 ghost use Rattle.vr_model.specs.moves.Moves.{apply, moves};
-ghost use Rattle.vr_known.specs.Passing.{Takes};
+ghost use Rattle.vr_known.specs.Passing.{Takes, tried, within};
 ghost use Rattle.vr_routes.specs.Changes.{IsChange};
 ghost use Rattle.vr_tabu.specs.Rounds.{IsCeiling, IsKnown, IsNoBetter, IsPassed, aspiration, better_with, bound_of};
 ghost use Rattle.vr_tabu.specs.Rounds.{end_with, is_no_less, move_of, round_end, tries_of};
@@ -14,6 +14,7 @@ ghost use Rattle.vr_tabu.specs.TabuSearches.{is_tabu, round_of};
 use crate::new_list::NewList;
 use crate::passing::NoBetter;
 use crate::searching::State;
+use std::marker::PhantomData;
 use std::sync::ledger::Ledger;
 use vr_descent::{MoveList, moves};
 use vr_model::{Model, Move, NoMemory, Steps};
@@ -67,8 +68,8 @@ impl<'a> Round<'a> {
         }
     }
 
-    /// Tries all moves of the lists, where there are at most `rest`, for the best candidate. Each try is at most
-    /// one question to the judge: a move that would cost no less than the best candidate so far is not judged, and
+    /// Tries all moves of the lists, where there are at most `rest`, for the best candidate. Each try is judged at most
+    /// once, and the judge is asked at most three times as often what moves make at least: a move that would cost no less than the best candidate so far is not judged, and
     /// which visits it changes is asked of the others alone. Of the moves of a run, which differ in their last number,
     /// the judge is asked at once from which on some may cost less, and those in front of these are tries as well.
     ///
@@ -93,6 +94,8 @@ impl<'a> Round<'a> {
         ensures committed { J.committed judge.new ≡ J.committed judge.old }
         ensures asked { IfOk result (λ ended. J.asked judge.new ≤ J.asked judge.old + tries_of rest ended) }
         ensures asked_at_most { OnErr result (J.asked judge.new ≤ J.asked judge.old + rest) }
+        ensures looked { IfOk result (λ ended. J.looked judge.new ≤ J.looked judge.old + 3 * tries_of rest ended) }
+        ensures looked_at_most { OnErr result (J.looked judge.new ≤ J.looked judge.old + 3 * rest) }
     {
         let mut list = moves(self.model, self.routes);
         self.run_over(judge, rest, &mut list, steps)
@@ -121,12 +124,14 @@ impl<'a> Round<'a> {
         ensures committed { J.committed judge.new ≡ J.committed judge.old }
         ensures asked { IfOk result (λ ended. J.asked judge.new ≤ J.asked judge.old + tries_of rest ended) }
         ensures asked_at_most { OnErr result (J.asked judge.new ≤ J.asked judge.old + rest) }
+        ensures looked { IfOk result (λ ended. J.looked judge.new ≤ J.looked judge.old + 3 * tries_of rest ended) }
+        ensures looked_at_most { OnErr result (J.looked judge.new ≤ J.looked judge.old + 3 * rest) }
     {
         let mut change = Change::blank();
         let mut after = NewList::new();
         let mut best = None;
         let mut length: u64 = 0;
-        while let Some(mv) = self.next_open(judge, best, list, &mut length) {
+        while let Some(mv) = self.next_open(judge, best, list, rest, &mut length) {
             if length >= rest {
                 return Ok(RoundEnd::Cut);
             }
@@ -144,23 +149,31 @@ impl<'a> Round<'a> {
     #[inline(always)]
     fn next_open<J: Judge>(
         &self,
-        judge: &J,
+        judge: &mut J,
         best: Option<Candidate>,
         list: &mut MoveList<'_>,
+        rest: u64,
         length: &mut u64,
     ) -> Option<Move>
         requires known { IsKnownState self.now.model.now self.now.routes.now self.now.state.now }
-        requires judge_model { J.model judge.now ≡ self.now.model.now }
-        requires committed { J.committed judge.now ≡ self.now.routes.now.lists }
-        ensures { Takes (IsPassed self.now.model.now self.now.routes.now.lists (bound_of best self.now.ceiling))
-            list.old length.old result list.new length.new }
+        requires judge_model { J.model judge.old ≡ self.now.model.now }
+        requires committed { J.committed judge.old ≡ self.now.routes.now.lists }
+        ensures takes { Takes (IsPassed self.now.model.now self.now.routes.now.lists
+            (bound_of best self.now.ceiling)) list.old length.old result list.new length.new }
+        ensures model { J.model judge.new ≡ J.model judge.old }
+        ensures committed { J.committed judge.new ≡ J.committed judge.old }
+        ensures asked { J.asked judge.new ≡ J.asked judge.old }
+        ensures looked { J.looked judge.new + within rest length.old
+            ≤ J.looked judge.old + within rest (length.new + tried result) }
     {
-        let passing = NoBetter {
-            judge,
+        let passing: NoBetter<'_, J> = NoBetter {
+            model: self.model,
             routes: self.routes,
             bound: self.bound(best),
+            rest,
+            judge: PhantomData,
         };
-        list.step(&passing, length)
+        list.step(&passing, judge, length)
     }
 
     // What the difference of a better candidate than the best so far is below, where there is one, or each visit is
@@ -201,6 +214,7 @@ impl<'a> Round<'a> {
         ensures model { J.model judge.new ≡ J.model judge.old }
         ensures committed { J.committed judge.new ≡ J.committed judge.old }
         ensures asked { J.asked judge.new ≤ J.asked judge.old + 1 }
+        ensures looked { J.looked judge.new ≤ J.looked judge.old + 2 }
     {
         if self.is_told_no_better(judge, mv, best) {
             return Ok(best);
@@ -233,6 +247,7 @@ impl<'a> Round<'a> {
         ensures model { J.model judge.new ≡ J.model judge.old }
         ensures committed { J.committed judge.new ≡ J.committed judge.old }
         ensures asked { J.asked judge.new ≤ J.asked judge.old + 1 }
+        ensures looked { J.looked judge.new ≤ J.looked judge.old + 1 }
     {
         Change::write(self.model, self.routes, mv, change);
         let least = judge.least_difference(self.routes, mv, change);
@@ -255,13 +270,17 @@ impl<'a> Round<'a> {
 
     // Whether the judge tells by the numbers of a move that it is no better than the best candidate so far.
     #[inline]
-    fn is_told_no_better<J: Judge>(&self, judge: &J, mv: Move, best: Option<Candidate>) -> bool
+    fn is_told_no_better<J: Judge>(&self, judge: &mut J, mv: Move, best: Option<Candidate>) -> bool
         requires known { IsKnownState self.now.model.now self.now.routes.now self.now.state.now }
-        requires judge_model { J.model judge.now ≡ self.now.model.now }
-        requires committed { J.committed judge.now ≡ self.now.routes.now.lists }
+        requires judge_model { J.model judge.old ≡ self.now.model.now }
+        requires committed { J.committed judge.old ≡ self.now.routes.now.lists }
         requires mv { IsTrue (is_move self.now.model.now self.now.routes.now.lists mv) }
-        ensures { IsTrue result → IsNoBetter self.now.model.now self.now.routes.now.lists mv
+        ensures no_better { IsTrue result → IsNoBetter self.now.model.now self.now.routes.now.lists mv
             (bound_of best self.now.ceiling) }
+        ensures model { J.model judge.new ≡ J.model judge.old }
+        ensures committed { J.committed judge.new ≡ J.committed judge.old }
+        ensures asked { J.asked judge.new ≡ J.asked judge.old }
+        ensures looked { J.looked judge.new ≤ J.looked judge.old + 1 }
     {
         match judge.least_by_numbers(self.routes, mv) {
             Some(least) => is_no_less(self.bound(best), least),

@@ -1,6 +1,6 @@
 //! Tabu search.
 
-ghost use Rattle.std.specs.Prelude.{◌≡◌, ◌≢◌, ◌+◌, ◌-◌, ◌<◌, ◌≤◌, ◌^◌, ◌+ℤ◌, ◌≤ℤ◌, pos, ◌∷◌, [], length};
+ghost use Rattle.std.specs.Prelude.{◌≡◌, ◌≢◌, ◌+◌, ◌*◌, ◌-◌, ◌<◌, ◌≤◌, ◌^◌, ◌+ℤ◌, ◌≤ℤ◌, pos, ◌∷◌, [], length};
 ghost use Rattle.std.specs.Prelude.{Some, None, IsTrue, IfOk, OnOk, OnErr};
 ghost use Rattle.vr_model.specs.moves.MoveTests.{is_move};
 ghost use Rattle.vr_model.specs.moves.Moves.{apply};
@@ -53,6 +53,9 @@ pub struct Bounds {
 /// `Tries` where there are more moves than tries left, which then count as used; and `Optimum` where no move may be
 /// made.
 ///
+/// The judge is asked about no more moves than are tried, and at most three times as often what a move, or a run of
+/// moves, makes at least.
+///
 /// The only refusal is want of memory. Routes and judge then hold the same valid lists, the judge was asked about no
 /// more moves than the limit has tries, and the watchers have been told the events up to there: of the event in hand,
 /// the first few. Memory is taken once at the beginning, and then by the judge and the watchers alone.
@@ -97,6 +100,8 @@ pub fn tabu<J: Judge, L: Ledger>(
     ensures told_in_part { OnErr result (ToldInPart (λ w later. after w later) watch.old.items watch.new.items
         (tabu_search model.now routes.old.lists limit tenure).events) }
     ensures asked_at_most { OnErr result (J.asked judge.new ≤ J.asked judge.old + limit.tries) }
+    ensures looked { IfOk result (λ answer. J.looked judge.new ≤ J.looked judge.old + 3 * answer.report.tries) }
+    ensures looked_at_most { OnErr result (J.looked judge.new ≤ J.looked judge.old + 3 * limit.tries) }
 {
     let at = Progress {
         used: 0,
@@ -157,6 +162,8 @@ impl State {
         ensures told { OnOk result (Told (λ w later. after w later) watch.old.items watch.new.items
             (next_events model.now bounds routes.old.lists self.old)) }
         ensures asked { OnOk result (J.asked judge.new + self.old.at.used ≤ J.asked judge.old + self.new.at.used) }
+        ensures looked { OnOk result (J.looked judge.new + 3 * self.old.at.used
+            ≤ J.looked judge.old + 3 * self.new.at.used) }
         ensures stands { OnOk result (Stands model.now bounds (J.committed judge.new) routes.new self.new) }
         ensures no_dearer { OnOk result (self.new.best.cost ≤ℤ self.old.best.cost) }
         ensures further { IfOk result (λ stop. stop ≡ None → self.old.at.used < self.new.at.used) }
@@ -167,6 +174,8 @@ impl State {
             (next_events model.now bounds routes.old.lists self.old)) }
         ensures asked_at_most { OnErr result (J.asked judge.new + self.old.at.used
             ≤ J.asked judge.old + bounds.limit.tries) }
+        ensures looked_at_most { OnErr result (J.looked judge.new + 3 * self.old.at.used
+            ≤ J.looked judge.old + 3 * bounds.limit.tries) }
     {
         let rest = bounds.limit.tries - self.at.used;
         let ended = run_round(model, judge, routes, self, rest, steps)?;
@@ -238,6 +247,7 @@ impl State {
         ensures holds { HoldSame model.now (J.committed judge.new) routes.new }
         ensures judge_model { J.model judge.new ≡ model.now }
         ensures asked { J.asked judge.new ≡ J.asked judge.old }
+        ensures looked { J.looked judge.new ≡ J.looked judge.old }
         ensures told { OnOk result (Told (λ w later. after w later) watch.old.items watch.new.items
             (move_event model.now routes.old.lists candidate.mv (self.old.at.used + length) ∷ [])) }
         ensures told_in_part { OnErr result (ToldInPart (λ w later. after w later) watch.old.items watch.new.items
@@ -291,6 +301,8 @@ fn run_round<J: Judge, L: Ledger>(
     ensures committed { J.committed judge.new ≡ J.committed judge.old }
     ensures asked { IfOk result (λ ended. J.asked judge.new ≤ J.asked judge.old + tries_of rest ended) }
     ensures asked_at_most { OnErr result (J.asked judge.new ≤ J.asked judge.old + rest) }
+    ensures looked { IfOk result (λ ended. J.looked judge.new ≤ J.looked judge.old + 3 * tries_of rest ended) }
+    ensures looked_at_most { OnErr result (J.looked judge.new ≤ J.looked judge.old + 3 * rest) }
 {
     let round = Round::open(model, routes, state);
     round.run(judge, rest, steps)
@@ -316,6 +328,8 @@ fn search<J: Judge, L: Ledger>(
     ensures told { OnOk result (Told (λ w later. after w later) watch.old.items watch.new.items
         (from_state model.now bounds routes.old.lists state.old).events) }
     ensures asked { OnOk result (J.asked judge.new + state.old.at.used ≤ J.asked judge.old + state.new.at.used) }
+    ensures looked { OnOk result (J.looked judge.new + 3 * state.old.at.used
+        ≤ J.looked judge.old + 3 * state.new.at.used) }
     ensures stands { OnOk result (Stands model.now bounds (J.committed judge.new) routes.new state.new) }
     ensures no_dearer { OnOk result (state.new.best.cost ≤ℤ state.old.best.cost) }
 
@@ -325,6 +339,8 @@ fn search<J: Judge, L: Ledger>(
         (from_state model.now bounds routes.old.lists state.old).events) }
     ensures asked_at_most { OnErr result (J.asked judge.new + state.old.at.used
         ≤ J.asked judge.old + bounds.limit.tries) }
+    ensures looked_at_most { OnErr result (J.looked judge.new + 3 * state.old.at.used
+        ≤ J.looked judge.old + 3 * bounds.limit.tries) }
 {
     'rounds: while state.at.found != bounds.limit.solutions {
         let stop = state.advance(model, judge, routes, bounds, watch, steps)?;

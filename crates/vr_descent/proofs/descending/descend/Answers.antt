@@ -11,10 +11,11 @@ use Rattle.vr_watch.specs.Told.{Told, ToldInPart}
 use Rattle.vr_model.proofs.routes.CostFits.{costs_are_bounded}
 use Rattle.vr_model.proofs.tables.Refusals.{on_err}
 use Rattle.vr_model.proofs.tables.Tests.{apart}
+use Rattle.vr_descent.specs.Scanned.{takes_less}
 use Rattle.vr_descent.specs.Searching.{after_move, events_after, progress_after, routes_after, scan_of}
 use Rattle.vr_descent.proofs.EndLemmas.{accepted_at, completed, was_cut}
 use Rattle.vr_descent.proofs.GoingOn.{Goes, breaks_off, goes_as, goes_more, goes_to_end}
-use Rattle.vr_descent.proofs.DescentLemmas.{begins, enough, from_here, left_after, no_dearer, on_scan, same_count, standing, takes_less}
+use Rattle.vr_descent.proofs.DescentLemmas.{begins, enough, from_here, left_after, no_dearer, on_scan, same_count, standing}
 use Rattle.vr_descent.proofs.RefusedLemmas.{less_stays, nothing_refused}
 use Rattle.vr_descent.proofs.descending.descend.Goals as goal
 
@@ -40,6 +41,7 @@ scans-init g c =
       some = omega arith;
       found = c.requires.one_solution;
       asked = omega arith;
+      looked = omega arith;
       goes = goes_more (λ w. (goal.Watch-dyn g (w.vtable, w.value)).after w.value) (descent c.args.model.now c.args.routes.now.lists c.args.limit) (from_here c.args.model.now c.args.limit c.args.routes.now.lists 0 1) (event_at c.args.model.now (begun c.args.routes.now.lists) kind.First ∷ []) _ _ _ (begins c.args.model.now c.args.limit (λ w. (goal.Watch-dyn g (w.vtable, w.value)).after w.value) c.args.routes.now.lists _)
           (subst (λ event. Told (λ w. (goal.Watch-dyn g (w.vtable, w.value)).after w.value) c.args.watch.now.items c.note_all.new.watch.items (event ∷ [])) first c.in_ok-note_all.ensures.told);
       known = nothing_refused c.args.model.now takes_less c.args.routes.now.lists c.of-known.result c.of-known.ensures.none;
@@ -75,6 +77,10 @@ pub returns-in_err-ended-clause-asked_at_most : goal.returns-in_err-ended-clause
 returns-in_err-ended-clause-asked_at_most g c =
     on_err c.from_residual-in_err-ended.result (omega (arith, c.in_err-ended.ensures.asked_at_most, c.scans.invariant.asked))
 
+pub returns-in_err-ended-clause-looked_at_most : goal.returns-in_err-ended-clause-looked_at_most
+returns-in_err-ended-clause-looked_at_most g c =
+    on_err c.from_residual-in_err-ended.result (omega (arith, c.in_err-ended.ensures.looked_at_most, c.scans.invariant.looked))
+
 pub scans-preserved : goal.scans-preserved
 scans-preserved g c =
     let more = apart c.scans.at.found c.args.limit.solutions c.scans-test.true in
@@ -94,6 +100,7 @@ scans-preserved g c =
       some = omega (arith, found_new);
       found = omega (arith, found_new, c.scans.invariant.found, c.scans-test.true);
       asked = omega (arith, c.in_ok-ended.ensures.asked, c.scans.invariant.asked);
+      looked = omega (arith, c.in_ok-ended.ensures.looked, c.scans.invariant.looked);
       goes = subst (λ p. Goes (λ w. (goal.Watch-dyn g (w.vtable, w.value)).after w.value) (descent c.args.model.now c.args.routes.now.lists c.args.limit) (from_here c.args.model.now c.args.limit c.advance.new.routes.lists p.used p.found) c.args.watch.now.items c.advance.new.watch.items) (sym at_new)
           (subst (λ r. Goes (λ w. (goal.Watch-dyn g (w.vtable, w.value)).after w.value) (descent c.args.model.now c.args.routes.now.lists c.args.limit) (from_here c.args.model.now c.args.limit r.lists (c.scans.at.used + c.in-Accepted.place) (c.scans.at.found + 1)) c.args.watch.now.items c.advance.new.watch.items) (sym routes_new)
           (goes_as (λ w. (goal.Watch-dyn g (w.vtable, w.value)).after w.value) (descent c.args.model.now c.args.routes.now.lists c.args.limit) _ _ _ _ (ap (left_after c.args.model.now c.args.limit c.scans.routes.lists c.scans.at.used c.scans.at.found) at.scanned) (goes_more (λ w. (goal.Watch-dyn g (w.vtable, w.value)).after w.value) (descent c.args.model.now c.args.routes.now.lists c.args.limit) (left_after c.args.model.now c.args.limit c.scans.routes.lists c.scans.at.used c.scans.at.found (scan_of c.args.model.now takes_less c.args.limit c.scans.routes.lists c.scans.at.used)) (events_after c.args.model.now c.scans.routes.lists c.scans.at.used (scan_of c.args.model.now takes_less c.args.limit c.scans.routes.lists c.scans.at.used)) _ _ _ (goes_as (λ w. (goal.Watch-dyn g (w.vtable, w.value)).after w.value) (descent c.args.model.now c.args.routes.now.lists c.args.limit) _ _ _ _ (on_scan c.args.model.now c.args.limit c.scans.routes.lists c.scans.at.used c.scans.at.found more) c.scans.invariant.goes) c.in_ok-ended.ensures.told)));
@@ -148,6 +155,10 @@ returns-in-Complete-clause-told g c =
 pub returns-in-Complete-clause-asked : goal.returns-in-Complete-clause-asked
 returns-in-Complete-clause-asked g c =
     omega (arith, ap (λ r. r.tries) c.report.ensures, c.in_ok-ended.ensures.asked, c.scans.invariant.asked)
+
+pub returns-in-Complete-clause-looked : goal.returns-in-Complete-clause-looked
+returns-in-Complete-clause-looked g c =
+    omega (arith, ap (λ r. r.tries) c.report.ensures, c.in_ok-ended.ensures.looked, c.scans.invariant.looked)
 
 pub returns-in-Complete-clause-no_more_tries : goal.returns-in-Complete-clause-no_more_tries
 returns-in-Complete-clause-no_more_tries g c =
@@ -217,6 +228,10 @@ pub returns-in-Cut-clause-asked : goal.returns-in-Cut-clause-asked
 returns-in-Cut-clause-asked g c =
     omega (arith, ap (λ r. r.tries) c.report-in-Cut.ensures, c.in_ok-ended.ensures.asked, c.scans.invariant.asked)
 
+pub returns-in-Cut-clause-looked : goal.returns-in-Cut-clause-looked
+returns-in-Cut-clause-looked g c =
+    omega (arith, ap (λ r. r.tries) c.report-in-Cut.ensures, c.in_ok-ended.ensures.looked, c.scans.invariant.looked)
+
 pub returns-in-Cut-clause-no_more_tries : goal.returns-in-Cut-clause-no_more_tries
 returns-in-Cut-clause-no_more_tries g c =
     let scanned = was_cut c.args.model.now takes_less c.scans.routes.lists (c.args.limit.tries - c.scans.at.used) (sym c.in-Cut.is ∙ c.in_ok-ended.ensures.ends) in
@@ -271,6 +286,10 @@ returns-clause-told g c =
 pub returns-clause-asked : goal.returns-clause-asked
 returns-clause-asked g c =
     omega (arith, ap (λ r. r.tries) c.report-2.ensures, c.scans.invariant.asked)
+
+pub returns-clause-looked : goal.returns-clause-looked
+returns-clause-looked g c =
+    omega (arith, ap (λ r. r.tries) c.report-2.ensures, c.scans.invariant.looked)
 
 pub returns-clause-no_more_tries : goal.returns-clause-no_more_tries
 returns-clause-no_more_tries g c =

@@ -1,4 +1,4 @@
-use Rattle.std.proofs.Common.{◌≡◌, ◌≤◌, ◌+◌, length}
+use Rattle.std.proofs.Common.{◌≡◌, ◌≤◌, ◌+◌, ◌*◌, length}
 use Rattle.std.specs.Prelude.{true}
 use Rattle.std.specs.List.{list_all}
 use Rattle.vr_model.specs.moves.Moves.{moves}
@@ -13,6 +13,7 @@ invariant-loop-mv g l = record {
   model : g.J.Judge.model l.judge ≡ g.J.Judge.model l.initial.judge;
   committed : g.J.Judge.committed l.judge ≡ g.J.Judge.committed l.initial.judge;
   asked : g.J.Judge.asked l.judge ≤ g.J.Judge.asked l.initial.judge + l.place;
+  looked : g.J.Judge.looked l.judge ≤ g.J.Judge.looked l.initial.judge + 3 * l.place;
   within : l.place ≤ l.rest;
   ends : scan_from l.place (is_acceptable l.model (g.A.Accept.takes l.accept) l.routes.lists) l.rest l.list
       ≡ scan (moves l.model l.routes.lists) (is_acceptable l.model (g.A.Accept.takes l.accept) l.routes.lists) l.rest;

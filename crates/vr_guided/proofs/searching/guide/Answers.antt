@@ -63,6 +63,14 @@ returns-in_err-end-clause-asked_at_most g c =
     let used = ap (λ p. p.used) begins.at_is in
     on_err c.from_residual-in_err-end.result (omega (arith, used, c.in_err-end.ensures.asked_at_most))
 
+pub returns-in_err-end-clause-looked_at_most : goal.returns-in_err-end-clause-looked_at_most
+returns-in_err-end-clause-looked_at_most g c =
+    let fits = costs_are_bounded c.args.model.now c.requires.well_formed c.args.routes.now.lists c.requires.holds.valid in
+    let costs : to_z w64 (of_z w64 c.args.first_cost) ≡ cost c.args.model.now c.args.routes.now.lists = omega (arith, ints, c.requires.first_cost, fits.least, fits.greatest) in
+    let begins = subst (λ k. IsBegun c.args.model.now c.args.routes.now (record { used = 0; found = 1; cost = k }) c.in_ok-state.state) costs c.in_ok-state.ensures in
+    let used = ap (λ p. p.used) begins.at_is in
+    on_err c.from_residual-in_err-end.result (omega (arith, used, c.in_err-end.ensures.looked_at_most))
+
 pub returns-clause-report : goal.returns-clause-report
 returns-clause-report g c =
     let fits = costs_are_bounded c.args.model.now c.requires.well_formed c.args.routes.now.lists c.requires.holds.valid in
@@ -107,6 +115,14 @@ returns-clause-asked g c =
     let begins = subst (λ k. IsBegun c.args.model.now c.args.routes.now (record { used = 0; found = 1; cost = k }) c.in_ok-state.state) costs c.in_ok-state.ensures in
     let used = ap (λ p. p.used) begins.at_is in
     omega (arith, used, ap (λ r. r.tries) c.report.ensures, c.in_ok-end.ensures.asked)
+
+pub returns-clause-looked : goal.returns-clause-looked
+returns-clause-looked g c =
+    let fits = costs_are_bounded c.args.model.now c.requires.well_formed c.args.routes.now.lists c.requires.holds.valid in
+    let costs : to_z w64 (of_z w64 c.args.first_cost) ≡ cost c.args.model.now c.args.routes.now.lists = omega (arith, ints, c.requires.first_cost, fits.least, fits.greatest) in
+    let begins = subst (λ k. IsBegun c.args.model.now c.args.routes.now (record { used = 0; found = 1; cost = k }) c.in_ok-state.state) costs c.in_ok-state.ensures in
+    let used = ap (λ p. p.used) begins.at_is in
+    omega (arith, used, ap (λ r. r.tries) c.report.ensures, c.in_ok-end.ensures.looked)
 
 pub returns-clause-no_more_tries : goal.returns-clause-no_more_tries
 returns-clause-no_more_tries g c =

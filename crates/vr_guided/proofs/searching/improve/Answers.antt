@@ -57,6 +57,7 @@ scans-init g c =
       };
       route_sums = c.write.ensures;
       asked = omega arith;
+      looked = omega arith;
       no_dearer = omega (arith, ints);
       goes = record { told = []; outcome = refl; heard = told_nothing (λ w. (goal.Watch-dyn g (w.vtable, w.value)).after w.value) _ };
       known = nothing_refused c.args.model.now (makes_less c.args.model.now c.args.lambda (counted c.args.state.now.penalties)) c.args.routes.now.lists c.of-known.result c.of-known.ensures.none;
@@ -99,6 +100,10 @@ returns-in_err-ended-clause-told_in_part g c =
 pub returns-in_err-ended-clause-asked_at_most : goal.returns-in_err-ended-clause-asked_at_most
 returns-in_err-ended-clause-asked_at_most g c =
     on_err c.from_residual.result (omega (arith, c.in_err-ended.ensures.asked_at_most, c.scans.invariant.asked))
+
+pub returns-in_err-ended-clause-looked_at_most : goal.returns-in_err-ended-clause-looked_at_most
+returns-in_err-ended-clause-looked_at_most g c =
+    on_err c.from_residual.result (omega (arith, c.in_err-ended.ensures.looked_at_most, c.scans.invariant.looked))
 
 pub offer-requires-clause-visits : goal.offer-requires-clause-visits
 offer-requires-clause-visits g c =
@@ -154,6 +159,7 @@ scans-preserved-in-Accepted g c =
       };
       route_sums = followed;
       asked = omega (arith, c.in_ok-ended.ensures.asked, c.scans.invariant.asked);
+      looked = omega (arith, c.in_ok-ended.ensures.looked, c.scans.invariant.looked);
       no_dearer = subst (λ b. b.cost ≤ℤ c.args.state.now.best.cost) (sym offered) (kept_no_dearer c.scans.state.best c.advance.new.routes c.advance.new.self.cost c.args.state.now.best.cost c.scans.invariant.no_dearer);
       goes = subst (λ b. Goes (λ w. (goal.Watch-dyn g (w.vtable, w.value)).after w.value) (from_state c.args.model.now c.args.limit c.args.lambda c.args.routes.now.lists c.args.state.now) (from_here c.args.model.now c.args.limit c.args.lambda (counted c.scans.state.penalties) c.advance.new.routes.lists b c.advance.new.self.used c.advance.new.self.found) c.args.watch.now.items c.advance.new.watch.items) (sym lists_kept)
           (subst (λ p. Goes (λ w. (goal.Watch-dyn g (w.vtable, w.value)).after w.value) (from_state c.args.model.now c.args.limit c.args.lambda c.args.routes.now.lists c.args.state.now) (from_here c.args.model.now c.args.limit c.args.lambda (counted c.scans.state.penalties) c.advance.new.routes.lists (cheaper c.args.model.now c.scans.state.best.routes.lists (apply c.args.model.now c.scans.routes.lists c.in-Accepted.mv)) p.used p.found) c.args.watch.now.items c.advance.new.watch.items) (sym at_new)
@@ -239,6 +245,15 @@ returns-in_err-note_all-in-Complete-clause-asked_at_most g c =
     let used_new = ap (λ p. p.used) at_new in
     on_err c.from_residual-in_err-note_all-in-Complete.result (omega (arith, c.in_ok-ended.ensures.asked, c.scans.invariant.asked, used_new, low, c.scans.invariant.stands.used))
 
+pub returns-in_err-note_all-in-Complete-clause-looked_at_most : goal.returns-in_err-note_all-in-Complete-clause-looked_at_most
+returns-in_err-note_all-in-Complete-clause-looked_at_most g c =
+    let done = completed c.args.model.now (makes_less c.args.model.now c.args.lambda (counted c.scans.state.penalties)) c.scans.routes.lists (c.args.limit.tries - c.scans.state.at.used) c.in-Complete.length (sym c.in-Complete.is ∙ c.in_ok-ended.ensures.ends) in
+    let scanned = done.0 in
+    let low = done.1 in
+    let at_new : c.advance.new.self ≡ record { used = c.scans.state.at.used + c.in-Complete.length; found = c.scans.state.at.found; cost = c.scans.state.at.cost } = c.in_ok-ended.ensures.progress ∙ ap (progress_after c.args.model.now c.args.limit c.scans.routes.lists c.scans.state.at) scanned in
+    let used_new = ap (λ p. p.used) at_new in
+    on_err c.from_residual-in_err-note_all-in-Complete.result (omega (arith, c.in_ok-ended.ensures.looked, c.scans.invariant.looked, used_new, low, c.scans.invariant.stands.used))
+
 pub scans-preserved : goal.scans-preserved
 scans-preserved g c =
     let more = apart c.scans.state.at.found c.args.limit.solutions c.scans-test.true in
@@ -271,6 +286,7 @@ scans-preserved g c =
       };
       route_sums = c.write-in-Complete.ensures;
       asked = omega (arith, c.in_ok-ended.ensures.asked, c.scans.invariant.asked);
+      looked = omega (arith, c.in_ok-ended.ensures.looked, c.scans.invariant.looked);
       no_dearer = c.scans.invariant.no_dearer;
       goes = subst (λ q. Goes (λ w. (goal.Watch-dyn g (w.vtable, w.value)).after w.value) (from_state c.args.model.now c.args.limit c.args.lambda c.args.routes.now.lists c.args.state.now) (from_here c.args.model.now c.args.limit c.args.lambda q c.advance.new.routes.lists c.scans.state.best.routes.lists c.advance.new.self.used c.advance.new.self.found) c.args.watch.now.items c.note_all.new.watch.items) (sym raised_new)
           (subst (λ p. Goes (λ w. (goal.Watch-dyn g (w.vtable, w.value)).after w.value) (from_state c.args.model.now c.args.limit c.args.lambda c.args.routes.now.lists c.args.state.now) (from_here c.args.model.now c.args.limit c.args.lambda (raised c.args.model.now (counted c.scans.state.penalties) c.scans.routes.lists) c.advance.new.routes.lists c.scans.state.best.routes.lists p.used p.found) c.args.watch.now.items c.note_all.new.watch.items) (sym at_new)
@@ -312,6 +328,10 @@ returns-then-is_stuck-clause-told g c =
 pub returns-then-is_stuck-clause-asked : goal.returns-then-is_stuck-clause-asked
 returns-then-is_stuck-clause-asked g c =
     omega (arith, c.in_ok-ended.ensures.asked, c.scans.invariant.asked)
+
+pub returns-then-is_stuck-clause-looked : goal.returns-then-is_stuck-clause-looked
+returns-then-is_stuck-clause-looked g c =
+    omega (arith, c.in_ok-ended.ensures.looked, c.scans.invariant.looked)
 
 pub returns-then-is_stuck-clause-stands : goal.returns-then-is_stuck-clause-stands
 returns-then-is_stuck-clause-stands g c =
@@ -375,6 +395,10 @@ pub returns-in-Cut-clause-asked : goal.returns-in-Cut-clause-asked
 returns-in-Cut-clause-asked g c =
     omega (arith, c.in_ok-ended.ensures.asked, c.scans.invariant.asked)
 
+pub returns-in-Cut-clause-looked : goal.returns-in-Cut-clause-looked
+returns-in-Cut-clause-looked g c =
+    omega (arith, c.in_ok-ended.ensures.looked, c.scans.invariant.looked)
+
 pub returns-in-Cut-clause-stands : goal.returns-in-Cut-clause-stands
 returns-in-Cut-clause-stands g c =
     let scanned = was_cut c.args.model.now (makes_less c.args.model.now c.args.lambda (counted c.scans.state.penalties)) c.scans.routes.lists (c.args.limit.tries - c.scans.state.at.used) (sym c.in-Cut.is ∙ c.in_ok-ended.ensures.ends) in
@@ -421,6 +445,10 @@ returns-clause-told g c =
 pub returns-clause-asked : goal.returns-clause-asked
 returns-clause-asked g c =
     c.scans.invariant.asked
+
+pub returns-clause-looked : goal.returns-clause-looked
+returns-clause-looked g c =
+    c.scans.invariant.looked
 
 pub returns-clause-stands : goal.returns-clause-stands
 returns-clause-stands g c =

@@ -56,6 +56,7 @@ rounds-preserved g c =
       model = c.in_ok-stop.ensures.judge_model;
       stands = c.in_ok-stop.ensures.stands;
       asked = omega (arith, c.in_ok-stop.ensures.asked, c.rounds.invariant.asked);
+      looked = omega (arith, c.in_ok-stop.ensures.looked, c.rounds.invariant.looked);
       no_dearer = (let less = c.in_ok-stop.ensures.no_dearer in let before = c.rounds.invariant.no_dearer in omega (arith, ints, less, before));
       goes = goes_as (λ w. (goal.Watch-dyn g (w.vtable, w.value)).after w.value) whole _ _ _ _ (ap (left_of model bounds c.advance.new.routes.lists c.advance.new.self) c.in_default.is) left;
     }

@@ -38,6 +38,10 @@ pub returns-in_err-ended-clause-asked_at_most : goal.returns-in_err-ended-clause
 returns-in_err-ended-clause-asked_at_most g c =
     on_err c.from_residual.result (omega (arith, c.in_err-ended.ensures.asked_at_most, c.requires.used))
 
+pub returns-in_err-ended-clause-looked_at_most : goal.returns-in_err-ended-clause-looked_at_most
+returns-in_err-ended-clause-looked_at_most g c =
+    on_err c.from_residual.result (omega (arith, c.in_err-ended.ensures.looked_at_most, c.requires.used))
+
 pub take-requires-clause-well_formed : goal.take-requires-clause-well_formed
 take-requires-clause-well_formed g c =
     let same : g.J.Judge.model c.scan.new.judge ≡ c.args.model.now = c.in_ok-ended.ensures.model ∙ c.requires.judge_model in
@@ -108,6 +112,11 @@ returns-in_err-take-in-Accepted-clause-asked_at_most g c =
     let at = accepted_at c.args.model.now (g.A.Accept.takes c.args.accept.now) c.args.routes.now.lists (c.args.limit.tries - c.args.self.now.used) c.in-Accepted.place c.in-Accepted.mv c.in-Accepted.difference (sym c.in-Accepted.is ∙ c.in_ok-ended.ensures.ends) in
     on_err c.from_residual-in_err-take-in-Accepted.result (omega (arith, at.within, c.requires.used, c.in_err-take-in-Accepted.ensures.asked, c.in_ok-ended.ensures.asked, ap (tries_of (c.args.limit.tries - c.args.self.now.used)) c.in-Accepted.is))
 
+pub returns-in_err-take-in-Accepted-clause-looked_at_most : goal.returns-in_err-take-in-Accepted-clause-looked_at_most
+returns-in_err-take-in-Accepted-clause-looked_at_most g c =
+    let at = accepted_at c.args.model.now (g.A.Accept.takes c.args.accept.now) c.args.routes.now.lists (c.args.limit.tries - c.args.self.now.used) c.in-Accepted.place c.in-Accepted.mv c.in-Accepted.difference (sym c.in-Accepted.is ∙ c.in_ok-ended.ensures.ends) in
+    on_err c.from_residual-in_err-take-in-Accepted.result (omega (arith, at.within, c.requires.used, c.in_err-take-in-Accepted.ensures.looked, c.in_ok-ended.ensures.looked, ap (tries_of (c.args.limit.tries - c.args.self.now.used)) c.in-Accepted.is))
+
 pub returns-in_ok-take-in-Accepted-clause-judge_model : goal.returns-in_ok-take-in-Accepted-clause-judge_model
 returns-in_ok-take-in-Accepted-clause-judge_model g c =
     let same : g.J.Judge.model c.scan.new.judge ≡ c.args.model.now = c.in_ok-ended.ensures.model ∙ c.requires.judge_model in
@@ -141,6 +150,10 @@ pub returns-in_ok-take-in-Accepted-clause-asked : goal.returns-in_ok-take-in-Acc
 returns-in_ok-take-in-Accepted-clause-asked g c =
     omega (arith, c.in_ok-take-in-Accepted.ensures.asked, ap (λ p. p.used) c.in_ok-take-in-Accepted.ensures.progress, c.in_ok-ended.ensures.asked, ap (tries_of (c.args.limit.tries - c.args.self.now.used)) c.in-Accepted.is)
 
+pub returns-in_ok-take-in-Accepted-clause-looked : goal.returns-in_ok-take-in-Accepted-clause-looked
+returns-in_ok-take-in-Accepted-clause-looked g c =
+    omega (arith, c.in_ok-take-in-Accepted.ensures.looked, ap (λ p. p.used) c.in_ok-take-in-Accepted.ensures.progress, c.in_ok-ended.ensures.looked, ap (tries_of (c.args.limit.tries - c.args.self.now.used)) c.in-Accepted.is)
+
 pub overflow_add-self : goal.overflow_add-self
 overflow_add-self g c =
     let done = completed c.args.model.now (g.A.Accept.takes c.args.accept.now) c.args.routes.now.lists (c.args.limit.tries - c.args.self.now.used) c.in-Complete.length (sym c.in-Complete.is ∙ c.in_ok-ended.ensures.ends) in
@@ -164,6 +177,10 @@ returns-in-Complete-clause-told g c =
 pub returns-in-Complete-clause-asked : goal.returns-in-Complete-clause-asked
 returns-in-Complete-clause-asked g c =
     omega (arith, c.requires.used, c.in_ok-ended.ensures.asked, ap (tries_of (c.args.limit.tries - c.args.self.now.used)) c.in-Complete.is)
+
+pub returns-in-Complete-clause-looked : goal.returns-in-Complete-clause-looked
+returns-in-Complete-clause-looked g c =
+    omega (arith, c.requires.used, c.in_ok-ended.ensures.looked, ap (tries_of (c.args.limit.tries - c.args.self.now.used)) c.in-Complete.is)
 
 pub returns-in-Complete-clause-judge_model : goal.returns-in-Complete-clause-judge_model
 returns-in-Complete-clause-judge_model g c =
@@ -192,6 +209,10 @@ returns-in-Cut-clause-told g c =
 pub returns-in-Cut-clause-asked : goal.returns-in-Cut-clause-asked
 returns-in-Cut-clause-asked g c =
     omega (arith, c.requires.used, c.in_ok-ended.ensures.asked, ap (tries_of (c.args.limit.tries - c.args.self.now.used)) c.in-Cut.is)
+
+pub returns-in-Cut-clause-looked : goal.returns-in-Cut-clause-looked
+returns-in-Cut-clause-looked g c =
+    omega (arith, c.requires.used, c.in_ok-ended.ensures.looked, ap (tries_of (c.args.limit.tries - c.args.self.now.used)) c.in-Cut.is)
 
 pub returns-in-Cut-clause-judge_model : goal.returns-in-Cut-clause-judge_model
 returns-in-Cut-clause-judge_model g c =

@@ -28,8 +28,8 @@ change-requires-clause-after c =
     let lists = c.args.routes.now.lists in
     subst (λ ls. IsTrue (are_lists model ls)) (sym c.requires.change.lists_are) (moves_keep_lists model c.requires.well_formed lists c.args._mv (are-lists model lists c.requires.valid) c.requires.mv)
 
-pub returns-then-not-gains : goal.returns-then-not-gains
-returns-then-not-gains c refused valid low =
+pub returns-then-not-gains-clause-passed : goal.returns-then-not-gains-clause-passed
+returns-then-not-gains-clause-passed c refused valid low =
     let at = c.args.self.now in
     let p = counted at.penalties.now in
     let lists = c.args.routes.now.lists in
@@ -44,8 +44,8 @@ returns-then-not-gains c refused valid low =
     let no_gain = none_saved at.lambda c.args.least (penalised_change at.model.now p lists c.args._mv) saved at.sound.p_from_one none (told (penalised at.model.now p lists) (penalised at.model.now p (apply at.model.now lists c.args._mv)) saved most) in
     passed_over at.model.now at.lambda p lists c.args._mv c.args.least at.sound.q_from_one no_gain low
 
-pub returns : goal.returns
-returns c refused valid low =
+pub returns-clause-passed : goal.returns-clause-passed
+returns-clause-passed c refused valid low =
     let at = c.args.self.now in
     let p = counted at.penalties.now in
     let lists = c.args.routes.now.lists in

@@ -16,6 +16,7 @@ invariant-loop-mv g l = record {
   model : g.J.Judge.model l.judge ≡ g.J.Judge.model l.initial.judge;
   committed : g.J.Judge.committed l.judge ≡ g.J.Judge.committed l.initial.judge;
   asked : g.J.Judge.asked l.judge ≤ g.J.Judge.asked l.initial.judge + l.length;
+  looked : g.J.Judge.looked l.judge ≤ g.J.Judge.looked l.initial.judge + 3 * l.length;
   within : l.length ≤ l.rest;
   counted : l.length + length l.list ≡ length (moves l.self.model.now l.self.routes.now.lists);
   moves : list_all (is_move l.self.model.now l.self.routes.now.lists) l.list ≡ true;

@@ -5,10 +5,10 @@ use Rattle.std.proofs.lemmas.Int.{ints}
 use Rattle.vr_guided.specs.Counts.{counted}
 use Rattle.vr_guided.specs.Guides.{is_gain}
 use Rattle.vr_guided.proofs.SavingLemmas.{enough_for_run}
-use Rattle.vr_guided.proofs.guiding.Guiding.enough_for.Goals as goal
+use Rattle.vr_guided.proofs.guiding.GuidingAccept.open_below.Goals as goal
 
-pub returns : goal.returns
-returns c =
+pub returns-clause-enough : goal.returns-clause-enough
+returns-clause-enough c =
     let at = c.args.self.now in
     let lists = c.args.routes.now.lists in
     let saved = c.saved_by_lists-saved.result in
