@@ -55,19 +55,12 @@ fn vehicle(alloc: Global) -> Result<Value, NoMemory>
     Ok(json!(in alloc; {"end": 0, "start": 0})?)
 }
 
-// A break of 600 that begins in 6000..=9000.
-fn pause(alloc: Global) -> Result<Value, NoMemory>
-    ensures { IfOk result (λ tree. view tree ≡ trees.pause) }
-{
-    Ok(json!(in alloc; {"duration": 600, "from": 6000, "to": 9000})?)
-}
-
 // The break of a vehicle.
 fn rest(alloc: Global, v: u64) -> Result<Value, NoMemory>
     ensures { IfOk result (λ tree. view tree ≡ trees.rest v) }
 {
-    let pauses = one(alloc, pause(alloc)?)?;
-    Ok(json!(in alloc; {"breaks": pauses, "vehicle": v})?)
+    let pause = json!(in alloc; {"duration": 600, "from": 6000, "to": 9000})?;
+    Ok(json!(in alloc; {"breaks": [pause], "vehicle": v})?)
 }
 
 // The penalty for leaving out a node.
