@@ -23,7 +23,7 @@ use crate::routes::Routes;
 use crate::rows::Row;
 use crate::seats::Seating;
 use std::marker::Model;
-use vr_model::{Model as RoutingModel, Move};
+use vr_model::{Closed, Model as RoutingModel, Move};
 
 /// The lists after a move, as pieces of the lists before it: one or two parts, each a vehicle and its list.
 #[derive(Drop)]
@@ -103,7 +103,7 @@ impl Change {
             Move::MakeActive { u, w, t } => out.write_make_active(model, routes, u, w, t),
             Move::SwapActive { v, a, u } => out.write_swap_active(model, routes, v, a, u),
             Move::PairActive { p, w, s, t } => out.write_pair_active(model, routes, p, w, s, t),
-            Move::PairInactive { p } => out.write_pair_inactive(model, routes, p),
+            Move::PairInactive { p } => out.write_pair_inactive(Closed { model }, routes, p),
             Move::RelocatePair { p, w, s, t } => {
                 out.write_relocate_pair(model, routes, p, w, s, t)
             }
@@ -239,13 +239,12 @@ impl Change {
     }
 
     #[inline]
-    fn write_pair_inactive(&mut self, model: &RoutingModel, routes: &Routes, p: u32)
-        requires well_formed { IsWellFormed model.now }
-        requires is_one { is_move model.now routes.now.lists (PairInactive p) ≡ true }
-        ensures { IsChange model.now routes.now.lists (PairInactive p) self.new }
+    fn write_pair_inactive(&mut self, closed: Closed<'_>, routes: &Routes, p: u32)
+        requires is_one { is_move closed.model.now routes.now.lists (PairInactive p) ≡ true }
+        ensures { IsChange closed.entry.model.now routes.now.lists (PairInactive p) self.new }
     {
         routes.know_once();
-        match pair_together(model, routes, p) {
+        match pair_together(closed.model, routes, p) {
             None => unreachable!(),
             Some(at) => {
                 self.has_second = false;
