@@ -38,7 +38,7 @@ module _ (model : Model) (mv : Move) (lists other : List (List ℕ)) (local : Is
       ap (λ n. total_by (λ v. f v (route (apply model lists mv) v)) (below n) -ℤ over f lists) (as_many model lists mv)
       ∙ sym (total_by-less (λ v. f v (route (apply model lists mv) v)) (λ v. f v (route lists v)) (below (length lists)))
       ∙ total_by-same (λ u. f u (route (apply model lists mv) u) -ℤ f u (route lists u)) (λ u. f u (route (apply model other mv) u) -ℤ f u (route other u))
-        (λ u. one_local (f u) (route lists u) (route other u) (route (apply model lists mv) u) (route (apply model other mv) u) (local.each u)) (below (length lists))
+      (λ u. one_local (f u) (route lists u) (route other u) (route (apply model lists mv) u) (route (apply model other mv) u) (local.each u)) (below (length lists))
       ∙ total_by-less (λ v. f v (route (apply model other mv) v)) (λ v. f v (route other v)) (below (length lists))
       ∙ ap (λ n. total_by (λ v. f v (route (apply model other mv) v)) (below n) -ℤ total_by (λ v. f v (route other v)) (below n)) local.many
       ∙ ap (λ n. total_by (λ v. f v (route (apply model other mv) v)) (below n) -ℤ over f other) (sym (as_many model other mv))

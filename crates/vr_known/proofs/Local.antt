@@ -74,8 +74,9 @@ module _ (lists other : List (List ℕ)) (w : ℕ) (list more : List ℕ) (many 
   put_each : (u : ℕ) → ComesToSame (route lists u) (route other u) (route (with_route lists w list) u) (route (with_route other w more) u)
   put_each u = elim (same_or_not u w) [
     | inl here ↦ inl (
-        ap (route lists) here ∙ there ∙ ap (route other) (sym here),
-        ap (route (with_route lists w list)) here ∙ route_set_same lists w list low ∙ same ∙ sym (route_set_same other w more low_other) ∙ ap (route (with_route other w more)) (sym here))
+      ap (route lists) here ∙ there ∙ ap (route other) (sym here),
+      ap (route (with_route lists w list)) here ∙ route_set_same lists w list low ∙ same ∙ sym (route_set_same other w more low_other) ∙ ap (route (with_route other w more)) (sym here),
+    )
     | inr apart ↦ inr (route_set_other lists w u list apart, route_set_other other w u more apart)
   ]
 
@@ -146,7 +147,7 @@ module _ (model : Model) (lists other : List (List ℕ)) (p w s t : ℕ) (h : Is
         let one = length-map lists (without_pair pair) in
         let two = length-map other (without_pair pair) in
         let rest : (v : ℕ) → route lists v ≡ route other v → route (map (without_pair pair) lists) v ≡ route (map (without_pair pair) other) v =
-            λ v f. route_map (without_pair pair) refl lists v ∙ ap (without_pair pair) f ∙ sym (route_map (without_pair pair) refl other v) in
+        λ v f. route_map (without_pair pair) refl lists v ∙ ap (without_pair pair) f ∙ sym (route_map (without_pair pair) refl other v) in
         set_alike (map (without_pair pair) lists) (map (without_pair pair) other) w u _ _ (omega (arith, many, one, two)) (omega (arith, low, one))
         (ap (with_pair pair s t) (rest w agree.second)) (rest u e)
 

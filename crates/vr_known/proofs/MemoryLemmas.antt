@@ -385,7 +385,6 @@ module _ (model : Model) (lists : List (List ℕ)) (memory : Memory) (settled : 
   later_source (MakeInactive x a) one kept known v is = later_second 9 x known v is
   later_source (SwapActive x a u) one kept known v is = later_second 10 x known v is
 
-
 module _ (model : Model) (lists : List (List ℕ)) (made : Move) (first second : ℕ) (mid memory : Memory)
     (no_first : (k u : ℕ) → is_later mid k u first ≡ false) (no_second : (k u : ℕ) → is_later mid k u second ≡ false)
     (activity : (k u w : ℕ) → 5 < k → IsTrue (is_known mid k u w) → kind_of made < 6)

@@ -31,9 +31,18 @@ impl Touched {
         match mv {
             Move::TwoOpt { v, .. } => Touched::one(v),
             Move::OrOpt { v, .. } => Touched::one(v),
-            Move::Relocate { v, w, .. } => Touched { first: v, second: w },
-            Move::Exchange { v, w, .. } => Touched { first: v, second: w },
-            Move::Cross { v, w, .. } => Touched { first: v, second: w },
+            Move::Relocate { v, w, .. } => Touched {
+                first: v,
+                second: w,
+            },
+            Move::Exchange { v, w, .. } => Touched {
+                first: v,
+                second: w,
+            },
+            Move::Cross { v, w, .. } => Touched {
+                first: v,
+                second: w,
+            },
             Move::RelocatePair { p, w, .. } => Touched {
                 first: serving(model, routes, p),
                 second: w,

@@ -40,8 +40,17 @@ pub record Run : Type 0 where
 -- the run of these words, between these states of source and sink
 abbrev pub run_of : List (List ℕ) → Option (List ℕ) → Option (List ℕ) → ℕ → ℕ → Option (List ℕ) → Option (List ℕ) → ℕ → ℕ → ℕ → Run
 run_of words left rest failed fails taken takes refused refuses status = record {
-    words = words; left = left; rest = rest; failed = failed; fails = fails;
-    taken = taken; takes = takes; refused = refused; refuses = refuses; status = status }
+  words = words;
+  left = left;
+  rest = rest;
+  failed = failed;
+  fails = fails;
+  taken = taken;
+  takes = takes;
+  refused = refused;
+  refuses = refuses;
+  status = status;
+}
 
 -- the text was written, and is the only one
 abbrev pub Wrote : Run → List ℕ → Type 0

@@ -4,62 +4,62 @@ use Rattle.vr_app.proofs.reply.run.Goals as goal
 
 pub returns-clause-reply : goal.returns-clause-reply
 returns-clause-reply g c = let ran = c.run_watched.ensures.ran in record {
-    read = run.replies ran;
-    unread = run.unread ran;
-    front = run.front ran;
-    unread_front = run.unread_front ran;
-  }
+  read = run.replies ran;
+  unread = run.unread ran;
+  front = run.front ran;
+  unread_front = run.unread_front ran;
+}
 
 pub returns-clause-complete : goal.returns-clause-complete
 returns-clause-complete g c = let ran = c.run_watched.ensures.ran in record {
-    read = λ reads bytes told short calm quiet. run.complete ran bytes told calm quiet;
-    unread = run.complete_unread ran;
-  }
+  read = λ reads bytes told short calm quiet. run.complete ran bytes told calm quiet;
+  unread = run.complete_unread ran;
+}
 
 pub returns-clause-solving : goal.returns-clause-solving
 returns-clause-solving g c = let ran = c.run_watched.ensures.ran in record {
-    done = λ settled solves bytes told. (run.tells-first ran settled solves bytes told).done;
-    solution = run.solution ran;
-    none_found = λ settled solves bytes told. (run.tells-first ran settled solves bytes told).undone;
-    refused = λ settled solves bytes told. (run.tells-first ran settled solves bytes told).refused;
-    refusal = run.refusal ran;
-  }
+  done = λ settled solves bytes told. (run.tells-first ran settled solves bytes told).done;
+  solution = run.solution ran;
+  none_found = λ settled solves bytes told. (run.tells-first ran settled solves bytes told).undone;
+  refused = λ settled solves bytes told. (run.tells-first ran settled solves bytes told).refused;
+  refusal = run.refusal ran;
+}
 
 pub returns-clause-checking : goal.returns-clause-checking
 returns-clause-checking g c = let ran = c.run_watched.ensures.ran in record {
-    met = λ settled checks bytes told. (run.tells-met ran settled checks bytes told).done;
-    kept = run.kept ran;
-    spans = run.spans ran;
-    not_met = λ settled checks bytes told. (run.tells-met ran settled checks bytes told).undone;
-    broken = run.broken ran;
-    not_met_only = run.not_met_only ran;
-    refused = λ settled checks bytes told. (run.tells-met ran settled checks bytes told).refused;
-    refusal = run.check_refusal ran;
-  }
+  met = λ settled checks bytes told. (run.tells-met ran settled checks bytes told).done;
+  kept = run.kept ran;
+  spans = run.spans ran;
+  not_met = λ settled checks bytes told. (run.tells-met ran settled checks bytes told).undone;
+  broken = run.broken ran;
+  not_met_only = run.not_met_only ran;
+  refused = λ settled checks bytes told. (run.tells-met ran settled checks bytes told).refused;
+  refusal = run.check_refusal ran;
+}
 
 pub returns-clause-importing : goal.returns-clause-importing
 returns-clause-importing g c = let ran = c.run_watched.ensures.ran in record {
-    imported = λ settled vehicles imports bytes told. (run.tells-file ran settled vehicles imports bytes told).done;
-    model = run.model ran;
-    flawed = λ settled vehicles imports bytes told. (run.tells-file ran settled vehicles imports bytes told).flawed;
-    flaw = run.flaw ran;
-  }
+  imported = λ settled vehicles imports bytes told. (run.tells-file ran settled vehicles imports bytes told).done;
+  model = run.model ran;
+  flawed = λ settled vehicles imports bytes told. (run.tells-file ran settled vehicles imports bytes told).flawed;
+  flaw = run.flaw ran;
+}
 
 pub returns-clause-cause : goal.returns-clause-cause
 returns-clause-cause g c = let ran = c.run_watched.ensures.ran in record {
-    too_long = λ settled reads bytes told. (run.tells-text ran settled reads bytes told).too_long;
-    not_json = λ settled reads bytes told. (run.tells-text ran settled reads bytes told).not_json;
-    usage = run.usage ran;
-    usage_only = run.usage_only ran;
-    numbered = run.numbered ran;
-  }
+  too_long = λ settled reads bytes told. (run.tells-text ran settled reads bytes told).too_long;
+  not_json = λ settled reads bytes told. (run.tells-text ran settled reads bytes told).not_json;
+  usage = run.usage ran;
+  usage_only = run.usage_only ran;
+  numbered = run.numbered ran;
+}
 
 pub returns-clause-failed : goal.returns-clause-failed
 returns-clause-failed g c = let ran = c.run_watched.ensures.ran in record {
-    read_fault = λ e. (run.is_failed ran e).1.0;
-    reads = λ e. (run.is_failed ran e).1.1;
-    write_fault = run.write_fault ran;
-  }
+  read_fault = λ e. (run.is_failed ran e).1.0;
+  reads = λ e. (run.is_failed ran e).1.1;
+  write_fault = run.write_fault ran;
+}
 
 pub returns-clause-unwritten : goal.returns-clause-unwritten
 returns-clause-unwritten g c (inl e) = (run.is_failed c.run_watched.ensures.ran e).0.same

@@ -251,7 +251,7 @@ returns-in_ok-take-in-Accepted-clause-known g c =
     let routes_are : c.take.new.routes ≡ moved model c.args.routes.now mv = c.in_ok-take-in-Accepted.ensures.routes ∙ ap (λ k. moved k c.args.routes.now mv) same in
     let apart = subst (λ r. (m : Move) → IsTrue (is_move model r.lists m) → IsTrue (covers c.change.new.self m) → IsApart model r.lists mv first second m) routes_are c.change.ensures.apart in
     let after = changed model takes lists mv at.is_one first second c.of-touched.ensures.others c.note.new.self c.change.new.self c.requires.holds.valid at.valid
-        (λ k u w h. c.requires.stays (c.note.ensures.learns (c.change.ensures.learns (c.change.ensures.known k u w h)))) c.change.ensures.fewer apart before in
+    (λ k u w h. c.requires.stays (c.note.ensures.learns (c.change.ensures.learns (c.change.ensures.known k u w h)))) c.change.ensures.fewer apart before in
     subst (λ r. AreRefused model takes r.lists c.change.new.self) (sym routes_are) after
 
 pub returns-in-Complete-clause-known : goal.returns-in-Complete-clause-known
