@@ -236,7 +236,8 @@ fn cost_of_plan_after(
     ensures value { let part = part_at change.now k in
         let list = joined routes.now.lists part.pieces in
         IfOk result (λ cost. cost
-        ≡ soft_with at.now.model.now at.now.d part.vehicle list +ℤ span_with at.now.model.now at.now.d part.vehicle list) }
+        ≡ soft_with at.now.model.now at.now.d part.vehicle list +ℤ span_with at.now.model.now at.now.d part.vehicle
+        list) }
     ensures range { IfOk result IsPlanCostIn }
 {
     if at.table.is_free {

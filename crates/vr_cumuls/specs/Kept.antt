@@ -65,7 +65,8 @@ pub record IsKnown (model : Model) (d v : ℕ) (list : List ℕ) (kept : List Ke
 
 -- what is kept in dimension d is of these lists
 pub record AreKept (model : Model) (d : ℕ) (lists : List (List ℕ)) (kept : List KeptList) : Type 0 where
-  pub each : (v : ℕ) (other : KeptList) → v < length kept → IsKept model d v (route lists v) (slice_index_or kept v other)
+  pub each : (v : ℕ) (other : KeptList) → v < length kept
+      → IsKept model d v (route lists v) (slice_index_or kept v other)
   pub room : (v : ℕ) (other : KeptList) → v < length kept
       → HasRoom (vehicle_at model v).schedule (slice_index_or kept v other)
 

@@ -76,8 +76,8 @@ impl AllCumuls {
     }
 
     /// What the chosen schedule of the list comes to that part `k` of a change gives its vehicle, in a dimension.
-    /// Nothing exactly where what is kept does not tell; then it has to be looked for. The trail is room that the caller
-    /// lends: it is written over.
+    /// Nothing exactly where what is kept does not tell; then it has to be looked for. The trail is room that the
+    /// caller lends: it is written over.
     pub fn timing_after(
         &self,
         at: &KnownDimension,

@@ -140,8 +140,8 @@ impl KeptList {
         self.steps.write(&guide.between(ends), list);
     }
 
-    // What the tight schedule of the list that pieces are joined to comes to; nothing exactly where what is kept does not
-    // tell.
+    // What the tight schedule of the list that pieces are joined to comes to; nothing exactly where what is kept does
+    // not tell.
     fn tight_after(
         &self,
         guide: &Guide,
@@ -185,8 +185,8 @@ impl KeptList {
         self.timing_between(guide, ends, routes, pieces, trail)
     }
 
-    // The same between its two ends: by what is kept, where the list ended as it does now. Nothing exactly where there is
-    // no such schedule.
+    // The same between its two ends: by what is kept, where the list ended as it does now. Nothing exactly where there
+    // is no such schedule.
     fn timing_between(
         &self,
         guide: &Guide,
@@ -258,8 +258,8 @@ impl KeptList {
         self.steps.after(&kept, Some(start), routes, pieces, trail)
     }
 
-    // What the earliest schedule of the list that pieces are joined to comes to; nothing exactly where what is kept does
-    // not tell.
+    // What the earliest schedule of the list that pieces are joined to comes to; nothing exactly where what is kept
+    // does not tell.
     fn earliest_after(
         &self,
         guide: &Guide,
@@ -277,7 +277,8 @@ impl KeptList {
         requires within { All (IsWithin routes.now.lists) pieces.now }
         requires used { IsUsed guide.now.model.now (joined routes.now.lists pieces.now) }
         requires few { length (joined routes.now.lists pieces.now) ≤ 1000 }
-        ensures known { IsFeasible (line guide.now.model.now guide.now.d guide.now.v (joined routes.now.lists pieces.now))
+        ensures known { IsFeasible
+            (line guide.now.model.now guide.now.d guide.now.v (joined routes.now.lists pieces.now))
             → IsTrue (is_some result) ↔ HasAllStages (route routes.now.lists guide.now.v) self.now }
         ensures timing { IfSome result (IsTiming guide.now.model.now guide.now.d guide.now.v
             (joined routes.now.lists pieces.now)) }
@@ -369,11 +370,11 @@ impl KeptCumuls {
     }
 
     /// What the chosen schedule of the list that pieces are joined to comes to, for vehicle `v` in a dimension.
-    /// Nothing exactly where what is kept does not tell: where nothing is kept, the vehicle has breaks, or a stop allows
-    /// several runs of cumuls. Of an earliest schedule what the change keeps of the front of the list is walked as far
-    /// back as it gets another floor, and of its end as much as gets another cumul. Of a tight one what it keeps is not
-    /// walked; where soft upper bounds may cost anything it is, from the start until a cumul is as kept, and wholly
-    /// where the list ends at another cumul. The trail is written over.
+    /// Nothing exactly where what is kept does not tell: where nothing is kept, the vehicle has breaks, or a stop
+    /// allows several runs of cumuls. Of an earliest schedule what the change keeps of the front of the list is walked
+    /// as far back as it gets another floor, and of its end as much as gets another cumul. Of a tight one what it keeps
+    /// is not walked; where soft upper bounds may cost anything it is, from the start until a cumul is as kept, and
+    /// wholly where the list ends at another cumul. The trail is written over.
     pub fn timing_after(
         &self,
         at: &KnownDimension,
@@ -391,7 +392,8 @@ impl KeptCumuls {
         requires used { IsUsed at.now.model.now (joined routes.now.lists pieces.now) }
         requires few { length (joined routes.now.lists pieces.now) ≤ 1000 }
         requires feasible { IsFeasible (line at.now.model.now at.now.d v (joined routes.now.lists pieces.now)) }
-        ensures known { IsTrue (is_some result) ↔ IsKnown at.now.model.now at.now.d v (route routes.now.lists v) self.now }
+        ensures known { IsTrue (is_some result)
+            ↔ IsKnown at.now.model.now at.now.d v (route routes.now.lists v) self.now }
         ensures timing { IfSome result (IsTiming at.now.model.now at.now.d v (joined routes.now.lists pieces.now)) }
         ensures range { IfSome result (IsTimingOf (length (joined routes.now.lists pieces.now) + 2)) }
     {

@@ -89,7 +89,8 @@ impl KeptSteps {
         requires few { length list.now ≤ 1000 }
         requires visits { All (λ node. IsTrue (is_visit guide.now.model.now node)) list.now }
         ensures stages { HasStages guide.now.model.now guide.now.d guide.now.v (runs_of guide.now) list.now self.new }
-        ensures all { (line : Line) → AllowsRuns guide.now.model.now guide.now.d guide.now.v (runs_of guide.now) list.now line → IsFeasible line
+        ensures all { (line : Line)
+            → AllowsRuns guide.now.model.now guide.now.d guide.now.v (runs_of guide.now) list.now line → IsFeasible line
             → length self.new.stages.items ≡ length list.now + 2 }
     {
         self.stages.clear();
@@ -113,7 +114,8 @@ impl KeptSteps {
             (runs_of guide.now)) }
         requires range { IsStep guide.now.model.now first }
         ensures stages { HasStages guide.now.model.now guide.now.d guide.now.v (runs_of guide.now) list.now self.new }
-        ensures all { (line : Line) → AllowsRuns guide.now.model.now guide.now.d guide.now.v (runs_of guide.now) list.now line → IsFeasible line
+        ensures all { (line : Line)
+            → AllowsRuns guide.now.model.now guide.now.d guide.now.v (runs_of guide.now) list.now line → IsFeasible line
             → length self.new.stages.items ≡ length list.now + 2 }
     {
         let Some(floor) = guide.start_floor(first) else {
@@ -192,7 +194,8 @@ impl KeptSteps {
         requires place { lead.place ≤ length list.now }
         requires first { IsStep guide.now.model.now lead.first }
         requires kept { IsKeptLead (steps_of self.now) lead }
-        ensures value { option_map reached result ≡ along guide.now.model.now guide.now.d guide.now.v (runs_of guide.now)
+        ensures value { option_map reached result
+            ≡ along guide.now.model.now guide.now.d guide.now.v (runs_of guide.now)
             (setting_out guide.now.model.now guide.now.d guide.now.v
             (starting (runs_of guide.now) (start_run (runs_of guide.now) start)) lead.first)
             (take lead.place (steps_of self.now)) }
@@ -240,7 +243,8 @@ impl KeptSteps {
         requires place { front ≤ length list.now }
         requires next { IsStep guide.now.model.now next }
         requires room { length trail.old.steps.items + front ≤ 1000 }
-        ensures first { option_map first_led result ≡ first_step guide.now.model.now guide.now.d guide.now.v (runs_of guide.now)
+        ensures first { option_map first_led result
+            ≡ first_step guide.now.model.now guide.now.d guide.now.v (runs_of guide.now)
             (take front list.now) next }
         ensures led { IfSome result (HasLed guide.now.model.now guide.now.d guide.now.v (runs_of guide.now)
             (steps_of self.now) (take front list.now) next trail.old.steps.items trail.new.steps.items) }
@@ -274,7 +278,8 @@ impl KeptSteps {
         requires place { lead.place ≤ length (steps_of self.now) }
         requires first { IsStep guide.now.model.now lead.first }
         requires kept { IsKeptLead (steps_of self.now) lead }
-        ensures value { option_map reached result ≡ along guide.now.model.now guide.now.d guide.now.v (runs_of guide.now)
+        ensures value { option_map reached result
+            ≡ along guide.now.model.now guide.now.d guide.now.v (runs_of guide.now)
             (setting_out guide.now.model.now guide.now.d guide.now.v (runs_of guide.now) lead.first)
             (take lead.place (steps_of self.now)) }
         ensures met { IfSome result (HasSetOut guide.now.model.now guide.now.d guide.now.v (runs_of guide.now)
@@ -338,7 +343,8 @@ impl KeptSteps {
         requires start { IsIn (pos 0) horizon start }
         requires place { lead.place ≤ length list.now }
         requires first { IsStep guide.now.model.now lead.first }
-        ensures value { option_map reached result ≡ along guide.now.model.now guide.now.d guide.now.v (runs_of guide.now)
+        ensures value { option_map reached result
+            ≡ along guide.now.model.now guide.now.d guide.now.v (runs_of guide.now)
             (setting_out guide.now.model.now guide.now.d guide.now.v (starting (runs_of guide.now) (only_of start))
             lead.first) (take lead.place (steps_of self.now)) }
         ensures met { IfSome result (HasSetOut guide.now.model.now guide.now.d guide.now.v (runs_of guide.now)
@@ -360,7 +366,8 @@ impl KeptSteps {
         requires place { place ≤ length list.now }
         requires out { out ≡ standing guide.now.model.now guide.now.d guide.now.v out.cumul }
         requires range { IsStageOf guide.now.model.now 1 out }
-        ensures value { option_map reached result ≡ along guide.now.model.now guide.now.d guide.now.v (runs_of guide.now) (Some out)
+        ensures value { option_map reached result
+            ≡ along guide.now.model.now guide.now.d guide.now.v (runs_of guide.now) (Some out)
             (take place (steps_of self.now)) }
         ensures paced { IfSome result (HasPaced guide.now.model.now guide.now.d guide.now.v (runs_of guide.now)
             (take place (steps_of self.now)) out) }

@@ -22,7 +22,8 @@ ghost use Rattle.vr_walks.specs.VisitRuns.{HasCumulEnds};
 ghost use Rattle.vr_cumuls.specs.KeptWays.{AreWays, HasCumuls};
 ghost use Rattle.vr_cumuls.specs.Guides.{runs_of, IsGuide};
 ghost use Rattle.vr_cumuls.specs.Runs.{between_runs, only as only_of, AllowsRuns, AreRuns};
-ghost use Rattle.vr_cumuls.specs.Ways.{last_by, start_by, way_along as along_by, way_on as way_on_by, way_out as way_out_by};
+ghost use Rattle.vr_cumuls.specs.Ways.{last_by, start_by, way_along as along_by, way_on as way_on_by};
+ghost use Rattle.vr_cumuls.specs.Ways.{way_out as way_out_by};
 ghost use Rattle.vr_cumuls.specs.Ways.{way_to_visit as way_to_visit_by, IsWayOf};
 
 use crate::guides::{Guide, node_in};
@@ -53,8 +54,8 @@ pub struct TightEnds {
 }
 
 impl<'m> Guide<'m> {
-    /// What the chosen schedule comes to of the list that pieces are joined to, between these ends; nothing exactly where
-    /// there is none. The whole list is walked, and the trail is written over.
+    /// What the chosen schedule comes to of the list that pieces are joined to, between these ends; nothing exactly
+    /// where there is none. The whole list is walked, and the trail is written over.
     pub fn timing_between(
         &self,
         ends: TightEnds,

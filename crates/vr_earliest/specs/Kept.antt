@@ -37,7 +37,8 @@ pub record IsUnpaid (dimension : Dimension) : Type 0 where
 -- what is kept in dimension d has those of these lists, of all of them where anything is paid for spans
 pub record HaveWays (model : Model) (d : ℕ) (lists : List (List ℕ)) (kept : List KeptWays) : Type 0 where
   pub many : (length kept ≡ length lists) ⊎ IsUnpaid (dimension_at model d)
-  pub each : (v : ℕ) (other : KeptWays) → v < length kept → HasWays model d v (route lists v) (slice_index_or kept v other)
+  pub each : (v : ℕ) (other : KeptWays) → v < length kept
+      → HasWays model d v (route lists v) (slice_index_or kept v other)
 
 -- the same in each dimension
 pub record HaveAllWays (model : Model) (lists : List (List ℕ)) (kept : List (List KeptWays)) : Type 0 where

@@ -119,7 +119,8 @@ fn best_behind(
     requires apart { AreApart tables.now.model.now routes.now }
     requires ends { ends.now ≡ map (ends_of tables.now.model.now) routes.now }
     requires front { i < length routes.now }
-    ensures { IfOk result (λ chosen. chosen ≡ best_behind_of tables.now.model.now routes.now i (length routes.now) best) }
+    ensures { IfOk result
+        (λ chosen. chosen ≡ best_behind_of tables.now.model.now routes.now i (length routes.now) best) }
 {
     let mut best = best;
     for j in 0..routes.len() {

@@ -77,7 +77,8 @@ pub(crate) fn merged(
 ) -> Result<Vec<Seq<u32>>, NoMemory>
     requires tables { AreModelTables tables.now }
     requires apart { AreApart tables.now.model.now routes.items }
-    ensures merged { IfOk result (λ after. after.items ≡ merged_of tables.now.model.now (length routes.items) routes.items) }
+    ensures merged { IfOk result
+        (λ after. after.items ≡ merged_of tables.now.model.now (length routes.items) routes.items) }
     ensures apart { IfOk result (λ after. AreApart tables.now.model.now after.items) }
 {
     let mut routes = routes;

@@ -38,7 +38,8 @@ pub record Run : Type 0 where
   pub status : ℕ
 
 -- the run of these words, between these states of source and sink
-abbrev pub run_of : List (List ℕ) → Option (List ℕ) → Option (List ℕ) → ℕ → ℕ → Option (List ℕ) → Option (List ℕ) → ℕ → ℕ → ℕ → Run
+abbrev pub run_of : List (List ℕ) → Option (List ℕ) → Option (List ℕ) → ℕ → ℕ → Option (List ℕ) → Option (List ℕ) → ℕ
+    → ℕ → ℕ → Run
 run_of words left rest failed fails taken takes refused refuses status = record {
   words = words;
   left = left;
@@ -64,8 +65,8 @@ RepliesTo reports run bytes = Replies (replies.reply reports run.words bytes) ru
 abbrev pub WroteFront : (List Event → List ℕ) → Run → List ℕ → Type 0
 WroteFront reports run bytes = TookFront run.taken run.takes (replies.reply reports run.words bytes).text
 
--- The reply: status and whole text are those of the definition, where the run was settled, whatever the source has where
--- nothing is read; where the sink failed, a front of the text is written.
+-- The reply: status and whole text are those of the definition, where the run was settled, whatever the source has
+-- where nothing is read; where the sink failed, a front of the text is written.
 pub record IsReply (reports : List Event → List ℕ) (run : Run) : Type 0 where
   pub read : IsSettled run.status → WhereTold run.left (RepliesTo reports run)
   pub unread : IsSettled run.status → IsUnread run.words → (bytes : List ℕ) → RepliesTo reports run bytes
@@ -81,10 +82,10 @@ pub record IsComplete (reports : List Event → List ℕ) (run : Run) : Type 0 w
   pub unread : IsUnread run.words → (Rose run.refused run.refuses → ⊥) → (bytes : List ℕ)
       → (run.status ≡ 7) ⊎ RepliesTo reports run bytes
 
--- Of words that ask for a solution, 0 comes exactly where the input is a model with a first solution, 6 exactly where it
--- is a model without one. What is written is a solution, which meets a check: valid lists with their chosen schedules
--- and their cost; with `--log` the watchers' reports follow. 5 comes exactly where the model is refused; the text tells
--- code and path.
+-- Of words that ask for a solution, 0 comes exactly where the input is a model with a first solution, 6 exactly where
+-- it is a model without one. What is written is a solution, which meets a check: valid lists with their chosen
+-- schedules and their cost; with `--log` the watchers' reports follow. 5 comes exactly where the model is refused; the
+-- text tells code and path.
 pub record IsSolving (reports : List Event → List ℕ) (run : Run) : Type 0 where
   pub done : WhereSolved run.words run.left run.status (λ bytes. (run.status ≡ 0) ↔ HasFirst bytes)
   pub solution : run.status ≡ 0 → (asked : Mode) → IsAskedFor asked run.words → WhereTold run.left (λ bytes.
@@ -94,10 +95,10 @@ pub record IsSolving (reports : List Event → List ℕ) (run : Run) : Type 0 wh
   pub refusal : run.status ≡ 5 → IsSolved run.words → WhereTold run.left (λ bytes.
       (fault : Fault) → HasFault model_of bytes fault → Wrote run (line_of (refused_tree fault)))
 
--- Of `check` and `spans`, 0 comes exactly where the solution in the input meets the rules of its model, and then it keeps
--- them: valid lists, schedules, the parts of their cost. `spans` tells of each line without breaks the least span of all
--- its schedules, with the first schedule of this span. 9 comes of these two alone, exactly where the solution breaks a
--- rule; the text tells the first. 5 comes exactly where the input is refused; the text tells code and path.
+-- Of `check` and `spans`, 0 comes exactly where the solution in the input meets the rules of its model, and then it
+-- keeps them: valid lists, schedules, the parts of their cost. `spans` tells of each line without breaks the least span
+-- of all its schedules, with the first schedule of this span. 9 comes of these two alone, exactly where the solution
+-- breaks a rule; the text tells the first. 5 comes exactly where the input is refused; the text tells code and path.
 pub record IsChecking (run : Run) : Type 0 where
   pub met : WhereAsked run.words run.left run.status (λ bytes. (run.status ≡ 0) ↔ IsMet bytes)
   pub kept : run.status ≡ 0 → IsChecked run.words → WhereTold run.left (λ bytes.
@@ -124,8 +125,8 @@ pub record IsImporting (run : Run) : Type 0 where
   pub flaw : run.status ≡ 5 → (vehicles : ℕ) → Imports vehicles run.words → WhereTold run.left (λ bytes.
       (fault : Fault) → HasFlaw vehicles bytes fault → Wrote run (line_of (refused_tree fault)))
 
--- Of words that read, 8 comes exactly where the input is too long; of all of them but `import`, 4 comes exactly where it
--- is no JSON. 1 comes exactly where the words are not accepted. Of accepted words that read nothing only 0 comes.
+-- Of words that read, 8 comes exactly where the input is too long; of all of them but `import`, 4 comes exactly where
+-- it is no JSON. 1 comes exactly where the words are not accepted. Of accepted words that read nothing only 0 comes.
 pub record HasCause (run : Run) : Type 0 where
   pub too_long : WhereAnswered run.words run.left run.status (λ bytes. (run.status ≡ 8) ↔ IsTooLong bytes)
   pub not_json : WhereAnswered run.words run.left run.status (λ bytes.

@@ -1,5 +1,6 @@
 -- Where each node of lists stands.
-use Rattle.std.specs.Prelude.{◌≡◌, ◌⊎◌, ℕ, ◌<◌, List, [], length, slice_index, slice_index_or, IsTrue, Option, Some, None}
+use Rattle.std.specs.Prelude.{◌≡◌, ◌⊎◌, ℕ, ◌<◌, List, [], length, slice_index, slice_index_or, IsTrue, Option, Some}
+use Rattle.std.specs.Prelude.{None}
 use Rattle.vr_model.specs.routes.Routes.{route, is_active}
 use Rattle.vr_routes.specs.declared.seats.Seat.{Seat}
 

@@ -1,6 +1,6 @@
 //! Whole searches by both judges, which must find the same, and how often they ask a judge: no more often than they try
-//! moves, and less often where what a move makes at least rules it out; and at most three times a try what moves make at
-//! least.
+//! moves, and less often where what a move makes at least rules it out; and at most three times a try what moves make
+//! at least.
 
 ghost use Rattle.std.specs.Prelude.{◌≡◌, ◌+◌, ◌*◌, ◌<◌, ◌≤◌, IfOk, IsTrue, OnErr, OnOk};
 ghost use Rattle.vr_model.specs.moves.Moves.{apply};

@@ -69,9 +69,10 @@ impl<'a> Round<'a> {
     }
 
     /// Tries all moves of the lists, where there are at most `rest`, for the best candidate. Each try is judged at most
-    /// once, and the judge is asked at most three times as often what moves make at least: a move that would cost no less than the best candidate so far is not judged, and
-    /// which visits it changes is asked of the others alone. Of the moves of a run, which differ in their last number,
-    /// the judge is asked at once from which on some may cost less, and those in front of these are tries as well.
+    /// once, and the judge is asked at most three times as often what moves make at least: a move that would cost no
+    /// less than the best candidate so far is not judged, and which visits it changes is asked of the others alone. Of
+    /// the moves of a run, which differ in their last number, the judge is asked at once from which on some may cost
+    /// less, and those in front of these are tries as well.
     ///
     /// The only refusal is want of memory, which is taken by the judge alone; the judge still holds the same lists
     /// then.

@@ -6,7 +6,8 @@ use Rattle.vr_model.specs.tables.WellFormed.{IsWellFormed, WherePresent}
 use Rattle.vr_model.specs.declared.records.Model.{Model}
 
 -- where a statement has one proof at most of each value, it has one of a value that may be absent
-pub WherePresent-prop : {A : Type 0} (P : A → Type 0) (o : Option A) → ((x : A) → IsProp (P x)) → IsProp (WherePresent P o)
+pub WherePresent-prop : {A : Type 0} (P : A → Type 0) (o : Option A) → ((x : A) → IsProp (P x))
+    → IsProp (WherePresent P o)
 WherePresent-prop P None once = Unit-prop
 WherePresent-prop P (Some x) once = once x
 
