@@ -1,4 +1,4 @@
-use Rattle.std.proofs.Common.{◌≡◌, ◌≤◌, ◌+◌, ◌-◌}
+use Rattle.std.proofs.Common.{◌≡◌, ◌≤◌, ◌+◌, ◌*◌, ◌-◌}
 use Rattle.std.specs.Prelude.{◌≤ℤ◌}
 use Rattle.vr_descent.proofs.GoingOn.{Goes}
 use Rattle.vr_tabu.specs.Standing.{Stands, from_state}

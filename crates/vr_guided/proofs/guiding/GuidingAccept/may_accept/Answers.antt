@@ -28,33 +28,37 @@ change-requires-clause-after c =
     let lists = c.args.routes.now.lists in
     subst (λ ls. IsTrue (are_lists model ls)) (sym c.requires.change.lists_are) (moves_keep_lists model c.requires.well_formed lists c.args._mv (are-lists model lists c.requires.valid) c.requires.mv)
 
-pub returns-then-not-gains-clause-passed : goal.returns-then-not-gains-clause-passed
-returns-then-not-gains-clause-passed c refused valid low =
-    let at = c.args.self.now in
-    let p = counted at.penalties.now in
-    let lists = c.args.routes.now.lists in
-    let range = c.ranges.least in
-    let same : to_z w64 (of_z w64 c.args.least) ≡ c.args.least = omega (arith, ints, range) in
-    let saved = c.saved_at_most-saved.result in
-    let from = c.saved_at_most-saved.ensures.low in
-    let to = c.saved_at_most-saved.ensures.high in
-    let as_read : to_z w128 (of_z w128 (pos 0 -ℤ to_z w128 (of_z w128 saved))) ≡ pos 0 -ℤ saved = omega (arith, ints, from, to) in
-    let most = subst (λ ls. (penalised at.model.now p lists -ℤ penalised at.model.now p ls) ≤ℤ saved) c.requires.change.lists_are c.saved_at_most-saved.ensures.most in
-    let none = sym (c.gains.ensures ∙ ap₂ (is_gain at.lambda) same as_read) ∙ c.if-not-gains.true in
-    let no_gain = none_saved at.lambda c.args.least (penalised_change at.model.now p lists c.args._mv) saved at.sound.p_from_one none (told (penalised at.model.now p lists) (penalised at.model.now p (apply at.model.now lists c.args._mv)) saved most) in
-    passed_over at.model.now at.lambda p lists c.args._mv c.args.least at.sound.q_from_one no_gain low
+pub returns-then-not-gains : goal.returns-then-not-gains
+returns-then-not-gains c = record {
+  passed = λ refused valid low. (
+      let at = c.args.self.now in
+      let p = counted at.penalties.now in
+      let lists = c.args.routes.now.lists in
+      let range = c.ranges.least in
+      let same : to_z w64 (of_z w64 c.args.least) ≡ c.args.least = omega (arith, ints, range) in
+      let saved = c.saved_at_most-saved.result in
+      let from = c.saved_at_most-saved.ensures.low in
+      let to = c.saved_at_most-saved.ensures.high in
+      let as_read : to_z w128 (of_z w128 (pos 0 -ℤ to_z w128 (of_z w128 saved))) ≡ pos 0 -ℤ saved = omega (arith, ints, from, to) in
+      let most = subst (λ ls. (penalised at.model.now p lists -ℤ penalised at.model.now p ls) ≤ℤ saved) c.requires.change.lists_are c.saved_at_most-saved.ensures.most in
+      let none = sym (c.gains.ensures ∙ ap₂ (is_gain at.lambda) same as_read) ∙ c.if-not-gains.true in
+      let no_gain = none_saved at.lambda c.args.least (penalised_change at.model.now p lists c.args._mv) saved at.sound.p_from_one none (told (penalised at.model.now p lists) (penalised at.model.now p (apply at.model.now lists c.args._mv)) saved most) in
+      passed_over at.model.now at.lambda p lists c.args._mv c.args.least at.sound.q_from_one no_gain low);
+}
 
-pub returns-clause-passed : goal.returns-clause-passed
-returns-clause-passed c refused valid low =
-    let at = c.args.self.now in
-    let p = counted at.penalties.now in
-    let lists = c.args.routes.now.lists in
-    let range = c.ranges.least in
-    let same : to_z w64 (of_z w64 c.args.least) ≡ c.args.least = omega (arith, ints, range) in
-    let change = c.change.ensures in
-    let from = at_least (2 ^ 100) c.change.result change.bound in
-    let to = at_most (2 ^ 100) c.change.result change.bound in
-    let as_read : to_z w128 (of_z w128 c.change.result) ≡ c.change.result = omega (arith, ints, from, to) in
-    let value = change.value ∙ ap (λ ls. penalised at.model.now p ls -ℤ penalised at.model.now p lists) c.requires.change.lists_are in
-    let none = sym (c.gains-2.ensures ∙ ap₂ (is_gain at.lambda) same (as_read ∙ value)) ∙ refused in
-    passed_over at.model.now at.lambda p lists c.args._mv c.args.least at.sound.q_from_one none low
+pub returns : goal.returns
+returns c = record {
+  passed = λ refused valid low. (
+      let at = c.args.self.now in
+      let p = counted at.penalties.now in
+      let lists = c.args.routes.now.lists in
+      let range = c.ranges.least in
+      let same : to_z w64 (of_z w64 c.args.least) ≡ c.args.least = omega (arith, ints, range) in
+      let change = c.change.ensures in
+      let from = at_least (2 ^ 100) c.change.result change.bound in
+      let to = at_most (2 ^ 100) c.change.result change.bound in
+      let as_read : to_z w128 (of_z w128 c.change.result) ≡ c.change.result = omega (arith, ints, from, to) in
+      let value = change.value ∙ ap (λ ls. penalised at.model.now p ls -ℤ penalised at.model.now p lists) c.requires.change.lists_are in
+      let none = sym (c.gains-2.ensures ∙ ap₂ (is_gain at.lambda) same (as_read ∙ value)) ∙ refused in
+      passed_over at.model.now at.lambda p lists c.args._mv c.args.least at.sound.q_from_one none low);
+}

@@ -13,18 +13,20 @@ saved_by_lists-saved-requires-clause-v c = (named_have_lists c.args.self.now.mod
 pub saved_by_lists-saved-requires-clause-w : goal.saved_by_lists-saved-requires-clause-w
 saved_by_lists-saved-requires-clause-w c = (named_have_lists c.args.self.now.model.now c.args.routes.now.lists c.args.mv c.requires.mv c.in-Some.named (sym c.vehicles_of.ensures ∙ c.in-Some.is)).1
 
-pub returns-clause-passed : goal.returns-clause-passed
-returns-clause-passed c none_taken =
-    let at = c.args.self.now in
-    let p = counted at.penalties.now in
-    let lists = c.args.routes.now.lists in
-    let range = c.ranges.least in
-    let same : to_z w64 (of_z w64 c.args.least) ≡ c.args.least = omega (arith, ints, range) in
-    let saved = c.saved_by_lists-saved.result in
-    let s = c.saved_by_lists-saved.ensures in
-    let from = s.low in
-    let to = s.high in
-    let as_read : to_z w128 (of_z w128 (pos 0 -ℤ to_z w128 (of_z w128 saved))) ≡ pos 0 -ℤ saved = omega (arith, ints, from, to) in
-    let none = sym (c.gains.ensures ∙ ap₂ (is_gain at.lambda) same as_read) ∙ none_taken in
-    never_a_gain at.model.now c.requires.well_formed p at.sound.few at.lambda at.sound.p_from_one at.sound.q_from_one lists c.requires.valid c.args.mv c.requires.mv
-    c.in-Some.named (sym c.vehicles_of.ensures ∙ c.in-Some.is) saved s.most c.args.least none
+pub returns : goal.returns
+returns c = record {
+  passed = λ none_taken. (
+      let at = c.args.self.now in
+      let p = counted at.penalties.now in
+      let lists = c.args.routes.now.lists in
+      let range = c.ranges.least in
+      let same : to_z w64 (of_z w64 c.args.least) ≡ c.args.least = omega (arith, ints, range) in
+      let saved = c.saved_by_lists-saved.result in
+      let s = c.saved_by_lists-saved.ensures in
+      let from = s.low in
+      let to = s.high in
+      let as_read : to_z w128 (of_z w128 (pos 0 -ℤ to_z w128 (of_z w128 saved))) ≡ pos 0 -ℤ saved = omega (arith, ints, from, to) in
+      let none = sym (c.gains.ensures ∙ ap₂ (is_gain at.lambda) same as_read) ∙ none_taken in
+      never_a_gain at.model.now c.requires.well_formed p at.sound.few at.lambda at.sound.p_from_one at.sound.q_from_one lists c.requires.valid c.args.mv c.requires.mv
+      c.in-Some.named (sym c.vehicles_of.ensures ∙ c.in-Some.is) saved s.most c.args.least none);
+}

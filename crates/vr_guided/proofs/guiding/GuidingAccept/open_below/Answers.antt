@@ -7,15 +7,17 @@ use Rattle.vr_guided.specs.Guides.{is_gain}
 use Rattle.vr_guided.proofs.SavingLemmas.{enough_for_run}
 use Rattle.vr_guided.proofs.guiding.GuidingAccept.open_below.Goals as goal
 
-pub returns-clause-enough : goal.returns-clause-enough
-returns-clause-enough c =
-    let at = c.args.self.now in
-    let lists = c.args.routes.now.lists in
-    let saved = c.saved_by_lists-saved.result in
-    let s = c.saved_by_lists-saved.ensures in
-    let low = s.low in
-    let high = s.high in
-    let as_read : to_z w128 (of_z w128 saved) ≡ saved = omega (arith, ints, low, high) in
-    let none = subst (λ z. IfSome c.enough_against.result (λ e. is_gain at.lambda e (pos 0 -ℤ z) ≡ false)) as_read c.enough_against.ensures in
-    enough_for_run at.model.now c.requires.well_formed (counted at.penalties.now) at.sound.few at.lambda at.sound.p_from_one at.sound.q_from_one lists c.requires.valid c.args.mv
-    c.in-Some.named (sym c.vehicles_of.ensures ∙ c.in-Some.is) saved s.most c.enough_against.result none
+pub returns : goal.returns
+returns c = record {
+  enough = (
+      let at = c.args.self.now in
+      let lists = c.args.routes.now.lists in
+      let saved = c.saved_by_lists-saved.result in
+      let s = c.saved_by_lists-saved.ensures in
+      let low = s.low in
+      let high = s.high in
+      let as_read : to_z w128 (of_z w128 saved) ≡ saved = omega (arith, ints, low, high) in
+      let none = subst (λ z. IfSome c.enough_against.result (λ e. is_gain at.lambda e (pos 0 -ℤ z) ≡ false)) as_read c.enough_against.ensures in
+      enough_for_run at.model.now c.requires.well_formed (counted at.penalties.now) at.sound.few at.lambda at.sound.p_from_one at.sound.q_from_one lists c.requires.valid c.args.mv
+      c.in-Some.named (sym c.vehicles_of.ensures ∙ c.in-Some.is) saved s.most c.enough_against.result none);
+}

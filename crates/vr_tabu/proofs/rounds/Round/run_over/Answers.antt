@@ -130,11 +130,11 @@ next_open-requires-clause-judge_model g c = c.loop-mv.invariant.model ∙ c.requ
 pub next_open-requires-clause-committed : goal.next_open-requires-clause-committed
 next_open-requires-clause-committed g c = c.loop-mv.invariant.committed ∙ c.requires.committed
 
-pub try_move-best-requires-clause-judge_model : goal.try_move-best-requires-clause-judge_model
-try_move-best-requires-clause-judge_model g c = c.in-Some.ensures.model ∙ (c.loop-mv.invariant.model ∙ c.requires.judge_model)
+pub try_move-requires-clause-judge_model : goal.try_move-requires-clause-judge_model
+try_move-requires-clause-judge_model g c = c.in-Some.ensures.model ∙ (c.loop-mv.invariant.model ∙ c.requires.judge_model)
 
-pub try_move-best-requires-clause-committed : goal.try_move-best-requires-clause-committed
-try_move-best-requires-clause-committed g c = c.in-Some.ensures.committed ∙ (c.loop-mv.invariant.committed ∙ c.requires.committed)
+pub try_move-requires-clause-committed : goal.try_move-requires-clause-committed
+try_move-requires-clause-committed g c = c.in-Some.ensures.committed ∙ (c.loop-mv.invariant.committed ∙ c.requires.committed)
 
 -- ---- how often the judge was asked what moves make at least
 
@@ -152,7 +152,7 @@ returns-in_err-best-clause-looked_at_most g c =
     let within = i.within in
     let few = c.requires.rest in
     let looks = (looks_few c.args.rest (g.J.Judge.looked c.loop-mv.judge) (g.J.Judge.looked c.next_open.new.judge) c.loop-mv.length (c.next_open.new.length + 1) (fits c.args.rest few) within c.in-Some.ensures.looked).0 in
-    let tried = c.try_move-best.ensures.looked in
+    let tried = c.try_move.ensures.looked in
     let more = at_or_behind c.args.rest c.loop-mv.length c.next_open.new.length _ c.in-Some.ensures.takes.passes.counts (fits c.args.rest few) within in
     on_err c.from_residual.result (omega (arith, i.looked, within, looks, tried, more, c.if-length-rest.false))
 
@@ -189,7 +189,7 @@ returns-in_err-best-clause-asked_at_most g c =
     let within = i.within in
     let few = c.requires.rest in
     let same = c.in-Some.ensures.asked in
-    let tried = c.try_move-best.ensures.asked in
+    let tried = c.try_move.ensures.asked in
     let more = at_or_behind c.args.rest c.loop-mv.length c.next_open.new.length _ c.in-Some.ensures.takes.passes.counts (fits c.args.rest few) within in
     on_err c.from_residual.result (omega (arith, i.asked, within, same, tried, more, c.if-length-rest.false))
 
@@ -209,10 +209,10 @@ pub returns-then-length-rest-clause-committed : goal.returns-then-length-rest-cl
 returns-then-length-rest-clause-committed g c = c.in-Some.ensures.committed ∙ c.loop-mv.invariant.committed
 
 pub returns-in_err-best-clause-model : goal.returns-in_err-best-clause-model
-returns-in_err-best-clause-model g c = c.try_move-best.ensures.model ∙ (c.in-Some.ensures.model ∙ c.loop-mv.invariant.model)
+returns-in_err-best-clause-model g c = c.try_move.ensures.model ∙ (c.in-Some.ensures.model ∙ c.loop-mv.invariant.model)
 
 pub returns-in_err-best-clause-committed : goal.returns-in_err-best-clause-committed
-returns-in_err-best-clause-committed g c = c.try_move-best.ensures.committed ∙ (c.in-Some.ensures.committed ∙ c.loop-mv.invariant.committed)
+returns-in_err-best-clause-committed g c = c.try_move.ensures.committed ∙ (c.in-Some.ensures.committed ∙ c.loop-mv.invariant.committed)
 
 pub returns-then-length-rest-2-clause-model : goal.returns-then-length-rest-2-clause-model
 returns-then-length-rest-2-clause-model g c = c.in_default.ensures.model ∙ c.loop-mv.invariant.model

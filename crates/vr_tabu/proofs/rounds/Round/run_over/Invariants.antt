@@ -1,4 +1,4 @@
-use Rattle.std.proofs.Common.{◌≡◌, ◌≤◌, ◌+◌, length, true, [], ◌∷◌}
+use Rattle.std.proofs.Common.{◌≡◌, ◌≤◌, ◌+◌, ◌*◌, length, true, [], ◌∷◌}
 use Rattle.std.specs.Prelude.{IfSome, filter, fold}
 use Rattle.std.specs.List.{list_all}
 use Rattle.vr_model.specs.first.Choosing.{better}
