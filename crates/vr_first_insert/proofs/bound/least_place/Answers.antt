@@ -1,4 +1,4 @@
-use Rattle.std.proofs.Common.{◌≡◌, ◌∙◌, ◌<◌, ◌≤◌, ◌+◌, ℕ, suc, ℤ, arith, ap, length, sym, subst, to_z, of_z, w64}
+use Rattle.std.proofs.Common.{◌≡◌, ◌+◌, ℕ, suc, ℤ, arith, length, sym, subst, to_z, of_z, w64}
 use Rattle.std.proofs.lemmas.Int.{ints}
 use Rattle.vr_first_insert.specs.Increases.{visit_increase}
 use Rattle.vr_first_insert.proofs.FirstPlace.{least-more, IsLeastOf}

@@ -1,7 +1,6 @@
-use Rattle.std.proofs.Common.{◌≡◌, ◌∙◌, ◌<◌, ℕ, ap, sym, subst, arith, length}
-use Rattle.std.specs.Prelude.{slice_index_or}
+use Rattle.std.proofs.Common.{◌≡◌, ◌∙◌, ℕ, ap, sym, subst}
 use Rattle.vr_model.specs.routes.Routes.{route}
-use Rattle.vr_first_insert.specs.Kept.{best_of, candidate_at, is_settled, AreKnown, IsKnown}
+use Rattle.vr_first_insert.specs.Kept.{candidate_at, AreKnown, IsKnown}
 use Rattle.vr_first_insert.specs.Placings.{best_in, MayHold}
 use Rattle.vr_first_insert.specs.declared.known.Known.TheVariants.{Nothing}
 use Rattle.vr_first_insert.proofs.InsertLemmas.{list_at}
