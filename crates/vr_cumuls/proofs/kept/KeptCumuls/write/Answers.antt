@@ -1,5 +1,6 @@
-use Rattle.std.proofs.Common.{◌∙◌, ◌<◌, length, sym, subst, arith}
+use Rattle.std.proofs.Common.{◌∙◌, ◌<◌, length, sym, ap, subst, arith}
 use Rattle.vr_cumuls.specs.Kept.{AreKept}
+use Rattle.vr_cumuls.specs.declared.kept.KeptList.{KeptList}
 use Rattle.vr_cumuls.proofs.KeptLemmas.{kept-set}
 use Rattle.vr_cumuls.proofs.kept.KeptCumuls.write.Goals as goal
 
@@ -12,4 +13,4 @@ returns-then-v-len-clause-kept c lists h known =
     let under : c.args.v < length c.self.inside.lists.items = omega (arith, len, low) in
     let k = c.self.inside.lists.items in
     kept-set m c.args.d lists k c.args.v c.args.list.now c.write_list.new.kept old known under c.write_list.ensures.kept
-    (c.write_list.ensures.room ∙ old.room c.args.v _ under)
+    (c.write_list.ensures.room ∙ (ap (λ (x : KeptList). length x.ends.items) c.index_mut.ensures.value ∙ old.room c.args.v c.index_mut.result.now under))
