@@ -1,0 +1,16 @@
+pub mod printing
+pub mod InputLemmas
+pub mod CauseLemmas
+pub mod MetLemmas
+pub mod SolutionLemmas
+pub mod ReplyLemmas
+pub mod GeneratedLemmas
+pub mod NumberLemmas
+pub mod ShortestLemmas
+pub mod SpanLemmas
+pub mod FileLemmas
+pub mod RunLemmas
+pub mod ImportedFiles
+pub mod ImportedMatrices
+pub mod ImportedTables
+pub mod ImportedModels

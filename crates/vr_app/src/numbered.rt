@@ -1,77 +1,87 @@
-//! The answer that needs no input and searches: a summary of the search of the model of a number.
+//! The answers to numbers: the model of a number, and a search in short.
 
-ghost use Rattle.std.specs.Prelude.{◌≡◌, Ok, Some, IfOk};
-ghost use Rattle.serde_json.specs.View.{view};
-ghost use Rattle.vr_model.specs.first.FirstSolutions.{first_lists};
-ghost use Rattle.vr_model.specs.tables.Tables.{visits};
+ghost use Rattle.std.specs.Prelude.{◌≡◌, Some, IfOk, IsTrue};
+ghost use Rattle.vr_model.specs.routes.Rules.{is_valid};
 ghost use Rattle.vr_model.specs.tables.WellFormed.{IsWellFormed};
-ghost use Rattle.vr_replies.specs.Answers.{AnswersReply, IsOfSolving};
-ghost use Rattle.vr_replies.specs.Found.{found_from};
-ghost use Rattle.vr_replies.specs.Input.{model_of};
-ghost use Rattle.vr_replies.specs.Reply as replies;
-ghost use Rattle.vr_replies.specs.declared.words.Mode.TheVariants as asked;
+ghost use Rattle.vr_app.specs.Answers.{AnswersReply};
+ghost use Rattle.vr_app.specs.Bests.{IsBestOf};
+ghost use Rattle.vr_app.specs.Found.{Found};
+ghost use Rattle.vr_app.specs.Reply as replies;
+ghost use Rattle.vr_app.specs.Texts as texts;
 
-use crate::first::first_routes;
-use crate::search::solve_unwatched;
-use serde_json::Value;
+use crate::answer::{Answer, line};
+use crate::best::Best;
+use crate::status::Status;
+use crate::texts::{Summary, summary_tree};
 use std::alloc::Global;
 use vr_gen::generate;
-use vr_json::ReadFail;
 use vr_model::{Model, NoMemory};
-use vr_replies::{Answer, Status, none_found, read_owned, refused, summarised};
 use vr_routes::Routes;
 use vr_rules::total;
 
-/// The answer that tells of the whole search of the model of a number. It is the one that its model would have if it
-/// were read, in short: it does not rest on a law that this model is read and solved.
-pub(crate) fn demo(alloc: Global, number: u64) -> Result<Answer, NoMemory>
-    ensures reply { IfOk result (AnswersReply (replies.reply_of_demo number)) }
-    ensures status { IfOk result (λ a. IsOfSolving a.status) }
+/// The answer that is the model of a number. `NoMemory` where there was no memory.
+pub fn generated(alloc: Global, number: u64) -> Result<Answer, NoMemory>
+    ensures reply { IfOk result (AnswersReply (replies.reply_generated number)) }
+    ensures status { IfOk result (λ a. a.status ≡ Status.Done) }
 {
     let tree = generate(alloc, number)?;
-    summary_of_tree(alloc, number, tree)
+    let answer = line(alloc, Status::Done, &tree)?;
+    Ok(answer)
 }
 
-// The answer that tells of the search of the model of this tree.
-fn summary_of_tree(alloc: Global, number: u64, tree: Value) -> Result<Answer, NoMemory>
-    ensures reply { IfOk result (AnswersReply (replies.summary_of_model number (model_of (view tree)))) }
-    ensures status { IfOk result (λ a. IsOfSolving a.status) }
-{
-    match read_owned(alloc, tree) {
-        Ok(model) => summary_of_model(alloc, number, &model),
-        Err(ReadFail::Refused(fault)) => refused(alloc, &fault),
-        Err(ReadFail::NoMemory) => Err(NoMemory),
-    }
-}
-
-// The answer that tells of the search of a model.
-fn summary_of_model(alloc: Global, number: u64, model: &Model) -> Result<Answer, NoMemory>
-    requires { IsWellFormed model.now }
-    ensures reply { IfOk result (AnswersReply (replies.summary_of_model number (Ok model.now))) }
-    ensures status { IfOk result (λ a. IsOfSolving a.status) }
-{
-    match first_routes(alloc, model)? {
-        None => none_found(alloc),
-        Some(first) => summary_of_first(alloc, number, model, first),
-    }
-}
-
-// The same, from its first solution.
-fn summary_of_first(
+/// The answer that tells in short of a search in the model of a number, from a first solution that costs `first_cost`.
+/// `NoMemory` where there was no memory.
+pub fn summarised(
     alloc: Global,
     number: u64,
     model: &Model,
-    first: Routes,
+    first_cost: i64,
+    best: &Best,
 ) -> Result<Answer, NoMemory>
     requires well_formed { IsWellFormed model.now }
-    requires first { first_lists model.now ≡ Some first.lists }
-    requires of_model { first.visits ≡ visits model.now }
-    ensures reply { let found = found_from asked.Solve model.now first.lists in
-        IfOk result (AnswersReply (replies.summary_of_found number model.now (Some found))) }
+    requires valid { IsTrue (is_valid model.now best.now.routes.lists) }
+    ensures reply { (found : Found) → IsBestOf model.now found first_cost best.now
+        → IfOk result (AnswersReply (replies.summary_of_found number model.now (Some found))) }
     ensures status { IfOk result (λ a. a.status ≡ Status.Done) }
 {
-    let first_cost = total(alloc, model, &first)?;
-    let best = solve_unwatched(alloc, model, first, first_cost)?;
-    let answer = summarised(alloc, number, model, first_cost, &best)?;
-    Ok(answer)
+    let summary = summary_of(alloc, number, model, first_cost, best)?;
+    let tree = summary_tree(alloc, &summary)?;
+    line(alloc, Status::Done, &tree)
+}
+
+// The same search as numbers.
+fn summary_of(
+    alloc: Global,
+    number: u64,
+    model: &Model,
+    first_cost: i64,
+    best: &Best,
+) -> Result<Summary, NoMemory>
+    requires well_formed { IsWellFormed model.now }
+    requires valid { IsTrue (is_valid model.now best.now.routes.lists) }
+    ensures { (found : Found) → IsBestOf model.now found first_cost best.now
+        → IfOk result (λ summary. summary ≡ texts.summary_of number model.now found) }
+{
+    let cost = total(alloc, model, &best.routes)?;
+    Ok(Summary {
+        number,
+        cost,
+        first_cost,
+        dropped: best.routes.inactive().len() as u64,
+        used: used(&best.routes),
+        tries: best.report.tries,
+    })
+}
+
+// How many lists are not empty.
+fn used(routes: &Routes) -> u64
+    ensures { result ≡ texts.used routes.now.lists }
+{
+    let mut count = 0;
+    for vehicle in 0..routes.vehicles() {
+        if !routes.list(vehicle).is_empty() {
+            count += 1;
+        }
+    }
+    count
 }

@@ -2,25 +2,27 @@
 
 ghost use Rattle.std.specs.Prelude.{◌≡◌, ◌≢◌, ◌⊎◌, ◌≤◌, List, ℕ, [], Some, IfOk, IsErrOf};
 ghost use Rattle.vr_io.specs.Edges.{Rose};
-ghost use Rattle.vr_replies.specs.Answers.{AnswersReply, IsOfAnswer, IsOfFile, IsOfInput};
-ghost use Rattle.vr_replies.specs.Ended.{Ran};
-ghost use Rattle.vr_replies.specs.Promises.{run_of, HasCause, HasFailed, IsChecking, IsComplete, IsEmptied};
-ghost use Rattle.vr_replies.specs.Promises.{IsImporting, IsReply, IsSolving};
-ghost use Rattle.vr_replies.specs.Reply as replies;
-ghost use Rattle.vr_replies.specs.Reports.{joined};
-ghost use Rattle.vr_replies.specs.Runs.{IsAsking, IsNotAccepted, IsQuestion, IsRead, IsUnread, WhereTold, bytes_of};
-ghost use Rattle.vr_replies.specs.Status.{IsStatus};
+ghost use Rattle.vr_app.specs.Answers.{AnswersReply, IsOfAnswer, IsOfFile, IsOfInput};
+ghost use Rattle.vr_app.specs.Ended.{Ran};
+ghost use Rattle.vr_app.specs.Promises.{run_of, HasCause, HasFailed, IsChecking, IsComplete, IsEmptied};
+ghost use Rattle.vr_app.specs.Promises.{IsImporting, IsReply, IsSolving};
+ghost use Rattle.vr_app.specs.Reply as replies;
+ghost use Rattle.vr_app.specs.Reports.{joined};
+ghost use Rattle.vr_app.specs.Runs.{IsAsking, IsNotAccepted, IsQuestion, IsRead, IsUnread, WhereTold, bytes_of};
+ghost use Rattle.vr_app.specs.Status.{IsStatus};
 
-use crate::answer::answer_input;
-use crate::numbered::demo;
+use crate::answer::{Answer, too_long, usage};
+use crate::demo::demo;
+use crate::files::answer_file;
+use crate::improving::Watchers;
+use crate::numbered::generated;
+use crate::solving::answer_input;
+use crate::status::Status;
+use crate::words::{Request, Task, request_of};
 use std::alloc::Global;
-use vr_improve::Watchers;
 use vr_io::{ReadError, Sink, Source, read_all, write_all};
 use vr_model::NoMemory;
 use vr_model::limits::MOST_INPUT_BYTES;
-use vr_replies::{
-    Answer, Request, Status, Task, answer_file, generated, request_of, too_long, usage,
-};
 use vr_watch::Watch;
 
 // Why there is no answer to write.

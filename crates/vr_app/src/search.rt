@@ -7,18 +7,19 @@ ghost use Rattle.vr_model.specs.tables.Tables.{visits};
 ghost use Rattle.vr_model.specs.tables.WellFormed.{IsWellFormed};
 ghost use Rattle.vr_routes.specs.Judging.{HoldSame};
 ghost use Rattle.vr_watch.specs.Told.{Told};
-ghost use Rattle.vr_improve.specs.Endings.{EndsAs};
-ghost use Rattle.vr_improve.specs.Improved as how;
-ghost use Rattle.vr_replies.specs.Found as found;
+ghost use Rattle.vr_app.specs.Endings.{EndsAs};
+ghost use Rattle.vr_app.specs.Improved as how;
+ghost use Rattle.vr_app.specs.Found as found;
 
+use crate::best::{Best, untried};
+use crate::improving::{FirstSolution, Watchers, improve};
 use crate::insertion::Insertion;
+use crate::words::Mode;
 use std::alloc::Global;
 use std::marker::Brand;
 use std::sync::ledger::{Blank, Ledger};
-use vr_improve::{Best, FirstSolution, Watchers, improve, untried};
 use vr_judge::FilterJudge;
 use vr_model::{Model, NoMemory, Steps};
-use vr_replies::Mode;
 use vr_routes::Routes;
 
 // What the improvement that the model names makes of its first solution, by a judge that stands at it.

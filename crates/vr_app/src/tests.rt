@@ -8,16 +8,16 @@ ghost use Rattle.vr_model.specs.tables.WellFormed.{IsWellFormed};
 ghost use Rattle.vr_routes.specs.Judging.{HoldSame};
 
 use crate::first::first_routes;
+use crate::improving::FirstSolution;
+use crate::input::read_owned;
 use crate::search::improve_judged;
 use std::alloc::Global;
 use std::marker::Brand;
 use std::sync::ledger::Blank;
 use std::test::Fail;
 use vr_gen::generate;
-use vr_improve::FirstSolution;
 use vr_judge::FilterJudge;
 use vr_model::{Model, NoMemory};
-use vr_replies::read_owned;
 use vr_routes::Routes;
 use vr_rules::total;
 

@@ -8,8 +8,8 @@ use Rattle.vr_model.specs.declared.records.Model.{Model}
 use Rattle.vr_model.specs.tables.WellFormed.{IsWellFormed}
 use Rattle.vr_model.specs.tables.Tables.{arc_cost, entry, vehicle_at}
 use Rattle.vr_model.proofs.tables.Bounds.{arc_cost_in_range}
-use Rattle.vr_sums.specs.Sums.{path_sum, last_of, IsUpTo}
-use Rattle.vr_sums.proofs.Paths.{last-append, path-append}
+use Rattle.vr_balance.specs.Sums.{path_sum, last_of, IsUpTo}
+use Rattle.vr_balance.proofs.Paths.{last-append, path-append}
 use Rattle.vr_arccosts.specs.Chains.{chain_sum, turned}
 
 -- a path whose first step is told

@@ -7,7 +7,7 @@ use Rattle.vr_model.specs.tables.Tables.{arc_cost, vehicle_at}
 use Rattle.vr_model.specs.routes.Routes.{is_empty, route}
 use Rattle.vr_model.specs.declared.records.Model.{Model}
 use Rattle.vr_model.specs.declared.neighbours.Move.TheVariants.{Cross}
-use Rattle.vr_sums.specs.Sums.{last_of, path_sum}
+use Rattle.vr_balance.specs.Sums.{last_of, path_sum}
 use Rattle.vr_routes.proofs.FactLemmas.{of_cross}
 use Rattle.vr_arccosts.specs.Along.{between_cost}
 use Rattle.vr_arccosts.specs.Chains.{chain_sum}

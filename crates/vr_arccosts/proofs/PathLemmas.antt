@@ -8,8 +8,8 @@ use Rattle.vr_model.specs.tables.Numbers.{total_by}
 use Rattle.vr_model.specs.tables.Tables.{arc_cost, vehicle_at, no_vehicle}
 use Rattle.vr_model.specs.tables.WellFormed.{IsWellFormed}
 use Rattle.vr_model.specs.routes.Routes.{arcs_from, cost_of_arc, is_empty, route_cost}
-use Rattle.vr_sums.specs.Sums.{path_sum, last_of, IsUpTo}
-use Rattle.vr_sums.proofs.Paths.{path-append, last-append}
+use Rattle.vr_balance.specs.Sums.{path_sum, last_of, IsUpTo}
+use Rattle.vr_balance.proofs.Paths.{path-append, last-append}
 use Rattle.vr_parts.proofs.EmptyLemmas.{empty-where, some-where}
 use Rattle.vr_arccosts.specs.Chains.{first_of}
 use Rattle.vr_arccosts.specs.Along.{between_cost}

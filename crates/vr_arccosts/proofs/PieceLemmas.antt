@@ -3,7 +3,7 @@ use Rattle.std.proofs.Common.{◌≡◌, ◌∙◌, ℕ, suc, ◌+◌, ◌-◌, 
 use Rattle.std.specs.Prelude.{ℤ, slice_range, slice_index_or, All}
 use Rattle.std.proofs.lemmas.List.{get_or-reverse, length-reverse}
 use Rattle.std.proofs.lemmas.List.Edits.{get_or-between, length-between}
-use Rattle.vr_sums.specs.Sums.{last_of}
+use Rattle.vr_balance.specs.Sums.{last_of}
 use Rattle.vr_arccosts.specs.Chains.{chain_of, chain_sum, turned}
 use Rattle.vr_arccosts.proofs.ChainLemmas.{last-at, last-reversed, chain-turned}
 

@@ -9,8 +9,8 @@ use Rattle.vr_model.specs.declared.records.Model.{Model}
 use Rattle.vr_model.specs.declared.records.Pair.{Pair}
 use Rattle.vr_model.specs.declared.neighbours.Move.TheVariants.{MakeActive, PairActive, RelocatePair}
 use Rattle.vr_model.proofs.routes.Lists.{route_set_other}
-use Rattle.vr_sums.specs.Sums.{last_of}
-use Rattle.vr_sums.proofs.Paths.{last-append, path-append}
+use Rattle.vr_balance.specs.Sums.{last_of}
+use Rattle.vr_balance.proofs.Paths.{last-append, path-append}
 use Rattle.vr_routes.specs.Pairs.{without_two, ArePlaces}
 use Rattle.vr_routes.specs.Seats.{IsOnce}
 use Rattle.vr_routes.proofs.FactLemmas.{of_make_active, of_pair_active, of_relocate_pair}

@@ -10,8 +10,8 @@ use Rattle.vr_model.specs.tables.Tables.{arc_cost, vehicle_at}
 use Rattle.vr_model.specs.routes.Routes.{route}
 use Rattle.vr_model.specs.declared.records.Model.{Model}
 use Rattle.vr_model.specs.declared.neighbours.Move.TheVariants.{Exchange, OrOpt, Relocate, TwoOpt}
-use Rattle.vr_sums.specs.Sums.{last_of, path_sum}
-use Rattle.vr_sums.proofs.Paths.{last-append, path-append, path-between}
+use Rattle.vr_balance.specs.Sums.{last_of, path_sum}
+use Rattle.vr_balance.proofs.Paths.{last-append, path-append, path-between}
 use Rattle.vr_routes.proofs.FactLemmas.{of_exchange, of_or_opt, of_relocate}
 use Rattle.vr_routes.proofs.ChangeLemmas.{exchanged_between, exchanged_within}
 use Rattle.vr_parts.proofs.EmptyLemmas.{some-where}

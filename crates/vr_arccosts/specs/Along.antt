@@ -7,7 +7,7 @@ use Rattle.vr_model.specs.tables.WellFormed.{IsWellFormed}
 use Rattle.vr_routes.specs.Tours.{Tours}
 use Rattle.vr_model.specs.routes.Routes.{is_empty, route}
 use Rattle.vr_model.specs.declared.records.Model.{Model}
-use Rattle.vr_sums.specs.Sums.{last_of, path_sum, AreSumsTo}
+use Rattle.vr_balance.specs.Sums.{last_of, path_sum, AreSumsTo}
 use Rattle.vr_arccosts.specs.Chains.{first_of, turned}
 use Rattle.vr_arccosts.specs.declared.lines.Along.{Along}
 

@@ -1,6 +1,6 @@
 -- Bounds of sums of arc costs.
 use Rattle.std.specs.Prelude.{ℕ, ◌+◌, ◌<◌, List, length, ℤ}
-use Rattle.vr_sums.specs.Sums.{IsUpTo}
+use Rattle.vr_balance.specs.Sums.{IsUpTo}
 
 -- what the arcs of a chain come to: it has 1000 nodes at most
 abbrev pub IsChainCost : ℤ → Type 0

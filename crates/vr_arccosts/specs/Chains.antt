@@ -1,6 +1,6 @@
 -- Sums of arc costs along chains of nodes.
 use Rattle.std.specs.Prelude.{ℕ, Bool, true, false, cond, List, [], ◌∷◌, reverse, slice_range, ℤ, pos}
-use Rattle.vr_sums.specs.Sums.{path_sum}
+use Rattle.vr_balance.specs.Sums.{path_sum}
 
 -- a chain of a list, or the chain backwards
 abbrev pub chain_of : Bool → List ℕ → ℕ → ℕ → List ℕ

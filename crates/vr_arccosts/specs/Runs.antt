@@ -9,7 +9,7 @@ use Rattle.vr_model.specs.routes.Routes.{route_cost}
 use Rattle.vr_model.specs.declared.records.Model.{Model}
 use Rattle.vr_model.specs.declared.records.Pair.{Pair}
 use Rattle.vr_model.specs.declared.neighbours.Move.{Move}
-use Rattle.vr_sums.specs.Sums.{last_of, path_sum}
+use Rattle.vr_balance.specs.Sums.{last_of, path_sum}
 use Rattle.vr_arccosts.specs.Along.{between_cost, IsAlong}
 use Rattle.vr_arccosts.specs.ArcMoves.{arcs_added}
 use Rattle.vr_arccosts.specs.Chains.{chain_of, chain_sum, first_of}

@@ -2,7 +2,7 @@
 
 ghost use Rattle.std.specs.Prelude.{◌≡◌, ℕ, ◌+◌, ◌<◌, ◌≤◌, ◌≤ℤ◌, length, take};
 ghost use Rattle.vr_model.specs.tables.Tables.{arc_cost, vehicle_at};
-ghost use Rattle.vr_sums.specs.Sums.{path_sum};
+ghost use Rattle.vr_balance.specs.Sums.{path_sum};
 ghost use Rattle.vr_arccosts.specs.Along.{between_cost};
 ghost use Rattle.vr_arccosts.specs.Bounds.{IsChainCost, IsGapCost, IsPathCost};
 ghost use Rattle.vr_arccosts.specs.Chains.{chain_sum};

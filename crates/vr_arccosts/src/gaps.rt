@@ -5,7 +5,7 @@ ghost use Rattle.std.specs.Prelude.{◌≡◌, ℕ, ◌+◌, ◌<◌, ◌≤◌,
 ghost use Rattle.vr_model.specs.tables.Tables.{arc_cost, vehicle_at};
 ghost use Rattle.vr_model.specs.tables.WellFormed.{IsWellFormed};
 ghost use Rattle.vr_parts.specs.Bounds.{IsAddedByChange, IsAddedByList};
-ghost use Rattle.vr_sums.specs.Sums.{last_of};
+ghost use Rattle.vr_balance.specs.Sums.{last_of};
 ghost use Rattle.vr_arccosts.specs.Runs.{at_place, before_place, cross_base, front_added, gap_added};
 ghost use Rattle.vr_arccosts.specs.Runs.{pair_added, swap_added, turn_added, IsLine};
 

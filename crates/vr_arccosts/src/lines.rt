@@ -4,13 +4,13 @@ ghost use Rattle.std.specs.Prelude.{◌≡◌, ◌<◌, ◌≤◌, ◌+◌, ◌^
 ghost use Rattle.vr_model.specs.declared.records.Model.{Model as RoutingModel};
 ghost use Rattle.vr_model.specs.tables.Tables.{arc_cost};
 ghost use Rattle.vr_model.specs.tables.WellFormed.{IsIn, IsWellFormed};
-ghost use Rattle.vr_sums.specs.Sums.{HaveRange};
+ghost use Rattle.vr_balance.specs.Sums.{HaveRange};
 ghost use Rattle.vr_arccosts.specs.Chains.{chain_of, chain_sum};
 ghost use Rattle.vr_arccosts.specs.Along.{between_cost, IsAlong, IsAlongTo, IsArc};
 ghost use Rattle.vr_arccosts.specs.Bounds.{HasRoomForStop};
 
+use vr_balance::Sums;
 use vr_model::Model;
-use vr_sums::Sums;
 
 /// The sums of arc costs along the line of a vehicle, from its start through its list to its end, and those of the same
 /// arcs backwards.

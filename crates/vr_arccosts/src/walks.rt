@@ -7,7 +7,7 @@ ghost use Rattle.vr_model.specs.routes.Routes.{is_empty, route};
 ghost use Rattle.vr_model.specs.tables.WellFormed.{IsWellFormed};
 ghost use Rattle.vr_routes.specs.declared.pieces.Piece.TheVariants.{Chain};
 ghost use Rattle.vr_routes.specs.Pieces.{joined, nodes_of, IsWithin};
-ghost use Rattle.vr_sums.specs.Sums.{last_of, path_sum};
+ghost use Rattle.vr_balance.specs.Sums.{last_of, path_sum};
 ghost use Rattle.vr_arccosts.specs.Chains.{chain_sum, first_of, turned};
 ghost use Rattle.vr_arccosts.specs.Along.{between_cost, HaveAlong};
 ghost use Rattle.vr_arccosts.specs.Bounds.{IsChainCost, IsGapCost, IsPathCost, IsPieceFurther};

@@ -2,3 +2,4 @@ pub mod BalanceLemmas
 pub mod ApartLemmas
 pub mod ActiveLemmas
 pub mod EndLemmas
+pub mod Paths

@@ -4,7 +4,7 @@
 //! plans and numbers themselves, one pass for each. A pass is handed the model and the solution and answers the first
 //! place where its rule is broken; nothing is kept from one to the next, and the first that answers a place is told.
 //!
-//! `vr_replies` calls [`check`] for the words `check` and `spans`, and has the law that what is printed meets it.
+//! `vr_app` calls [`check`] for the words `check` and `spans`, and has the law that what is printed meets it.
 #![tactic(auto)]
 
 mod asked;

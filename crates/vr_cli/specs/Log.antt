@@ -1,7 +1,7 @@
 -- What the program writes of a search with `--log`.
 use Rattle.std.specs.Prelude.{ℕ, List, [], ◌∷◌}
 use Rattle.vr_model.specs.declared.search.Event.{Event}
-use Rattle.vr_replies.specs.Reports.{joined}
+use Rattle.vr_app.specs.Reports.{joined}
 use Rattle.vr_watch.specs.Reports.{tallied, traced}
 
 -- the log of events: what a tally reports of them, and then what a trace does

@@ -1,8 +1,8 @@
 -- What a run comes to whose watchers report so.
 use Rattle.std.specs.Prelude.{◌≡◌, ◌⊎◌, ℕ, List}
 use Rattle.vr_model.specs.declared.search.Event.{Event}
-use Rattle.vr_replies.specs.Promises.{IsComplete, IsReply, Run}
-use Rattle.vr_replies.specs.Status.{IsStatus}
+use Rattle.vr_app.specs.Promises.{IsComplete, IsReply, Run}
+use Rattle.vr_app.specs.Status.{IsStatus}
 
 -- the run gives a status; its text is that of the reply, which has these reports, whole where nothing failed, or memory
 -- was wanting; the sink, that before and after it, takes nothing where the source failed or memory was wanting

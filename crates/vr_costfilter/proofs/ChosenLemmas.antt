@@ -17,7 +17,7 @@ use Rattle.vr_model.specs.schedules.Choices.{chosen}
 use Rattle.vr_model.specs.schedules.Lines.{line}
 use Rattle.vr_model.specs.schedules.Narrowed.{chosen_line}
 use Rattle.vr_model.specs.deciding.Testing.{and_left, and_right}
-use Rattle.vr_timings.specs.Timings.{plan_of}
+use Rattle.vr_plan.specs.Timings.{plan_of}
 use Rattle.vr_model.specs.schedules.Schedules.{IsChosen, Plan}
 use Rattle.vr_earliest.specs.Laws.{IsNoEarlier}
 use Rattle.vr_earliest.proofs.NoEarlier.{law}

@@ -15,14 +15,14 @@ use Rattle.vr_model.proofs.tables.Bounds.{none_at}
 use Rattle.vr_model.proofs.tables.Totals.{sum_nothing, sum_same}
 use Rattle.vr_model.specs.routes.Routes.{route}
 use Rattle.vr_model.specs.declared.records.Model.{Model}
-use Rattle.vr_timings.specs.Extents.{global_in}
-use Rattle.vr_timings.specs.declared.timings.Timing.{Timing}
-use Rattle.vr_timings.specs.declared.extents.Extent.{Extent}
-use Rattle.vr_timings.proofs.ExtentLemmas.{global-cost, times-none}
+use Rattle.vr_plan.specs.Extents.{global_in}
+use Rattle.vr_plan.specs.declared.timings.Timing.{Timing}
+use Rattle.vr_plan.specs.declared.extents.Extent.{Extent}
+use Rattle.vr_plan.proofs.ExtentLemmas.{global-cost, times-none}
 use Rattle.vr_routes.specs.Pieces.{ListAfter, joined, no_part, part_at, changed}
 use Rattle.vr_routes.specs.Changes.{AreParts}
 use Rattle.vr_routes.specs.Tours.{Tours}
-use Rattle.vr_cumuls.specs.Kept.{AreAllKept}
+use Rattle.vr_costfilter.specs.Kept.{AreAllKept}
 use Rattle.vr_costfilter.specs.Orders.{beside, extent_but, IsInRange, IsReach, IsTold}
 use Rattle.vr_costfilter.specs.Order.{names}
 use Rattle.vr_costfilter.specs.declared.orders.Orders.{Orders}

@@ -5,8 +5,8 @@ use Rattle.std.proofs.lemmas.Bool.{cases_lt}
 use Rattle.std.proofs.lemmas.Int.{ints, int_max_is, int_min_is}
 use Rattle.vr_model.specs.routes.Routes.{is_empty, route}
 use Rattle.vr_model.specs.declared.records.Model.{Model}
-use Rattle.vr_timings.specs.Timings.{last_with, start_with}
-use Rattle.vr_timings.specs.declared.extents.Extent.{Extent}
+use Rattle.vr_plan.specs.Timings.{last_with, start_with}
+use Rattle.vr_plan.specs.declared.extents.Extent.{Extent}
 use Rattle.vr_routes.specs.Pieces.{ListAfter}
 use Rattle.vr_costfilter.specs.Orders.{IsReach}
 use Rattle.vr_costfilter.specs.Order.{names}

@@ -10,10 +10,10 @@ use Rattle.vr_model.specs.routes.Rules.{is_valid}
 use Rattle.vr_model.specs.declared.records.Model.{Model}
 use Rattle.vr_model.proofs.routes.CostBounds.{softs-up_to}
 use Rattle.vr_model.proofs.tables.Totals.{sum_not_negative, total_by-less}
-use Rattle.vr_timings.specs.Timings.{last_with, soft_of, soft_with, span_with, start_with}
+use Rattle.vr_plan.specs.Timings.{last_with, soft_of, soft_with, span_with, start_with}
 use Rattle.vr_model.specs.schedules.Schedules.{Plan}
 use Rattle.vr_model.specs.tables.Tables.{dimension_at, no_dimension}
-use Rattle.vr_timings.proofs.PlanLemmas.{plan-at}
+use Rattle.vr_plan.proofs.PlanCostLemmas.{plan-at}
 use Rattle.vr_routes.specs.Pieces.{ListAfter, changed, joined, no_part, part_at}
 use Rattle.vr_routes.specs.Changes.{AreParts}
 use Rattle.vr_routes.proofs.CommitLemmas.{as_many_lists}

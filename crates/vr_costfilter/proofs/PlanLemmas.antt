@@ -8,20 +8,20 @@ use Rattle.vr_model.specs.tables.Tables.{dimension_at, no_dimension, visits}
 use Rattle.vr_model.specs.tables.WellFormed.{IsWellFormed}
 use Rattle.vr_model.specs.routes.Rules.{is_valid}
 use Rattle.vr_routes.specs.Tours.{Tours}
-use Rattle.vr_cumuls.specs.Kept.{AreAllKept}
+use Rattle.vr_costfilter.specs.Kept.{AreAllKept}
 use Rattle.vr_model.specs.routes.Routes.{route, is_empty}
 use Rattle.vr_model.specs.schedules.Schedules.{Plan, cumul}
 use Rattle.vr_model.specs.routes.Costs.{plan_at, assigned, over_plans, soft_part, span_part}
 use Rattle.vr_model.specs.declared.records.Model.{Model}
 use Rattle.vr_model.proofs.tables.Tests.{all-from_list_all}
 use Rattle.vr_model.proofs.tables.Totals.{sum_range, sum_nothing, sum_same, total_by-failing, total_by-plus}
-use Rattle.vr_timings.specs.Paying.{is_free, PaysNothing}
-use Rattle.vr_timings.specs.Tables.{AreTables}
-use Rattle.vr_timings.specs.declared.tables.Table.{Table}
-use Rattle.vr_timings.proofs.PayingLemmas.{free_pays, pays_nothing_where}
-use Rattle.vr_timings.specs.Timings.{plan_of, soft_of, soft_with, span_with, start_with, last_with}
-use Rattle.vr_timings.proofs.ExtentLemmas.{times-none}
-use Rattle.vr_timings.proofs.PlanLemmas.{plan-at}
+use Rattle.vr_plan.specs.Paying.{is_free, PaysNothing}
+use Rattle.vr_plan.specs.Tables.{AreTables}
+use Rattle.vr_plan.specs.declared.tables.Table.{Table}
+use Rattle.vr_plan.proofs.PayingLemmas.{free_pays, pays_nothing_where}
+use Rattle.vr_plan.specs.Timings.{plan_of, soft_of, soft_with, span_with, start_with, last_with}
+use Rattle.vr_plan.proofs.ExtentLemmas.{times-none}
+use Rattle.vr_plan.proofs.PlanCostLemmas.{plan-at}
 use Rattle.vr_parts.specs.Sums.{over_routes}
 use Rattle.vr_earliest.specs.Ways.{least_span}
 use Rattle.vr_costfilter.specs.PlanCosts.{pays_no_plan, plans_cost, spans_least, IsPlanCost, KeptPlans, StandsPlans}

@@ -9,10 +9,10 @@ use Rattle.vr_model.specs.routes.Routes.{is_empty, route}
 use Rattle.vr_model.specs.declared.records.Model.{Model}
 use Rattle.vr_model.proofs.routes.Bounded.{fold-max_least, fold-min_most}
 use Rattle.vr_model.proofs.tables.Members.{In, of_filter, to_below, to_filter}
-use Rattle.vr_timings.specs.Extents.{used_below, IsExtent}
-use Rattle.vr_timings.specs.Timings.{last_with, start_with}
-use Rattle.vr_timings.specs.declared.extents.Extent.{Extent}
-use Rattle.vr_timings.specs.declared.timings.Timing.{Timing}
+use Rattle.vr_plan.specs.Extents.{used_below, IsExtent}
+use Rattle.vr_plan.specs.Timings.{last_with, start_with}
+use Rattle.vr_plan.specs.declared.extents.Extent.{Extent}
+use Rattle.vr_plan.specs.declared.timings.Timing.{Timing}
 use Rattle.vr_costfilter.specs.Order.{first_but, names}
 use Rattle.vr_costfilter.specs.Orders.{beside, extent_but, extent_of, left_with, number_of, AreOrders, IsReach, IsTold}
 use Rattle.vr_costfilter.specs.declared.orders.Orders.{Orders}

@@ -5,8 +5,8 @@ use Rattle.std.proofs.lemmas.Int.{ints}
 use Rattle.vr_model.specs.tables.Numbers.{number_at}
 use Rattle.vr_model.specs.tables.Tables.{dimension_at}
 use Rattle.vr_model.specs.declared.records.Model.{Model}
-use Rattle.vr_timings.specs.Timings.{soft_with, span_with, IsTiming, IsTimingOf}
-use Rattle.vr_timings.specs.declared.timings.Timing.{Timing}
+use Rattle.vr_plan.specs.Timings.{soft_with, span_with, IsTiming, IsTimingOf}
+use Rattle.vr_plan.specs.declared.timings.Timing.{Timing}
 use Rattle.vr_costfilter.specs.PlanCosts.{IsPlanCostIn}
 
 -- the numbers of the timing of a shorter list

@@ -18,10 +18,10 @@ use Rattle.vr_model.specs.declared.records.Model.{Model}
 use Rattle.vr_model.proofs.tables.Members.{In, to_below, to_filter}
 use Rattle.vr_model.proofs.routes.Bounded.{fold-max_least, fold-min_most}
 use Rattle.vr_model.proofs.routes.CostBounds.{end-up_to, start-up_to}
-use Rattle.vr_timings.specs.Extents.{global_in}
-use Rattle.vr_timings.specs.Timings.{last_with, start_with}
-use Rattle.vr_timings.proofs.ExtentLemmas.{times-none}
-use Rattle.vr_timings.proofs.PlanLemmas.{plan-at, used-all}
+use Rattle.vr_plan.specs.Extents.{global_in}
+use Rattle.vr_plan.specs.Timings.{last_with, start_with}
+use Rattle.vr_plan.proofs.ExtentLemmas.{times-none}
+use Rattle.vr_plan.proofs.PlanCostLemmas.{plan-at, used-all}
 use Rattle.vr_earliest.specs.Ways.{earliest_end, least_span}
 use Rattle.vr_earliest.specs.declared.earlies.Early.{Early}
 use Rattle.vr_routes.specs.Pieces.{ListAfter, changed, joined, no_part, part_at}

@@ -9,14 +9,14 @@ use Rattle.vr_model.specs.routes.Costs.{assigned, global_part}
 use Rattle.vr_model.specs.routes.Rules.{is_valid}
 use Rattle.vr_model.specs.declared.records.Dimension.{Dimension}
 use Rattle.vr_model.specs.declared.records.Model.{Model}
-use Rattle.vr_timings.specs.Bounds.{cumul_cost, IsAround}
-use Rattle.vr_timings.specs.Extents.{length_of}
-use Rattle.vr_timings.specs.Tables.{AreTables}
-use Rattle.vr_timings.specs.declared.extents.Extent.{Extent}
-use Rattle.vr_timings.specs.declared.tables.Table.{Table}
-use Rattle.vr_timings.specs.declared.timings.Timing.{Timing}
-use Rattle.vr_cumuls.specs.Kept.{AreAllKept}
-use Rattle.vr_cumuls.specs.declared.kept.KeptList.{KeptList}
+use Rattle.vr_plan.specs.Bounds.{cumul_cost, IsAround}
+use Rattle.vr_plan.specs.Extents.{length_of}
+use Rattle.vr_plan.specs.Tables.{AreTables}
+use Rattle.vr_plan.specs.declared.extents.Extent.{Extent}
+use Rattle.vr_plan.specs.declared.tables.Table.{Table}
+use Rattle.vr_plan.specs.declared.timings.Timing.{Timing}
+use Rattle.vr_costfilter.specs.Kept.{AreAllKept}
+use Rattle.vr_costfilter.specs.declared.kept.KeptList.{KeptList}
 use Rattle.vr_routes.specs.Tours.{Tours}
 use Rattle.vr_routes.specs.Pieces.{ListAfter, changed, joined, part_at}
 use Rattle.vr_costfilter.specs.Orders.{beside, extent_but, AreInRange, AreOrders, IsInRange, IsTold}

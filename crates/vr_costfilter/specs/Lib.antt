@@ -3,3 +3,12 @@ pub mod Order
 pub mod Orders
 pub mod GlobalCosts
 pub mod Spreads
+pub mod Runs
+pub mod Floors
+pub mod Stages
+pub mod Guides
+pub mod Ways
+pub mod Rests
+pub mod KeptWays
+pub mod Steps
+pub mod Kept

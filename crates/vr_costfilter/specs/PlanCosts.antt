@@ -9,14 +9,14 @@ use Rattle.vr_model.specs.routes.Routes.{is_empty, route}
 use Rattle.vr_model.specs.routes.Costs.{assigned, soft_part, span_part}
 use Rattle.vr_model.specs.routes.Rules.{is_valid}
 use Rattle.vr_model.specs.declared.records.Model.{Model}
-use Rattle.vr_timings.specs.Bounds.{IsAround}
-use Rattle.vr_timings.specs.Paying.{is_free}
-use Rattle.vr_timings.specs.Tables.{AreTables}
-use Rattle.vr_timings.specs.Timings.{soft_with, span_with}
-use Rattle.vr_timings.specs.declared.tables.Table.{Table}
+use Rattle.vr_plan.specs.Bounds.{IsAround}
+use Rattle.vr_plan.specs.Paying.{is_free}
+use Rattle.vr_plan.specs.Tables.{AreTables}
+use Rattle.vr_plan.specs.Timings.{soft_with, span_with}
+use Rattle.vr_plan.specs.declared.tables.Table.{Table}
 use Rattle.vr_earliest.specs.Ways.{least_span}
-use Rattle.vr_cumuls.specs.Kept.{AreAllKept}
-use Rattle.vr_cumuls.specs.declared.kept.KeptList.{KeptList}
+use Rattle.vr_costfilter.specs.Kept.{AreAllKept}
+use Rattle.vr_costfilter.specs.declared.kept.KeptList.{KeptList}
 use Rattle.vr_routes.specs.Tours.{Tours}
 use Rattle.vr_routes.specs.Pieces.{ListAfter, part_at, joined}
 use Rattle.vr_parts.specs.Sums.{part_less}

@@ -9,8 +9,8 @@ use Rattle.vr_model.specs.tables.WellFormed.{IsIn}
 use Rattle.vr_model.specs.routes.Routes.{is_empty, route, used_vehicles}
 use Rattle.vr_model.specs.routes.Costs.{assigned, end_at, greatest, least, start_at}
 use Rattle.vr_model.specs.declared.records.Model.{Model}
-use Rattle.vr_timings.specs.Timings.{last_with, start_with}
-use Rattle.vr_timings.specs.declared.extents.Extent.{Extent}
+use Rattle.vr_plan.specs.Timings.{last_with, start_with}
+use Rattle.vr_plan.specs.declared.extents.Extent.{Extent}
 use Rattle.vr_earliest.specs.Ways.{earliest_end, least_span}
 use Rattle.vr_routes.specs.Pieces.{ListAfter, joined}
 use Rattle.vr_costfilter.specs.declared.spreads.Spread.{Spread}

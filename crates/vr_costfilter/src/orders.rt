@@ -1,14 +1,14 @@
 //! The used vehicles of lists by the starts and by the ends of their chosen schedules.
 
 ghost use Rattle.std.specs.Prelude.{◌≡◌, ◌<◌, [], IfSome, length};
-ghost use Rattle.vr_timings.specs.Extents.{IsExtentInRange};
+ghost use Rattle.vr_plan.specs.Extents.{IsExtentInRange};
 ghost use Rattle.vr_costfilter.specs.Orders as orders;
 ghost use Rattle.vr_costfilter.specs.Orders.{with_timing, AreInRange, IsInRange};
 ghost use Rattle.vr_costfilter.specs.Order.{without};
 
 use crate::order::Order;
 use vr_model::limits::HORIZON;
-use vr_timings::{Extent, Timing, wider};
+use vr_plan::{Extent, Timing, wider};
 
 /// The used vehicles of lists in one dimension: in the order of their starts, the least first, and in the order of
 /// their ends, the greatest first.

@@ -11,12 +11,12 @@ ghost use Rattle.vr_parts.specs.Parts.{CostAlike, NothingReady};
 ghost use Rattle.vr_costfilter.specs.PlanCosts.{cost_after, pays_no_plan, soft_and_span, AreNextCosts, ArePlansReady};
 ghost use Rattle.vr_costfilter.specs.PlanCosts.{plans_least, IsPlanChange, IsPlanCost, StandsPlans};
 
+use crate::dimensions::AllCumuls;
 use crate::schedule_costs::PlanRules;
 use crate::scratch::Scratch;
 use arrayvec::ArrayVec;
 use std::alloc::Global;
 use std::marker::Model;
-use vr_cumuls::AllCumuls;
 use vr_earliest::Earlies;
 use vr_model::{Model as RoutingModel, NoMemory};
 use vr_parts::CostPart;

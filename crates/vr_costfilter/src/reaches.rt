@@ -8,11 +8,11 @@ ghost use Rattle.vr_model.specs.routes.Routes.{is_distinct, route};
 ghost use Rattle.vr_model.specs.routes.Rules.{is_valid};
 ghost use Rattle.vr_routes.specs.Changes.{AreParts, IsMadeOn};
 ghost use Rattle.vr_routes.specs.Pieces.{changed, joined, part_at};
-ghost use Rattle.vr_timings.specs.Bounds.{cumul_cost, IsAround};
-ghost use Rattle.vr_timings.specs.Extents.{length_of, IsExtentInRange};
-ghost use Rattle.vr_timings.specs.Tables.{AreTables, IsKnownDimension, IsTable};
+ghost use Rattle.vr_plan.specs.Bounds.{cumul_cost, IsAround};
+ghost use Rattle.vr_plan.specs.Extents.{length_of, IsExtentInRange};
+ghost use Rattle.vr_plan.specs.Tables.{AreTables, IsKnownDimension, IsTable};
 ghost use Rattle.vr_earliest.specs.Earlies.{AreEarlies};
-ghost use Rattle.vr_cumuls.specs.Kept.{AreAllKept};
+ghost use Rattle.vr_costfilter.specs.Kept.{AreAllKept};
 ghost use Rattle.vr_costfilter.specs.Orders.{AreInRange, AreOrders};
 ghost use Rattle.vr_costfilter.specs.GlobalCosts as reaches;
 ghost use Rattle.vr_costfilter.specs.GlobalCosts.{extent_after, spans_cost_after, AreAllOrders, AreBlank, IsRow};
@@ -20,17 +20,17 @@ ghost use Rattle.vr_costfilter.specs.GlobalCosts.{AreRanged, AreRows, AreTold, A
 ghost use Rattle.vr_costfilter.specs.GlobalCosts.{is_some_spanned, Pays};
 ghost use Rattle.vr_costfilter.specs.Spreads.{global_least};
 
+use crate::dimensions::{AllCumuls, Paid};
 use crate::orders::{Orders, beside};
 use crate::scratch::Scratch;
 use crate::spreads::least_of_global_spans;
 use arrayvec::ArrayVec;
 use std::alloc::Global;
 use std::marker::Model;
-use vr_cumuls::{AllCumuls, Paid};
 use vr_earliest::Earlies;
 use vr_model::{Model as RoutingModel, NoMemory};
+use vr_plan::{Extent, KnownDimension, Table, Timer, Timing, global_cost, tables_of, timing_of};
 use vr_routes::{Change, Piece, Routes};
-use vr_timings::{Extent, KnownDimension, Table, Timer, Timing, global_cost, tables_of, timing_of};
 
 /// What the schedule of one list comes to in each dimension whose global span has a coefficient, none where the list is
 /// empty.

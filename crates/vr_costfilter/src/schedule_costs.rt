@@ -8,27 +8,27 @@ ghost use Rattle.vr_model.specs.tables.WellFormed.{IsWellFormed};
 ghost use Rattle.vr_model.specs.declared.records.Model.{Model as Defined};
 ghost use Rattle.vr_model.specs.routes.Routes.{is_distinct, is_empty};
 ghost use Rattle.vr_model.specs.routes.Rules.{is_valid};
-ghost use Rattle.vr_timings.specs.Tables.{AreTables, IsKnownDimension, IsTable};
-ghost use Rattle.vr_timings.specs.Timings.{soft_with, span_with, IsTimingOf};
-ghost use Rattle.vr_timings.specs.Bounds.{cumul_cost, IsAround};
+ghost use Rattle.vr_plan.specs.Tables.{AreTables, IsKnownDimension, IsTable};
+ghost use Rattle.vr_plan.specs.Timings.{soft_with, span_with, IsTimingOf};
+ghost use Rattle.vr_plan.specs.Bounds.{cumul_cost, IsAround};
 ghost use Rattle.vr_routes.specs.Changes.{AreParts, IsMadeOn};
 ghost use Rattle.vr_routes.specs.Pieces.{changed, joined, part_at};
-ghost use Rattle.vr_cumuls.specs.Kept.{AreAllKept};
+ghost use Rattle.vr_costfilter.specs.Kept.{AreAllKept};
 ghost use Rattle.vr_earliest.specs.Earlies.{AreEarlies};
 ghost use Rattle.vr_earliest.specs.Ways.{least_span};
 ghost use Rattle.vr_costfilter.specs.PlanCosts.{cost_after, pays_no_plan, plans_cost, spans_least, AreCosts};
 ghost use Rattle.vr_costfilter.specs.PlanCosts.{IsPlanCost, IsPlanCostIn};
 
+use crate::dimensions::{AllCumuls, Paid};
 use crate::scratch::Scratch;
 use std::alloc::Global;
 use std::marker::Model;
-use vr_cumuls::{AllCumuls, Paid};
 use vr_earliest::Earlies;
 use vr_model::{Model as RoutingModel, NoMemory};
-use vr_routes::{Change, Piece, Routes};
-use vr_timings::{
+use vr_plan::{
     KnownDimension, Table, Timer, Timing, may_pay_alone, span_cost, tables_of, times, timing_of,
 };
+use vr_routes::{Change, Piece, Routes};
 
 /// What is looked up of a model once. Contracts see the model.
 #[derive(Drop)]

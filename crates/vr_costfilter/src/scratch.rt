@@ -1,9 +1,9 @@
 //! Scratch that calls are lent.
 
+use crate::trails::Trail;
 use std::alloc::Global;
-use vr_cumuls::Trail;
+use vr_plan::Timer;
 use vr_routes::Row;
-use vr_timings::Timer;
 
 /// Scratch for a list that a change makes, and for its schedule, whether it is told by what is kept or built.
 #[derive(Drop)]

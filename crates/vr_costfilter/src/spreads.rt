@@ -2,7 +2,7 @@
 
 ghost use Rattle.std.specs.Prelude.{◌≡◌, ◌<◌, ◌≤◌, length};
 ghost use Rattle.vr_model.specs.tables.WellFormed.{IsWellFormed};
-ghost use Rattle.vr_timings.specs.Bounds.{cumul_cost, IsAround};
+ghost use Rattle.vr_plan.specs.Bounds.{cumul_cost, IsAround};
 ghost use Rattle.vr_routes.specs.Changes.{AreParts};
 ghost use Rattle.vr_routes.specs.Pieces.{part_at};
 ghost use Rattle.vr_earliest.specs.Earlies.{AreEarlies};
@@ -16,8 +16,8 @@ use crate::reaches::vehicles_of;
 use vr_earliest::Earlies;
 use vr_model::Model as RoutingModel;
 use vr_model::limits::HORIZON;
+use vr_plan::times;
 use vr_routes::{Change, Piece, Routes};
-use vr_timings::times;
 
 /// How far lists reach at least in one dimension.
 #[derive(Clone, Copy)]

@@ -14,15 +14,15 @@ use Rattle.vr_model.specs.first.Choosing.{better}
 use Rattle.vr_model.specs.deciding.Testing.{and_both, and_left, and_right}
 use Rattle.vr_model.proofs.tables.Tests.{clash}
 use Rattle.vr_model.proofs.tables.Members.{In, from_map, of_from_to}
-use Rattle.vr_walks.specs.Lists.{IsUsed}
-use Rattle.vr_walks.proofs.Transfer.{not_empty}
+use Rattle.vr_reach.specs.Lists.{IsUsed}
+use Rattle.vr_reach.proofs.Transfer.{not_empty}
 use Rattle.vr_rules.specs.RoutesOpen.{is_feasible_in_each}
 use Rattle.vr_rules.specs.Placing.{nodes_of}
 use Rattle.vr_rules.specs.declared.items.Item.TheVariants.{Visit, PickupAndDelivery}
-use Rattle.vr_inserting.specs.declared.probes.Probes.{Probes}
-use Rattle.vr_inserting.specs.Probes.{AreReachedAt, ReachNoEnd}
-use Rattle.vr_inserting.proofs.InsertedLemmas.{pair_front, pair_long}
-use Rattle.vr_inserting.proofs.RowLemmas.{reached_in_each}
+use Rattle.vr_first_insert.specs.declared.probes.Probes.{Probes}
+use Rattle.vr_first_insert.specs.Probes.{AreReachedAt, ReachNoEnd}
+use Rattle.vr_first_insert.proofs.InsertedLemmas.{pair_front, pair_long}
+use Rattle.vr_first_insert.proofs.RowLemmas.{reached_in_each}
 use Rattle.vr_first_insert.specs.declared.choice.Placing.{Placing}
 use Rattle.vr_first_insert.specs.declared.choice.Placing.TheVariants.{One, Two}
 use Rattle.vr_first_insert.specs.declared.choice.Choice.{Choice}

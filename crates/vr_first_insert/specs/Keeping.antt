@@ -2,7 +2,7 @@
 use Rattle.std.specs.Prelude.{◌≡◌, length, Option, Some, None}
 use Rattle.vr_model.specs.declared.records.Model.{Model}
 use Rattle.vr_rules.specs.Placing.{AreCandidates}
-use Rattle.vr_inserting.specs.Kept.{AreKept}
+use Rattle.vr_first_insert.specs.KeptRows.{AreKept}
 use Rattle.vr_first_insert.specs.Kept.{AreRows}
 use Rattle.vr_first_insert.specs.declared.keeper.Keeper.{Keeper}
 use Rattle.vr_first_insert.specs.declared.solution.Rebuilder.{Rebuilder}

@@ -3,8 +3,8 @@ use Rattle.std.specs.Prelude.{ℕ, ◌<◌, IsTrue, List, length}
 use Rattle.vr_model.specs.routes.Routes.{route}
 use Rattle.vr_model.specs.routes.Rules.{is_route_open}
 use Rattle.vr_model.specs.declared.records.Model.{Model}
-use Rattle.vr_inserting.specs.declared.kept.Kept.{Kept}
-use Rattle.vr_inserting.specs.Kept.{AreKeptOf}
+use Rattle.vr_first_insert.specs.declared.kept.Kept.{Kept}
+use Rattle.vr_first_insert.specs.KeptRows.{AreKeptOf}
 
 -- vehicle v may drive its list, and what is kept is that of the list
 pub record IsReady (model : Model) (v : ℕ) (list : List ℕ) (keeps : List Kept) : Type 0 where

@@ -10,10 +10,10 @@ ghost use Rattle.vr_first_insert.specs.declared.known.Known.TheVariants.{Nothing
 
 use crate::bound::{least_pair, least_visit};
 use crate::choice::{Choice, improves, may_improve};
+use crate::kept::Kept;
 use crate::one_list::best_in_list;
 use crate::room::Room;
 use std::alloc::Global;
-use vr_inserting::Kept;
 use vr_lists::NodeTables;
 use vr_model::{Model, NoMemory, Seq};
 use vr_rules::{Candidate, Item};

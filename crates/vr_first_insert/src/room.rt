@@ -1,11 +1,11 @@
 //! What is written over while places are tried.
 
+use crate::probes::Probes;
 use crate::trying::Trying;
 use std::alloc::Global;
-use vr_inserting::Probes;
 use vr_model::Seq;
+use vr_reach::no_line;
 use vr_steps::Line;
-use vr_walks::no_line;
 
 /// What is written over while places are tried.
 #[derive(Drop)]

@@ -6,13 +6,14 @@ ghost use Rattle.vr_model.specs.routes.Rules.{allows_vehicle, is_route_open};
 ghost use Rattle.vr_model.specs.tables.WellFormed.{IsWellFormed};
 ghost use Rattle.vr_rules.specs.declared.items.Item.TheVariants.{Visit, PickupAndDelivery};
 ghost use Rattle.vr_rules.specs.Placing.{nodes_of};
-ghost use Rattle.vr_inserting.specs.Probes.{AreReachedAt};
+ghost use Rattle.vr_first_insert.specs.Probes.{AreReachedAt};
 ghost use Rattle.vr_first_insert.specs.Placings.{placed, MayHold};
 ghost use Rattle.vr_first_insert.specs.Ready.{IsReady};
 ghost use Rattle.vr_first_insert.specs.declared.choice.Placing.TheVariants.{One, Two};
 
+use crate::kept::{Kept, is_feasible_between};
+use crate::probes::Probes;
 use std::alloc::Global;
-use vr_inserting::{Kept, Probes, is_feasible_between};
 use vr_lists::{PairPlaces, keeps_pairs};
 use vr_model::{Model, NoMemory, Seq};
 use vr_reach::Walk;

@@ -1,7 +1,7 @@
 -- A model with what was looked up of it.
 use Rattle.std.specs.Prelude.{◌≡◌}
 use Rattle.vr_model.specs.tables.WellFormed.{IsWellFormed}
-use Rattle.vr_timings.specs.Tables.{AreTables}
+use Rattle.vr_plan.specs.Tables.{AreTables}
 use Rattle.vr_first_savings.specs.declared.tables.ModelTables.{ModelTables}
 
 -- the model is well formed, and the tables are those of it

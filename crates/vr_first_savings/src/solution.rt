@@ -7,7 +7,7 @@ ghost use Rattle.vr_model.specs.first.SavingsJoins.{savings};
 ghost use Rattle.vr_model.specs.tables.Tables.{visits};
 ghost use Rattle.vr_model.specs.tables.WellFormed.{IsWellFormed};
 ghost use Rattle.vr_rules.specs.Placing.{lists_in};
-ghost use Rattle.vr_timings.specs.Tables.{AreTables};
+ghost use Rattle.vr_plan.specs.Tables.{AreTables};
 ghost use Rattle.vr_first_savings.specs.Tables.{AreModelTables};
 
 use crate::merge::merged;
@@ -17,9 +17,9 @@ use crate::tables::ModelTables;
 use std::alloc::Global;
 use vr_lists::NodeTables;
 use vr_model::{Model, NoMemory, Seq};
+use vr_plan::{Table, tables_of};
 use vr_routes::Routes;
 use vr_rules::{Driving, valid};
-use vr_timings::{Table, tables_of};
 
 // The lists at which the construction ends, over what was looked up. Nothing large is owned where it ends early.
 fn lists_joined(

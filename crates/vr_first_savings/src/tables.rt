@@ -2,7 +2,7 @@
 
 use vr_lists::NodeTables;
 use vr_model::Model;
-use vr_timings::Table;
+use vr_plan::Table;
 
 // A model with the tables of its dimensions and of its nodes.
 #[derive(Clone, Copy)]

@@ -21,7 +21,7 @@ use Rattle.vr_routes.specs.Pieces.{joined}
 use Rattle.vr_guided.specs.Bounding.{AugmentedCostsAreBounded}
 use Rattle.vr_guided.specs.Counts.{AtMost}
 use Rattle.vr_guided.specs.Walks.{route_weight, stretch_weight, unused_weight, weight}
-use Rattle.vr_sums.specs.Sums.{last_of}
+use Rattle.vr_balance.specs.Sums.{last_of}
 use Rattle.vr_guided.proofs.PartLemmas.{bare, part_value, sums, used}
 use Rattle.vr_routes.proofs.JoinedPieces.{all_left, all_right}
 use Rattle.vr_guided.proofs.WalkLemmas.{all_push}

@@ -4,7 +4,7 @@ use Rattle.std.specs.Prelude.{ℤ, ◌+ℤ◌, ◌-ℤ◌}
 use Rattle.std.proofs.lemmas.Int.{ints}
 use Rattle.vr_model.specs.tables.Numbers.{total_by, each}
 use Rattle.vr_model.specs.routes.Routes.{UsedArc, arcs_from}
-use Rattle.vr_sums.specs.Sums.{last_of}
+use Rattle.vr_balance.specs.Sums.{last_of}
 use Rattle.vr_model.proofs.tables.Totals.{total_by-append}
 
 arcs_split : (v x : ℕ) (front rest : List ℕ) → arcs_from v x (front ++ rest) ≡ arcs_from v x front ++ arcs_from v (last_of x front) rest

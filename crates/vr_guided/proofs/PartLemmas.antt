@@ -23,7 +23,7 @@ use Rattle.vr_routes.proofs.PartLemmas.{part_is}
 use Rattle.vr_guided.specs.Parts.{IsPart}
 use Rattle.vr_balance.specs.Ends.{AreEnds}
 use Rattle.vr_guided.specs.Walks.{route_weight, stretch_weight, unused_weight, weight}
-use Rattle.vr_sums.specs.Sums.{last_of}
+use Rattle.vr_balance.specs.Sums.{last_of}
 use Rattle.vr_guided.proofs.LocalChanges.{along, local_change, total_by_each}
 
 -- a list in three parts

@@ -10,7 +10,7 @@ use Rattle.vr_model.specs.tables.Numbers.{number_at, total_by}
 use Rattle.vr_model.specs.tables.WellFormed.{IsIn}
 use Rattle.vr_model.specs.routes.Routes.{UsedArc, arcs_from}
 use Rattle.vr_guided.specs.Sums.{AreArcSums, HaveWideRange}
-use Rattle.vr_sums.specs.Sums.{last_of}
+use Rattle.vr_balance.specs.Sums.{last_of}
 use Rattle.vr_guided.proofs.LocalChanges.{along, along_split}
 
 -- the first few of a list, and those from there up to another place

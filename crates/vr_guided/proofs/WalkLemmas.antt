@@ -11,7 +11,7 @@ use Rattle.vr_routes.proofs.JoinedPieces.{all_left, all_right}
 use Rattle.vr_routes.specs.declared.pieces.Piece.{Piece}
 use Rattle.vr_guided.specs.declared.walks.Walk.{Walk}
 use Rattle.vr_guided.specs.Walks.{weight, stepped, stretch_weight, walked, begun}
-use Rattle.vr_sums.specs.Sums.{last_of}
+use Rattle.vr_balance.specs.Sums.{last_of}
 use Rattle.vr_guided.proofs.LocalChanges.{along, last_behind}
 
 -- what holds of each entry of a list and of one more behind it

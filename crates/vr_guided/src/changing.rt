@@ -15,7 +15,7 @@ ghost use Rattle.vr_model.specs.tables.Tables.{vehicle_at};
 ghost use Rattle.vr_model.specs.tables.WellFormed.{IsWellFormed};
 ghost use Rattle.vr_routes.specs.Changes.{AreParts};
 ghost use Rattle.vr_routes.specs.Pieces.{IsWithin, changed, joined};
-ghost use Rattle.vr_sums.specs.Sums.{last_of};
+ghost use Rattle.vr_balance.specs.Sums.{last_of};
 
 use crate::penalties::Penalties;
 use crate::route_sums::AllRouteSums;

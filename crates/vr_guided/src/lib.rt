@@ -12,7 +12,7 @@
 //! Between scans the sums are those of the lists and the penalties, no arc was penalised more often than a move was
 //! tried, and the best lists so far are valid and of known cost; routes and judge stand as in `vr_descent`.
 //!
-//! `vr_improve` calls [`guide`] for `GUIDED_LOCAL_SEARCH`.
+//! `vr_app` calls [`guide`] for `GUIDED_LOCAL_SEARCH`.
 #![tactic(auto)]
 
 mod changing;

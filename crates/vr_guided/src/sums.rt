@@ -8,7 +8,7 @@ ghost use Rattle.vr_model.specs.routes.Routes.{UsedArc, arcs_from};
 ghost use Rattle.vr_model.specs.tables.Numbers.{number_at, total_by};
 ghost use Rattle.vr_model.specs.tables.Tables.{vehicle_at};
 ghost use Rattle.vr_model.specs.tables.WellFormed.{IsIn, IsWellFormed};
-ghost use Rattle.vr_sums.specs.Sums.{last_of};
+ghost use Rattle.vr_balance.specs.Sums.{last_of};
 
 use crate::penalties::Penalties;
 use arrayvec::ArrayVec;
@@ -16,7 +16,7 @@ use std::marker::Model;
 use vr_model::Model as RoutingModel;
 
 /// At each stop of a vehicle with its list, what the arcs before it add up to. Penalties times costs take more than the
-/// 64 bits that `vr_sums` has for a sum.
+/// 64 bits that `vr_balance` has for a sum.
 #[derive(Drop)]
 pub struct Sums {
     items: ArrayVec<i128, 1002>,

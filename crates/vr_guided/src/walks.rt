@@ -12,7 +12,7 @@ ghost use Rattle.vr_model.specs.tables.Tables.{vehicle_at};
 ghost use Rattle.vr_model.specs.tables.WellFormed.{IsIn, IsWellFormed};
 ghost use Rattle.vr_routes.specs.Pieces.{IsWithin, joined, nodes_of};
 ghost use Rattle.vr_routes.specs.declared.pieces.Piece.TheVariants.{Chain};
-ghost use Rattle.vr_sums.specs.Sums.{last_of};
+ghost use Rattle.vr_balance.specs.Sums.{last_of};
 
 use crate::penalties::Penalties;
 use crate::route_sums::AllRouteSums;

@@ -12,7 +12,7 @@ use Rattle.vr_model.specs.schedules.Choices.{is_feasible}
 use Rattle.vr_model.specs.declared.records.Model.{Model}
 use Rattle.vr_model.specs.declared.records.Pair.{Pair}
 use Rattle.vr_model.proofs.tables.Tests.{same_tests, list_all-true}
-use Rattle.vr_walks.specs.Lists.{is_feasible_list}
+use Rattle.vr_reach.specs.Lists.{is_feasible_list}
 use Rattle.vr_model.specs.tables.Tables.{vehicle_at}
 use Rattle.vr_pathfilters.specs.Lists.{holds_of_each}
 use Rattle.vr_pathfilters.proofs.PartTours.{rule_at, rule_of_all}

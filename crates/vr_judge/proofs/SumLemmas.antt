@@ -4,7 +4,7 @@ use Rattle.std.specs.Prelude.{◌-ℤ◌, ◌≤ℤ◌}
 use Rattle.std.proofs.lemmas.Int.{ints}
 use Rattle.vr_model.specs.routes.Costs.{arcs_part, assigned, cost, fixed_part, global_part, penalty_part, soft_part, span_part}
 use Rattle.vr_model.specs.declared.records.Model.{Model}
-use Rattle.vr_timings.specs.Bounds.{IsAround, cumul_cost}
+use Rattle.vr_plan.specs.Bounds.{IsAround, cumul_cost}
 use Rattle.vr_parts.specs.Bounds.{IsAddedByChange}
 use Rattle.vr_costfilter.specs.GlobalCosts.{global_cost_of}
 use Rattle.vr_parts.specs.Parts.{CostAlike}

@@ -4,7 +4,7 @@ use Rattle.std.specs.List.{list_all}
 use Rattle.vr_model.specs.tables.Numbers.{below}
 use Rattle.vr_model.specs.schedules.Weights.{weight}
 use Rattle.vr_model.specs.declared.records.Model.{Model}
-use Rattle.vr_walks.specs.Lists.{is_feasible_list}
+use Rattle.vr_reach.specs.Lists.{is_feasible_list}
 use Rattle.vr_pathfilters.specs.Lists.{holds_of_each}
 use Rattle.vr_pathfilters.specs.Vehicles.{is_allowed_list}
 use Rattle.vr_pathfilters.specs.Groups.{keeps_groups}

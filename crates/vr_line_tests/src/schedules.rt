@@ -8,10 +8,9 @@ use std::alloc::Global;
 use std::test::Fail;
 use vr_model::{Model, NoMemory, ScheduleRule};
 use vr_plan::{Chooser, Plan, chosen_cumuls, schedule, schedule_over};
-use vr_reach::Rows;
+use vr_reach::{Cumuls, Rows, Stops, write_earliest};
 use vr_samples::read_model_text;
 use vr_steps::Line;
-use vr_walks::{Cumuls, Stops, write_earliest};
 
 // A schedule, without cumuls where there is none.
 struct Wanted {

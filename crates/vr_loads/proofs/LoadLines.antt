@@ -21,7 +21,7 @@ use Rattle.vr_model.proofs.tables.Tests.{all-from_list_all, same_tests}
 use Rattle.vr_model.proofs.tables.Bounds.{evaluator_low}
 use Rattle.vr_model.proofs.schedules.LineArcs.{length_arcs}
 use Rattle.vr_loads.specs.Loads.{only_adds, has_no_matrix, has_no_rows, HasLoad, value_of, taken, load_of, LoadsDecide}
-use Rattle.vr_sums.specs.Sums.{IsUpTo}
+use Rattle.vr_balance.specs.Sums.{IsUpTo}
 use Rattle.vr_loads.proofs.Totals.{AreSmall}
 use Rattle.vr_loads.proofs.Carrying.{IsCarrying, fits, goes_through}
 

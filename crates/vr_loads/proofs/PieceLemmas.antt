@@ -11,8 +11,8 @@ use Rattle.vr_routes.specs.declared.pieces.Piece.{Piece}
 use Rattle.vr_routes.specs.declared.pieces.Piece.TheVariants.{Chain}
 use Rattle.vr_routes.specs.Pieces.{joined, nodes_of}
 use Rattle.vr_routes.proofs.JoinedPieces.{joined_next}
-use Rattle.vr_sums.specs.Sums.{last_of, IsUpTo}
-use Rattle.vr_sums.proofs.Paths.{read-up, sums-between}
+use Rattle.vr_balance.specs.Sums.{last_of, IsUpTo}
+use Rattle.vr_balance.proofs.Paths.{read-up, sums-between}
 use Rattle.vr_loads.specs.Kept.{at_target, AreTaken}
 use Rattle.vr_loads.proofs.Totals.{AreSmall, total-bounds, total-reversed, up-to-few}
 use Rattle.vr_loads.proofs.ValueLemmas.{taken-total}

@@ -5,7 +5,7 @@ use Rattle.std.proofs.lemmas.Int.{ints}
 use Rattle.std.proofs.lemmas.List.{reverse-append}
 use Rattle.vr_model.specs.tables.Numbers.{total_by}
 use Rattle.vr_model.proofs.tables.Totals.{total_by-append}
-use Rattle.vr_sums.specs.Sums.{IsUpTo}
+use Rattle.vr_balance.specs.Sums.{IsUpTo}
 
 -- one node more
 pub total-next : (f : ℕ → ℤ) (xs : List ℕ) (k : ℕ) → k < length xs → total_by f (take (suc k) xs) ≡ total_by f (take k xs) +ℤ f (slice_index_or xs k 0)

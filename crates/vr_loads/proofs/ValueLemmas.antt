@@ -3,7 +3,7 @@ use Rattle.std.proofs.Common.{◌≡◌, ℕ, ◌+◌, ◌<◌, ◌≤◌, List,
 use Rattle.std.specs.Prelude.{ℤ, ◌+ℤ◌, slice_index_or}
 use Rattle.std.proofs.lemmas.Int.{ints}
 use Rattle.vr_model.specs.tables.Numbers.{total_by}
-use Rattle.vr_sums.specs.Sums.{path_sum}
+use Rattle.vr_balance.specs.Sums.{path_sum}
 use Rattle.vr_loads.specs.Kept.{at_target}
 use Rattle.vr_loads.proofs.Totals.{AreSmall, total-next, so-far}
 

@@ -5,7 +5,7 @@ use Rattle.vr_model.specs.tables.Tables.{dimension_at, vehicle_at, evaluator_num
 use Rattle.vr_model.specs.routes.Routes.{route}
 use Rattle.vr_model.specs.declared.records.Model.{Model}
 use Rattle.vr_loads.specs.Loads.{value_of, taken}
-use Rattle.vr_sums.specs.Sums.{AreSums}
+use Rattle.vr_balance.specs.Sums.{AreSums}
 use Rattle.vr_loads.specs.declared.loads.Carried.{Carried}
 
 -- of an arc, what is told of the node that it leads to

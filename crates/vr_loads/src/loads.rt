@@ -6,16 +6,16 @@ ghost use Rattle.vr_model.specs.tables.Tables.{dimension_at, evaluator_number, v
 ghost use Rattle.vr_model.specs.routes.Routes.{route};
 ghost use Rattle.vr_model.specs.moves.Moves.{with_route};
 ghost use Rattle.vr_routes.specs.Pieces.{joined, nodes_of, IsWithin};
-ghost use Rattle.vr_sums.specs.Sums.{IsUpTo};
+ghost use Rattle.vr_balance.specs.Sums.{IsUpTo};
 ghost use Rattle.vr_loads.specs.Loads.{HasLoad, can_carry, taken, value_of};
 ghost use Rattle.vr_loads.specs.Kept.{AreCarried, IsCarried};
 
 use crate::sums::{sum_of, value, write_sums};
 use std::alloc::Global;
 use std::marker::Model;
+use vr_balance::Sums;
 use vr_model::{Model as RoutingModel, NoMemory};
 use vr_routes::{Piece, Routes};
-use vr_sums::Sums;
 
 /// What is kept of one vehicle.
 #[derive(Drop)]

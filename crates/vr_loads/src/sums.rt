@@ -3,12 +3,12 @@
 ghost use Rattle.std.specs.Prelude.{◌≡◌, ◌<◌, ◌≤◌, All, length};
 ghost use Rattle.vr_model.specs.tables.Numbers.{total_by};
 ghost use Rattle.vr_model.specs.tables.Tables.{dimension_at};
-ghost use Rattle.vr_sums.specs.Sums.{IsUpTo};
+ghost use Rattle.vr_balance.specs.Sums.{IsUpTo};
 ghost use Rattle.vr_loads.specs.Kept.{AreTaken};
 ghost use Rattle.vr_loads.specs.Loads.{HasLoad, value_of};
 
+use vr_balance::Sums;
 use vr_model::Model as RoutingModel;
-use vr_sums::Sums;
 
 /// Writes what is taken along a list by an evaluator.
 pub fn write_sums(model: &RoutingModel, d: u32, evaluator: u32, list: &[u32], sums: &mut Sums)

@@ -14,7 +14,7 @@ use Rattle.vr_model.proofs.moves.Times.{at_least_two, times_of_distinct}
 use Rattle.vr_model.proofs.routes.Lists.{held_at}
 use Rattle.vr_model.proofs.tables.Members.{In}
 use Rattle.vr_model.proofs.tables.Tests.{clash, fails}
-use Rattle.vr_walks.specs.Spliced.{AreSeams, spliced}
+use Rattle.vr_reach.specs.Spliced.{AreSeams, spliced}
 use Rattle.vr_pathfilters.specs.declared.policies.counts.Counts.{Counts}
 use Rattle.vr_pathfilters.specs.Counted.{count_of, counts, no_counts, with_node, with_node_of}
 use Rattle.vr_pathfilters.specs.Turns.{deliveries_in, is_delivery, is_pickup, pickups_in}

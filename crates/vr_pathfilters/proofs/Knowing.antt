@@ -10,7 +10,7 @@ use Rattle.vr_model.specs.declared.records.Model.{Model}
 use Rattle.vr_reach.specs.Rows.{BothWays}
 use Rattle.vr_routes.specs.Pieces.{ListAfter, joined, changed, part_at}
 use Rattle.vr_model.proofs.routes.Lists.{route_set_same, route_set_other}
-use Rattle.vr_walks.specs.KnownRows.{AreRowsIfUsed}
+use Rattle.vr_reach.specs.KnownRows.{AreRowsIfUsed}
 use Rattle.vr_pathfilters.specs.Known.{AreKnown, with_part}
 
 module _ (model : Model) (d : ℕ) (lists : List (List ℕ)) where

@@ -20,8 +20,8 @@ use Rattle.vr_model.proofs.tables.Tests.{clash, eq_turned, fails, lt_of_test, or
 use Rattle.vr_lists.proofs.PlaceLemmas.{holds-place, place_of-within}
 use Rattle.vr_routes.specs.Seats.{IsSeat}
 use Rattle.vr_routes.proofs.SeatLemmas.{active_at}
-use Rattle.vr_walks.specs.Spliced.{spliced}
-use Rattle.vr_walks.proofs.Splicing.{at_front, at_middle, at_back, long}
+use Rattle.vr_reach.specs.Spliced.{spliced}
+use Rattle.vr_reach.proofs.Splicing.{at_front, at_middle, at_back, long}
 use Rattle.vr_pathfilters.proofs.PairsFound.{is_of, pair_found}
 use Rattle.vr_pathfilters.proofs.Places.{place_is}
 use Rattle.vr_pathfilters.specs.Pairs.{AreMarked, IsNewList, is_marked, serves_if_any, serves_node, serves_unmarked}

@@ -14,9 +14,9 @@ use Rattle.vr_routes.specs.Changes.{IsMadeOn, AreParts}
 use Rattle.vr_routes.specs.declared.pieces.Piece.{Piece}
 use Rattle.vr_routes.specs.Pieces.{ListAfter, IsWithin, joined, no_part, part_at}
 use Rattle.vr_balance.specs.Ends.{AreEnds}
-use Rattle.vr_walks.specs.Spliced.{AreSeams, spliced}
-use Rattle.vr_walks.specs.Lists.{IsTour}
-use Rattle.vr_walks.proofs.Splicing.{long}
+use Rattle.vr_reach.specs.Spliced.{AreSeams, spliced}
+use Rattle.vr_reach.specs.Lists.{IsTour}
+use Rattle.vr_reach.proofs.Splicing.{long}
 use Rattle.vr_pathfilters.specs.TourLists.{AreTours}
 use Rattle.vr_pathfilters.proofs.PartTours.{tour_of_part}
 

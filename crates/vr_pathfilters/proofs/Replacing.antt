@@ -17,8 +17,8 @@ use Rattle.vr_model.proofs.moves.Times.{all_held, all_of_held}
 use Rattle.vr_model.proofs.tables.Members.{In}
 use Rattle.vr_model.proofs.tables.Tests.{lt_of_test, same_tests, test_of_lt}
 use Rattle.vr_lists.proofs.PlaceLemmas.{holds-place}
-use Rattle.vr_walks.specs.Spliced.{AreSeams, spliced}
-use Rattle.vr_walks.proofs.Splicing.{long}
+use Rattle.vr_reach.specs.Spliced.{AreSeams, spliced}
+use Rattle.vr_reach.proofs.Splicing.{long}
 use Rattle.vr_pathfilters.specs.Turns.{deliveries_in, is_delivery, is_in_turn, is_pickup, pickups_in, takes_turns}
 use Rattle.vr_pathfilters.specs.Replaced.{Serves, TurnsAreBetween, comes_in_turn, is_in_turn_if_any, takes_turns_between}
 use Rattle.vr_pathfilters.proofs.Counting.{AreServed, count_lt, count_same}

@@ -9,8 +9,8 @@ use Rattle.vr_model.specs.routes.Routes.{holds, is_distinct}
 use Rattle.vr_model.specs.routes.Rules.{place_of}
 use Rattle.vr_model.proofs.routes.Lists.{held_at}
 use Rattle.vr_model.proofs.tables.Tests.{clash}
-use Rattle.vr_walks.specs.Spliced.{AreSeams, spliced}
-use Rattle.vr_walks.proofs.Splicing.{at_back, at_front, at_middle, long, shares_front}
+use Rattle.vr_reach.specs.Spliced.{AreSeams, spliced}
+use Rattle.vr_reach.proofs.Splicing.{at_back, at_front, at_middle, long, shares_front}
 use Rattle.vr_pathfilters.proofs.Counting.{once}
 use Rattle.vr_pathfilters.proofs.Places.{place_found, place_is}
 

@@ -21,8 +21,8 @@ use Rattle.vr_routes.specs.Pieces.{ListAfter, changed, joined, no_part, part_at}
 use Rattle.vr_routes.specs.Seats.{IsOnce}
 use Rattle.vr_routes.proofs.CommitLemmas.{as_many_lists}
 use Rattle.vr_routes.proofs.PartLemmas.{part_is, part_or_before}
-use Rattle.vr_walks.specs.Lists.{IsTour}
-use Rattle.vr_walks.specs.Spliced.{AreSeams, spliced}
+use Rattle.vr_reach.specs.Lists.{IsTour}
+use Rattle.vr_reach.specs.Spliced.{AreSeams, spliced}
 use Rattle.vr_pathfilters.specs.declared.policies.counts.Counts.{Counts}
 use Rattle.vr_pathfilters.specs.Counted.{AreCounted, asks_turns, count_of}
 use Rattle.vr_pathfilters.specs.Replaced.{Serves, takes_turns_between}

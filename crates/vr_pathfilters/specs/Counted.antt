@@ -6,7 +6,7 @@ use Rattle.vr_model.specs.declared.records.Model.{Model}
 use Rattle.vr_model.specs.declared.records.Pair.{Pair}
 use Rattle.vr_model.specs.declared.records.Policy.{Policy}
 use Rattle.vr_model.specs.declared.records.Policy.TheVariants.{Any, Lifo, Fifo}
-use Rattle.vr_walks.specs.Spliced.{AreSeams}
+use Rattle.vr_reach.specs.Spliced.{AreSeams}
 use Rattle.vr_pathfilters.specs.declared.policies.counts.Counts.{Counts}
 use Rattle.vr_pathfilters.specs.Turns.{deliveries_in, pickups_in}
 

@@ -6,10 +6,10 @@ use Rattle.vr_model.specs.routes.Routes.{route}
 use Rattle.vr_model.specs.tables.WellFormed.{IsWellFormed, WherePresent}
 use Rattle.vr_model.specs.declared.records.Model.{Model}
 use Rattle.vr_reach.specs.Rows.{BothWays}
-use Rattle.vr_walks.specs.KnownRows.{AreRowsIfUsed}
-use Rattle.vr_walks.specs.Lists.{is_feasible_list}
-use Rattle.vr_walks.specs.Stops.{AreStops}
-use Rattle.vr_walks.specs.declared.stops.Stops.{Stops}
+use Rattle.vr_reach.specs.KnownRows.{AreRowsIfUsed}
+use Rattle.vr_reach.specs.Lists.{is_feasible_list}
+use Rattle.vr_reach.specs.Stops.{AreStops}
+use Rattle.vr_reach.specs.declared.stops.Stops.{Stops}
 use Rattle.vr_routes.specs.Tours.{Tours}
 use Rattle.vr_routes.specs.Pieces.{ListAfter, joined, changed, part_at}
 use Rattle.vr_loads.specs.Loads.{is_load}

@@ -12,7 +12,7 @@ use Rattle.vr_pathfilters.specs.Counted.{AreCounted, asks_turns, count_of}
 use Rattle.vr_pathfilters.specs.declared.policies.counts.Counts.{Counts}
 use Rattle.vr_routes.specs.Seats.{IsOnce}
 use Rattle.vr_routes.specs.Tours.{Tours}
-use Rattle.vr_walks.specs.Spliced.{spliced, AreSeams}
+use Rattle.vr_reach.specs.Spliced.{spliced, AreSeams}
 use Rattle.vr_pathfilters.specs.TourLists.{AreTours}
 
 -- the tours are those of a well-formed model

@@ -8,7 +8,7 @@ use Rattle.vr_model.specs.routes.Rules.{serves_pair}
 use Rattle.vr_model.specs.declared.records.Model.{Model}
 use Rattle.vr_model.specs.declared.records.Pair.{Pair}
 use Rattle.vr_model.specs.declared.records.Policy.{Policy}
-use Rattle.vr_walks.specs.Spliced.{AreSeams, spliced}
+use Rattle.vr_reach.specs.Spliced.{AreSeams, spliced}
 use Rattle.vr_pathfilters.specs.Turns.{is_in_turn, takes_turns}
 
 -- a list, and other nodes in the place of a stretch of it

@@ -2,7 +2,7 @@
 use Rattle.std.specs.Prelude.{ℕ, List, sum_by}
 use Rattle.vr_model.specs.routes.Routes.{route, vehicles}
 use Rattle.vr_model.specs.declared.records.Model.{Model}
-use Rattle.vr_walks.specs.Tries.{list_tries}
+use Rattle.vr_reach.specs.Tries.{list_tries}
 
 -- how far they go for the lists after a change in dimension d
 abbrev pub tries_in : Model → ℕ → List (List ℕ) → List (List ℕ) → ℕ

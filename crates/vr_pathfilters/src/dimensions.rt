@@ -12,9 +12,9 @@ ghost use Rattle.vr_routes.specs.Changes.{IsMadeOn};
 ghost use Rattle.vr_routes.specs.Pieces.{ListAfter, changed, joined, part_at};
 ghost use Rattle.vr_routes.specs.Tours.{Tours};
 ghost use Rattle.vr_filter.specs.Filters.{after, IsSameRule, IsSameWeight, NothingReady};
-ghost use Rattle.vr_walks.specs.Lists.{is_feasible_list};
-ghost use Rattle.vr_walks.specs.Stops.{AreStops};
-ghost use Rattle.vr_walks.specs.Tries.{list_tries};
+ghost use Rattle.vr_reach.specs.Lists.{is_feasible_list};
+ghost use Rattle.vr_reach.specs.Stops.{AreStops};
+ghost use Rattle.vr_reach.specs.Tries.{list_tries};
 ghost use Rattle.vr_pathfilters.specs.Lists.{holds_of_each};
 ghost use Rattle.vr_pathfilters.specs.TourLists.{AreTours};
 ghost use Rattle.vr_pathfilters.specs.Known.{AreKnown, StandsAt, IsReady, AreRowsOfPart, with_part};
@@ -31,10 +31,9 @@ use vr_balance::strip;
 use vr_filter::PathFilter;
 use vr_loads::Loads;
 use vr_model::{Model, NoMemory, Steps};
-use vr_reach::{Rows, Walk};
+use vr_reach::{Rows, Stops, Walk, no_line, passes_along};
 use vr_routes::{Change, Routes, Row};
 use vr_steps::Line;
-use vr_walks::{Stops, no_line, passes_along};
 
 /// Lets a change pass where the line of each used vehicle in one dimension has a schedule afterwards (the path cumul
 /// filter of a `RoutingDimension` in OR-Tools). Of a load it keeps sums of the committed lists, and judges a change by

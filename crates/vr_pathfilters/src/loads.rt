@@ -4,7 +4,7 @@ ghost use Rattle.std.specs.Prelude.{◌≡◌, ◌<◌, ◌≤◌, ℕ, List, le
 ghost use Rattle.vr_model.specs.tables.WellFormed.{IsWellFormed, WherePresent};
 ghost use Rattle.vr_routes.specs.Changes.{IsMadeOn};
 ghost use Rattle.vr_routes.specs.Pieces.{changed, joined, part_at};
-ghost use Rattle.vr_walks.specs.Lists.{is_feasible_list};
+ghost use Rattle.vr_reach.specs.Lists.{is_feasible_list};
 ghost use Rattle.vr_loads.specs.Loads.{HasLoad, is_load as is_load_in};
 ghost use Rattle.vr_loads.specs.Kept.{AreCarried};
 ghost use Rattle.vr_pathfilters.specs.Lists.{holds_of_each};

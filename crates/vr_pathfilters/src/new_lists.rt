@@ -32,7 +32,7 @@ pub(crate) struct NewList<'a> {
 impl<'a> Model for NewList<'a> {
     ghost use Rattle.std.specs.Prelude.{ℕ, List};
     ghost use Rattle.vr_model.specs.routes.Routes.{route};
-    ghost use Rattle.vr_walks.specs.Spliced.{spliced};
+    ghost use Rattle.vr_reach.specs.Spliced.{spliced};
     ghost use Rattle.vr_pathfilters.specs.Replaced.{comes_in_turn, list_of};
     ghost use Rattle.vr_pathfilters.specs.Pairs.{IsNewList};
 

@@ -5,9 +5,9 @@
 ghost use Rattle.std.specs.Prelude.{◌≡◌, ◌+◌, ◌<◌, length, IfOk, OnOk, None};
 ghost use Rattle.vr_model.specs.tables.WellFormed.{IsWellFormed};
 ghost use Rattle.vr_routes.specs.Changes.{IsMadeOn};
-ghost use Rattle.vr_walks.specs.KnownRows.{AreRowsIfUsed};
-ghost use Rattle.vr_walks.specs.Lists.{IsTour};
-ghost use Rattle.vr_walks.specs.Stops.{AreStops};
+ghost use Rattle.vr_reach.specs.KnownRows.{AreRowsIfUsed};
+ghost use Rattle.vr_reach.specs.Lists.{IsTour};
+ghost use Rattle.vr_reach.specs.Stops.{AreStops};
 ghost use Rattle.vr_pathfilters.specs.TourLists.{AreTours};
 ghost use Rattle.vr_pathfilters.specs.Known.{AreRowsOfPart, KnowsRows};
 
@@ -15,10 +15,9 @@ use std::alloc::Global;
 use std::sync::ledger::{Blank, Ledger};
 use vr_loads::Loads;
 use vr_model::{Model, NoMemory, Steps};
-use vr_reach::Rows;
+use vr_reach::{Rows, Stops, write_rows};
 use vr_routes::{Change, Routes, Row};
 use vr_steps::Line;
-use vr_walks::{Stops, write_rows};
 
 // Writes the rows of vehicle `v` with a list over others, where the list is not empty, and counts it. After `NoMemory`
 // nothing is said of the rows.

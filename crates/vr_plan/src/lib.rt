@@ -3,18 +3,30 @@
 //! Each stop in turn is settled at the least cumul that is reached there and from which the end is reached. The line
 //! that allows the settled cumuls alone keeps the same chosen schedule, which is what its proof carries from stop to
 //! stop. The tight schedule is found in the same way, where the end of the line was first narrowed to its least cumul
-//! and then the start to its greatest. `vr_timings` asks for cumuls, and `vr_print` for whole schedules.
+//! and then the start to its greatest. `vr_plan` asks for cumuls, and `vr_print` for whole schedules.
+//!
+//! FROM vr_plan
+//! What the chosen schedule of one list comes to in one dimension, whether anything may be to pay for it, and from
+//! where to where the schedules of several lists reach.
 #![tactic(auto)]
 
 mod choosers;
 mod cumuls;
 mod ends;
+mod extents;
 mod narrow;
+mod paying;
 mod plans;
 mod schedules;
 mod starts;
+mod tables;
+mod timings;
 
 pub use choosers::Chooser;
+pub use extents::{Extent, global_cost, wider};
 pub use narrow::{pin, same_line};
+pub use paying::may_pay_alone;
 pub use plans::Plan;
 pub use schedules::{chosen_cumuls, schedule, schedule_over};
+pub use tables::{KnownDimension, Table, row_of, tables_of};
+pub use timings::{Timer, Timing, row_cost, span_cost, times, timing_of};

@@ -12,11 +12,11 @@ use Rattle.vr_model.specs.routes.Costs.{start_at, end_at, assigned, soft_costs, 
 use Rattle.vr_model.specs.schedules.Schedules.{cumul}
 use Rattle.vr_model.proofs.tables.Totals.{total_by-more, total_by-turned}
 use Rattle.vr_model.proofs.routes.Lists.{are_lists-count}
-use Rattle.vr_timings.specs.Bounds.{cumul_cost, IsAround}
-use Rattle.vr_timings.specs.Extents.{global_in, length_of}
-use Rattle.vr_timings.specs.Timings.{soft_of, soft_with, span_with}
-use Rattle.vr_timings.proofs.ExtentLemmas.{global-cost}
-use Rattle.vr_timings.proofs.PlanLemmas.{plan-at, total_by-within, used-all}
+use Rattle.vr_plan.specs.Bounds.{cumul_cost, IsAround}
+use Rattle.vr_plan.specs.Extents.{global_in, length_of}
+use Rattle.vr_plan.specs.Timings.{soft_of, soft_with, span_with}
+use Rattle.vr_plan.proofs.ExtentLemmas.{global-cost}
+use Rattle.vr_plan.proofs.PlanCostLemmas.{plan-at, total_by-within, used-all}
 use Rattle.vr_rules.specs.Sums.{AreSums}
 use Rattle.vr_rules.specs.Parts.{soft_in, span_in, AreTimed}
 use Rattle.vr_rules.specs.declared.sums.Sums.{Sums}

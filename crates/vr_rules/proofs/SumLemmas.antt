@@ -14,14 +14,14 @@ use Rattle.vr_model.specs.routes.Routes.{route, is_empty, is_distinct, are_lists
 use Rattle.vr_model.specs.deciding.Testing.{and_left, and_right}
 use Rattle.vr_model.proofs.tables.Tests.{or-false_left, or-false_right}
 use Rattle.vr_model.proofs.tables.Totals.{total_by-append}
-use Rattle.vr_timings.specs.Bounds.{cumul_cost, IsAround}
-use Rattle.vr_timings.specs.Paying.{may_pay_alone}
-use Rattle.vr_timings.specs.Timings.{soft_with, start_with, last_with, span_with, IsTiming, IsTimingOf}
-use Rattle.vr_timings.specs.Extents.{used_below, IsExtent, IsExtentInRange, IsWider}
-use Rattle.vr_timings.specs.declared.timings.Timing.{Timing}
-use Rattle.vr_timings.specs.declared.extents.Extent.{Extent}
-use Rattle.vr_timings.proofs.ExtentLemmas.{used_below-same, used_below-push, times-none, extent-range, extent-wider}
-use Rattle.vr_timings.proofs.PayingLemmas.{pays_nothing_where, zero_where}
+use Rattle.vr_plan.specs.Bounds.{cumul_cost, IsAround}
+use Rattle.vr_plan.specs.Paying.{may_pay_alone}
+use Rattle.vr_plan.specs.Timings.{soft_with, start_with, last_with, span_with, IsTiming, IsTimingOf}
+use Rattle.vr_plan.specs.Extents.{used_below, IsExtent, IsExtentInRange, IsWider}
+use Rattle.vr_plan.specs.declared.timings.Timing.{Timing}
+use Rattle.vr_plan.specs.declared.extents.Extent.{Extent}
+use Rattle.vr_plan.proofs.ExtentLemmas.{used_below-same, used_below-push, times-none, extent-range, extent-wider}
+use Rattle.vr_plan.proofs.PayingLemmas.{pays_nothing_where, zero_where}
 use Rattle.vr_rules.specs.Sums.{may_pay, AreSums, PaysNothingToo}
 use Rattle.vr_rules.specs.declared.sums.Sums.{Sums}
 use Rattle.vr_lists.proofs.VisitLists.{visits-few}

@@ -2,8 +2,8 @@
 use Rattle.std.specs.Prelude.{◌≡◌, List}
 use Rattle.vr_model.specs.tables.WellFormed.{IsWellFormed}
 use Rattle.vr_model.specs.declared.records.Model.{Model}
-use Rattle.vr_timings.specs.Tables.{AreTables}
-use Rattle.vr_timings.specs.declared.tables.Table.{Table}
+use Rattle.vr_plan.specs.Tables.{AreTables}
+use Rattle.vr_plan.specs.declared.tables.Table.{Table}
 
 -- the model is well formed, the tables are those of its dimensions, and what was looked up of nodes is of the model
 pub record AreOpened (model : Model) (tables : List Table) (looked_up : Model) : Type 0 where

@@ -3,9 +3,9 @@ use Rattle.std.specs.Prelude.{◌≡◌, ℕ, ◌*◌, List, ℤ, pos, ◌≤ℤ
 use Rattle.vr_model.specs.tables.Numbers.{total_by, below}
 use Rattle.vr_model.specs.routes.Routes.{route, used_vehicles}
 use Rattle.vr_model.specs.declared.records.Model.{Model}
-use Rattle.vr_timings.specs.Bounds.{cumul_cost, IsAround}
-use Rattle.vr_timings.specs.Extents.{global_in}
-use Rattle.vr_timings.specs.Timings.{soft_with, span_with}
+use Rattle.vr_plan.specs.Bounds.{cumul_cost, IsAround}
+use Rattle.vr_plan.specs.Extents.{global_in}
+use Rattle.vr_plan.specs.Timings.{soft_with, span_with}
 use Rattle.vr_rules.specs.declared.parts.Timed.{Timed}
 
 -- what a dimension costs by soft upper bounds, and by spans

@@ -7,10 +7,10 @@ use Rattle.vr_model.specs.tables.Tables.{dimension_at}
 use Rattle.vr_model.specs.routes.Routes.{route}
 use Rattle.vr_model.specs.declared.records.Model.{Model}
 use Rattle.vr_model.specs.declared.records.Dimension.{Dimension}
-use Rattle.vr_timings.specs.Bounds.{cumul_cost, IsAround}
-use Rattle.vr_timings.specs.Extents.{used_below, IsExtent, IsExtentInRange}
-use Rattle.vr_timings.specs.Paying.{may_pay_alone, PaysNothing}
-use Rattle.vr_timings.specs.Timings.{soft_with, span_with}
+use Rattle.vr_plan.specs.Bounds.{cumul_cost, IsAround}
+use Rattle.vr_plan.specs.Extents.{used_below, IsExtent, IsExtentInRange}
+use Rattle.vr_plan.specs.Paying.{may_pay_alone, PaysNothing}
+use Rattle.vr_plan.specs.Timings.{soft_with, span_with}
 use Rattle.vr_rules.specs.declared.sums.Sums.{Sums}
 
 -- the sums over the used ones of the first n vehicles in dimension d; the extent is told where its coefficient is not 0

@@ -7,15 +7,15 @@ ghost use Rattle.vr_model.specs.routes.Rules.{is_valid};
 ghost use Rattle.vr_model.specs.tables.WellFormed.{IsWellFormed};
 ghost use Rattle.vr_rules.specs.Parts.{AreTimed};
 ghost use Rattle.vr_rules.specs.Placing.{AreMarks};
-ghost use Rattle.vr_timings.specs.Tables.{AreTables, IsTable};
+ghost use Rattle.vr_plan.specs.Tables.{AreTables, IsTable};
 ghost use Rattle.vr_rules.specs.Totals.{HasTotal};
 
 use crate::costs::{arcs_of_routes, fixed_of_routes};
 use crate::penalties::penalty_of_groups;
 use crate::sums::sums_of;
 use vr_model::{Model, NoMemory, Parts};
+use vr_plan::{Table, Timer, global_cost};
 use vr_routes::Routes;
-use vr_timings::{Table, Timer, global_cost};
 
 // What the chosen schedules of routes cost in all dimensions.
 #[derive(Clone, Copy)]

@@ -7,14 +7,13 @@ ghost use Rattle.vr_model.specs.routes.Routes.{is_distinct};
 ghost use Rattle.vr_model.specs.tables.WellFormed.{IsWellFormed};
 ghost use Rattle.vr_model.specs.routes.Rules.{is_route_open as is_route_open_of};
 ghost use Rattle.vr_rules.specs.RoutesOpen.{is_feasible_in_each as is_feasible_in_each_of};
-ghost use Rattle.vr_timings.specs.Tables.{AreTables};
+ghost use Rattle.vr_plan.specs.Tables.{AreTables};
 
 use std::alloc::Global;
 use vr_lists::{NodeTables, PairPlaces, keeps_pairs};
 use vr_model::{Model, NoMemory};
-use vr_reach::Walk;
-use vr_timings::Table;
-use vr_walks::goes_through;
+use vr_plan::Table;
+use vr_reach::{Walk, goes_through};
 
 /// What is written over while routes are driven.
 #[derive(Drop)]

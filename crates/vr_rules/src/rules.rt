@@ -19,8 +19,8 @@ use std::alloc::Global;
 use std::marker::Model;
 use vr_lists::NodeTables;
 use vr_model::{Model as RoutingModel, NoMemory, Parts};
+use vr_plan::{Table, Timer, tables_of};
 use vr_routes::Routes;
-use vr_timings::{Table, Timer, tables_of};
 
 /// The rules of a model, ready to be asked of any lists. Contracts see the model, which no call changes.
 ///

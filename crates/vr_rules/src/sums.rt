@@ -7,15 +7,15 @@ ghost use Rattle.vr_model.specs.tables.Numbers.{number_at};
 ghost use Rattle.vr_model.specs.tables.Tables.{dimension_at, is_visit};
 ghost use Rattle.vr_model.specs.tables.WellFormed.{IsIn, IsWellFormed};
 ghost use Rattle.vr_model.specs.routes.Routes.{are_lists};
-ghost use Rattle.vr_timings.specs.Bounds.{cumul_cost, IsAround};
-ghost use Rattle.vr_timings.specs.Extents.{IsWider};
-ghost use Rattle.vr_timings.specs.Tables.{IsTable};
-ghost use Rattle.vr_timings.specs.Timings.{IsTimingOf};
+ghost use Rattle.vr_plan.specs.Bounds.{cumul_cost, IsAround};
+ghost use Rattle.vr_plan.specs.Extents.{IsWider};
+ghost use Rattle.vr_plan.specs.Tables.{IsTable};
+ghost use Rattle.vr_plan.specs.Timings.{IsTimingOf};
 ghost use Rattle.vr_rules.specs.Sums.{may_pay, AreSums};
 
 use vr_model::{Dimension, Model, NoMemory};
+use vr_plan::{Extent, Table, Timer, Timing, may_pay_alone, span_cost, timing_of, wider};
 use vr_routes::Routes;
-use vr_timings::{Extent, Table, Timer, Timing, may_pay_alone, span_cost, timing_of, wider};
 
 // What soft upper bounds and spans cost, and the extent of the routes that may pay, `None` where none does. It is that
 // of all routes where the coefficient of the global span is not 0, and asked for only then.

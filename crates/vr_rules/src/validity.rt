@@ -7,14 +7,14 @@ ghost use Rattle.vr_model.specs.routes.Rules.{is_open as is_open_of, is_valid as
 ghost use Rattle.vr_model.specs.tables.WellFormed.{IsWellFormed};
 ghost use Rattle.vr_rules.specs.Placing.{fits_by, AreMarks};
 ghost use Rattle.vr_rules.specs.RoutesOpen.{are_routes_open as are_routes_open_of};
-ghost use Rattle.vr_timings.specs.Tables.{AreTables};
+ghost use Rattle.vr_plan.specs.Tables.{AreTables};
 
 use crate::complete::{is_complete, marked};
 use crate::routes_open::{Driving, is_route_open};
 use vr_lists::NodeTables;
 use vr_model::{Group, Model, NoMemory};
+use vr_plan::Table;
 use vr_routes::Routes;
-use vr_timings::Table;
 
 // Whether each vehicle may drive its list.
 fn are_routes_open(

@@ -11,7 +11,7 @@ use Rattle.vr_model.specs.schedules.Choices.{is_feasible}
 use Rattle.vr_model.specs.declared.records.Model.{Model}
 use Rattle.vr_lists.specs.Pairs.{keeps_pairs}
 use Rattle.vr_lists.proofs.PairLemmas.{keeps-open}
-use Rattle.vr_walks.specs.Lists.{is_feasible_list}
+use Rattle.vr_reach.specs.Lists.{is_feasible_list}
 use Rattle.vr_pathfilters.specs.Groups.{keeps_groups}
 use Rattle.vr_pathfilters.specs.Vehicles.{is_allowed_list}
 use Rattle.vr_pathfilters.specs.Lists.{holds_of_each}

@@ -2,21 +2,21 @@
 //! for; so it is by what is kept once a change is committed. The schedules of tight vehicles are told too.
 
 ghost use Rattle.std.specs.Prelude.{◌≡◌, ◌<◌, IsTrue, OnOk, length};
-ghost use Rattle.vr_cumuls.specs.Kept.{AreAllKept};
+ghost use Rattle.vr_costfilter.specs.Kept.{AreAllKept};
 ghost use Rattle.vr_model.specs.routes.Rules.{is_valid};
 ghost use Rattle.vr_model.specs.tables.Tables.{visits};
 ghost use Rattle.vr_model.specs.tables.WellFormed.{IsWellFormed};
 ghost use Rattle.vr_routes.specs.Changes.{IsMadeOn};
 ghost use Rattle.vr_routes.specs.Pieces.{changed};
-ghost use Rattle.vr_timings.specs.Tables.{AreTables};
+ghost use Rattle.vr_plan.specs.Tables.{AreTables};
 
 use crate::models::{LATE, LATE_TIGHT, LATE_TIGHT_FREE};
 use crate::rows::{Asks, Row, assert_rows, stays_valid};
 use std::alloc::Global;
-use vr_cumuls::{AllCumuls, Paid, Trail};
+use vr_costfilter::{AllCumuls, Paid, Trail};
 use vr_model::{Model, Move, NoMemory};
+use vr_plan::{KnownDimension, Table, tables_of};
 use vr_routes::{Change, Piece, Routes};
-use vr_timings::{KnownDimension, Table, tables_of};
 
 // Whether what is kept tells, in the first dimension, what the first list of a change comes to. An empty list has
 // nothing to tell.

@@ -17,7 +17,7 @@ use crate::tabus::{self, Tabus};
 use crate::{kept, stopped};
 use std::alloc::Global;
 use std::process::Abort;
-use vr_cumuls::Paid;
+use vr_costfilter::Paid;
 use vr_model::{Model, Move, NoMemory};
 use vr_routes::{Change, Routes};
 use vr_rules::valid;

@@ -16,7 +16,7 @@ use Rattle.vr_model.specs.declared.neighbours.Move.{Move}
 use Rattle.vr_routes.specs.Pieces.{nodes_of}
 use Rattle.vr_routes.specs.Tours.{Tours}
 use Rattle.vr_routes.specs.declared.pieces.Piece.{Piece}
-use Rattle.vr_sums.specs.Sums.{IsUpTo}
+use Rattle.vr_balance.specs.Sums.{IsUpTo}
 
 -- what an active node of a group saves
 abbrev pub pay : Option ℤ → ℕ

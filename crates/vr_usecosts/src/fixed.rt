@@ -13,7 +13,7 @@ ghost use Rattle.vr_parts.specs.Parts.{CostAlike, NothingReady};
 ghost use Rattle.vr_usecosts.specs.Fixed as fixed_costs;
 ghost use Rattle.vr_usecosts.specs.Fixed.{fixed_with, StandsFixed};
 ghost use Rattle.vr_parts.specs.Bounds.{IsAddedByChange};
-ghost use Rattle.vr_sums.specs.Sums.{IsUpTo};
+ghost use Rattle.vr_balance.specs.Sums.{IsUpTo};
 
 use std::marker::Model;
 use vr_model::{Model as RoutingModel, NoMemory};

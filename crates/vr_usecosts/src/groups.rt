@@ -15,7 +15,7 @@ ghost use Rattle.vr_routes.specs.Pieces.{changed, nodes_of, IsWithin};
 ghost use Rattle.vr_routes.specs.Runs.{with_last};
 ghost use Rattle.vr_parts.specs.Bounds.{IsAddedByChange};
 ghost use Rattle.vr_parts.specs.Parts.{CostAlike, NothingReady};
-ghost use Rattle.vr_sums.specs.Sums.{IsUpTo};
+ghost use Rattle.vr_balance.specs.Sums.{IsUpTo};
 ghost use Rattle.vr_usecosts.specs.Groups as penalties_of;
 ghost use Rattle.vr_usecosts.specs.Groups.{pay, saved_by, saved_in as saved_in_of, AreSaved, AreFew};
 ghost use Rattle.vr_usecosts.specs.Groups.{IsForNodes, IsForPieces, Saves, StandsGroups};

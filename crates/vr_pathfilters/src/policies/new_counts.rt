@@ -1,7 +1,7 @@
 //! What is counted in a list with other nodes in the place of a stretch, and whether its pairs come in turn.
 
 ghost use Rattle.std.specs.Prelude.{◌≡◌, ◌+◌, ◌<◌, ◌≤◌, ◌^◌, length, take};
-ghost use Rattle.vr_walks.specs.Spliced.{AreSeams, spliced};
+ghost use Rattle.vr_reach.specs.Spliced.{AreSeams, spliced};
 ghost use Rattle.vr_pathfilters.specs.Counted.{counts, AreCounted, IsOfThreeLists};
 ghost use Rattle.vr_pathfilters.specs.Turns.{are_in_turn as are_in_turn_in};
 ghost use Rattle.vr_pathfilters.specs.Replaced.{list_of};

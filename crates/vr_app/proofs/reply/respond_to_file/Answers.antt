@@ -1,8 +1,8 @@
 use Rattle.std.proofs.Common.{ℕ, List, sym, ap, subst, Err}
-use Rattle.vr_replies.specs.Answers.{AnswersReply}
-use Rattle.vr_replies.specs.Reply.{Reply, reply_to_file}
-use Rattle.vr_replies.proofs.FileLemmas.{file-long, file-short}
-use Rattle.vr_replies.proofs.InputLemmas.{long-gave}
+use Rattle.vr_app.specs.Answers.{AnswersReply}
+use Rattle.vr_app.specs.Reply.{Reply, reply_to_file}
+use Rattle.vr_app.proofs.FileLemmas.{file-long, file-short}
+use Rattle.vr_app.proofs.InputLemmas.{long-gave}
 use Rattle.vr_app.proofs.reply.respond_to_file.Goals as goal
 
 pub returns-in_ok-too_long-in-Err-TooLong-clause-reply : goal.returns-in_ok-too_long-in-Err-TooLong-clause-reply

@@ -1,7 +1,7 @@
 use Rattle.std.proofs.Common.{sym, ap, subst, Err}
-use Rattle.vr_replies.specs.Answers.{AnswersReply}
-use Rattle.vr_replies.specs.Reply.{Reply}
-use Rattle.vr_replies.proofs.InputLemmas.{long-gave, reply-long}
+use Rattle.vr_app.specs.Answers.{AnswersReply}
+use Rattle.vr_app.specs.Reply.{Reply}
+use Rattle.vr_app.proofs.InputLemmas.{long-gave, reply-long}
 use Rattle.vr_app.proofs.reply.respond_to_input.Goals as goal
 
 pub returns-in_ok-too_long-in-Err-TooLong-clause-reply : goal.returns-in_ok-too_long-in-Err-TooLong-clause-reply

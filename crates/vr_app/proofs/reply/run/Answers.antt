@@ -1,5 +1,5 @@
 use Rattle.std.proofs.Common.{inl, inr}
-use Rattle.vr_replies.proofs.RunLemmas as run
+use Rattle.vr_app.proofs.RunLemmas as run
 use Rattle.vr_app.proofs.reply.run.Goals as goal
 
 pub returns-clause-reply : goal.returns-clause-reply

@@ -1,8 +1,8 @@
 use Rattle.std.proofs.Common.{sym, subst}
 use Rattle.std.specs.Prelude.{OnOk}
 use Rattle.vr_watch.specs.Told.{Told}
-use Rattle.vr_replies.specs.Found.{searched}
-use Rattle.vr_replies.specs.declared.words.Mode.{Mode}
+use Rattle.vr_app.specs.Found.{searched}
+use Rattle.vr_app.specs.declared.words.Mode.{Mode}
 use Rattle.vr_app.proofs.search.search.Goals as goal
 
 pub returns-in-Log-clause-told : goal.returns-in-Log-clause-told

@@ -1,6 +1,6 @@
 use Rattle.std.proofs.Common.{◌∙◌, ap, sym}
 use Rattle.vr_rules.specs.Placing.{lists_in}
-use Rattle.vr_replies.proofs.SolutionLemmas.{first_lists-valid}
+use Rattle.vr_app.proofs.SolutionLemmas.{first_lists-valid}
 use Rattle.vr_app.proofs.tests.is_searched.Goals as goal
 
 pub search_from-requires-clause-valid : goal.search_from-requires-clause-valid

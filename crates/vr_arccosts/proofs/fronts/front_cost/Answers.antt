@@ -3,7 +3,7 @@ use Rattle.std.proofs.lemmas.Int.{ints}
 use Rattle.std.specs.Prelude.{slice_index_or}
 use Rattle.vr_model.specs.tables.Tables.{arc_cost, vehicle_at}
 use Rattle.vr_model.specs.declared.records.Model.{Model}
-use Rattle.vr_sums.specs.Sums.{path_sum}
+use Rattle.vr_balance.specs.Sums.{path_sum}
 use Rattle.vr_arccosts.specs.Chains.{chain_sum}
 use Rattle.vr_arccosts.proofs.CrossLemmas.{front-sum}
 use Rattle.vr_arccosts.proofs.fronts.front_cost.Goals as goal

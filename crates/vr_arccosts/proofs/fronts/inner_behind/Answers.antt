@@ -4,7 +4,7 @@ use Rattle.std.proofs.lemmas.List.{take_all}
 use Rattle.std.specs.Prelude.{All}
 use Rattle.vr_model.specs.tables.Tables.{arc_cost}
 use Rattle.vr_model.specs.declared.records.Model.{Model}
-use Rattle.vr_sums.specs.Sums.{IsUpTo}
+use Rattle.vr_balance.specs.Sums.{IsUpTo}
 use Rattle.vr_arccosts.specs.Chains.{chain_sum, turned}
 use Rattle.vr_arccosts.proofs.ChainLemmas.{chain-next, costs-of, so-far}
 use Rattle.vr_arccosts.proofs.fronts.inner_behind.Goals as goal

@@ -3,8 +3,8 @@ use Rattle.std.proofs.lemmas.Int.{ints}
 use Rattle.std.specs.Prelude.{slice_range, All}
 use Rattle.vr_model.specs.tables.Tables.{arc_cost, vehicle_at, no_vehicle}
 use Rattle.vr_model.specs.routes.Routes.{route}
-use Rattle.vr_sums.specs.Sums.{IsUpTo}
-use Rattle.vr_sums.proofs.Paths.{read-up}
+use Rattle.vr_balance.specs.Sums.{IsUpTo}
+use Rattle.vr_balance.proofs.Paths.{read-up}
 use Rattle.vr_arccosts.specs.Chains.{chain_of, chain_sum, turned}
 use Rattle.vr_arccosts.proofs.ChainLemmas.{same-costs, up-to-few}
 use Rattle.vr_arccosts.proofs.LineLemmas.{along-at, few-along}

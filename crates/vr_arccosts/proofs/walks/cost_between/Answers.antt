@@ -4,7 +4,7 @@ use Rattle.std.specs.Prelude.{pos, ◌+ℤ◌}
 use Rattle.vr_model.specs.tables.Tables.{arc_cost, vehicle_at}
 use Rattle.vr_model.specs.routes.Routes.{route}
 use Rattle.vr_routes.specs.Pieces.{joined}
-use Rattle.vr_sums.specs.Sums.{last_of, path_sum}
+use Rattle.vr_balance.specs.Sums.{last_of, path_sum}
 use Rattle.vr_arccosts.specs.Chains.{first_of}
 use Rattle.vr_arccosts.proofs.walks.cost_between.Goals as goal
 

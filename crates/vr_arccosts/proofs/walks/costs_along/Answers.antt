@@ -2,7 +2,7 @@ use Rattle.std.proofs.Common.{◌∙◌, ap, sym, subst, arith}
 use Rattle.std.proofs.lemmas.Int.{ints}
 use Rattle.std.proofs.lemmas.List.{take_all}
 use Rattle.vr_model.specs.tables.Tables.{arc_cost}
-use Rattle.vr_sums.specs.Sums.{IsUpTo}
+use Rattle.vr_balance.specs.Sums.{IsUpTo}
 use Rattle.vr_arccosts.specs.Chains.{chain_sum, turned}
 use Rattle.vr_arccosts.proofs.ChainLemmas.{chain-one, chain-next, costs-of, so-far, up-to-few}
 use Rattle.vr_arccosts.proofs.walks.costs_along.Goals as goal

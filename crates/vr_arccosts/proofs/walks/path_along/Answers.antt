@@ -6,8 +6,8 @@ use Rattle.vr_model.specs.tables.Tables.{arc_cost}
 use Rattle.vr_routes.specs.declared.pieces.Piece.{Piece}
 use Rattle.vr_routes.specs.declared.pieces.Piece.TheVariants.{Chain}
 use Rattle.vr_routes.specs.Pieces.{joined, nodes_of}
-use Rattle.vr_sums.specs.Sums.{path_sum, last_of, IsUpTo}
-use Rattle.vr_sums.proofs.Paths.{path-append, last-append}
+use Rattle.vr_balance.specs.Sums.{path_sum, last_of, IsUpTo}
+use Rattle.vr_balance.proofs.Paths.{path-append, last-append}
 use Rattle.vr_routes.proofs.JoinedPieces.{joined_next, all_so_far, all_at}
 use Rattle.vr_arccosts.proofs.ChainLemmas.{last-below}
 use Rattle.vr_arccosts.proofs.walks.path_along.Goals as goal

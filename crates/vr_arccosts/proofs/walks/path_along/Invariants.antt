@@ -1,7 +1,7 @@
 use Rattle.std.proofs.Common.{◌≡◌, ◌*◌, take}
 use Rattle.vr_model.specs.tables.Tables.{arc_cost}
 use Rattle.vr_routes.specs.Pieces.{joined}
-use Rattle.vr_sums.specs.Sums.{path_sum, last_of, IsUpTo}
+use Rattle.vr_balance.specs.Sums.{path_sum, last_of, IsUpTo}
 use Rattle.vr_arccosts.proofs.walks.path_along.Given as goal
 
 abbrev pub invariant-loop-k : goal.invariant-loop-k

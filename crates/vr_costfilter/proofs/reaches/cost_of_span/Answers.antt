@@ -3,10 +3,10 @@ use Rattle.std.proofs.lemmas.Int.{ints}
 use Rattle.std.specs.Prelude.{pos, ◌*ℤ◌}
 use Rattle.vr_model.specs.tables.Tables.{dimension_at, no_dimension}
 use Rattle.vr_model.specs.tables.WellFormed.{IsIn}
-use Rattle.vr_timings.specs.Bounds.{cumul_cost}
-use Rattle.vr_timings.specs.Extents.{length_of}
-use Rattle.vr_timings.proofs.BoundLemmas.{read-around}
-use Rattle.vr_timings.proofs.ExtentLemmas.{times-none}
+use Rattle.vr_plan.specs.Bounds.{cumul_cost}
+use Rattle.vr_plan.specs.Extents.{length_of}
+use Rattle.vr_plan.proofs.BoundLemmas.{read-around}
+use Rattle.vr_plan.proofs.ExtentLemmas.{times-none}
 use Rattle.vr_costfilter.specs.GlobalCosts.{extent_after}
 use Rattle.vr_costfilter.proofs.reaches.cost_of_span.Goals as goal
 

@@ -4,7 +4,7 @@ use Rattle.std.proofs.lemmas.List.{get_or_default}
 use Rattle.std.specs.Prelude.{◌*ℤ◌}
 use Rattle.vr_model.specs.tables.Tables.{dimension_at}
 use Rattle.vr_model.proofs.tables.Totals.{total_by-more}
-use Rattle.vr_timings.specs.Extents.{length_of}
+use Rattle.vr_plan.specs.Extents.{length_of}
 use Rattle.vr_costfilter.specs.declared.orders.Orders.{Orders}
 use Rattle.vr_costfilter.specs.GlobalCosts.{extent_after, no_orders, span_cost_after}
 use Rattle.vr_costfilter.proofs.reaches.cost_of_spans.Goals as goal

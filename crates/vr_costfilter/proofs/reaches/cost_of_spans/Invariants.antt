@@ -1,6 +1,6 @@
 use Rattle.std.proofs.Common.{◌≡◌, ◌*◌}
 use Rattle.vr_model.specs.tables.Numbers.{total_by, below}
-use Rattle.vr_timings.specs.Bounds.{cumul_cost, IsAround}
+use Rattle.vr_plan.specs.Bounds.{cumul_cost, IsAround}
 use Rattle.vr_costfilter.specs.GlobalCosts.{span_cost_after}
 use Rattle.vr_costfilter.proofs.reaches.cost_of_spans.Given as goal
 

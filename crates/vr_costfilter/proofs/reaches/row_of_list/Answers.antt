@@ -2,8 +2,8 @@ use Rattle.std.proofs.Common.{◌≡◌, ◌∙◌, List, Option, None, sym, sub
 use Rattle.std.proofs.lemmas.Bool.{cases_lt}
 use Rattle.std.proofs.lemmas.List.{get_or-set_other, get_or-set_same, length-set}
 use Rattle.std.specs.Prelude.{slice_index_or, slice_set}
-use Rattle.vr_timings.specs.declared.timings.Timing.{Timing}
-use Rattle.vr_timings.proofs.TableLemmas.{table_at}
+use Rattle.vr_plan.specs.declared.timings.Timing.{Timing}
+use Rattle.vr_plan.proofs.TableLemmas.{table_at}
 use Rattle.vr_costfilter.specs.GlobalCosts.{IsToldIfPaid}
 use Rattle.vr_costfilter.proofs.reaches.row_of_list.Goals as goal
 

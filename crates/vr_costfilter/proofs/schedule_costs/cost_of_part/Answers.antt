@@ -3,8 +3,8 @@ use Rattle.std.proofs.lemmas.Int.{ints}
 use Rattle.std.specs.Prelude.{ℤ, ◌+ℤ◌, cond, pos}
 use Rattle.vr_model.specs.tables.Numbers.{total_by, below}
 use Rattle.vr_model.proofs.tables.Totals.{total_by-more}
-use Rattle.vr_timings.specs.Timings.{soft_with, span_with}
-use Rattle.vr_timings.proofs.TableLemmas.{table_at}
+use Rattle.vr_plan.specs.Timings.{soft_with, span_with}
+use Rattle.vr_plan.proofs.TableLemmas.{table_at}
 use Rattle.vr_routes.specs.Pieces.{joined, part_at}
 use Rattle.vr_costfilter.proofs.schedule_costs.cost_of_part.Goals as goal
 

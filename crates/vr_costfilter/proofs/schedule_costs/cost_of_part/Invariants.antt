@@ -2,7 +2,7 @@ use Rattle.std.proofs.Common.{◌≡◌, ◌*◌}
 use Rattle.std.specs.Prelude.{◌+ℤ◌}
 use Rattle.vr_model.specs.tables.Numbers.{total_by, below}
 use Rattle.vr_routes.specs.Pieces.{joined, part_at}
-use Rattle.vr_timings.specs.Timings.{soft_with, span_with}
+use Rattle.vr_plan.specs.Timings.{soft_with, span_with}
 use Rattle.vr_costfilter.specs.PlanCosts.{IsFrom}
 use Rattle.vr_costfilter.specs.PlanCosts.{plan_paid, plan_saved}
 use Rattle.vr_costfilter.proofs.schedule_costs.cost_of_part.Given as goal

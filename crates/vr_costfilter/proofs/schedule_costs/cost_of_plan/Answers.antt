@@ -3,9 +3,9 @@ use Rattle.std.proofs.lemmas.Int.{ints}
 use Rattle.std.specs.Prelude.{◌-ℤ◌}
 use Rattle.vr_model.specs.tables.Numbers.{number_at}
 use Rattle.vr_model.specs.tables.Tables.{dimension_at}
-use Rattle.vr_timings.specs.Timings.{last_with, plan_of, start_with}
-use Rattle.vr_timings.proofs.ExtentLemmas.{times-none}
-use Rattle.vr_timings.proofs.PayingLemmas.{pays_nothing_where}
+use Rattle.vr_plan.specs.Timings.{last_with, plan_of, start_with}
+use Rattle.vr_plan.proofs.ExtentLemmas.{times-none}
+use Rattle.vr_plan.proofs.PayingLemmas.{pays_nothing_where}
 use Rattle.vr_costfilter.proofs.ScheduleLemmas.{timed-cost, timing-more}
 use Rattle.vr_costfilter.proofs.schedule_costs.cost_of_plan.Goals as goal
 

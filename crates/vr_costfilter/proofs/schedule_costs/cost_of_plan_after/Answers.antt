@@ -6,8 +6,8 @@ use Rattle.vr_model.specs.tables.Numbers.{number_at}
 use Rattle.vr_model.specs.tables.Tables.{dimension_at, is_visit}
 use Rattle.vr_model.specs.routes.Routes.{is_distinct}
 use Rattle.vr_routes.specs.Pieces.{joined, part_at}
-use Rattle.vr_timings.specs.Timings.{last_with, plan_of, soft_with, span_with, start_with}
-use Rattle.vr_timings.proofs.ExtentLemmas.{times-none}
+use Rattle.vr_plan.specs.Timings.{last_with, plan_of, soft_with, span_with, start_with}
+use Rattle.vr_plan.proofs.ExtentLemmas.{times-none}
 use Rattle.vr_parts.proofs.PartLemmas.{is-part, known-vehicle}
 use Rattle.vr_costfilter.proofs.ScheduleLemmas.{timed-cost, timing-more}
 use Rattle.vr_costfilter.proofs.schedule_costs.cost_of_plan_after.Goals as goal

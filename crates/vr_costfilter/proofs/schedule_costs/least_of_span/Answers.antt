@@ -3,9 +3,9 @@ use Rattle.std.proofs.lemmas.Int.{ints}
 use Rattle.std.specs.Prelude.{◌*ℤ◌, pos}
 use Rattle.vr_model.specs.tables.Numbers.{number_at}
 use Rattle.vr_model.specs.tables.Tables.{dimension_at, no_dimension}
-use Rattle.vr_timings.specs.Bounds.{cumul_cost}
-use Rattle.vr_timings.proofs.BoundLemmas.{read-around}
-use Rattle.vr_timings.proofs.ExtentLemmas.{times-none}
+use Rattle.vr_plan.specs.Bounds.{cumul_cost}
+use Rattle.vr_plan.proofs.BoundLemmas.{read-around}
+use Rattle.vr_plan.proofs.ExtentLemmas.{times-none}
 use Rattle.vr_routes.specs.Pieces.{joined, part_at}
 use Rattle.vr_earliest.specs.Earlies.{IsEarly}
 use Rattle.vr_earliest.specs.Ways.{least_span}

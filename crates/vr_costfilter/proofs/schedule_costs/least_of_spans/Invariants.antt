@@ -2,7 +2,7 @@ use Rattle.std.proofs.Common.{◌≡◌, ◌*◌}
 use Rattle.std.specs.Prelude.{◌*ℤ◌}
 use Rattle.vr_model.specs.tables.Numbers.{total_by, below, number_at}
 use Rattle.vr_model.specs.tables.Tables.{dimension_at}
-use Rattle.vr_timings.specs.Bounds.{cumul_cost, IsAround}
+use Rattle.vr_plan.specs.Bounds.{cumul_cost, IsAround}
 use Rattle.vr_routes.specs.Pieces.{joined, part_at}
 use Rattle.vr_earliest.specs.Ways.{least_span}
 use Rattle.vr_costfilter.proofs.schedule_costs.least_of_spans.Given as goal

@@ -3,9 +3,9 @@ use Rattle.std.proofs.lemmas.Int.{ints, int_max_is}
 use Rattle.std.specs.Prelude.{◌-ℤ◌, ◌*ℤ◌}
 use Rattle.std.specs.Int.{int_max}
 use Rattle.vr_model.specs.tables.Tables.{dimension_at, no_dimension}
-use Rattle.vr_timings.specs.Bounds.{cumul_cost}
-use Rattle.vr_timings.proofs.BoundLemmas.{read-around}
-use Rattle.vr_timings.proofs.ExtentLemmas.{times-none}
+use Rattle.vr_plan.specs.Bounds.{cumul_cost}
+use Rattle.vr_plan.proofs.BoundLemmas.{read-around}
+use Rattle.vr_plan.proofs.ExtentLemmas.{times-none}
 use Rattle.vr_costfilter.specs.declared.spreads.Spread.{Spread}
 use Rattle.vr_costfilter.specs.Spreads.{spread_after}
 use Rattle.vr_costfilter.proofs.SpreadLemmas.{read-span}

@@ -1,6 +1,6 @@
 use Rattle.std.proofs.Common.{◌≡◌, ◌*◌}
 use Rattle.vr_model.specs.tables.Numbers.{below, total_by}
-use Rattle.vr_timings.specs.Bounds.{cumul_cost, IsAround}
+use Rattle.vr_plan.specs.Bounds.{cumul_cost, IsAround}
 use Rattle.vr_costfilter.specs.Spreads.{global_least_in}
 use Rattle.vr_costfilter.proofs.spreads.least_of_global_spans.Given as goal
 

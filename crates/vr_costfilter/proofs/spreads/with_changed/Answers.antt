@@ -2,7 +2,7 @@ use Rattle.std.proofs.Common.{◌≡◌, ◌∙◌, ℕ, List, cond, ap, ap₂, 
 use Rattle.std.proofs.lemmas.Int.{ints}
 use Rattle.std.specs.Int.{int_max}
 use Rattle.vr_model.proofs.routes.Lists.{empty_where, not_empty}
-use Rattle.vr_timings.proofs.BoundLemmas.{read-cumul}
+use Rattle.vr_plan.proofs.BoundLemmas.{read-cumul}
 use Rattle.vr_routes.specs.Pieces.{joined, part_at}
 use Rattle.vr_earliest.specs.Earlies.{IsEarly}
 use Rattle.vr_costfilter.proofs.SpreadLemmas.{range-early, reached-early, read-span, same-spread}

@@ -1,7 +1,7 @@
 use Rattle.std.proofs.Common.{◌∙◌, ◌+◌, ◌≤◌, ◌≤ℤ◌, ◌^◌, ◌∷◌, [], ℕ, ℤ, pos, ap, sym, subst, arith, length, length-append, to_z, of_z, w64}
 use Rattle.std.proofs.lemmas.Int.{ints, int_min_is}
 use Rattle.std.specs.Prelude.{neg_ℤ}
-use Rattle.vr_walks.proofs.Tables.{each_push}
+use Rattle.vr_reach.proofs.Tables.{each_push}
 use Rattle.vr_first_insert.specs.Placings.{IsLeastAhead}
 use Rattle.vr_first_insert.proofs.BoundLemmas.{ahead-more}
 use Rattle.vr_first_insert.proofs.bound.write_ahead.Goals as goal

@@ -2,7 +2,7 @@ use Rattle.std.proofs.Common.{◌∙◌, ◌<◌, ℕ, List, ap, sym, subst, ari
 use Rattle.vr_model.specs.routes.Routes.{route}
 use Rattle.vr_model.specs.first.Items.{items}
 use Rattle.vr_model.specs.first.CheapestInsertion.{rebuilt}
-use Rattle.vr_walks.specs.Lists.{IsTour}
+use Rattle.vr_reach.specs.Lists.{IsTour}
 use Rattle.vr_rules.specs.Placing.{AreBuilt, AreMarks}
 use Rattle.vr_rules.proofs.PlacingLemmas.{built-count, built-distinct, built-visits}
 use Rattle.vr_first_insert.proofs.KeepingLemmas.{all-taken, taken-more}

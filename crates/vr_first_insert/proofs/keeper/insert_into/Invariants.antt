@@ -1,6 +1,6 @@
 use Rattle.std.proofs.Common.{◌≡◌, ◌<◌, ℕ, length}
 use Rattle.vr_model.specs.routes.Routes.{route}
-use Rattle.vr_inserting.specs.Kept.{AreKept}
+use Rattle.vr_first_insert.specs.KeptRows.{AreKept}
 use Rattle.vr_first_insert.specs.Kept.{AreRows}
 use Rattle.vr_first_insert.proofs.keeper.insert_into.Given as goal
 

@@ -3,8 +3,8 @@ use Rattle.std.proofs.lemmas.List.{get_or_default, set-get_or}
 use Rattle.vr_model.specs.routes.Routes.{route}
 use Rattle.vr_model.specs.moves.Moves.{with_route}
 use Rattle.vr_model.proofs.routes.Lists.{route_set_same}
-use Rattle.vr_walks.specs.Lists.{IsTour}
-use Rattle.vr_inserting.proofs.RowLemmas.{kept_but}
+use Rattle.vr_reach.specs.Lists.{IsTour}
+use Rattle.vr_first_insert.proofs.RowLemmas.{kept_but}
 use Rattle.vr_first_insert.proofs.KeptLemmas.{rows-forgotten}
 use Rattle.vr_first_insert.proofs.keeper.take_list.Goals as goal
 

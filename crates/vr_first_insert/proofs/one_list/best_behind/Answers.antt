@@ -3,12 +3,12 @@ use Rattle.std.specs.Prelude.{fold, insert, map}
 use Rattle.std.proofs.lemmas.List.Edits.{length-insert}
 use Rattle.vr_model.specs.tables.Numbers.{from_to}
 use Rattle.vr_model.proofs.tables.Ranges.{first_left}
-use Rattle.vr_walks.specs.Lists.{IsUsed}
-use Rattle.vr_walks.specs.Stretches.{SharesFront}
-use Rattle.vr_inserting.specs.Probes.{AreReachedAt}
-use Rattle.vr_inserting.proofs.InsertedLemmas.{pair_is, visit_front}
+use Rattle.vr_reach.specs.Lists.{IsUsed}
+use Rattle.vr_reach.specs.Stretches.{SharesFront}
+use Rattle.vr_first_insert.specs.Probes.{AreReachedAt}
+use Rattle.vr_first_insert.proofs.InsertedLemmas.{pair_is, visit_front}
 use Rattle.vr_model.specs.declared.records.Pair.{Pair}
-use Rattle.vr_inserting.proofs.RowLemmas.{stops_of}
+use Rattle.vr_first_insert.proofs.RowLemmas.{stops_of}
 use Rattle.vr_first_insert.specs.declared.choice.Choice.{Choice}
 use Rattle.vr_first_insert.specs.declared.choice.Placing.TheVariants.{One}
 use Rattle.std.proofs.lemmas.Int.{ints, to_z-of_z}

@@ -7,10 +7,10 @@ use Rattle.vr_first_insert.proofs.BoundLemmas.{ahead-read, deliveries-passed_ove
 use Rattle.std.proofs.lemmas.List.Edits.{length-insert}
 use Rattle.vr_model.specs.tables.Numbers.{from_to}
 use Rattle.vr_model.proofs.tables.Ranges.{walk_ends, walk_opens}
-use Rattle.vr_walks.specs.Lists.{IsUsed}
-use Rattle.vr_inserting.specs.Probes.{AreReachedAt}
-use Rattle.vr_inserting.proofs.InsertedLemmas.{pair_is}
-use Rattle.vr_inserting.proofs.RowLemmas.{stops_of}
+use Rattle.vr_reach.specs.Lists.{IsUsed}
+use Rattle.vr_first_insert.specs.Probes.{AreReachedAt}
+use Rattle.vr_first_insert.proofs.InsertedLemmas.{pair_is}
+use Rattle.vr_first_insert.proofs.RowLemmas.{stops_of}
 use Rattle.vr_model.specs.declared.records.Pair.{Pair}
 use Rattle.vr_first_insert.specs.declared.choice.Choice.{Choice}
 use Rattle.vr_first_insert.specs.declared.choice.Placing.TheVariants.{One}

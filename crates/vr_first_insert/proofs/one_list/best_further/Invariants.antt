@@ -1,7 +1,7 @@
 use Rattle.std.proofs.Common.{◌≡◌, ◌+◌, suc, length}
 use Rattle.std.specs.Prelude.{fold, insert, map}
 use Rattle.vr_model.specs.tables.Numbers.{from_to}
-use Rattle.vr_inserting.specs.Probes.{AreReachedAt}
+use Rattle.vr_first_insert.specs.Probes.{AreReachedAt}
 use Rattle.vr_first_insert.specs.Placings.{pair_choice, weigh}
 use Rattle.vr_first_insert.proofs.one_list.best_further.Given as goal
 

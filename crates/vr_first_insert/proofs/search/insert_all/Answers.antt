@@ -14,10 +14,10 @@ use Rattle.vr_first_insert.proofs.PlacedLemmas.{IsAdded-placed}
 use Rattle.vr_first_insert.proofs.BestLemmas.{rebuilt-stops, rebuilt-next, candidates-count, inserted-choice}
 use Rattle.vr_first_insert.specs.Kept.{AreRows}
 use Rattle.vr_first_insert.proofs.KeptLemmas.{rows-forgotten}
-use Rattle.vr_walks.specs.Lists.{IsTour}
+use Rattle.vr_reach.specs.Lists.{IsTour}
 use Rattle.vr_model.proofs.routes.Lists.{route_set_same}
-use Rattle.vr_inserting.specs.Kept.{AreKeptBut}
-use Rattle.vr_inserting.proofs.RowLemmas.{kept_but}
+use Rattle.vr_first_insert.specs.KeptRows.{AreKeptBut}
+use Rattle.vr_first_insert.proofs.RowLemmas.{kept_but}
 use Rattle.std.proofs.lemmas.List.{length-set}
 use Rattle.vr_first_insert.proofs.search.insert_all.Goals as goal
 

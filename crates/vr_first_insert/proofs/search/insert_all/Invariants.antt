@@ -1,7 +1,7 @@
 use Rattle.std.proofs.Common.{◌≡◌, ◌-◌, length}
 use Rattle.vr_model.specs.first.CheapestInsertion.{rebuilt}
 use Rattle.vr_rules.specs.Placing.{AreBuilt, AreMarks}
-use Rattle.vr_inserting.specs.Kept.{AreKept}
+use Rattle.vr_first_insert.specs.KeptRows.{AreKept}
 use Rattle.vr_first_insert.specs.Kept.{AreRows}
 use Rattle.vr_first_insert.proofs.search.insert_all.Given as goal
 

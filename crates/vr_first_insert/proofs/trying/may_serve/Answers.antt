@@ -1,12 +1,12 @@
 use Rattle.std.proofs.Common.{◌∙◌, ◌+◌, ◌-◌, ap, sym, subst, arith, length}
 use Rattle.std.specs.Prelude.{insert}
 use Rattle.vr_rules.specs.RoutesOpen.{is_feasible_in_each}
-use Rattle.vr_walks.specs.Lists.{IsUsed}
-use Rattle.vr_walks.specs.Stretches.{SharesBack}
+use Rattle.vr_reach.specs.Lists.{IsUsed}
+use Rattle.vr_reach.specs.Stretches.{SharesBack}
 use Rattle.vr_lists.specs.Pairs.{keeps_pairs}
-use Rattle.vr_inserting.specs.Probes.{AreReachedAt}
-use Rattle.vr_inserting.proofs.InsertedLemmas.{pair_back, pair_front, pair_long}
-use Rattle.vr_inserting.proofs.RowLemmas.{reached_in_each}
+use Rattle.vr_first_insert.specs.Probes.{AreReachedAt}
+use Rattle.vr_first_insert.proofs.InsertedLemmas.{pair_back, pair_front, pair_long}
+use Rattle.vr_first_insert.proofs.RowLemmas.{reached_in_each}
 use Rattle.vr_first_insert.specs.declared.choice.Placing.TheVariants.{Two}
 use Rattle.vr_first_insert.specs.Placings.{placed}
 use Rattle.vr_first_insert.proofs.ReadyLemmas.{closed-by_lines, open-by_pairs, used-placed}

@@ -1,10 +1,10 @@
 use Rattle.std.proofs.Common.{◌∙◌, ◌-◌, ap, sym, subst, arith, length}
 use Rattle.std.proofs.lemmas.List.Edits.{length-insert}
 use Rattle.vr_rules.specs.RoutesOpen.{is_feasible_in_each}
-use Rattle.vr_walks.specs.Lists.{IsUsed}
-use Rattle.vr_walks.specs.Stretches.{SharesFront, SharesBack}
+use Rattle.vr_reach.specs.Lists.{IsUsed}
+use Rattle.vr_reach.specs.Stretches.{SharesFront, SharesBack}
 use Rattle.vr_lists.specs.Pairs.{keeps_pairs}
-use Rattle.vr_inserting.proofs.InsertedLemmas.{visit_back, visit_front}
+use Rattle.vr_first_insert.proofs.InsertedLemmas.{visit_back, visit_front}
 use Rattle.vr_first_insert.specs.declared.choice.Placing.TheVariants.{One}
 use Rattle.vr_first_insert.specs.Placings.{placed}
 use Rattle.vr_first_insert.proofs.ReadyLemmas.{closed-by_lines, open-by_pairs, used-placed}

@@ -1,5 +1,5 @@
 use Rattle.std.proofs.Common.{◌≡◌, ◌∙◌, ◌+◌, ◌-◌, take, ap, sym, arith}
-use Rattle.vr_sums.specs.Sums.{last_of}
+use Rattle.vr_balance.specs.Sums.{last_of}
 use Rattle.vr_guided.proofs.WalkLemmas.{last_taken}
 use Rattle.vr_guided.proofs.changing.node_before.Goals as goal
 

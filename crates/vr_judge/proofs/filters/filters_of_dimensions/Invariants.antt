@@ -1,6 +1,6 @@
 use Rattle.std.proofs.Common.{take}
 use Rattle.vr_model.specs.schedules.Weights.{weight}
-use Rattle.vr_walks.specs.Lists.{is_feasible_list}
+use Rattle.vr_reach.specs.Lists.{is_feasible_list}
 use Rattle.vr_pathfilters.specs.Known.{StandsAt}
 use Rattle.vr_pathfilters.specs.Lists.{holds_of_each}
 use Rattle.vr_judge.proofs.DimensionLemmas.{AreOf}

@@ -1,4 +1,4 @@
-use Rattle.vr_sums.specs.Sums.{AreSumsTo}
+use Rattle.vr_balance.specs.Sums.{AreSumsTo}
 use Rattle.vr_loads.specs.Kept.{at_target}
 use Rattle.vr_loads.specs.Loads.{value_of}
 use Rattle.vr_loads.proofs.sums.write_sums.Given as goal

@@ -3,8 +3,8 @@ use Rattle.std.specs.Prelude.{IsTrue}
 use Rattle.std.proofs.lemmas.Bool.{cases_lt}
 use Rattle.vr_model.specs.schedules.Weights.{list_weight}
 use Rattle.vr_routes.specs.Pieces.{joined, part_at}
-use Rattle.vr_walks.specs.Lists.{is_feasible_list}
-use Rattle.vr_walks.specs.Tries.{list_tries}
+use Rattle.vr_reach.specs.Lists.{is_feasible_list}
+use Rattle.vr_reach.specs.Tries.{list_tries}
 use Rattle.vr_pathfilters.proofs.PartTours.{holds_after, fails_after}
 use Rattle.vr_pathfilters.proofs.PartWeights.{count_more, count_within}
 use Rattle.vr_pathfilters.proofs.dimensions.all_pass.Goals as goal

@@ -1,8 +1,8 @@
 use Rattle.std.proofs.Common.{◌+◌, ◌<◌, ◌≤◌, ℕ, IsTrue, sum_by, take}
 use Rattle.vr_model.specs.schedules.Weights.{list_weight}
 use Rattle.vr_routes.specs.Pieces.{joined, part_at}
-use Rattle.vr_walks.specs.Lists.{is_feasible_list}
-use Rattle.vr_walks.specs.Tries.{list_tries}
+use Rattle.vr_reach.specs.Lists.{is_feasible_list}
+use Rattle.vr_reach.specs.Tries.{list_tries}
 use Rattle.vr_pathfilters.proofs.PartWeights.{told_after}
 use Rattle.vr_pathfilters.proofs.dimensions.all_pass.Given as goal
 

@@ -2,9 +2,9 @@ use Rattle.std.proofs.Common.{◌≡◌, ◌∙◌, ℕ, ◌+◌, ◌<◌, ◌�
 use Rattle.std.specs.Prelude.{IsTrue}
 use Rattle.vr_model.specs.routes.Routes.{route}
 use Rattle.vr_model.specs.schedules.Weights.{list_weight}
-use Rattle.vr_walks.specs.Lists.{IsTour, is_feasible_list}
-use Rattle.vr_walks.specs.KnownRows.{AreRowsIfUsed}
-use Rattle.vr_walks.specs.Tries.{list_tries}
+use Rattle.vr_reach.specs.Lists.{IsTour, is_feasible_list}
+use Rattle.vr_reach.specs.KnownRows.{AreRowsIfUsed}
+use Rattle.vr_reach.specs.Tries.{list_tries}
 use Rattle.vr_pathfilters.proofs.PartEnds.{part_between, part_vehicle, part_within}
 use Rattle.vr_pathfilters.proofs.PartTours.{tour_of, rule_at}
 use Rattle.vr_pathfilters.proofs.dimensions.part_passes.Goals as goal

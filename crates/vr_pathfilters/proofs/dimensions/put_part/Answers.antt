@@ -1,7 +1,7 @@
 use Rattle.std.proofs.Common.{◌<◌, length, set, ap, sym, subst, arith}
 use Rattle.vr_model.specs.moves.Moves.{with_route}
 use Rattle.vr_routes.specs.Pieces.{joined, part_at}
-use Rattle.vr_walks.specs.KnownRows.{AreRowsIfUsed}
+use Rattle.vr_reach.specs.KnownRows.{AreRowsIfUsed}
 use Rattle.vr_pathfilters.specs.Known.{AreKnown}
 use Rattle.vr_pathfilters.proofs.Knowing.{known_put, with_part_is}
 use Rattle.vr_pathfilters.proofs.dimensions.put_part.Goals as goal

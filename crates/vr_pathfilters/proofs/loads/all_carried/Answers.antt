@@ -2,7 +2,7 @@ use Rattle.std.proofs.Common.{◌≡◌, inl, inr, sym, subst, ◌∙◌, arith}
 use Rattle.std.specs.Prelude.{IsTrue}
 use Rattle.std.proofs.lemmas.Bool.{cases_lt}
 use Rattle.vr_routes.specs.Pieces.{joined, part_at}
-use Rattle.vr_walks.specs.Lists.{is_feasible_list}
+use Rattle.vr_reach.specs.Lists.{is_feasible_list}
 use Rattle.vr_pathfilters.proofs.PartTours.{holds_after, fails_after}
 use Rattle.vr_pathfilters.proofs.loads.all_carried.Goals as goal
 

@@ -1,6 +1,6 @@
 use Rattle.std.proofs.Common.{◌<◌, ℕ, IsTrue}
 use Rattle.vr_routes.specs.Pieces.{joined, part_at}
-use Rattle.vr_walks.specs.Lists.{is_feasible_list}
+use Rattle.vr_reach.specs.Lists.{is_feasible_list}
 use Rattle.vr_pathfilters.proofs.loads.all_carried.Given as goal
 
 -- the parts before place k pass

@@ -1,5 +1,5 @@
 use Rattle.std.proofs.Common.{◌<◌, length, sym, subst, arith}
-use Rattle.vr_walks.specs.Lists.{IsTour}
+use Rattle.vr_reach.specs.Lists.{IsTour}
 use Rattle.vr_pathfilters.specs.Pairs.{IsListCounted}
 use Rattle.vr_pathfilters.proofs.PartTours.{tour_of}
 use Rattle.vr_pathfilters.proofs.TurnLemmas.{counted_list}

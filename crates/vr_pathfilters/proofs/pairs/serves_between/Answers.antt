@@ -2,7 +2,7 @@ use Rattle.std.proofs.Common.{◌∙◌, ℕ, List, Bool, ap, sym}
 use Rattle.std.specs.Prelude.{◌&&◌, slice_range}
 use Rattle.std.specs.List.{list_all}
 use Rattle.vr_model.specs.routes.Routes.{route}
-use Rattle.vr_walks.specs.Spliced.{spliced}
+use Rattle.vr_reach.specs.Spliced.{spliced}
 use Rattle.vr_pathfilters.specs.Pairs.{serves_node, serves_unmarked}
 use Rattle.vr_pathfilters.proofs.PairLemmas.{serves-spliced, serves-unmarked}
 use Rattle.vr_pathfilters.proofs.pairs.serves_between.Goals as goal

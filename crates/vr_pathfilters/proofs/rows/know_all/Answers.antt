@@ -1,6 +1,6 @@
 use Rattle.std.proofs.Common.{[], ◌∷◌, length, length-append, ap, subst, sym, ◌∙◌, arith}
-use Rattle.vr_walks.specs.KnownRows.{AreRowsIfUsed}
-use Rattle.vr_walks.specs.Lists.{IsTour}
+use Rattle.vr_reach.specs.KnownRows.{AreRowsIfUsed}
+use Rattle.vr_reach.specs.Lists.{IsTour}
 use Rattle.vr_pathfilters.proofs.Knowing.{known_more}
 use Rattle.vr_pathfilters.proofs.PartTours.{tour_of}
 use Rattle.vr_pathfilters.proofs.rows.know_all.Goals as goal

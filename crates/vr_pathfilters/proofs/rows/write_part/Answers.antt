@@ -1,5 +1,5 @@
 use Rattle.std.proofs.Common.{sym, subst, ◌∙◌, arith}
-use Rattle.vr_walks.specs.Lists.{IsTour}
+use Rattle.vr_reach.specs.Lists.{IsTour}
 use Rattle.vr_pathfilters.proofs.PartTours.{tour_of_part}
 use Rattle.vr_pathfilters.proofs.rows.write_part.Goals as goal
 

@@ -2,7 +2,7 @@ use Rattle.std.proofs.Common.{◌∙◌, ℕ, ◌+◌, [], ap, subst, sym}
 use Rattle.std.proofs.lemmas.List.{length-append}
 use Rattle.vr_rules.specs.declared.fronts.Front.{Front}
 use Rattle.vr_rules.specs.Fronts.{IsFrontOf}
-use Rattle.vr_walks.proofs.Tables.{each_push}
+use Rattle.vr_reach.proofs.Tables.{each_push}
 use Rattle.vr_rules.proofs.fronts.fronts_at_start.Goals as goal
 
 pub loop-d-preserved : goal.loop-d-preserved

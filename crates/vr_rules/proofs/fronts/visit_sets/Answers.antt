@@ -5,7 +5,7 @@ use Rattle.vr_spans.specs.declared.runs.Run.{Run}
 use Rattle.vr_model.specs.tables.Tables.{is_visit}
 use Rattle.vr_steps.specs.declared.stops.StopName.TheVariants.{Visit}
 use Rattle.vr_rules.specs.Fronts.{IsStopSet}
-use Rattle.vr_walks.proofs.Tables.{each_push}
+use Rattle.vr_reach.proofs.Tables.{each_push}
 use Rattle.vr_rules.proofs.fronts.visit_sets.Goals as goal
 
 pub loop-node-preserved : goal.loop-node-preserved

@@ -1,5 +1,5 @@
 use Rattle.std.proofs.Common.{arith}
-use Rattle.vr_timings.proofs.TableLemmas.{table_at}
+use Rattle.vr_plan.proofs.TableLemmas.{table_at}
 use Rattle.vr_rules.proofs.parts.timed_of.Goals as goal
 
 pub with_dimension-requires-clause-table : goal.with_dimension-requires-clause-table

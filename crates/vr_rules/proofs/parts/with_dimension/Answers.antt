@@ -3,7 +3,7 @@ use Rattle.std.proofs.lemmas.Int.{ints}
 use Rattle.std.specs.Prelude.{◌*ℤ◌, pos}
 use Rattle.vr_model.specs.tables.WellFormed.{IsIn}
 use Rattle.vr_model.specs.tables.Tables.{dimension_at, no_dimension}
-use Rattle.vr_timings.specs.Extents.{length_of}
+use Rattle.vr_plan.specs.Extents.{length_of}
 use Rattle.vr_rules.proofs.PartLemmas.{sums-bounded, AreTimed-more}
 use Rattle.vr_rules.proofs.parts.with_dimension.Goals as goal
 

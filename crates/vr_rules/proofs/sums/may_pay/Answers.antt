@@ -5,7 +5,7 @@ use Rattle.std.specs.Ordering.{int_eq}
 use Rattle.std.specs.Prelude.{pos, ◌||◌}
 use Rattle.vr_model.specs.tables.Tables.{dimension_at, no_dimension}
 use Rattle.vr_model.proofs.tables.Tests.{fails}
-use Rattle.vr_timings.specs.Paying.{may_pay_alone}
+use Rattle.vr_plan.specs.Paying.{may_pay_alone}
 use Rattle.vr_rules.proofs.sums.may_pay.Goals as goal
 
 pub returns-then-get-ne0 : goal.returns-then-get-ne0

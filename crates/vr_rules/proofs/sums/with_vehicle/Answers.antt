@@ -7,9 +7,9 @@ use Rattle.vr_model.specs.tables.Tables.{dimension_at, is_visit, no_dimension}
 use Rattle.vr_model.specs.routes.Routes.{route, is_distinct}
 use Rattle.vr_model.proofs.tables.Tests.{none_from_test, some_from_test}
 use Rattle.vr_model.proofs.routes.Lists.{empty_where, not_empty, route-visits, route-distinct, are_lists-count}
-use Rattle.vr_timings.specs.Bounds.{cumul_cost, IsAround}
+use Rattle.vr_plan.specs.Bounds.{cumul_cost, IsAround}
 use Rattle.vr_rules.specs.Sums.{PaysNothingToo}
-use Rattle.vr_timings.specs.Timings.{IsTiming, IsTimingOf}
+use Rattle.vr_plan.specs.Timings.{IsTiming, IsTimingOf}
 use Rattle.vr_rules.proofs.SumLemmas.{AreSums-unused, AreSums-unpaid, AreSums-taken, pays_nothing_too, visits-bound}
 use Rattle.vr_rules.proofs.sums.with_vehicle.Goals as goal
 

@@ -1,6 +1,6 @@
 use Rattle.std.proofs.Common.{◌≡◌, ◌*◌, take}
 use Rattle.vr_model.specs.tables.Numbers.{total_by}
-use Rattle.vr_sums.specs.Sums.{IsUpTo}
+use Rattle.vr_balance.specs.Sums.{IsUpTo}
 use Rattle.vr_usecosts.proofs.GroupLemmas.{group_cost}
 use Rattle.vr_usecosts.proofs.groups.penalties.Given as goal
 

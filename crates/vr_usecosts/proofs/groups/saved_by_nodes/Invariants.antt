@@ -1,6 +1,6 @@
 use Rattle.std.proofs.Common.{◌≡◌, take}
 use Rattle.vr_model.specs.tables.Numbers.{total_by, number_at}
-use Rattle.vr_sums.specs.Sums.{IsUpTo}
+use Rattle.vr_balance.specs.Sums.{IsUpTo}
 use Rattle.vr_usecosts.proofs.groups.saved_by_nodes.Given as goal
 
 -- what the nodes so far save

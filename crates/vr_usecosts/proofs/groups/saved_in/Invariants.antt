@@ -1,5 +1,5 @@
 use Rattle.std.proofs.Common.{◌≡◌, ◌*◌, take}
-use Rattle.vr_sums.specs.Sums.{IsUpTo}
+use Rattle.vr_balance.specs.Sums.{IsUpTo}
 use Rattle.vr_usecosts.specs.Groups.{saved_in}
 use Rattle.vr_usecosts.proofs.groups.saved_in.Given as goal
 

@@ -4,7 +4,7 @@ use Rattle.std.specs.Prelude.{◌+ℤ◌, ◌≤ℤ◌}
 use Rattle.vr_model.specs.routes.Routes.{route}
 use Rattle.vr_model.specs.tables.Tables.{vehicle_at}
 use Rattle.vr_model.specs.declared.records.Model.{Model}
-use Rattle.vr_sums.specs.Sums.{last_of}
+use Rattle.vr_balance.specs.Sums.{last_of}
 use Rattle.vr_arccosts.specs.Runs.{at_place, cross_base, gap_added}
 use Rattle.vr_arccosts.proofs.CrossLemmas.{fronts-no-less}
 use Rattle.vr_arccosts.proofs.arcs.ArcCost.first_left.Goals as goal

@@ -1,7 +1,7 @@
 use Rattle.std.proofs.Common.{◌≡◌, ◌∙◌, ◌+◌, ◌-◌, ◌<◌, refl, length, ap, sym, subst, arith}
 use Rattle.std.specs.Prelude.{slice_index_or}
 use Rattle.vr_model.specs.tables.Tables.{vehicle_at, no_vehicle}
-use Rattle.vr_sums.proofs.Paths.{sums-one}
+use Rattle.vr_balance.proofs.Paths.{sums-one}
 use Rattle.vr_arccosts.specs.Along.{line_nodes, IsAlongTo}
 use Rattle.vr_arccosts.proofs.LineLemmas.{arc-inside, arc-last, line-long}
 use Rattle.vr_arccosts.proofs.PathLemmas.{last-kept, start-below}

@@ -1,6 +1,6 @@
 use Rattle.std.proofs.Common.{◌≡◌, ◌<◌, take}
 use Rattle.vr_model.specs.tables.Tables.{vehicle_at}
-use Rattle.vr_sums.specs.Sums.{last_of}
+use Rattle.vr_balance.specs.Sums.{last_of}
 use Rattle.vr_arccosts.specs.Along.{IsAlongTo}
 use Rattle.vr_arccosts.proofs.lines.Along.write.Given as goal
 

@@ -4,7 +4,7 @@ use Rattle.vr_model.specs.tables.Tables.{arc_cost}
 use Rattle.vr_model.specs.routes.Routes.{route}
 use Rattle.vr_routes.specs.declared.pieces.Piece.TheVariants.{Chain}
 use Rattle.vr_routes.specs.Pieces.{nodes_of, IsWithin}
-use Rattle.vr_sums.specs.Sums.{path_sum}
+use Rattle.vr_balance.specs.Sums.{path_sum}
 use Rattle.vr_arccosts.proofs.ChainLemmas.{path-first}
 use Rattle.vr_arccosts.proofs.PieceLemmas.{chain-length}
 use Rattle.vr_arccosts.proofs.walks.Path.along.Goals as goal

@@ -1,6 +1,6 @@
 use Rattle.std.proofs.Common.{◌∙◌, ◌*◌, ℕ, List, ap, arith}
-use Rattle.vr_timings.specs.Bounds.{cumul_cost}
-use Rattle.vr_timings.proofs.BoundLemmas.{read-around}
+use Rattle.vr_plan.specs.Bounds.{cumul_cost}
+use Rattle.vr_plan.proofs.BoundLemmas.{read-around}
 use Rattle.vr_costfilter.specs.GlobalCosts.{vehicles_of}
 use Rattle.vr_costfilter.proofs.GlobalLemmas.{cost-after, cost-same, ranged-after, ranged-same}
 use Rattle.vr_costfilter.proofs.global_span.GlobalSpan.cost_after.Goals as goal

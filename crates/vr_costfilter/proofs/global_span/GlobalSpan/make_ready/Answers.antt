@@ -1,7 +1,7 @@
 use Rattle.std.proofs.Common.{◌≡◌, ◌∙◌, ◌*◌, ℕ, List, length, refl, ap, sym, subst, arith}
 use Rattle.vr_model.specs.declared.records.Model.{Model}
-use Rattle.vr_timings.specs.Bounds.{cumul_cost}
-use Rattle.vr_timings.proofs.BoundLemmas.{read-around}
+use Rattle.vr_plan.specs.Bounds.{cumul_cost}
+use Rattle.vr_plan.proofs.BoundLemmas.{read-around}
 use Rattle.vr_routes.specs.Pieces.{changed}
 use Rattle.vr_parts.proofs.RowLemmas.{written}
 use Rattle.vr_costfilter.specs.declared.orders.Orders.{Orders}

@@ -4,8 +4,8 @@ use Rattle.vr_model.specs.tables.Tables.{visits}
 use Rattle.vr_model.specs.tables.WellFormed.{IsWellFormed}
 use Rattle.vr_model.specs.routes.Rules.{is_valid}
 use Rattle.vr_model.specs.declared.records.Model.{Model}
-use Rattle.vr_timings.specs.Bounds.{cumul_cost}
-use Rattle.vr_timings.proofs.BoundLemmas.{read-around}
+use Rattle.vr_plan.specs.Bounds.{cumul_cost}
+use Rattle.vr_plan.proofs.BoundLemmas.{read-around}
 use Rattle.vr_costfilter.specs.GlobalCosts.{spans_cost_after, IsGlobalCost}
 use Rattle.vr_costfilter.proofs.GlobalLemmas.{cost-alone}
 use Rattle.vr_parts.proofs.PartLemmas.{small}

@@ -1,7 +1,7 @@
 use Rattle.std.proofs.Common.{◌≡◌, ◌∙◌, ◌+◌, ◌∷◌, [], ◌<◌, ℕ, List, Option, length, length-append, ap, sym, subst}
 use Rattle.std.specs.Prelude.{slice_index_or}
 use Rattle.vr_model.specs.declared.records.Model.{Model}
-use Rattle.vr_timings.specs.declared.timings.Timing.{Timing}
+use Rattle.vr_plan.specs.declared.timings.Timing.{Timing}
 use Rattle.vr_routes.specs.Pieces.{joined, part_at}
 use Rattle.vr_costfilter.specs.GlobalCosts.{IsRow}
 use Rattle.vr_costfilter.proofs.GlobalLemmas.{stands-like}

@@ -4,8 +4,8 @@ use Rattle.vr_model.specs.tables.Tables.{visits}
 use Rattle.vr_model.specs.tables.WellFormed.{IsWellFormed}
 use Rattle.vr_model.specs.routes.Rules.{is_valid}
 use Rattle.vr_model.specs.declared.records.Model.{Model}
-use Rattle.vr_timings.specs.Bounds.{cumul_cost}
-use Rattle.vr_timings.proofs.BoundLemmas.{read-around}
+use Rattle.vr_plan.specs.Bounds.{cumul_cost}
+use Rattle.vr_plan.proofs.BoundLemmas.{read-around}
 use Rattle.vr_routes.specs.Pieces.{changed}
 use Rattle.vr_routes.proofs.CommitLemmas.{as_many_lists}
 use Rattle.vr_costfilter.specs.declared.orders.Orders.{Orders}

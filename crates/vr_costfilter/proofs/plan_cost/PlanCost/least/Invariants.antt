@@ -2,7 +2,7 @@ use Rattle.std.proofs.Common.{◌≡◌, ◌*◌, take}
 use Rattle.vr_model.specs.tables.Numbers.{total_by}
 use Rattle.vr_costfilter.specs.PlanCosts.{list_change, plans_cost, spans_least}
 use Rattle.vr_parts.specs.Sums.{part_less}
-use Rattle.vr_timings.specs.Bounds.{IsAround}
+use Rattle.vr_plan.specs.Bounds.{IsAround}
 use Rattle.vr_costfilter.proofs.plan_cost.PlanCost.least.Given as goal
 
 abbrev pub invariant-loop-k : goal.invariant-loop-k

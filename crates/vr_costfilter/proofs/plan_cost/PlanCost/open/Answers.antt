@@ -1,6 +1,6 @@
 use Rattle.std.proofs.Common.{◌∙◌, ℕ, List, false, length, sym, subst}
 use Rattle.vr_model.specs.declared.records.Model.{Model}
-use Rattle.vr_cumuls.specs.Kept.{AreAllKept}
+use Rattle.vr_costfilter.specs.Kept.{AreAllKept}
 use Rattle.vr_costfilter.specs.PlanCosts.{AreCosts, KeptPlans, StandsPlans}
 use Rattle.vr_parts.proofs.PartLemmas.{small}
 use Rattle.vr_costfilter.proofs.plan_cost.PlanCost.open.Goals as goal

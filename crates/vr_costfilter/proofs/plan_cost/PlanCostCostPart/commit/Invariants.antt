@@ -1,7 +1,7 @@
 use Rattle.std.proofs.Common.{◌≡◌, ◌<◌, ℕ, length}
 use Rattle.vr_model.specs.tables.Numbers.{number_at}
 use Rattle.vr_model.specs.routes.Routes.{route}
-use Rattle.vr_cumuls.specs.Kept.{AreAllKept}
+use Rattle.vr_costfilter.specs.Kept.{AreAllKept}
 use Rattle.vr_routes.specs.Pieces.{changed}
 use Rattle.vr_costfilter.specs.PlanCosts.{plans_cost, IsPlanCost}
 use Rattle.vr_parts.proofs.SumLemmas.{upto}

@@ -6,7 +6,7 @@ use Rattle.vr_model.specs.tables.Tables.{vehicle_at}
 use Rattle.vr_routes.specs.Pieces.{joined}
 use Rattle.vr_guided.specs.Counts.{counted}
 use Rattle.vr_guided.specs.Walks.{stretch_weight, unused_weight}
-use Rattle.vr_sums.specs.Sums.{last_of}
+use Rattle.vr_balance.specs.Sums.{last_of}
 use Rattle.vr_routes.proofs.JoinedPieces.{all_left, all_right}
 use Rattle.vr_guided.proofs.PartLemmas.{as_read, part_value, new_length}
 use Rattle.vr_guided.proofs.penalties.Penalties.change_of_part.Goals as goal

@@ -4,7 +4,7 @@ use Rattle.std.specs.Prelude.{◌+ℤ◌}
 use Rattle.std.proofs.lemmas.Int.{ints}
 use Rattle.vr_guided.specs.Counts.{counted}
 use Rattle.vr_guided.specs.Walks.{stepped, weight}
-use Rattle.vr_sums.specs.Sums.{last_of}
+use Rattle.vr_balance.specs.Sums.{last_of}
 use Rattle.vr_guided.proofs.ChainLemmas.{same_walk, sum-read, walk_of, walked-jump}
 use Rattle.vr_guided.proofs.LocalChanges.{along}
 use Rattle.vr_guided.proofs.penalties.Penalties.jump.Goals as goal

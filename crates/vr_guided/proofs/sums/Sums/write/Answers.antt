@@ -5,7 +5,7 @@ use Rattle.std.proofs.lemmas.List.{take_all, take_more}
 use Rattle.vr_model.specs.tables.Tables.{no_vehicle}
 use Rattle.vr_guided.specs.Counts.{counted}
 use Rattle.vr_guided.specs.Sums.{AreArcSums, weight_by}
-use Rattle.vr_sums.specs.Sums.{last_of}
+use Rattle.vr_balance.specs.Sums.{last_of}
 use Rattle.vr_guided.proofs.LocalChanges.{last_behind}
 use Rattle.vr_guided.proofs.SumLemmas.{sums-begin, sums-push}
 use Rattle.vr_guided.proofs.sums.Sums.write.Goals as goal

@@ -1,7 +1,7 @@
 use Rattle.std.proofs.Common.{◌≡◌, ◌<◌, take}
 use Rattle.vr_guided.specs.Counts.{counted}
 use Rattle.vr_guided.specs.Sums.{AreArcSums, weight_by}
-use Rattle.vr_sums.specs.Sums.{last_of}
+use Rattle.vr_balance.specs.Sums.{last_of}
 use Rattle.vr_guided.proofs.sums.Sums.write.Given as goal
 
 -- the sums of the stops so far

@@ -4,7 +4,7 @@ use Rattle.vr_model.specs.tables.Numbers.{total_by}
 use Rattle.vr_model.specs.routes.Routes.{route}
 use Rattle.vr_routes.specs.Pieces.{nodes_of, IsWithin}
 use Rattle.vr_loads.specs.Loads.{value_of}
-use Rattle.vr_sums.specs.Sums.{IsUpTo}
+use Rattle.vr_balance.specs.Sums.{IsUpTo}
 use Rattle.vr_loads.specs.Kept.{at_target, AreTaken}
 use Rattle.vr_loads.proofs.KeptLemmas.{kept-at}
 use Rattle.vr_loads.proofs.ValueLemmas.{taken-total}

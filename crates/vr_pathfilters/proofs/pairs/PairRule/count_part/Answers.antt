@@ -1,5 +1,5 @@
 use Rattle.std.proofs.Common.{◌∙◌, sym, subst}
-use Rattle.vr_walks.specs.Lists.{IsTour}
+use Rattle.vr_reach.specs.Lists.{IsTour}
 use Rattle.vr_pathfilters.proofs.PartTours.{tour_of_part}
 use Rattle.vr_pathfilters.proofs.pairs.PairRule.count_part.Goals as goal
 

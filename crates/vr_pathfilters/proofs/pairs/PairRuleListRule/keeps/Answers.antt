@@ -9,7 +9,7 @@ use Rattle.vr_lists.specs.Pairs.{keeps_pairs}
 use Rattle.vr_routes.specs.Pieces.{joined, part_at}
 use Rattle.vr_pathfilters.proofs.PartEnds.{part_between, part_vehicle, part_within}
 use Rattle.vr_pathfilters.proofs.PartTours.{rule_at, tour_of}
-use Rattle.vr_walks.specs.Spliced.{spliced}
+use Rattle.vr_reach.specs.Spliced.{spliced}
 use Rattle.vr_pathfilters.specs.Counted.{AreCounted, asks_turns}
 use Rattle.vr_pathfilters.specs.Replaced.{takes_turns_between}
 use Rattle.vr_pathfilters.specs.Pairs.{asks_turns_of}

@@ -1,0 +1,254 @@
+-- What the reply to a question about a solution says of the input.
+use Rattle.std.proofs.Common.{◌≡◌, ◌∙◌, ◌≤◌, ◌↔◌, ℕ, ℤ, List, [], Bool, true, false, Option, Some, None, Result, Ok, Err, refl, ap, sym, subst, arith, length}
+use Rattle.std.specs.Prelude.{IsTrue, codes}
+use Rattle.serde_json.specs.Data.{Data}
+use Rattle.vr_json.specs.Trees.{line_of}
+use Rattle.vr_json.specs.declared.fault.Fault.{Fault}
+use Rattle.std.specs.Result.{IsErrAnd}
+use Rattle.vr_json.specs.Reading.{Answers, and_then, required, seen}
+use Rattle.vr_json.specs.declared.fault.ReadFail.{ReadFail}
+use Rattle.vr_json.specs.declared.fault.ReadFail.TheVariants.{Refused}
+use Rattle.vr_json.proofs.Readings.{EachEnsures, Ensures, after, any_value, gives, required_ensures}
+use Rattle.vr_model.specs.declared.search.Event.{Event}
+use Rattle.vr_model.specs.tables.WellFormed.{IsWellFormed}
+use Rattle.vr_read.specs.Models.{read_model}
+use Rattle.vr_read.proofs.WellFormedModels.{well_formed_from_read}
+use Rattle.vr_check.proofs.AllMet.{met_keeps_all_rules}
+use Rattle.vr_check.specs.Laws.{KeepsAllRules}
+use Rattle.vr_check.specs.declared.finding.Finding.{Finding}
+use Rattle.vr_check.specs.declared.finding.Finding.TheVariants.{Meets, Broken}
+use Rattle.vr_app.specs.Answers.{AnswersReply, replied}
+use Rattle.vr_app.specs.declared.answer.Answer.{Answer}
+use Rattle.vr_app.specs.Causes.{HasFault, IsNotJson, IsReadAs, IsTooLong}
+use Rattle.vr_app.specs.Checked.{Checked, checked_at, checked_of, found_in, is_met}
+use Rattle.vr_app.specs.Input.{max_input, value_of}
+use Rattle.vr_printed.specs.Printed.{assignment_of}
+use Rattle.vr_printed.specs.Shape.{printed_in}
+use Rattle.vr_printed.specs.declared.printed.Printed.{Printed}
+use Rattle.vr_app.specs.Met.{IsBrokenBy, IsMetBy, IsSpannedBy}
+use Rattle.vr_app.specs.Spans.{printed_assignment, spans_of, spans_tree}
+use Rattle.vr_app.specs.Reply.{Reply, answer_tree, not_json, refused, reply, reply_in, reply_to_checked, reply_to_finding, reply_to_input, reply_to_question, reply_to_value, too_long}
+use Rattle.vr_app.specs.Runs.{Asks, IsRead, ReadsJson}
+use Rattle.vr_app.specs.Status.{number_of}
+use Rattle.vr_app.specs.Texts.{refused_tree}
+use Rattle.vr_app.specs.declared.status.Status.{Status}
+use Rattle.vr_app.specs.declared.status.Status.TheVariants as all
+use Rattle.vr_app.specs.Words.{is_read, reads_json, request_of}
+use Rattle.vr_app.specs.declared.words.Question.{Question}
+use Rattle.vr_app.specs.declared.words.Question.TheVariants as question
+use Rattle.vr_app.specs.declared.words.Request.{Request}
+use Rattle.vr_app.specs.declared.words.Request.TheVariants as request
+use Rattle.vr_app.specs.declared.words.Task.TheVariants as task
+use Rattle.vr_app.proofs.CauseLemmas.{Tells, done-tells, fault-tells, input-tells, long-tells, no_value-tells, undone-tells}
+use Rattle.vr_app.proofs.FileLemmas.{file-tells}
+use Rattle.vr_app.proofs.GeneratedLemmas.{demo-done, generated-done}
+use Rattle.vr_app.proofs.InputLemmas.{of_input, reply-short}
+use Rattle.vr_app.proofs.SpanLemmas.{tells_shortest}
+
+-- ---- what is read
+
+-- a step gave x, and the rest answers, of a function of the value
+pub then_seen : {A B C : Type 0} {r : Result A Fault} {x : A} {a : Result C ReadFail} (g : B → C) (f : A → Result B Fault) → Answers (Ok x) r → Answers a (seen g (f x)) → Answers a (seen g (and_then r f))
+unfolding and_then
+then_seen g f h k = rw h.value k
+
+-- a step failed, and its failure is the answer
+pub stops_seen : {A B C : Type 0} {r : Result A Fault} {e : ReadFail} (a : Result C ReadFail) (g : B → C) (f : A → Result B Fault) → Answers {A = A} (Err e) r → IsErrAnd a (λ d. d ≡ e) → Answers a (seen g (and_then r f))
+unfolding and_then
+stops_seen (Ok x) g f h same = absurd same
+stops_seen {e = e} (Err d) g f h same = record { value = tt; refused = λ fault is. let fails : e ≡ Refused fault = cc in rw (h.refused fault (ap Err fails)) refl }
+
+-- a failure stays one, of a function of the value
+pub seen_fails : {A B : Type 0} (P : ReadFail → Type 0) (g : A → B) (r : Result A ReadFail) → IsErrAnd r P → IsErrAnd (seen g r) P
+seen_fails P g (Ok x) h = absurd h
+seen_fails P g (Err e) h = h
+
+-- a refusal stays one, of a function of the value
+pub seen_fault : {A B : Type 0} (g : A → B) (r : Result A ReadFail) (f h : Fault) → f ≡ h → Answers r (Err f) → Answers (seen g r) (Err h)
+seen_fault g (Ok x) f h e a = let k = a.value in absurd cc
+seen_fault g (Err fail) f h e a = record {
+  value = tt;
+  refused = λ fault is. let same : fail ≡ Refused fault = cc in let known = a.refused fault (ap Err same) in let k : f ≡ fault = cc in ap Err (sym e ∙ k);
+}
+
+-- the model of an object is well formed
+pub field_ensures : EachEnsures IsWellFormed (required (codes "model") read_model)
+field_ensures =
+    let read : EachEnsures IsWellFormed read_model = λ path d. record { of_value = λ model is. well_formed_from_read path d model is } in
+    required_ensures (codes "model") read
+
+checked_ensures : (d : Data) → Ensures (λ it. IsWellFormed it.model) (checked_of d)
+unfolding checked_at
+checked_ensures d =
+    after (field_ensures [] d) λ model well.
+    after any_value λ solution _.
+    after any_value λ others _.
+    gives well
+
+pub checked-well_formed : (d : Data) (it : Checked) → checked_of d ≡ Ok it → IsWellFormed it.model
+checked-well_formed d it is = (checked_ensures d).of_value it is
+
+-- an answer and the reply that it is
+pub reply_same : (r : Reply) (a : Answer) → AnswersReply r a → replied a ≡ r
+reply_same r a is = let status = is.status_is in let text = is.text_is in λ i. record { status = status i; text = text i }
+
+pub answers_its_reply : (a : Answer) → AnswersReply (replied a) a
+answers_its_reply a = record { status_is = refl; text_is = refl }
+
+-- what was answered, or the first fault, is the reply
+pub found-replies : (asked : Question) (m : Result Checked Fault) (r : Reply) → seen (reply_to_question asked) m ≡ Ok r → r ≡ reply_to_checked asked m
+found-replies asked (Ok it) r e = let k : reply_to_question asked it ≡ r = cc in sym k
+found-replies asked (Err fault) r e = absurd cc
+
+pub fault-replies : (asked : Question) (m : Result Checked Fault) (fault : Fault) → seen (reply_to_question asked) m ≡ Err fault → refused fault ≡ reply_to_checked asked m
+fault-replies asked (Ok it) fault e = absurd cc
+fault-replies asked (Err other) fault e = let k : other ≡ fault = cc in ap refused (sym k)
+
+-- ---- which inputs have a status
+
+abbrev pub meets : Checked → Type 0
+meets it = IsTrue (is_met (found_in it))
+
+abbrev pub breaks : Checked → Type 0
+breaks it = is_met (found_in it) ≡ false
+
+abbrev pub TellsMet : List ℕ → ℕ → Type 0
+TellsMet bytes status = Tells checked_of 9 meets breaks bytes status
+
+module _ (asked : Question) (reports : List Event → List ℕ) (bytes : List ℕ) where
+  module _ (d : Data) (short : length bytes ≤ max_input) (some : value_of bytes ≡ Some d) where
+    finding-tells : (it : Checked) → checked_of d ≡ Ok it → (f : Finding) → found_in it ≡ f → TellsMet bytes (reply_to_finding asked it f).status
+    finding-tells it is (Meets cost) e =
+        done-tells checked_of 9 meets breaks (omega arith) (λ e. absurd (omega arith)) bytes d short some it is (ap is_met e) (λ h. let k = sym (ap is_met e) ∙ h in absurd cc)
+    finding-tells it is (Broken rule vehicle place) e =
+        undone-tells checked_of 9 meets breaks (omega arith) (λ e. absurd (omega arith)) bytes d short some it is (ap is_met e) (λ h. let k = sym (ap is_met e) ∙ h in absurd cc)
+
+    checked-tells : (m : Result Checked Fault) → checked_of d ≡ m → TellsMet bytes (reply_to_checked asked m).status
+    checked-tells (Err fault) is = fault-tells checked_of 9 meets breaks (omega arith) (λ e. absurd (omega arith)) bytes d short some fault is
+    checked-tells (Ok it) is = finding-tells it is (found_in it) refl
+
+  check-tells : TellsMet bytes (reply_to_input (task.Ask asked) reports bytes).status
+  check-tells = of_input (task.Ask asked) reports bytes (λ reply. TellsMet bytes reply.status)
+      (long-tells checked_of 9 meets breaks (omega arith) (λ e. absurd (omega arith)) bytes)
+      (no_value-tells checked_of 9 meets breaks (omega arith) (λ e. absurd (omega arith)) bytes)
+      (λ d short some. checked-tells d short some (checked_of d) refl)
+
+  check-refused : (fault : Fault) → HasFault checked_of bytes fault → (reply_to_input (task.Ask asked) reports bytes).text ≡ line_of (refused_tree fault)
+  check-refused fault r =
+      ap (λ reply. reply.text) (reply-short (task.Ask asked) reports bytes r.short ∙ ap (reply_to_value (task.Ask asked) reports) r.is_value ∙ ap (reply_to_checked asked) r.is_fault)
+
+-- ---- what the text tells
+
+-- the solution keeps all rules of its model, and the text answers the question about it
+pub record IsKeptBy (asked : Question) (bytes text : List ℕ) : Type 0 where
+  pub it : Checked
+  pub printed : Printed
+  pub cost : ℤ
+  pub is_read : IsReadAs checked_of bytes it
+  pub is_found : found_in it ≡ Meets cost
+  pub is_printed : printed_in it.model it.solution ≡ Some printed
+  pub keeps : KeepsAllRules it.model printed cost
+  pub text_is : text ≡ line_of (answer_tree asked it cost)
+
+-- a reply answers the question about a solution that keeps all rules, or tells the rule that is broken
+pub record Finds (asked : Question) (bytes : List ℕ) (answer : Reply) : Type 0 where
+  pub met : answer.status ≡ 0 → IsKeptBy asked bytes answer.text
+  pub broken : answer.status ≡ 9 → IsBrokenBy bytes answer.text
+
+-- so does one of another status
+finds_none : (asked : Question) (bytes : List ℕ) (answer : Reply) → (answer.status ≡ 0 → ⊥) → (answer.status ≡ 9 → ⊥) → Finds asked bytes answer
+finds_none asked bytes answer not_0 not_9 = record { met = λ e. absurd (not_0 e); broken = λ e. absurd (not_9 e) }
+
+module _ (asked : Question) (reports : List Event → List ℕ) (bytes : List ℕ) where
+  finding-finds : (it : Checked) → IsWellFormed it.model → IsReadAs checked_of bytes it → (f : Finding) → found_in it ≡ f → Finds asked bytes (reply_to_finding asked it f)
+  finding-finds it well is (Meets cost) e =
+      let k = met_keeps_all_rules it.model it.solution cost well e in record {
+        met = λ zero. record { it = it; printed = k.0; cost = cost; is_read = is; is_found = e; is_printed = k.1; keeps = k.2; text_is = refl };
+        broken = λ nine. absurd (omega arith);
+      }
+  finding-finds it well is (Broken rule vehicle place) e = record {
+    met = λ zero. absurd (omega arith);
+    broken = λ nine. record { it = it; rule = rule; vehicle = vehicle; place = place; is_read = is; is_found = e; text_is = refl };
+  }
+
+  checked-finds : (d : Data) → length bytes ≤ max_input → value_of bytes ≡ Some d → (m : Result Checked Fault) → checked_of d ≡ m → Finds asked bytes (reply_to_checked asked m)
+  checked-finds d short some (Err fault) is = finds_none asked bytes _ (λ e. absurd (omega arith)) (λ e. absurd (omega arith))
+  checked-finds d short some (Ok it) is =
+      finding-finds it (checked-well_formed d it is) (record { short = short; value = d; is_value = some; is_read = is }) (found_in it) refl
+
+  check-finds : Finds asked bytes (reply_to_input (task.Ask asked) reports bytes)
+  check-finds = of_input (task.Ask asked) reports bytes (Finds asked bytes)
+      (λ long. finds_none asked bytes too_long (λ e. absurd (omega arith)) (λ e. absurd (omega arith)))
+      (λ short none. finds_none asked bytes not_json (λ e. absurd (omega arith)) (λ e. absurd (omega arith)))
+      (λ d short some. checked-finds d short some (checked_of d) refl)
+
+-- what is so of `check`, and of `spans`
+pub kept-met : (bytes text : List ℕ) → IsKeptBy question.Check bytes text → IsMetBy bytes text
+kept-met bytes text is = record { it = is.it; printed = is.printed; cost = is.cost; is_read = is.is_read; is_found = is.is_found; is_printed = is.is_printed; keeps = is.keeps; text_is = is.text_is }
+
+pub kept-spanned : (bytes text : List ℕ) → IsKeptBy question.Spans bytes text → IsSpannedBy bytes text
+unfolding spans_of
+kept-spanned bytes text is = record {
+  it = is.it;
+  printed = is.printed;
+  cost = is.cost;
+  is_read = is.is_read;
+  is_found = is.is_found;
+  is_printed = is.is_printed;
+  keeps = is.keeps;
+  shortest = tells_shortest is.it.model (assignment_of is.printed.routes) is.keeps.plans_are_schedules;
+  text_is = is.text_is ∙ ap (λ printed. line_of (spans_tree is.it.model (printed_assignment printed))) is.is_printed;
+}
+
+module _ (asked : Question) (reports : List Event → List ℕ) (words : List (List ℕ)) (bytes : List ℕ) (asks : Asks asked words) where
+  pub asked_words-tell : TellsMet bytes (reply reports words bytes).status
+  asked_words-tell = let P : Option Request → Type 0 = λ o. TellsMet bytes (reply_in reports o bytes).status in subst P (sym asks) (check-tells asked reports bytes)
+
+  pub asked_words-find : Finds asked bytes (reply reports words bytes)
+  asked_words-find = let P : Option Request → Type 0 = λ o. Finds asked bytes (reply_in reports o bytes) in subst P (sym asks) (check-finds asked reports bytes)
+
+  -- a refusal tells the fault
+  pub asked_words-refused : (fault : Fault) → HasFault checked_of bytes fault → (reply reports words bytes).text ≡ line_of (refused_tree fault)
+  asked_words-refused fault r = ap (λ o. (reply_in reports o bytes).text) asks ∙ check-refused asked reports bytes fault r
+
+-- the status of number 9
+pub nine : (status : Status) → number_of status ≡ 9 → status ≡ all.NotMet
+nine all.Done e = absurd (omega arith)
+nine all.Usage e = absurd (omega arith)
+nine all.ReadFault e = absurd (omega arith)
+nine all.WriteFault e = absurd (omega arith)
+nine all.NotJson e = absurd (omega arith)
+nine all.Refused e = absurd (omega arith)
+nine all.NoneFound e = absurd (omega arith)
+nine all.NoMemory e = absurd (omega arith)
+nine all.TooLong e = absurd (omega arith)
+nine all.NotMet e = refl
+
+-- ---- words that read
+
+-- which inputs are too long or no JSON, whatever these words ask of them
+pub record TellsText (words : List (List ℕ)) (bytes : List ℕ) (status : ℕ) : Type 0 where
+  pub too_long : (status ≡ 8) ↔ IsTooLong bytes
+  pub not_json : (status ≡ 4) ↔ (ReadsJson words × IsNotJson bytes)
+
+pub read-tells : (reports : List Event → List ℕ) (words : List (List ℕ)) (bytes : List ℕ) → IsRead words → TellsText words bytes (reply reports words bytes).status
+read-tells reports words bytes h = record { too_long = long (request_of words) h; not_json = json (request_of words) }
+  where
+    long : (o : Option Request) → is_read o ≡ true → ((reply_in reports o bytes).status ≡ 8) ↔ IsTooLong bytes
+    long None h = absurd cc
+    long (Some (request.Read (task.Find asked))) h = (input-tells asked reports bytes).too_long
+    long (Some (request.Read (task.Ask asked))) h = (check-tells asked reports bytes).too_long
+    long (Some (request.Import vehicles)) h = (file-tells vehicles bytes).too_long
+    long (Some (request.Generate n)) h = absurd cc
+    long (Some (request.Demo n)) h = absurd cc
+
+    with_json : {A B : Type 0} (b : Bool) → b ≡ true → A ↔ B → A ↔ ((b ≡ true) × B)
+    with_json b e same = (λ a. (e, same.0 a), λ h. same.1 h.1)
+
+    json : (o : Option Request) → ((reply_in reports o bytes).status ≡ 4) ↔ ((reads_json o ≡ true) × IsNotJson bytes)
+    json None = (λ e. absurd (omega arith), λ h. absurd (let k = h.0 in cc))
+    json (Some (request.Read (task.Find asked))) = with_json true refl (input-tells asked reports bytes).not_json
+    json (Some (request.Read (task.Ask asked))) = with_json true refl (check-tells asked reports bytes).not_json
+    json (Some (request.Import vehicles)) = (λ e. absurd ((file-tells vehicles bytes).json e), λ h. absurd (let k = h.0 in cc))
+    json (Some (request.Generate n)) = (λ e. absurd (omega (arith, e, generated-done n)), λ h. absurd (let k = h.0 in cc))
+    json (Some (request.Demo n)) = (λ e. absurd (omega (arith, e, demo-done n)), λ h. absurd (let k = h.0 in cc))

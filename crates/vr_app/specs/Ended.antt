@@ -1,0 +1,56 @@
+-- How a run ends.
+use Rattle.std.specs.Prelude.{◌≡◌, ◌≢◌, ◌⊎◌, ℕ, List, [], Option, Some}
+use Rattle.vr_io.specs.Edges.{Rose, Took}
+use Rattle.vr_io.specs.Whole.{TookFront}
+use Rattle.vr_model.specs.declared.search.Event.{Event}
+use Rattle.vr_app.specs.Answers.{AnswersReply, IsOfAnswer}
+use Rattle.vr_app.specs.Reply.{reply}
+use Rattle.vr_app.specs.Runs.{IsAsking, IsNotAccepted, IsRead, IsUnread, WhereTold}
+use Rattle.vr_app.specs.Status.{number_of}
+use Rattle.vr_app.specs.declared.answer.Answer.{Answer}
+use Rattle.vr_app.specs.declared.status.Status.{Status}
+use Rattle.vr_app.specs.declared.status.Status.TheVariants as all
+
+-- the answer is the one to these words and to a source that has this left before, and this after
+pub record Responds (reports : List Event → List ℕ) (words : List (List ℕ)) (left rest : Option (List ℕ))
+    (answer : Answer) : Type 0 where
+  pub replies : WhereTold left (λ bytes. AnswersReply (reply reports words bytes) answer)
+  pub unread : IsUnread words → (bytes : List ℕ) → AnswersReply (reply reports words bytes) answer
+  pub usage_only : answer.status ≡ all.Usage → IsNotAccepted words
+  pub not_met_only : answer.status ≡ all.NotMet → IsAsking words
+  pub emptied : IsRead words → answer.status ≢ all.TooLong → WhereTold left (λ bytes. rest ≡ Some [])
+  pub settled : IsOfAnswer answer.status
+
+-- an answer of which P holds was written, and the status is its own
+pub record IsAnswered (P : Answer → Type 0) (old new : Option (List ℕ)) (status : ℕ) : Type 0 where
+  pub answer : Answer
+  pub responds : P answer
+  pub status_is : status ≡ number_of answer.status
+  pub took : Took old new answer.text
+
+-- the sink failed at such an answer, and took a front of it
+pub record IsCut (P : Answer → Type 0) (old new : Option (List ℕ)) (failed fails status : ℕ) : Type 0 where
+  pub answer : Answer
+  pub responds : P answer
+  pub status_is : status ≡ number_of all.WriteFault
+  pub took : TookFront old new answer.text
+  pub fault : Rose failed fails
+
+-- there is no answer, for a cause of this status, and the sink is as it was
+pub record IsSilent {K : Type 0} (cause : Status) (old new : K) (status : ℕ) : Type 0 where
+  pub status_is : status ≡ number_of cause
+  pub same : new ≡ old
+
+-- an answer of which P holds is written, or cut short where the sink failed; or there is none, because the source
+-- failed, where `failed` holds, or memory was wanting
+abbrev pub Ends : {K : Type 0} → (K → Option (List ℕ)) → (K → ℕ) → (Answer → Type 0) → Type 0 → K → K → ℕ → Type 0
+Ends written faults P failed old new status =
+    IsAnswered P (written old) (written new) status
+    ⊎ IsCut P (written old) (written new) (faults old) (faults new) status
+    ⊎ (IsSilent all.ReadFault old new status × failed)
+    ⊎ IsSilent all.NoMemory old new status
+
+-- a run of these words ends so: the source has this left before and after it, and failed so often
+pub record Ran {K : Type 0} (written : K → Option (List ℕ)) (faults : K → ℕ) (reports : List Event → List ℕ)
+    (words : List (List ℕ)) (left rest : Option (List ℕ)) (failed fails : ℕ) (old new : K) (status : ℕ) : Type 0 where
+  pub ends : Ends written faults (Responds reports words left rest) (Rose failed fails × IsRead words) old new status

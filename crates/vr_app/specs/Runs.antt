@@ -1,0 +1,89 @@
+-- Of which runs a clause speaks.
+use Rattle.std.specs.Prelude.{◌≡◌, ◌≢◌, ℕ, List, true, false, Option, Some, None, String, map, string_bytes}
+use Rattle.std.specs.declared.alloc.Global.{Global}
+use Rattle.vr_app.specs.Words.{is_read, reads_json, request_of}
+use Rattle.vr_app.specs.declared.words.Mode.{Mode}
+use Rattle.vr_app.specs.declared.words.Question.{Question}
+use Rattle.vr_app.specs.declared.words.Question.TheVariants as question
+use Rattle.vr_app.specs.declared.words.Request.TheVariants as request
+use Rattle.vr_app.specs.declared.words.Task.{Task}
+use Rattle.vr_app.specs.declared.words.Task.TheVariants as task
+
+-- the words, as bytes
+abbrev pub bytes_of : List (String Global) → List (List ℕ)
+bytes_of words = map string_bytes words
+
+-- the words are not accepted
+abbrev pub IsNotAccepted : List (List ℕ) → Type 0
+IsNotAccepted words = request_of words ≡ None
+
+-- the words ask for this solution of the input
+abbrev pub IsAskedFor : Mode → List (List ℕ) → Type 0
+IsAskedFor asked words = request_of words ≡ Some (request.Read (task.Find asked))
+
+-- the words ask for a solution of the input
+abbrev pub IsSolved : List (List ℕ) → Type 0
+IsSolved words = (asked : Mode) × IsAskedFor asked words
+
+-- the task is a question about a solution
+abbrev pub IsQuestion : Task → Type 0
+IsQuestion it = (asked : Question) × (it ≡ task.Ask asked)
+
+-- the words ask this about the solution in the input
+abbrev pub Asks : Question → List (List ℕ) → Type 0
+Asks asked words = request_of words ≡ Some (request.Read (task.Ask asked))
+
+-- the words ask whether the solution in the input meets the rules of its model
+abbrev pub IsChecked : List (List ℕ) → Type 0
+IsChecked words = Asks question.Check words
+
+-- the words ask how short the routes of the solution in the input could be
+abbrev pub IsSpanned : List (List ℕ) → Type 0
+IsSpanned words = Asks question.Spans words
+
+-- the words ask about the solution in the input
+abbrev pub IsAsking : List (List ℕ) → Type 0
+IsAsking words = (asked : Question) × Asks asked words
+
+-- the words ask for the model of a file, with so many vehicles
+abbrev pub Imports : ℕ → List (List ℕ) → Type 0
+Imports vehicles words = request_of words ≡ Some (request.Import vehicles)
+
+-- the words are accepted, and the input is read
+abbrev pub IsRead : List (List ℕ) → Type 0
+IsRead words = is_read (request_of words) ≡ true
+
+-- the words are accepted, and the input is read as JSON: they do not ask for the model of a file
+abbrev pub ReadsJson : List (List ℕ) → Type 0
+ReadsJson words = reads_json (request_of words) ≡ true
+
+-- the words are not accepted, or the input is not read
+abbrev pub IsUnread : List (List ℕ) → Type 0
+IsUnread words = is_read (request_of words) ≡ false
+
+-- a status that tells of an answer: no fault of source or sink, and no want of memory
+pub record IsSettled (status : ℕ) : Type 0 where
+  pub is_read : status ≢ 2
+  pub is_written : status ≢ 3
+  pub has_memory : status ≢ 7
+
+-- what is said of the bytes that a source has left, where it tells them
+abbrev pub WhereTold : Option (List ℕ) → (List ℕ → Type 0) → Type 0
+WhereTold left P = (bytes : List ℕ) → left ≡ Some bytes → P bytes
+
+-- what is said of the input of a run that was settled, where it is read
+abbrev pub WhereAnswered : List (List ℕ) → Option (List ℕ) → ℕ → (List ℕ → Type 0) → Type 0
+WhereAnswered words left status P = IsSettled status → IsRead words → WhereTold left P
+
+-- the same, where a solution of it is asked for
+abbrev pub WhereSolved : List (List ℕ) → Option (List ℕ) → ℕ → (List ℕ → Type 0) → Type 0
+WhereSolved words left status P = IsSettled status → IsSolved words → WhereTold left P
+
+-- the same, where something is asked about its solution
+abbrev pub WhereAsked : List (List ℕ) → Option (List ℕ) → ℕ → (List ℕ → Type 0) → Type 0
+WhereAsked words left status P = IsSettled status → IsAsking words → WhereTold left P
+
+-- the same, where it is a file whose model with so many vehicles is asked for
+abbrev pub WhereImported : List (List ℕ) → Option (List ℕ) → ℕ → (ℕ → List ℕ → Type 0) → Type 0
+WhereImported words left status P =
+    IsSettled status → (vehicles : ℕ) → Imports vehicles words → WhereTold left (P vehicles)

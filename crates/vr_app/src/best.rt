@@ -1,0 +1,31 @@
+//! What a search gives.
+
+ghost use Rattle.vr_app.specs.Endings.{EndsAs};
+ghost use Rattle.vr_app.specs.Improved as improved;
+
+use vr_model::{End, Report};
+use vr_routes::Routes;
+
+/// The best routes of a search, and how it went.
+#[derive(Drop)]
+pub struct Best {
+    /// Routes of the best lists that it committed.
+    pub routes: Routes,
+    /// How many moves it tried, how many solutions it found and why it ended.
+    pub report: Report,
+}
+
+/// What a search gives that tries no move: the first solution is the best.
+pub fn untried(first: Routes) -> Best
+    ensures { EndsAs first.visits (improved.untried first.lists) result }
+{
+    let report = Report {
+        tries: 0,
+        solutions: 1,
+        end: End::First,
+    };
+    Best {
+        routes: first,
+        report,
+    }
+}

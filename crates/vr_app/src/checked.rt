@@ -1,0 +1,193 @@
+//! The answer to a question about a model and a solution beside it: whether this keeps the rules of that, or how short
+//! its routes could be.
+
+ghost use Rattle.std.specs.Prelude.{◌≡◌, IfOk, codes};
+ghost use Rattle.serde_json.specs.View.{view};
+ghost use Rattle.vr_check.specs.Check.{finding};
+ghost use Rattle.vr_check.specs.declared.finding.Finding.TheVariants.{Meets};
+ghost use Rattle.vr_json.specs.Reading.{Answers, required as field_of, seen};
+ghost use Rattle.vr_model.specs.tables.WellFormed.{IsWellFormed};
+ghost use Rattle.vr_read.specs.Models.{read_model as model_at};
+ghost use Rattle.vr_app.specs.Answers.{AnswersReply, IsOfChecking, replied};
+ghost use Rattle.vr_app.specs.Checked.{any_tree, checked_at, checked_of, checked_pair, checked_with};
+ghost use Rattle.vr_app.specs.Reply as replies;
+
+use crate::answer::{Answer, line, refused};
+use crate::spans::spans_tree;
+use crate::status::Status;
+use crate::texts::{met_tree, not_met_tree};
+use crate::words::Question;
+use serde_json::Value;
+use std::alloc::Global;
+use vr_check::{Finding, Rule, check};
+use vr_json::{Cause, Path, Place, ReadFail, Reader, field, known, required, settle};
+use vr_model::{Model, NoMemory};
+use vr_read::read_model;
+
+/// The table of a model, as a field.
+#[derive(Clone, Copy)]
+pub struct ModelField;
+
+impl Reader for ModelField {
+    ghost use Rattle.vr_read.specs.Models.{read_model};
+
+    type Item = Model;
+
+    ghost reads = { λ it earlier path d. read_model path d };
+
+    fn read(
+        &self,
+        alloc: Global,
+        _earlier: &[Model],
+        value: &Value,
+        place: Place<'_>,
+    ) -> Result<Model, ReadFail> {
+        let path = place.path()?;
+        let model = read_model(alloc, value, &path)?;
+        Ok(model)
+    }
+}
+
+// The model in an object.
+fn model_in(alloc: Global, value: &Value, path: &Path) -> Result<Model, ReadFail>
+    ensures model { Answers result (field_of (codes "model") model_at path.now (view value.now)) }
+    ensures well_formed { IfOk result IsWellFormed }
+{
+    let model = required(alloc, value, "model", path, &ModelField)?;
+    Ok(model)
+}
+
+// The solution in an object, as it stands.
+fn solution_in<'a>(alloc: Global, value: &'a Value, path: &Path) -> Result<&'a Value, ReadFail>
+    ensures { Answers (seen (λ v. view v.now) result)
+        (field_of (codes "solution") any_tree path.now (view value.now)) }
+{
+    match field(alloc, value, "solution", path)? {
+        Some(solution) => Ok(solution),
+        None => settle(alloc, Err(Cause::Absent), path.field("solution")),
+    }
+}
+
+// The answer to a question about a solution that meets the rules of its model, and costs so much.
+fn answer_met(
+    alloc: Global,
+    question: Question,
+    model: &Model,
+    solution: &Value,
+    cost: i64,
+) -> Result<Answer, NoMemory>
+    requires well_formed { IsWellFormed model.now }
+    requires meets { finding model.now (view solution.now) ≡ Meets cost }
+    ensures reply { let it = checked_pair model.now (view solution.now) in
+        IfOk result (AnswersReply (replies.reply_to_finding question it (Meets cost))) }
+    ensures status { IfOk result (λ a. IsOfChecking a.status) }
+{
+    match question {
+        Question::Check => {
+            let tree = met_tree(alloc, cost)?;
+            line(alloc, Status::Done, &tree)
+        }
+        Question::Spans => {
+            let tree = spans_tree(alloc, model, solution)?;
+            line(alloc, Status::Done, &tree)
+        }
+    }
+}
+
+// The answer that tells of the first rule that a solution breaks.
+fn answer_broken(alloc: Global, rule: Rule, vehicle: i64, place: i64) -> Result<Answer, NoMemory>
+    ensures reply { IfOk result (AnswersReply (replies.broken rule vehicle place)) }
+    ensures status { IfOk result (λ a. IsOfChecking a.status) }
+{
+    let tree = not_met_tree(alloc, rule, vehicle, place)?;
+    line(alloc, Status::NotMet, &tree)
+}
+
+// The answer to a question about a solution of a model.
+fn answer_pair(
+    alloc: Global,
+    question: Question,
+    model: &Model,
+    solution: &Value,
+) -> Result<Answer, NoMemory>
+    requires { IsWellFormed model.now }
+    ensures reply { let it = checked_pair model.now (view solution.now) in
+        IfOk result (AnswersReply (replies.reply_to_question question it)) }
+    ensures status { IfOk result (λ a. IsOfChecking a.status) }
+{
+    match check(alloc, model, solution)? {
+        Finding::Meets { cost } => answer_met(alloc, question, model, solution, cost),
+        Finding::Broken {
+            rule,
+            vehicle,
+            place,
+        } => answer_broken(alloc, rule, vehicle, place),
+    }
+}
+
+// The answer to a question about the solution beside a model that was read, in an object of these two.
+fn answer_with(
+    alloc: Global,
+    question: Question,
+    model: &Model,
+    value: &Value,
+    path: &Path,
+) -> Result<Answer, ReadFail>
+    requires { IsWellFormed model.now }
+    ensures reply { let reading = checked_with model.now path.now (view value.now) in
+        Answers (seen replied result) (seen (replies.reply_to_question question) reading) }
+    ensures status { IfOk result (λ a. IsOfChecking a.status) }
+{
+    let solution = solution_in(alloc, value, path)?;
+    known(alloc, value, &["model", "solution"], path)?;
+    let answer = answer_pair(alloc, question, model, solution)?;
+    Ok(answer)
+}
+
+// The answer to a question about a model and a solution, in an object of these two.
+fn answer_in(
+    alloc: Global,
+    question: Question,
+    value: &Value,
+    path: &Path,
+) -> Result<Answer, ReadFail>
+    ensures reply { let reading = checked_at path.now (view value.now) in
+        Answers (seen replied result) (seen (replies.reply_to_question question) reading) }
+    ensures status { IfOk result (λ a. IsOfChecking a.status) }
+{
+    let model = model_in(alloc, value, path)?;
+    answer_with(alloc, question, &model, value, path)
+}
+
+// The same, where that object is the whole input.
+fn answer_of(alloc: Global, question: Question, value: &Value) -> Result<Answer, ReadFail>
+    ensures reply { let reading = checked_of (view value.now) in
+        Answers (seen replied result) (seen (replies.reply_to_question question) reading) }
+    ensures status { IfOk result (λ a. IsOfChecking a.status) }
+{
+    let path = Path::root(alloc);
+    let answer = answer_in(alloc, question, value, &path)?;
+    Ok(answer)
+}
+
+// The answer to a question about a value.
+fn answer_borrowed(alloc: Global, question: Question, value: &Value) -> Result<Answer, NoMemory>
+    ensures reply { IfOk result (AnswersReply (replies.reply_to_checked question (checked_of (view value.now)))) }
+    ensures status { IfOk result (λ a. IsOfChecking a.status) }
+{
+    match answer_of(alloc, question, value) {
+        Ok(answer) => Ok(answer),
+        Err(ReadFail::Refused(fault)) => refused(alloc, &fault),
+        Err(ReadFail::NoMemory) => Err(NoMemory),
+    }
+}
+
+/// The answer to a question about a value, an object of a model and a solution: what is asked where the solution keeps
+/// all rules of the model, else the first rule that it breaks; or the first fault of the value. The value is let go at
+/// the end. `NoMemory` where there was no memory.
+pub fn answer_checked(alloc: Global, question: Question, value: Value) -> Result<Answer, NoMemory>
+    ensures reply { IfOk result (AnswersReply (replies.reply_to_checked question (checked_of (view value)))) }
+    ensures status { IfOk result (λ a. IsOfChecking a.status) }
+{
+    answer_borrowed(alloc, question, &value)
+}

@@ -1,0 +1,80 @@
+//! The answer that needs no input and searches: a summary of the search of the model of a number.
+
+ghost use Rattle.std.specs.Prelude.{◌≡◌, Ok, Some, IfOk};
+ghost use Rattle.serde_json.specs.View.{view};
+ghost use Rattle.vr_model.specs.first.FirstSolutions.{first_lists};
+ghost use Rattle.vr_model.specs.tables.Tables.{visits};
+ghost use Rattle.vr_model.specs.tables.WellFormed.{IsWellFormed};
+ghost use Rattle.vr_app.specs.Answers.{AnswersReply, IsOfSolving};
+ghost use Rattle.vr_app.specs.Found.{found_from};
+ghost use Rattle.vr_app.specs.Input.{model_of};
+ghost use Rattle.vr_app.specs.Reply as replies;
+ghost use Rattle.vr_app.specs.declared.words.Mode.TheVariants as asked;
+
+use crate::answer::{Answer, none_found, refused};
+use crate::first::first_routes;
+use crate::input::read_owned;
+use crate::numbered::summarised;
+use crate::search::solve_unwatched;
+use crate::status::Status;
+use serde_json::Value;
+use std::alloc::Global;
+use vr_gen::generate;
+use vr_json::ReadFail;
+use vr_model::{Model, NoMemory};
+use vr_routes::Routes;
+use vr_rules::total;
+
+/// The answer that tells of the whole search of the model of a number. It is the one that its model would have if it
+/// were read, in short: it does not rest on a law that this model is read and solved.
+pub(crate) fn demo(alloc: Global, number: u64) -> Result<Answer, NoMemory>
+    ensures reply { IfOk result (AnswersReply (replies.reply_of_demo number)) }
+    ensures status { IfOk result (λ a. IsOfSolving a.status) }
+{
+    let tree = generate(alloc, number)?;
+    summary_of_tree(alloc, number, tree)
+}
+
+// The answer that tells of the search of the model of this tree.
+fn summary_of_tree(alloc: Global, number: u64, tree: Value) -> Result<Answer, NoMemory>
+    ensures reply { IfOk result (AnswersReply (replies.summary_of_model number (model_of (view tree)))) }
+    ensures status { IfOk result (λ a. IsOfSolving a.status) }
+{
+    match read_owned(alloc, tree) {
+        Ok(model) => summary_of_model(alloc, number, &model),
+        Err(ReadFail::Refused(fault)) => refused(alloc, &fault),
+        Err(ReadFail::NoMemory) => Err(NoMemory),
+    }
+}
+
+// The answer that tells of the search of a model.
+fn summary_of_model(alloc: Global, number: u64, model: &Model) -> Result<Answer, NoMemory>
+    requires { IsWellFormed model.now }
+    ensures reply { IfOk result (AnswersReply (replies.summary_of_model number (Ok model.now))) }
+    ensures status { IfOk result (λ a. IsOfSolving a.status) }
+{
+    match first_routes(alloc, model)? {
+        None => none_found(alloc),
+        Some(first) => summary_of_first(alloc, number, model, first),
+    }
+}
+
+// The same, from its first solution.
+fn summary_of_first(
+    alloc: Global,
+    number: u64,
+    model: &Model,
+    first: Routes,
+) -> Result<Answer, NoMemory>
+    requires well_formed { IsWellFormed model.now }
+    requires first { first_lists model.now ≡ Some first.lists }
+    requires of_model { first.visits ≡ visits model.now }
+    ensures reply { let found = found_from asked.Solve model.now first.lists in
+        IfOk result (AnswersReply (replies.summary_of_found number model.now (Some found))) }
+    ensures status { IfOk result (λ a. a.status ≡ Status.Done) }
+{
+    let first_cost = total(alloc, model, &first)?;
+    let best = solve_unwatched(alloc, model, first, first_cost)?;
+    let answer = summarised(alloc, number, model, first_cost, &best)?;
+    Ok(answer)
+}

@@ -1,0 +1,244 @@
+//! The improvement of a first solution.
+
+ghost use Rattle.std.specs.Prelude.{◌≡◌, ◌≤◌, ◌≤ℤ◌, pos, IfOk, IsTrue, OnOk};
+ghost use Rattle.vr_model.specs.routes.Costs.{cost};
+ghost use Rattle.vr_model.specs.routes.Rules.{is_valid};
+ghost use Rattle.vr_model.specs.search.Descents.{descent};
+ghost use Rattle.vr_model.specs.search.GuidedSearches.{guided};
+ghost use Rattle.vr_model.specs.tables.Tables.{visits};
+ghost use Rattle.vr_model.specs.tables.WellFormed.{IsWellFormed};
+ghost use Rattle.vr_routes.specs.Judging.{HoldSame};
+ghost use Rattle.vr_watch.specs.Told.{Told};
+ghost use Rattle.vr_lns.specs.PathLns.{path_lns};
+ghost use Rattle.vr_tabu.specs.TabuSearches.{tabu_search};
+ghost use Rattle.vr_app.specs.Endings.{EndsAs};
+ghost use Rattle.vr_app.specs.Improved as improved;
+
+use crate::best::{Best, untried};
+use std::alloc::Global;
+use std::sync::ledger::Ledger;
+use vr_descent::descend;
+use vr_guided::guide;
+use vr_lns::{Rebuild, lns};
+use vr_model::{Improve, Lambda, Limit, Model, NoMemory, Steps};
+use vr_routes::{Judge, Routes};
+use vr_tabu::tabu;
+use vr_watch::Watch;
+
+/// Who is told of the events of a search.
+pub type Watchers = Vec<Box<dyn Watch>>;
+
+/// The routes that a search begins with.
+#[derive(Drop)]
+pub struct FirstSolution {
+    /// Routes of valid lists.
+    pub routes: Routes,
+    /// What they cost.
+    pub cost: i64,
+}
+
+// How many tries and solutions a model allows.
+fn limit_of(model: &Model) -> Limit
+    requires { IsWellFormed model.now }
+    ensures limit { result ≡ improved.limit_of model.now }
+    ensures tries { result.tries ≤ 1000000000 }
+    ensures one_solution { 1 ≤ result.solutions }
+    ensures solutions { result.solutions ≤ 1000000000 }
+{
+    Limit {
+        tries: model.search.tries,
+        solutions: model.search.solutions,
+    }
+}
+
+// How much penalised arcs weigh.
+fn lambda_of(model: &Model) -> Lambda
+    requires { IsWellFormed model.now }
+    ensures lambda { result ≡ improved.lambda_of model.now }
+    ensures p_from_one { pos 1 ≤ℤ result.p }
+    ensures p_to_1000 { result.p ≤ℤ pos 1000 }
+    ensures q_from_one { pos 1 ≤ℤ result.q }
+    ensures q_to_1000 { result.q ≤ℤ pos 1000 }
+{
+    Lambda {
+        p: model.search.p,
+        q: model.search.q,
+    }
+}
+
+// How many visits a cut takes out of a path at most.
+fn cut_of(model: &Model) -> u32
+    requires { IsWellFormed model.now }
+    ensures cut { result ≡ model.now.search.cut }
+    ensures one { 1 ≤ result }
+    ensures few { result ≤ 100 }
+{
+    model.search.cut
+}
+
+// For how many rounds a changed visit is tabu.
+fn tenure_of(model: &Model) -> u32
+    requires { IsWellFormed model.now }
+    ensures tenure { result ≡ model.now.search.tenure }
+    ensures one { 1 ≤ result }
+    ensures few { result ≤ 1000 }
+{
+    model.search.tenure
+}
+
+// Greedy descent from the first solution.
+fn descend_from<J: Judge, L: Ledger>(
+    model: &Model,
+    judge: &mut J,
+    first: FirstSolution,
+    watch: &mut Watchers,
+    steps: &mut Steps<L>,
+) -> Result<Best, NoMemory>
+    requires well_formed { IsWellFormed model.now }
+    requires judge_model { J.model judge.old ≡ model.now }
+    requires holds { HoldSame model.now (J.committed judge.old) first.routes }
+    requires first_cost { first.cost ≡ cost model.now first.routes.lists }
+    ensures ends { IfOk result (EndsAs first.routes.visits
+        (descent model.now first.routes.lists (improved.limit_of model.now))) }
+    ensures told { OnOk result (Told (λ w later. after w later) watch.old.items watch.new.items
+        (descent model.now first.routes.lists (improved.limit_of model.now)).events) }
+{
+    let limit = limit_of(model);
+    let FirstSolution { mut routes, cost } = first;
+    let report = descend(model, judge, &mut routes, cost, limit, watch, steps)?;
+    Ok(Best { routes, report })
+}
+
+// Guided local search from the first solution.
+fn guide_from<J: Judge, L: Ledger>(
+    alloc: Global,
+    model: &Model,
+    judge: &mut J,
+    first: FirstSolution,
+    watch: &mut Watchers,
+    steps: &mut Steps<L>,
+) -> Result<Best, NoMemory>
+    requires well_formed { IsWellFormed model.now }
+    requires judge_model { J.model judge.old ≡ model.now }
+    requires holds { HoldSame model.now (J.committed judge.old) first.routes }
+    requires first_cost { first.cost ≡ cost model.now first.routes.lists }
+    ensures ends { IfOk result (EndsAs first.routes.visits
+        (guided model.now first.routes.lists (improved.limit_of model.now) (improved.lambda_of model.now))) }
+    ensures told { OnOk result (Told (λ w later. after w later) watch.old.items watch.new.items
+        (guided model.now first.routes.lists (improved.limit_of model.now) (improved.lambda_of model.now)).events) }
+{
+    let limit = limit_of(model);
+    let lambda = lambda_of(model);
+    let FirstSolution { mut routes, cost } = first;
+    let guided = guide(
+        alloc,
+        model,
+        judge,
+        &mut routes,
+        cost,
+        limit,
+        lambda,
+        watch,
+        steps,
+    )?;
+    Ok(Best {
+        routes: guided.best,
+        report: guided.report,
+    })
+}
+
+// Tabu search from the first solution.
+fn tabu_from<J: Judge, L: Ledger>(
+    alloc: Global,
+    model: &Model,
+    judge: &mut J,
+    first: FirstSolution,
+    watch: &mut Watchers,
+    steps: &mut Steps<L>,
+) -> Result<Best, NoMemory>
+    requires well_formed { IsWellFormed model.now }
+    requires judge_model { J.model judge.old ≡ model.now }
+    requires holds { HoldSame model.now (J.committed judge.old) first.routes }
+    requires first_cost { first.cost ≡ cost model.now first.routes.lists }
+    ensures ends { IfOk result (EndsAs first.routes.visits
+        (tabu_search model.now first.routes.lists (improved.limit_of model.now) model.now.search.tenure)) }
+    ensures told { OnOk result (Told (λ w later. after w later) watch.old.items watch.new.items
+        (tabu_search model.now first.routes.lists (improved.limit_of model.now) model.now.search.tenure).events) }
+{
+    let limit = limit_of(model);
+    let tenure = tenure_of(model);
+    let FirstSolution { mut routes, cost } = first;
+    let answer = tabu(
+        alloc,
+        model,
+        judge,
+        &mut routes,
+        cost,
+        limit,
+        tenure,
+        watch,
+        steps,
+    )?;
+    Ok(Best {
+        routes: answer.best,
+        report: answer.report,
+    })
+}
+
+// Path neighbourhoods from the first solution.
+fn rebuild_from<R: Rebuild>(
+    alloc: Global,
+    model: &Model,
+    rebuild: &mut R,
+    first: FirstSolution,
+    watch: &mut Watchers,
+) -> Result<Best, NoMemory>
+    requires well_formed { IsWellFormed model.now }
+    requires of_model { first.routes.visits ≡ visits model.now }
+    requires valid { IsTrue (is_valid model.now first.routes.lists) }
+    ensures ends { IfOk result (EndsAs first.routes.visits
+        (path_lns model.now first.routes.lists (improved.limit_of model.now) model.now.search.cut)) }
+    ensures told { OnOk result (Told (λ w later. after w later) watch.old.items watch.new.items
+        (path_lns model.now first.routes.lists (improved.limit_of model.now) model.now.search.cut).events) }
+{
+    let limit = limit_of(model);
+    let cut = cut_of(model);
+    let FirstSolution {
+        mut routes,
+        cost: _,
+    } = first;
+    let report = lns(alloc, model, rebuild, &mut routes, limit, cut, watch)?;
+    Ok(Best { routes, report })
+}
+
+/// What the improvement that the model names makes of its first solution, by a judge that has committed it, or by what
+/// rebuilds open routes (`RoutingModel::SolveFromAssignmentWithParameters` in OR-Tools, by
+/// `local_search_metaheuristic`). The watchers are told of each event.
+///
+/// `NoMemory` where there was no memory, also where a watcher finds none.
+pub fn improve<J: Judge, R: Rebuild, L: Ledger>(
+    alloc: Global,
+    model: &Model,
+    judge: &mut J,
+    rebuild: &mut R,
+    first: FirstSolution,
+    watch: &mut Watchers,
+    steps: &mut Steps<L>,
+) -> Result<Best, NoMemory>
+    requires well_formed { IsWellFormed model.now }
+    requires judge_model { J.model judge.old ≡ model.now }
+    requires holds { HoldSame model.now (J.committed judge.old) first.routes }
+    requires first_cost { first.cost ≡ cost model.now first.routes.lists }
+    ensures ends { let outcome = improved.improved model.now.search.improve model.now first.routes.lists in
+        IfOk result (EndsAs first.routes.visits outcome) }
+    ensures told { let outcome = improved.improved model.now.search.improve model.now first.routes.lists in
+        OnOk result (Told (λ w later. after w later) watch.old.items watch.new.items outcome.events) }
+{
+    match model.search.improve {
+        Improve::None => Ok(untried(first.routes)),
+        Improve::GreedyDescent => descend_from(model, judge, first, watch, steps),
+        Improve::GuidedLocalSearch => guide_from(alloc, model, judge, first, watch, steps),
+        Improve::PathLns => rebuild_from(alloc, model, rebuild, first, watch),
+        Improve::TabuSearch => tabu_from(alloc, model, judge, first, watch, steps),
+    }
+}

@@ -1,0 +1,149 @@
+//! The answers to the input.
+
+ghost use Rattle.std.specs.Prelude.{◌≡◌, ◌≤◌, Ok, Some, IfOk, OnOk, length, option_map};
+ghost use Rattle.serde_json.specs.View.{view};
+ghost use Rattle.vr_model.specs.first.FirstSolutions.{first_lists};
+ghost use Rattle.vr_model.specs.tables.Tables.{visits};
+ghost use Rattle.vr_model.specs.tables.WellFormed.{IsWellFormed};
+ghost use Rattle.vr_watch.specs.Told.{Told};
+ghost use Rattle.vr_app.specs.Answers.{AnswersReply, IsOfShort, IsOfSolving};
+ghost use Rattle.vr_app.specs.Found.{answer as wanted, events_of, found_from, line_of_found};
+ghost use Rattle.vr_app.specs.Input.{max_input, model_of};
+ghost use Rattle.vr_app.specs.Reply as replies;
+ghost use Rattle.vr_app.specs.Reports.{joined};
+ghost use Rattle.vr_app.specs.Runs.{IsQuestion};
+
+use crate::answer::{Answer, none_found, not_json, refused};
+use crate::checked::answer_checked;
+use crate::first::first_routes;
+use crate::improving::Watchers;
+use crate::input::{parse_owned, read_owned};
+use crate::logs::done;
+use crate::search::search;
+use crate::status::Status;
+use crate::words::{Mode, Task};
+use serde_json::Value;
+use std::alloc::Global;
+use vr_json::ReadFail;
+use vr_model::{Model, NoMemory, Seq};
+use vr_print::solution_line;
+use vr_routes::Routes;
+use vr_rules::total;
+
+// The line of what a mode finds for a model with this first solution. With `Log` the watchers are told of each event.
+fn line_from(
+    alloc: Global,
+    mode: Mode,
+    model: &Model,
+    first: Routes,
+    watch: &mut Watchers,
+) -> Result<Seq<u8>, NoMemory>
+    requires well_formed { IsWellFormed model.now }
+    requires first { first_lists model.now ≡ Some first.lists }
+    requires of_model { first.visits ≡ visits model.now }
+    ensures line { IfOk result (λ line. line ≡ line_of_found model.now (found_from mode model.now first.lists)) }
+    ensures told { mode ≡ Mode.Log → OnOk result (Told (λ w later. after w later) watch.old.items watch.new.items
+        (found_from mode model.now first.lists).outcome.events) }
+{
+    let first_cost = total(alloc, model, &first)?;
+    let found = search(alloc, mode, model, first, first_cost, watch)?;
+    let line = solution_line(alloc, model, &found.routes, first_cost, found.report)?;
+    Ok(line)
+}
+
+// The line of what a mode finds for a model, none where the construction gives no first solution.
+fn line_found(
+    alloc: Global,
+    mode: Mode,
+    model: &Model,
+    watch: &mut Watchers,
+) -> Result<Option<Seq<u8>>, NoMemory>
+    requires { IsWellFormed model.now }
+    ensures line { IfOk result (λ line. line ≡ option_map (line_of_found model.now) (wanted mode model.now)) }
+    ensures told { mode ≡ Mode.Log → OnOk result (Told (λ w later. after w later) watch.old.items watch.new.items
+        (events_of (wanted mode model.now))) }
+{
+    match first_routes(alloc, model)? {
+        None => Ok(None),
+        Some(first) => {
+            let line = line_from(alloc, mode, model, first, watch)?;
+            Ok(Some(line))
+        }
+    }
+}
+
+// The answer of a mode to a model.
+fn answer_model(
+    alloc: Global,
+    mode: Mode,
+    model: &Model,
+    watch: &mut Watchers,
+) -> Result<Answer, NoMemory>
+    requires { IsWellFormed model.now }
+    ensures reply { let reports = joined (λ w later. after w later) watch.old.items in
+        IfOk result (AnswersReply (replies.reply_to_model mode reports (Ok model.now))) }
+    ensures status { IfOk result (λ a. IsOfSolving a.status) }
+{
+    match line_found(alloc, mode, model, watch)? {
+        Some(line) => {
+            let answer = done(mode, line, watch)?;
+            Ok(answer)
+        }
+        None => none_found(alloc),
+    }
+}
+
+// The answer of a mode to a value.
+fn answer_solved(
+    alloc: Global,
+    mode: Mode,
+    value: Value,
+    watch: &mut Watchers,
+) -> Result<Answer, NoMemory>
+    ensures reply { let reports = joined (λ w later. after w later) watch.old.items in
+        IfOk result (AnswersReply (replies.reply_to_model mode reports (model_of (view value)))) }
+    ensures status { IfOk result (λ a. IsOfSolving a.status) }
+{
+    match read_owned(alloc, value) {
+        Ok(model) => answer_model(alloc, mode, &model, watch),
+        Err(ReadFail::Refused(fault)) => refused(alloc, &fault),
+        Err(ReadFail::NoMemory) => Err(NoMemory),
+    }
+}
+
+// The answer to a value.
+fn answer_value(
+    alloc: Global,
+    task: Task,
+    value: Value,
+    watch: &mut Watchers,
+) -> Result<Answer, NoMemory>
+    ensures reply { let reports = joined (λ w later. after w later) watch.old.items in
+        IfOk result (AnswersReply (replies.reply_to_tree task reports (view value))) }
+    ensures status { IfOk result (λ a. IsOfShort a.status) }
+    ensures not_met_only { IfOk result (λ a. a.status ≡ Status.NotMet → IsQuestion task) }
+{
+    match task {
+        Task::Find(mode) => answer_solved(alloc, mode, value, watch),
+        Task::Ask(question) => answer_checked(alloc, question, value),
+    }
+}
+
+/// The answer to an input of at most `MOST_INPUT_BYTES` bytes. The bytes are let go before the model is read, and their
+/// value before the model is solved.
+pub(crate) fn answer_input(
+    alloc: Global,
+    task: Task,
+    bytes: Vec<u8>,
+    watch: &mut Watchers,
+) -> Result<Answer, NoMemory>
+    ensures reply { let reports = joined (λ w later. after w later) watch.old.items in
+        length bytes.items ≤ max_input → IfOk result (AnswersReply (replies.reply_to_input task reports bytes.items)) }
+    ensures status { IfOk result (λ a. IsOfShort a.status) }
+    ensures not_met_only { IfOk result (λ a. a.status ≡ Status.NotMet → IsQuestion task) }
+{
+    match parse_owned(alloc, bytes)? {
+        None => not_json(alloc),
+        Some(value) => answer_value(alloc, task, value, watch),
+    }
+}

@@ -1,0 +1,39 @@
+//! How a run ends.
+
+ghost use Rattle.std.specs.Prelude.{◌≡◌};
+ghost use Rattle.vr_app.specs.Status.{IsStatus, number_of};
+
+/// The status of a run. Its number is what the program ends with.
+#[derive(Clone, Copy)]
+pub enum Status {
+    /// The answer was written.
+    Done = 0,
+    /// The words are not accepted.
+    Usage = 1,
+    /// The source failed.
+    ReadFault = 2,
+    /// The sink failed.
+    WriteFault = 3,
+    /// The input is no JSON.
+    NotJson = 4,
+    /// The input is refused.
+    Refused = 5,
+    /// The construction gives no first solution.
+    NoneFound = 6,
+    /// Want of memory.
+    NoMemory = 7,
+    /// The input has too many bytes.
+    TooLong = 8,
+    /// The solution breaks a rule of its model.
+    NotMet = 9,
+}
+
+impl Status {
+    /// The number of the status, from 0 to 9.
+    pub fn number(self) -> u8
+        ensures number { result ≡ number_of self }
+        ensures status { IsStatus result }
+    {
+        self as u8
+    }
+}

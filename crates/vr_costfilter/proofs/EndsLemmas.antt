@@ -1,0 +1,195 @@
+-- What is kept of a tight vehicle's list, written place by place, and what a changed list makes of it.
+use Rattle.std.proofs.Common.{◌≡◌, ◌∙◌, ℕ, suc, ◌+◌, ◌-◌, ◌<◌, ◌≤◌, List, [], ◌∷◌, ◌++◌, length, length-append, take, drop, refl, ap, ap₂, sym, subst, arith}
+use Rattle.std.specs.Prelude.{pos, ◌≤ℤ◌, All, IsTrue, slice_index_or}
+use Rattle.std.proofs.Math.Seq.{drop-cons}
+use Rattle.std.proofs.lemmas.Int.{ints}
+use Rattle.std.proofs.lemmas.List.{get_or_default, length-drop}
+use Rattle.std.proofs.lemmas.List.Elements.{All-drop}
+use Rattle.vr_spans.specs.declared.runs.Run.{Run}
+use Rattle.vr_model.specs.tables.Tables.{is_visit, transit, vehicle_at}
+use Rattle.vr_model.specs.schedules.Lines.{line}
+use Rattle.vr_model.specs.schedules.Schedules.{IsFeasible}
+use Rattle.vr_model.specs.declared.records.Model.{Model}
+use Rattle.vr_parts.proofs.RowLemmas.{rows-push}
+use Rattle.vr_routes.proofs.JoinedPieces.{all_left, all_right}
+use Rattle.vr_reach.specs.Lists.{IsTour}
+use Rattle.vr_costfilter.specs.KeptWays.{AreRestsTo, AreWays, AreWaysTo, HasWays}
+use Rattle.vr_costfilter.specs.Guides.{runs_of, IsGuide}
+use Rattle.vr_costfilter.specs.Rests.{rest_before, rest_by, rest_of, way_through, IsRestOf}
+use Rattle.vr_costfilter.specs.Runs.{Runs, AllowsRuns, AreRuns, no_run, run_at, stop_runs}
+use Rattle.vr_costfilter.specs.Ways.{way_along, way_on, way_out, way_to_visit, whole_way, IsWayOf}
+use Rattle.vr_costfilter.specs.declared.kept_ways.KeptWays.{KeptWays}
+use Rattle.vr_costfilter.specs.declared.guides.Guide.{Guide}
+use Rattle.vr_costfilter.specs.declared.rests.Rest.{Rest}
+use Rattle.vr_costfilter.specs.declared.tight.Way.{Way}
+use Rattle.vr_costfilter.proofs.EndLemmas.{bounds}
+use Rattle.vr_costfilter.proofs.KeptCumulLemmas.{all-visits}
+use Rattle.vr_costfilter.proofs.LeastLemmas.{arcs-many}
+use Rattle.vr_costfilter.proofs.RestLemmas.{end-way, rest-more, rest-range, whole-parts}
+use Rattle.vr_costfilter.proofs.RunLemmas.{finish-run, line-allows, start-run, stop-last, stop-visit, visit-run}
+use Rattle.vr_costfilter.proofs.WayLemmas.{along-part, along-way, out-way, way-more}
+
+-- ---- place by place
+
+-- one entry more
+entries-more : {A : Type 0} (f : ℕ → A) (xs more : List A) (x : A) (n : ℕ) → length xs ≡ suc n → ((k : ℕ) (other : A) → k ≤ n → slice_index_or xs k other ≡ f k)
+    → more ≡ xs ++ x ∷ [] → x ≡ f (n + 1) → (k : ℕ) (other : A) → k ≤ n + 1 → slice_index_or more k other ≡ f k
+entries-more f xs more x n many each is next k other high =
+    rows-push (λ j y. y ≡ f j) other xs more x (n + 1) (omega (arith, many)) (λ j less. each j other (omega (arith, less))) next is k (omega (arith, high))
+
+pub ways-more : (model : Model) (d v : ℕ) (runs : Runs) (list : List ℕ) (n : ℕ) (ways more : List Way) (way : Way) → AreWaysTo model d v runs list n ways → more ≡ ways ++ way ∷ []
+    → way ≡ way_along model d v runs (way_out model v runs) (take (n + 1) list) → AreWaysTo model d v runs list (n + 1) more
+ways-more model d v runs list n ways more way h is next = record {
+  many = (let m = h.many in ap length is ∙ length-append ways (way ∷ []) ∙ (let e : length ways + 1 ≡ suc (n + 1) = omega (arith, m) in e));
+  each = entries-more (λ k. way_along model d v runs (way_out model v runs) (take k list)) ways more way n h.many h.each is next;
+}
+
+pub rests-more : (model : Model) (d v : ℕ) (runs : Runs) (list : List ℕ) (n : ℕ) (rests more : List Rest) (rest : Rest) → AreRestsTo model d v runs list n rests → more ≡ rests ++ rest ∷ []
+    → rest ≡ rest_of model d v runs (drop (length list - (n + 1)) list) → AreRestsTo model d v runs list (n + 1) more
+rests-more model d v runs list n rests more rest h is next = record {
+  many = (let m = h.many in ap length is ∙ length-append rests (rest ∷ []) ∙ (let e : length rests + 1 ≡ suc (n + 1) = omega (arith, m) in e));
+  each = entries-more (λ k. rest_of model d v runs (drop (length list - k) list)) rests more rest n h.many h.each is next;
+}
+
+-- what is left from one place on, by what is left from the next one on
+pub rest-next : (model : Model) (d v : ℕ) (runs : Runs) (list : List ℕ) (k : ℕ) → k < length list
+    → rest_of model d v runs (drop (length list - (k + 1)) list) ≡ rest_before model d v runs (slice_index_or list (length list - 1 - k) 0) (rest_of model d v runs (drop (length list - k) list))
+rest-next model d v runs list k low =
+    let here : length list - (k + 1) ≡ length list - 1 - k = omega (arith, low) in
+    let next : suc (length list - (k + 1)) ≡ length list - k = omega (arith, low) in
+    ap (rest_of model d v runs) (drop-cons list (length list - (k + 1)) 0 (omega (arith, low)))
+    ∙ ap₂ (λ i n. rest_before model d v runs (slice_index_or list i 0) (rest_of model d v runs (drop n list))) here next
+
+-- ---- by whatever table the runs were looked up
+
+module _ (model : Model) (d v : ℕ) (a b : Runs) where
+  -- visits that allow the same
+  same-way : (nodes : List ℕ) → All (λ node. slice_index_or a.visits node no_run ≡ slice_index_or b.visits node no_run) nodes → (way : Way) → way_along model d v a way nodes ≡ way_along model d v b way nodes
+  same-way [] all way = refl
+  same-way (x ∷ xs) all way =
+      same-way xs (λ k other low. all (suc k) other (omega (arith, low))) (way_to_visit model d v a way x)
+      ∙ ap (λ (r : Run). way_along model d v b (way_on model d v way x r) xs) (all 0 0 (omega arith))
+
+  same-rest : a.finish ≡ b.finish → (nodes : List ℕ) → All (λ node. slice_index_or a.visits node no_run ≡ slice_index_or b.visits node no_run) nodes → rest_of model d v a nodes ≡ rest_of model d v b nodes
+  same-rest finish [] all = ap (λ (r : Run). (let w : Rest = record { at = (vehicle_at model v).end; transits = pos 0; least_end = r.lo; latest_cumul = r.hi } in w)) finish
+  same-rest finish (x ∷ xs) all =
+      ap₂ (λ (r : Run) (rest : Rest). rest_by (transit model d v x rest.at) x r rest) (all 0 0 (omega arith)) (same-rest finish xs (λ k other low. all (suc k) other (omega (arith, low))))
+
+-- two tables of runs agree on the stops of a list that is feasible
+module _ (model : Model) (d v : ℕ) (a b : Runs) (of_a : AreRuns model d v a) (of_b : AreRuns model d v b) (list : List ℕ) (tour : IsTour model list) (feasible : IsFeasible (line model d v list)) where
+  by : AllowsRuns model d v a list (line model d v list)
+  by = line-allows model d v a of_a list tour
+
+  some : (k : ℕ) → k ≤ suc (length list) → (run_at (stop_runs a list) k).lo ≤ℤ (run_at (stop_runs a list) k).hi
+  some k le =
+      let n = arcs-many model d v a list (line model d v list) by in
+      let two = bounds (line model d v list) (stop_runs a list) by.has feasible.0 feasible.1 k (omega (arith, n, le)) in
+      let low = two.0 in
+      let high = two.1 in
+      omega (arith, ints, low, high)
+
+  pub same-start : a.start ≡ b.start
+  same-start = start-run model d v a b of_a of_b (some 0 (omega arith))
+
+  pub same-finish : a.finish ≡ b.finish
+  same-finish = finish-run model d v a b of_a of_b (subst (λ (r : Run). r.lo ≤ℤ r.hi) (stop-last a list) (some (suc (length list)) (omega arith)))
+
+  pub same-visits : All (λ node. slice_index_or a.visits node no_run ≡ slice_index_or b.visits node no_run) list
+  same-visits k other low =
+      visit-run model d v a b of_a of_b (slice_index_or list k other) (all-visits model list tour.visits k other low)
+      (subst (λ node. (slice_index_or a.visits node no_run).lo ≤ℤ (slice_index_or a.visits node no_run).hi) (get_or_default list k 0 other low)
+      (subst (λ (r : Run). r.lo ≤ℤ r.hi) (stop-visit a list k low) (some (suc k) (omega (arith, low)))))
+
+-- the numbers of what is kept
+module _ (g : Guide) (h : IsGuide g) (list : List ℕ) (few : length list ≤ 1000) (visits : All (λ node. IsTrue (is_visit g.model.now node)) list) (kept : KeptWays) (has : HasWays g.model.now g.d g.v (runs_of g) list kept) where
+  pub kept-way : (k : ℕ) (other : Way) → k ≤ length list → IsWayOf g.model.now 1000 (slice_index_or kept.ways.items k other)
+  kept-way k other low =
+      subst (IsWayOf g.model.now 1000) (sym (has.ways.each k other low))
+      (way-more g.model.now (0 + k) 1000 _ (omega (arith, few, low))
+      (along-part g.model.now h.well_formed g.d g.v h.dimension h.vehicle (runs_of g) h.visits list visits 0 (way_out g.model.now g.v (runs_of g)) (out-way g.model.now h.well_formed g.d g.v h.dimension h.vehicle (runs_of g) h.start) k low))
+
+  pub kept-rest : (k : ℕ) (other : Rest) → k ≤ length list → IsRestOf g.model.now 1000 (slice_index_or kept.rests.items k other)
+  kept-rest k other low =
+      subst (IsRestOf g.model.now 1000) (sym (has.rests.each k other low))
+      (rest-more g.model.now (length (drop (length list - k) list)) 1000 _ (let l = length-drop (length list - k) list in omega (arith, few, l))
+      (rest-range g.model.now h.well_formed g.d g.v h.dimension h.vehicle (runs_of g) h.visits h.finish (drop (length list - k) list) (All-drop (λ node. IsTrue (is_visit g.model.now node)) (length list - k) list visits)))
+
+-- ---- a list keeps the front and the end of an old one
+
+module _ (g : Guide) (h : IsGuide g) (are : AreRuns g.model.now g.d g.v (runs_of g)) (old list : List ℕ) (front behind : ℕ) (middle : List ℕ) (joins : list ≡ take front old ++ (middle ++ drop behind old))
+    (tour : IsTour g.model.now list) (few : length list ≤ 1000) (feasible : IsFeasible (line g.model.now g.d g.v list)) (kept : KeptWays) (is : AreWays g.model.now g.d g.v old kept) where
+  same-all : All (λ node. slice_index_or is.runs.visits node no_run ≡ slice_index_or g.visits.now node no_run) list
+  same-all = same-visits g.model.now g.d g.v is.runs (runs_of g) is.has.runs_are are list tour feasible
+
+  visits : All (λ node. IsTrue (is_visit g.model.now node)) list
+  visits = all-visits g.model.now list tour.visits
+
+  in-front : (P : ℕ → Type 0) → All P list → All P (take front old)
+  in-front P all = all_left P (take front old) (middle ++ drop behind old) (subst (All P) joins all)
+
+  pub in-middle : (P : ℕ → Type 0) → All P list → All P middle
+  in-middle P all = all_left P middle (drop behind old) (all_right P (take front old) (middle ++ drop behind old) (subst (All P) joins all))
+
+  in-back : (P : ℕ → Type 0) → All P list → All P (drop behind old)
+  in-back P all = all_right P middle (drop behind old) (all_right P (take front old) (middle ++ drop behind old) (subst (All P) joins all))
+
+  pub middle-visits : All (λ node. IsTrue (is_visit g.model.now node)) middle
+  middle-visits = in-middle (λ node. IsTrue (is_visit g.model.now node)) visits
+
+  parts : length list ≡ length (take front old) + (length middle + length (drop behind old))
+  parts =
+      let two = length-append (take front old) (middle ++ drop behind old) in
+      let more = length-append middle (drop behind old) in
+      let all = ap length joins in
+      omega (arith, two, more, all)
+
+  pub middle-few : length middle ≤ 1000
+  middle-few = let n = parts in omega (arith, n, few)
+
+  -- the way that is kept in front
+  pub way-known : (way : Way) → front ≤ length old → ((other : Way) → way ≡ slice_index_or kept.ways.items front other)
+      → way ≡ way_along g.model.now g.d g.v (runs_of g) (way_out g.model.now g.v (runs_of g)) (take front old)
+  way-known way low read =
+      read way ∙ is.has.ways.each front way low
+      ∙ same-way g.model.now g.d g.v is.runs (runs_of g) (take front old) (in-front (λ node. slice_index_or is.runs.visits node no_run ≡ slice_index_or g.visits.now node no_run) same-all) (way_out g.model.now g.v is.runs)
+      ∙ ap (λ (r : Run). (let out : Way = record { at = (vehicle_at g.model.now g.v).start; time = r.lo; transits = pos 0; latest = r.hi } in way_along g.model.now g.d g.v (runs_of g) out (take front old)))
+      (same-start g.model.now g.d g.v is.runs (runs_of g) is.has.runs_are are list tour feasible)
+
+  pub way-small : (way : Way) → front ≤ length old → ((other : Way) → way ≡ slice_index_or kept.ways.items front other) → IsWayOf g.model.now 1000 way
+  way-small way low read =
+      let n = parts in
+      subst (IsWayOf g.model.now 1000) (sym (way-known way low read))
+      (way-more g.model.now (0 + length (take front old)) 1000 _ (omega (arith, n, few))
+      (along-way g.model.now h.well_formed g.d g.v h.dimension h.vehicle (runs_of g) h.visits (take front old) (in-front (λ node. IsTrue (is_visit g.model.now node)) visits) 0 (way_out g.model.now g.v (runs_of g)) (out-way g.model.now h.well_formed g.d g.v h.dimension h.vehicle (runs_of g) h.start)))
+
+  -- what is kept behind
+  pub rest-known : (rest : Rest) → behind ≤ length old → ((other : Rest) → rest ≡ slice_index_or kept.rests.items (length kept.rests.items - 1 - behind) other)
+      → rest ≡ rest_of g.model.now g.d g.v (runs_of g) (drop behind old)
+  rest-known rest low read =
+      let many = is.has.rests.many in
+      let here : length kept.rests.items - 1 - behind ≡ length old - behind = omega (arith, many) in
+      let back : length old - (length old - behind) ≡ behind = omega (arith, low) in
+      read rest ∙ ap (λ n. slice_index_or kept.rests.items n rest) here ∙ is.has.rests.each (length old - behind) rest (omega arith) ∙ ap (λ n. rest_of g.model.now g.d g.v is.runs (drop n old)) back
+      ∙ same-rest g.model.now g.d g.v is.runs (runs_of g) (same-finish g.model.now g.d g.v is.runs (runs_of g) is.has.runs_are are list tour feasible)
+      (drop behind old) (in-back (λ node. slice_index_or is.runs.visits node no_run ≡ slice_index_or g.visits.now node no_run) same-all)
+
+  pub rest-small : (rest : Rest) → behind ≤ length old → ((other : Rest) → rest ≡ slice_index_or kept.rests.items (length kept.rests.items - 1 - behind) other) → IsRestOf g.model.now 1000 rest
+  rest-small rest low read =
+      let n = parts in
+      subst (IsRestOf g.model.now 1000) (sym (rest-known rest low read))
+      (rest-more g.model.now (length (drop behind old)) 1000 _ (omega (arith, n, few))
+      (rest-range g.model.now h.well_formed g.d g.v h.dimension h.vehicle (runs_of g) h.visits h.finish (drop behind old) (in-back (λ node. IsTrue (is_visit g.model.now node)) visits)))
+
+  -- the way along the front, on along the middle and through what is left is the whole one
+  pub whole-known : (first way whole : Way) (rest : Rest) → front ≤ length old → behind ≤ length old → ((other : Way) → first ≡ slice_index_or kept.ways.items front other)
+      → ((other : Rest) → rest ≡ slice_index_or kept.rests.items (length kept.rests.items - 1 - behind) other)
+      → way ≡ way_along g.model.now g.d g.v (runs_of g) first middle → whole ≡ way_through g.model.now g.d g.v way rest → whole ≡ whole_way g.model.now g.d g.v (runs_of g) list
+  whole-known first way whole rest low high way_read rest_read way_is whole_is =
+      whole_is
+      ∙ ap₂ (λ (w : Way) (r : Rest). way_through g.model.now g.d g.v w r) (way_is ∙ ap (λ (w : Way). way_along g.model.now g.d g.v (runs_of g) w middle) (way-known first low way_read)) (rest-known rest high rest_read)
+      ∙ whole-parts g.model.now g.d g.v (runs_of g) (take front old) middle (drop behind old) list joins
+
+  pub whole-small : (way whole : Way) (rest : Rest) → behind ≤ length old → IsWayOf g.model.now 2000 way → ((other : Rest) → rest ≡ slice_index_or kept.rests.items (length kept.rests.items - 1 - behind) other)
+      → whole ≡ way_through g.model.now g.d g.v way rest → IsWayOf g.model.now 3001 whole
+  whole-small way whole rest high range read whole_is =
+      subst (IsWayOf g.model.now 3001) (sym whole_is) (end-way g.model.now h.well_formed g.d g.v h.dimension h.vehicle 2000 1000 way rest range (rest-small rest high read))

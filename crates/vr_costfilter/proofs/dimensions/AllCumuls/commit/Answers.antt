@@ -1,0 +1,69 @@
+use Rattle.std.proofs.Common.{◌≡◌, ◌∙◌, ◌<◌, ◌≤◌, ◌+◌, ℕ, List, length, add-one, ap, sym, subst, arith}
+use Rattle.std.specs.Prelude.{IsTrue}
+use Rattle.std.specs.List.{list_all}
+use Rattle.vr_model.specs.moves.Moves.{with_route}
+use Rattle.vr_model.specs.tables.Tables.{is_visit}
+use Rattle.vr_routes.specs.Pieces.{joined, no_part, part_at}
+use Rattle.vr_parts.proofs.PartLemmas.{small}
+use Rattle.vr_parts.proofs.SumLemmas.{upto, upto-many, upto-next}
+use Rattle.vr_parts.proofs.RowLemmas.{written}
+use Rattle.vr_costfilter.specs.declared.kept.KeptList.{KeptList}
+use Rattle.vr_costfilter.specs.Kept.{AreAllKept, AreAsMany}
+use Rattle.vr_costfilter.proofs.KeptCumulLemmas.{as-many-same, as-many-then}
+use Rattle.vr_costfilter.proofs.PartLemmas.{list-after}
+use Rattle.vr_costfilter.proofs.dimensions.AllCumuls.commit.Goals as goal
+
+pub join_into-requires-clause-room : goal.join_into-requires-clause-room
+join_into-requires-clause-room c =
+    let low = subst (λ n. c.loop-k.k < n) c.parts-k-end.ensures.value c.loop-k-test.true in
+    let part = list-after c.args.model.now c.requires.well_formed c.args.routes.now.lists c.args.change.now c.requires.made.makes.parts_are c.requires.valid c.loop-k.k low in
+    subst (λ l. length (joined c.args.routes.now.lists l) ≤ 1000) (sym c.pieces.ensures.value) part.few
+
+pub write_list-requires-clause-vehicle : goal.write_list-requires-clause-vehicle
+write_list-requires-clause-vehicle c =
+    let low = subst (λ n. c.loop-k.k < n) c.parts-k-end.ensures.value c.loop-k-test.true in
+    let many = (small c.args.model.now c.requires.well_formed c.args.routes.now.lists c.requires.before).many in
+    let known = c.requires.made.makes.parts_are.each_vehicle c.loop-k.k no_part low in
+    let e = c.vehicle.ensures in
+    omega (arith, e, known, many)
+
+pub write_list-requires-clause-visits : goal.write_list-requires-clause-visits
+write_list-requires-clause-visits c =
+    let lists : List (List ℕ) = c.args.routes.now.lists in
+    let low = subst (λ n. c.loop-k.k < n) c.parts-k-end.ensures.value c.loop-k-test.true in
+    let part = list-after c.args.model.now c.requires.well_formed lists c.args.change.now c.requires.made.makes.parts_are c.requires.valid c.loop-k.k low in
+    let list = c.as_slice.ensures.value ∙ c.join_into.ensures ∙ ap (joined lists) c.pieces.ensures.value in
+    subst (λ l. IsTrue (list_all (is_visit c.args.model.now) l)) (sym list) part.tour.visits
+
+pub loop-k-preserved : goal.loop-k-preserved
+loop-k-preserved c =
+    let i = c.loop-k.invariant.kept in
+    let m = c.args.model.now in
+    let lists : List (List ℕ) = c.args.routes.now.lists in
+    let parts = c.args.change.now in
+    let k = c.loop-k.k in
+    let low = subst (λ n. k < n) c.parts-k-end.ensures.value c.loop-k-test.true in
+    let part = part_at parts k in
+    let base : List (List ℕ) = upto lists parts k in
+    let old : List (List KeptList) = c.loop-k.self-inside.dimensions.items in
+    let new : List (List KeptList) = c.write_list.new.kept in
+    let v = c.vehicle.result in
+    let vehicle = c.vehicle.ensures in
+    let known = c.requires.made.makes.parts_are.each_vehicle k no_part low in
+    let all_many = upto-many lists parts k in
+    let list = c.as_slice.ensures.value ∙ c.join_into.ensures ∙ ap (joined lists) c.pieces.ensures.value in
+    let set = c.write_list.ensures.kept base (subst (AreAllKept m base) (sym c.deref_mut.ensures.value) i) (omega (arith, vehicle, known, all_many)) in
+    let next : with_route base v c.as_slice.result.now ≡ upto lists parts (k + 1) =
+    ap (with_route base v) list ∙ ap (λ w. with_route base w (joined lists part.pieces)) vehicle ∙ sym (ap (upto lists parts) (add-one k) ∙ upto-next lists parts k low) in
+    let as_many = as-many-then _ _ _ c.loop-k.invariant.as_many (subst (λ l. AreAsMany l new) c.deref_mut.ensures.value c.write_list.ensures.many) in
+    let all = sym (written old new c.loop-k.self-inside.dimensions.len (set.many ∙ sym i.many) (sym c.deref_mut.ensures.len ∙ ap length c.deref_mut.ensures.value)) in
+    record {
+      kept = subst (AreAllKept m (upto lists parts (k + 1))) all (subst (λ l. AreAllKept m l new) next set);
+      as_many = subst (AreAsMany c.args.self.now) all as_many;
+    }
+
+pub loop-k-init : goal.loop-k-init
+loop-k-init c = record {
+  kept = subst (AreAllKept c.args.model.now c.args.routes.now.lists) (sym c.self.view_is) c.requires.kept;
+  as_many = subst (λ l. AreAsMany l c.self.inside.dimensions.items) c.self.view_is (as-many-same c.self.inside.dimensions.items);
+}

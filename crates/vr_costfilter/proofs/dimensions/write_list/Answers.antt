@@ -1,0 +1,57 @@
+use Rattle.std.proofs.Common.{◌≡◌, ◌∙◌, inl, inr, ◌<◌, ℕ, List, length, length-set, ap, sym, subst, arith}
+use Rattle.std.specs.Prelude.{slice_index_or, slice_set}
+use Rattle.std.proofs.lemmas.Bool.{cases_lt}
+use Rattle.std.proofs.lemmas.List.{get_or_default, get_or-set_same, get_or-set_other}
+use Rattle.vr_plan.proofs.TableLemmas.{table_at}
+use Rattle.vr_model.specs.moves.Moves.{with_route}
+use Rattle.vr_costfilter.specs.declared.kept.KeptList.{KeptList}
+use Rattle.vr_costfilter.specs.Kept.{AreKept}
+use Rattle.vr_costfilter.proofs.dimensions.write_list.Goals as goal
+
+pub write-requires-clause-table : goal.write-requires-clause-table
+write-requires-clause-table c =
+    let n = c.requires.tables.one_of_each in
+    let low = c.loop-d-test.true in
+    let many = c.loop-d.invariant.many in
+    let ends = c.requires.many in
+    table_at c.args.model.now c.args.tables.now c.requires.tables c.loop-d.d c.index-tables-d.result c.index-tables-d.is (omega (arith, low, many, ends))
+
+pub loop-d-preserved : goal.loop-d-preserved
+loop-d-preserved c =
+    let i = c.loop-d.invariant in
+    let m = c.args.model.now in
+    let kept : List (List KeptList) = c.loop-d.kept in
+    let at = c.loop-d.d in
+    let new : List KeptList = c.write.new.self in
+    let v = c.args.v in
+    let list : List ℕ = c.args.list.now in
+    let many = length-set kept at new in
+    let all_many = i.many in
+    let ends = c.requires.many in
+    let inside : at < length kept = (let low = c.loop-d-test.true in omega (arith, low, all_many, ends)) in
+    record {
+      many = many ∙ i.many;
+      done = λ lists all known d other low. elim (cases_lt d at) [
+        | inl less ↦ subst (AreKept m d (with_route lists v list)) (sym (get_or-set_other kept at d new other (λ e. absurd (omega (arith, e, less))))) (i.done lists all known d other less)
+        | inr high ↦ (let here : d ≡ at = omega (arith, low, high) in
+            subst (λ n. AreKept m n (with_route lists v list) (slice_index_or (slice_set kept at new) n other)) (sym here)
+            (subst (AreKept m at (with_route lists v list)) (sym (get_or-set_same kept at new other inside))
+            (c.write.ensures.kept lists (i.left lists all at c.index-kept-d.result (omega arith) inside) known)))
+      ];
+      left = λ lists all d other high low.
+          subst (AreKept m d lists) (sym (get_or-set_other kept at d new other (λ e. absurd (omega (arith, e, high))))) (i.left lists all d other (omega (arith, high)) (omega (arith, low, many)));
+      as_many = λ d other low.
+          let apart = λ (e : (d ≡ at) → ⊥). ap length (get_or-set_other kept at d new other e) ∙ i.as_many d other (omega (arith, low, many)) in
+          elim (cases_lt d at) [
+            | inl less ↦ apart (λ e. absurd (omega (arith, e, less)))
+            | inr high ↦ elim (cases_lt at d) [
+              | inl more ↦ apart (λ e. absurd (omega (arith, e, more)))
+              | inr least ↦ (
+                  let here : d ≡ at = omega (arith, high, least) in
+                  let there = i.as_many at c.index-kept-d.result inside in
+                  let first : at < length c.args.kept.now = (let n = c.requires.many in omega (arith, n, all_many, inside)) in
+                  let set = ap length (get_or-set_same kept at new other inside) ∙ c.write.ensures.many ∙ there ∙ ap length (get_or_default c.args.kept.now at c.index-kept-d.result other first) in
+                  subst (λ n. length (slice_index_or (slice_set kept at new) n other) ≡ length (slice_index_or c.args.kept.now n other)) (sym here) set)
+            ]
+          ];
+    }

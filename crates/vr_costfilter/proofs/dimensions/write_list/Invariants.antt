@@ -1,0 +1,16 @@
+use Rattle.std.proofs.Common.{◌≡◌, ◌<◌, ◌≤◌, ℕ, List, length}
+use Rattle.std.specs.Prelude.{slice_index_or}
+use Rattle.vr_model.specs.moves.Moves.{with_route}
+use Rattle.vr_costfilter.specs.Kept.{AreAllKept, AreKept}
+use Rattle.vr_costfilter.specs.declared.kept.KeptList.{KeptList}
+use Rattle.vr_costfilter.proofs.dimensions.write_list.Given as goal
+
+abbrev pub invariant-loop-d : goal.invariant-loop-d
+invariant-loop-d l = record {
+  many : length l.kept ≡ length l.model.dimensions;
+  done : (lists : List (List ℕ)) → AreAllKept l.model lists l.fn.kept → l.v < length lists
+      → (d : ℕ) (other : List KeptList) → d < l.d → AreKept l.model d (with_route lists l.v l.list) (slice_index_or l.kept d other);
+  left : (lists : List (List ℕ)) → AreAllKept l.model lists l.fn.kept
+      → (d : ℕ) (other : List KeptList) → l.d ≤ d → d < length l.kept → AreKept l.model d lists (slice_index_or l.kept d other);
+  as_many : (d : ℕ) (other : List KeptList) → d < length l.kept → length (slice_index_or l.kept d other) ≡ length (slice_index_or l.fn.kept d other);
+}

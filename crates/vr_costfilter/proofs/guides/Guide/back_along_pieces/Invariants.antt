@@ -1,0 +1,11 @@
+use Rattle.std.proofs.Common.{◌-◌, drop, length}
+use Rattle.vr_routes.specs.Pieces.{joined}
+use Rattle.vr_costfilter.specs.Floors.{IsStep, WentBack}
+use Rattle.vr_costfilter.specs.Guides.{runs_of}
+use Rattle.vr_costfilter.proofs.guides.Guide.back_along_pieces.Given as goal
+
+abbrev pub invariant-loop-k : goal.invariant-loop-k
+invariant-loop-k l = record {
+  back : WentBack l.self.model.now l.self.d l.self.v (runs_of l.self) (joined l.routes.lists (drop (length l.pieces - l.k) l.pieces)) l.fn.next l.fn.trail.steps.items l.trail.steps.items l.first;
+  range : IsStep l.self.model.now l.first;
+}

@@ -1,0 +1,46 @@
+use Rattle.std.proofs.Common.{◌∙◌, ◌+◌, ℕ, List, length-append, ap, sym, subst, arith}
+use Rattle.std.specs.Prelude.{IsTrue}
+use Rattle.vr_model.proofs.routes.Lists.{are-lists, are_lists-count, route-visits}
+use Rattle.std.specs.List.{list_all}
+use Rattle.vr_model.specs.tables.Tables.{is_visit, no_vehicle, vehicle_at}
+use Rattle.vr_model.specs.declared.records.Vehicle.{Vehicle}
+use Rattle.vr_model.specs.routes.Routes.{route}
+use Rattle.vr_costfilter.specs.Kept.{HasRoom, IsKept}
+use Rattle.vr_costfilter.specs.declared.kept.KeptList.{KeptList}
+use Rattle.vr_parts.proofs.RowLemmas.{each-push}
+use Rattle.vr_costfilter.proofs.kept.KeptCumuls.open.Goals as goal
+
+pub get-requires : goal.get-requires
+get-requires c =
+    let many = are_lists-count c.args.model.now c.args.routes.now.lists (are-lists c.args.model.now c.args.routes.now.lists c.requires.valid) in
+    let end = c.vehicles-v-end.ensures.value in
+    let low = c.loop-v-test.true in
+    omega (arith, many, end, low)
+
+pub write_list-requires-clause-vehicle : goal.write_list-requires-clause-vehicle
+write_list-requires-clause-vehicle c =
+    let many = are_lists-count c.args.model.now c.args.routes.now.lists (are-lists c.args.model.now c.args.routes.now.lists c.requires.valid) in
+    let end = c.vehicles-v-end.ensures.value in
+    let low = c.loop-v-test.true in
+    omega (arith, many, end, low)
+
+pub write_list-requires-clause-visits : goal.write_list-requires-clause-visits
+write_list-requires-clause-visits c =
+    subst (λ l. IsTrue (list_all (is_visit c.args.model.now) l)) (sym c.list.ensures.value) (route-visits c.args.model.now c.args.routes.now.lists c.loop-v.v (are-lists c.args.model.now c.args.routes.now.lists c.requires.valid))
+
+pub loop-v-preserved : goal.loop-v-preserved
+loop-v-preserved c =
+    let i = c.loop-v.invariant in
+    let m = c.args.model.now in
+    let lists : List (List ℕ) = c.args.routes.now.lists in
+    let P = λ (v : ℕ) (kept : KeptList). IsKept m c.args.d v (route lists v) kept in
+    let R = λ (v : ℕ) (kept : KeptList). HasRoom (vehicle_at m v).schedule kept in
+    let new = c.write_list.new.kept in
+    let is = subst (λ l. IsKept m c.args.d c.loop-v.v l new) c.list.ensures.value c.write_list.ensures.kept in
+    let room : HasRoom (vehicle_at m c.loop-v.v).schedule new =
+    c.write_list.ensures.room ∙ subst (λ (w : Vehicle). HasRoom w.schedule c.in_ok-kept.kept) (sym (c.get.ensures.value no_vehicle)) c.in_ok-kept.ensures.room in
+    rw c.in_ok-push.ensures.items (record {
+      many = length-append c.loop-v.lists.items _ ∙ ap (λ n. n + 1) i.many;
+      each = λ v other low. each-push P c.loop-v.lists.items new i.each (subst (λ n. P n new) (sym i.many) is) v other low;
+      room = λ v other low. each-push R c.loop-v.lists.items new i.room (subst (λ n. R n new) (sym i.many) room) v other low;
+    })

@@ -1,0 +1,76 @@
+use Rattle.std.proofs.Common.{◌≡◌, ◌∙◌, ◌<◌, ℕ, List, Bool, length, ap, sym, subst, arith}
+use Rattle.std.specs.Prelude.{◌↔◌, IsTrue, is_some, slice_index_or}
+use Rattle.std.proofs.lemmas.Bool.{false≢true}
+use Rattle.std.proofs.lemmas.List.{get_or_default}
+use Rattle.vr_model.specs.routes.Routes.{route}
+use Rattle.vr_model.specs.schedules.Lines.{line}
+use Rattle.vr_model.specs.schedules.Schedules.{IsFeasible}
+use Rattle.vr_routes.specs.Pieces.{joined}
+use Rattle.vr_model.specs.tables.Tables.{no_vehicle, vehicle_at}
+use Rattle.vr_model.specs.declared.records.Model.{Model}
+use Rattle.vr_model.specs.declared.records.ScheduleRule.{ScheduleRule}
+use Rattle.vr_model.specs.declared.records.ScheduleRule.TheVariants.{Earliest, Tight}
+use Rattle.vr_model.specs.declared.records.Vehicle.{Vehicle}
+use Rattle.vr_reach.specs.VisitRuns.{have_stops_one_run}
+use Rattle.vr_costfilter.specs.Kept.{IsKnown, HasAllAsked, HasAllStages, HasAllWays}
+use Rattle.vr_costfilter.specs.declared.kept.KeptList.{KeptList}
+use Rattle.vr_costfilter.proofs.kept.KeptCumuls.timing_after.Goals as goal
+
+-- what is kept of its list decides
+told-so : (model : Model) (d v : ℕ) (list : List ℕ) (inside seen : List KeptList) → inside ≡ seen → (kept : KeptList) → v < length inside → kept ≡ slice_index_or inside v kept → IsTrue (have_stops_one_run model d v) → (some : Bool)
+    → (IsTrue some → HasAllAsked (vehicle_at model v).schedule list kept) → (HasAllAsked (vehicle_at model v).schedule list kept → IsTrue some) → IsTrue some ↔ IsKnown model d v list seen
+told-so model d v list inside seen view kept low is one some to from = subst (λ (l : List KeptList). IsTrue some ↔ IsKnown model d v list l) view (
+  λ h. record { known = low; runs = one; tells = λ other. subst (HasAllAsked (vehicle_at model v).schedule list) (is ∙ get_or_default inside v kept other low) (to h) },
+  λ told. from (subst (HasAllAsked (vehicle_at model v).schedule list) (sym is) (told.tells kept)),
+)
+
+pub returns-then-v-len-clause-known : goal.returns-then-v-len-clause-known
+returns-then-v-len-clause-known c =
+    let len = c.len.ensures in
+    let past = c.if-v-len.true in
+    let same = ap length c.self.view_is in
+    (λ e. absurd (false≢true e), λ told. (let low = told.known in absurd (omega (arith, len, past, same, low))))
+
+pub returns-in_err-guide-clause-known : goal.returns-in_err-guide-clause-known
+returns-in_err-guide-clause-known c =
+    (λ e. absurd (false≢true (sym (ap is_some c.from_residual.ensures) ∙ e)), λ told. absurd (false≢true (c.in_err-guide.ensures.known ∙ told.runs)))
+
+pub returns-in-Earliest-clause-known : goal.returns-in-Earliest-clause-known
+returns-in-Earliest-clause-known c =
+    let m = c.args.at.now.model.now in
+    let d = c.args.at.now.d in
+    let v = c.args.v in
+    let list : List ℕ = route c.args.routes.now.lists v in
+    let kept : KeptList = c.index-kept.result.now in
+    let len = c.len.ensures in
+    let under = c.if-v-len.false in
+    let low : v < length c.self.inside.lists.items = omega (arith, len, under) in
+    let same = c.in_ok-guide.ensures.vehicle in
+    let rule : (vehicle_at m v).schedule ≡ Earliest = ap (λ (w : Vehicle). w.schedule) (c.get-vehicle.ensures.value no_vehicle) ∙ c.in-Earliest.is in
+    let model = c.in_ok-guide.ensures.model in
+    let new : List ℕ = joined c.args.routes.now.lists c.args.pieces.now in
+    let guide = c.in_ok-guide.guide in
+    let f1 = subst (λ u. IsFeasible (line m d u new)) (sym same) c.requires.feasible in
+    let f2 = subst (λ e. IsFeasible (line m e guide.v new)) (sym c.in_ok-guide.ensures.dimension) f1 in
+    let f3 = subst (λ w. IsFeasible (line w guide.d guide.v new)) (sym model) f2 in
+    let known = c.earliest_after.ensures.known f3 in
+    told-so m d v list c.self.inside.lists.items c.args.self.now c.self.view_is kept low c.index-kept.ensures (sym c.in_ok-guide.ensures.known) (is_some c.earliest_after.result)
+    (λ some. subst (λ (r : ScheduleRule). HasAllAsked r list kept) (sym rule) (subst (λ u. HasAllStages (route c.args.routes.now.lists u) kept) same (known.0 some)))
+    (λ told. known.1 (subst (λ u. HasAllStages (route c.args.routes.now.lists u) kept) (sym same) (subst (λ (r : ScheduleRule). HasAllAsked r list kept) rule told)))
+
+pub returns-in-Tight-clause-known : goal.returns-in-Tight-clause-known
+returns-in-Tight-clause-known c =
+    let m = c.args.at.now.model.now in
+    let d = c.args.at.now.d in
+    let v = c.args.v in
+    let list : List ℕ = route c.args.routes.now.lists v in
+    let kept : KeptList = c.index-kept.result.now in
+    let len = c.len.ensures in
+    let under = c.if-v-len.false in
+    let low : v < length c.self.inside.lists.items = omega (arith, len, under) in
+    let same = c.in_ok-guide.ensures.vehicle in
+    let rule : (vehicle_at m v).schedule ≡ Tight = ap (λ (w : Vehicle). w.schedule) (c.get-vehicle.ensures.value no_vehicle) ∙ c.in-Tight.is in
+    let known = c.tight_after.ensures.known in
+    told-so m d v list c.self.inside.lists.items c.args.self.now c.self.view_is kept low c.index-kept.ensures (sym c.in_ok-guide.ensures.known) (is_some c.tight_after.result)
+    (λ some. subst (λ (r : ScheduleRule). HasAllAsked r list kept) (sym rule) (subst (λ u. HasAllWays (route c.args.routes.now.lists u) kept) same (known.0 some)))
+    (λ told. known.1 (subst (λ u. HasAllWays (route c.args.routes.now.lists u) kept) (sym same) (subst (λ (r : ScheduleRule). HasAllAsked r list kept) rule told)))

@@ -1,0 +1,16 @@
+use Rattle.std.proofs.Common.{◌≡◌, suc, length}
+use Rattle.std.specs.Prelude.{slice_index_or}
+use Rattle.vr_costfilter.specs.Guides.{runs_of}
+use Rattle.vr_costfilter.specs.Steps.{steps_of, AreStages}
+use Rattle.vr_costfilter.specs.Stages.{IsStageOf}
+use Rattle.vr_costfilter.specs.declared.guides.Stage.{Stage}
+use Rattle.vr_costfilter.proofs.steps.KeptSteps.write_stages.Given as goal
+
+abbrev pub invariant-loop-k : goal.invariant-loop-k
+invariant-loop-k l = record {
+  many : length l.self.stages.items ≡ suc l.k;
+  stages : AreStages l.guide.model.now l.guide.d l.guide.v (runs_of l.guide) (steps_of l.fn.self) l.k l.self.stages.items;
+  last : (other : Stage) → slice_index_or l.self.stages.items l.k other ≡ l.stage;
+  range : IsStageOf l.guide.model.now (suc l.k) l.stage;
+  trail : l.self.trail ≡ l.fn.self.trail;
+}

@@ -1,0 +1,18 @@
+use Rattle.std.proofs.Common.{◌≡◌, ap₂, arith, to_z, of_z, w64}
+use Rattle.std.specs.Prelude.{ℤ, ◌+ℤ◌, ◌-ℤ◌}
+use Rattle.std.proofs.lemmas.Int.{ints}
+use Rattle.vr_plan.proofs.BoundLemmas.{read-cumul}
+use Rattle.vr_costfilter.specs.declared.guides.Stage.{Stage}
+use Rattle.vr_costfilter.proofs.steps.resumed.Goals as goal
+
+pub returns : goal.returns
+returns c =
+    let e = c.requires.end in
+    let k = c.requires.kept in
+    let g = c.requires.gone in
+    let a = e.at_least in let b = e.at_most in
+    let x = k.at_least in let y = k.at_most in
+    let p = g.at_least in let q = g.at_most in
+    let sum : to_z w64 (of_z w64 (to_z w64 (of_z w64 c.args.end.soft) +ℤ to_z w64 (of_z w64 (to_z w64 (of_z w64 c.args.gone.soft) -ℤ to_z w64 (of_z w64 c.args.kept.soft))))) ≡ c.args.end.soft +ℤ (c.args.gone.soft -ℤ c.args.kept.soft) =
+    omega (arith, ints, a, b, x, y, p, q) in
+    ap₂ (λ (m : ℤ) (n : ℤ). (let s : Stage = record { at = c.args.end.at; cumul = m; soft = n } in s)) (read-cumul c.args.end.cumul c.requires.cumul) sum

@@ -1,0 +1,54 @@
+-- What is kept of committed lists of vehicles that choose their tight schedules.
+use Rattle.std.specs.Prelude.{◌≡◌, ◌<◌, ◌≤◌, ◌-◌, ℕ, suc, pos, List, drop, length, slice_index_or, take}
+use Rattle.vr_model.specs.tables.Numbers.{horizon}
+use Rattle.vr_model.specs.tables.WellFormed.{IsIn}
+use Rattle.vr_model.specs.declared.records.Model.{Model}
+use Rattle.vr_costfilter.specs.Runs.{Runs, AreRuns}
+use Rattle.vr_costfilter.specs.Rests.{rest_of}
+use Rattle.vr_costfilter.specs.Ways.{last_by, nearest_cumul, start_by, way_along, way_out, whole_way}
+use Rattle.vr_costfilter.specs.declared.kept_ways.KeptWays.{KeptWays}
+use Rattle.vr_costfilter.specs.declared.rests.Rest.{Rest}
+use Rattle.vr_costfilter.specs.declared.tight.TightEnds.{TightEnds}
+use Rattle.vr_costfilter.specs.declared.tight.Way.{Way}
+
+-- the ways of vehicle v along the first visits of a list, for each number of them up to n
+pub record AreWaysTo (model : Model) (d v : ℕ) (runs : Runs) (list : List ℕ) (n : ℕ) (ways : List Way) : Type 0 where
+  pub many : length ways ≡ suc n
+  pub each : (k : ℕ) (other : Way) → k ≤ n
+      → slice_index_or ways k other ≡ way_along model d v runs (way_out model v runs) (take k list)
+
+-- what is left from each of the last stops of its line on, from the end backwards through n visits
+pub record AreRestsTo (model : Model) (d v : ℕ) (runs : Runs) (list : List ℕ) (n : ℕ) (rests : List Rest) :
+    Type 0 where
+  pub many : length rests ≡ suc n
+  pub each : (k : ℕ) (other : Rest) → k ≤ n
+      → slice_index_or rests k other ≡ rest_of model d v runs (drop (length list - k) list)
+
+-- what is kept has the ways along a list of vehicle v, and what is left behind each of its places, by these runs
+pub record HasWays (model : Model) (d v : ℕ) (runs : Runs) (list : List ℕ) (ends : KeptWays) : Type 0 where
+  pub runs_are : AreRuns model d v runs
+  pub ways : AreWaysTo model d v runs list (length list) ends.ways.items
+  pub rests : AreRestsTo model d v runs list (length list) ends.rests.items
+
+-- the same by some runs
+pub record AreWays (model : Model) (d v : ℕ) (list : List ℕ) (ends : KeptWays) : Type 0 where
+  pub runs : Runs
+  pub has : HasWays model d v runs list ends
+
+-- where as many ways are kept as there are numbers of first visits, they are those of a list of vehicle v
+pub record AreKeptWays (model : Model) (d v : ℕ) (list : List ℕ) (ends : KeptWays) : Type 0 where
+  pub ways : length ends.ways.items ≡ suc (length list) → AreWays model d v list ends
+
+-- where something is kept so, it is of a list of vehicle v
+pub record HaveKeptWays (model : Model) (d v : ℕ) (list : List ℕ) (ends : List KeptWays) : Type 0 where
+  pub first : (other : KeptWays) → 0 < length ends → AreKeptWays model d v list (slice_index_or ends 0 other)
+
+-- both ends of a schedule are at cumuls
+pub record HasCumuls (ends : TightEnds) : Type 0 where
+  pub start : IsIn (pos 0) horizon ends.start
+  pub last : IsIn (pos 0) horizon ends.last
+
+-- these are the ends that the whole way of vehicle v along a list tells, brought within the horizon
+pub record AreEndsOf (model : Model) (d v : ℕ) (runs : Runs) (list : List ℕ) (ends : TightEnds) : Type 0 where
+  pub last : ends.last ≡ nearest_cumul (last_by (whole_way model d v runs list))
+  pub start : ends.start ≡ nearest_cumul (start_by (whole_way model d v runs list))

@@ -1,0 +1,96 @@
+-- What is kept of a list so that a change of it is walked no further than it reaches: its steps and its stages.
+use Rattle.std.specs.Prelude.{◌≡◌, ◌<◌, ◌≤◌, ◌++◌, ◌+◌, ◌*◌, ℕ, suc, pos, neg_ℤ, All, List, Some, length, reverse, take}
+use Rattle.std.specs.Prelude.{slice_index_or}
+use Rattle.vr_spans.specs.declared.runs.Run.{Run}
+use Rattle.vr_model.specs.tables.WellFormed.{IsIn}
+use Rattle.vr_model.specs.declared.records.Model.{Model}
+use Rattle.vr_plan.specs.Bounds.{cumul_cost}
+use Rattle.vr_costfilter.specs.Runs.{Runs, starting}
+use Rattle.vr_costfilter.specs.Floors.{end_step, first_of, nodes_in, AreAimed, IsStep, IsVisitStep}
+use Rattle.vr_costfilter.specs.Stages.{along, paid_more, setting_out, whole, IsStageOf}
+use Rattle.vr_costfilter.specs.declared.guides.Stage.{Stage}
+use Rattle.vr_costfilter.specs.declared.steps.KeptSteps.{KeptSteps}
+use Rattle.vr_costfilter.specs.declared.steps.Lead.{Lead}
+use Rattle.vr_costfilter.specs.declared.steps.Outset.{Outset}
+use Rattle.vr_costfilter.specs.declared.trails.Step.{Step}
+
+-- the steps of vehicle v to the visits of a list, and then to its end
+pub record AreSteps (model : Model) (d v : ℕ) (runs : Runs) (list : List ℕ) (steps : List Step) : Type 0 where
+  pub nodes_are : nodes_in steps ≡ list
+  pub aimed : AreAimed model d v runs steps (end_step model v runs)
+
+-- the stages of vehicle v at its start and at the first n visits of these steps
+pub record AreStages (model : Model) (d v : ℕ) (runs : Runs) (steps : List Step) (n : ℕ) (stages : List Stage) :
+    Type 0 where
+  pub each : (k : ℕ) (other : Stage) → k ≤ n
+      → along model d v runs (setting_out model d v runs (first_of steps (end_step model v runs))) (take k steps)
+      ≡ Some (slice_index_or stages k other)
+  pub at : (k : ℕ) (other : Stage) → k < n
+      → (slice_index_or stages (suc k) other).at ≡ (slice_index_or steps k (end_step model v runs)).node
+  pub range : (k : ℕ) (other : Stage) → k ≤ n → IsStageOf model (suc n) (slice_index_or stages k other)
+
+-- the same of all visits, and the stage at the end
+pub record AreAllStages (model : Model) (d v : ℕ) (runs : Runs) (list : List ℕ) (steps : List Step)
+    (stages : List Stage) : Type 0 where
+  pub steps_are : AreSteps model d v runs list steps
+  pub known : All (IsVisitStep model) steps
+  pub stages_are : AreStages model d v runs steps (length list) stages
+  pub end : (other : Stage) → whole model d v runs
+      (setting_out model d v runs (first_of steps (end_step model v runs))) steps
+      ≡ Some (slice_index_or stages (suc (length list)) other)
+  pub end_range : (other : Stage)
+      → IsStageOf model (suc (suc (length list))) (slice_index_or stages (suc (length list)) other)
+
+-- the steps to visits that are kept
+abbrev pub steps_of : KeptSteps → List Step
+steps_of kept = reverse kept.trail.steps.items
+
+-- the kept stages are those of the stops of the kept steps, and of the start and the end
+pub record AreStagesOf (model : Model) (d v : ℕ) (runs : Runs) (kept : KeptSteps) : Type 0 where
+  pub stages : AreAllStages model d v runs (nodes_in (steps_of kept)) (steps_of kept) kept.stages.items
+  pub many : length kept.stages.items ≡ length (steps_of kept) + 2
+
+-- where there are as many as stops, these are the stages of a list, and the steps are those to its visits
+pub record HasStages (model : Model) (d v : ℕ) (runs : Runs) (list : List ℕ) (kept : KeptSteps) : Type 0 where
+  pub told : length kept.stages.items ≡ suc (suc (length list))
+      → AreAllStages model d v runs list (steps_of kept) kept.stages.items
+
+-- where some of the first steps are kept, the first of all is the first of these
+abbrev pub IsKeptLead : List Step → Lead → Type 0
+IsKeptLead steps lead = 0 < lead.place → (other : Step) → lead.first ≡ slice_index_or steps 0 other
+
+-- the first step of all
+abbrev pub first_led : Lead → Step
+first_led lead = lead.first
+
+-- of the steps to these nodes, before the next step, the first ones are kept, and the others were put on a trail
+pub record HasLed (model : Model) (d v : ℕ) (runs : Runs) (kept : List Step) (nodes : List ℕ) (next : Step)
+    (old new : List Step) (lead : Lead) : Type 0 where
+  pub steps : List Step
+  pub place : lead.place ≤ length nodes
+  pub nodes_are : nodes_in (take lead.place kept ++ steps) ≡ nodes
+  pub aimed : AreAimed model d v runs (take lead.place kept ++ steps) next
+  pub known : All (IsVisitStep model) steps
+  pub trail : new ≡ old ++ reverse steps
+  pub first_is : lead.first ≡ first_of (take lead.place kept ++ steps) next
+  pub kept_first : IsKeptLead kept lead
+  pub range : IsStep model lead.first
+
+-- the stage where new steps begin, with all that was paid up to there
+abbrev pub reached : Outset → Stage
+reached met = paid_more met.more met.stage
+
+-- along these steps a stage comes to another one, where more was paid on the way
+pub record HasPaced (model : Model) (d v : ℕ) (runs : Runs) (steps : List Step) (out : Stage) (met : Outset) :
+    Type 0 where
+  pub start : met.start ≡ out.cumul
+  pub gone : along model d v runs (Some out) steps ≡ Some (reached met)
+  pub range : IsStageOf model 1002 met.stage
+  pub more : IsIn (neg_ℤ (pos (cumul_cost * 1002))) (pos (cumul_cost * 1002)) met.more
+
+-- the same along the kept steps of a lead, from the stage at a start that allows this run
+pub record HasSetOut (model : Model) (d v : ℕ) (runs : Runs) (start : Run) (kept : List Step) (lead : Lead)
+    (met : Outset) : Type 0 where
+  pub first : Stage
+  pub out : setting_out model d v (starting runs start) lead.first ≡ Some first
+  pub paced : HasPaced model d v runs (take lead.place kept) first met

@@ -1,0 +1,190 @@
+//! What is kept in all dimensions.
+
+ghost use Rattle.std.specs.Prelude.{◌≡◌, ◌↔◌, ◌<◌, ◌≤◌, ◌+◌, ℕ, List, IfOk, IfSome, IsTrue, false, is_some, length};
+ghost use Rattle.std.specs.Prelude.{slice_index_or};
+ghost use Rattle.std.specs.List.{list_all};
+ghost use Rattle.vr_model.specs.moves.Moves.{with_route};
+ghost use Rattle.vr_model.specs.routes.Routes.{is_empty, route};
+ghost use Rattle.vr_model.specs.routes.Rules.{is_valid};
+ghost use Rattle.vr_model.specs.tables.Tables.{dimension_at, is_visit};
+ghost use Rattle.vr_model.specs.tables.WellFormed.{IsWellFormed};
+ghost use Rattle.vr_routes.specs.Changes.{IsMadeOn};
+ghost use Rattle.vr_routes.specs.Pieces.{changed, joined, part_at};
+ghost use Rattle.vr_plan.specs.Tables.{AreTables, IsKnownDimension, IsTable};
+ghost use Rattle.vr_plan.specs.Timings.{IsTiming, IsTimingOf};
+ghost use Rattle.vr_costfilter.specs.Kept.{AreAllKept, AreAsMany, AreKept, AreOfEach, IsPaid, IsKnown};
+ghost use Rattle.vr_costfilter.specs.declared.kept.KeptList.{KeptList as KeptOf};
+
+use crate::kept::KeptCumuls;
+use crate::trails::Trail;
+use std::alloc::Global;
+use std::marker::Model;
+use vr_model::{Model as RoutingModel, NoMemory};
+use vr_plan::{KnownDimension, Table, Timing};
+use vr_routes::{Change, Routes, Row};
+
+/// For which costs the cumuls of a dimension are kept.
+#[derive(Clone, Copy)]
+pub enum Paid {
+    /// Soft upper bounds, and the span of each vehicle.
+    Alone,
+    /// The global span.
+    Together,
+}
+
+/// What is kept of committed lists, in the dimensions that have a coefficient of the costs for which it is kept; in the
+/// others nothing is. Contracts see what is kept in each dimension.
+#[derive(Drop)]
+pub struct AllCumuls {
+    dimensions: Vec<KeptCumuls>,
+    // room for a list that is committed
+    row: Row,
+}
+
+impl Model for AllCumuls {
+    ghost use Rattle.std.specs.Prelude.{List};
+    ghost use Rattle.vr_costfilter.specs.declared.kept.KeptList.{KeptList as KeptOf};
+
+    ghost Value = { List (List KeptOf) };
+
+    ghost view = { λ all. all.dimensions.items };
+}
+
+impl AllCumuls {
+    /// Of the lists of routes, in the dimensions with such costs. The only refusal is want of memory.
+    pub fn open(
+        alloc: Global,
+        model: &RoutingModel,
+        tables: &[Table],
+        paid: Paid,
+        routes: &Routes,
+    ) -> Result<AllCumuls, NoMemory>
+        requires well_formed { IsWellFormed model.now }
+        requires valid { IsTrue (is_valid model.now routes.now.lists) }
+        requires tables { AreTables model.now tables.now }
+        ensures kept { IfOk result (AreAllKept model.now routes.now.lists) }
+        ensures each { IfOk result (AreOfEach model.now tables.now paid (length routes.now.lists)) }
+    {
+        let mut dimensions = Vec::with_capacity(alloc, tables.len())?;
+        for d in 0..tables.len() {
+            dimensions.push(kept_in(alloc, model, &tables[d], d as u32, paid, routes)?)?;
+        }
+        Ok(AllCumuls {
+            dimensions,
+            row: Row::new(),
+        })
+    }
+
+    /// What the chosen schedule of the list comes to that part `k` of a change gives its vehicle, in a dimension.
+    /// Nothing exactly where what is kept does not tell; then it has to be looked for. The trail is room that the
+    /// caller lends: it is written over.
+    pub fn timing_after(
+        &self,
+        at: &KnownDimension,
+        routes: &Routes,
+        change: &Change,
+        k: usize,
+        trail: &mut Trail,
+    ) -> Option<Timing>
+        requires at { IsKnownDimension at.now }
+        requires kept { AreAllKept at.now.model.now routes.now.lists self.now }
+        requires before { IsTrue (is_valid at.now.model.now routes.now.lists) }
+        requires made { IsMadeOn routes.now change.now }
+        requires valid { IsTrue (is_valid at.now.model.now (changed routes.now.lists change.now)) }
+        requires part { k < length change.now }
+        requires some { is_empty (joined routes.now.lists (part_at change.now k).pieces) ≡ false }
+        ensures known { (other : List KeptOf) → IsTrue (is_some result)
+            ↔ IsKnown at.now.model.now at.now.d (part_at change.now k).vehicle
+            (route routes.now.lists (part_at change.now k).vehicle) (slice_index_or self.now at.now.d other) }
+        ensures timing { IfSome result (IsTiming at.now.model.now at.now.d (part_at change.now k).vehicle
+            (joined routes.now.lists (part_at change.now k).pieces)) }
+        ensures range { IfSome result
+            (IsTimingOf (length (joined routes.now.lists (part_at change.now k).pieces) + 2)) }
+    {
+        let kept = &self.dimensions[at.d as usize];
+        kept.timing_after(at, change.vehicle(k), routes, change.pieces(k), trail)
+    }
+
+    /// Commits the lists after a change, where they are valid. It is called before the routes are changed, and takes no
+    /// memory.
+    pub fn commit(
+        &mut self,
+        model: &RoutingModel,
+        tables: &[Table],
+        routes: &Routes,
+        change: &Change,
+    )
+        requires well_formed { IsWellFormed model.now }
+        requires tables { AreTables model.now tables.now }
+        requires kept { AreAllKept model.now routes.now.lists self.old }
+        requires before { IsTrue (is_valid model.now routes.now.lists) }
+        requires made { IsMadeOn routes.now change.now }
+        requires valid { IsTrue (is_valid model.now (changed routes.now.lists change.now)) }
+        ensures kept { AreAllKept model.now (changed routes.now.lists change.now) self.new }
+        ensures many { AreAsMany self.old self.new }
+    {
+        for k in 0..change.parts() {
+            routes.join_into(change.pieces(k), &mut self.row);
+            write_list(
+                model,
+                tables,
+                &mut self.dimensions,
+                change.vehicle(k),
+                self.row.as_slice(),
+            );
+        }
+    }
+}
+
+// Whether a dimension has a coefficient of such costs.
+fn is_paid(model: &RoutingModel, table: &Table, d: u32, paid: Paid) -> bool
+    requires well_formed { IsWellFormed model.now }
+    requires dimension { d < length model.now.dimensions }
+    ensures { IsTrue result ↔ IsPaid paid table.now (dimension_at model.now d) }
+{
+    match paid {
+        Paid::Alone => !table.is_free,
+        Paid::Together => model.dimensions.get(d as usize).global_span_cost != 0,
+    }
+}
+
+// What is kept of the lists of routes in dimension `d`; of none where it has no such costs.
+fn kept_in(
+    alloc: Global,
+    model: &RoutingModel,
+    table: &Table,
+    d: u32,
+    paid: Paid,
+    routes: &Routes,
+) -> Result<KeptCumuls, NoMemory>
+    requires well_formed { IsWellFormed model.now }
+    requires valid { IsTrue (is_valid model.now routes.now.lists) }
+    requires dimension { d < length model.now.dimensions }
+    requires table { IsTable model.now d table.now }
+    ensures kept { IfOk result (AreKept model.now d routes.now.lists) }
+    ensures each { IfOk result (λ kept. IsPaid paid table.now (dimension_at model.now d)
+        → length kept ≡ length routes.now.lists) }
+{
+    if !is_paid(model, table, d, paid) {
+        return Ok(KeptCumuls::none(alloc));
+    }
+    let kept = KeptCumuls::open(alloc, model, table, d, routes)?;
+    Ok(kept)
+}
+
+// Vehicle `v` gets another list, in all dimensions.
+fn write_list(model: &RoutingModel, tables: &[Table], kept: &mut [KeptCumuls], v: u32, list: &[u32])
+    requires well_formed { IsWellFormed model.now }
+    requires tables { AreTables model.now tables.now }
+    requires many { length kept.old ≡ length model.now.dimensions }
+    requires vehicle { v < length model.now.vehicles }
+    requires few { length list.now ≤ 1000 }
+    requires visits { IsTrue (list_all (is_visit model.now) list.now) }
+    ensures kept { (lists : List (List ℕ)) → AreAllKept model.now lists kept.old → v < length lists
+        → AreAllKept model.now (with_route lists v list.now) kept.new }
+    ensures many { AreAsMany kept.old kept.new }
+{
+    for d in 0..kept.len() {
+        kept[d].write(model, &tables[d], d as u32, v, list);
+    }
+}

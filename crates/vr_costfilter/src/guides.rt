@@ -1,0 +1,387 @@
+//! Floors are found from the end backwards; then a vehicle goes along its stops, at each at the least cumul that the
+//! one before it and the floor leave.
+//!
+//! Clauses bound what soft upper bounds cost by the number of stops that a stage has paid for: at most 1002 of a
+//! committed list, with at most 1000 steps of a trail behind its front 2002, and then at most 1001 more to the end.
+//! 4000 is above all of these.
+
+ghost use Rattle.std.specs.Prelude.{◌≡◌, ◌<◌, ◌≤◌, ◌+◌, ◌*◌, All, IfSome, IsTrue, Some, cond, is_some, length, reverse};
+ghost use Rattle.std.specs.Prelude.{ℕ, List, [], ◌∷◌, slice_index_or, pos, ◌+ℤ◌, ◌≤ℤ◌};
+ghost use Rattle.std.specs.Option.{option_copied};
+ghost use Rattle.vr_model.specs.tables.Numbers.{horizon};
+ghost use Rattle.vr_model.specs.tables.Tables.{dimension_at, is_visit, row_of as row_of_key, transit, vehicle_at};
+ghost use Rattle.vr_model.specs.tables.WellFormed.{IsIn, IsStopRow, IsWellFormed, WherePresent};
+ghost use Rattle.vr_routes.specs.Pieces.{joined, nodes_of, IsWithin};
+ghost use Rattle.vr_plan.specs.Bounds.{cumul_cost};
+ghost use Rattle.vr_plan.specs.Tables.{IsTable};
+ghost use Rattle.vr_reach.specs.VisitRuns.{have_stops_one_run, HasCumulEnds};
+ghost use Rattle.vr_costfilter.specs.Floors.{before as before_by, end_step as end_step_by, floor_of as floor_by};
+ghost use Rattle.vr_costfilter.specs.Floors.{first_step};
+ghost use Rattle.vr_costfilter.specs.Floors.{IsStep, IsVisitStep, WentBack};
+ghost use Rattle.vr_costfilter.specs.Guides.{runs_of, IsGuide};
+ghost use Rattle.vr_costfilter.specs.Runs.{AreRuns};
+ghost use Rattle.vr_costfilter.specs.Stages.{along, go_on as go_on_by, standing as standing_by};
+ghost use Rattle.vr_costfilter.specs.Stages.{to_end as to_end_by, to_visit as to_visit_by, IsStageOf};
+
+use crate::trails::{Step, Trail};
+use vr_model::{Evaluator, Model, StopRow};
+use vr_plan::{Table, row_cost, row_of};
+use vr_reach::{Ahead, earliest_behind, single_runs, slack_of};
+use vr_routes::{Piece, Routes};
+use vr_spans::Run;
+
+/// How far a vehicle has come: the node of the stop where it is, its cumul there, and what the soft upper bounds of the
+/// stops so far cost, this one among them. Cumuls are in `0..=2^36`, costs at least 0.
+#[derive(Clone, Copy, Default)]
+pub struct Stage {
+    pub at: u32,
+    pub cumul: i64,
+    pub soft: i64,
+}
+
+/// What is looked up once for many arcs of vehicle `v` in dimension `d`, where it has no breaks and each stop allows
+/// one run of cumuls.
+#[derive(Drop)]
+pub struct Guide<'m> {
+    pub model: &'m Model,
+    pub table: &'m Table,
+    pub d: u32,
+    pub v: u32,
+    /// What tells its transits.
+    pub evaluator: &'m Evaluator,
+    /// The greatest slack, in `0..=2^36`.
+    pub slack: i64,
+    /// The run of its start.
+    pub start: Run,
+    /// The runs of visits, by their nodes.
+    pub visits: &'m [Run],
+    /// Its end.
+    pub finish: Ahead,
+}
+
+impl<'m> Guide<'m> {
+    /// What is looked up once, nothing exactly where the vehicle has breaks, or a stop allows several runs of cumuls.
+    #[inline]
+    pub fn of(model: &'m Model, table: &'m Table, d: u32, v: u32) -> Option<Guide<'m>>
+        requires well_formed { IsWellFormed model.now }
+        requires dimension { d < length model.now.dimensions }
+        requires vehicle { v < length model.now.vehicles }
+        requires table { IsTable model.now d table.now }
+        ensures guide { IfSome result IsGuide }
+        ensures runs { IfSome result (λ guide. AreRuns guide.model.now guide.d guide.v (runs_of guide)) }
+        ensures model { IfSome result (λ guide. guide.model.now ≡ model.now) }
+        ensures dimension { IfSome result (λ guide. guide.d ≡ d) }
+        ensures vehicle { IfSome result (λ guide. guide.v ≡ v) }
+        ensures known { is_some result ≡ have_stops_one_run model.now d v }
+    {
+        let runs = single_runs(model, d, v, &table.stops)?;
+        Some(Guide {
+            model,
+            table,
+            d,
+            v,
+            evaluator: model.dimensions.get(d as usize).evaluator_of(v),
+            slack: slack_of(model, d),
+            start: runs.start,
+            visits: runs.visits,
+            finish: runs.finish,
+        })
+    }
+
+    /// The step to the end.
+    #[inline]
+    pub fn end_step(&self) -> Step
+        requires guide { IsGuide self.now }
+        ensures value { result ≡ end_step_by self.now.model.now self.now.v (runs_of self.now) }
+        ensures range { IsStep self.now.model.now result }
+    {
+        Step {
+            node: self.finish.node,
+            floor: self.finish.allowed.lo,
+        }
+    }
+
+    /// Back along the nodes of pieces, which come before the next step: puts the steps to them on the trail, the last
+    /// one first, and gives the first one, or the next step where there is none. Nothing exactly where some stop allows
+    /// no cumul from its floor on.
+    #[inline]
+    pub fn back_along_pieces(
+        &self,
+        routes: &Routes,
+        pieces: &[Piece],
+        next: Step,
+        trail: &mut Trail,
+    ) -> Option<Step>
+        requires guide { IsGuide self.now }
+        requires within { All (IsWithin routes.now.lists) pieces.now }
+        requires visits { All (λ node. IsTrue (is_visit self.now.model.now node)) (joined routes.now.lists pieces.now) }
+        requires next { IsStep self.now.model.now next }
+        requires room { length trail.old.steps.items + length (joined routes.now.lists pieces.now) ≤ 1000 }
+        ensures value { result ≡ first_step self.now.model.now self.now.d self.now.v (runs_of self.now)
+            (joined routes.now.lists pieces.now) next }
+        ensures back { IfSome result (WentBack self.now.model.now self.now.d self.now.v (runs_of self.now)
+            (joined routes.now.lists pieces.now) next trail.old.steps.items trail.new.steps.items) }
+        ensures range { IfSome result (IsStep self.now.model.now) }
+    {
+        let mut first = next;
+        for k in 0..pieces.len() {
+            match self.back_along_piece(routes, pieces[pieces.len() - 1 - k], first, trail) {
+                Some(step) => first = step,
+                None => return None,
+            }
+        }
+        Some(first)
+    }
+
+    // Back along the nodes of a piece.
+    #[inline]
+    fn back_along_piece(
+        &self,
+        routes: &Routes,
+        piece: Piece,
+        next: Step,
+        trail: &mut Trail,
+    ) -> Option<Step>
+        requires guide { IsGuide self.now }
+        requires within { IsWithin routes.now.lists piece }
+        requires visits { All (λ node. IsTrue (is_visit self.now.model.now node)) (nodes_of routes.now.lists piece) }
+        requires next { IsStep self.now.model.now next }
+        requires room { length trail.old.steps.items + length (nodes_of routes.now.lists piece) ≤ 1000 }
+        ensures value { result ≡ first_step self.now.model.now self.now.d self.now.v (runs_of self.now)
+            (nodes_of routes.now.lists piece) next }
+        ensures back { IfSome result (WentBack self.now.model.now self.now.d self.now.v (runs_of self.now)
+            (nodes_of routes.now.lists piece) next trail.old.steps.items trail.new.steps.items) }
+        ensures range { IfSome result (IsStep self.now.model.now) }
+    {
+        match piece {
+            Piece::Node { node } => self.step_back(node, next, trail),
+            Piece::Chain {
+                vehicle,
+                from,
+                to,
+                reversed,
+            } => {
+                let list = routes.list(vehicle);
+                self.back_along_chain(&list[from as usize..to as usize], reversed, next, trail)
+            }
+        }
+    }
+
+    /// Back along a chain, or along the chain backwards: from its last node to its first, or the other way round.
+    #[inline]
+    pub fn back_along_chain(
+        &self,
+        chain: &[u32],
+        reversed: bool,
+        next: Step,
+        trail: &mut Trail,
+    ) -> Option<Step>
+        requires guide { IsGuide self.now }
+        requires visits { All (λ node. IsTrue (is_visit self.now.model.now node))
+            (cond reversed (reverse chain.now) chain.now) }
+        requires next { IsStep self.now.model.now next }
+        requires room { length trail.old.steps.items + length (cond reversed (reverse chain.now) chain.now) ≤ 1000 }
+        ensures value { result ≡ first_step self.now.model.now self.now.d self.now.v (runs_of self.now)
+            (cond reversed (reverse chain.now) chain.now) next }
+        ensures back { IfSome result (WentBack self.now.model.now self.now.d self.now.v (runs_of self.now)
+            (cond reversed (reverse chain.now) chain.now) next trail.old.steps.items trail.new.steps.items) }
+        ensures range { IfSome result (IsStep self.now.model.now) }
+    {
+        let mut first = next;
+        for k in 0..chain.len() {
+            let node = node_in(chain, reversed, chain.len() - 1 - k);
+            match self.step_back(node, first, trail) {
+                Some(step) => first = step,
+                None => return None,
+            }
+        }
+        Some(first)
+    }
+
+    // Back to a visit.
+    #[inline]
+    fn step_back(&self, node: u32, next: Step, trail: &mut Trail) -> Option<Step>
+        requires guide { IsGuide self.now }
+        requires node { IsTrue (is_visit self.now.model.now node) }
+        requires next { IsStep self.now.model.now next }
+        requires room { length trail.old.steps.items < 1000 }
+        ensures value { result ≡ before_by self.now.model.now self.now.d self.now.v (runs_of self.now) node next }
+        ensures back { IfSome result (λ step. (nodes : List ℕ) → nodes ≡ node ∷ []
+            → WentBack self.now.model.now self.now.d self.now.v (runs_of self.now)
+            nodes next trail.old.steps.items trail.new.steps.items step) }
+        ensures range { IfSome result (IsStep self.now.model.now) }
+    {
+        let step = self.before(node, next)?;
+        trail.steps.push(step);
+        Some(step)
+    }
+
+    /// The step to a visit that comes before the next step, nothing exactly where it allows no cumul from its floor on.
+    #[inline]
+    pub fn before(&self, node: u32, next: Step) -> Option<Step>
+        requires guide { IsGuide self.now }
+        requires node { IsTrue (is_visit self.now.model.now node) }
+        requires next { IsStep self.now.model.now next }
+        ensures value { result ≡ before_by self.now.model.now self.now.d self.now.v (runs_of self.now) node next }
+        ensures range { IfSome result (IsVisitStep self.now.model.now) }
+    {
+        let floor = self.floor_of(node, self.visits[node as usize], next)?;
+        Some(Step { node, floor })
+    }
+
+    /// The floor of the start before the next step, nothing exactly where it allows no cumul from there on.
+    #[inline]
+    pub fn start_floor(&self, next: Step) -> Option<i64>
+        requires guide { IsGuide self.now }
+        requires next { IsStep self.now.model.now next }
+        ensures value { result ≡ floor_by self.now.model.now self.now.d self.now.v
+            (vehicle_at self.now.model.now self.now.v).start self.now.start next }
+        ensures range { IfSome result (IsIn (pos 0) horizon) }
+    {
+        self.floor_from(self.start, next)
+    }
+
+    /// The same, where the start allows another run.
+    #[inline]
+    pub fn floor_from(&self, start: Run, next: Step) -> Option<i64>
+        requires guide { IsGuide self.now }
+        requires start { HasCumulEnds start }
+        requires next { IsStep self.now.model.now next }
+        ensures value { result ≡ floor_by self.now.model.now self.now.d self.now.v
+            (vehicle_at self.now.model.now self.now.v).start start next }
+        ensures range { IfSome result (IsIn (pos 0) horizon) }
+    {
+        let node = self.model.vehicles.get(self.v as usize).start;
+        self.floor_of(node, start, next)
+    }
+
+    // The floor of a stop at a node, before the next step.
+    #[inline]
+    fn floor_of(&self, node: u32, allowed: Run, next: Step) -> Option<i64>
+        requires guide { IsGuide self.now }
+        requires node { node < self.now.model.now.nodes }
+        requires allowed { HasCumulEnds allowed }
+        requires next { IsStep self.now.model.now next }
+        ensures value { result ≡ floor_by self.now.model.now self.now.d self.now.v node allowed next }
+        ensures range { IfSome result (IsIn (pos 0) horizon) }
+    {
+        let transit = self
+            .model
+            .transit_by(self.d, self.v, self.evaluator, node, next.node);
+        let floor = (next.floor - transit - self.slack).max(allowed.lo);
+        if floor > allowed.hi {
+            return None;
+        }
+        Some(floor)
+    }
+
+    /// The vehicle stands at its start, at a cumul.
+    #[inline]
+    pub fn standing(&self, cumul: i64) -> Stage
+        requires guide { IsGuide self.now }
+        requires cumul { IsIn (pos 0) horizon cumul }
+        ensures value { result ≡ standing_by self.now.model.now self.now.d self.now.v cumul }
+        ensures range { IsStageOf self.now.model.now 1 result }
+    {
+        let dimension = self.model.dimensions.get(self.d as usize);
+        Stage {
+            at: self.model.vehicles.get(self.v as usize).start,
+            cumul,
+            soft: row_cost(StopRow::of_key(&dimension.starts, self.v), cumul),
+        }
+    }
+
+    /// It goes on along a trail, from the last step on it to the first; nothing exactly where it cannot.
+    #[inline]
+    pub fn along_trail(&self, trail: &Trail, stage: Stage) -> Option<Stage>
+        requires guide { IsGuide self.now }
+        requires steps { All (IsVisitStep self.now.model.now) (reverse trail.now.steps.items) }
+        requires stage { IsStageOf self.now.model.now 1002 stage }
+        ensures value { result ≡ along self.now.model.now self.now.d self.now.v (runs_of self.now) (Some stage)
+            (reverse trail.now.steps.items) }
+        ensures range { IfSome result (IsStageOf self.now.model.now 2002) }
+    {
+        let mut gone = stage;
+        let many = trail.steps.len();
+        for k in 0..many {
+            match self.to_visit(gone, trail.steps[many - 1 - k]) {
+                Some(next) => gone = next,
+                None => return None,
+            }
+        }
+        Some(gone)
+    }
+
+    /// It goes on to a visit, nothing exactly where it cannot.
+    #[inline]
+    pub fn to_visit(&self, stage: Stage, step: Step) -> Option<Stage>
+        requires guide { IsGuide self.now }
+        requires stage { IsStageOf self.now.model.now 4000 stage }
+        requires step { IsVisitStep self.now.model.now step }
+        ensures value { result ≡ to_visit_by self.now.model.now self.now.d self.now.v (runs_of self.now) step stage }
+        ensures at { IfSome result (λ next. next.at ≡ step.node) }
+        ensures range { IfSome result (λ next. (n : ℕ) → IsStageOf self.now.model.now n stage
+            → IsStageOf self.now.model.now (n + 1) next) }
+    {
+        let dimension = self.model.dimensions.get(self.d as usize);
+        let row = row_of(&dimension.nodes, &self.table.rows, step.node);
+        let raised = Run {
+            lo: step.floor,
+            hi: self.visits[step.node as usize].hi,
+        };
+        self.go_on(stage, step.node, raised, row)
+    }
+
+    /// It goes on to its end, nothing exactly where it cannot.
+    #[inline]
+    pub fn to_end(&self, stage: Stage) -> Option<Stage>
+        requires guide { IsGuide self.now }
+        requires stage { IsStageOf self.now.model.now 4000 stage }
+        ensures value { result ≡ to_end_by self.now.model.now self.now.d self.now.v (runs_of self.now) stage }
+        ensures range { IfSome result (λ next. (n : ℕ) → IsStageOf self.now.model.now n stage
+            → IsStageOf self.now.model.now (n + 1) next) }
+    {
+        let dimension = self.model.dimensions.get(self.d as usize);
+        let row = StopRow::of_key(&dimension.ends, self.v);
+        self.go_on(stage, self.finish.node, self.finish.allowed, row)
+    }
+
+    // It goes on to a node that allows a run of cumuls.
+    #[inline]
+    fn go_on(&self, stage: Stage, node: u32, allowed: Run, row: Option<&StopRow>) -> Option<Stage>
+        requires guide { IsGuide self.now }
+        requires stage { IsStageOf self.now.model.now 4000 stage }
+        requires node { node < self.now.model.now.nodes }
+        requires allowed { HasCumulEnds allowed }
+        requires row { WherePresent IsStopRow (option_copied row) }
+        ensures value { result ≡ go_on_by (transit self.now.model.now self.now.d self.now.v stage.at node)
+            (dimension_at self.now.model.now self.now.d).slack_max node allowed (option_copied row.entry) stage }
+        ensures at { IfSome result (λ next. next.at ≡ node) }
+        ensures range { IfSome result (λ next. (n : ℕ) → IsStageOf self.now.model.now n stage
+            → IsStageOf self.now.model.now (n + 1) next) }
+    {
+        let transit = self
+            .model
+            .transit_by(self.d, self.v, self.evaluator, stage.at, node);
+        let cumul = earliest_behind(stage.cumul, transit, self.slack, allowed)?;
+        let cost = row_cost(row, cumul);
+        Some(Stage {
+            at: node,
+            cumul,
+            soft: stage.soft + cost,
+        })
+    }
+}
+
+/// Node `k` of a chain, or of the chain backwards.
+#[inline(always)]
+pub fn node_in(chain: &[u32], reversed: bool, k: usize) -> u32
+    requires { k < length chain.now }
+    ensures { result ≡ slice_index_or (cond reversed (reverse chain.now) chain.now) k 0 }
+{
+    if reversed {
+        chain[chain.len() - 1 - k]
+    } else {
+        chain[k]
+    }
+}

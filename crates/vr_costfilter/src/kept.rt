@@ -1,0 +1,438 @@
+//! What is kept of committed lists, and what a change makes of them.
+
+ghost use Rattle.std.specs.Prelude.{◌≡◌, ◌<◌, ◌≤◌, ◌+◌, All, ℕ, List, IfOk, IfSome, IsTrue, false, length, pos};
+ghost use Rattle.std.specs.Prelude.{◌↔◌, is_some, slice_index_or};
+ghost use Rattle.std.specs.List.{list_all};
+ghost use Rattle.vr_model.specs.moves.Moves.{with_route};
+ghost use Rattle.vr_model.specs.routes.Routes.{route};
+ghost use Rattle.vr_model.specs.routes.Rules.{is_valid};
+ghost use Rattle.vr_model.specs.schedules.Choices.{is_feasible};
+ghost use Rattle.vr_model.specs.schedules.Lines.{line, Line};
+ghost use Rattle.vr_model.specs.schedules.Narrowed.{chosen_line};
+ghost use Rattle.vr_model.specs.schedules.Schedules.{IsFeasible};
+ghost use Rattle.vr_model.specs.tables.Tables.{is_visit, vehicle_at};
+ghost use Rattle.vr_model.specs.tables.Numbers.{horizon};
+ghost use Rattle.vr_model.specs.tables.WellFormed.{IsIn, IsWellFormed};
+ghost use Rattle.vr_model.specs.declared.records.Model.{Model as Defined};
+ghost use Rattle.vr_model.specs.declared.records.ScheduleRule.TheVariants.{Earliest, Tight};
+ghost use Rattle.vr_routes.specs.Pieces.{joined, IsWithin};
+ghost use Rattle.vr_plan.specs.Tables.{IsKnownDimension, IsTable};
+ghost use Rattle.vr_plan.specs.Timings.{IsTiming, IsTimingOf};
+ghost use Rattle.vr_reach.specs.Lists.{IsUsed};
+ghost use Rattle.vr_costfilter.specs.KeptWays.{AreEndsOf, HasCumuls, HasWays, HaveKeptWays};
+ghost use Rattle.vr_costfilter.specs.Guides.{runs_of, IsGuide};
+ghost use Rattle.vr_costfilter.specs.Kept.{is_tight, AreKept, HasRoom, IsKept, IsKnown, HasAllStages, HasAllWays};
+ghost use Rattle.vr_costfilter.specs.Runs.{between_runs, AllowsRuns, AreRuns};
+ghost use Rattle.vr_costfilter.specs.Steps.{HasStages};
+ghost use Rattle.vr_costfilter.specs.declared.kept_ways.KeptWays.{KeptWays as EndsOf};
+
+use crate::guides::Guide;
+use crate::kept_ways::KeptWays;
+use crate::steps::KeptSteps;
+use crate::tight::TightEnds;
+use crate::trails::Trail;
+use std::alloc::Global;
+use std::marker::Model;
+use vr_model::{Model as RoutingModel, NoMemory, ScheduleRule};
+use vr_plan::{KnownDimension, Table, Timing};
+use vr_routes::{Piece, Routes};
+
+/// What is kept of the list of a vehicle.
+#[derive(Drop)]
+pub struct KeptList {
+    // the steps and the stages of its chosen schedule; none of a tight one that soft upper bounds cost nothing
+    steps: KeptSteps,
+    // the cumuls of its start and of its end, between which they are, where it chooses its tight schedule
+    between: TightEnds,
+    // the ways to the ends of its list, of a vehicle that chooses its tight schedule one, and else none
+    ends: Vec<KeptWays>,
+}
+
+impl KeptList {
+    // Of no list, with room for what such a rule asks. The only refusal is want of memory.
+    fn new(alloc: Global, rule: ScheduleRule) -> Result<KeptList, NoMemory>
+        ensures room { IfOk result (HasRoom rule) }
+        ensures none { IfOk result (λ kept. length kept.steps.stages.items ≡ 0) }
+    {
+        let mut ends = Vec::new(alloc);
+        if is_tight(rule) {
+            ends.push(KeptWays::new())?;
+        }
+        Ok(KeptList {
+            steps: KeptSteps::new(),
+            between: TightEnds { start: 0, last: 0 },
+            ends,
+        })
+    }
+
+    // Forgets the list.
+    fn forget(&mut self)
+        ensures none { length self.new.steps.stages.items ≡ 0 }
+        ensures room { length self.new.ends.items ≡ length self.old.ends.items }
+        ensures ends { (model : Defined) (d : ℕ) (v : ℕ) (list : List ℕ)
+            → HaveKeptWays model d v list self.new.ends.items }
+        ensures between { HasCumuls self.new.between }
+    {
+        self.steps.forget();
+        self.between = TightEnds { start: 0, last: 0 };
+        if !self.ends.is_empty() {
+            self.ends[0].forget();
+        }
+    }
+
+    // Writes what is kept of a list of a vehicle that chooses its earliest schedule.
+    fn write_earliest(&mut self, guide: &Guide, list: &[u32])
+        requires guide { IsGuide guide.now }
+        requires runs { AreRuns guide.now.model.now guide.now.d guide.now.v (runs_of guide.now) }
+        requires rule { (vehicle_at guide.now.model.now guide.now.v).schedule ≡ Earliest }
+        requires few { length list.now ≤ 1000 }
+        requires visits { All (λ node. IsTrue (is_visit guide.now.model.now node)) list.now }
+        ensures kept { IsKept guide.now.model.now guide.now.d guide.now.v list.now self.new }
+        ensures room { length self.new.ends.items ≡ length self.old.ends.items }
+    {
+        self.forget();
+        self.steps.write(guide, list);
+    }
+
+    // Writes what is kept of a list of a vehicle that chooses its tight schedule.
+    fn write_tight(&mut self, guide: &Guide, list: &[u32])
+        requires guide { IsGuide guide.now }
+        requires runs { AreRuns guide.now.model.now guide.now.d guide.now.v (runs_of guide.now) }
+        requires rule { (vehicle_at guide.now.model.now guide.now.v).schedule ≡ Tight }
+        requires few { length list.now ≤ 1000 }
+        requires visits { All (λ node. IsTrue (is_visit guide.now.model.now node)) list.now }
+        ensures kept { IsKept guide.now.model.now guide.now.d guide.now.v list.now self.new }
+        ensures room { length self.new.ends.items ≡ length self.old.ends.items }
+    {
+        self.forget();
+        if self.ends.is_empty() {
+            return;
+        }
+        self.ends[0].write(guide, list);
+        self.write_between(guide, list);
+    }
+
+    // Writes the steps and the stages of a list between its two ends, where soft upper bounds may cost anything.
+    fn write_between(&mut self, guide: &Guide, list: &[u32])
+        requires guide { IsGuide guide.now }
+        requires few { length list.now ≤ 1000 }
+        requires visits { All (λ node. IsTrue (is_visit guide.now.model.now node)) list.now }
+        requires ends { 0 < length self.old.ends.items }
+        requires ways { (other : EndsOf) → HasWays guide.now.model.now guide.now.d guide.now.v (runs_of guide.now)
+            list.now (slice_index_or self.old.ends.items 0 other) }
+        requires none { length self.old.steps.stages.items ≡ 0 }
+        requires between { HasCumuls self.old.between }
+        ensures stages { HasStages guide.now.model.now guide.now.d guide.now.v
+            (between_runs (runs_of guide.now) self.new.between.start self.new.between.last) list.now self.new.steps }
+        ensures between { HasCumuls self.new.between }
+        ensures told { guide.now.table.now.is_hard ≡ false → AreEndsOf guide.now.model.now guide.now.d guide.now.v
+            (runs_of guide.now) list.now self.new.between }
+        ensures all { guide.now.table.now.is_hard ≡ false → (line : Line) → AllowsRuns guide.now.model.now guide.now.d
+            guide.now.v (between_runs (runs_of guide.now) self.new.between.start self.new.between.last) list.now line
+            → IsFeasible line → length self.new.steps.stages.items ≡ length list.now + 2 }
+        ensures ends { self.new.ends.items ≡ self.old.ends.items }
+    {
+        if guide.table.is_hard {
+            return;
+        }
+        let ends = self.ends[0].ends(guide, list);
+        self.between = ends;
+        self.steps.write(&guide.between(ends), list);
+    }
+
+    // What the tight schedule of the list that pieces are joined to comes to; nothing exactly where what is kept does
+    // not tell.
+    fn tight_after(
+        &self,
+        guide: &Guide,
+        routes: &Routes,
+        pieces: &[Piece],
+        trail: &mut Trail,
+    ) -> Option<Timing>
+        requires guide { IsGuide guide.now }
+        requires runs { AreRuns guide.now.model.now guide.now.d guide.now.v (runs_of guide.now) }
+        requires rule { (vehicle_at guide.now.model.now guide.now.v).schedule ≡ Tight }
+        requires known { guide.now.v < length routes.now.lists }
+        requires kept { IsKept guide.now.model.now guide.now.d guide.now.v (route routes.now.lists guide.now.v)
+            self.now }
+        requires short { length (route routes.now.lists guide.now.v) ≤ 1000 }
+        requires within { All (IsWithin routes.now.lists) pieces.now }
+        requires used { IsUsed guide.now.model.now (joined routes.now.lists pieces.now) }
+        requires few { length (joined routes.now.lists pieces.now) ≤ 1000 }
+        requires feasible { IsFeasible (line guide.now.model.now guide.now.d guide.now.v
+            (joined routes.now.lists pieces.now)) }
+        ensures known { IsTrue (is_some result) ↔ HasAllWays (route routes.now.lists guide.now.v) self.now }
+        ensures timing { IfSome result (IsTiming guide.now.model.now guide.now.d guide.now.v
+            (joined routes.now.lists pieces.now)) }
+        ensures range { IfSome result (IsTimingOf (length (joined routes.now.lists pieces.now) + 2)) }
+    {
+        if self.ends.is_empty() {
+            return None;
+        }
+        let kept = &self.ends[0];
+        let list = routes.list(guide.v);
+        if !kept.has_ways(list.len()) {
+            return None;
+        }
+        let ends = guide.ends_of(kept, routes, pieces);
+        if guide.table.is_hard {
+            return Some(Timing {
+                soft: 0,
+                start: ends.start,
+                last: ends.last,
+            });
+        }
+        self.timing_between(guide, ends, routes, pieces, trail)
+    }
+
+    // The same between its two ends: by what is kept, where the list ended as it does now. Nothing exactly where there
+    // is no such schedule.
+    fn timing_between(
+        &self,
+        guide: &Guide,
+        ends: TightEnds,
+        routes: &Routes,
+        pieces: &[Piece],
+        trail: &mut Trail,
+    ) -> Option<Timing>
+        requires guide { IsGuide guide.now }
+        requires allows { AllowsRuns guide.now.model.now guide.now.d guide.now.v
+            (between_runs (runs_of guide.now) ends.start ends.last) (joined routes.now.lists pieces.now)
+            (chosen_line guide.now.model.now guide.now.d guide.now.v (joined routes.now.lists pieces.now)) }
+        requires runs { AreRuns guide.now.model.now guide.now.d guide.now.v (runs_of guide.now) }
+        requires rule { (vehicle_at guide.now.model.now guide.now.v).schedule ≡ Tight }
+        requires ends { HasCumuls ends }
+        requires known { guide.now.v < length routes.now.lists }
+        requires kept { IsKept guide.now.model.now guide.now.d guide.now.v (route routes.now.lists guide.now.v)
+            self.now }
+        requires short { length (route routes.now.lists guide.now.v) ≤ 1000 }
+        requires within { All (IsWithin routes.now.lists) pieces.now }
+        requires visits { IsTrue (list_all (is_visit guide.now.model.now) (joined routes.now.lists pieces.now)) }
+        requires few { length (joined routes.now.lists pieces.now) ≤ 1000 }
+        ensures known { is_some result ≡ is_feasible (chosen_line guide.now.model.now guide.now.d guide.now.v
+            (joined routes.now.lists pieces.now)) }
+        ensures timing { IfSome result (IsTiming guide.now.model.now guide.now.d guide.now.v
+            (joined routes.now.lists pieces.now)) }
+        ensures range { IfSome result (IsTimingOf (length (joined routes.now.lists pieces.now) + 2)) }
+    {
+        let list = routes.list(guide.v);
+        if self.steps.are_of(list.len()) {
+            if self.between.last == ends.last {
+                return self.timing_from(guide, ends.start, routes, pieces, trail);
+            }
+        }
+        guide.timing_between(ends, routes, pieces, trail)
+    }
+
+    // The same from another start to the end that is kept.
+    fn timing_from(
+        &self,
+        guide: &Guide,
+        start: i64,
+        routes: &Routes,
+        pieces: &[Piece],
+        trail: &mut Trail,
+    ) -> Option<Timing>
+        requires guide { IsGuide guide.now }
+        requires allows { AllowsRuns guide.now.model.now guide.now.d guide.now.v
+            (between_runs (runs_of guide.now) start self.now.between.last) (joined routes.now.lists pieces.now)
+            (chosen_line guide.now.model.now guide.now.d guide.now.v (joined routes.now.lists pieces.now)) }
+        requires runs { AreRuns guide.now.model.now guide.now.d guide.now.v (runs_of guide.now) }
+        requires rule { (vehicle_at guide.now.model.now guide.now.v).schedule ≡ Tight }
+        requires start { IsIn (pos 0) horizon start }
+        requires many { length self.now.steps.stages.items ≡ length (route routes.now.lists guide.now.v) + 2 }
+        requires known { guide.now.v < length routes.now.lists }
+        requires kept { IsKept guide.now.model.now guide.now.d guide.now.v (route routes.now.lists guide.now.v)
+            self.now }
+        requires short { length (route routes.now.lists guide.now.v) ≤ 1000 }
+        requires within { All (IsWithin routes.now.lists) pieces.now }
+        requires visits { IsTrue (list_all (is_visit guide.now.model.now) (joined routes.now.lists pieces.now)) }
+        requires few { length (joined routes.now.lists pieces.now) ≤ 1000 }
+        ensures known { is_some result ≡ is_feasible (chosen_line guide.now.model.now guide.now.d guide.now.v
+            (joined routes.now.lists pieces.now)) }
+        ensures timing { IfSome result (IsTiming guide.now.model.now guide.now.d guide.now.v
+            (joined routes.now.lists pieces.now)) }
+        ensures range { IfSome result (IsTimingOf (length (joined routes.now.lists pieces.now) + 2)) }
+    {
+        let kept = guide.between(self.between);
+        self.steps.after(&kept, Some(start), routes, pieces, trail)
+    }
+
+    // What the earliest schedule of the list that pieces are joined to comes to; nothing exactly where what is kept
+    // does not tell.
+    fn earliest_after(
+        &self,
+        guide: &Guide,
+        routes: &Routes,
+        pieces: &[Piece],
+        trail: &mut Trail,
+    ) -> Option<Timing>
+        requires guide { IsGuide guide.now }
+        requires runs { AreRuns guide.now.model.now guide.now.d guide.now.v (runs_of guide.now) }
+        requires rule { (vehicle_at guide.now.model.now guide.now.v).schedule ≡ Earliest }
+        requires known { guide.now.v < length routes.now.lists }
+        requires kept { IsKept guide.now.model.now guide.now.d guide.now.v (route routes.now.lists guide.now.v)
+            self.now }
+        requires short { length (route routes.now.lists guide.now.v) ≤ 1000 }
+        requires within { All (IsWithin routes.now.lists) pieces.now }
+        requires used { IsUsed guide.now.model.now (joined routes.now.lists pieces.now) }
+        requires few { length (joined routes.now.lists pieces.now) ≤ 1000 }
+        ensures known { IsFeasible
+            (line guide.now.model.now guide.now.d guide.now.v (joined routes.now.lists pieces.now))
+            → IsTrue (is_some result) ↔ HasAllStages (route routes.now.lists guide.now.v) self.now }
+        ensures timing { IfSome result (IsTiming guide.now.model.now guide.now.d guide.now.v
+            (joined routes.now.lists pieces.now)) }
+        ensures range { IfSome result (IsTimingOf (length (joined routes.now.lists pieces.now) + 2)) }
+    {
+        let list = routes.list(guide.v);
+        if !self.steps.are_of(list.len()) {
+            return None;
+        }
+        self.steps.after(guide, None, routes, pieces, trail)
+    }
+}
+
+// Whether a rule chooses the tight schedule.
+fn is_tight(rule: ScheduleRule) -> bool
+    ensures { result ≡ is_tight rule }
+{
+    match rule {
+        ScheduleRule::Earliest => false,
+        ScheduleRule::Tight => true,
+    }
+}
+
+/// What is kept of the lists of all vehicles in one dimension; of no list where nothing is to be known. Contracts see
+/// what is kept of each.
+#[derive(Drop)]
+pub struct KeptCumuls {
+    lists: Vec<KeptList>,
+}
+
+impl Model for KeptCumuls {
+    ghost use Rattle.std.specs.Prelude.{List};
+    ghost use Rattle.vr_costfilter.specs.declared.kept.KeptList.{KeptList as KeptOf};
+
+    ghost Value = { List KeptOf };
+
+    ghost view = { λ kept. kept.lists.items };
+}
+
+impl KeptCumuls {
+    /// Of no list. It takes no memory.
+    pub fn none(alloc: Global) -> KeptCumuls
+        ensures { (model : Defined) (d : ℕ) (lists : List (List ℕ)) → AreKept model d lists result }
+    {
+        KeptCumuls {
+            lists: Vec::new(alloc),
+        }
+    }
+
+    /// Of the lists of routes in dimension `d`. The only refusal is want of memory.
+    pub fn open(
+        alloc: Global,
+        model: &RoutingModel,
+        table: &Table,
+        d: u32,
+        routes: &Routes,
+    ) -> Result<KeptCumuls, NoMemory>
+        requires well_formed { IsWellFormed model.now }
+        requires valid { IsTrue (is_valid model.now routes.now.lists) }
+        requires dimension { d < length model.now.dimensions }
+        requires table { IsTable model.now d table.now }
+        ensures kept { IfOk result (AreKept model.now d routes.now.lists) }
+        ensures each { IfOk result (λ kept. length kept ≡ length routes.now.lists) }
+    {
+        let mut lists = Vec::new(alloc);
+        for v in 0..routes.vehicles() {
+            let mut kept = KeptList::new(alloc, model.vehicles.get(v as usize).schedule)?;
+            write_list(model, table, d, v, routes.list(v), &mut kept);
+            lists.push(kept)?;
+        }
+        Ok(KeptCumuls { lists })
+    }
+
+    /// Vehicle `v` gets another list. It takes no memory.
+    pub fn write(&mut self, model: &RoutingModel, table: &Table, d: u32, v: u32, list: &[u32])
+        requires well_formed { IsWellFormed model.now }
+        requires dimension { d < length model.now.dimensions }
+        requires vehicle { v < length model.now.vehicles }
+        requires table { IsTable model.now d table.now }
+        requires few { length list.now ≤ 1000 }
+        requires visits { IsTrue (list_all (is_visit model.now) list.now) }
+        ensures kept { (lists : List (List ℕ)) → AreKept model.now d lists self.old → v < length lists
+            → AreKept model.now d (with_route lists v list.now) self.new }
+        ensures many { length self.new ≡ length self.old }
+    {
+        if (v as usize) < self.lists.len() {
+            write_list(model, table, d, v, list, &mut self.lists[v as usize]);
+        }
+    }
+
+    /// What the chosen schedule of the list that pieces are joined to comes to, for vehicle `v` in a dimension.
+    /// Nothing exactly where what is kept does not tell: where nothing is kept, the vehicle has breaks, or a stop
+    /// allows several runs of cumuls. Of an earliest schedule what the change keeps of the front of the list is walked
+    /// as far back as it gets another floor, and of its end as much as gets another cumul. Of a tight one what it keeps
+    /// is not walked; where soft upper bounds may cost anything it is, from the start until a cumul is as kept, and
+    /// wholly where the list ends at another cumul. The trail is written over.
+    pub fn timing_after(
+        &self,
+        at: &KnownDimension,
+        v: u32,
+        routes: &Routes,
+        pieces: &[Piece],
+        trail: &mut Trail,
+    ) -> Option<Timing>
+        requires at { IsKnownDimension at.now }
+        requires vehicle { v < length at.now.model.now.vehicles }
+        requires kept { AreKept at.now.model.now at.now.d routes.now.lists self.now }
+        requires known { v < length routes.now.lists }
+        requires short { length (route routes.now.lists v) ≤ 1000 }
+        requires within { All (IsWithin routes.now.lists) pieces.now }
+        requires used { IsUsed at.now.model.now (joined routes.now.lists pieces.now) }
+        requires few { length (joined routes.now.lists pieces.now) ≤ 1000 }
+        requires feasible { IsFeasible (line at.now.model.now at.now.d v (joined routes.now.lists pieces.now)) }
+        ensures known { IsTrue (is_some result)
+            ↔ IsKnown at.now.model.now at.now.d v (route routes.now.lists v) self.now }
+        ensures timing { IfSome result (IsTiming at.now.model.now at.now.d v (joined routes.now.lists pieces.now)) }
+        ensures range { IfSome result (IsTimingOf (length (joined routes.now.lists pieces.now) + 2)) }
+    {
+        if v as usize >= self.lists.len() {
+            return None;
+        }
+        let guide = Guide::of(at.model, at.table, at.d, v)?;
+        let kept = &self.lists[v as usize];
+        let vehicle = at.model.vehicles.get(v as usize);
+        match vehicle.schedule {
+            ScheduleRule::Earliest => kept.earliest_after(&guide, routes, pieces, trail),
+            ScheduleRule::Tight => kept.tight_after(&guide, routes, pieces, trail),
+        }
+    }
+}
+
+// Writes what is kept of a list of vehicle `v` in dimension `d`.
+fn write_list(
+    model: &RoutingModel,
+    table: &Table,
+    d: u32,
+    v: u32,
+    list: &[u32],
+    kept: &mut KeptList,
+)
+    requires well_formed { IsWellFormed model.now }
+    requires dimension { d < length model.now.dimensions }
+    requires vehicle { v < length model.now.vehicles }
+    requires table { IsTable model.now d table.now }
+    requires few { length list.now ≤ 1000 }
+    requires visits { IsTrue (list_all (is_visit model.now) list.now) }
+    ensures kept { IsKept model.now d v list.now kept.new }
+    ensures room { length kept.new.ends.items ≡ length kept.old.ends.items }
+{
+    match Guide::of(model, table, d, v) {
+        Some(guide) => match model.vehicles.get(v as usize).schedule {
+            ScheduleRule::Earliest => kept.write_earliest(&guide, list),
+            ScheduleRule::Tight => kept.write_tight(&guide, list),
+        },
+        None => kept.forget(),
+    }
+}

@@ -1,0 +1,94 @@
+//! What is left of the line of a vehicle behind a stop.
+
+ghost use Rattle.std.specs.Prelude.{◌≡◌, ◌<◌, IsTrue};
+ghost use Rattle.vr_model.specs.tables.Tables.{is_visit, transit as transit_of};
+ghost use Rattle.vr_reach.specs.VisitRuns.{HasCumulEnds};
+ghost use Rattle.vr_costfilter.specs.Guides.{runs_of, IsGuide};
+ghost use Rattle.vr_costfilter.specs.Rests.{rest_at_end as at_end_of, rest_before as before_by};
+ghost use Rattle.vr_costfilter.specs.Rests.{rest_by, way_through as through_rest, IsRestOf};
+ghost use Rattle.vr_costfilter.specs.Ways.{IsWayOf};
+
+use crate::guides::Guide;
+use crate::tight::Way;
+use vr_spans::Run;
+
+/// What is left of a line from a stop on: its node, the transits of the arcs behind it, added up, the time before which
+/// the line does not end, however early the vehicle comes to the stop, and the greatest cumul of the stop from which
+/// it comes, without waiting, to each stop from there on before its run is over.
+#[derive(Clone, Copy, Default)]
+pub struct Rest {
+    pub at: u32,
+    pub transits: i64,
+    pub least_end: i64,
+    pub latest_cumul: i64,
+}
+
+impl<'m> Guide<'m> {
+    /// What is left from the end on.
+    #[inline]
+    pub fn rest_at_end(&self) -> Rest
+        requires guide { IsGuide self.now }
+        ensures value { result ≡ at_end_of self.now.model.now self.now.v (runs_of self.now) }
+        ensures range { IsRestOf self.now.model.now 0 result }
+    {
+        Rest {
+            at: self.finish.node,
+            transits: 0,
+            least_end: self.finish.allowed.lo,
+            latest_cumul: self.finish.allowed.hi,
+        }
+    }
+
+    /// What is left from a visit on, which comes before what is left from the next stop on.
+    #[inline]
+    pub fn rest_before(&self, node: u32, rest: Rest) -> Rest
+        requires guide { IsGuide self.now }
+        requires node { IsTrue (is_visit self.now.model.now node) }
+        requires rest { IsRestOf self.now.model.now 1000 rest }
+        ensures { result ≡ before_by self.now.model.now self.now.d self.now.v (runs_of self.now) node rest }
+    {
+        self.rest_on(node, self.visits[node as usize], rest)
+    }
+
+    // What is left from a node on that allows a run of cumuls.
+    #[inline]
+    fn rest_on(&self, node: u32, allowed: Run, rest: Rest) -> Rest
+        requires guide { IsGuide self.now }
+        requires node { node < self.now.model.now.nodes }
+        requires allowed { HasCumulEnds allowed }
+        requires rest { IsRestOf self.now.model.now 1000 rest }
+        ensures { result ≡ rest_by (transit_of self.now.model.now self.now.d self.now.v node rest.at) node allowed
+            rest }
+    {
+        let transit = self
+            .model
+            .transit_by(self.d, self.v, self.evaluator, node, rest.at);
+        let transits = transit + rest.transits;
+        Rest {
+            at: node,
+            transits,
+            least_end: (allowed.lo + transits).max(rest.least_end),
+            latest_cumul: allowed.hi.min(rest.latest_cumul - transit),
+        }
+    }
+
+    /// A way goes on to a stop and through what is left from there to the end.
+    #[inline(always)]
+    pub fn way_through(&self, way: Way, rest: Rest) -> Way
+        requires guide { IsGuide self.now }
+        requires way { IsWayOf self.now.model.now 2000 way }
+        requires rest { IsRestOf self.now.model.now 1000 rest }
+        ensures { result ≡ through_rest self.now.model.now self.now.d self.now.v way rest }
+    {
+        let transit = self
+            .model
+            .transit_by(self.d, self.v, self.evaluator, way.at, rest.at);
+        let left = transit + rest.transits;
+        Way {
+            at: self.finish.node,
+            time: (way.time + left).max(rest.least_end),
+            transits: way.transits + left,
+            latest: way.latest.min(rest.latest_cumul - (way.transits + transit)),
+        }
+    }
+}

@@ -1,9 +1,0 @@
-use Rattle.vr_cumuls.specs.Kept.{AreAllKept, AreAsMany}
-use Rattle.vr_parts.proofs.SumLemmas.{upto}
-use Rattle.vr_cumuls.proofs.dimensions.AllCumuls.commit.Given as goal
-
-abbrev pub invariant-loop-k : goal.invariant-loop-k
-invariant-loop-k l = record {
-  kept : AreAllKept l.model (upto l.routes.lists l.change l.k) l.self-inside.dimensions.items;
-  as_many : AreAsMany l.fn.self l.self-inside.dimensions.items;
-}

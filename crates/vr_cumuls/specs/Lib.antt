@@ -1,9 +1,0 @@
-pub mod Runs
-pub mod Floors
-pub mod Stages
-pub mod Guides
-pub mod Ways
-pub mod Rests
-pub mod KeptWays
-pub mod Steps
-pub mod Kept

@@ -1,0 +1,75 @@
+-- Rows that are kept of lists.
+use Rattle.std.proofs.Common.{◌≡◌, ◌∙◌, ◌<◌, ℕ, List, [], refl, ap, sym, subst, arith, length, get_or, set, inl, inr}
+use Rattle.std.proofs.lemmas.Bool.Decides.{eqb_tells}
+use Rattle.std.proofs.lemmas.List.{get_or-set_same, get_or-set_other, get_or_default, length-set}
+use Rattle.vr_model.specs.routes.Routes.{route}
+use Rattle.vr_model.specs.declared.records.Model.{Model}
+use Rattle.vr_reach.specs.Rows.{BothWays}
+use Rattle.vr_reach.specs.KnownRows.{AreRowsIfUsed}
+use Rattle.vr_reach.specs.Stops.{AreStops}
+use Rattle.vr_reach.specs.Stretches.{SharesFront}
+use Rattle.vr_reach.proofs.StandingLemmas.{reached_in}
+use Rattle.vr_first_insert.specs.declared.kept.Kept.{Kept}
+use Rattle.vr_first_insert.specs.declared.probes.Probes.{Probes}
+use Rattle.vr_first_insert.specs.KeptRows.{AreKept, AreKeptBut, AreKeptOf, AreStopsOfEach, IsKept, IsKeptBut, IsKeptOf}
+use Rattle.vr_first_insert.specs.Probes.{AreReachedAt}
+
+-- the list that code reads at a place
+pub list_at : (lists : List (List ℕ)) (v : ℕ) (list read : List ℕ) → list ≡ read → read ≡ get_or lists v read → v < length lists → list ≡ route lists v
+list_at lists v list read same is low = same ∙ is ∙ get_or_default lists v read _ low
+
+-- what is kept in one dimension, as code reads it
+pub kept_at : (model : Model) (v : ℕ) (list : List ℕ) (keeps : List Kept) → AreKeptOf model v list keeps → (d : ℕ) (kept : Kept) → kept ≡ get_or keeps d kept → d < length keeps → IsKeptOf model d v list kept
+kept_at model v list keeps are d kept is low = subst (IsKeptOf model d v list) (sym is) (are.each d kept low)
+
+-- the rows of the list, as code reads them
+pub rows_at : (model : Model) (d v : ℕ) (list : List ℕ) (kept : Kept) → IsKeptOf model d v list kept → (rows : BothWays) → rows ≡ get_or kept.rows.items v rows → AreRowsIfUsed model d v list rows
+rows_at model d v list kept is rows read = subst (AreRowsIfUsed model d v list) (sym read) (is.rows_of_list rows)
+
+-- what is kept of all lists is kept of each
+pub kept_of : (model : Model) (lists : List (List ℕ)) (keeps : List Kept) → AreKept model lists keeps → (v : ℕ) → v < length lists → AreKeptOf model v (route lists v) keeps
+kept_of model lists keeps are v low = record {
+  one_of_each = are.one_of_each;
+  each = λ d other d_low.
+      let kept = are.each d other d_low in
+      let many = kept.many in
+      record { stops_ask = kept.stops_ask; there = omega (arith, low, many); rows_of_list = λ rows. kept.rows_of_each v rows (omega (arith, low, many)) };
+}
+
+pub stops_of : (model : Model) (v : ℕ) (list : List ℕ) (keeps : List Kept) → AreKeptOf model v list keeps → AreStopsOfEach model keeps
+stops_of model v list keeps are = record { one_of_each = are.one_of_each; each = λ d other low. (are.each d other low).stops_ask }
+
+-- the rows of one list were written
+pub kept_again : (model : Model) (d : ℕ) (lists : List (List ℕ)) (v : ℕ) (list : List ℕ) (before after : Kept) (rows : BothWays) → after.stops ≡ before.stops → after.rows.items ≡ set before.rows.items v rows
+    → v < length before.rows.items → AreRowsIfUsed model d v list rows → route lists v ≡ list → IsKeptBut model d lists v before → IsKept model d lists after
+kept_again model d lists v list before after rows same_stops written there new here but = record {
+  stops_ask = subst (AreStops model d) (sym same_stops) but.stops_ask;
+  many = ap length written ∙ length-set before.rows.items v rows ∙ but.many;
+  rows_of_each = λ w other low.
+      subst (λ all. AreRowsIfUsed model d w (route lists w) (get_or all w other)) (sym written) (elim (eqb_tells w v) [
+        | inl at ↦ subst (λ u. AreRowsIfUsed model d u (route lists u) (get_or (set before.rows.items v rows) u other)) (sym at.1)
+            (subst (AreRowsIfUsed model d v (route lists v)) (sym (get_or-set_same before.rows.items v rows other there)) (subst (λ l. AreRowsIfUsed model d v l rows) (sym here) new))
+        | inr apart ↦ subst (AreRowsIfUsed model d w (route lists w)) (sym (get_or-set_other before.rows.items v w rows other apart.1))
+            (but.rows_of_others w other (let n = ap length written ∙ length-set before.rows.items v rows in omega (arith, low, n)) apart.1)
+      ]);
+}
+
+-- what is kept of lists, once one of them was changed
+pub kept_but : (model : Model) (lists : List (List ℕ)) (keeps : List Kept) (v : ℕ) (list : List ℕ) → AreKept model lists keeps → AreKeptBut model (set lists v list) v keeps
+kept_but model lists keeps v list are = record {
+  one_of_each = are.one_of_each;
+  each = λ d other d_low.
+      let kept = are.each d other d_low in
+      record {
+        stops_ask = kept.stops_ask;
+        many = kept.many ∙ sym (length-set lists v list);
+        rows_of_others = λ w rows low apart. subst (λ l. AreRowsIfUsed model d w l (get_or (get_or keeps d other).rows.items w rows)) (sym (get_or-set_other lists v w list [] apart)) (kept.rows_of_each w rows low);
+      };
+}
+
+-- a list that shares the nodes up to a stop reaches the same there, in each dimension
+pub reached_in_each : (model : Model) (v : ℕ) (old new : List ℕ) (k : ℕ) (probes : Probes) → SharesFront old new k → AreReachedAt model v old k probes → AreReachedAt model v new k probes
+reached_in_each model v old new k probes shares at = record {
+  enough = at.enough;
+  each = λ d other low. reached_in model d v old new k (get_or probes.here.items d other) shares (at.each d other low);
+}

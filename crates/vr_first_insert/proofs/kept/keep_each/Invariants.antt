@@ -1,0 +1,12 @@
+use Rattle.std.proofs.Common.{◌≡◌, ℕ, ◌<◌, length}
+use Rattle.std.specs.Prelude.{slice_index_or}
+use Rattle.vr_first_insert.specs.declared.kept.Kept.{Kept}
+use Rattle.vr_first_insert.specs.KeptRows.{IsKept}
+use Rattle.vr_first_insert.proofs.kept.keep_each.Given as goal
+
+-- what is kept in the dimensions so far
+abbrev pub invariant-loop-d : goal.invariant-loop-d
+invariant-loop-d l = record {
+  long : length l.keeps.items ≡ l.d;
+  each : (d : ℕ) (other : Kept) → d < length l.keeps.items → IsKept l.model d l.lists (slice_index_or l.keeps.items d other);
+}

@@ -1,0 +1,55 @@
+-- What is kept of lists in each dimension.
+use Rattle.std.specs.Prelude.{◌≡◌, ℕ, ◌<◌, List, length, slice_index_or}
+use Rattle.vr_model.specs.routes.Routes.{route}
+use Rattle.vr_model.specs.declared.records.Model.{Model}
+use Rattle.vr_reach.specs.Rows.{BothWays}
+use Rattle.vr_reach.specs.KnownRows.{AreRowsIfUsed}
+use Rattle.vr_reach.specs.Lists.{IsTour}
+use Rattle.vr_reach.specs.Stops.{AreStops}
+use Rattle.vr_first_insert.specs.declared.kept.Kept.{Kept}
+
+-- each list holds distinct visits
+abbrev pub AreTours : Model → List (List ℕ) → Type 0
+AreTours model lists = (v : ℕ) → v < length lists → IsTour model (route lists v)
+
+-- the rows of each vehicle are those of its list
+abbrev pub AreRowsOfEach : Model → ℕ → List (List ℕ) → List BothWays → Type 0
+AreRowsOfEach model d lists rows = (v : ℕ) (other : BothWays) → v < length rows
+    → AreRowsIfUsed model d v (route lists v) (slice_index_or rows v other)
+
+-- what is kept in dimension d is that of the lists
+pub record IsKept (model : Model) (d : ℕ) (lists : List (List ℕ)) (kept : Kept) : Type 0 where
+  pub stops_ask : AreStops model d kept.stops
+  pub many : length kept.rows.items ≡ length lists
+  pub rows_of_each : AreRowsOfEach model d lists kept.rows.items
+
+-- the same of all lists but that of vehicle v
+pub record IsKeptBut (model : Model) (d : ℕ) (lists : List (List ℕ)) (v : ℕ) (kept : Kept) : Type 0 where
+  pub stops_ask : AreStops model d kept.stops
+  pub many : length kept.rows.items ≡ length lists
+  pub rows_of_others : (w : ℕ) (other : BothWays) → w < length kept.rows.items → (w ≡ v → ⊥)
+      → AreRowsIfUsed model d w (route lists w) (slice_index_or kept.rows.items w other)
+
+-- the same of the list of vehicle v alone
+pub record IsKeptOf (model : Model) (d v : ℕ) (list : List ℕ) (kept : Kept) : Type 0 where
+  pub stops_ask : AreStops model d kept.stops
+  pub there : v < length kept.rows.items
+  pub rows_of_list : (other : BothWays) → AreRowsIfUsed model d v list (slice_index_or kept.rows.items v other)
+
+-- in each dimension
+pub record AreKept (model : Model) (lists : List (List ℕ)) (keeps : List Kept) : Type 0 where
+  pub one_of_each : length keeps ≡ length model.dimensions
+  pub each : (d : ℕ) (other : Kept) → d < length keeps → IsKept model d lists (slice_index_or keeps d other)
+
+pub record AreKeptBut (model : Model) (lists : List (List ℕ)) (v : ℕ) (keeps : List Kept) : Type 0 where
+  pub one_of_each : length keeps ≡ length model.dimensions
+  pub each : (d : ℕ) (other : Kept) → d < length keeps → IsKeptBut model d lists v (slice_index_or keeps d other)
+
+pub record AreKeptOf (model : Model) (v : ℕ) (list : List ℕ) (keeps : List Kept) : Type 0 where
+  pub one_of_each : length keeps ≡ length model.dimensions
+  pub each : (d : ℕ) (other : Kept) → d < length keeps → IsKeptOf model d v list (slice_index_or keeps d other)
+
+-- what the stops of each dimension ask
+pub record AreStopsOfEach (model : Model) (keeps : List Kept) : Type 0 where
+  pub one_of_each : length keeps ≡ length model.dimensions
+  pub each : (d : ℕ) (other : Kept) → d < length keeps → AreStops model d (slice_index_or keeps d other).stops

@@ -1,0 +1,19 @@
+-- What a list reaches at a stop in each dimension.
+use Rattle.std.specs.Prelude.{◌≡◌, ℕ, suc, ◌<◌, ◌≤◌, false, List, length, slice_index_or}
+use Rattle.vr_spans.specs.declared.runs.Run.{Run}
+use Rattle.vr_model.specs.declared.records.Model.{Model}
+use Rattle.vr_reach.specs.Lists.{IsUsed}
+use Rattle.vr_reach.specs.Standing.{IsReachedAt}
+use Rattle.vr_rules.specs.RoutesOpen.{is_feasible_in_each}
+use Rattle.vr_first_insert.specs.declared.probes.Probes.{Probes}
+
+-- the levels are what vehicle v reaches at stop k of a list, in each dimension
+pub record AreReachedAt (model : Model) (v : ℕ) (list : List ℕ) (k : ℕ) (probes : Probes) : Type 0 where
+  pub enough : length model.dimensions ≤ length probes.here.items
+  pub each : (d : ℕ) (other : List (List Run)) → d < length model.dimensions
+      → IsReachedAt model d v list k (slice_index_or probes.here.items d other)
+
+-- a list that reaches the levels at a stop has a dimension without a feasible line
+abbrev pub ReachNoEnd : Model → Probes → Type 0
+ReachNoEnd model probes = (v : ℕ) (list : List ℕ) (k : ℕ) → v < length model.vehicles → IsUsed model list
+    → k ≤ suc (length list) → AreReachedAt model v list k probes → is_feasible_in_each model v list ≡ false

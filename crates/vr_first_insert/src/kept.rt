@@ -1,0 +1,189 @@
+//! The rows of lists in each dimension.
+
+ghost use Rattle.std.specs.Prelude.{◌≡◌, ◌+◌, ◌<◌, ◌≤◌, ℕ, List, length, IfOk, OnOk};
+ghost use Rattle.vr_model.specs.routes.Routes.{route};
+ghost use Rattle.vr_model.specs.tables.WellFormed.{IsWellFormed};
+ghost use Rattle.vr_reach.specs.Lists.{IsTour, IsUsed};
+ghost use Rattle.vr_reach.specs.Stops.{AreStops};
+ghost use Rattle.vr_reach.specs.Stretches.{SharesFront, SharesBack};
+ghost use Rattle.vr_rules.specs.RoutesOpen.{is_feasible_in_each};
+ghost use Rattle.vr_first_insert.specs.KeptRows.{AreKept, AreKeptBut, AreKeptOf, AreRowsOfEach, AreTours, IsKept, IsKeptBut};
+
+use std::alloc::Global;
+use vr_model::{Model, NoMemory, Seq};
+use vr_reach::{Rows, Stops, Walk, goes_between, no_line, write_rows};
+use vr_steps::Line;
+
+/// What is kept of lists in one dimension: what its stops ask, and the rows of the list of each vehicle.
+#[derive(Drop)]
+pub struct Kept {
+    pub(crate) stops: Stops,
+    pub(crate) rows: Vec<Rows>,
+}
+
+impl Kept {
+    // What is kept of lists in dimension `d`.
+    fn build(
+        alloc: Global,
+        model: &Model,
+        d: u32,
+        lists: &[Seq<u32>],
+        line: &mut Line,
+    ) -> Result<Kept, NoMemory>
+        requires well_formed { IsWellFormed model.now }
+        requires dimension { d < length model.now.dimensions }
+        requires vehicles { length lists.now ≡ length model.now.vehicles }
+        requires tours { AreTours model.now lists.now }
+        ensures { IfOk result (IsKept model.now d lists.now) }
+    {
+        let stops = Stops::build(alloc, model, d)?;
+        let rows = rows_of_each(alloc, model, d, &stops, lists, line)?;
+        Ok(Kept { stops, rows })
+    }
+
+    // Writes the rows of the list of vehicle `v` over those of another list.
+    fn learn(
+        &mut self,
+        alloc: Global,
+        model: &Model,
+        d: u32,
+        v: u32,
+        list: &[u32],
+        line: &mut Line,
+    ) -> Result<(), NoMemory>
+        requires well_formed { IsWellFormed model.now }
+        requires dimension { d < length model.now.dimensions }
+        requires vehicle { v < length model.now.vehicles }
+        requires tour { IsTour model.now list.now }
+        requires stops { AreStops model.now d self.old.stops }
+        requires there { v < length self.old.rows.items }
+        ensures { OnOk result ((lists : List (List ℕ)) → route lists v ≡ list.now
+            → IsKeptBut model.now d lists v self.old → IsKept model.now d lists self.new) }
+    {
+        write_rows(
+            alloc,
+            model,
+            d,
+            v,
+            &self.stops,
+            list,
+            line,
+            &mut self.rows[v as usize],
+        )?;
+        Ok(())
+    }
+}
+
+// The rows of each list in dimension `d`.
+fn rows_of_each(
+    alloc: Global,
+    model: &Model,
+    d: u32,
+    stops: &Stops,
+    lists: &[Seq<u32>],
+    line: &mut Line,
+) -> Result<Vec<Rows>, NoMemory>
+    requires well_formed { IsWellFormed model.now }
+    requires dimension { d < length model.now.dimensions }
+    requires stops { AreStops model.now d stops.now }
+    requires vehicles { length lists.now ≡ length model.now.vehicles }
+    requires tours { AreTours model.now lists.now }
+    ensures many { IfOk result (λ rows. length rows.items ≡ length lists.now) }
+    ensures each { IfOk result (λ rows. AreRowsOfEach model.now d lists.now rows.items) }
+{
+    let mut known = Vec::with_capacity(alloc, lists.len())?;
+    for v in 0..lists.len() {
+        let mut rows = Rows::new(alloc);
+        let list = lists[v].as_slice();
+        write_rows(alloc, model, d, v as u32, stops, list, line, &mut rows)?;
+        known.push(rows)?;
+    }
+    Ok(known)
+}
+
+/// What is kept of lists in each dimension. The only refusal is want of memory.
+pub fn keep_each(alloc: Global, model: &Model, lists: &[Seq<u32>]) -> Result<Vec<Kept>, NoMemory>
+    requires well_formed { IsWellFormed model.now }
+    requires vehicles { length lists.now ≡ length model.now.vehicles }
+    requires tours { AreTours model.now lists.now }
+    ensures { IfOk result (λ keeps. AreKept model.now lists.now keeps.items) }
+{
+    let mut line = no_line(alloc);
+    let mut keeps = Vec::with_capacity(alloc, model.dimensions.len())?;
+    for d in 0..model.dimensions.len() {
+        keeps.push(Kept::build(alloc, model, d as u32, lists, &mut line)?)?;
+    }
+    Ok(keeps)
+}
+
+/// Writes the rows of the list of vehicle `v` over those of another list, in each dimension. After `NoMemory` nothing
+/// is said of what is kept.
+///
+/// It takes memory only where a list is longer than any before, or a set has more than four runs.
+pub fn learn(
+    alloc: Global,
+    model: &Model,
+    keeps: &mut [Kept],
+    v: u32,
+    lists: &[Seq<u32>],
+    line: &mut Line,
+) -> Result<(), NoMemory>
+    requires well_formed { IsWellFormed model.now }
+    requires vehicle { v < length model.now.vehicles }
+    requires there { v < length lists.now }
+    requires tour { IsTour model.now (route lists.now v) }
+    requires others { AreKeptBut model.now lists.now v keeps.old }
+    ensures { OnOk result (AreKept model.now lists.now keeps.new) }
+{
+    let list = lists[v as usize].as_slice();
+    for d in 0..keeps.len() {
+        keeps[d].learn(alloc, model, d as u32, v, list, line)?;
+    }
+    Ok(())
+}
+
+/// Whether the line of a list of vehicle `v` is feasible in each dimension, found by walks through what differs from
+/// the list before, whose rows are kept: all but the first `front` and the last `back` nodes. Afterwards nothing is
+/// said of where the walk stands.
+///
+/// `NoMemory` where there was no memory: it is taken only where a set has more than four runs, or a vehicle more breaks
+/// than any before.
+pub fn is_feasible_between(
+    model: &Model,
+    keeps: &[Kept],
+    v: u32,
+    old: &[u32],
+    new: &[u32],
+    front: usize,
+    back: usize,
+    walk: &mut Walk,
+) -> Result<bool, NoMemory>
+    requires well_formed { IsWellFormed model.now }
+    requires vehicle { v < length model.now.vehicles }
+    requires kept { AreKeptOf model.now v old.now keeps.now }
+    requires used { IsUsed model.now new.now }
+    requires front { SharesFront old.now new.now front }
+    requires back { SharesBack old.now new.now back }
+    requires apart { front + back ≤ length new.now }
+    ensures { IfOk result (λ answer. answer ≡ is_feasible_in_each model.now v new.now) }
+{
+    for d in 0..keeps.len() {
+        let kept = &keeps[d];
+        let rows = &kept.rows[v as usize];
+        if !goes_between(
+            model,
+            d as u32,
+            v,
+            &kept.stops,
+            rows,
+            old,
+            new,
+            front,
+            back,
+            walk,
+        )? {
+            return Ok(false);
+        }
+    }
+    Ok(true)
+}

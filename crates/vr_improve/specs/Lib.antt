@@ -1,2 +1,0 @@
-pub mod Improved
-pub mod Endings

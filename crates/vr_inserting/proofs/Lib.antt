@@ -1,2 +1,0 @@
-pub mod InsertedLemmas
-pub mod RowLemmas

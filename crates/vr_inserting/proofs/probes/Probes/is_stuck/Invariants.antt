@@ -1,4 +1,0 @@
-use Rattle.vr_inserting.proofs.probes.Probes.is_stuck.Given as goal
-
-abbrev pub invariant-loop-d : goal.invariant-loop-d
-invariant-loop-d l = Unit {0}

@@ -1,0 +1,103 @@
+//! Whether the schedules of a list may cost anything.
+
+ghost use Rattle.std.specs.Prelude.{◌≡◌, ◌<◌, All, IsTrue, length};
+ghost use Rattle.std.specs.List.{list_all};
+ghost use Rattle.std.specs.Option.{option_copied};
+ghost use Rattle.vr_model.specs.tables.Tables.{dimension_at, is_visit};
+ghost use Rattle.vr_model.specs.tables.WellFormed.{IsWellFormed};
+ghost use Rattle.vr_plan.specs.Paying.{are_free, are_zero, has_soft, is_free, is_hard, may_pay_alone, visits_soft};
+ghost use Rattle.vr_lists.specs.Places.{ArePlaces};
+ghost use Rattle.vr_plan.specs.Tables.{keys_of, IsTable};
+
+use crate::tables::{Table, row_of};
+use vr_model::{Dimension, Model, Seq, StopRow};
+
+/// Whether schedules of a list may cost anything by themselves in dimension `d`: the vehicle has a coefficient of spans
+/// that is not 0, or some stop has a soft upper bound.
+pub fn may_pay_alone(model: &Model, table: &Table, d: u32, v: u32, list: &[u32]) -> bool
+    requires well_formed { IsWellFormed model.now }
+    requires dimension { d < length model.now.dimensions }
+    requires vehicle { v < length model.now.vehicles }
+    requires visits { IsTrue (list_all (is_visit model.now) list.now) }
+    requires table { IsTable model.now d table.now }
+    ensures { result ≡ may_pay_alone (dimension_at model.now d) v list.now }
+{
+    if table.is_free {
+        return false;
+    }
+    list_pays(model.dimensions.get(d as usize), &table.rows, v, list)
+}
+
+// Whether no schedule of any list may cost anything by itself in a dimension.
+pub(crate) fn is_free(dimension: &Dimension) -> bool
+    ensures { result ≡ is_free dimension.now }
+{
+    are_zero(&dimension.span_costs) && is_hard(dimension)
+}
+
+// Whether no stop of a dimension has a soft upper bound.
+pub(crate) fn is_hard(dimension: &Dimension) -> bool
+    ensures { result ≡ is_hard dimension.now }
+{
+    are_free(&dimension.starts) && are_free(&dimension.nodes) && are_free(&dimension.ends)
+}
+
+// Whether all coefficients are 0.
+fn are_zero(coefficients: &Seq<i64>) -> bool
+    ensures { result ≡ are_zero coefficients.now }
+{
+    coefficients
+        .as_slice()
+        .iter()
+        .all(|&coefficient| coefficient == 0)
+}
+
+// Whether no row of stops has a soft upper bound.
+fn are_free(rows: &Seq<StopRow>) -> bool
+    ensures { result ≡ are_free rows.now }
+{
+    rows.as_slice().iter().all(|row| row.soft.is_none())
+}
+
+// Whether the row of a stop has a soft upper bound.
+fn has_soft(row: Option<&StopRow>) -> bool
+    ensures { result ≡ has_soft (option_copied row.entry) }
+{
+    match row {
+        Some(row) => row.soft.is_some(),
+        None => false,
+    }
+}
+
+// Whether some visit of a list has a soft upper bound.
+fn visits_soft(dimension: &Dimension, places: &[u32], list: &[u32]) -> bool
+    requires places { ArePlaces (length places.now) (keys_of dimension.now.nodes) places.now }
+    requires list { All (λ node. node < length places.now) list.now }
+    ensures { result ≡ visits_soft dimension.now list.now }
+{
+    for &node in list {
+        if has_soft(row_of(&dimension.nodes, places, node)) {
+            return true;
+        }
+    }
+    false
+}
+
+// Whether the vehicle has a coefficient of spans that is not 0, or some stop of the list has a soft upper bound.
+fn list_pays(dimension: &Dimension, places: &[u32], v: u32, list: &[u32]) -> bool
+    requires vehicle { v < length dimension.now.span_costs }
+    requires places { ArePlaces (length places.now) (keys_of dimension.now.nodes) places.now }
+    requires list { All (λ node. node < length places.now) list.now }
+    ensures { result ≡ may_pay_alone dimension.now v list.now }
+{
+    if *dimension.span_costs.get(v as usize) != 0 {
+        return true;
+    }
+    if has_soft(StopRow::of_key(&dimension.starts, v)) {
+        return true;
+    }
+    if has_soft(StopRow::of_key(&dimension.ends, v)) {
+        return true;
+    }
+    visits_soft(dimension, places, list)
+}

@@ -1,0 +1,12 @@
+use Rattle.std.proofs.Common.{◌+◌, ◌-◌, ◌*◌, ◌<◌, ◌≤◌, ℕ}
+use Rattle.vr_model.specs.schedules.Lines.{line}
+use Rattle.vr_reach.specs.Alone.{GoesAlone}
+use Rattle.vr_reach.proofs.probing.goes_with_some.Given as goal
+
+-- a walk for each number of breaks so far, none of which goes all the way
+abbrev pub invariant-loop-taken : goal.invariant-loop-taken
+invariant-loop-taken g l = record {
+  some : 1 ≤ l.taken;
+  none : (b : ℕ) → 1 ≤ b → b < l.taken → GoesAlone (line l.walk.stops.model.now l.walk.stops.d l.walk.stops.v l.list) l.leg.from.now l.leg.to.now l.leg.begin l.leg.last b → ⊥;
+  count : l.tries ≤ l.fn.tries + (l.taken - 1) * (l.leg.last - l.leg.begin);
+}

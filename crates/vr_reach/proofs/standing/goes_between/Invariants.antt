@@ -1,0 +1,4 @@
+use Rattle.vr_reach.proofs.standing.goes_between.Given as goal
+
+abbrev pub ghosts-walk_uncounted : goal.ghosts-walk_uncounted
+ghosts-walk_uncounted a = record { name = a.blank.name; parts = a.blank.parts }

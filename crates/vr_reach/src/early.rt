@@ -1,0 +1,158 @@
+//! The earliest cumuls along a list: where each stop allows one run and there are no breaks, they are chosen.
+
+ghost use Rattle.std.specs.Prelude.{◌≡◌, ◌↔◌, ◌+◌, ◌<◌, ◌≤◌, ◌≤ℤ◌, ◌^◌, suc, All, IfSome, IsTrue, is_some, [], length};
+ghost use Rattle.std.specs.Prelude.{List, ℤ, neg_ℤ, pos};
+ghost use Rattle.vr_model.specs.schedules.Lines.{line};
+ghost use Rattle.vr_model.specs.tables.Numbers.{horizon};
+ghost use Rattle.vr_model.specs.tables.Tables.{breaks_of, dimension_at};
+ghost use Rattle.vr_model.specs.tables.WellFormed.{IsIn, IsWellFormed};
+ghost use Rattle.vr_steps.specs.Stops.{allowed_by};
+ghost use Rattle.vr_steps.specs.declared.stops.StopName.TheVariants.{Start};
+ghost use Rattle.vr_reach.specs.Early.{has_cumul_behind, AreChosen, AreEarly, AreFoundInTurn, CanBeFoundInTurn};
+ghost use Rattle.vr_reach.specs.Early.{IsEarliestBehind};
+ghost use Rattle.vr_reach.specs.Lists.{IsUsed};
+ghost use Rattle.vr_reach.specs.Stops.{AreStops};
+ghost use Rattle.vr_reach.specs.VisitRuns.{have_stops_one_run, AreVisitRuns, HasCumulEnds, IsFinish, IsRunFor};
+
+use crate::runs::run_of;
+use crate::single::{Ahead, finish_of, slack_of, stop_ahead};
+use crate::spliced::Spliced;
+use crate::stops::{Stops, node_at};
+use arrayvec::ArrayVec;
+use vr_model::{Model, laws};
+use vr_spans::Run;
+
+/// The cumuls of the stops of one list.
+pub type Cumuls = ArrayVec<i64, 1002>;
+
+/// The run of cumuls that each stop of a vehicle allows.
+#[derive(Drop)]
+pub struct StopRuns<'a> {
+    /// What the start allows.
+    pub start: Run,
+    /// What each visit allows, by its node.
+    pub visits: &'a [Run],
+    /// The end, and what it allows.
+    pub finish: Ahead,
+}
+
+/// The run of cumuls that each stop of vehicle `v` allows, nothing exactly where it has breaks or some stop allows more
+/// than one.
+pub fn single_runs<'a>(model: &Model, d: u32, v: u32, stops: &'a Stops) -> Option<StopRuns<'a>>
+    requires vehicle { v < length model.now.vehicles }
+    requires stops { AreStops model.now d stops.now }
+    ensures no_breaks { IfSome result (λ runs. breaks_of (dimension_at model.now d) v ≡ []) }
+    ensures start { IfSome result (λ runs. IsRunFor (allowed_by model.now d v Start) runs.start) }
+    ensures visits { IfSome result (λ runs. AreVisitRuns model.now d v runs.visits.now) }
+    ensures finish { IfSome result (λ runs. IsFinish model.now d v runs.finish) }
+    ensures known { is_some result ≡ have_stops_one_run model.now d v }
+{
+    vr_steps::laws::runs_are_counted();
+    let ends = &stops.ends[v as usize];
+    if !ends.has_no_breaks() {
+        return None;
+    }
+    let start = run_of(&ends.start_set)?;
+    let finish = finish_of(model, d, v, ends)?;
+    let visits = stops.runs_of(model, d, v)?;
+    Some(StopRuns {
+        start,
+        visits,
+        finish,
+    })
+}
+
+/// Writes the cumuls of the earliest schedule of a list over others, where they are found stop by stop, each the least
+/// that the one before leaves: where the vehicle has no breaks, no stop allows more than one run of cumuls, and no
+/// slack would be too great. False exactly where they are not found so, also where there is no schedule.
+pub fn write_earliest(
+    model: &Model,
+    d: u32,
+    v: u32,
+    stops: &Stops,
+    list: &[u32],
+    cumuls: &mut Cumuls,
+) -> bool
+    requires well_formed { IsWellFormed model.now }
+    requires dimension { d < length model.now.dimensions }
+    requires vehicle { v < length model.now.vehicles }
+    requires stops { AreStops model.now d stops.now }
+    requires used { IsUsed model.now list.now }
+    requires few { length list.now ≤ 1000 }
+    ensures found { IsTrue result ↔ CanBeFoundInTurn model.now d v list.now }
+    ensures chosen { IsTrue result → AreChosen (line model.now d v list.now) cumuls.new.items }
+    ensures stops { IsTrue result → length cumuls.new.items ≡ suc (suc (length list.now)) }
+    ensures range { IsTrue result → All (IsIn (pos 0) horizon) cumuls.new.items }
+{
+    laws::chosen_is_least();
+    laws::lines_are_sound();
+    match single_runs(model, d, v, stops) {
+        Some(runs) => {
+            if runs.start.lo > runs.start.hi {
+                return false;
+            }
+            drive(model, d, v, &runs, list, cumuls)
+        }
+        None => false,
+    }
+}
+
+// Writes the earliest cumuls of all stops, where each can be had from the one before.
+fn drive(model: &Model, d: u32, v: u32, runs: &StopRuns, list: &[u32], cumuls: &mut Cumuls) -> bool
+    requires well_formed { IsWellFormed model.now }
+    requires dimension { d < length model.now.dimensions }
+    requires vehicle { v < length model.now.vehicles }
+    requires used { IsUsed model.now list.now }
+    requires few { length list.now ≤ 1000 }
+    requires start { IsRunFor (allowed_by model.now d v Start) runs.now.start }
+    requires some { runs.now.start.lo ≤ℤ runs.now.start.hi }
+    requires visits { AreVisitRuns model.now d v runs.now.visits.now }
+    requires finish { IsFinish model.now d v runs.now.finish }
+    ensures found { IsTrue result ↔ ((found : List ℤ)
+        × AreFoundInTurn (line model.now d v list.now) (suc (length list.now)) found) }
+    ensures early { IsTrue result → AreEarly (line model.now d v list.now) (length list.now + 1) cumuls.new.items }
+{
+    laws::lines_are_sound();
+    let evaluator = model.dimensions.get(d as usize).evaluator_of(v);
+    let slack = slack_of(model, d);
+    let whole = Spliced::whole(list);
+    let mut origin = node_at(model, v, &whole, 0);
+    let mut cumul = runs.start.lo;
+    cumuls.clear();
+    cumuls.push(cumul);
+    for k in 0..list.len() + 1 {
+        let ahead = stop_ahead(model, d, v, runs.visits, runs.finish, &whole, k);
+        let transit = model.transit_by(d, v, evaluator, origin, ahead.node);
+        match earliest_behind(cumul, transit, slack, ahead.allowed) {
+            Some(next) => cumul = next,
+            None => return false,
+        }
+        cumuls.push(cumul);
+        origin = ahead.node;
+    }
+    true
+}
+
+/// The least cumul of a stop behind an arc from a cumul, nothing exactly where the stop allows none that is reached, or
+/// where the slack would be too great. Cumuls are in `0..=2^36`, transits within 2^31.
+#[inline]
+pub fn earliest_behind(cumul: i64, transit: i64, slack: i64, allowed: Run) -> Option<i64>
+    requires cumul { IsIn (pos 0) horizon cumul }
+    requires least { neg_ℤ (pos (2 ^ 31)) ≤ℤ transit }
+    requires greatest { transit ≤ℤ pos (2 ^ 31) }
+    requires slack { IsIn (pos 0) horizon slack }
+    requires allowed { HasCumulEnds allowed }
+    ensures exact { IfSome result (IsEarliestBehind cumul transit slack allowed) }
+    ensures range { IfSome result (IsIn (pos 0) horizon) }
+    ensures known { is_some result ≡ has_cumul_behind cumul transit slack allowed }
+{
+    let reached = cumul + transit;
+    let next = reached.max(allowed.lo);
+    if next > allowed.hi {
+        return None;
+    }
+    if next - reached > slack {
+        return None;
+    }
+    Some(next)
+}

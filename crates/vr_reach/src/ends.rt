@@ -1,0 +1,71 @@
+//! What the start, the end and the breaks of a vehicle ask.
+
+ghost use Rattle.std.specs.Prelude.{◌≡◌, ◌<◌, ℕ, length, slice_index_or, IfOk};
+ghost use Rattle.vr_model.specs.routes.Routes.{is_empty};
+ghost use Rattle.vr_model.specs.tables.WellFormed.{IsWellFormed};
+ghost use Rattle.vr_reach.specs.Stops.{AreEndsOf};
+
+use std::alloc::Global;
+use vr_model::{Model, NoMemory, laws};
+use vr_spans::Spans;
+use vr_steps::{Breaks, Levels, StopName, allowed_at, end_levels, start_levels};
+
+// What is asked of a vehicle in a dimension whatever its list is: its breaks, the cumuls that its start and its end
+// allow, and the levels of both.
+#[derive(Drop)]
+pub(crate) struct Ends {
+    pub(crate) breaks: Breaks,
+    pub(crate) start_set: Spans,
+    pub(crate) start_levels: Levels,
+    pub(crate) end_set: Spans,
+    pub(crate) end_levels: Levels,
+}
+
+impl Ends {
+    // The ends of vehicle `v` in dimension `d`.
+    pub(crate) fn build(alloc: Global, model: &Model, d: u32, v: u32) -> Result<Ends, NoMemory>
+        requires well_formed { IsWellFormed model.now }
+        requires dimension { d < length model.now.dimensions }
+        requires vehicle { v < length model.now.vehicles }
+        ensures { IfOk result (AreEndsOf model.now d v) }
+    {
+        laws::lines_are_sound();
+        vr_steps::laws::start_is_reached();
+        vr_steps::laws::end_is_reached();
+        let breaks = Breaks::of(model.dimensions.get(d as usize), v);
+        let start_set = allowed_at(alloc, model, d, v, StopName::Start)?;
+        let start_levels = start_levels(alloc, &start_set, &breaks)?;
+        let end_set = allowed_at(alloc, model, d, v, StopName::End)?;
+        let end_levels = end_levels(alloc, &end_set, &breaks)?;
+        Ok(Ends {
+            breaks,
+            start_set,
+            start_levels,
+            end_set,
+            end_levels,
+        })
+    }
+
+    // Whether the vehicle has no breaks.
+    #[inline]
+    pub(crate) fn has_no_breaks(&self) -> bool
+        ensures { result ≡ is_empty self.now.breaks }
+    {
+        self.breaks.rows.is_empty()
+    }
+}
+
+// The ends of each vehicle in dimension `d`.
+pub(crate) fn ends_of_each(alloc: Global, model: &Model, d: u32) -> Result<Vec<Ends>, NoMemory>
+    requires well_formed { IsWellFormed model.now }
+    requires dimension { d < length model.now.dimensions }
+    ensures many { IfOk result (λ ends. length ends.items ≡ length model.now.vehicles) }
+    ensures each { IfOk result (λ ends. (v : ℕ) (other : Ends) → v < length ends.items
+        → AreEndsOf model.now d v (slice_index_or ends.items v other)) }
+{
+    let mut ends = Vec::with_capacity(alloc, model.vehicles.len())?;
+    for v in 0..model.vehicles.len() {
+        ends.push(Ends::build(alloc, model, d, v as u32)?)?;
+    }
+    Ok(ends)
+}

@@ -1,0 +1,60 @@
+//! What changes between two lists.
+
+ghost use Rattle.std.specs.Prelude.{◌≡◌, ◌+◌, ◌≤◌, IsTrue, length};
+ghost use Rattle.vr_reach.specs.Stretches.{SharesFront, SharesBack, DifferAtFront, DifferAtBack, IsStretch};
+
+use crate::spliced::Spliced;
+
+// How many nodes two lists share at the front and at the back.
+#[derive(Clone, Copy)]
+pub(crate) struct Stretch {
+    // the nodes that both begin with
+    pub(crate) front: usize,
+    // the nodes that both end with, beside those
+    pub(crate) back: usize,
+}
+
+impl Stretch {
+    // What two lists share: as many nodes at the front as they can, and then as many at the back. Nodes that are told
+    // are not looked at.
+    pub(crate) fn of(old: &[u32], new: &Spliced, told: Stretch) -> Stretch
+        requires front { SharesFront old.now new.now told.front }
+        requires back { SharesBack old.now new.now told.back }
+        ensures { IsStretch old.now new.now result }
+    {
+        let front = shared_front(old, new, told.front);
+        let back = shared_back(old, new, front, told.back);
+        Stretch { front, back }
+    }
+}
+
+// How many nodes two lists share at the front: some that are told, and more.
+fn shared_front(old: &[u32], new: &Spliced, told: usize) -> usize
+    requires told { SharesFront old.now new.now told }
+    ensures shares { SharesFront old.now new.now result }
+    ensures most { DifferAtFront old.now new.now result }
+{
+    let most = old.len().min(new.len());
+    let mut front = told;
+    'nodes: while front < most && old[front] == new.get(front) {
+        front += 1;
+    }
+    front
+}
+
+// How many nodes two lists share at the back, beside those that they share at the front: some that are told, and more.
+fn shared_back(old: &[u32], new: &Spliced, front: usize, told: usize) -> usize
+    requires front { SharesFront old.now new.now front }
+    requires told { SharesBack old.now new.now told }
+    ensures shares { SharesBack old.now new.now result }
+    ensures most { DifferAtBack old.now new.now front result }
+    ensures apart { front + result ≤ length new.now }
+    ensures apart_old { front + result ≤ length old.now }
+{
+    let most = old.len().min(new.len()) - front;
+    let mut back = told.min(most);
+    'nodes: while back < most && old[old.len() - 1 - back] == new.get(new.len() - 1 - back) {
+        back += 1;
+    }
+    back
+}

@@ -1,6 +1,0 @@
-use Rattle.std.proofs.Common.{sym, subst}
-use Rattle.vr_replies.proofs.ReplyLemmas.{IsPrintable, refused-printable}
-use Rattle.vr_replies.proofs.answer.refused.Goals as goal
-
-pub line-requires : goal.line-requires
-line-requires c = let p = subst IsPrintable (sym c.in_ok-tree.ensures) (refused-printable c.args.fault.now) in record { whole = p.whole; nested = p.nested }

@@ -1,6 +1,0 @@
-use Rattle.std.proofs.Common.{sym, subst}
-use Rattle.vr_replies.proofs.ReplyLemmas.{IsPrintable, status-printable}
-use Rattle.vr_replies.proofs.answer.status_line.Goals as goal
-
-pub line-requires : goal.line-requires
-line-requires c = let p = subst IsPrintable (sym c.in_ok-tree.ensures) (status-printable c.args.name.now) in record { whole = p.whole; nested = p.nested }

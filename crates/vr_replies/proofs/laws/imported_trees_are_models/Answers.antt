@@ -1,5 +1,0 @@
-use Rattle.vr_replies.proofs.ImportedModels.{imported_trees_are_models}
-use Rattle.vr_replies.proofs.laws.imported_trees_are_models.Goals as goal
-
-pub returns : goal.returns
-returns c = imported_trees_are_models

@@ -1,5 +1,0 @@
-use Rattle.vr_replies.proofs.printing.AllMet.{printed_meets}
-use Rattle.vr_replies.proofs.laws.printed_meets.Goals as goal
-
-pub returns : goal.returns
-returns c = printed_meets

@@ -1,5 +1,0 @@
-use Rattle.std.proofs.Common.{rules}
-use Rattle.vr_replies.proofs.status.Status.number.Goals as goal
-
-pub returns-clause-status : goal.returns-clause-status
-returns-clause-status c = (c.args.self, search rules)

@@ -1,6 +1,0 @@
-use Rattle.std.proofs.Common.{◌≡◌, take}
-use Rattle.vr_timings.specs.Tables.{keys_of}
-use Rattle.vr_timings.proofs.tables.keys_of.Given as goal
-
-abbrev pub invariant-loop-k : goal.invariant-loop-k
-invariant-loop-k l = l.keys.items ≡ keys_of (take l.k l.rows)

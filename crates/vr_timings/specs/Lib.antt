@@ -1,5 +1,0 @@
-pub mod Bounds
-pub mod Extents
-pub mod Paying
-pub mod Tables
-pub mod Timings
