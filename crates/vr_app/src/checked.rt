@@ -21,7 +21,7 @@ use serde_json::Value;
 use std::alloc::Global;
 use vr_check::{Finding, Rule, check};
 use vr_json::{Cause, Path, Place, ReadFail, Reader, field, known, required, settle};
-use vr_model::{Model, NoMemory};
+use vr_model::{Closed, Model, NoMemory};
 use vr_read::read_model;
 
 /// The table of a model, as a field.
@@ -72,13 +72,12 @@ fn solution_in<'a>(alloc: Global, value: &'a Value, path: &Path) -> Result<&'a V
 fn answer_met(
     alloc: Global,
     question: Question,
-    model: &Model,
+    closed: Closed<'_>,
     solution: &Value,
     cost: i64,
 ) -> Result<Answer, NoMemory>
-    requires well_formed { IsWellFormed model.now }
-    requires meets { finding model.now (view solution.now) ≡ Meets cost }
-    ensures reply { let it = checked_pair model.now (view solution.now) in
+    requires meets { finding closed.model.now (view solution.now) ≡ Meets cost }
+    ensures reply { let it = checked_pair closed.entry.model.now (view solution.now) in
         IfOk result (AnswersReply (replies.reply_to_finding question it (Meets cost))) }
     ensures status { IfOk result (λ a. IsOfChecking a.status) }
 {
@@ -88,7 +87,7 @@ fn answer_met(
             line(alloc, Status::Done, &tree)
         }
         Question::Spans => {
-            let tree = spans_tree(alloc, model, solution)?;
+            let tree = spans_tree(alloc, closed, solution)?;
             line(alloc, Status::Done, &tree)
         }
     }
@@ -107,16 +106,15 @@ fn answer_broken(alloc: Global, rule: Rule, vehicle: i64, place: i64) -> Result<
 fn answer_pair(
     alloc: Global,
     question: Question,
-    model: &Model,
+    closed: Closed<'_>,
     solution: &Value,
 ) -> Result<Answer, NoMemory>
-    requires { IsWellFormed model.now }
-    ensures reply { let it = checked_pair model.now (view solution.now) in
+    ensures reply { let it = checked_pair closed.entry.model.now (view solution.now) in
         IfOk result (AnswersReply (replies.reply_to_question question it)) }
     ensures status { IfOk result (λ a. IsOfChecking a.status) }
 {
-    match check(alloc, model, solution)? {
-        Finding::Meets { cost } => answer_met(alloc, question, model, solution, cost),
+    match check(alloc, closed.model, solution)? {
+        Finding::Meets { cost } => answer_met(alloc, question, closed, solution, cost),
         Finding::Broken {
             rule,
             vehicle,
@@ -129,18 +127,17 @@ fn answer_pair(
 fn answer_with(
     alloc: Global,
     question: Question,
-    model: &Model,
+    closed: Closed<'_>,
     value: &Value,
     path: &Path,
 ) -> Result<Answer, ReadFail>
-    requires { IsWellFormed model.now }
-    ensures reply { let reading = checked_with model.now path.now (view value.now) in
+    ensures reply { let reading = checked_with closed.entry.model.now path.now (view value.now) in
         Answers (seen replied result) (seen (replies.reply_to_question question) reading) }
     ensures status { IfOk result (λ a. IsOfChecking a.status) }
 {
     let solution = solution_in(alloc, value, path)?;
     known(alloc, value, &["model", "solution"], path)?;
-    let answer = answer_pair(alloc, question, model, solution)?;
+    let answer = answer_pair(alloc, question, closed, solution)?;
     Ok(answer)
 }
 
@@ -156,7 +153,7 @@ fn answer_in(
     ensures status { IfOk result (λ a. IsOfChecking a.status) }
 {
     let model = model_in(alloc, value, path)?;
-    answer_with(alloc, question, &model, value, path)
+    answer_with(alloc, question, Closed { model: &model }, value, path)
 }
 
 // The same, where that object is the whole input.

@@ -4,7 +4,6 @@ ghost use Rattle.std.specs.Prelude.{◌≡◌, Ok, Some, IfOk};
 ghost use Rattle.serde_json.specs.View.{view};
 ghost use Rattle.vr_model.specs.first.FirstSolutions.{first_lists};
 ghost use Rattle.vr_model.specs.tables.Tables.{visits};
-ghost use Rattle.vr_model.specs.tables.WellFormed.{IsWellFormed};
 ghost use Rattle.vr_app.specs.Answers.{AnswersReply, IsOfSolving};
 ghost use Rattle.vr_app.specs.Found.{found_from};
 ghost use Rattle.vr_app.specs.Input.{model_of};
@@ -21,7 +20,7 @@ use serde_json::Value;
 use std::alloc::Global;
 use vr_gen::generate;
 use vr_json::ReadFail;
-use vr_model::{Model, NoMemory};
+use vr_model::{Closed, NoMemory};
 use vr_routes::Routes;
 use vr_rules::total;
 
@@ -41,21 +40,20 @@ fn summary_of_tree(alloc: Global, number: u64, tree: Value) -> Result<Answer, No
     ensures status { IfOk result (λ a. IsOfSolving a.status) }
 {
     match read_owned(alloc, tree) {
-        Ok(model) => summary_of_model(alloc, number, &model),
+        Ok(model) => summary_of_model(alloc, number, Closed { model: &model }),
         Err(ReadFail::Refused(fault)) => refused(alloc, &fault),
         Err(ReadFail::NoMemory) => Err(NoMemory),
     }
 }
 
 // The answer that tells of the search of a model.
-fn summary_of_model(alloc: Global, number: u64, model: &Model) -> Result<Answer, NoMemory>
-    requires { IsWellFormed model.now }
-    ensures reply { IfOk result (AnswersReply (replies.summary_of_model number (Ok model.now))) }
+fn summary_of_model(alloc: Global, number: u64, closed: Closed<'_>) -> Result<Answer, NoMemory>
+    ensures reply { IfOk result (AnswersReply (replies.summary_of_model number (Ok closed.entry.model.now))) }
     ensures status { IfOk result (λ a. IsOfSolving a.status) }
 {
-    match first_routes(alloc, model)? {
+    match first_routes(alloc, closed)? {
         None => none_found(alloc),
-        Some(first) => summary_of_first(alloc, number, model, first),
+        Some(first) => summary_of_first(alloc, number, closed, first),
     }
 }
 
@@ -63,18 +61,17 @@ fn summary_of_model(alloc: Global, number: u64, model: &Model) -> Result<Answer,
 fn summary_of_first(
     alloc: Global,
     number: u64,
-    model: &Model,
+    closed: Closed<'_>,
     first: Routes,
 ) -> Result<Answer, NoMemory>
-    requires well_formed { IsWellFormed model.now }
-    requires first { first_lists model.now ≡ Some first.lists }
-    requires of_model { first.visits ≡ visits model.now }
-    ensures reply { let found = found_from asked.Solve model.now first.lists in
-        IfOk result (AnswersReply (replies.summary_of_found number model.now (Some found))) }
+    requires first { first_lists closed.model.now ≡ Some first.lists }
+    requires of_model { first.visits ≡ visits closed.model.now }
+    ensures reply { let found = found_from asked.Solve closed.entry.model.now first.lists in
+        IfOk result (AnswersReply (replies.summary_of_found number closed.entry.model.now (Some found))) }
     ensures status { IfOk result (λ a. a.status ≡ Status.Done) }
 {
-    let first_cost = total(alloc, model, &first)?;
-    let best = solve_unwatched(alloc, model, first, first_cost)?;
-    let answer = summarised(alloc, number, model, first_cost, &best)?;
+    let first_cost = total(alloc, closed.model, &first)?;
+    let best = solve_unwatched(alloc, closed, first, first_cost)?;
+    let answer = summarised(alloc, number, closed.model, first_cost, &best)?;
     Ok(answer)
 }

@@ -20,7 +20,7 @@ use std::sync::ledger::Ledger;
 use vr_descent::descend;
 use vr_guided::guide;
 use vr_lns::{Rebuild, lns};
-use vr_model::{Improve, Lambda, Limit, Model, NoMemory, Steps};
+use vr_model::{Closed, Improve, Lambda, Limit, Model, NoMemory, Steps};
 use vr_routes::{Judge, Routes};
 use vr_tabu::tabu;
 use vr_watch::Watch;
@@ -38,101 +38,97 @@ pub struct FirstSolution {
 }
 
 // How many tries and solutions a model allows.
-fn limit_of(model: &Model) -> Limit
-    requires { IsWellFormed model.now }
-    ensures limit { result ≡ improved.limit_of model.now }
+fn limit_of(closed: Closed<'_>) -> Limit
+    ensures limit { result ≡ improved.limit_of closed.entry.model.now }
     ensures tries { result.tries ≤ 1000000000 }
     ensures one_solution { 1 ≤ result.solutions }
     ensures solutions { result.solutions ≤ 1000000000 }
 {
     Limit {
-        tries: model.search.tries,
-        solutions: model.search.solutions,
+        tries: closed.model.search.tries,
+        solutions: closed.model.search.solutions,
     }
 }
 
 // How much penalised arcs weigh.
-fn lambda_of(model: &Model) -> Lambda
-    requires { IsWellFormed model.now }
-    ensures lambda { result ≡ improved.lambda_of model.now }
+fn lambda_of(closed: Closed<'_>) -> Lambda
+    ensures lambda { result ≡ improved.lambda_of closed.entry.model.now }
     ensures p_from_one { pos 1 ≤ℤ result.p }
     ensures p_to_1000 { result.p ≤ℤ pos 1000 }
     ensures q_from_one { pos 1 ≤ℤ result.q }
     ensures q_to_1000 { result.q ≤ℤ pos 1000 }
 {
     Lambda {
-        p: model.search.p,
-        q: model.search.q,
+        p: closed.model.search.p,
+        q: closed.model.search.q,
     }
 }
 
 // How many visits a cut takes out of a path at most.
-fn cut_of(model: &Model) -> u32
-    requires { IsWellFormed model.now }
-    ensures cut { result ≡ model.now.search.cut }
+fn cut_of(closed: Closed<'_>) -> u32
+    ensures cut { result ≡ closed.entry.model.now.search.cut }
     ensures one { 1 ≤ result }
     ensures few { result ≤ 100 }
 {
-    model.search.cut
+    closed.model.search.cut
 }
 
 // For how many rounds a changed visit is tabu.
-fn tenure_of(model: &Model) -> u32
-    requires { IsWellFormed model.now }
-    ensures tenure { result ≡ model.now.search.tenure }
+fn tenure_of(closed: Closed<'_>) -> u32
+    ensures tenure { result ≡ closed.entry.model.now.search.tenure }
     ensures one { 1 ≤ result }
     ensures few { result ≤ 1000 }
 {
-    model.search.tenure
+    closed.model.search.tenure
 }
 
 // Greedy descent from the first solution.
 fn descend_from<J: Judge, L: Ledger>(
-    model: &Model,
+    closed: Closed<'_>,
     judge: &mut J,
     first: FirstSolution,
     watch: &mut Watchers,
     steps: &mut Steps<L>,
 ) -> Result<Best, NoMemory>
-    requires well_formed { IsWellFormed model.now }
-    requires judge_model { J.model judge.old ≡ model.now }
-    requires holds { HoldSame model.now (J.committed judge.old) first.routes }
-    requires first_cost { first.cost ≡ cost model.now first.routes.lists }
+    requires judge_model { J.model judge.old ≡ closed.model.now }
+    requires holds { HoldSame closed.model.now (J.committed judge.old) first.routes }
+    requires first_cost { first.cost ≡ cost closed.model.now first.routes.lists }
     ensures ends { IfOk result (EndsAs first.routes.visits
-        (descent model.now first.routes.lists (improved.limit_of model.now))) }
+        (descent closed.entry.model.now first.routes.lists (improved.limit_of closed.entry.model.now))) }
     ensures told { OnOk result (Told (λ w later. after w later) watch.old.items watch.new.items
-        (descent model.now first.routes.lists (improved.limit_of model.now)).events) }
+        (descent closed.entry.model.now first.routes.lists (improved.limit_of closed.entry.model.now)).events) }
 {
-    let limit = limit_of(model);
+    let limit = limit_of(closed);
     let FirstSolution { mut routes, cost } = first;
-    let report = descend(model, judge, &mut routes, cost, limit, watch, steps)?;
+    let report = descend(closed.model, judge, &mut routes, cost, limit, watch, steps)?;
     Ok(Best { routes, report })
 }
 
 // Guided local search from the first solution.
 fn guide_from<J: Judge, L: Ledger>(
     alloc: Global,
-    model: &Model,
+    closed: Closed<'_>,
     judge: &mut J,
     first: FirstSolution,
     watch: &mut Watchers,
     steps: &mut Steps<L>,
 ) -> Result<Best, NoMemory>
-    requires well_formed { IsWellFormed model.now }
-    requires judge_model { J.model judge.old ≡ model.now }
-    requires holds { HoldSame model.now (J.committed judge.old) first.routes }
-    requires first_cost { first.cost ≡ cost model.now first.routes.lists }
+    requires judge_model { J.model judge.old ≡ closed.model.now }
+    requires holds { HoldSame closed.model.now (J.committed judge.old) first.routes }
+    requires first_cost { first.cost ≡ cost closed.model.now first.routes.lists }
     ensures ends { IfOk result (EndsAs first.routes.visits
-        (guided model.now first.routes.lists (improved.limit_of model.now) (improved.lambda_of model.now))) }
+        (guided closed.entry.model.now first.routes.lists (improved.limit_of closed.entry.model.now)
+        (improved.lambda_of closed.entry.model.now))) }
     ensures told { OnOk result (Told (λ w later. after w later) watch.old.items watch.new.items
-        (guided model.now first.routes.lists (improved.limit_of model.now) (improved.lambda_of model.now)).events) }
+        (guided closed.entry.model.now first.routes.lists (improved.limit_of closed.entry.model.now)
+        (improved.lambda_of closed.entry.model.now)).events) }
 {
-    let limit = limit_of(model);
-    let lambda = lambda_of(model);
+    let limit = limit_of(closed);
+    let lambda = lambda_of(closed);
     let FirstSolution { mut routes, cost } = first;
     let guided = guide(
         alloc,
-        model,
+        closed.model,
         judge,
         &mut routes,
         cost,
@@ -150,27 +146,28 @@ fn guide_from<J: Judge, L: Ledger>(
 // Tabu search from the first solution.
 fn tabu_from<J: Judge, L: Ledger>(
     alloc: Global,
-    model: &Model,
+    closed: Closed<'_>,
     judge: &mut J,
     first: FirstSolution,
     watch: &mut Watchers,
     steps: &mut Steps<L>,
 ) -> Result<Best, NoMemory>
-    requires well_formed { IsWellFormed model.now }
-    requires judge_model { J.model judge.old ≡ model.now }
-    requires holds { HoldSame model.now (J.committed judge.old) first.routes }
-    requires first_cost { first.cost ≡ cost model.now first.routes.lists }
+    requires judge_model { J.model judge.old ≡ closed.model.now }
+    requires holds { HoldSame closed.model.now (J.committed judge.old) first.routes }
+    requires first_cost { first.cost ≡ cost closed.model.now first.routes.lists }
     ensures ends { IfOk result (EndsAs first.routes.visits
-        (tabu_search model.now first.routes.lists (improved.limit_of model.now) model.now.search.tenure)) }
+        (tabu_search closed.entry.model.now first.routes.lists
+        (improved.limit_of closed.entry.model.now) closed.entry.model.now.search.tenure)) }
     ensures told { OnOk result (Told (λ w later. after w later) watch.old.items watch.new.items
-        (tabu_search model.now first.routes.lists (improved.limit_of model.now) model.now.search.tenure).events) }
+        (tabu_search closed.entry.model.now first.routes.lists
+        (improved.limit_of closed.entry.model.now) closed.entry.model.now.search.tenure).events) }
 {
-    let limit = limit_of(model);
-    let tenure = tenure_of(model);
+    let limit = limit_of(closed);
+    let tenure = tenure_of(closed);
     let FirstSolution { mut routes, cost } = first;
     let answer = tabu(
         alloc,
-        model,
+        closed.model,
         judge,
         &mut routes,
         cost,
@@ -188,26 +185,27 @@ fn tabu_from<J: Judge, L: Ledger>(
 // Path neighbourhoods from the first solution.
 fn rebuild_from<R: Rebuild>(
     alloc: Global,
-    model: &Model,
+    closed: Closed<'_>,
     rebuild: &mut R,
     first: FirstSolution,
     watch: &mut Watchers,
 ) -> Result<Best, NoMemory>
-    requires well_formed { IsWellFormed model.now }
-    requires of_model { first.routes.visits ≡ visits model.now }
-    requires valid { IsTrue (is_valid model.now first.routes.lists) }
+    requires of_model { first.routes.visits ≡ visits closed.model.now }
+    requires valid { IsTrue (is_valid closed.model.now first.routes.lists) }
     ensures ends { IfOk result (EndsAs first.routes.visits
-        (path_lns model.now first.routes.lists (improved.limit_of model.now) model.now.search.cut)) }
+        (path_lns closed.entry.model.now first.routes.lists
+        (improved.limit_of closed.entry.model.now) closed.entry.model.now.search.cut)) }
     ensures told { OnOk result (Told (λ w later. after w later) watch.old.items watch.new.items
-        (path_lns model.now first.routes.lists (improved.limit_of model.now) model.now.search.cut).events) }
+        (path_lns closed.entry.model.now first.routes.lists
+        (improved.limit_of closed.entry.model.now) closed.entry.model.now.search.cut).events) }
 {
-    let limit = limit_of(model);
-    let cut = cut_of(model);
+    let limit = limit_of(closed);
+    let cut = cut_of(closed);
     let FirstSolution {
         mut routes,
         cost: _,
     } = first;
-    let report = lns(alloc, model, rebuild, &mut routes, limit, cut, watch)?;
+    let report = lns(alloc, closed.model, rebuild, &mut routes, limit, cut, watch)?;
     Ok(Best { routes, report })
 }
 
@@ -234,11 +232,12 @@ pub fn improve<J: Judge, R: Rebuild, L: Ledger>(
     ensures told { let outcome = improved.improved model.now.search.improve model.now first.routes.lists in
         OnOk result (Told (λ w later. after w later) watch.old.items watch.new.items outcome.events) }
 {
+    let closed = Closed { model };
     match model.search.improve {
         Improve::None => Ok(untried(first.routes)),
-        Improve::GreedyDescent => descend_from(model, judge, first, watch, steps),
-        Improve::GuidedLocalSearch => guide_from(alloc, model, judge, first, watch, steps),
-        Improve::PathLns => rebuild_from(alloc, model, rebuild, first, watch),
-        Improve::TabuSearch => tabu_from(alloc, model, judge, first, watch, steps),
+        Improve::GreedyDescent => descend_from(closed, judge, first, watch, steps),
+        Improve::GuidedLocalSearch => guide_from(alloc, closed, judge, first, watch, steps),
+        Improve::PathLns => rebuild_from(alloc, closed, rebuild, first, watch),
+        Improve::TabuSearch => tabu_from(alloc, closed, judge, first, watch, steps),
     }
 }

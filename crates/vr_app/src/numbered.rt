@@ -15,7 +15,7 @@ use crate::status::Status;
 use crate::texts::{Summary, summary_tree};
 use std::alloc::Global;
 use vr_gen::generate;
-use vr_model::{Model, NoMemory};
+use vr_model::{Closed, Model, NoMemory};
 use vr_routes::Routes;
 use vr_rules::total;
 
@@ -44,7 +44,7 @@ pub fn summarised(
         → IfOk result (AnswersReply (replies.summary_of_found number model.now (Some found))) }
     ensures status { IfOk result (λ a. a.status ≡ Status.Done) }
 {
-    let summary = summary_of(alloc, number, model, first_cost, best)?;
+    let summary = summary_of(alloc, number, Closed { model }, first_cost, best)?;
     let tree = summary_tree(alloc, &summary)?;
     line(alloc, Status::Done, &tree)
 }
@@ -53,16 +53,15 @@ pub fn summarised(
 fn summary_of(
     alloc: Global,
     number: u64,
-    model: &Model,
+    closed: Closed<'_>,
     first_cost: i64,
     best: &Best,
 ) -> Result<Summary, NoMemory>
-    requires well_formed { IsWellFormed model.now }
-    requires valid { IsTrue (is_valid model.now best.now.routes.lists) }
-    ensures { (found : Found) → IsBestOf model.now found first_cost best.now
-        → IfOk result (λ summary. summary ≡ texts.summary_of number model.now found) }
+    requires valid { IsTrue (is_valid closed.model.now best.now.routes.lists) }
+    ensures { (found : Found) → IsBestOf closed.entry.model.now found first_cost best.now
+        → IfOk result (λ summary. summary ≡ texts.summary_of number closed.entry.model.now found) }
 {
-    let cost = total(alloc, model, &best.routes)?;
+    let cost = total(alloc, closed.model, &best.routes)?;
     Ok(Summary {
         number,
         cost,

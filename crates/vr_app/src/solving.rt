@@ -4,7 +4,6 @@ ghost use Rattle.std.specs.Prelude.{◌≡◌, ◌≤◌, Ok, Some, IfOk, OnOk, 
 ghost use Rattle.serde_json.specs.View.{view};
 ghost use Rattle.vr_model.specs.first.FirstSolutions.{first_lists};
 ghost use Rattle.vr_model.specs.tables.Tables.{visits};
-ghost use Rattle.vr_model.specs.tables.WellFormed.{IsWellFormed};
 ghost use Rattle.vr_watch.specs.Told.{Told};
 ghost use Rattle.vr_app.specs.Answers.{AnswersReply, IsOfShort, IsOfSolving};
 ghost use Rattle.vr_app.specs.Found.{answer as wanted, events_of, found_from, line_of_found};
@@ -25,7 +24,7 @@ use crate::words::{Mode, Task};
 use serde_json::Value;
 use std::alloc::Global;
 use vr_json::ReadFail;
-use vr_model::{Model, NoMemory, Seq};
+use vr_model::{Closed, NoMemory, Seq};
 use vr_print::solution_line;
 use vr_routes::Routes;
 use vr_rules::total;
@@ -34,20 +33,20 @@ use vr_rules::total;
 fn line_from(
     alloc: Global,
     mode: Mode,
-    model: &Model,
+    closed: Closed<'_>,
     first: Routes,
     watch: &mut Watchers,
 ) -> Result<Seq<u8>, NoMemory>
-    requires well_formed { IsWellFormed model.now }
-    requires first { first_lists model.now ≡ Some first.lists }
-    requires of_model { first.visits ≡ visits model.now }
-    ensures line { IfOk result (λ line. line ≡ line_of_found model.now (found_from mode model.now first.lists)) }
+    requires first { first_lists closed.model.now ≡ Some first.lists }
+    requires of_model { first.visits ≡ visits closed.model.now }
+    ensures line { IfOk result (λ line. line
+        ≡ line_of_found closed.entry.model.now (found_from mode closed.entry.model.now first.lists)) }
     ensures told { mode ≡ Mode.Log → OnOk result (Told (λ w later. after w later) watch.old.items watch.new.items
-        (found_from mode model.now first.lists).outcome.events) }
+        (found_from mode closed.entry.model.now first.lists).outcome.events) }
 {
-    let first_cost = total(alloc, model, &first)?;
-    let found = search(alloc, mode, model, first, first_cost, watch)?;
-    let line = solution_line(alloc, model, &found.routes, first_cost, found.report)?;
+    let first_cost = total(alloc, closed.model, &first)?;
+    let found = search(alloc, mode, closed, first, first_cost, watch)?;
+    let line = solution_line(alloc, closed.model, &found.routes, first_cost, found.report)?;
     Ok(line)
 }
 
@@ -55,18 +54,18 @@ fn line_from(
 fn line_found(
     alloc: Global,
     mode: Mode,
-    model: &Model,
+    closed: Closed<'_>,
     watch: &mut Watchers,
 ) -> Result<Option<Seq<u8>>, NoMemory>
-    requires { IsWellFormed model.now }
-    ensures line { IfOk result (λ line. line ≡ option_map (line_of_found model.now) (wanted mode model.now)) }
+    ensures line { IfOk result (λ line. line
+        ≡ option_map (line_of_found closed.entry.model.now) (wanted mode closed.entry.model.now)) }
     ensures told { mode ≡ Mode.Log → OnOk result (Told (λ w later. after w later) watch.old.items watch.new.items
-        (events_of (wanted mode model.now))) }
+        (events_of (wanted mode closed.entry.model.now))) }
 {
-    match first_routes(alloc, model)? {
+    match first_routes(alloc, closed)? {
         None => Ok(None),
         Some(first) => {
-            let line = line_from(alloc, mode, model, first, watch)?;
+            let line = line_from(alloc, mode, closed, first, watch)?;
             Ok(Some(line))
         }
     }
@@ -76,15 +75,14 @@ fn line_found(
 fn answer_model(
     alloc: Global,
     mode: Mode,
-    model: &Model,
+    closed: Closed<'_>,
     watch: &mut Watchers,
 ) -> Result<Answer, NoMemory>
-    requires { IsWellFormed model.now }
     ensures reply { let reports = joined (λ w later. after w later) watch.old.items in
-        IfOk result (AnswersReply (replies.reply_to_model mode reports (Ok model.now))) }
+        IfOk result (AnswersReply (replies.reply_to_model mode reports (Ok closed.entry.model.now))) }
     ensures status { IfOk result (λ a. IsOfSolving a.status) }
 {
-    match line_found(alloc, mode, model, watch)? {
+    match line_found(alloc, mode, closed, watch)? {
         Some(line) => {
             let answer = done(mode, line, watch)?;
             Ok(answer)
@@ -105,7 +103,7 @@ fn answer_solved(
     ensures status { IfOk result (λ a. IsOfSolving a.status) }
 {
     match read_owned(alloc, value) {
-        Ok(model) => answer_model(alloc, mode, &model, watch),
+        Ok(model) => answer_model(alloc, mode, Closed { model: &model }, watch),
         Err(ReadFail::Refused(fault)) => refused(alloc, &fault),
         Err(ReadFail::NoMemory) => Err(NoMemory),
     }

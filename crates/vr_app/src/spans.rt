@@ -11,7 +11,7 @@ ghost use Rattle.vr_model.specs.schedules.Schedules.{IsSchedule};
 ghost use Rattle.vr_model.specs.tables.ModelRules.{has_breaks};
 ghost use Rattle.vr_model.specs.tables.Numbers.{below, each, horizon, number_at};
 ghost use Rattle.vr_model.specs.tables.Tables.{dimension_at, is_visit};
-ghost use Rattle.vr_model.specs.tables.WellFormed.{IsIn, IsWellFormed};
+ghost use Rattle.vr_model.specs.tables.WellFormed.{IsIn};
 ghost use Rattle.vr_plan.specs.Plans.{seen};
 ghost use Rattle.vr_plan.specs.Settled.{IsUnfeasible};
 ghost use Rattle.vr_printed.specs.Printed.{assignment_of, lists_of, plan_of};
@@ -23,7 +23,7 @@ ghost use Rattle.vr_steps.specs.Lines.{IsSoundLine};
 use serde_json::{Value, json};
 use std::alloc::Global;
 use vr_json::Tree;
-use vr_model::{Dimension, Model, NoMemory, Seq};
+use vr_model::{Closed, Dimension, NoMemory, Seq};
 use vr_print::wholes;
 use vr_printed::{PrintedPlan, PrintedRoute, printed_lists, read_printed};
 use vr_span::{Least, span};
@@ -75,27 +75,33 @@ fn span_between(cumuls: &[i64]) -> i64
 // What is told of a used vehicle in dimension `d`, in which no vehicle has breaks, beside the printed plan.
 fn row(
     alloc: Global,
-    model: &Model,
+    closed: Closed<'_>,
     d: u32,
     v: u32,
     list: &[u32],
     plan: &PrintedPlan,
 ) -> Result<Value, NoMemory>
-    requires well_formed { IsWellFormed model.now }
-    requires dimension { d < length model.now.dimensions }
-    requires vehicle { v < length model.now.vehicles }
+    requires dimension { d < length closed.model.now.dimensions }
+    requires vehicle { v < length closed.model.now.vehicles }
     requires some { 0 < length list.now }
-    requires visits { IsTrue (list_all (is_visit model.now) list.now) }
+    requires visits { IsTrue (list_all (is_visit closed.model.now) list.now) }
     requires distinct { IsTrue (is_distinct list.now) }
-    requires no_breaks { has_breaks (dimension_at model.now d) ≡ false }
-    requires schedule { IsSchedule (lines.line model.now d v list.now) (plan_of plan.now) }
-    ensures { let its = lines.line model.now d v list.now in
-        IfOk result (λ tree. view tree ≡ spans.span_row (dimension_at model.now d) v its (plan_of plan.now)) }
+    requires no_breaks { has_breaks (dimension_at closed.model.now d) ≡ false }
+    requires schedule { IsSchedule (lines.line closed.model.now d v list.now) (plan_of plan.now) }
+    ensures { let its = lines.line closed.entry.model.now d v list.now in
+        IfOk result (λ tree. view tree ≡ spans.span_row (dimension_at closed.entry.model.now d) v its
+        (plan_of plan.now)) }
 {
-    let line = Line::build(alloc, model, d, v, list)?;
+    let line = Line::build(alloc, closed.model, d, v, list)?;
     let least = shortest(alloc, &line)?;
     let printed = span_between(plan.cumuls.as_slice());
-    let tree = span_tree(alloc, model.dimensions.get(d as usize), v, &least, printed)?;
+    let tree = span_tree(
+        alloc,
+        closed.model.dimensions.get(d as usize),
+        v,
+        &least,
+        printed,
+    )?;
     Ok(tree)
 }
 
@@ -113,22 +119,21 @@ fn has_breaks(dimension: &Dimension) -> bool
 // Puts what is told of a used vehicle in dimension `d` behind the rows, where no vehicle has breaks in it.
 fn push_row(
     alloc: Global,
-    model: &Model,
+    closed: Closed<'_>,
     route: &PrintedRoute,
     list: &[u32],
     v: u32,
     d: u32,
     rows: &mut Vec<Value>,
 ) -> Result<(), NoMemory>
-    requires well_formed { IsWellFormed model.now }
-    requires dimension { d < length model.now.dimensions }
-    requires scheduled { HasSchedules model.now v route.now list.now }
+    requires dimension { d < length closed.model.now.dimensions }
+    requires scheduled { HasSchedules closed.model.now v route.now list.now }
     ensures { let plans = printed_plans route.now in
         OnOk result (map view rows.new.items ≡ map view rows.old.items
-        ++ spans.spans_in model.now v list.now plans (d ∷ [])) }
+        ++ spans.spans_in closed.entry.model.now v list.now plans (d ∷ [])) }
 {
-    if !has_breaks(model.dimensions.get(d as usize)) {
-        let row = row(alloc, model, d, v, list, route.plans.get(d as usize))?;
+    if !has_breaks(closed.model.dimensions.get(d as usize)) {
+        let row = row(alloc, closed, d, v, list, route.plans.get(d as usize))?;
         rows.push(row)?;
     }
     Ok(())
@@ -137,20 +142,19 @@ fn push_row(
 // Puts what is told of a used vehicle behind the rows, dimension after dimension.
 fn push_used(
     alloc: Global,
-    model: &Model,
+    closed: Closed<'_>,
     route: &PrintedRoute,
     list: &[u32],
     v: u32,
     rows: &mut Vec<Value>,
 ) -> Result<(), NoMemory>
-    requires well_formed { IsWellFormed model.now }
-    requires scheduled { HasSchedules model.now v route.now list.now }
+    requires scheduled { HasSchedules closed.model.now v route.now list.now }
     ensures { let plans = printed_plans route.now in
         OnOk result (map view rows.new.items ≡ map view rows.old.items
-        ++ spans.spans_in model.now v list.now plans (below (length model.now.dimensions))) }
+        ++ spans.spans_in closed.entry.model.now v list.now plans (below (length closed.entry.model.now.dimensions))) }
 {
-    for d in 0..model.dimensions.len() {
-        push_row(alloc, model, route, list, v, d as u32, rows)?;
+    for d in 0..closed.model.dimensions.len() {
+        push_row(alloc, closed, route, list, v, d as u32, rows)?;
     }
     Ok(())
 }
@@ -158,43 +162,41 @@ fn push_used(
 // Puts what is told of a vehicle behind the rows: nothing where it is unused.
 fn push_rows(
     alloc: Global,
-    model: &Model,
+    closed: Closed<'_>,
     route: &PrintedRoute,
     list: &[u32],
     v: u32,
     rows: &mut Vec<Value>,
 ) -> Result<(), NoMemory>
-    requires well_formed { IsWellFormed model.now }
-    requires scheduled { is_empty list.now ≡ false → HasSchedules model.now v route.now list.now }
+    requires { is_empty list.now ≡ false → HasSchedules closed.model.now v route.now list.now }
     ensures { let plans = printed_plans route.now in
         OnOk result (map view rows.new.items ≡ map view rows.old.items
-        ++ spans.spans_with model.now v list.now plans) }
+        ++ spans.spans_with closed.entry.model.now v list.now plans) }
 {
     if list.is_empty() {
         return Ok(());
     }
-    push_used(alloc, model, route, list, v, rows)
+    push_used(alloc, closed, route, list, v, rows)
 }
 
 // What is told of all vehicles of printed routes, with the lists of these.
 fn rows_of(
     alloc: Global,
-    model: &Model,
+    closed: Closed<'_>,
     routes: &[PrintedRoute],
     lists: &[Seq<u32>],
 ) -> Result<Vec<Value>, NoMemory>
-    requires well_formed { IsWellFormed model.now }
     requires lists { lists.now ≡ lists_of routes.now }
-    requires scheduled { AreScheduled model.now routes.now }
+    requires scheduled { AreScheduled closed.model.now routes.now }
     ensures { let assignment = assignment_of routes.now in
         IfOk result (λ rows. map view rows.items
-        ≡ each (vehicles assignment.lists) (spans.span_rows model.now assignment)) }
+        ≡ each (vehicles assignment.lists) (spans.span_rows closed.entry.model.now assignment)) }
 {
     let mut rows = Vec::new(alloc);
     for v in 0..lists.len() {
         push_rows(
             alloc,
-            model,
+            closed,
             &routes[v],
             lists[v].as_slice(),
             v as u32,
@@ -213,25 +215,32 @@ fn told_spans(alloc: Global, rows: Vec<Value>) -> Result<Value, NoMemory>
 }
 
 // How short printed routes could be, whose plans are schedules.
-fn routes_tree(alloc: Global, model: &Model, routes: &[PrintedRoute]) -> Result<Value, NoMemory>
-    requires well_formed { IsWellFormed model.now }
-    requires scheduled { AreScheduled model.now routes.now }
-    ensures { IfOk result (λ tree. view tree ≡ spans.spans_tree model.now (assignment_of routes.now)) }
+fn routes_tree(
+    alloc: Global,
+    closed: Closed<'_>,
+    routes: &[PrintedRoute],
+) -> Result<Value, NoMemory>
+    requires { AreScheduled closed.model.now routes.now }
+    ensures { IfOk result (λ tree. view tree ≡ spans.spans_tree closed.entry.model.now (assignment_of routes.now)) }
 {
     let lists = printed_lists(alloc, routes)?;
-    let rows = rows_of(alloc, model, routes, lists.as_slice())?;
+    let rows = rows_of(alloc, closed, routes, lists.as_slice())?;
     let tree = told_spans(alloc, rows)?;
     Ok(tree)
 }
 
 /// How short the routes of a printed solution could be, which meets the rules of its model. `NoMemory` where there was
 /// no memory.
-pub(crate) fn spans_tree(alloc: Global, model: &Model, solution: &Value) -> Result<Value, NoMemory>
-    requires well_formed { IsWellFormed model.now }
-    requires meets { IsMetIn model.now (view solution.now) }
-    ensures { IfOk result (λ tree. view tree ≡ spans.spans_of (checked_pair model.now (view solution.now))) }
+pub(crate) fn spans_tree(
+    alloc: Global,
+    closed: Closed<'_>,
+    solution: &Value,
+) -> Result<Value, NoMemory>
+    requires { IsMetIn closed.model.now (view solution.now) }
+    ensures { IfOk result (λ tree. view tree
+        ≡ spans.spans_of (checked_pair closed.entry.model.now (view solution.now))) }
 {
-    let printed = read_printed(alloc, model, solution)?.unwrap();
-    let tree = routes_tree(alloc, model, printed.routes.as_slice())?;
+    let printed = read_printed(alloc, closed.model, solution)?.unwrap();
+    let tree = routes_tree(alloc, closed, printed.routes.as_slice())?;
     Ok(tree)
 }

@@ -10,7 +10,7 @@ ghost use Rattle.vr_arccosts.specs.Along.{between_cost, IsAlong, IsAlongTo, IsAr
 ghost use Rattle.vr_arccosts.specs.Bounds.{HasRoomForStop};
 
 use vr_balance::Sums;
-use vr_model::Model;
+use vr_model::{Closed, Model};
 
 /// The sums of arc costs along the line of a vehicle, from its start through its list to its end, and those of the same
 /// arcs backwards.
@@ -37,33 +37,34 @@ impl Along {
         requires few { length list.now ≤ 1000 }
         ensures { IsAlong model.now v list.now self.new }
     {
+        let closed = Closed { model };
         let vehicle = model.vehicles.get(v as usize);
         self.ahead.restart();
         self.behind.restart();
         let mut at = vehicle.start;
         for k in 0..list.len() {
-            self.step(model, v, at, list[k]);
+            self.step(closed, v, at, list[k]);
             at = list[k];
         }
-        self.step(model, v, at, vehicle.end);
+        self.step(closed, v, at, vehicle.end);
     }
 
     // The line goes on from a node to another one.
-    fn step(&mut self, model: &Model, v: u32, at: u32, next: u32)
-        requires well_formed { IsWellFormed model.now }
-        requires vehicle { v < length model.now.vehicles }
-        requires at { at < model.now.nodes }
-        requires next { next < model.now.nodes }
+    fn step(&mut self, closed: Closed<'_>, v: u32, at: u32, next: u32)
+        requires vehicle { v < length closed.model.now.vehicles }
+        requires at { at < closed.model.now.nodes }
+        requires next { next < closed.model.now.nodes }
         requires same { length self.old.behind ≡ length self.old.ahead }
         requires some { 0 < length self.old.ahead }
         requires room { HasRoomForStop self.old.ahead }
         requires ahead { HaveRange self.old.ahead }
         requires behind { HaveRange self.old.behind }
-        ensures { (list : List ℕ) (n : ℕ) → IsAlongTo model.now v list n self.old → IsArc model.now v list n at next
-            → IsAlongTo model.now v list (n + 1) self.new }
+        ensures { (list : List ℕ) (n : ℕ) → IsAlongTo closed.entry.model.now v list n self.old
+            → IsArc closed.entry.model.now v list n at next
+            → IsAlongTo closed.entry.model.now v list (n + 1) self.new }
     {
-        self.ahead.extend(model.arc_cost(v, at, next));
-        self.behind.extend(model.arc_cost(v, next, at));
+        self.ahead.extend(closed.model.arc_cost(v, at, next));
+        self.behind.extend(closed.model.arc_cost(v, next, at));
     }
 
     /// What the arcs cost from the stop before a place of a list of so many nodes to the stop at another place, 0 where

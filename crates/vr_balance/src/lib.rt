@@ -1,9 +1,9 @@
 //! What a change brings into lists, what it takes out of them, and what it keeps of a list at its ends; how many nodes
-//! of a group are active.
+//! of a group are active; sums along paths.
 //!
-//! FROM vr_balance
-//! Sums of what a measure gives of the arcs of a path, kept for each of its nodes: what a stretch of the path comes to
-//! is one subtraction.
+//! [`Sums`] keeps, for each node of a path, what a measure gives of the arcs before it: what a stretch of the path
+//! comes to is one subtraction. The filters of loads and groups, the costs of arcs and the penalties of guided search
+//! stand on these.
 #![tactic(auto)]
 
 mod active;

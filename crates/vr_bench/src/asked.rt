@@ -12,7 +12,7 @@ use std::alloc::Global;
 use std::marker::Brand;
 use std::sync::ledger::{Blank, Ledger};
 use vr_judge::FilterJudge;
-use vr_model::{Model, Move, NoMemory, Steps};
+use vr_model::{Closed, Move, NoMemory, Steps};
 use vr_routes::{Change, Judge, Routes, Verdict};
 
 // What a judge says of a move.
@@ -34,13 +34,17 @@ fn verdict<J: Judge, L: Ledger>(
 }
 
 // The word for what the judge of a model says of a move of routes.
-fn word_of(alloc: Global, model: &Model, routes: &Routes, mv: Move) -> Result<&'static str, Stop>
-    requires well_formed { IsWellFormed model.now }
-    requires of_model { routes.now.visits ≡ visits model.now }
-    requires valid { IsTrue (is_valid model.now routes.now.lists) }
-    requires mv { IsTrue (is_move model.now routes.now.lists mv) }
+fn word_of(
+    alloc: Global,
+    closed: Closed<'_>,
+    routes: &Routes,
+    mv: Move,
+) -> Result<&'static str, Stop>
+    requires of_model { routes.now.visits ≡ visits closed.model.now }
+    requires valid { IsTrue (is_valid closed.model.now routes.now.lists) }
+    requires mv { IsTrue (is_move closed.model.now routes.now.lists mv) }
 {
-    let mut judge = FilterJudge::open(alloc, model, routes)?;
+    let mut judge = FilterJudge::open(alloc, closed.model, routes)?;
     let said = verdict::<FilterJudge<'_>, Brand>(&mut judge, routes, mv, Blank::new(1));
     judge.close();
     match said {
@@ -55,13 +59,12 @@ fn word_of(alloc: Global, model: &Model, routes: &Routes, mv: Move) -> Result<&'
 pub(crate) fn print_verdict(
     rt: &HostRuntime,
     alloc: Global,
-    model: &Model,
+    closed: Closed<'_>,
     routes: &Routes,
     place: u32,
 ) -> Result<(), Stop>
-    requires well_formed { IsWellFormed model.now }
-    requires of_model { routes.now.visits ≡ visits model.now }
-    requires valid { IsTrue (is_valid model.now routes.now.lists) }
+    requires of_model { routes.now.visits ≡ visits closed.model.now }
+    requires valid { IsTrue (is_valid closed.model.now routes.now.lists) }
 {
     let mv = Move::TwoOpt {
         v: 0,
@@ -69,10 +72,10 @@ pub(crate) fn print_verdict(
         b: place.saturating_add(1),
     };
     let mut change = Change::blank();
-    if !Change::of_into(model, routes, mv, &mut change) {
+    if !Change::of_into(closed.model, routes, mv, &mut change) {
         return Err(Stop::NoRoute);
     }
-    let word = word_of(alloc, model, routes, mv)?;
+    let word = word_of(alloc, closed, routes, mv)?;
     println!(rt; "{word}")?;
     Ok(())
 }

@@ -3,7 +3,6 @@
 ghost use Rattle.std.specs.Prelude.{◌≡◌, IfOk, IfSome, IsTrue};
 ghost use Rattle.vr_model.specs.routes.Rules.{is_valid};
 ghost use Rattle.vr_model.specs.tables.Tables.{visits};
-ghost use Rattle.vr_model.specs.tables.WellFormed.{IsWellFormed};
 
 use crate::asked::print_verdict;
 use crate::judged::time_judge;
@@ -15,7 +14,7 @@ use std::alloc::Global;
 use vr_io::{StdSource, read_all};
 use vr_json::Path;
 use vr_model::limits::MOST_INPUT_BYTES;
-use vr_model::{Model, NoMemory};
+use vr_model::{Closed, NoMemory};
 use vr_read::read_model;
 use vr_routes::Routes;
 
@@ -51,32 +50,30 @@ fn work_on_value(
     number: u32,
 ) -> Result<(), Stop> {
     let model = read_model(alloc, value, &Path::root(alloc))?;
-    work_on_model(rt, alloc, &model, what, number)
+    work_on_model(rt, alloc, Closed { model: &model }, what, number)
 }
 
 // Does a work on a model and its first solution.
 fn work_on_model(
     rt: &HostRuntime,
     alloc: Global,
-    model: &Model,
+    closed: Closed<'_>,
     what: &str,
     number: u32,
-) -> Result<(), Stop>
-    requires { IsWellFormed model.now }
-{
-    match first(alloc, model)? {
-        Some(routes) => work_on_routes(rt, alloc, model, &routes, what, number),
+) -> Result<(), Stop> {
+    match first(alloc, closed)? {
+        Some(routes) => work_on_routes(rt, alloc, closed, &routes, what, number),
         None => Err(Stop::NoRoute),
     }
 }
 
 // The first solution of a model, by the cheapest arcs.
-fn first(alloc: Global, model: &Model) -> Result<Option<Routes>, NoMemory>
-    requires { IsWellFormed model.now }
-    ensures of_model { IfOk result (λ found. IfSome found (λ routes. routes.visits ≡ visits model.now)) }
-    ensures valid { IfOk result (λ found. IfSome found (λ routes. IsTrue (is_valid model.now routes.lists))) }
+fn first(alloc: Global, closed: Closed<'_>) -> Result<Option<Routes>, NoMemory>
+    ensures of_model { IfOk result (λ found. IfSome found (λ routes. routes.visits ≡ visits closed.entry.model.now)) }
+    ensures valid { IfOk result (λ found. IfSome found
+        (λ routes. IsTrue (is_valid closed.entry.model.now routes.lists))) }
 {
-    let routes = vr_first_arc::first(alloc, model)?;
+    let routes = vr_first_arc::first(alloc, closed.model)?;
     Ok(routes)
 }
 
@@ -84,20 +81,19 @@ fn first(alloc: Global, model: &Model) -> Result<Option<Routes>, NoMemory>
 fn work_on_routes(
     rt: &HostRuntime,
     alloc: Global,
-    model: &Model,
+    closed: Closed<'_>,
     routes: &Routes,
     what: &str,
     number: u32,
 ) -> Result<(), Stop>
-    requires well_formed { IsWellFormed model.now }
-    requires of_model { routes.now.visits ≡ visits model.now }
-    requires valid { IsTrue (is_valid model.now routes.now.lists) }
+    requires of_model { routes.now.visits ≡ visits closed.model.now }
+    requires valid { IsTrue (is_valid closed.model.now routes.now.lists) }
 {
     match what {
-        "moves" => time_moves(rt, model, routes, number),
-        "judge" => time_judge(rt, alloc, model, routes, number),
-        "schedule" => time_schedules(rt, alloc, model, routes, number),
-        "ask" => print_verdict(rt, alloc, model, routes, number),
+        "moves" => time_moves(rt, closed, routes, number),
+        "judge" => time_judge(rt, alloc, closed, routes, number),
+        "schedule" => time_schedules(rt, alloc, closed, routes, number),
+        "ask" => print_verdict(rt, alloc, closed, routes, number),
         _ => Err(Stop::NoSuchWork),
     }
 }

@@ -15,7 +15,7 @@ use std::marker::Brand;
 use std::sync::ledger::{Blank, Ledger};
 use std::time::Instant;
 use vr_judge::FilterJudge;
-use vr_model::{Model, Move, NoMemory, Steps};
+use vr_model::{Closed, Move, NoMemory, Steps};
 use vr_routes::{Judge, Routes, Verdict};
 
 // What a verdict adds to the sum that is printed.
@@ -106,17 +106,16 @@ fn report_judge<J: Judge, L: Ledger>(
 fn time_judging(
     rt: &HostRuntime,
     alloc: Global,
-    model: &Model,
+    closed: Closed<'_>,
     routes: &Routes,
     moves: &[Move],
     rounds: u32,
 ) -> Result<(), Stop>
-    requires well_formed { IsWellFormed model.now }
-    requires of_model { routes.now.visits ≡ visits model.now }
-    requires valid { IsTrue (is_valid model.now routes.now.lists) }
-    requires moves { All (λ mv. IsTrue (is_move model.now routes.now.lists mv)) moves.now }
+    requires of_model { routes.now.visits ≡ visits closed.model.now }
+    requires valid { IsTrue (is_valid closed.model.now routes.now.lists) }
+    requires moves { All (λ mv. IsTrue (is_move closed.model.now routes.now.lists mv)) moves.now }
 {
-    let mut judge = FilterJudge::open(alloc, model, routes)?;
+    let mut judge = FilterJudge::open(alloc, closed.model, routes)?;
     let done = report_judge::<FilterJudge<'_>, Brand>(
         rt,
         &mut judge,
@@ -134,17 +133,16 @@ fn time_judging(
 pub(crate) fn time_judge(
     rt: &HostRuntime,
     alloc: Global,
-    model: &Model,
+    closed: Closed<'_>,
     routes: &Routes,
     rounds: u32,
 ) -> Result<(), Stop>
-    requires well_formed { IsWellFormed model.now }
-    requires of_model { routes.now.visits ≡ visits model.now }
-    requires valid { IsTrue (is_valid model.now routes.now.lists) }
+    requires of_model { routes.now.visits ≡ visits closed.model.now }
+    requires valid { IsTrue (is_valid closed.model.now routes.now.lists) }
 {
-    let moves = first_moves(alloc, model, routes)?;
+    let moves = first_moves(alloc, closed, routes)?;
     if moves.is_empty() {
         return Ok(());
     }
-    time_judging(rt, alloc, model, routes, &moves, rounds)
+    time_judging(rt, alloc, closed, routes, &moves, rounds)
 }

@@ -3,28 +3,26 @@
 ghost use Rattle.std.specs.Prelude.{IfOk, IsTrue};
 ghost use Rattle.vr_model.specs.routes.Routes.{are_lists};
 ghost use Rattle.vr_model.specs.routes.Rules.{is_valid};
-ghost use Rattle.vr_model.specs.tables.WellFormed.{IsWellFormed};
 ghost use Rattle.vr_steps.specs.Lines.{IsSoundLine};
 
 use crate::report::{TIMES, Timed, report};
 use crate::stop::Stop;
 use std::alloc::Global;
 use std::time::Instant;
-use vr_model::{Model, ScheduleRule};
+use vr_model::{Closed, ScheduleRule};
 use vr_plan::schedule;
 use vr_routes::Routes;
 use vr_steps::Line;
 
 // The line of the list of vehicle 0 in dimension 0.
-fn first_line(alloc: Global, model: &Model, routes: &Routes) -> Result<Line, Stop>
-    requires well_formed { IsWellFormed model.now }
-    requires lists { IsTrue (are_lists model.now routes.now.lists) }
+fn first_line(alloc: Global, closed: Closed<'_>, routes: &Routes) -> Result<Line, Stop>
+    requires { IsTrue (are_lists closed.model.now routes.now.lists) }
     ensures { IfOk result IsSoundLine }
 {
-    if model.dimensions.len() == 0 || routes.len(0) == 0 {
+    if closed.model.dimensions.len() == 0 || routes.len(0) == 0 {
         return Err(Stop::NoRoute);
     }
-    let line = Line::build(alloc, model, 0, 0, routes.list(0))?;
+    let line = Line::build(alloc, closed.model, 0, 0, routes.list(0))?;
     Ok(line)
 }
 
@@ -69,13 +67,12 @@ fn report_line(rt: &HostRuntime, alloc: Global, line: &Line, rounds: u32) -> Res
 pub(crate) fn time_schedules(
     rt: &HostRuntime,
     alloc: Global,
-    model: &Model,
+    closed: Closed<'_>,
     routes: &Routes,
     rounds: u32,
 ) -> Result<(), Stop>
-    requires well_formed { IsWellFormed model.now }
-    requires valid { IsTrue (is_valid model.now routes.now.lists) }
+    requires valid { IsTrue (is_valid closed.model.now routes.now.lists) }
 {
-    let line = first_line(alloc, model, routes)?;
+    let line = first_line(alloc, closed, routes)?;
     report_line(rt, alloc, &line, rounds)
 }

@@ -19,7 +19,7 @@ use crate::kept::KeptCumuls;
 use crate::trails::Trail;
 use std::alloc::Global;
 use std::marker::Model;
-use vr_model::{Model as RoutingModel, NoMemory};
+use vr_model::{Closed, Model as RoutingModel, NoMemory};
 use vr_plan::{KnownDimension, Table, Timing};
 use vr_routes::{Change, Routes, Row};
 
@@ -67,7 +67,7 @@ impl AllCumuls {
     {
         let mut dimensions = Vec::with_capacity(alloc, tables.len())?;
         for d in 0..tables.len() {
-            dimensions.push(kept_in(alloc, model, &tables[d], d as u32, paid, routes)?)?;
+            dimensions.push(kept_in(alloc, Closed { model }, &tables[d], d as u32, paid, routes)?)?;
         }
         Ok(AllCumuls {
             dimensions,
@@ -126,7 +126,7 @@ impl AllCumuls {
         for k in 0..change.parts() {
             routes.join_into(change.pieces(k), &mut self.row);
             write_list(
-                model,
+                Closed { model },
                 tables,
                 &mut self.dimensions,
                 change.vehicle(k),
@@ -137,54 +137,51 @@ impl AllCumuls {
 }
 
 // Whether a dimension has a coefficient of such costs.
-fn is_paid(model: &RoutingModel, table: &Table, d: u32, paid: Paid) -> bool
-    requires well_formed { IsWellFormed model.now }
-    requires dimension { d < length model.now.dimensions }
-    ensures { IsTrue result ↔ IsPaid paid table.now (dimension_at model.now d) }
+fn is_paid(closed: Closed<'_>, table: &Table, d: u32, paid: Paid) -> bool
+    requires dimension { d < length closed.model.now.dimensions }
+    ensures { IsTrue result ↔ IsPaid paid table.now (dimension_at closed.entry.model.now d) }
 {
     match paid {
         Paid::Alone => !table.is_free,
-        Paid::Together => model.dimensions.get(d as usize).global_span_cost != 0,
+        Paid::Together => closed.model.dimensions.get(d as usize).global_span_cost != 0,
     }
 }
 
 // What is kept of the lists of routes in dimension `d`; of none where it has no such costs.
 fn kept_in(
     alloc: Global,
-    model: &RoutingModel,
+    closed: Closed<'_>,
     table: &Table,
     d: u32,
     paid: Paid,
     routes: &Routes,
 ) -> Result<KeptCumuls, NoMemory>
-    requires well_formed { IsWellFormed model.now }
-    requires valid { IsTrue (is_valid model.now routes.now.lists) }
-    requires dimension { d < length model.now.dimensions }
-    requires table { IsTable model.now d table.now }
-    ensures kept { IfOk result (AreKept model.now d routes.now.lists) }
-    ensures each { IfOk result (λ kept. IsPaid paid table.now (dimension_at model.now d)
+    requires valid { IsTrue (is_valid closed.model.now routes.now.lists) }
+    requires dimension { d < length closed.model.now.dimensions }
+    requires table { IsTable closed.model.now d table.now }
+    ensures kept { IfOk result (AreKept closed.entry.model.now d routes.now.lists) }
+    ensures each { IfOk result (λ kept. IsPaid paid table.now (dimension_at closed.entry.model.now d)
         → length kept ≡ length routes.now.lists) }
 {
-    if !is_paid(model, table, d, paid) {
+    if !is_paid(closed, table, d, paid) {
         return Ok(KeptCumuls::none(alloc));
     }
-    let kept = KeptCumuls::open(alloc, model, table, d, routes)?;
+    let kept = KeptCumuls::open(alloc, closed.model, table, d, routes)?;
     Ok(kept)
 }
 
 // Vehicle `v` gets another list, in all dimensions.
-fn write_list(model: &RoutingModel, tables: &[Table], kept: &mut [KeptCumuls], v: u32, list: &[u32])
-    requires well_formed { IsWellFormed model.now }
-    requires tables { AreTables model.now tables.now }
-    requires many { length kept.old ≡ length model.now.dimensions }
-    requires vehicle { v < length model.now.vehicles }
+fn write_list(closed: Closed<'_>, tables: &[Table], kept: &mut [KeptCumuls], v: u32, list: &[u32])
+    requires tables { AreTables closed.model.now tables.now }
+    requires many { length kept.old ≡ length closed.model.now.dimensions }
+    requires vehicle { v < length closed.model.now.vehicles }
     requires few { length list.now ≤ 1000 }
-    requires visits { IsTrue (list_all (is_visit model.now) list.now) }
-    ensures kept { (lists : List (List ℕ)) → AreAllKept model.now lists kept.old → v < length lists
-        → AreAllKept model.now (with_route lists v list.now) kept.new }
+    requires visits { IsTrue (list_all (is_visit closed.model.now) list.now) }
+    ensures kept { (lists : List (List ℕ)) → AreAllKept closed.entry.model.now lists kept.old → v < length lists
+        → AreAllKept closed.entry.model.now (with_route lists v list.now) kept.new }
     ensures many { AreAsMany kept.old kept.new }
 {
     for d in 0..kept.len() {
-        kept[d].write(model, &tables[d], d as u32, v, list);
+        kept[d].write(closed.model, &tables[d], d as u32, v, list);
     }
 }

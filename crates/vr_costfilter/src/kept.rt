@@ -33,7 +33,7 @@ use crate::tight::TightEnds;
 use crate::trails::Trail;
 use std::alloc::Global;
 use std::marker::Model;
-use vr_model::{Model as RoutingModel, NoMemory, ScheduleRule};
+use vr_model::{Closed, Model as RoutingModel, NoMemory, ScheduleRule};
 use vr_plan::{KnownDimension, Table, Timing};
 use vr_routes::{Piece, Routes};
 
@@ -346,7 +346,7 @@ impl KeptCumuls {
         let mut lists = Vec::new(alloc);
         for v in 0..routes.vehicles() {
             let mut kept = KeptList::new(alloc, model.vehicles.get(v as usize).schedule)?;
-            write_list(model, table, d, v, routes.list(v), &mut kept);
+            write_list(Closed { model }, table, d, v, routes.list(v), &mut kept);
             lists.push(kept)?;
         }
         Ok(KeptCumuls { lists })
@@ -365,7 +365,14 @@ impl KeptCumuls {
         ensures many { length self.new ≡ length self.old }
     {
         if (v as usize) < self.lists.len() {
-            write_list(model, table, d, v, list, &mut self.lists[v as usize]);
+            write_list(
+                Closed { model },
+                table,
+                d,
+                v,
+                list,
+                &mut self.lists[v as usize],
+            );
         }
     }
 
@@ -411,25 +418,17 @@ impl KeptCumuls {
 }
 
 // Writes what is kept of a list of vehicle `v` in dimension `d`.
-fn write_list(
-    model: &RoutingModel,
-    table: &Table,
-    d: u32,
-    v: u32,
-    list: &[u32],
-    kept: &mut KeptList,
-)
-    requires well_formed { IsWellFormed model.now }
-    requires dimension { d < length model.now.dimensions }
-    requires vehicle { v < length model.now.vehicles }
-    requires table { IsTable model.now d table.now }
+fn write_list(closed: Closed<'_>, table: &Table, d: u32, v: u32, list: &[u32], kept: &mut KeptList)
+    requires dimension { d < length closed.model.now.dimensions }
+    requires vehicle { v < length closed.model.now.vehicles }
+    requires table { IsTable closed.model.now d table.now }
     requires few { length list.now ≤ 1000 }
-    requires visits { IsTrue (list_all (is_visit model.now) list.now) }
-    ensures kept { IsKept model.now d v list.now kept.new }
+    requires visits { IsTrue (list_all (is_visit closed.model.now) list.now) }
+    ensures kept { IsKept closed.entry.model.now d v list.now kept.new }
     ensures room { length kept.new.ends.items ≡ length kept.old.ends.items }
 {
-    match Guide::of(model, table, d, v) {
-        Some(guide) => match model.vehicles.get(v as usize).schedule {
+    match Guide::of(closed.model, table, d, v) {
+        Some(guide) => match closed.model.vehicles.get(v as usize).schedule {
             ScheduleRule::Earliest => kept.write_earliest(&guide, list),
             ScheduleRule::Tight => kept.write_tight(&guide, list),
         },

@@ -2,27 +2,21 @@
 //!
 //! Arc costs, fixed costs and the penalties of groups come from `vr_arccosts` and `vr_usecosts`, the trait of a part
 //! from `vr_parts`. Here stand the two parts that ask schedules: `PlanCost` (soft upper bounds and spans, list by list)
-//! and `GlobalSpan` (from the least start to the greatest end of all used vehicles, which stand in two `Orders`).
+//! and `GlobalSpan` (from the least start to the greatest end of all used vehicles, which stand in two `Orders`). Each
+//! stands at the committed lists: what it keeps of each of them is what the definitions give its chosen schedule
+//! (`StandsPlans`, `StandsSpans`). `vr_judge` adds all parts up.
 //!
-//! Each part stands at the committed lists: what it keeps of each of them is what the definitions give its chosen
-//! schedule, and the cumuls that it keeps are those of that schedule (`StandsPlans`, `StandsSpans`). A change is told
-//! by these cumuls, and only where they do not tell it is a schedule built. `vr_judge` adds all parts up.
-//!
-//! FROM vr_costfilter
-//! What a change makes of the chosen schedules of lists, known without a line, where a vehicle has no breaks and each
-//! stop allows one run of cumuls.
-//!
-//! A vehicle that chooses its earliest schedule goes, at each stop, to the least cumul that the stop before and a floor
-//! leave, and floors are found from the end backwards. Of its committed list floors and cumuls are kept: a change is
-//! walked along what it puts in, and before and behind that only until floors and cumuls are as they were. The two ends
-//! of a tight schedule follow from a walk that waits for the begins of runs alone. Of the committed list the ways along
-//! its first visits are kept, and what is left behind each place: a change is walked along what it puts in, and no
-//! further. Between its ends a tight schedule is an earliest one. Where soft upper bounds may cost anything, floors and
-//! cumuls are kept of it too: where the list ends as it did, its start alone is another, and what was kept is met as
-//! soon as a cumul is as it was; where it ends at another cumul, the whole list is walked.
-//!
-//! What is kept is always of the committed lists (`AreAllKept`): who changes them commits the change here first. The
-//! parts of the cost in `vr_costfilter` ask and commit: once for soft upper bounds and spans, once for global spans.
+//! What a change makes of the chosen schedule of a list is told by the cumuls that are kept (`AllCumuls`), without a
+//! line, where a vehicle has no breaks and each stop allows one run of cumuls; only where they do not tell it is a
+//! schedule built. A vehicle that chooses its earliest schedule goes, at each stop, to the least cumul that the stop
+//! before and a floor leave, and floors are found from the end backwards. Of its committed list floors and cumuls are
+//! kept: a change is walked along what it puts in, and before and behind that only until floors and cumuls are as they
+//! were. The two ends of a tight schedule follow from a walk that waits for the begins of runs alone: the ways along
+//! the first visits of the committed list are kept, and what is left behind each place. Between its ends a tight
+//! schedule is an earliest one. Where soft upper bounds may cost anything, floors and cumuls are kept of it too: where
+//! the list ends as it did, its start alone is another, and what was kept is met as soon as a cumul is as it was; where
+//! it ends at another cumul, the whole list is walked. What is kept is always of the committed lists (`AreAllKept`):
+//! who changes them commits the change here first.
 #![tactic(auto)]
 
 mod dimensions;

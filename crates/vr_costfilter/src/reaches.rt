@@ -28,19 +28,17 @@ use arrayvec::ArrayVec;
 use std::alloc::Global;
 use std::marker::Model;
 use vr_earliest::Earlies;
-use vr_model::{Model as RoutingModel, NoMemory};
+use vr_model::{Closed, Model as RoutingModel, NoMemory};
 use vr_plan::{Extent, KnownDimension, Table, Timer, Timing, global_cost, tables_of, timing_of};
 use vr_routes::{Change, Piece, Routes};
 
-/// What the schedule of one list comes to in each dimension whose global span has a coefficient, none where the list is
-/// empty.
+/// What the schedule of a list comes to in each dimension whose global span has a coefficient, none of an empty one.
 pub type ListTimings = [Option<Timing>; 4];
 
 /// What is looked up of a model once. Contracts see the model.
 #[derive(Drop)]
 pub struct SpanRules<'m> {
     model: &'m RoutingModel,
-    // what is looked up of each dimension
     tables: Vec<Table>,
     // whether no global span has a coefficient
     idle: bool,
@@ -120,7 +118,13 @@ impl<'m> SpanRules<'m> {
     {
         let mut orders = self.no_orders(alloc)?;
         for v in 0..routes.vehicles() {
-            let row = row_of_list(self.model, &self.tables, v, routes.list(v), timer)?;
+            let row = row_of_list(
+                Closed { model: self.model },
+                &self.tables,
+                v,
+                routes.list(v),
+                timer,
+            )?;
             set_list(self.model, &mut orders, routes, v, &row);
         }
         Ok(orders)
@@ -155,7 +159,15 @@ impl<'m> SpanRules<'m> {
         ensures { IfOk result (IsRow self.now (part_at change.now k).vehicle
             (joined routes.now.lists (part_at change.now k).pieces)) }
     {
-        let timings = row_of_part(self.model, &self.tables, cumuls, routes, change, k, scratch)?;
+        let timings = row_of_part(
+            Closed { model: self.model },
+            &self.tables,
+            cumuls,
+            routes,
+            change,
+            k,
+            scratch,
+        )?;
         Ok(timings)
     }
 
@@ -165,7 +177,7 @@ impl<'m> SpanRules<'m> {
         ensures value { result ≡ spans_cost_after self.now orders.now vehicles.now next.now }
         ensures range { IsGlobalCost result }
     {
-        cost_of_spans(self.model, orders, vehicles, next)
+        cost_of_spans(Closed { model: self.model }, orders, vehicles, next)
     }
 
     /// Writes the orders of the lists after a change. It takes no memory.
@@ -184,7 +196,14 @@ impl<'m> SpanRules<'m> {
         requires room { length out.old ≡ length self.now.dimensions }
         ensures { AreAllOrders self.now (changed routes.now.lists change.now) out.new }
     {
-        write_all(self.model, orders, routes, change, next, out);
+        write_all(
+            Closed { model: self.model },
+            orders,
+            routes,
+            change,
+            next,
+            out,
+        );
     }
 
     /// What the global spans cost at least after a change. No schedule is built.
@@ -230,58 +249,56 @@ fn is_some_spanned(model: &RoutingModel) -> bool
 
 // What the chosen schedules of a list come to.
 fn row_of_list(
-    model: &RoutingModel,
+    closed: Closed<'_>,
     tables: &[Table],
     v: u32,
     list: &[u32],
     timer: &mut Timer,
 ) -> Result<ListTimings, NoMemory>
-    requires well_formed { IsWellFormed model.now }
-    requires tables { AreTables model.now tables.now }
-    requires vehicle { v < length model.now.vehicles }
-    requires visits { IsTrue (list_all (is_visit model.now) list.now) }
+    requires tables { AreTables closed.model.now tables.now }
+    requires vehicle { v < length closed.model.now.vehicles }
+    requires visits { IsTrue (list_all (is_visit closed.model.now) list.now) }
     requires distinct { IsTrue (is_distinct list.now) }
     requires few { length list.now ≤ 1000 }
-    ensures { IfOk result (IsRow model.now v list.now) }
+    ensures { IfOk result (IsRow closed.entry.model.now v list.now) }
 {
     let mut row: ListTimings = [None; 4];
     for d in 0..tables.len() {
-        row[d] = kept_in(model, &tables[d], d as u32, v, list, timer)?;
+        row[d] = kept_in(closed, &tables[d], d as u32, v, list, timer)?;
     }
     Ok(row)
 }
 
 // What is kept of a list in one dimension.
 fn kept_in(
-    model: &RoutingModel,
+    closed: Closed<'_>,
     table: &Table,
     d: u32,
     v: u32,
     list: &[u32],
     timer: &mut Timer,
 ) -> Result<Option<Timing>, NoMemory>
-    requires well_formed { IsWellFormed model.now }
-    requires dimension { d < length model.now.dimensions }
-    requires vehicle { v < length model.now.vehicles }
-    requires visits { IsTrue (list_all (is_visit model.now) list.now) }
+    requires dimension { d < length closed.model.now.dimensions }
+    requires vehicle { v < length closed.model.now.vehicles }
+    requires visits { IsTrue (list_all (is_visit closed.model.now) list.now) }
     requires distinct { IsTrue (is_distinct list.now) }
     requires few { length list.now ≤ 1000 }
-    requires table { IsTable model.now d table.now }
-    ensures { IfOk result (IsToldIfPaid model.now d v list.now) }
+    requires table { IsTable closed.model.now d table.now }
+    ensures { IfOk result (IsToldIfPaid closed.entry.model.now d v list.now) }
 {
     if list.is_empty() {
         return Ok(None);
     }
-    if model.dimensions.get(d as usize).global_span_cost == 0 {
+    if closed.model.dimensions.get(d as usize).global_span_cost == 0 {
         return Ok(None);
     }
-    let timing = timing_of(model, table, d, v, list, timer)?;
+    let timing = timing_of(closed.model, table, d, v, list, timer)?;
     Ok(Some(timing))
 }
 
 // What the chosen schedules of the list come to that part `k` of a change gives its vehicle.
 fn row_of_part(
-    model: &RoutingModel,
+    closed: Closed<'_>,
     tables: &[Table],
     cumuls: &AllCumuls,
     routes: &Routes,
@@ -289,20 +306,19 @@ fn row_of_part(
     k: usize,
     scratch: &mut Scratch,
 ) -> Result<ListTimings, NoMemory>
-    requires well_formed { IsWellFormed model.now }
-    requires tables { AreTables model.now tables.now }
-    requires kept { AreAllKept model.now routes.now.lists cumuls.now }
-    requires before { IsTrue (is_valid model.now routes.now.lists) }
+    requires tables { AreTables closed.model.now tables.now }
+    requires kept { AreAllKept closed.model.now routes.now.lists cumuls.now }
+    requires before { IsTrue (is_valid closed.model.now routes.now.lists) }
     requires made { IsMadeOn routes.now change.now }
-    requires valid { IsTrue (is_valid model.now (changed routes.now.lists change.now)) }
+    requires valid { IsTrue (is_valid closed.model.now (changed routes.now.lists change.now)) }
     requires part { k < length change.now }
-    ensures { IfOk result (IsRow model.now (part_at change.now k).vehicle
+    ensures { IfOk result (IsRow closed.entry.model.now (part_at change.now k).vehicle
         (joined routes.now.lists (part_at change.now k).pieces)) }
 {
     let mut timings: ListTimings = [None; 4];
     for d in 0..tables.len() {
         let at = KnownDimension {
-            model,
+            model: closed.model,
             table: &tables[d],
             d: d as u32,
         };
@@ -341,7 +357,7 @@ fn kept_after(
     }
     routes.write_after(change, k, &mut scratch.row);
     let timing = kept_in(
-        at.model,
+        Closed { model: at.model },
         at.table,
         at.d,
         change.vehicle(k),
@@ -353,40 +369,38 @@ fn kept_after(
 
 // What the global spans cost in all dimensions.
 fn cost_of_spans(
-    model: &RoutingModel,
+    closed: Closed<'_>,
     orders: &[Orders],
     vehicles: &[u32],
     next: &[ListTimings],
 ) -> i64
-    requires well_formed { IsWellFormed model.now }
-    requires ranged { AreRanged model.now orders.now next.now }
-    ensures value { result ≡ spans_cost_after model.now orders.now vehicles.now next.now }
+    requires ranged { AreRanged closed.model.now orders.now next.now }
+    ensures value { result ≡ spans_cost_after closed.entry.model.now orders.now vehicles.now next.now }
     ensures range { IsGlobalCost result }
 {
     let mut cost = 0;
     for d in 0..orders.len() {
-        cost += cost_of_span(model, &orders[d], vehicles, next, d as u32);
+        cost += cost_of_span(closed, &orders[d], vehicles, next, d as u32);
     }
     cost
 }
 
 // What the global span costs in dimension `d`.
 fn cost_of_span(
-    model: &RoutingModel,
+    closed: Closed<'_>,
     orders: &Orders,
     vehicles: &[u32],
     next: &[ListTimings],
     d: u32,
 ) -> i64
-    requires well_formed { IsWellFormed model.now }
-    requires dimension { d < length model.now.dimensions }
-    requires orders { Pays model.now d → AreInRange orders.now }
-    requires next { Pays model.now d → AreTold d next.now }
-    ensures value { result ≡ ((dimension_at model.now d).global_span_cost
+    requires dimension { d < length closed.model.now.dimensions }
+    requires orders { Pays closed.model.now d → AreInRange orders.now }
+    requires next { Pays closed.model.now d → AreTold d next.now }
+    ensures value { result ≡ ((dimension_at closed.entry.model.now d).global_span_cost
         *ℤ length_of (extent_after d vehicles.now next.now orders.now)) }
     ensures range { IsAround cumul_cost result }
 {
-    let dimension = model.dimensions.get(d as usize);
+    let dimension = closed.model.dimensions.get(d as usize);
     if dimension.global_span_cost == 0 {
         return 0;
     }
@@ -432,25 +446,24 @@ fn set_list(
 
 // Writes the orders of the lists after a change in the dimensions that pay.
 fn write_all(
-    model: &RoutingModel,
+    closed: Closed<'_>,
     orders: &[Orders],
     routes: &Routes,
     change: &Change,
     next: &[ListTimings],
     out: &mut [Orders],
 )
-    requires well_formed { IsWellFormed model.now }
-    requires orders { AreAllOrders model.now routes.now.lists orders.now }
-    requires as_many { length routes.now.lists ≡ length model.now.vehicles }
+    requires orders { AreAllOrders closed.model.now routes.now.lists orders.now }
+    requires as_many { length routes.now.lists ≡ length closed.model.now.vehicles }
     requires parts { AreParts routes.now.lists change.now }
-    requires rows { AreRows model.now routes.now.lists change.now next.now }
-    requires room { length out.old ≡ length model.now.dimensions }
-    ensures { AreAllOrders model.now (changed routes.now.lists change.now) out.new }
+    requires rows { AreRows closed.model.now routes.now.lists change.now next.now }
+    requires room { length out.old ≡ length closed.model.now.dimensions }
+    ensures { AreAllOrders closed.entry.model.now (changed routes.now.lists change.now) out.new }
 {
     for d in 0..orders.len() {
-        if model.dimensions.get(d).global_span_cost != 0 {
+        if closed.model.dimensions.get(d).global_span_cost != 0 {
             write_in(
-                model,
+                closed.model,
                 &orders[d],
                 routes,
                 change,

@@ -24,7 +24,7 @@ use crate::scratch::Scratch;
 use std::alloc::Global;
 use std::marker::Model;
 use vr_earliest::Earlies;
-use vr_model::{Model as RoutingModel, NoMemory};
+use vr_model::{Closed, Model as RoutingModel, NoMemory};
 use vr_plan::{
     KnownDimension, Table, Timer, Timing, may_pay_alone, span_cost, tables_of, times, timing_of,
 };
@@ -98,7 +98,13 @@ impl<'m> PlanRules<'m> {
     {
         let mut costs = Vec::new(alloc);
         for v in 0..routes.vehicles() {
-            let cost = cost_of_plans(self.model, &self.tables, v, routes.list(v), timer)?;
+            let cost = cost_of_plans(
+                Closed { model: self.model },
+                &self.tables,
+                v,
+                routes.list(v),
+                timer,
+            )?;
             costs.push(cost)?;
         }
         Ok(costs)
@@ -136,7 +142,15 @@ impl<'m> PlanRules<'m> {
         if Piece::nodes_in(routes, change.pieces(k)) == 0 {
             return Ok(0);
         }
-        let cost = cost_of_part(self.model, &self.tables, cumuls, routes, change, k, scratch)?;
+        let cost = cost_of_part(
+            Closed { model: self.model },
+            &self.tables,
+            cumuls,
+            routes,
+            change,
+            k,
+            scratch,
+        )?;
         Ok(cost)
     }
 
@@ -153,25 +167,24 @@ impl<'m> PlanRules<'m> {
         if Piece::nodes_in(routes, change.pieces(k)) == 0 {
             return 0;
         }
-        least_of_spans(self.model, earlies, routes, change, k)
+        least_of_spans(Closed { model: self.model }, earlies, routes, change, k)
     }
 }
 
 // What the list of a vehicle costs by the soft upper bounds of its stops and by its spans, in all dimensions.
 fn cost_of_plans(
-    model: &RoutingModel,
+    closed: Closed<'_>,
     tables: &[Table],
     v: u32,
     list: &[u32],
     timer: &mut Timer,
 ) -> Result<i64, NoMemory>
-    requires well_formed { IsWellFormed model.now }
-    requires tables { AreTables model.now tables.now }
-    requires vehicle { v < length model.now.vehicles }
-    requires visits { IsTrue (list_all (is_visit model.now) list.now) }
+    requires tables { AreTables closed.model.now tables.now }
+    requires vehicle { v < length closed.model.now.vehicles }
+    requires visits { IsTrue (list_all (is_visit closed.model.now) list.now) }
     requires distinct { IsTrue (is_distinct list.now) }
     requires few { length list.now ≤ 1000 }
-    ensures value { IfOk result (λ cost. cost ≡ plans_cost model.now v list.now) }
+    ensures value { IfOk result (λ cost. cost ≡ plans_cost closed.entry.model.now v list.now) }
     ensures range { IfOk result IsPlanCost }
 {
     if list.is_empty() {
@@ -179,14 +192,14 @@ fn cost_of_plans(
     }
     let mut cost = 0;
     for d in 0..tables.len() {
-        cost += cost_of_plan(model, &tables[d], d as u32, v, list, timer)?;
+        cost += cost_of_plan(closed, &tables[d], d as u32, v, list, timer)?;
     }
     Ok(cost)
 }
 
 // What the list costs that part `k` of a change gives its vehicle, where it has nodes.
 fn cost_of_part(
-    model: &RoutingModel,
+    closed: Closed<'_>,
     tables: &[Table],
     cumuls: &AllCumuls,
     routes: &Routes,
@@ -194,21 +207,21 @@ fn cost_of_part(
     k: usize,
     scratch: &mut Scratch,
 ) -> Result<i64, NoMemory>
-    requires well_formed { IsWellFormed model.now }
-    requires tables { AreTables model.now tables.now }
-    requires kept { AreAllKept model.now routes.now.lists cumuls.now }
-    requires before { IsTrue (is_valid model.now routes.now.lists) }
+    requires tables { AreTables closed.model.now tables.now }
+    requires kept { AreAllKept closed.model.now routes.now.lists cumuls.now }
+    requires before { IsTrue (is_valid closed.model.now routes.now.lists) }
     requires made { IsMadeOn routes.now change.now }
-    requires valid { IsTrue (is_valid model.now (changed routes.now.lists change.now)) }
+    requires valid { IsTrue (is_valid closed.model.now (changed routes.now.lists change.now)) }
     requires part { k < length change.now }
     requires some { is_empty (joined routes.now.lists (part_at change.now k).pieces) ≡ false }
-    ensures value { IfOk result (λ cost. cost ≡ cost_after model.now routes.now.lists (part_at change.now k)) }
+    ensures value { IfOk result (λ cost. cost
+        ≡ cost_after closed.entry.model.now routes.now.lists (part_at change.now k)) }
     ensures range { IfOk result IsPlanCost }
 {
     let mut cost = 0;
     for d in 0..tables.len() {
         let at = KnownDimension {
-            model,
+            model: closed.model,
             table: &tables[d],
             d: d as u32,
         };
@@ -246,11 +259,11 @@ fn cost_of_plan_after(
     let v = change.vehicle(k);
     let told = cumuls.timing_after(at, routes, change, k, &mut scratch.trail);
     if let Some(timing) = told {
-        return Ok(cost_of_timing(at.model, at.d, v, timing));
+        return Ok(cost_of_timing(Closed { model: at.model }, at.d, v, timing));
     }
     routes.write_after(change, k, &mut scratch.row);
     let cost = cost_of_plan(
-        at.model,
+        Closed { model: at.model },
         at.table,
         at.d,
         v,
@@ -262,49 +275,53 @@ fn cost_of_plan_after(
 
 // What the spans of a list that has nodes cost at least.
 fn least_of_spans(
-    model: &RoutingModel,
+    closed: Closed<'_>,
     earlies: &Earlies,
     routes: &Routes,
     change: &Change,
     k: usize,
 ) -> i64
-    requires well_formed { IsWellFormed model.now }
-    requires earlies { AreEarlies model.now routes.now.lists change.now earlies.now }
+    requires earlies { AreEarlies closed.model.now routes.now.lists change.now earlies.now }
     requires part { k < length change.now }
-    requires vehicle { (part_at change.now k).vehicle < length model.now.vehicles }
-    ensures value { result ≡ total_by (λ d. number_at (dimension_at model.now d).span_costs
-        (part_at change.now k).vehicle *ℤ least_span model.now d (part_at change.now k).vehicle
-        (joined routes.now.lists (part_at change.now k).pieces)) (below (length model.now.dimensions)) }
+    requires vehicle { (part_at change.now k).vehicle < length closed.model.now.vehicles }
+    ensures value { result ≡ total_by (λ d. number_at (dimension_at closed.entry.model.now d).span_costs
+        (part_at change.now k).vehicle *ℤ least_span closed.entry.model.now d (part_at change.now k).vehicle
+        (joined routes.now.lists (part_at change.now k).pieces)) (below (length closed.entry.model.now.dimensions)) }
     ensures range { IsAround (cumul_cost * 4) result }
 {
     let mut cost = 0;
-    for d in 0..model.dimensions.len() {
-        cost += least_of_span(model, earlies, routes, change, k, d as u32);
+    for d in 0..closed.model.dimensions.len() {
+        cost += least_of_span(closed, earlies, routes, change, k, d as u32);
     }
     cost
 }
 
 // The same in one dimension.
 fn least_of_span(
-    model: &RoutingModel,
+    closed: Closed<'_>,
     earlies: &Earlies,
     _routes: &Routes,
     change: &Change,
     k: usize,
     d: u32,
 ) -> i64
-    requires well_formed { IsWellFormed model.now }
-    requires earlies { AreEarlies model.now _routes.now.lists change.now earlies.now }
+    requires earlies { AreEarlies closed.model.now _routes.now.lists change.now earlies.now }
     requires part { k < length change.now }
-    requires dimension { d < length model.now.dimensions }
-    requires vehicle { (part_at change.now k).vehicle < length model.now.vehicles }
-    ensures value { result ≡ (number_at (dimension_at model.now d).span_costs (part_at change.now k).vehicle
-        *ℤ least_span model.now d (part_at change.now k).vehicle
+    requires dimension { d < length closed.model.now.dimensions }
+    requires vehicle { (part_at change.now k).vehicle < length closed.model.now.vehicles }
+    ensures value { result ≡ (number_at (dimension_at closed.entry.model.now d).span_costs
+        (part_at change.now k).vehicle
+        *ℤ least_span closed.entry.model.now d (part_at change.now k).vehicle
         (joined _routes.now.lists (part_at change.now k).pieces)) }
     ensures range { IsAround cumul_cost result }
 {
     let v = change.vehicle(k);
-    let coefficient = *model.dimensions.get(d as usize).span_costs.get(v as usize);
+    let coefficient = *closed
+        .model
+        .dimensions
+        .get(d as usize)
+        .span_costs
+        .get(v as usize);
     if coefficient == 0 {
         return 0;
     }
@@ -313,42 +330,42 @@ fn least_of_span(
 
 // What the list of a vehicle costs by soft upper bounds and by its span in one dimension.
 fn cost_of_plan(
-    model: &RoutingModel,
+    closed: Closed<'_>,
     table: &Table,
     d: u32,
     v: u32,
     list: &[u32],
     timer: &mut Timer,
 ) -> Result<i64, NoMemory>
-    requires well_formed { IsWellFormed model.now }
-    requires dimension { d < length model.now.dimensions }
-    requires vehicle { v < length model.now.vehicles }
+    requires dimension { d < length closed.model.now.dimensions }
+    requires vehicle { v < length closed.model.now.vehicles }
     requires some { 0 < length list.now }
-    requires visits { IsTrue (list_all (is_visit model.now) list.now) }
+    requires visits { IsTrue (list_all (is_visit closed.model.now) list.now) }
     requires distinct { IsTrue (is_distinct list.now) }
     requires few { length list.now ≤ 1000 }
-    requires table { IsTable model.now d table.now }
-    ensures value { IfOk result (λ cost. cost ≡ soft_with model.now d v list.now +ℤ span_with model.now d v list.now) }
+    requires table { IsTable closed.model.now d table.now }
+    ensures value { IfOk result (λ cost. cost
+        ≡ soft_with closed.entry.model.now d v list.now +ℤ span_with closed.entry.model.now d v list.now) }
     ensures range { IfOk result IsPlanCostIn }
 {
-    if !may_pay_alone(model, table, d, v, list) {
+    if !may_pay_alone(closed.model, table, d, v, list) {
         return Ok(0);
     }
-    let timing = timing_of(model, table, d, v, list, timer)?;
-    Ok(cost_of_timing(model, d, v, timing))
+    let timing = timing_of(closed.model, table, d, v, list, timer)?;
+    Ok(cost_of_timing(closed, d, v, timing))
 }
 
 // What a schedule of a list of vehicle `v` costs by soft upper bounds and by its span.
-fn cost_of_timing(model: &RoutingModel, d: u32, v: u32, timing: Timing) -> i64
-    requires well_formed { IsWellFormed model.now }
-    requires dimension { d < length model.now.dimensions }
-    requires vehicle { v < length model.now.vehicles }
+fn cost_of_timing(closed: Closed<'_>, d: u32, v: u32, timing: Timing) -> i64
+    requires dimension { d < length closed.model.now.dimensions }
+    requires vehicle { v < length closed.model.now.vehicles }
     requires timing { IsTimingOf 1002 timing }
     ensures value { result
-        ≡ timing.soft +ℤ (number_at (dimension_at model.now d).span_costs v *ℤ (timing.last -ℤ timing.start)) }
+        ≡ timing.soft +ℤ (number_at (dimension_at closed.entry.model.now d).span_costs v *ℤ
+        (timing.last -ℤ timing.start)) }
     ensures range { IsPlanCostIn result }
 {
-    let dimension = model.dimensions.get(d as usize);
+    let dimension = closed.model.dimensions.get(d as usize);
     timing.soft + span_cost(dimension, v, timing)
 }
 

@@ -14,8 +14,8 @@ ghost use Rattle.vr_costfilter.specs.Spreads.{global_least, global_least_in, spr
 use crate::orders::Orders;
 use crate::reaches::vehicles_of;
 use vr_earliest::Earlies;
-use vr_model::Model as RoutingModel;
 use vr_model::limits::HORIZON;
+use vr_model::{Closed, Model as RoutingModel};
 use vr_plan::times;
 use vr_routes::{Change, Piece, Routes};
 
@@ -47,58 +47,63 @@ pub fn least_of_global_spans(
 {
     let mut cost = 0;
     for d in 0..orders.len() {
-        cost += least_of_global_span(model, earlies, &orders[d], routes, change, d as u32);
+        cost += least_of_global_span(
+            Closed { model },
+            earlies,
+            &orders[d],
+            routes,
+            change,
+            d as u32,
+        );
     }
     cost
 }
 
 // The same in dimension `d`.
 fn least_of_global_span(
-    model: &RoutingModel,
+    closed: Closed<'_>,
     earlies: &Earlies,
     orders: &Orders,
     routes: &Routes,
     change: &Change,
     d: u32,
 ) -> i64
-    requires well_formed { IsWellFormed model.now }
-    requires dimension { d < length model.now.dimensions }
-    requires earlies { AreEarlies model.now routes.now.lists change.now earlies.now }
-    requires orders { Pays model.now d → AreOrders model.now d routes.now.lists orders.now }
+    requires dimension { d < length closed.model.now.dimensions }
+    requires earlies { AreEarlies closed.model.now routes.now.lists change.now earlies.now }
+    requires orders { Pays closed.model.now d → AreOrders closed.model.now d routes.now.lists orders.now }
     requires parts { AreParts routes.now.lists change.now }
-    ensures value { result ≡ global_least_in model.now routes.now.lists change.now d }
+    ensures value { result ≡ global_least_in closed.entry.model.now routes.now.lists change.now d }
     ensures range { IsAround cumul_cost result }
 {
-    let coefficient = model.dimensions.get(d as usize).global_span_cost;
+    let coefficient = closed.model.dimensions.get(d as usize).global_span_cost;
     if coefficient == 0 {
         return 0;
     }
-    let spread = spread_after(model, earlies, orders, routes, change, d);
+    let spread = spread_after(closed, earlies, orders, routes, change, d);
     times(coefficient, (spread.last - spread.start).max(spread.span))
 }
 
 // How far the lists after a change reach at least.
 fn spread_after(
-    model: &RoutingModel,
+    closed: Closed<'_>,
     earlies: &Earlies,
     orders: &Orders,
     routes: &Routes,
     change: &Change,
     d: u32,
 ) -> Spread
-    requires well_formed { IsWellFormed model.now }
-    requires dimension { d < length model.now.dimensions }
-    requires pays { Pays model.now d }
-    requires earlies { AreEarlies model.now routes.now.lists change.now earlies.now }
-    requires orders { AreOrders model.now d routes.now.lists orders.now }
+    requires dimension { d < length closed.model.now.dimensions }
+    requires pays { Pays closed.model.now d }
+    requires earlies { AreEarlies closed.model.now routes.now.lists change.now earlies.now }
+    requires orders { AreOrders closed.model.now d routes.now.lists orders.now }
     requires parts { AreParts routes.now.lists change.now }
-    ensures value { result ≡ spreads.spread_after model.now routes.now.lists change.now d }
+    ensures value { result ≡ spreads.spread_after closed.entry.model.now routes.now.lists change.now d }
     ensures range { IsSpreadInRange result }
 {
     let vehicles = vehicles_of(change);
     let mut spread = spread_but(orders, &vehicles);
     for k in 0..change.parts() {
-        spread = with_changed(model, earlies, routes, change, d, k, spread);
+        spread = with_changed(closed.model, earlies, routes, change, d, k, spread);
     }
     spread
 }

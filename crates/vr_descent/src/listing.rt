@@ -10,7 +10,7 @@ ghost use Rattle.vr_model.specs.tables.WellFormed.{IsWellFormed};
 use crate::generators::Generator;
 use std::marker::Model;
 use vr_known::{Known, Sieve};
-use vr_model::{Model as RoutingModel, Move, Neighbourhood};
+use vr_model::{Closed, Model as RoutingModel, Move, Neighbourhood};
 use vr_routes::Routes;
 
 /// The moves of lists that are left to try. Contracts see their list.
@@ -77,7 +77,12 @@ impl<'a> MoveList<'a> {
             }
             match self.behind.split_first() {
                 Some((first, others)) => {
-                    open_in(&mut self.current, *first, self.model, self.routes);
+                    open_in(
+                        &mut self.current,
+                        *first,
+                        Closed { model: self.model },
+                        self.routes,
+                    );
                     self.behind = others;
                 }
                 None => return None,
@@ -128,12 +133,11 @@ fn step_in<S: Sieve>(
 fn open_in<'a>(
     current: &mut Option<Generator<'a>>,
     neighbourhood: Neighbourhood,
-    model: &'a RoutingModel,
+    closed: Closed<'a>,
     routes: &'a Routes,
 )
-    requires well_formed { IsWellFormed model.now }
-    requires of_model { routes.now.visits ≡ visits model.now }
-    ensures { left_of current.new ≡ moves_in model.now routes.now.lists neighbourhood }
+    requires of_model { routes.now.visits ≡ visits closed.model.now }
+    ensures { left_of current.new ≡ moves_in closed.entry.model.now routes.now.lists neighbourhood }
 {
-    *current = Some(Generator::open(neighbourhood, model, routes));
+    *current = Some(Generator::open(neighbourhood, closed.model, routes));
 }

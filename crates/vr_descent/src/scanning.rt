@@ -14,7 +14,7 @@ use crate::{Accept, MoveList, moves};
 use std::marker::PhantomData;
 use std::sync::ledger::Ledger;
 use vr_known::{Known, Sieve};
-use vr_model::{Model, Move, Neighbourhood, NoMemory, Steps};
+use vr_model::{Closed, Model, Move, Neighbourhood, NoMemory, Steps};
 use vr_routes::{Change, Judge, Routes, Verdict};
 
 /// How a scan of a list of moves ends.
@@ -134,7 +134,15 @@ pub fn scan<J: Judge, A: Accept, L: Ledger>(
             return Ok(ScanEnd::Cut);
         }
         place += 1;
-        let tried = try_move(model, judge, routes, accept, mv, &mut change, steps)?;
+        let tried = try_move(
+            Closed { model },
+            judge,
+            routes,
+            accept,
+            mv,
+            &mut change,
+            steps,
+        )?;
         if let Some(difference) = tried {
             return Ok(ScanEnd::Accepted {
                 place,
@@ -206,7 +214,7 @@ fn is_ruled_out<J: Judge, A: Accept>(judge: &mut J, routes: &Routes, accept: &A,
 // asked only where the move may be taken, told first by its numbers, and then by its change.
 #[inline(always)]
 fn try_move<J: Judge, A: Accept, L: Ledger>(
-    model: &Model,
+    closed: Closed<'_>,
     judge: &mut J,
     routes: &Routes,
     accept: &A,
@@ -214,14 +222,13 @@ fn try_move<J: Judge, A: Accept, L: Ledger>(
     change: &mut Change,
     steps: &mut Steps<L>,
 ) -> Result<Option<i64>, NoMemory>
-    requires well_formed { IsWellFormed model.now }
-    requires judge_model { J.model judge.old ≡ model.now }
-    requires accept_model { A.model accept.now ≡ model.now }
+    requires judge_model { J.model judge.old ≡ closed.model.now }
+    requires accept_model { A.model accept.now ≡ closed.model.now }
     requires accept_stands { A.stands_at accept.now routes.now.lists }
-    requires holds { HoldSame model.now (J.committed judge.old) routes.now }
-    requires mv { IsTrue (is_move model.now routes.now.lists mv) }
+    requires holds { HoldSame closed.model.now (J.committed judge.old) routes.now }
+    requires mv { IsTrue (is_move closed.model.now routes.now.lists mv) }
     ensures answer { IfOk result (λ answer. answer
-        ≡ taken model.now (A.takes accept.now) routes.now.lists mv) }
+        ≡ taken closed.entry.model.now (A.takes accept.now) routes.now.lists mv) }
     ensures model { J.model judge.new ≡ J.model judge.old }
     ensures committed { J.committed judge.new ≡ J.committed judge.old }
     ensures asked { J.asked judge.new ≤ J.asked judge.old + 1 }
@@ -230,7 +237,7 @@ fn try_move<J: Judge, A: Accept, L: Ledger>(
     if is_ruled_out(judge, routes, accept, mv) {
         return Ok(None);
     }
-    Change::write(model, routes, mv, change);
+    Change::write(closed.model, routes, mv, change);
     let least = judge.least_difference(routes, mv, change);
     if !accept.may_accept(routes, mv, change, least) {
         return Ok(None);

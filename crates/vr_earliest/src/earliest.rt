@@ -22,7 +22,7 @@ use std::alloc::Global;
 use std::marker::Model;
 use vr_balance::strip;
 use vr_model::limits::HORIZON;
-use vr_model::{Model as RoutingModel, NoMemory};
+use vr_model::{Closed, Model as RoutingModel, NoMemory};
 use vr_routes::{Change, Piece, Routes, Row};
 
 /// How early vehicles can end lists. It has committed lists, and in the dimensions where anything is paid for spans it
@@ -62,8 +62,9 @@ impl<'m> Earliest<'m> {
         ensures model { IfOk result (λ earliest. earliest.model ≡ model.now) }
         ensures stands { IfOk result (λ earliest. StandsEarliest earliest routes.now.lists) }
     {
-        let floors = floors_of(alloc, model)?;
-        let kept = kept_of(alloc, model, &floors, routes)?;
+        let closed = Closed { model };
+        let floors = floors_of(alloc, closed)?;
+        let kept = kept_of(alloc, closed, &floors, routes)?;
         Ok(Earliest {
             model,
             floors,
@@ -141,7 +142,7 @@ impl<'m> Earliest<'m> {
         for k in 0..change.parts() {
             routes.join_into(change.pieces(k), &mut self.row);
             write_list(
-                self.model,
+                Closed { model: self.model },
                 &self.floors,
                 &mut self.kept,
                 change.vehicle(k),
@@ -152,13 +153,12 @@ impl<'m> Earliest<'m> {
 }
 
 // The floors of each dimension.
-fn floors_of(alloc: Global, model: &RoutingModel) -> Result<Vec<Floors>, NoMemory>
-    requires { IsWellFormed model.now }
-    ensures { IfOk result (λ floors. AreAllFloors model.now floors.items) }
+fn floors_of(alloc: Global, closed: Closed<'_>) -> Result<Vec<Floors>, NoMemory>
+    ensures { IfOk result (λ floors. AreAllFloors closed.entry.model.now floors.items) }
 {
-    let mut floors = Vec::with_capacity(alloc, model.dimensions.len())?;
-    for d in 0..model.dimensions.len() {
-        floors.push(Floors::of(alloc, model, d as u32)?)?;
+    let mut floors = Vec::with_capacity(alloc, closed.model.dimensions.len())?;
+    for d in 0..closed.model.dimensions.len() {
+        floors.push(Floors::of(alloc, closed.model, d as u32)?)?;
     }
     Ok(floors)
 }
@@ -166,35 +166,33 @@ fn floors_of(alloc: Global, model: &RoutingModel) -> Result<Vec<Floors>, NoMemor
 // What is kept of the lists of routes in each dimension.
 fn kept_of(
     alloc: Global,
-    model: &RoutingModel,
+    closed: Closed<'_>,
     floors: &[Floors],
     routes: &Routes,
 ) -> Result<Vec<KeptLists>, NoMemory>
-    requires well_formed { IsWellFormed model.now }
-    requires valid { IsTrue (is_valid model.now routes.now.lists) }
-    requires floors { AreAllFloors model.now floors.now }
-    ensures { IfOk result (λ kept. HaveAllWays model.now routes.now.lists kept.items) }
+    requires valid { IsTrue (is_valid closed.model.now routes.now.lists) }
+    requires floors { AreAllFloors closed.model.now floors.now }
+    ensures { IfOk result (λ kept. HaveAllWays closed.entry.model.now routes.now.lists kept.items) }
 {
     let mut kept = Vec::with_capacity(alloc, floors.len())?;
     for d in 0..floors.len() {
-        kept.push(KeptLists::of(alloc, model, &floors[d], d as u32, routes)?)?;
+        kept.push(KeptLists::of(alloc, closed.model, &floors[d], d as u32, routes)?)?;
     }
     Ok(kept)
 }
 
 // Vehicle `v` gets another list, in all dimensions.
-fn write_list(model: &RoutingModel, floors: &[Floors], kept: &mut [KeptLists], v: u32, list: &[u32])
-    requires well_formed { IsWellFormed model.now }
-    requires floors { AreAllFloors model.now floors.now }
-    requires many { length kept.old ≡ length model.now.dimensions }
-    requires vehicle { v < length model.now.vehicles }
+fn write_list(closed: Closed<'_>, floors: &[Floors], kept: &mut [KeptLists], v: u32, list: &[u32])
+    requires floors { AreAllFloors closed.model.now floors.now }
+    requires many { length kept.old ≡ length closed.model.now.dimensions }
+    requires vehicle { v < length closed.model.now.vehicles }
     requires few { length list.now ≤ 1000 }
-    requires nodes { All (λ node. node < model.now.nodes) list.now }
-    ensures { (lists : List (List ℕ)) → HaveAllWays model.now lists kept.old → v < length lists
-        → HaveAllWays model.now (with_route lists v list.now) kept.new }
+    requires nodes { All (λ node. node < closed.model.now.nodes) list.now }
+    ensures { (lists : List (List ℕ)) → HaveAllWays closed.entry.model.now lists kept.old → v < length lists
+        → HaveAllWays closed.entry.model.now (with_route lists v list.now) kept.new }
 {
     for d in 0..kept.len() {
-        kept[d].write(model, &floors[d], d as u32, v, list);
+        kept[d].write(closed.model, &floors[d], d as u32, v, list);
     }
 }
 

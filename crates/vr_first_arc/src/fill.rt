@@ -4,7 +4,6 @@ ghost use Rattle.std.specs.Prelude.{◌≡◌, ◌<◌, ◌++◌, false, cond, I
 ghost use Rattle.vr_model.specs.first.Choosing.{better};
 ghost use Rattle.vr_model.specs.first.Items.{first_node, items};
 ghost use Rattle.vr_model.specs.first.PathCheapestArc.{appended, filled, next_appended};
-ghost use Rattle.vr_model.specs.tables.WellFormed.{IsWellFormed};
 ghost use Rattle.vr_rules.specs.Placing.{nodes_of, is_marked, AreBuilt, AreMarks};
 ghost use Rattle.vr_first_arc.specs.Choices.{all_filled, chosen_beside, key_of, may_append as may_append_of};
 ghost use Rattle.vr_first_arc.specs.Choices.{MayBeAppended};
@@ -15,7 +14,7 @@ ghost use Rattle.vr_model.specs.routes.Routes.{route};
 use crate::append::{append, may_append};
 use crate::choice::{Choice, improves, item_of};
 use crate::growing::{Filling, Growing};
-use vr_model::{Model, NoMemory, Seq};
+use vr_model::{Closed, NoMemory, Seq};
 use vr_rules::{Candidate, Fronts, Item, Room, last_stop, mark_item};
 
 // The better of the best choice so far and another, which is tested only where it improves.
@@ -113,19 +112,19 @@ fn append_to(lists: &mut [Seq<u32>], v: u32, item: Item) -> Result<(), NoMemory>
 fn place(
     fronts: &mut Fronts,
     room: &mut Room,
-    model: &Model,
+    closed: Closed<'_>,
     v: u32,
     lists: &mut [Seq<u32>],
     item: Item,
 ) -> Result<(), NoMemory>
-    requires well_formed { IsWellFormed model.now }
     requires vehicle { v < length lists.now }
-    requires fronts { AreFrontsOf model.now v (route lists.now v) fronts.old }
-    requires longer { IsDriven model.now (route lists.now v ++ nodes_of item) }
+    requires fronts { AreFrontsOf closed.model.now v (route lists.now v) fronts.old }
+    requires longer { IsDriven closed.model.now (route lists.now v ++ nodes_of item) }
     ensures lists { OnOk result (lists.new ≡ appended lists.old v (nodes_of item)) }
-    ensures fronts { OnOk result (AreFrontsOf model.now v (route lists.old v ++ nodes_of item) fronts.new) }
+    ensures fronts { OnOk result (AreFrontsOf closed.entry.model.now v
+        (route lists.old v ++ nodes_of item) fronts.new) }
 {
-    fronts.append(room, model, v, lists[v as usize].as_slice(), item)?;
+    fronts.append(room, closed.model, v, lists[v as usize].as_slice(), item)?;
     append(&mut lists[v as usize], item)?;
     Ok(())
 }
@@ -153,7 +152,16 @@ fn fill(
     for _step in 0..filling.candidates.len() {
         match next_item(filling, v, fronts, room, marks, lists)? {
             Some(item) => {
-                place(fronts, room, filling.model, v, lists, item)?;
+                place(
+                    fronts,
+                    room,
+                    Closed {
+                        model: filling.model,
+                    },
+                    v,
+                    lists,
+                    item,
+                )?;
                 mark_item(marks, item);
             }
             None => return Ok(()),

@@ -12,29 +12,28 @@ use crate::fill::fill_all;
 use crate::growing::Filling;
 use std::alloc::Global;
 use vr_lists::NodeTables;
-use vr_model::{Model, NoMemory, Seq};
+use vr_model::{Closed, Model, NoMemory, Seq};
 use vr_routes::Routes;
 use vr_rules::{Candidate, Room, candidates, complete_routes, empty_lists};
 
 // Fills empty lists with items of the model.
 fn fill_empty(
     alloc: Global,
-    model: &Model,
+    closed: Closed<'_>,
     lookups: &NodeTables<'_>,
     candidates: &[Candidate],
     lists: &mut [Seq<u32>],
 ) -> Result<(), NoMemory>
-    requires well_formed { IsWellFormed model.now }
-    requires lookups { lookups.now ≡ model.now }
-    requires candidates { AreCandidates model.now candidates.now }
-    requires empty { lists.now ≡ empty_lists_of model.now }
-    ensures lists { OnOk result (lists.new ≡ path_cheapest_arc model.now) }
-    ensures built { OnOk result (AreBuilt model.now lists.new) }
+    requires lookups { lookups.now ≡ closed.model.now }
+    requires candidates { AreCandidates closed.model.now candidates.now }
+    requires empty { lists.now ≡ empty_lists_of closed.model.now }
+    ensures lists { OnOk result (lists.new ≡ path_cheapest_arc closed.entry.model.now) }
+    ensures built { OnOk result (AreBuilt closed.entry.model.now lists.new) }
 {
-    let mut marks = vec![in alloc; false; model.nodes as usize]?;
+    let mut marks = vec![in alloc; false; closed.model.nodes as usize]?;
     let mut room = Room::new(alloc);
     let filling = Filling {
-        model,
+        model: closed.model,
         lookups,
         candidates,
     };
@@ -44,34 +43,33 @@ fn fill_empty(
 // The lists at which the construction ends.
 fn filled_lists(
     alloc: Global,
-    model: &Model,
+    closed: Closed<'_>,
     lookups: &NodeTables<'_>,
 ) -> Result<Vec<Seq<u32>>, NoMemory>
-    requires well_formed { IsWellFormed model.now }
-    requires lookups { lookups.now ≡ model.now }
-    ensures lists { IfOk result (λ lists. lists.items ≡ path_cheapest_arc model.now) }
-    ensures built { IfOk result (λ lists. AreBuilt model.now lists.items) }
+    requires lookups { lookups.now ≡ closed.model.now }
+    ensures lists { IfOk result (λ lists. lists.items ≡ path_cheapest_arc closed.entry.model.now) }
+    ensures built { IfOk result (λ lists. AreBuilt closed.entry.model.now lists.items) }
 {
     let candidates = candidates(alloc, lookups)?;
-    let mut lists = empty_lists(alloc, model)?;
-    fill_empty(alloc, model, lookups, &candidates, &mut lists)?;
+    let mut lists = empty_lists(alloc, closed.model)?;
+    fill_empty(alloc, closed, lookups, &candidates, &mut lists)?;
     Ok(lists)
 }
 
 // The first solution, over what was looked up.
 fn first_over(
     alloc: Global,
-    model: &Model,
+    closed: Closed<'_>,
     lookups: &NodeTables<'_>,
 ) -> Result<Option<Routes>, NoMemory>
-    requires well_formed { IsWellFormed model.now }
-    requires lookups { lookups.now ≡ model.now }
+    requires lookups { lookups.now ≡ closed.model.now }
     ensures first { IfOk result (λ first. lists_in first
-        ≡ cond (is_valid model.now (path_cheapest_arc model.now)) (Some (path_cheapest_arc model.now)) None) }
-    ensures visits { IfOk result (λ first. IfSome first (λ routes. routes.visits ≡ visits model.now)) }
+        ≡ cond (is_valid closed.entry.model.now (path_cheapest_arc closed.entry.model.now))
+        (Some (path_cheapest_arc closed.entry.model.now)) None) }
+    ensures visits { IfOk result (λ first. IfSome first (λ routes. routes.visits ≡ visits closed.entry.model.now)) }
 {
-    let lists = filled_lists(alloc, model, lookups)?;
-    complete_routes(alloc, model, lookups, &lists)
+    let lists = filled_lists(alloc, closed, lookups)?;
+    complete_routes(alloc, closed.model, lookups, &lists)
 }
 
 /// The first solution of a model (`PATH_CHEAPEST_ARC` in OR-Tools): vehicle after vehicle, items are appended to its
@@ -86,5 +84,5 @@ pub fn first(alloc: Global, model: &Model) -> Result<Option<Routes>, NoMemory>
     ensures visits { IfOk result (λ first. IfSome first (λ routes. routes.visits ≡ visits model.now)) }
 {
     let lookups = NodeTables::open(alloc, model)?;
-    first_over(alloc, model, &lookups)
+    first_over(alloc, Closed { model }, &lookups)
 }

@@ -6,7 +6,6 @@ ghost use Rattle.vr_model.specs.first.Items.{items};
 ghost use Rattle.vr_model.specs.moves.Moves.{with_route};
 ghost use Rattle.vr_model.specs.routes.Routes.{are_lists, route};
 ghost use Rattle.vr_model.specs.routes.Rules.{is_open};
-ghost use Rattle.vr_model.specs.tables.WellFormed.{IsWellFormed};
 ghost use Rattle.vr_reach.specs.Lists.{IsTour};
 ghost use Rattle.vr_rules.specs.declared.items.Candidate.{Candidate as AnyCandidate};
 ghost use Rattle.vr_rules.specs.Placing.{AreBuilt, AreCandidates, AreMarks};
@@ -21,7 +20,7 @@ use crate::room::Room;
 use crate::search::insert_all;
 use std::alloc::Global;
 use vr_lists::NodeTables;
-use vr_model::{Model, NoMemory, Seq};
+use vr_model::{Closed, NoMemory, Seq};
 use vr_routes::Routes;
 use vr_rules::{Candidate, active_marks, candidates, empty_lists};
 
@@ -47,30 +46,29 @@ fn is_same(one: &[u32], other: &[u32]) -> bool
 // nothing is known any more.
 fn take_list(
     room: &mut Room,
-    model: &Model,
+    closed: Closed<'_>,
     keeps: &mut [Kept],
     v: u32,
     list: &[u32],
     lists: &mut [Seq<u32>],
     rows: &mut [Seq<Known>],
 ) -> Result<(), NoMemory>
-    requires well_formed { IsWellFormed model.now }
-    requires vehicle { v < length model.now.vehicles }
+    requires vehicle { v < length closed.model.now.vehicles }
     requires there { v < length lists.old }
-    requires tour { IsTour model.now list.now }
-    requires kept { AreKept model.now lists.old keeps.old }
+    requires tour { IsTour closed.model.now list.now }
+    requires kept { AreKept closed.model.now lists.old keeps.old }
     requires row { v < length rows.old }
     ensures lists { OnOk result (lists.new ≡ with_route lists.old v list.now) }
-    ensures kept { OnOk result (AreKept model.now lists.new keeps.new) }
-    ensures rows { OnOk result ((known : List AnyCandidate) → AreRows model.now lists.old known rows.old
-        → AreRows model.now lists.new known rows.new) }
+    ensures kept { OnOk result (AreKept closed.entry.model.now lists.new keeps.new) }
+    ensures rows { OnOk result ((known : List AnyCandidate) → AreRows closed.entry.model.now lists.old known rows.old
+        → AreRows closed.entry.model.now lists.new known rows.new) }
 {
     let before = lists[v as usize].as_slice();
     if is_same(before, list) {
         return Ok(());
     }
     write_list(list, &mut lists[v as usize])?;
-    learn(room.alloc, model, keeps, v, lists, &mut room.line)?;
+    learn(room.alloc, closed, keeps, v, lists, &mut room.line)?;
     forget(rows, v);
     Ok(())
 }
@@ -78,7 +76,7 @@ fn take_list(
 // Takes the lists of routes over, and inserts items into them as long as one may be inserted.
 fn insert_into(
     room: &mut Room,
-    model: &Model,
+    closed: Closed<'_>,
     lookups: &NodeTables<'_>,
     keeps: &mut [Kept],
     candidates: &[Candidate],
@@ -87,23 +85,23 @@ fn insert_into(
     marks: &mut [bool],
     rows: &mut [Seq<Known>],
 ) -> Result<(), NoMemory>
-    requires well_formed { IsWellFormed model.now }
-    requires lookups { lookups.now ≡ model.now }
-    requires vehicles { length lists.old ≡ length model.now.vehicles }
-    requires kept { AreKept model.now lists.old keeps.old }
-    requires candidates { AreCandidates model.now candidates.now }
-    requires rows { AreRows model.now lists.old candidates.now rows.old }
-    requires built { AreBuilt model.now routes.now.lists }
-    requires marks { AreMarks model.now.nodes routes.now.lists marks.old }
-    ensures rebuilt { OnOk result (lists.new ≡ rebuilt model.now (length (items model.now)) routes.now.lists) }
-    ensures built { OnOk result (AreBuilt model.now lists.new) }
-    ensures kept { OnOk result (AreKept model.now lists.new keeps.new) }
-    ensures rows { OnOk result (AreRows model.now lists.new candidates.now rows.new) }
+    requires lookups { lookups.now ≡ closed.model.now }
+    requires vehicles { length lists.old ≡ length closed.model.now.vehicles }
+    requires kept { AreKept closed.model.now lists.old keeps.old }
+    requires candidates { AreCandidates closed.model.now candidates.now }
+    requires rows { AreRows closed.model.now lists.old candidates.now rows.old }
+    requires built { AreBuilt closed.model.now routes.now.lists }
+    requires marks { AreMarks closed.model.now.nodes routes.now.lists marks.old }
+    ensures rebuilt { OnOk result (lists.new
+        ≡ rebuilt closed.entry.model.now (length (items closed.entry.model.now)) routes.now.lists) }
+    ensures built { OnOk result (AreBuilt closed.entry.model.now lists.new) }
+    ensures kept { OnOk result (AreKept closed.entry.model.now lists.new keeps.new) }
+    ensures rows { OnOk result (AreRows closed.entry.model.now lists.new candidates.now rows.new) }
 {
     for v in 0..routes.vehicles() {
-        take_list(room, model, keeps, v, routes.list(v), lists, rows)?;
+        take_list(room, closed, keeps, v, routes.list(v), lists, rows)?;
     }
-    insert_all(room, model, lookups, keeps, candidates, lists, marks, rows)?;
+    insert_all(room, closed, lookups, keeps, candidates, lists, marks, rows)?;
     Ok(())
 }
 
@@ -111,17 +109,16 @@ impl Keeper {
     /// Empty lists, of which nothing is known. The only refusal is want of memory.
     pub(crate) fn open(
         alloc: Global,
-        model: &Model,
+        closed: Closed<'_>,
         lookups: &NodeTables<'_>,
     ) -> Result<Keeper, NoMemory>
-        requires well_formed { IsWellFormed model.now }
-        requires lookups { lookups.now ≡ model.now }
-        ensures { IfOk result (IsKeeper model.now) }
+        requires lookups { lookups.now ≡ closed.model.now }
+        ensures { IfOk result (IsKeeper closed.entry.model.now) }
     {
         let candidates = candidates(alloc, lookups)?;
-        let lists = empty_lists(alloc, model)?;
-        let rows = rows_of(alloc, model.vehicles.len(), candidates.len())?;
-        let keeps = keep_each(alloc, model, &lists)?;
+        let lists = empty_lists(alloc, closed.model)?;
+        let rows = rows_of(alloc, closed.model.vehicles.len(), candidates.len())?;
+        let keeps = keep_each(alloc, closed.model, &lists)?;
         Ok(Keeper {
             candidates,
             lists,
@@ -135,24 +132,23 @@ impl Keeper {
     /// the same as before is not found again. After want of memory nothing is said of the lists.
     pub(crate) fn rebuild(
         &mut self,
-        model: &Model,
+        closed: Closed<'_>,
         lookups: &NodeTables<'_>,
         routes: &Routes,
     ) -> Result<(), NoMemory>
-        requires well_formed { IsWellFormed model.now }
-        requires lookups { lookups.now ≡ model.now }
-        requires keeper { IsKeeper model.now self.old }
-        requires lists { IsTrue (are_lists model.now routes.now.lists) }
-        requires open_lists { IsTrue (is_open model.now routes.now.lists) }
-        ensures keeper { OnOk result (IsKeeper model.now self.new) }
+        requires lookups { lookups.now ≡ closed.model.now }
+        requires keeper { IsKeeper closed.model.now self.old }
+        requires lists { IsTrue (are_lists closed.model.now routes.now.lists) }
+        requires open_lists { IsTrue (is_open closed.model.now routes.now.lists) }
+        ensures keeper { OnOk result (IsKeeper closed.entry.model.now self.new) }
         ensures rebuilt { OnOk result (self.new.lists.items
-            ≡ rebuilt model.now (length (items model.now)) routes.now.lists) }
-        ensures built { OnOk result (AreBuilt model.now self.new.lists.items) }
+            ≡ rebuilt closed.entry.model.now (length (items closed.entry.model.now)) routes.now.lists) }
+        ensures built { OnOk result (AreBuilt closed.entry.model.now self.new.lists.items) }
     {
-        let mut marks = active_marks(self.room.alloc, model, routes)?;
+        let mut marks = active_marks(self.room.alloc, closed.model, routes)?;
         insert_into(
             &mut self.room,
-            model,
+            closed,
             lookups,
             &mut self.keeps,
             &self.candidates,

@@ -7,10 +7,11 @@ ghost use Rattle.vr_reach.specs.Lists.{IsTour, IsUsed};
 ghost use Rattle.vr_reach.specs.Stops.{AreStops};
 ghost use Rattle.vr_reach.specs.Stretches.{SharesFront, SharesBack};
 ghost use Rattle.vr_rules.specs.RoutesOpen.{is_feasible_in_each};
-ghost use Rattle.vr_first_insert.specs.KeptRows.{AreKept, AreKeptBut, AreKeptOf, AreRowsOfEach, AreTours, IsKept, IsKeptBut};
+ghost use Rattle.vr_first_insert.specs.KeptRows.{AreKept, AreKeptBut, AreKeptOf, AreRowsOfEach};
+ghost use Rattle.vr_first_insert.specs.KeptRows.{AreTours, IsKept, IsKeptBut};
 
 use std::alloc::Global;
-use vr_model::{Model, NoMemory, Seq};
+use vr_model::{Closed, Model, NoMemory, Seq};
 use vr_reach::{Rows, Stops, Walk, goes_between, no_line, write_rows};
 use vr_steps::Line;
 
@@ -25,19 +26,18 @@ impl Kept {
     // What is kept of lists in dimension `d`.
     fn build(
         alloc: Global,
-        model: &Model,
+        closed: Closed<'_>,
         d: u32,
         lists: &[Seq<u32>],
         line: &mut Line,
     ) -> Result<Kept, NoMemory>
-        requires well_formed { IsWellFormed model.now }
-        requires dimension { d < length model.now.dimensions }
-        requires vehicles { length lists.now ≡ length model.now.vehicles }
-        requires tours { AreTours model.now lists.now }
-        ensures { IfOk result (IsKept model.now d lists.now) }
+        requires dimension { d < length closed.model.now.dimensions }
+        requires vehicles { length lists.now ≡ length closed.model.now.vehicles }
+        requires tours { AreTours closed.model.now lists.now }
+        ensures { IfOk result (IsKept closed.entry.model.now d lists.now) }
     {
-        let stops = Stops::build(alloc, model, d)?;
-        let rows = rows_of_each(alloc, model, d, &stops, lists, line)?;
+        let stops = Stops::build(alloc, closed.model, d)?;
+        let rows = rows_of_each(alloc, closed, d, &stops, lists, line)?;
         Ok(Kept { stops, rows })
     }
 
@@ -45,24 +45,23 @@ impl Kept {
     fn learn(
         &mut self,
         alloc: Global,
-        model: &Model,
+        closed: Closed<'_>,
         d: u32,
         v: u32,
         list: &[u32],
         line: &mut Line,
     ) -> Result<(), NoMemory>
-        requires well_formed { IsWellFormed model.now }
-        requires dimension { d < length model.now.dimensions }
-        requires vehicle { v < length model.now.vehicles }
-        requires tour { IsTour model.now list.now }
-        requires stops { AreStops model.now d self.old.stops }
+        requires dimension { d < length closed.model.now.dimensions }
+        requires vehicle { v < length closed.model.now.vehicles }
+        requires tour { IsTour closed.model.now list.now }
+        requires stops { AreStops closed.model.now d self.old.stops }
         requires there { v < length self.old.rows.items }
         ensures { OnOk result ((lists : List (List ℕ)) → route lists v ≡ list.now
-            → IsKeptBut model.now d lists v self.old → IsKept model.now d lists self.new) }
+            → IsKeptBut closed.entry.model.now d lists v self.old → IsKept closed.entry.model.now d lists self.new) }
     {
         write_rows(
             alloc,
-            model,
+            closed.model,
             d,
             v,
             &self.stops,
@@ -77,25 +76,33 @@ impl Kept {
 // The rows of each list in dimension `d`.
 fn rows_of_each(
     alloc: Global,
-    model: &Model,
+    closed: Closed<'_>,
     d: u32,
     stops: &Stops,
     lists: &[Seq<u32>],
     line: &mut Line,
 ) -> Result<Vec<Rows>, NoMemory>
-    requires well_formed { IsWellFormed model.now }
-    requires dimension { d < length model.now.dimensions }
-    requires stops { AreStops model.now d stops.now }
-    requires vehicles { length lists.now ≡ length model.now.vehicles }
-    requires tours { AreTours model.now lists.now }
+    requires dimension { d < length closed.model.now.dimensions }
+    requires stops { AreStops closed.model.now d stops.now }
+    requires vehicles { length lists.now ≡ length closed.model.now.vehicles }
+    requires tours { AreTours closed.model.now lists.now }
     ensures many { IfOk result (λ rows. length rows.items ≡ length lists.now) }
-    ensures each { IfOk result (λ rows. AreRowsOfEach model.now d lists.now rows.items) }
+    ensures each { IfOk result (λ rows. AreRowsOfEach closed.entry.model.now d lists.now rows.items) }
 {
     let mut known = Vec::with_capacity(alloc, lists.len())?;
     for v in 0..lists.len() {
         let mut rows = Rows::new(alloc);
         let list = lists[v].as_slice();
-        write_rows(alloc, model, d, v as u32, stops, list, line, &mut rows)?;
+        write_rows(
+            alloc,
+            closed.model,
+            d,
+            v as u32,
+            stops,
+            list,
+            line,
+            &mut rows,
+        )?;
         known.push(rows)?;
     }
     Ok(known)
@@ -111,7 +118,7 @@ pub fn keep_each(alloc: Global, model: &Model, lists: &[Seq<u32>]) -> Result<Vec
     let mut line = no_line(alloc);
     let mut keeps = Vec::with_capacity(alloc, model.dimensions.len())?;
     for d in 0..model.dimensions.len() {
-        keeps.push(Kept::build(alloc, model, d as u32, lists, &mut line)?)?;
+        keeps.push(Kept::build(alloc, Closed { model }, d as u32, lists, &mut line)?)?;
     }
     Ok(keeps)
 }
@@ -122,22 +129,21 @@ pub fn keep_each(alloc: Global, model: &Model, lists: &[Seq<u32>]) -> Result<Vec
 /// It takes memory only where a list is longer than any before, or a set has more than four runs.
 pub fn learn(
     alloc: Global,
-    model: &Model,
+    closed: Closed<'_>,
     keeps: &mut [Kept],
     v: u32,
     lists: &[Seq<u32>],
     line: &mut Line,
 ) -> Result<(), NoMemory>
-    requires well_formed { IsWellFormed model.now }
-    requires vehicle { v < length model.now.vehicles }
+    requires vehicle { v < length closed.model.now.vehicles }
     requires there { v < length lists.now }
-    requires tour { IsTour model.now (route lists.now v) }
-    requires others { AreKeptBut model.now lists.now v keeps.old }
-    ensures { OnOk result (AreKept model.now lists.now keeps.new) }
+    requires tour { IsTour closed.model.now (route lists.now v) }
+    requires others { AreKeptBut closed.model.now lists.now v keeps.old }
+    ensures { OnOk result (AreKept closed.entry.model.now lists.now keeps.new) }
 {
     let list = lists[v as usize].as_slice();
     for d in 0..keeps.len() {
-        keeps[d].learn(alloc, model, d as u32, v, list, line)?;
+        keeps[d].learn(alloc, closed, d as u32, v, list, line)?;
     }
     Ok(())
 }

@@ -1,7 +1,6 @@
 //! What is known of items in lists that have not changed since.
 
 ghost use Rattle.std.specs.Prelude.{◌≡◌, ℕ, ◌<◌, IfOk, length, replicate, slice_index_or};
-ghost use Rattle.vr_model.specs.tables.WellFormed.{IsWellFormed};
 ghost use Rattle.vr_first_insert.specs.Kept.{best_of, better_choice, is_settled as is_settled_of};
 ghost use Rattle.vr_first_insert.specs.Kept.{AddsAtLeast, IsForgotten, IsKnown};
 ghost use Rattle.vr_first_insert.specs.Placings.{best_in, MayHold};
@@ -15,7 +14,7 @@ use crate::one_list::best_in_list;
 use crate::room::Room;
 use std::alloc::Global;
 use vr_lists::NodeTables;
-use vr_model::{Model, NoMemory, Seq};
+use vr_model::{Closed, NoMemory, Seq};
 use vr_rules::{Candidate, Item};
 
 /// What is known of an item in a list.
@@ -62,22 +61,21 @@ fn better(best: Option<Choice>, next: Choice) -> Option<Choice>
 }
 
 // What an item adds at least to the list of vehicle `v`.
-fn least_in(model: &Model, v: u32, list: &[u32], item: Item) -> i64
-    requires well_formed { IsWellFormed model.now }
-    requires vehicle { v < length model.now.vehicles }
-    requires may_hold { MayHold model.now list.now item }
-    ensures { AddsAtLeast model.now v list.now item result }
+fn least_in(closed: Closed<'_>, v: u32, list: &[u32], item: Item) -> i64
+    requires vehicle { v < length closed.model.now.vehicles }
+    requires may_hold { MayHold closed.model.now list.now item }
+    ensures { AddsAtLeast closed.entry.model.now v list.now item result }
 {
     match item {
-        Item::Visit(node) => least_visit(model, v, list, node),
-        Item::PickupAndDelivery(pickup, delivery) => least_pair(model, v, list, pickup, delivery),
+        Item::Visit(node) => least_visit(closed, v, list, node),
+        Item::PickupAndDelivery(pickup, delivery) => least_pair(closed, v, list, pickup, delivery),
     }
 }
 
 /// What is known of an item in the list of vehicle `v` once it was asked whether it is better than the best so far.
 pub(crate) fn asked(
     room: &mut Room,
-    model: &Model,
+    closed: Closed<'_>,
     lookups: &NodeTables<'_>,
     keeps: &[Kept],
     v: u32,
@@ -86,24 +84,28 @@ pub(crate) fn asked(
     known: Known,
     best: Option<Choice>,
 ) -> Result<Known, NoMemory>
-    requires well_formed { IsWellFormed model.now }
-    requires lookups { lookups.now ≡ model.now }
-    requires ready { IsReady model.now v list.now keeps.now }
-    requires vehicle { v < length model.now.vehicles }
-    requires may_hold { MayHold model.now list.now candidate.item }
-    requires known { IsKnown model.now v list.now candidate known }
-    ensures known { IfOk result (IsKnown model.now v list.now candidate) }
-    ensures better { IfOk result (λ known. best_of known best ≡ best_in model.now v list.now candidate best) }
+    requires lookups { lookups.now ≡ closed.model.now }
+    requires ready { IsReady closed.model.now v list.now keeps.now }
+    requires vehicle { v < length closed.model.now.vehicles }
+    requires may_hold { MayHold closed.model.now list.now candidate.item }
+    requires known { IsKnown closed.model.now v list.now candidate known }
+    ensures known { IfOk result (IsKnown closed.entry.model.now v list.now candidate) }
+    ensures better { IfOk result (λ known. best_of known best
+        ≡ best_in closed.entry.model.now v list.now candidate best) }
 {
     match known {
         Known::Best(_) => Ok(known),
         Known::AtLeast(least) => {
-            let known = tried(room, model, lookups, keeps, v, list, candidate, least, best)?;
+            let known = tried(
+                room, closed, lookups, keeps, v, list, candidate, least, best,
+            )?;
             Ok(known)
         }
         Known::Nothing => {
-            let least = least_in(model, v, list, candidate.item);
-            let known = tried(room, model, lookups, keeps, v, list, candidate, least, best)?;
+            let least = least_in(closed, v, list, candidate.item);
+            let known = tried(
+                room, closed, lookups, keeps, v, list, candidate, least, best,
+            )?;
             Ok(known)
         }
     }
@@ -113,7 +115,7 @@ pub(crate) fn asked(
 // known.
 fn tried(
     room: &mut Room,
-    model: &Model,
+    closed: Closed<'_>,
     lookups: &NodeTables<'_>,
     keeps: &[Kept],
     v: u32,
@@ -122,19 +124,19 @@ fn tried(
     least: i64,
     best: Option<Choice>,
 ) -> Result<Known, NoMemory>
-    requires well_formed { IsWellFormed model.now }
-    requires lookups { lookups.now ≡ model.now }
-    requires ready { IsReady model.now v list.now keeps.now }
-    requires vehicle { v < length model.now.vehicles }
-    requires may_hold { MayHold model.now list.now candidate.item }
-    requires least { AddsAtLeast model.now v list.now candidate.item least }
-    ensures known { IfOk result (IsKnown model.now v list.now candidate) }
-    ensures better { IfOk result (λ known. best_of known best ≡ best_in model.now v list.now candidate best) }
+    requires lookups { lookups.now ≡ closed.model.now }
+    requires ready { IsReady closed.model.now v list.now keeps.now }
+    requires vehicle { v < length closed.model.now.vehicles }
+    requires may_hold { MayHold closed.model.now list.now candidate.item }
+    requires least { AddsAtLeast closed.model.now v list.now candidate.item least }
+    ensures known { IfOk result (IsKnown closed.entry.model.now v list.now candidate) }
+    ensures better { IfOk result (λ known. best_of known best
+        ≡ best_in closed.entry.model.now v list.now candidate best) }
 {
     if !may_improve(best, candidate.class, least) {
         return Ok(Known::AtLeast(least));
     }
-    let found = best_in_list(room, model, lookups, keeps, v, list, candidate, None)?;
+    let found = best_in_list(room, closed, lookups, keeps, v, list, candidate, None)?;
     Ok(Known::Best(found))
 }
 

@@ -10,7 +10,7 @@ ghost use Rattle.vr_first_insert.specs.Probes.{AreReachedAt, ReachNoEnd};
 
 use crate::kept::Kept;
 use std::alloc::Global;
-use vr_model::{Model, NoMemory};
+use vr_model::{Closed, Model, NoMemory};
 use vr_reach::{Walk, go_on, goes_from, is_stuck, leave_rows};
 use vr_steps::Levels;
 
@@ -52,7 +52,7 @@ impl Probes {
         ensures { OnOk result (AreReachedAt model.now v new.now (front + 1) self.new) }
     {
         fit(alloc, self, keeps.len())?;
-        leave_each(self, model, keeps, v, old, new, front, walk)?;
+        leave_each(self, Closed { model }, keeps, v, old, new, front, walk)?;
         Ok(())
     }
 
@@ -161,7 +161,7 @@ fn fit(alloc: Global, probes: &mut Probes, wanted: usize) -> Result<(), NoMemory
 // Stands in each dimension behind the arc by which a list leaves another.
 fn leave_each(
     probes: &mut Probes,
-    model: &Model,
+    closed: Closed<'_>,
     keeps: &[Kept],
     v: u32,
     old: &[u32],
@@ -169,19 +169,18 @@ fn leave_each(
     front: usize,
     walk: &mut Walk,
 ) -> Result<(), NoMemory>
-    requires well_formed { IsWellFormed model.now }
-    requires vehicle { v < length model.now.vehicles }
-    requires kept { AreKeptOf model.now v old.now keeps.now }
-    requires used { IsUsed model.now new.now }
+    requires vehicle { v < length closed.model.now.vehicles }
+    requires kept { AreKeptOf closed.model.now v old.now keeps.now }
+    requires used { IsUsed closed.model.now new.now }
     requires front { SharesFront old.now new.now front }
     requires enough { length keeps.now ≤ length probes.old.here.items }
-    ensures { OnOk result (AreReachedAt model.now v new.now (front + 1) probes.new) }
+    ensures { OnOk result (AreReachedAt closed.entry.model.now v new.now (front + 1) probes.new) }
 {
     for d in 0..keeps.len() {
         let kept = &keeps[d];
         let rows = &kept.rows[v as usize];
         leave_rows(
-            model,
+            closed.model,
             d as u32,
             v,
             &kept.stops,

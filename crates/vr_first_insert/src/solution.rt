@@ -13,7 +13,7 @@ ghost use Rattle.vr_first_insert.specs.Keeping.{IsKeeper, IsRebuilder};
 use crate::keeper::Keeper;
 use std::alloc::Global;
 use vr_lists::NodeTables;
-use vr_model::{Model, NoMemory};
+use vr_model::{Closed, Model, NoMemory};
 use vr_routes::Routes;
 use vr_rules::complete_routes;
 
@@ -37,7 +37,7 @@ impl Rebuilder {
         requires lookups { lookups.now ≡ model.now }
         ensures { IfOk result (IsRebuilder model.now) }
     {
-        let keeper = Keeper::open(alloc, model, lookups)?;
+        let keeper = Keeper::open(alloc, Closed { model }, lookups)?;
         Ok(Rebuilder {
             keeper: Box::new(alloc, keeper)?,
         })
@@ -66,7 +66,7 @@ impl Rebuilder {
         ensures as_before { OnErr result (routes.new.lists ≡ routes.old.lists) }
         ensures visits { routes.new.visits ≡ routes.old.visits }
     {
-        rebuild_in_place(&mut self.keeper, model, lookups, routes)?;
+        rebuild_in_place(&mut self.keeper, Closed { model }, lookups, routes)?;
         Ok(())
     }
 }
@@ -74,23 +74,23 @@ impl Rebuilder {
 // Makes routes those at which insertion ends, by what is kept of lists.
 fn rebuild_in_place(
     keeper: &mut Keeper,
-    model: &Model,
+    closed: Closed<'_>,
     lookups: &NodeTables<'_>,
     routes: &mut Routes,
 ) -> Result<(), NoMemory>
-    requires well_formed { IsWellFormed model.now }
-    requires lookups { lookups.now ≡ model.now }
-    requires keeper { IsKeeper model.now keeper.old }
-    requires of_model { routes.old.visits ≡ visits model.now }
-    requires lists { IsTrue (are_lists model.now routes.old.lists) }
-    requires open_lists { IsTrue (is_open model.now routes.old.lists) }
-    ensures keeper { OnOk result (IsKeeper model.now keeper.new) }
-    ensures lists { OnOk result (routes.new.lists ≡ rebuilt model.now (length (items model.now)) routes.old.lists) }
-    ensures built { OnOk result (AreBuilt model.now routes.new.lists) }
+    requires lookups { lookups.now ≡ closed.model.now }
+    requires keeper { IsKeeper closed.model.now keeper.old }
+    requires of_model { routes.old.visits ≡ visits closed.model.now }
+    requires lists { IsTrue (are_lists closed.model.now routes.old.lists) }
+    requires open_lists { IsTrue (is_open closed.model.now routes.old.lists) }
+    ensures keeper { OnOk result (IsKeeper closed.entry.model.now keeper.new) }
+    ensures lists { OnOk result (routes.new.lists
+        ≡ rebuilt closed.entry.model.now (length (items closed.entry.model.now)) routes.old.lists) }
+    ensures built { OnOk result (AreBuilt closed.entry.model.now routes.new.lists) }
     ensures as_before { OnErr result (routes.new.lists ≡ routes.old.lists) }
     ensures visits { routes.new.visits ≡ routes.old.visits }
 {
-    keeper.rebuild(model, lookups, routes)?;
+    keeper.rebuild(closed, lookups, routes)?;
     routes.set_lists(&keeper.lists);
     Ok(())
 }
@@ -99,22 +99,22 @@ fn rebuild_in_place(
 fn rebuilt_routes(
     alloc: Global,
     keeper: &mut Keeper,
-    model: &Model,
+    closed: Closed<'_>,
     lookups: &NodeTables<'_>,
     routes: &Routes,
 ) -> Result<Routes, NoMemory>
-    requires well_formed { IsWellFormed model.now }
-    requires lookups { lookups.now ≡ model.now }
-    requires keeper { IsKeeper model.now keeper.old }
-    requires lists { IsTrue (are_lists model.now routes.now.lists) }
-    requires open_lists { IsTrue (is_open model.now routes.now.lists) }
-    ensures keeper { OnOk result (IsKeeper model.now keeper.new) }
-    ensures lists { IfOk result (λ after. after.lists ≡ rebuilt model.now (length (items model.now)) routes.now.lists) }
-    ensures visits { IfOk result (λ after. after.visits ≡ visits model.now) }
-    ensures built { IfOk result (λ after. AreBuilt model.now after.lists) }
+    requires lookups { lookups.now ≡ closed.model.now }
+    requires keeper { IsKeeper closed.model.now keeper.old }
+    requires lists { IsTrue (are_lists closed.model.now routes.now.lists) }
+    requires open_lists { IsTrue (is_open closed.model.now routes.now.lists) }
+    ensures keeper { OnOk result (IsKeeper closed.entry.model.now keeper.new) }
+    ensures lists { IfOk result (λ after. after.lists
+        ≡ rebuilt closed.entry.model.now (length (items closed.entry.model.now)) routes.now.lists) }
+    ensures visits { IfOk result (λ after. after.visits ≡ visits closed.entry.model.now) }
+    ensures built { IfOk result (λ after. AreBuilt closed.entry.model.now after.lists) }
 {
-    keeper.rebuild(model, lookups, routes)?;
-    match Routes::from_lists(alloc, model, &keeper.lists)? {
+    keeper.rebuild(closed, lookups, routes)?;
+    match Routes::from_lists(alloc, closed.model, &keeper.lists)? {
         Some(after) => Ok(after),
         None => unreachable!(),
     }
@@ -123,20 +123,20 @@ fn rebuilt_routes(
 // The same, where nothing is kept yet.
 fn rebuilt_anew(
     alloc: Global,
-    model: &Model,
+    closed: Closed<'_>,
     lookups: &NodeTables<'_>,
     routes: &Routes,
 ) -> Result<Routes, NoMemory>
-    requires well_formed { IsWellFormed model.now }
-    requires lookups { lookups.now ≡ model.now }
-    requires lists { IsTrue (are_lists model.now routes.now.lists) }
-    requires open_lists { IsTrue (is_open model.now routes.now.lists) }
-    ensures lists { IfOk result (λ after. after.lists ≡ rebuilt model.now (length (items model.now)) routes.now.lists) }
-    ensures visits { IfOk result (λ after. after.visits ≡ visits model.now) }
-    ensures built { IfOk result (λ after. AreBuilt model.now after.lists) }
+    requires lookups { lookups.now ≡ closed.model.now }
+    requires lists { IsTrue (are_lists closed.model.now routes.now.lists) }
+    requires open_lists { IsTrue (is_open closed.model.now routes.now.lists) }
+    ensures lists { IfOk result (λ after. after.lists
+        ≡ rebuilt closed.entry.model.now (length (items closed.entry.model.now)) routes.now.lists) }
+    ensures visits { IfOk result (λ after. after.visits ≡ visits closed.entry.model.now) }
+    ensures built { IfOk result (λ after. AreBuilt closed.entry.model.now after.lists) }
 {
-    let mut keeper = Keeper::open(alloc, model, lookups)?;
-    rebuilt_routes(alloc, &mut keeper, model, lookups, routes)
+    let mut keeper = Keeper::open(alloc, closed, lookups)?;
+    rebuilt_routes(alloc, &mut keeper, closed, lookups, routes)
 }
 
 /// The routes at which parallel cheapest insertion ends when it begins with these open routes: as long as an item may
@@ -152,25 +152,25 @@ pub fn rebuild(alloc: Global, model: &Model, routes: &Routes) -> Result<Routes, 
     ensures visits { IfOk result (λ after. after.visits ≡ visits model.now) }
     ensures built { IfOk result (λ after. AreBuilt model.now after.lists) }
 {
+    let closed = Closed { model };
     let lookups = NodeTables::open(alloc, model)?;
-    rebuilt_anew(alloc, model, &lookups, routes)
+    rebuilt_anew(alloc, closed, &lookups, routes)
 }
 
 // Makes the lists those at which insertion ends when it begins with empty ones.
 fn rebuild_empty(
     alloc: Global,
     keeper: &mut Keeper,
-    model: &Model,
+    closed: Closed<'_>,
     lookups: &NodeTables<'_>,
 ) -> Result<(), NoMemory>
-    requires well_formed { IsWellFormed model.now }
-    requires lookups { lookups.now ≡ model.now }
-    requires keeper { IsKeeper model.now keeper.old }
-    ensures lists { OnOk result (keeper.new.lists.items ≡ parallel_cheapest_insertion model.now) }
-    ensures built { OnOk result (AreBuilt model.now keeper.new.lists.items) }
+    requires lookups { lookups.now ≡ closed.model.now }
+    requires keeper { IsKeeper closed.model.now keeper.old }
+    ensures lists { OnOk result (keeper.new.lists.items ≡ parallel_cheapest_insertion closed.entry.model.now) }
+    ensures built { OnOk result (AreBuilt closed.entry.model.now keeper.new.lists.items) }
 {
-    let empty = Routes::empty(alloc, model)?;
-    keeper.rebuild(model, lookups, &empty)?;
+    let empty = Routes::empty(alloc, closed.model)?;
+    keeper.rebuild(closed, lookups, &empty)?;
     Ok(())
 }
 
@@ -178,37 +178,35 @@ fn rebuild_empty(
 fn first_kept(
     alloc: Global,
     keeper: &mut Keeper,
-    model: &Model,
+    closed: Closed<'_>,
     lookups: &NodeTables<'_>,
 ) -> Result<Option<Routes>, NoMemory>
-    requires well_formed { IsWellFormed model.now }
-    requires lookups { lookups.now ≡ model.now }
-    requires keeper { IsKeeper model.now keeper.old }
+    requires lookups { lookups.now ≡ closed.model.now }
+    requires keeper { IsKeeper closed.model.now keeper.old }
     ensures first { IfOk result (λ first. lists_in first
-        ≡ cond (is_valid model.now (parallel_cheapest_insertion model.now))
-        (Some (parallel_cheapest_insertion model.now)) None) }
-    ensures visits { IfOk result (λ first. IfSome first (λ routes. routes.visits ≡ visits model.now)) }
+        ≡ cond (is_valid closed.entry.model.now (parallel_cheapest_insertion closed.entry.model.now))
+        (Some (parallel_cheapest_insertion closed.entry.model.now)) None) }
+    ensures visits { IfOk result (λ first. IfSome first (λ routes. routes.visits ≡ visits closed.entry.model.now)) }
 {
-    rebuild_empty(alloc, keeper, model, lookups)?;
-    let first = complete_routes(alloc, model, lookups, &keeper.lists)?;
+    rebuild_empty(alloc, keeper, closed, lookups)?;
+    let first = complete_routes(alloc, closed.model, lookups, &keeper.lists)?;
     Ok(first)
 }
 
 // The first solution, over what was looked up.
 fn first_over(
     alloc: Global,
-    model: &Model,
+    closed: Closed<'_>,
     lookups: &NodeTables<'_>,
 ) -> Result<Option<Routes>, NoMemory>
-    requires well_formed { IsWellFormed model.now }
-    requires lookups { lookups.now ≡ model.now }
+    requires lookups { lookups.now ≡ closed.model.now }
     ensures first { IfOk result (λ first. lists_in first
-        ≡ cond (is_valid model.now (parallel_cheapest_insertion model.now))
-        (Some (parallel_cheapest_insertion model.now)) None) }
-    ensures visits { IfOk result (λ first. IfSome first (λ routes. routes.visits ≡ visits model.now)) }
+        ≡ cond (is_valid closed.entry.model.now (parallel_cheapest_insertion closed.entry.model.now))
+        (Some (parallel_cheapest_insertion closed.entry.model.now)) None) }
+    ensures visits { IfOk result (λ first. IfSome first (λ routes. routes.visits ≡ visits closed.entry.model.now)) }
 {
-    let mut keeper = Keeper::open(alloc, model, lookups)?;
-    first_kept(alloc, &mut keeper, model, lookups)
+    let mut keeper = Keeper::open(alloc, closed, lookups)?;
+    first_kept(alloc, &mut keeper, closed, lookups)
 }
 
 /// The first solution of a model by parallel cheapest insertion (`PARALLEL_CHEAPEST_INSERTION` in OR-Tools): empty
@@ -222,6 +220,7 @@ pub fn first(alloc: Global, model: &Model) -> Result<Option<Routes>, NoMemory>
         (Some (parallel_cheapest_insertion model.now)) None) }
     ensures visits { IfOk result (λ first. IfSome first (λ routes. routes.visits ≡ visits model.now)) }
 {
+    let closed = Closed { model };
     let lookups = NodeTables::open(alloc, model)?;
-    first_over(alloc, model, &lookups)
+    first_over(alloc, closed, &lookups)
 }

@@ -2,12 +2,11 @@
 
 ghost use Rattle.std.specs.Prelude.{◌≡◌, ◌<◌, length, map, IfOk};
 ghost use Rattle.vr_model.specs.routes.Routes.{route};
-ghost use Rattle.vr_model.specs.tables.WellFormed.{IsWellFormed};
 ghost use Rattle.vr_first_savings.specs.RouteEnds.{ends_between as ends_between_of, ends_of};
 ghost use Rattle.vr_first_savings.specs.Joins.{AreApart};
 
 use std::alloc::Global;
-use vr_model::{Model, NoMemory, Seq};
+use vr_model::{Closed, NoMemory, Seq};
 
 /// The last and the first node of a route, and what the arcs cost from the last to the end and from the start to the
 /// first.
@@ -20,45 +19,42 @@ pub(crate) struct Ends {
 }
 
 // The ends of a route with these last and first nodes.
-fn ends_between(model: &Model, last: u32, first: u32) -> Ends
-    requires well_formed { IsWellFormed model.now }
-    requires last { last < model.now.nodes }
-    requires first { first < model.now.nodes }
-    ensures { result ≡ ends_between_of model.now last first }
+fn ends_between(closed: Closed<'_>, last: u32, first: u32) -> Ends
+    requires last { last < closed.model.now.nodes }
+    requires first { first < closed.model.now.nodes }
+    ensures { result ≡ ends_between_of closed.entry.model.now last first }
 {
-    let vehicle = model.vehicles.get(0);
+    let vehicle = closed.model.vehicles.get(0);
     Ends {
         last,
         first,
-        to_end: model.arc_cost(0, last, vehicle.end),
-        from_start: model.arc_cost(0, vehicle.start, first),
+        to_end: closed.model.arc_cost(0, last, vehicle.end),
+        from_start: closed.model.arc_cost(0, vehicle.start, first),
     }
 }
 
 // The ends of route `i`.
-fn ends_at(model: &Model, routes: &[Seq<u32>], i: usize) -> Ends
-    requires well_formed { IsWellFormed model.now }
-    requires apart { AreApart model.now routes.now }
+fn ends_at(closed: Closed<'_>, routes: &[Seq<u32>], i: usize) -> Ends
+    requires apart { AreApart closed.model.now routes.now }
     requires within { i < length routes.now }
-    ensures { result ≡ ends_of model.now (route routes.now i) }
+    ensures { result ≡ ends_of closed.entry.model.now (route routes.now i) }
 {
     let list = routes[i].as_slice();
-    ends_between(model, list[list.len() - 1], list[0])
+    ends_between(closed, list[list.len() - 1], list[0])
 }
 
 /// The ends of each route, looked up once for all joins of a step.
 pub(crate) fn ends_of_each(
     alloc: Global,
-    model: &Model,
+    closed: Closed<'_>,
     routes: &[Seq<u32>],
 ) -> Result<Vec<Ends>, NoMemory>
-    requires well_formed { IsWellFormed model.now }
-    requires apart { AreApart model.now routes.now }
-    ensures { IfOk result (λ ends. ends.items ≡ map (ends_of model.now) routes.now) }
+    requires apart { AreApart closed.model.now routes.now }
+    ensures { IfOk result (λ ends. ends.items ≡ map (ends_of closed.entry.model.now) routes.now) }
 {
     let mut ends = Vec::with_capacity(alloc, routes.len())?;
     for i in 0..routes.len() {
-        ends.push(ends_at(model, routes, i))?;
+        ends.push(ends_at(closed, routes, i))?;
     }
     Ok(ends)
 }

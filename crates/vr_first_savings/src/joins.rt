@@ -6,7 +6,6 @@ ghost use Rattle.vr_model.specs.first.Choosing.{least_by};
 ghost use Rattle.vr_model.specs.routes.Routes.{route};
 ghost use Rattle.vr_model.specs.first.SavingsJoins.{join_key, joins};
 ghost use Rattle.vr_model.specs.tables.Tables.{arc_cost};
-ghost use Rattle.vr_model.specs.tables.WellFormed.{IsWellFormed};
 ghost use Rattle.vr_first_savings.specs.Joins.{best_behind as best_behind_of, choice_at as choice_at_of, join_of};
 ghost use Rattle.vr_first_savings.specs.Joins.{weigh, AreApart, MayBeJoined};
 ghost use Rattle.vr_first_savings.specs.RouteEnds.{ends_of, AreEnds};
@@ -16,36 +15,35 @@ use crate::choice::{Choice, improves};
 use crate::ends::{Ends, ends_of_each};
 use crate::tables::ModelTables;
 use std::alloc::Global;
-use vr_model::{Model, NoMemory, Seq};
+use vr_model::{Closed, NoMemory, Seq};
 use vr_rules::{Driving, is_route_open};
 
 // What it saves to drive from the last node of one route to the first of another, and not over the end and the start.
-fn saved(model: &Model, front: Ends, back: Ends) -> i64
-    requires well_formed { IsWellFormed model.now }
-    requires front { AreEnds model.now front }
-    requires back { AreEnds model.now back }
-    ensures value { result ≡ ((front.to_end +ℤ back.from_start) -ℤ arc_cost model.now 0 front.last back.first) }
+fn saved(closed: Closed<'_>, front: Ends, back: Ends) -> i64
+    requires front { AreEnds closed.model.now front }
+    requires back { AreEnds closed.model.now back }
+    ensures value { result ≡ ((front.to_end +ℤ back.from_start) -ℤ arc_cost closed.entry.model.now 0 front.last
+        back.first) }
     ensures low { neg_ℤ (pos (2 ^ 40)) ≤ℤ result }
     ensures high { result ≤ℤ pos (2 ^ 41) }
 {
-    front.to_end + back.from_start - model.arc_cost(0, front.last, back.first)
+    front.to_end + back.from_start - closed.model.arc_cost(0, front.last, back.first)
 }
 
 // The choice of two routes, whose ends are known.
-fn choice_at(model: &Model, routes: &[Seq<u32>], ends: &[Ends], i: usize, j: usize) -> Choice
-    requires well_formed { IsWellFormed model.now }
-    requires apart { AreApart model.now routes.now }
-    requires ends { ends.now ≡ map (ends_of model.now) routes.now }
+fn choice_at(closed: Closed<'_>, routes: &[Seq<u32>], ends: &[Ends], i: usize, j: usize) -> Choice
+    requires apart { AreApart closed.model.now routes.now }
+    requires ends { ends.now ≡ map (ends_of closed.model.now) routes.now }
     requires front { i < length routes.now }
     requires back { j < length routes.now }
-    ensures { result ≡ choice_at_of model.now routes.now i j }
+    ensures { result ≡ choice_at_of closed.entry.model.now routes.now i j }
 {
     let front = ends[i];
     let back = ends[j];
     Choice {
         front: i,
         back: j,
-        saving: saved(model, front, back),
+        saving: saved(closed, front, back),
         last: front.last,
         first: back.first,
     }
@@ -124,7 +122,15 @@ fn best_behind(
 {
     let mut best = best;
     for j in 0..routes.len() {
-        let next = choice_at(tables.model, routes, ends, i, j);
+        let next = choice_at(
+            Closed {
+                model: tables.model,
+            },
+            routes,
+            ends,
+            i,
+            j,
+        );
         best = consider(alloc, tables, routes, next, best, driving)?;
     }
     Ok(best)
@@ -143,7 +149,13 @@ pub(crate) fn best_join(
         ≡ least_by (join_key tables.now.model.now) (joins tables.now.model.now routes.now)) }
     ensures may { IfOk result (λ best. IfSome best (MayBeJoined tables.now.model.now routes.now)) }
 {
-    let ends = ends_of_each(alloc, tables.model, routes)?;
+    let ends = ends_of_each(
+        alloc,
+        Closed {
+            model: tables.model,
+        },
+        routes,
+    )?;
     let mut best: Option<Choice> = None;
     for i in 0..routes.len() {
         best = best_behind(alloc, tables, routes, &ends, i, best, driving)?;

@@ -16,7 +16,7 @@ use crate::singles::single_routes;
 use crate::tables::ModelTables;
 use std::alloc::Global;
 use vr_lists::NodeTables;
-use vr_model::{Model, NoMemory, Seq};
+use vr_model::{Closed, Model, NoMemory, Seq};
 use vr_plan::{Table, tables_of};
 use vr_routes::Routes;
 use vr_rules::{Driving, valid};
@@ -40,19 +40,18 @@ fn lists_joined(
 // The same, with room of its own for the walks.
 fn lists_over(
     alloc: Global,
-    model: &Model,
+    closed: Closed<'_>,
     tables: &[Table],
     lookups: &NodeTables<'_>,
 ) -> Result<Vec<Seq<u32>>, NoMemory>
-    requires well_formed { IsWellFormed model.now }
-    requires tables { AreTables model.now tables.now }
-    requires lookups { lookups.now ≡ model.now }
-    ensures savings { IfOk result (λ lists. lists.items ≡ savings model.now) }
-    ensures lists { IfOk result (λ lists. IsTrue (are_lists model.now lists.items)) }
+    requires tables { AreTables closed.model.now tables.now }
+    requires lookups { lookups.now ≡ closed.model.now }
+    ensures savings { IfOk result (λ lists. lists.items ≡ savings closed.entry.model.now) }
+    ensures lists { IfOk result (λ lists. IsTrue (are_lists closed.entry.model.now lists.items)) }
 {
     let mut driving = Driving::new(alloc);
     let tables = ModelTables {
-        model,
+        model: closed.model,
         dimensions: tables,
         nodes: lookups,
     };
@@ -62,26 +61,24 @@ fn lists_over(
 // The same, with look-ups of its own.
 fn lists_from_tables(
     alloc: Global,
-    model: &Model,
+    closed: Closed<'_>,
     tables: &[Table],
 ) -> Result<Vec<Seq<u32>>, NoMemory>
-    requires well_formed { IsWellFormed model.now }
-    requires tables { AreTables model.now tables.now }
-    ensures savings { IfOk result (λ lists. lists.items ≡ savings model.now) }
-    ensures lists { IfOk result (λ lists. IsTrue (are_lists model.now lists.items)) }
+    requires tables { AreTables closed.model.now tables.now }
+    ensures savings { IfOk result (λ lists. lists.items ≡ savings closed.entry.model.now) }
+    ensures lists { IfOk result (λ lists. IsTrue (are_lists closed.entry.model.now lists.items)) }
 {
-    let lookups = NodeTables::open(alloc, model)?;
-    lists_over(alloc, model, tables, &lookups)
+    let lookups = NodeTables::open(alloc, closed.model)?;
+    lists_over(alloc, closed, tables, &lookups)
 }
 
 // The lists at which the construction ends.
-fn lists_by_savings(alloc: Global, model: &Model) -> Result<Vec<Seq<u32>>, NoMemory>
-    requires well_formed { IsWellFormed model.now }
-    ensures savings { IfOk result (λ lists. lists.items ≡ savings model.now) }
-    ensures lists { IfOk result (λ lists. IsTrue (are_lists model.now lists.items)) }
+fn lists_by_savings(alloc: Global, closed: Closed<'_>) -> Result<Vec<Seq<u32>>, NoMemory>
+    ensures savings { IfOk result (λ lists. lists.items ≡ savings closed.entry.model.now) }
+    ensures lists { IfOk result (λ lists. IsTrue (are_lists closed.entry.model.now lists.items)) }
 {
-    let tables = tables_of(alloc, model)?;
-    lists_from_tables(alloc, model, &tables)
+    let tables = tables_of(alloc, closed.model)?;
+    lists_from_tables(alloc, closed, &tables)
 }
 
 /// The first solution of a model by savings (`SAVINGS` in OR-Tools, after Clarke and Wright): each item begins as a
@@ -95,7 +92,7 @@ pub fn first(alloc: Global, model: &Model) -> Result<Option<Routes>, NoMemory>
         ≡ cond (is_valid model.now (savings model.now)) (Some (savings model.now)) None) }
     ensures visits { IfOk result (λ first. IfSome first (λ routes. routes.visits ≡ visits model.now)) }
 {
-    let lists = lists_by_savings(alloc, model)?;
+    let lists = lists_by_savings(alloc, Closed { model })?;
     let Some(routes) = Routes::from_lists(alloc, model, &lists)? else {
         return Ok(None);
     };

@@ -4,7 +4,6 @@ ghost use Rattle.std.specs.Prelude.{◌≡◌, IfOk, IfSome, IsTrue, OnOk};
 ghost use Rattle.vr_model.specs.routes.Routes.{are_lists};
 ghost use Rattle.vr_model.specs.routes.Rules.{is_open};
 ghost use Rattle.vr_model.specs.tables.Tables.{visits};
-ghost use Rattle.vr_model.specs.tables.WellFormed.{IsWellFormed};
 ghost use Rattle.vr_first_insert.specs.Keeping.{IsRebuilder};
 
 use crate::rows::{PAIRED, row};
@@ -12,7 +11,7 @@ use std::alloc::Global;
 use std::test::Fail;
 use vr_first_insert::Rebuilder;
 use vr_lists::NodeTables;
-use vr_model::{Model, NoMemory};
+use vr_model::{Closed, NoMemory};
 use vr_routes::Routes;
 use vr_rules::open;
 use vr_samples::{read_model_text, routes_of};
@@ -30,37 +29,32 @@ fn are(routes: Option<Routes>, list: &[u32]) -> bool {
 }
 
 // Whether the cheapest arcs give this list.
-fn by_arcs(alloc: Global, model: &Model, list: &[u32]) -> Result<bool, NoMemory>
-    requires { IsWellFormed model.now }
-{
-    Ok(are(vr_first_arc::first(alloc, model)?, list))
+fn by_arcs(alloc: Global, closed: Closed<'_>, list: &[u32]) -> Result<bool, NoMemory> {
+    Ok(are(vr_first_arc::first(alloc, closed.model)?, list))
 }
 
 // Whether the cheapest insertions give this list.
-fn by_insertions(alloc: Global, model: &Model, list: &[u32]) -> Result<bool, NoMemory>
-    requires { IsWellFormed model.now }
-{
-    Ok(are(vr_first_insert::first(alloc, model)?, list))
+fn by_insertions(alloc: Global, closed: Closed<'_>, list: &[u32]) -> Result<bool, NoMemory> {
+    Ok(are(vr_first_insert::first(alloc, closed.model)?, list))
 }
 
 // Whether savings give this list.
-fn by_savings(alloc: Global, model: &Model, list: &[u32]) -> Result<bool, NoMemory>
-    requires { IsWellFormed model.now }
-{
-    Ok(are(vr_first_savings::first(alloc, model)?, list))
+fn by_savings(alloc: Global, closed: Closed<'_>, list: &[u32]) -> Result<bool, NoMemory> {
+    Ok(are(vr_first_savings::first(alloc, closed.model)?, list))
 }
 
 // Open routes with a list of the one vehicle, where there are such.
-fn open_routes(alloc: Global, model: &Model, list: &[u32]) -> Result<Option<Routes>, NoMemory>
-    requires { IsWellFormed model.now }
-    ensures of_model { IfOk result (λ found. IfSome found (λ routes. routes.visits ≡ visits model.now)) }
-    ensures lists { IfOk result (λ found. IfSome found (λ routes. IsTrue (are_lists model.now routes.lists))) }
-    ensures open_lists { IfOk result (λ found. IfSome found (λ routes. IsTrue (is_open model.now routes.lists))) }
+fn open_routes(alloc: Global, closed: Closed<'_>, list: &[u32]) -> Result<Option<Routes>, NoMemory>
+    ensures of_model { IfOk result (λ found. IfSome found (λ routes. routes.visits ≡ visits closed.entry.model.now)) }
+    ensures lists { IfOk result (λ found. IfSome found
+        (λ routes. IsTrue (are_lists closed.entry.model.now routes.lists))) }
+    ensures open_lists { IfOk result (λ found. IfSome found
+        (λ routes. IsTrue (is_open closed.entry.model.now routes.lists))) }
 {
-    let Some(routes) = routes_of(alloc, model, &[list])? else {
+    let Some(routes) = routes_of(alloc, closed.model, &[list])? else {
         return Ok(None);
     };
-    if open(alloc, model, &routes)? {
+    if open(alloc, closed.model, &routes)? {
         Ok(Some(routes))
     } else {
         Ok(None)
@@ -68,12 +62,15 @@ fn open_routes(alloc: Global, model: &Model, list: &[u32]) -> Result<Option<Rout
 }
 
 // Whether an open list is rebuilt to another.
-fn rebuilds(alloc: Global, model: &Model, list: &[u32], after: &[u32]) -> Result<bool, NoMemory>
-    requires { IsWellFormed model.now }
-{
-    match open_routes(alloc, model, list)? {
+fn rebuilds(
+    alloc: Global,
+    closed: Closed<'_>,
+    list: &[u32],
+    after: &[u32],
+) -> Result<bool, NoMemory> {
+    match open_routes(alloc, closed, list)? {
         Some(routes) => Ok(are(
-            Some(vr_first_insert::rebuild(alloc, model, &routes)?),
+            Some(vr_first_insert::rebuild(alloc, closed.model, &routes)?),
             after,
         )),
         None => Ok(false),
@@ -84,21 +81,20 @@ fn rebuilds(alloc: Global, model: &Model, list: &[u32], after: &[u32]) -> Result
 fn gives(
     alloc: Global,
     rebuilder: &mut Rebuilder,
-    model: &Model,
+    closed: Closed<'_>,
     lookups: &NodeTables<'_>,
     routes: &Routes,
     after: &[u32],
 ) -> Result<bool, NoMemory>
-    requires well_formed { IsWellFormed model.now }
-    requires lookups { lookups.now ≡ model.now }
-    requires rebuilder { IsRebuilder model.now rebuilder.old }
-    requires of_model { routes.now.visits ≡ visits model.now }
-    requires lists { IsTrue (are_lists model.now routes.now.lists) }
-    requires open_lists { IsTrue (is_open model.now routes.now.lists) }
-    ensures { OnOk result (IsRebuilder model.now rebuilder.new) }
+    requires lookups { lookups.now ≡ closed.model.now }
+    requires rebuilder { IsRebuilder closed.model.now rebuilder.old }
+    requires of_model { routes.now.visits ≡ visits closed.model.now }
+    requires lists { IsTrue (are_lists closed.model.now routes.now.lists) }
+    requires open_lists { IsTrue (is_open closed.model.now routes.now.lists) }
+    ensures { OnOk result (IsRebuilder closed.entry.model.now rebuilder.new) }
 {
     let mut rebuilt = routes.copy(alloc)?;
-    rebuilder.rebuild(model, lookups, &mut rebuilt)?;
+    rebuilder.rebuild(closed.model, lookups, &mut rebuilt)?;
     Ok(are(Some(rebuilt), after))
 }
 
@@ -106,111 +102,103 @@ fn gives(
 fn gives_in_turn(
     alloc: Global,
     rebuilder: &mut Rebuilder,
-    model: &Model,
+    closed: Closed<'_>,
     lookups: &NodeTables<'_>,
     first: &Routes,
     second: &Routes,
 ) -> Result<bool, NoMemory>
-    requires well_formed { IsWellFormed model.now }
-    requires lookups { lookups.now ≡ model.now }
-    requires rebuilder { IsRebuilder model.now rebuilder.old }
-    requires of_model { first.now.visits ≡ visits model.now }
-    requires lists { IsTrue (are_lists model.now first.now.lists) }
-    requires open_lists { IsTrue (is_open model.now first.now.lists) }
-    requires other_of_model { second.now.visits ≡ visits model.now }
-    requires other_lists { IsTrue (are_lists model.now second.now.lists) }
-    requires other_open_lists { IsTrue (is_open model.now second.now.lists) }
+    requires lookups { lookups.now ≡ closed.model.now }
+    requires rebuilder { IsRebuilder closed.model.now rebuilder.old }
+    requires of_model { first.now.visits ≡ visits closed.model.now }
+    requires lists { IsTrue (are_lists closed.model.now first.now.lists) }
+    requires open_lists { IsTrue (is_open closed.model.now first.now.lists) }
+    requires other_of_model { second.now.visits ≡ visits closed.model.now }
+    requires other_lists { IsTrue (are_lists closed.model.now second.now.lists) }
+    requires other_open_lists { IsTrue (is_open closed.model.now second.now.lists) }
 {
-    let one = gives(alloc, rebuilder, model, lookups, first, &[2, 1])?;
-    let other = gives(alloc, rebuilder, model, lookups, second, &[1, 2])?;
-    let again = gives(alloc, rebuilder, model, lookups, first, &[2, 1])?;
+    let one = gives(alloc, rebuilder, closed, lookups, first, &[2, 1])?;
+    let other = gives(alloc, rebuilder, closed, lookups, second, &[1, 2])?;
+    let again = gives(alloc, rebuilder, closed, lookups, first, &[2, 1])?;
     Ok(one && other && again)
 }
 
 // The same of one that knows nothing yet.
 fn opened_in_turn(
     alloc: Global,
-    model: &Model,
+    closed: Closed<'_>,
     first: &Routes,
     second: &Routes,
 ) -> Result<bool, NoMemory>
-    requires well_formed { IsWellFormed model.now }
-    requires of_model { first.now.visits ≡ visits model.now }
-    requires lists { IsTrue (are_lists model.now first.now.lists) }
-    requires open_lists { IsTrue (is_open model.now first.now.lists) }
-    requires other_of_model { second.now.visits ≡ visits model.now }
-    requires other_lists { IsTrue (are_lists model.now second.now.lists) }
-    requires other_open_lists { IsTrue (is_open model.now second.now.lists) }
+    requires of_model { first.now.visits ≡ visits closed.model.now }
+    requires lists { IsTrue (are_lists closed.model.now first.now.lists) }
+    requires open_lists { IsTrue (is_open closed.model.now first.now.lists) }
+    requires other_of_model { second.now.visits ≡ visits closed.model.now }
+    requires other_lists { IsTrue (are_lists closed.model.now second.now.lists) }
+    requires other_open_lists { IsTrue (is_open closed.model.now second.now.lists) }
 {
-    let lookups = NodeTables::open(alloc, model)?;
-    let mut rebuilder = Rebuilder::open(alloc, model, &lookups)?;
-    gives_in_turn(alloc, &mut rebuilder, model, &lookups, first, second)
+    let lookups = NodeTables::open(alloc, closed.model)?;
+    let mut rebuilder = Rebuilder::open(alloc, closed.model, &lookups)?;
+    gives_in_turn(alloc, &mut rebuilder, closed, &lookups, first, second)
 }
 
 // The same of the lists with one node each.
-fn rebuilds_in_turn(alloc: Global, model: &Model) -> Result<bool, NoMemory>
-    requires { IsWellFormed model.now }
-{
-    let Some(first) = open_routes(alloc, model, &[1])? else {
+fn rebuilds_in_turn(alloc: Global, closed: Closed<'_>) -> Result<bool, NoMemory> {
+    let Some(first) = open_routes(alloc, closed, &[1])? else {
         return Ok(false);
     };
-    let Some(second) = open_routes(alloc, model, &[2])? else {
+    let Some(second) = open_routes(alloc, closed, &[2])? else {
         return Ok(false);
     };
-    opened_in_turn(alloc, model, &first, &second)
+    opened_in_turn(alloc, closed, &first, &second)
 }
 
-fn three_nodes(alloc: Global, model: &Model) -> Result<(), Fail>
-    requires { IsWellFormed model.now }
-{
+fn three_nodes(alloc: Global, closed: Closed<'_>) -> Result<(), Fail> {
     row(
         "the nearest visit goes first",
-        by_arcs(alloc, model, &[1, 2]),
+        by_arcs(alloc, closed, &[1, 2]),
     )?;
     row(
         "the lower of equal places wins",
-        by_insertions(alloc, model, &[2, 1]),
+        by_insertions(alloc, closed, &[2, 1]),
     )?;
     row(
         "equal savings go by the lesser node",
-        by_savings(alloc, model, &[1, 2]),
+        by_savings(alloc, closed, &[1, 2]),
     )?;
     row(
         "what is left is inserted",
-        rebuilds(alloc, model, &[2], &[1, 2]),
+        rebuilds(alloc, closed, &[2], &[1, 2]),
     )?;
     row(
         "what is kept of lists changes no answer",
-        rebuilds_in_turn(alloc, model),
+        rebuilds_in_turn(alloc, closed),
     )
 }
 
-fn pairs(alloc: Global, model: &Model) -> Result<(), Fail>
-    requires { IsWellFormed model.now }
-{
+fn pairs(alloc: Global, closed: Closed<'_>) -> Result<(), Fail> {
     row(
         "pairs by arcs: the lesser pickup goes first",
-        by_arcs(alloc, model, &[1, 2, 3, 4]),
+        by_arcs(alloc, closed, &[1, 2, 3, 4]),
     )?;
     row(
         "pairs by insertions: the second goes to the front",
-        by_insertions(alloc, model, &[3, 4, 1, 2]),
+        by_insertions(alloc, closed, &[3, 4, 1, 2]),
     )?;
     row(
         "pairs by savings: the lesser delivery goes in front",
-        by_savings(alloc, model, &[1, 2, 3, 4]),
+        by_savings(alloc, closed, &[1, 2, 3, 4]),
     )
 }
 
 #[test]
 fn first_solutions(rt: HostRuntime) -> Result<(), Fail> {
     let model = read_model_text(rt.alloc(), TRIPLE).ok_or("three nodes")?;
-    three_nodes(rt.alloc(), &model)
+    three_nodes(rt.alloc(), Closed { model: &model })
 }
 
 #[test]
 fn first_solutions_of_pairs(rt: HostRuntime) -> Result<(), Fail> {
     let text = PAIRED.replace(rt.alloc(), "POLICY", "any")?;
     let model = read_model_text(rt.alloc(), text.as_str()).ok_or("pairs")?;
-    pairs(rt.alloc(), &model)
+    pairs(rt.alloc(), Closed { model: &model })
 }

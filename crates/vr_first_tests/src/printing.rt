@@ -2,12 +2,11 @@
 
 ghost use Rattle.std.specs.Prelude.{IsTrue};
 ghost use Rattle.vr_model.specs.routes.Rules.{is_valid};
-ghost use Rattle.vr_model.specs.tables.WellFormed.{IsWellFormed};
 
 use crate::rows::row;
 use std::alloc::Global;
 use std::test::Fail;
-use vr_model::{End, Model, NoMemory, Report};
+use vr_model::{Closed, End, NoMemory, Report};
 use vr_print::{solution_line, solution_tree};
 use vr_routes::Routes;
 use vr_samples::{read_model_text, valid_routes};
@@ -33,28 +32,26 @@ const REPORT: Report = Report {
 };
 
 // Whether the line of routes is the one above.
-fn has_line(alloc: Global, model: &Model, routes: &Routes) -> Result<bool, NoMemory>
-    requires well_formed { IsWellFormed model.now }
-    requires valid { IsTrue (is_valid model.now routes.now.lists) }
+fn has_line(alloc: Global, closed: Closed<'_>, routes: &Routes) -> Result<bool, NoMemory>
+    requires valid { IsTrue (is_valid closed.model.now routes.now.lists) }
 {
-    let line = solution_line(alloc, model, routes, 80, REPORT)?;
+    let line = solution_line(alloc, closed.model, routes, 80, REPORT)?;
     Ok(line.as_slice() == LINE.as_bytes())
 }
 
 // Whether there is a tree of routes, of which the contract says the rest.
-fn has_tree(alloc: Global, model: &Model, routes: &Routes) -> bool
-    requires well_formed { IsWellFormed model.now }
-    requires valid { IsTrue (is_valid model.now routes.now.lists) }
+fn has_tree(alloc: Global, closed: Closed<'_>, routes: &Routes) -> bool
+    requires valid { IsTrue (is_valid closed.model.now routes.now.lists) }
 {
-    solution_tree(alloc, model, routes, 80, REPORT).is_ok()
+    solution_tree(alloc, closed.model, routes, 80, REPORT).is_ok()
 }
 
 // Whether both are so of the routes that visit node 1 alone, which are valid.
-fn prints(alloc: Global, model: &Model) -> Result<bool, NoMemory>
-    requires { IsWellFormed model.now }
-{
-    match valid_routes(alloc, model, &[&[1], &[]])? {
-        Some(routes) => { Ok(has_tree(alloc, model, &routes) && has_line(alloc, model, &routes)?) }
+fn prints(alloc: Global, closed: Closed<'_>) -> Result<bool, NoMemory> {
+    match valid_routes(alloc, closed.model, &[&[1], &[]])? {
+        Some(routes) => {
+            Ok(has_tree(alloc, closed, &routes) && has_line(alloc, closed, &routes)?)
+        }
         None => Ok(false),
     }
 }
@@ -62,5 +59,8 @@ fn prints(alloc: Global, model: &Model) -> Result<bool, NoMemory>
 #[test]
 fn breaks_cumuls_and_slacks_are_printed(rt: HostRuntime) -> Result<(), Fail> {
     let model = read_model_text(rt.alloc(), MODEL).ok_or("a model")?;
-    row("the line of a solution", prints(rt.alloc(), &model))
+    row(
+        "the line of a solution",
+        prints(rt.alloc(), Closed { model: &model }),
+    )
 }

@@ -8,7 +8,7 @@ ghost use Rattle.vr_model.specs.tables.WellFormed.{IsWellFormed};
 use crate::rows::{PAIRED, row};
 use std::alloc::Global;
 use std::test::Fail;
-use vr_model::{Model, NoMemory};
+use vr_model::{Closed, Model, NoMemory};
 use vr_routes::Routes;
 use vr_rules::{cost, route_open, total};
 use vr_samples::{read_model_text, routes_of, valid_routes};
@@ -33,20 +33,22 @@ const DRIVEN: [(&str, &str, &[u32], bool); 8] = [
 ];
 
 // Whether the first vehicle may drive its list.
-fn drives(alloc: Global, model: &Model, routes: &Routes) -> Result<bool, NoMemory>
-    requires well_formed { IsWellFormed model.now }
-    requires lists { IsTrue (are_lists model.now routes.now.lists) }
+fn drives(alloc: Global, closed: Closed<'_>, routes: &Routes) -> Result<bool, NoMemory>
+    requires lists { IsTrue (are_lists closed.model.now routes.now.lists) }
 {
-    let answer = route_open(alloc, model, 0, routes.list(0))?;
+    let answer = route_open(alloc, closed.model, 0, routes.list(0))?;
     Ok(answer)
 }
 
 // Whether the answer to whether the one vehicle may drive a list is this one.
-fn answers(alloc: Global, model: &Model, list: &[u32], wanted: bool) -> Result<bool, NoMemory>
-    requires { IsWellFormed model.now }
-{
-    match routes_of(alloc, model, &[list])? {
-        Some(routes) => Ok(drives(alloc, model, &routes)? == wanted),
+fn answers(
+    alloc: Global,
+    closed: Closed<'_>,
+    list: &[u32],
+    wanted: bool,
+) -> Result<bool, NoMemory> {
+    match routes_of(alloc, closed.model, &[list])? {
+        Some(routes) => Ok(drives(alloc, closed, &routes)? == wanted),
         None => Ok(false),
     }
 }
@@ -69,7 +71,7 @@ fn driven(
     wanted: bool,
 ) -> Result<(), Fail> {
     let model = paired(alloc, policy)?;
-    row(name, answers(alloc, &model, list, wanted))
+    row(name, answers(alloc, Closed { model: &model }, list, wanted))
 }
 
 #[test]
@@ -81,12 +83,11 @@ fn lists_by_policy(rt: HostRuntime) -> Result<(), Fail> {
 }
 
 // Whether valid routes of the times cost what they should: the cumuls are 1, 9 and 14.
-fn costs(alloc: Global, model: &Model, routes: &Routes) -> Result<bool, NoMemory>
-    requires well_formed { IsWellFormed model.now }
-    requires valid { IsTrue (is_valid model.now routes.now.lists) }
+fn costs(alloc: Global, closed: Closed<'_>, routes: &Routes) -> Result<bool, NoMemory>
+    requires valid { IsTrue (is_valid closed.model.now routes.now.lists) }
 {
-    let total = total(alloc, model, routes)?;
-    let parts = cost(alloc, model, routes)?;
+    let total = total(alloc, closed.model, routes)?;
+    let parts = cost(alloc, closed.model, routes)?;
     let parts = [
         parts.arcs,
         parts.fixed,
@@ -99,11 +100,9 @@ fn costs(alloc: Global, model: &Model, routes: &Routes) -> Result<bool, NoMemory
 }
 
 // The same of the routes with node 1, which are valid.
-fn list_costs(alloc: Global, model: &Model) -> Result<bool, NoMemory>
-    requires { IsWellFormed model.now }
-{
-    match valid_routes(alloc, model, &[&[1]])? {
-        Some(routes) => costs(alloc, model, &routes),
+fn list_costs(alloc: Global, closed: Closed<'_>) -> Result<bool, NoMemory> {
+    match valid_routes(alloc, closed.model, &[&[1]])? {
+        Some(routes) => costs(alloc, closed, &routes),
         None => Ok(false),
     }
 }
@@ -111,5 +110,8 @@ fn list_costs(alloc: Global, model: &Model) -> Result<bool, NoMemory>
 #[test]
 fn parts_of_a_cost(rt: HostRuntime) -> Result<(), Fail> {
     let model = read_model_text(rt.alloc(), TIMED).ok_or("times")?;
-    row("the parts of a cost", list_costs(rt.alloc(), &model))
+    row(
+        "the parts of a cost",
+        list_costs(rt.alloc(), Closed { model: &model }),
+    )
 }

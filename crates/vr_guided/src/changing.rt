@@ -22,7 +22,7 @@ use crate::route_sums::AllRouteSums;
 use crate::two_vehicles::TwoVehicles;
 use crate::walks::Walk;
 use vr_balance::strip;
-use vr_model::Model;
+use vr_model::{Closed, Model};
 use vr_routes::{Change, Piece, Routes};
 
 // The node before a place of a list, `start` before the first.
@@ -53,52 +53,50 @@ fn node_from(list: &[u32], place: u32, end: u32) -> u32
 
 // Where a vehicle starts.
 #[inline]
-fn start_of(model: &Model, v: u32) -> u32
-    requires well_formed { IsWellFormed model.now }
-    requires vehicle { v < length model.now.vehicles }
-    ensures value { result ≡ (vehicle_at model.now v).start }
-    ensures below { result < model.now.nodes }
+fn start_of(closed: Closed<'_>, v: u32) -> u32
+    requires vehicle { v < length closed.model.now.vehicles }
+    ensures value { result ≡ (vehicle_at closed.entry.model.now v).start }
+    ensures below { result < closed.entry.model.now.nodes }
 {
-    model.vehicles.get(v as usize).start
+    closed.model.vehicles.get(v as usize).start
 }
 
 // Where a vehicle ends.
 #[inline]
-fn end_of(model: &Model, v: u32) -> u32
-    requires well_formed { IsWellFormed model.now }
-    requires vehicle { v < length model.now.vehicles }
-    ensures value { result ≡ (vehicle_at model.now v).end }
-    ensures below { result < model.now.nodes }
+fn end_of(closed: Closed<'_>, v: u32) -> u32
+    requires vehicle { v < length closed.model.now.vehicles }
+    ensures value { result ≡ (vehicle_at closed.entry.model.now v).end }
+    ensures below { result < closed.entry.model.now.nodes }
 {
-    model.vehicles.get(v as usize).end
+    closed.model.vehicles.get(v as usize).end
 }
 
 impl Penalties {
     /// What a change makes of the penalised arc costs, by the stretches that it changes. Takes no memory.
     pub fn change(
         &self,
-        model: &Model,
+        closed: Closed<'_>,
         routes: &Routes,
         route_sums: &AllRouteSums,
         change: &Change,
     ) -> i128
-        requires well_formed { IsWellFormed model.now }
-        requires valid { IsTrue (is_valid model.now routes.now.lists) }
+        requires valid { IsTrue (is_valid closed.model.now routes.now.lists) }
         requires parts { AreParts routes.now.lists change.now }
-        requires after { IsTrue (are_lists model.now (changed routes.now.lists change.now)) }
-        requires covers { self.now.nodes ≡ model.now.nodes }
+        requires after { IsTrue (are_lists closed.model.now (changed routes.now.lists change.now)) }
+        requires covers { self.now.nodes ≡ closed.model.now.nodes }
         requires few { AtMost 1000000000 (counted self.now) }
-        requires route_sums { AreAllRouteSums model.now (counted self.now) routes.now.lists route_sums.now }
+        requires route_sums { AreAllRouteSums closed.model.now (counted self.now) routes.now.lists route_sums.now }
         ensures bound { unsigned_abs result ≤ 2 ^ 100 }
-        ensures value { result ≡ penalised model.now (counted self.now) (changed routes.now.lists change.now)
-            -ℤ penalised model.now (counted self.now) routes.now.lists }
+        ensures value { result ≡ penalised closed.entry.model.now (counted self.now)
+            (changed routes.now.lists change.now)
+            -ℤ penalised closed.entry.model.now (counted self.now) routes.now.lists }
     {
         if !self.is_any() {
             return 0;
         }
         let parts = change.parts();
         let first = self.change_of_part(
-            model,
+            closed,
             routes,
             route_sums,
             change.vehicle(0),
@@ -109,7 +107,7 @@ impl Penalties {
         }
         first
             + self.change_of_part(
-                model,
+                closed,
                 routes,
                 route_sums,
                 change.vehicle(1),
@@ -121,29 +119,28 @@ impl Penalties {
     /// Takes no memory.
     pub fn saved_at_most(
         &self,
-        model: &Model,
+        closed: Closed<'_>,
         routes: &Routes,
         route_sums: &AllRouteSums,
         change: &Change,
     ) -> i128
-        requires well_formed { IsWellFormed model.now }
-        requires valid { IsTrue (is_valid model.now routes.now.lists) }
+        requires valid { IsTrue (is_valid closed.model.now routes.now.lists) }
         requires parts { AreParts routes.now.lists change.now }
-        requires after { IsTrue (are_lists model.now (changed routes.now.lists change.now)) }
-        requires covers { self.now.nodes ≡ model.now.nodes }
+        requires after { IsTrue (are_lists closed.model.now (changed routes.now.lists change.now)) }
+        requires covers { self.now.nodes ≡ closed.model.now.nodes }
         requires few { AtMost 1000000000 (counted self.now) }
-        requires route_sums { AreAllRouteSums model.now (counted self.now) routes.now.lists route_sums.now }
+        requires route_sums { AreAllRouteSums closed.model.now (counted self.now) routes.now.lists route_sums.now }
         ensures low { pos 0 ≤ℤ result }
         ensures high { result ≤ℤ pos (2 ^ 90) }
-        ensures most { (penalised model.now (counted self.now) routes.now.lists
-            -ℤ penalised model.now (counted self.now) (changed routes.now.lists change.now)) ≤ℤ result }
+        ensures most { (penalised closed.entry.model.now (counted self.now) routes.now.lists
+            -ℤ penalised closed.entry.model.now (counted self.now) (changed routes.now.lists change.now)) ≤ℤ result }
     {
         if !self.is_any() {
             return 0;
         }
         let parts = change.parts();
         let first = self.saved_by_part(
-            model,
+            closed,
             routes,
             route_sums,
             change.vehicle(0),
@@ -154,7 +151,7 @@ impl Penalties {
         }
         first
             + self.saved_by_part(
-                model,
+                closed,
                 routes,
                 route_sums,
                 change.vehicle(1),
@@ -167,103 +164,101 @@ impl Penalties {
     #[inline]
     pub fn saved_by_lists(
         &self,
-        model: &Model,
+        closed: Closed<'_>,
         routes: &Routes,
         route_sums: &AllRouteSums,
         named: TwoVehicles,
     ) -> i128
-        requires well_formed { IsWellFormed model.now }
-        requires valid { IsTrue (is_valid model.now routes.now.lists) }
+        requires valid { IsTrue (is_valid closed.model.now routes.now.lists) }
         requires v { named.v < length routes.now.lists }
         requires w { named.w < length routes.now.lists }
         requires few { AtMost 1000000000 (counted self.now) }
-        requires route_sums { AreAllRouteSums model.now (counted self.now) routes.now.lists route_sums.now }
+        requires route_sums { AreAllRouteSums closed.model.now (counted self.now) routes.now.lists route_sums.now }
         ensures low { pos 0 ≤ℤ result }
         ensures high { result ≤ℤ pos (2 ^ 90) }
-        ensures most { named_weight model.now (counted self.now) routes.now.lists named ≤ℤ result }
+        ensures most { named_weight closed.entry.model.now (counted self.now) routes.now.lists named ≤ℤ result }
     {
         if !self.is_any() {
             return 0;
         }
-        let first = self.saved_by_list(model, routes, route_sums, named.v);
+        let first = self.saved_by_list(closed, routes, route_sums, named.v);
         if named.w == named.v {
             return first;
         }
-        first + self.saved_by_list(model, routes, route_sums, named.w)
+        first + self.saved_by_list(closed, routes, route_sums, named.w)
     }
 
     // What the arcs of the list of a vehicle add at most.
     #[inline]
     fn saved_by_list(
         &self,
-        model: &Model,
+        closed: Closed<'_>,
         routes: &Routes,
         route_sums: &AllRouteSums,
         v: u32,
     ) -> i128
-        requires well_formed { IsWellFormed model.now }
-        requires valid { IsTrue (is_valid model.now routes.now.lists) }
+        requires valid { IsTrue (is_valid closed.model.now routes.now.lists) }
         requires vehicle { v < length routes.now.lists }
         requires few { AtMost 1000000000 (counted self.now) }
-        requires route_sums { AreAllRouteSums model.now (counted self.now) routes.now.lists route_sums.now }
+        requires route_sums { AreAllRouteSums closed.model.now (counted self.now) routes.now.lists route_sums.now }
         ensures low { pos 0 ≤ℤ result }
         ensures high { result ≤ℤ pos (1001 * 2 ^ 70) }
-        ensures most { route_weight model.now (counted self.now) v (route routes.now.lists v) ≤ℤ result }
+        ensures most { route_weight closed.entry.model.now (counted self.now) v (route routes.now.lists v) ≤ℤ result }
     {
-        self.old_stretch(model, routes, route_sums, v, 0, routes.len(v))
+        self.old_stretch(closed.model, routes, route_sums, v, 0, routes.len(v))
     }
 
     // What other pieces take of the penalised arc costs of a vehicle at most.
     #[inline]
     fn saved_by_part(
         &self,
-        model: &Model,
+        closed: Closed<'_>,
         routes: &Routes,
         route_sums: &AllRouteSums,
         v: u32,
         pieces: &[Piece],
     ) -> i128
-        requires well_formed { IsWellFormed model.now }
-        requires part { IsPart model.now routes.now.lists v pieces.now }
+        requires part { IsPart closed.model.now routes.now.lists v pieces.now }
         requires few { AtMost 1000000000 (counted self.now) }
-        requires route_sums { AreAllRouteSums model.now (counted self.now) routes.now.lists route_sums.now }
+        requires route_sums { AreAllRouteSums closed.model.now (counted self.now) routes.now.lists route_sums.now }
         ensures low { pos 0 ≤ℤ result }
         ensures high { result ≤ℤ pos (1001 * 2 ^ 70) }
-        ensures most { (route_weight model.now (counted self.now) v (route routes.now.lists v)
-            -ℤ route_weight model.now (counted self.now) v (joined routes.now.lists pieces.now)) ≤ℤ result }
+        ensures most { (route_weight closed.entry.model.now (counted self.now) v (route routes.now.lists v)
+            -ℤ route_weight closed.entry.model.now (counted self.now) v (joined routes.now.lists pieces.now)) ≤ℤ
+            result }
     {
         let ends = strip(routes, v, pieces);
-        self.old_stretch(model, routes, route_sums, v, ends.front, ends.behind)
+        self.old_stretch(closed.model, routes, route_sums, v, ends.front, ends.behind)
     }
 
     // What other pieces make of the penalised arc costs of a vehicle.
     fn change_of_part(
         &self,
-        model: &Model,
+        closed: Closed<'_>,
         routes: &Routes,
         route_sums: &AllRouteSums,
         v: u32,
         pieces: &[Piece],
     ) -> i128
-        requires well_formed { IsWellFormed model.now }
-        requires part { IsPart model.now routes.now.lists v pieces.now }
-        requires covers { self.now.nodes ≡ model.now.nodes }
+        requires part { IsPart closed.model.now routes.now.lists v pieces.now }
+        requires covers { self.now.nodes ≡ closed.model.now.nodes }
         requires few { AtMost 1000000000 (counted self.now) }
-        requires route_sums { AreAllRouteSums model.now (counted self.now) routes.now.lists route_sums.now }
+        requires route_sums { AreAllRouteSums closed.model.now (counted self.now) routes.now.lists route_sums.now }
         ensures low { negsuc (2 ^ 90) ≤ℤ result }
         ensures high { result ≤ℤ pos (2 ^ 90) }
-        ensures value { result ≡ route_weight model.now (counted self.now) v (joined routes.now.lists pieces.now)
-            -ℤ route_weight model.now (counted self.now) v (route routes.now.lists v) }
+        ensures value { result ≡ route_weight closed.entry.model.now (counted self.now) v
+            (joined routes.now.lists pieces.now)
+            -ℤ route_weight closed.entry.model.now (counted self.now) v (route routes.now.lists v) }
     {
         let list = routes.list(v);
         let ends = strip(routes, v, pieces);
-        let start = node_before(list, ends.front, start_of(model, v));
-        let next = node_from(list, ends.behind, end_of(model, v));
-        let new = self.new_stretch(model, routes, route_sums, v, start, ends.middle, next);
-        let old = self.old_stretch(model, routes, route_sums, v, ends.front, ends.behind);
+        let start = node_before(list, ends.front, start_of(closed, v));
+        let next = node_from(list, ends.behind, end_of(closed, v));
+        let new = self.new_stretch(closed, routes, route_sums, v, start, ends.middle, next);
+        let old = self.old_stretch(closed.model, routes, route_sums, v, ends.front, ends.behind);
         let len = ends.front + new.nodes + (list.len() as u32 - ends.behind);
-        let before = old - self.unused(model, v, list.len() as u32);
-        let after = new.total - self.unused(model, v, len);
+        let before = old - self.unused(closed, v, list.len() as u32);
+        let after = new.total - self.unused(closed, v, len);
         after - before
     }
 
@@ -302,7 +297,7 @@ impl Penalties {
     // What the arcs of a vehicle add from a node through the nodes of pieces to a last one.
     fn new_stretch(
         &self,
-        model: &Model,
+        closed: Closed<'_>,
         routes: &Routes,
         route_sums: &AllRouteSums,
         v: u32,
@@ -310,26 +305,26 @@ impl Penalties {
         pieces: &[Piece],
         next: u32,
     ) -> Stretch
-        requires well_formed { IsWellFormed model.now }
-        requires vehicle { v < length model.now.vehicles }
-        requires start { start < model.now.nodes }
-        requires next { next < model.now.nodes }
+        requires vehicle { v < length closed.model.now.vehicles }
+        requires start { start < closed.model.now.nodes }
+        requires next { next < closed.model.now.nodes }
         requires within { All (IsWithin routes.now.lists) pieces.now }
-        requires nodes { All (λ node. node < model.now.nodes) (joined routes.now.lists pieces.now) }
+        requires nodes { All (λ node. node < closed.model.now.nodes) (joined routes.now.lists pieces.now) }
         requires short { length (joined routes.now.lists pieces.now) ≤ 1000 }
-        requires covers { self.now.nodes ≡ model.now.nodes }
+        requires covers { self.now.nodes ≡ closed.model.now.nodes }
         requires few { AtMost 1000000000 (counted self.now) }
-        requires route_sums { AreAllRouteSums model.now (counted self.now) routes.now.lists route_sums.now }
+        requires route_sums { AreAllRouteSums closed.model.now (counted self.now) routes.now.lists route_sums.now }
         ensures low { pos 0 ≤ℤ result.total }
         ensures high { result.total ≤ℤ pos (1001 * 2 ^ 70) }
         ensures nodes { result.nodes ≡ length (joined routes.now.lists pieces.now) }
         ensures total { result.total
-            ≡ stretch_weight model.now (counted self.now) v start (joined routes.now.lists pieces.now) next }
+            ≡ stretch_weight closed.entry.model.now (counted self.now) v start
+            (joined routes.now.lists pieces.now) next }
     {
         let mut walk = Walk::begin(start);
-        self.along_pieces(model, routes, route_sums, v, &mut walk, pieces);
+        self.along_pieces(closed, routes, route_sums, v, &mut walk, pieces);
         let nodes = walk.arcs;
-        self.step(model, v, &mut walk, next);
+        self.step(closed, v, &mut walk, next);
         Stretch {
             nodes,
             total: walk.total,
@@ -338,20 +333,19 @@ impl Penalties {
 
     // What the arc from the start of a vehicle to its end adds where it has `len = 0` visits: it takes no arc then.
     #[inline]
-    fn unused(&self, model: &Model, v: u32, len: u32) -> i128
-        requires well_formed { IsWellFormed model.now }
-        requires vehicle { v < length model.now.vehicles }
-        requires covers { self.now.nodes ≡ model.now.nodes }
+    fn unused(&self, closed: Closed<'_>, v: u32, len: u32) -> i128
+        requires vehicle { v < length closed.model.now.vehicles }
+        requires covers { self.now.nodes ≡ closed.model.now.nodes }
         requires few { AtMost 1000000000 (counted self.now) }
         ensures low { pos 0 ≤ℤ result }
         ensures high { result ≤ℤ pos (2 ^ 70) }
-        ensures value { result ≡ unused_weight model.now (counted self.now) v len }
+        ensures value { result ≡ unused_weight closed.entry.model.now (counted self.now) v len }
     {
         if len > 0 {
             return 0;
         }
-        let vehicle = model.vehicles.get(v as usize);
-        self.weight(model, v, vehicle.start, vehicle.end)
+        let vehicle = closed.model.vehicles.get(v as usize);
+        self.weight(closed, v, vehicle.start, vehicle.end)
     }
 }
 

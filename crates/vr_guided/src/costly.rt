@@ -6,40 +6,37 @@ ghost use Rattle.vr_guided.specs.Guides.{is_costly};
 ghost use Rattle.vr_model.specs.search.GuidedSearches.{has_costly_arc};
 ghost use Rattle.vr_model.specs.routes.Routes.{arcs_of};
 ghost use Rattle.vr_model.specs.routes.Rules.{is_valid};
-ghost use Rattle.vr_model.specs.tables.WellFormed.{IsWellFormed};
 
-use vr_model::Model;
+use vr_model::Closed;
 use vr_routes::Routes;
 
 // Whether some arc of a vehicle with a list has a cost above 0.
-fn is_route_costly(model: &Model, vehicle: u32, list: &[u32]) -> bool
-    requires well_formed { IsWellFormed model.now }
-    requires vehicle { vehicle < length model.now.vehicles }
-    requires nodes { All (λ node. node < model.now.nodes) list.now }
-    ensures { result ≡ list_any (is_costly model.now) (arcs_of model.now vehicle list.now) }
+fn is_route_costly(closed: Closed<'_>, vehicle: u32, list: &[u32]) -> bool
+    requires vehicle { vehicle < length closed.model.now.vehicles }
+    requires nodes { All (λ node. node < closed.model.now.nodes) list.now }
+    ensures { result ≡ list_any (is_costly closed.entry.model.now) (arcs_of closed.entry.model.now vehicle list.now) }
 {
     if list.is_empty() {
         return false;
     }
-    let ends = model.vehicles.get(vehicle as usize);
+    let ends = closed.model.vehicles.get(vehicle as usize);
     let mut at = ends.start;
     for &node in list {
-        if model.arc_cost(vehicle, at, node) > 0 {
+        if closed.model.arc_cost(vehicle, at, node) > 0 {
             return true;
         }
         at = node;
     }
-    model.arc_cost(vehicle, at, ends.end) > 0
+    closed.model.arc_cost(vehicle, at, ends.end) > 0
 }
 
 /// Whether some used arc has a cost above 0. Takes no memory.
-pub fn has_costly_arc(model: &Model, routes: &Routes) -> bool
-    requires well_formed { IsWellFormed model.now }
-    requires valid { IsTrue (is_valid model.now routes.now.lists) }
-    ensures { result ≡ has_costly_arc model.now routes.now.lists }
+pub fn has_costly_arc(closed: Closed<'_>, routes: &Routes) -> bool
+    requires valid { IsTrue (is_valid closed.model.now routes.now.lists) }
+    ensures { result ≡ has_costly_arc closed.entry.model.now routes.now.lists }
 {
-    for vehicle in 0..model.vehicles.len() as u32 {
-        if is_route_costly(model, vehicle, routes.list(vehicle)) {
+    for vehicle in 0..closed.model.vehicles.len() as u32 {
+        if is_route_costly(closed, vehicle, routes.list(vehicle)) {
             return true;
         }
     }

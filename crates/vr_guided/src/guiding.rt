@@ -13,7 +13,7 @@ use crate::penalties::Penalties;
 use crate::route_sums::AllRouteSums;
 use crate::two_vehicles::vehicles_of;
 use vr_descent::Accept;
-use vr_model::{Lambda, Model, Move};
+use vr_model::{Closed, Lambda, Model, Move};
 use vr_routes::{Change, Routes};
 
 /// Takes each move that makes the augmented cost less.
@@ -42,9 +42,12 @@ impl<'m> Accept for Guiding<'m> {
         let Some(named) = vehicles_of(mv) else {
             return true;
         };
-        let saved = self
-            .penalties
-            .saved_by_lists(self.model, routes, self.route_sums, named);
+        let saved = self.penalties.saved_by_lists(
+            Closed { model: self.model },
+            routes,
+            self.route_sums,
+            named,
+        );
         self.gains(least, -saved)
     }
 
@@ -60,23 +63,33 @@ impl<'m> Accept for Guiding<'m> {
         if named.w >= vehicles {
             return None;
         }
-        let saved = self
-            .penalties
-            .saved_by_lists(self.model, routes, self.route_sums, named);
+        let saved = self.penalties.saved_by_lists(
+            Closed { model: self.model },
+            routes,
+            self.route_sums,
+            named,
+        );
         self.enough_against(saved)
     }
 
     fn may_accept(&self, routes: &Routes, _mv: Move, change: &Change, least: i64) -> bool {
-        let saved = self
-            .penalties
-            .saved_at_most(self.model, routes, self.route_sums, change);
+        let saved = self.penalties.saved_at_most(
+            Closed { model: self.model },
+            routes,
+            self.route_sums,
+            change,
+        );
         if !self.gains(least, -saved) {
             return false;
         }
         self.gains(
             least,
-            self.penalties
-                .change(self.model, routes, self.route_sums, change),
+            self.penalties.change(
+                Closed { model: self.model },
+                routes,
+                self.route_sums,
+                change,
+            ),
         )
     }
 }
@@ -124,8 +137,12 @@ impl<'m> Guiding<'m> {
     {
         let mut change = Change::blank();
         Change::write(self.model, routes, mv, &mut change);
-        self.penalties
-            .change(self.model, routes, self.route_sums, &change)
+        self.penalties.change(
+            Closed { model: self.model },
+            routes,
+            self.route_sums,
+            &change,
+        )
     }
 
     // Whether this difference in cost, with this change of the penalised arc costs, makes the augmented cost less.

@@ -8,175 +8,178 @@ ghost use Rattle.vr_known.specs.Blocks.{AreSettled, Learns, is_known};
 ghost use Rattle.vr_model.specs.search.GuidedSearches.{has_costly_arc, raised, Penalties as Raised};
 ghost use Rattle.vr_model.specs.routes.Routes.{arcs_of, route, used_arcs};
 ghost use Rattle.vr_model.specs.routes.Rules.{is_valid};
-ghost use Rattle.vr_model.specs.tables.WellFormed.{IsWellFormed};
 
 use crate::penalties::Penalties;
 use crate::worths::Worth;
 use vr_known::Known;
-use vr_model::Model;
+use vr_model::Closed;
 use vr_routes::Routes;
 
 impl Penalties {
     /// One more on each used arc of the greatest worth: its cost over one more than its penalty. No move is known any
     /// more that names a vehicle whose arcs were raised, or of a pair that such a vehicle serves. Takes no memory.
-    pub fn raise(&mut self, model: &Model, routes: &Routes, known: &mut Known)
-        requires well_formed { IsWellFormed model.now }
-        requires valid { IsTrue (is_valid model.now routes.now.lists) }
-        requires costly { IsTrue (has_costly_arc model.now routes.now.lists) }
-        requires covers { self.old.nodes ≡ model.now.nodes }
+    pub fn raise(&mut self, closed: Closed<'_>, routes: &Routes, known: &mut Known)
+        requires valid { IsTrue (is_valid closed.model.now routes.now.lists) }
+        requires costly { IsTrue (has_costly_arc closed.model.now routes.now.lists) }
+        requires covers { self.old.nodes ≡ closed.model.now.nodes }
         requires few { AtMost 1000000000 (counted self.old) }
         ensures nodes { self.new.nodes ≡ self.old.nodes }
-        ensures raised { counted self.new ≡ raised model.now (counted self.old) routes.now.lists }
+        ensures raised { counted self.new ≡ raised closed.entry.model.now (counted self.old) routes.now.lists }
         ensures fewer { (k u w : ℕ) → IsTrue (is_known known.new k u w) → IsTrue (is_known known.old k u w) }
         ensures spares { SparesKnown routes.now.lists (counted self.old) (counted self.new) known.new }
-        ensures settled { AreSettled model.now routes.now.lists known.new }
+        ensures settled { AreSettled closed.entry.model.now routes.now.lists known.new }
         ensures learns { Learns known.new → Learns known.old }
     {
-        let greatest = self.greatest(model, routes);
-        for vehicle in 0..model.vehicles.len() as u32 {
-            self.raise_vehicle(model, vehicle, routes.list(vehicle), &greatest, known);
+        let greatest = self.greatest(closed, routes);
+        for vehicle in 0..closed.model.vehicles.len() as u32 {
+            self.raise_vehicle(closed, vehicle, routes.list(vehicle), &greatest, known);
         }
-        known.settle(model, routes);
+        known.settle(closed.model, routes);
     }
 
     // One more on each arc of a vehicle that is worth as much as the greatest. Where there is one, no move is known any
     // more that names the vehicle.
     fn raise_vehicle(
         &mut self,
-        model: &Model,
+        closed: Closed<'_>,
         vehicle: u32,
         list: &[u32],
         greatest: &Worth,
         known: &mut Known,
     )
-        requires well_formed { IsWellFormed model.now }
-        requires vehicle { vehicle < length model.now.vehicles }
-        requires nodes { All (λ node. node < model.now.nodes) list.now }
+        requires vehicle { vehicle < length closed.model.now.vehicles }
+        requires nodes { All (λ node. node < closed.model.now.nodes) list.now }
         requires short { length list.now ≤ 1000 }
-        requires covers { self.old.nodes ≡ model.now.nodes }
+        requires covers { self.old.nodes ≡ closed.model.now.nodes }
         requires few { AtMost (1000000000 + 1001 * vehicle) (counted self.old) }
         ensures covers { self.new.nodes ≡ self.old.nodes }
         ensures few { AtMost (1000000000 + 1001 * (vehicle + 1)) (counted self.new) }
         ensures raised { counted self.new
-            ≡ raised_in_turn model.now greatest.now (counted self.old) (arcs_of model.now vehicle list.now) }
+            ≡ raised_in_turn closed.entry.model.now greatest.now (counted self.old)
+            (arcs_of closed.entry.model.now vehicle list.now) }
         ensures fewer { (k u w : ℕ) → IsTrue (is_known known.new k u w) → IsTrue (is_known known.old k u w) }
         ensures spares { (lists : List (List ℕ)) (first : Raised) → list.now ≡ route lists vehicle
             → SparesKnown lists first (counted self.old) known.old
             → SparesKnown lists first (counted self.new) known.new }
         ensures learns { Learns known.new → Learns known.old }
     {
-        if self.raise_route(model, vehicle, list, greatest) {
+        if self.raise_route(closed, vehicle, list, greatest) {
             known.forget(vehicle);
         }
     }
 
     // The greatest worth of the used arcs.
-    fn greatest(&self, model: &Model, routes: &Routes) -> Worth
-        requires well_formed { IsWellFormed model.now }
-        requires valid { IsTrue (is_valid model.now routes.now.lists) }
-        requires covers { self.now.nodes ≡ model.now.nodes }
+    fn greatest(&self, closed: Closed<'_>, routes: &Routes) -> Worth
+        requires valid { IsTrue (is_valid closed.model.now routes.now.lists) }
+        requires covers { self.now.nodes ≡ closed.model.now.nodes }
         ensures { result
-            ≡ greatest (worth_of model.now (counted self.now)) worthless (used_arcs model.now routes.now.lists) }
+            ≡ greatest (worth_of closed.entry.model.now (counted self.now)) worthless
+            (used_arcs closed.entry.model.now routes.now.lists) }
     {
         let mut best = Worth {
             cost: 0,
             penalty: 0,
         };
-        for vehicle in 0..model.vehicles.len() as u32 {
-            best = self.greatest_in(model, vehicle, routes.list(vehicle), best);
+        for vehicle in 0..closed.model.vehicles.len() as u32 {
+            best = self.greatest_in(closed, vehicle, routes.list(vehicle), best);
         }
         best
     }
 
     // The greatest worth so far and of the arcs of a vehicle.
-    fn greatest_in(&self, model: &Model, vehicle: u32, list: &[u32], so_far: Worth) -> Worth
-        requires well_formed { IsWellFormed model.now }
-        requires vehicle { vehicle < length model.now.vehicles }
-        requires nodes { All (λ node. node < model.now.nodes) list.now }
-        requires covers { self.now.nodes ≡ model.now.nodes }
+    fn greatest_in(&self, closed: Closed<'_>, vehicle: u32, list: &[u32], so_far: Worth) -> Worth
+        requires vehicle { vehicle < length closed.model.now.vehicles }
+        requires nodes { All (λ node. node < closed.model.now.nodes) list.now }
+        requires covers { self.now.nodes ≡ closed.model.now.nodes }
         ensures { result
-            ≡ greatest (worth_of model.now (counted self.now)) so_far (arcs_of model.now vehicle list.now) }
+            ≡ greatest (worth_of closed.entry.model.now (counted self.now)) so_far
+            (arcs_of closed.entry.model.now vehicle list.now) }
     {
         if list.is_empty() {
             return so_far;
         }
-        let ends = model.vehicles.get(vehicle as usize);
+        let ends = closed.model.vehicles.get(vehicle as usize);
         let mut best = so_far;
         let mut at = ends.start;
         for &node in list {
-            best = best.or_greater(self.worth(model, vehicle, at, node));
+            best = best.or_greater(self.worth(closed, vehicle, at, node));
             at = node;
         }
-        best.or_greater(self.worth(model, vehicle, at, ends.end))
+        best.or_greater(self.worth(closed, vehicle, at, ends.end))
     }
 
     // What an arc is worth.
     #[inline]
-    fn worth(&self, model: &Model, vehicle: u32, origin: u32, target: u32) -> Worth
-        requires well_formed { IsWellFormed model.now }
-        requires vehicle { vehicle < length model.now.vehicles }
-        requires origin { origin < model.now.nodes }
-        requires target { target < model.now.nodes }
-        requires covers { self.now.nodes ≡ model.now.nodes }
+    fn worth(&self, closed: Closed<'_>, vehicle: u32, origin: u32, target: u32) -> Worth
+        requires vehicle { vehicle < length closed.model.now.vehicles }
+        requires origin { origin < closed.model.now.nodes }
+        requires target { target < closed.model.now.nodes }
+        requires covers { self.now.nodes ≡ closed.model.now.nodes }
         ensures { result
-            ≡ worth_of model.now (counted self.now) (record { vehicle = vehicle; origin = origin; target = target }) }
+            ≡ worth_of closed.entry.model.now (counted self.now)
+            (record { vehicle = vehicle; origin = origin; target = target }) }
     {
         Worth {
-            cost: model.arc_cost(vehicle, origin, target),
+            cost: closed.model.arc_cost(vehicle, origin, target),
             penalty: self.at(origin, target),
         }
     }
 
     // One more on each arc of a vehicle that is worth as much as the greatest; whether there was one.
-    fn raise_route(&mut self, model: &Model, vehicle: u32, list: &[u32], greatest: &Worth) -> bool
-        requires well_formed { IsWellFormed model.now }
-        requires vehicle { vehicle < length model.now.vehicles }
-        requires nodes { All (λ node. node < model.now.nodes) list.now }
+    fn raise_route(
+        &mut self,
+        closed: Closed<'_>,
+        vehicle: u32,
+        list: &[u32],
+        greatest: &Worth,
+    ) -> bool
+        requires vehicle { vehicle < length closed.model.now.vehicles }
+        requires nodes { All (λ node. node < closed.model.now.nodes) list.now }
         requires short { length list.now ≤ 1000 }
-        requires covers { self.old.nodes ≡ model.now.nodes }
+        requires covers { self.old.nodes ≡ closed.model.now.nodes }
         requires few { AtMost (1000000000 + 1001 * vehicle) (counted self.old) }
         ensures covers { self.new.nodes ≡ self.old.nodes }
         ensures few { AtMost (1000000000 + 1001 * (vehicle + 1)) (counted self.new) }
         ensures raised { counted self.new
-            ≡ raised_in_turn model.now greatest.now (counted self.old) (arcs_of model.now vehicle list.now) }
+            ≡ raised_in_turn closed.entry.model.now greatest.now (counted self.old)
+            (arcs_of closed.entry.model.now vehicle list.now) }
         ensures same { result ≡ false → counted self.new ≡ counted self.old }
     {
         if list.is_empty() {
             return false;
         }
-        let ends = model.vehicles.get(vehicle as usize);
+        let ends = closed.model.vehicles.get(vehicle as usize);
         let mut at = ends.start;
         let mut any = false;
         for &node in list {
-            any |= self.raise_arc(model, vehicle, at, node, greatest);
+            any |= self.raise_arc(closed, vehicle, at, node, greatest);
             at = node;
         }
-        any | self.raise_arc(model, vehicle, at, ends.end, greatest)
+        any | self.raise_arc(closed, vehicle, at, ends.end, greatest)
     }
 
     // One more on an arc if it is worth as much as the greatest; whether it is.
     #[inline]
     fn raise_arc(
         &mut self,
-        model: &Model,
+        closed: Closed<'_>,
         vehicle: u32,
         origin: u32,
         target: u32,
         greatest: &Worth,
     ) -> bool
-        requires well_formed { IsWellFormed model.now }
-        requires vehicle { vehicle < length model.now.vehicles }
-        requires origin { origin < model.now.nodes }
-        requires target { target < model.now.nodes }
-        requires covers { self.old.nodes ≡ model.now.nodes }
+        requires vehicle { vehicle < length closed.model.now.vehicles }
+        requires origin { origin < closed.model.now.nodes }
+        requires target { target < closed.model.now.nodes }
+        requires covers { self.old.nodes ≡ closed.model.now.nodes }
         requires room { AtMost 2000000000 (counted self.old) }
         ensures covers { self.new.nodes ≡ self.old.nodes }
         ensures raised { counted self.new
-            ≡ raised_once model.now greatest.now (counted self.old)
+            ≡ raised_once closed.entry.model.now greatest.now (counted self.old)
             (record { vehicle = vehicle; origin = origin; target = target }) }
         ensures same { result ≡ false → counted self.new ≡ counted self.old }
     {
-        let worth = self.worth(model, vehicle, origin, target);
+        let worth = self.worth(closed, vehicle, origin, target);
         if greatest.is_no_more(&worth) {
             self.increase(origin, target);
             return true;

@@ -6,14 +6,13 @@ ghost use Rattle.vr_guided.specs.RouteSums.{AreAllRouteSums, AreRouteSums, IsWri
 ghost use Rattle.vr_model.specs.moves.Moves.{apply};
 ghost use Rattle.vr_model.specs.routes.Routes.{route};
 ghost use Rattle.vr_model.specs.routes.Rules.{is_valid};
-ghost use Rattle.vr_model.specs.tables.WellFormed.{IsWellFormed};
 
 use crate::penalties::Penalties;
 use crate::sums::Sums;
 use crate::two_vehicles::vehicles_of;
 use std::alloc::Global;
 use std::marker::Model;
-use vr_model::{Model as RoutingModel, Move, NoMemory};
+use vr_model::{Closed, Model as RoutingModel, Move, NoMemory};
 use vr_routes::Routes;
 
 /// What the arcs of one vehicle add up to before each stop, taken on and back.
@@ -33,17 +32,16 @@ impl RouteSums {
     }
 
     // Becomes that of vehicle `v` with a list.
-    fn write(&mut self, model: &RoutingModel, penalties: &Penalties, v: u32, list: &[u32])
-        requires well_formed { IsWellFormed model.now }
-        requires vehicle { v < length model.now.vehicles }
-        requires nodes { All (λ node. node < model.now.nodes) list.now }
+    fn write(&mut self, closed: Closed<'_>, penalties: &Penalties, v: u32, list: &[u32])
+        requires vehicle { v < length closed.model.now.vehicles }
+        requires nodes { All (λ node. node < closed.model.now.nodes) list.now }
         requires short { length list.now ≤ 1000 }
-        requires covers { penalties.now.nodes ≡ model.now.nodes }
+        requires covers { penalties.now.nodes ≡ closed.model.now.nodes }
         requires few { AtMost 1000000000 (counted penalties.now) }
-        ensures { AreRouteSums model.now (counted penalties.now) v list.now self.new }
+        ensures { AreRouteSums closed.entry.model.now (counted penalties.now) v list.now self.new }
     {
-        self.on.write(model, penalties, v, list, false);
-        self.back.write(model, penalties, v, list, true);
+        self.on.write(closed, penalties, v, list, false);
+        self.back.write(closed, penalties, v, list, true);
     }
 }
 
@@ -75,54 +73,52 @@ impl AllRouteSums {
     }
 
     /// Becomes those of the lists of routes. Takes no memory.
-    pub fn write(&mut self, model: &RoutingModel, penalties: &Penalties, routes: &Routes)
-        requires well_formed { IsWellFormed model.now }
-        requires valid { IsTrue (is_valid model.now routes.now.lists) }
-        requires many { length self.old ≡ length model.now.vehicles }
-        requires covers { penalties.now.nodes ≡ model.now.nodes }
+    pub fn write(&mut self, closed: Closed<'_>, penalties: &Penalties, routes: &Routes)
+        requires valid { IsTrue (is_valid closed.model.now routes.now.lists) }
+        requires many { length self.old ≡ length closed.model.now.vehicles }
+        requires covers { penalties.now.nodes ≡ closed.model.now.nodes }
         requires few { AtMost 1000000000 (counted penalties.now) }
-        ensures { AreAllRouteSums model.now (counted penalties.now) routes.now.lists self.new }
+        ensures { AreAllRouteSums closed.entry.model.now (counted penalties.now) routes.now.lists self.new }
     {
-        for v in 0..model.vehicles.len() as u32 {
-            self.vehicles[v as usize].write(model, penalties, v, routes.list(v));
+        for v in 0..closed.model.vehicles.len() as u32 {
+            self.vehicles[v as usize].write(closed, penalties, v, routes.list(v));
         }
     }
 
     // Writes the sums of one vehicle with its list, where there is such a vehicle.
-    fn write_of(&mut self, model: &RoutingModel, penalties: &Penalties, routes: &Routes, v: u32)
-        requires well_formed { IsWellFormed model.now }
-        requires valid { IsTrue (is_valid model.now routes.now.lists) }
-        requires many { length self.old ≡ length model.now.vehicles }
-        requires covers { penalties.now.nodes ≡ model.now.nodes }
+    fn write_of(&mut self, closed: Closed<'_>, penalties: &Penalties, routes: &Routes, v: u32)
+        requires valid { IsTrue (is_valid closed.model.now routes.now.lists) }
+        requires many { length self.old ≡ length closed.model.now.vehicles }
+        requires covers { penalties.now.nodes ≡ closed.model.now.nodes }
         requires few { AtMost 1000000000 (counted penalties.now) }
-        ensures { IsWritten model.now (counted penalties.now) routes.now.lists v self.old self.new }
+        ensures { IsWritten closed.entry.model.now (counted penalties.now) routes.now.lists v self.old self.new }
     {
-        if (v as usize) < model.vehicles.len() {
-            self.vehicles[v as usize].write(model, penalties, v, routes.list(v));
+        if (v as usize) < closed.model.vehicles.len() {
+            self.vehicles[v as usize].write(closed, penalties, v, routes.list(v));
         }
     }
 
     /// Where these are the sums of the lists before a move, they become those of `routes`, which has made it. Takes no
     /// memory.
-    pub fn follow(&mut self, model: &RoutingModel, penalties: &Penalties, routes: &Routes, mv: Move)
-        requires well_formed { IsWellFormed model.now }
-        requires valid { IsTrue (is_valid model.now routes.now.lists) }
-        requires many { length self.old ≡ length model.now.vehicles }
-        requires covers { penalties.now.nodes ≡ model.now.nodes }
+    pub fn follow(&mut self, closed: Closed<'_>, penalties: &Penalties, routes: &Routes, mv: Move)
+        requires valid { IsTrue (is_valid closed.model.now routes.now.lists) }
+        requires many { length self.old ≡ length closed.model.now.vehicles }
+        requires covers { penalties.now.nodes ≡ closed.model.now.nodes }
         requires few { AtMost 1000000000 (counted penalties.now) }
-        ensures { (lists : List (List ℕ)) → AreAllRouteSums model.now (counted penalties.now) lists self.old
-            → routes.now.lists ≡ apply model.now lists mv
-            → AreAllRouteSums model.now (counted penalties.now) routes.now.lists self.new }
+        ensures { (lists : List (List ℕ))
+            → AreAllRouteSums closed.entry.model.now (counted penalties.now) lists self.old
+            → routes.now.lists ≡ apply closed.entry.model.now lists mv
+            → AreAllRouteSums closed.entry.model.now (counted penalties.now) routes.now.lists self.new }
     {
         let Some(named) = vehicles_of(mv) else {
-            self.write(model, penalties, routes);
+            self.write(closed, penalties, routes);
             return;
         };
-        self.write_of(model, penalties, routes, named.v);
+        self.write_of(closed, penalties, routes, named.v);
         if named.w == named.v {
             return;
         }
-        self.write_of(model, penalties, routes, named.w);
+        self.write_of(closed, penalties, routes, named.w);
     }
 
     /// The sums of a vehicle.

@@ -18,7 +18,7 @@ use std::alloc::Global;
 use std::sync::ledger::Ledger;
 use vr_descent::{Progress, ScanEnd};
 use vr_known::Known;
-use vr_model::{End, Kind, Lambda, Limit, Model, NoMemory, Report, Steps};
+use vr_model::{Closed, End, Kind, Lambda, Limit, Model, NoMemory, Report, Steps};
 use vr_routes::{Judge, Routes};
 use vr_watch::{Watch, note_all};
 
@@ -91,15 +91,16 @@ pub fn guide<J: Judge, L: Ledger>(
     ensures looked { IfOk result (λ answer. J.looked judge.new ≤ J.looked judge.old + 3 * answer.report.tries) }
     ensures looked_at_most { OnErr result (J.looked judge.new ≤ J.looked judge.old + 3 * limit.tries) }
 {
+    let closed = Closed { model };
     let at = Progress {
         used: 0,
         found: 1,
         cost: first_cost,
     };
     note_all(watch, at.event(Kind::First))?;
-    let mut state = State::open(alloc, model, routes, at)?;
+    let mut state = State::open(alloc, closed, routes, at)?;
     let end = improve(
-        model, judge, routes, limit, lambda, &mut state, watch, steps,
+        closed, judge, routes, limit, lambda, &mut state, watch, steps,
     )?;
     Ok(Guided {
         report: state.at.report(end),
@@ -119,12 +120,16 @@ struct State {
 impl State {
     // At the beginning these routes are the best, and no arc was penalised. The routes are copied last, so that where
     // memory is wanting they are not to be let go.
-    fn open(alloc: Global, model: &Model, routes: &Routes, at: Progress) -> Result<State, NoMemory>
-        requires { IsWellFormed model.now }
-        ensures { IfOk result (IsBegun model.now routes.now at) }
+    fn open(
+        alloc: Global,
+        closed: Closed<'_>,
+        routes: &Routes,
+        at: Progress,
+    ) -> Result<State, NoMemory>
+        ensures { IfOk result (IsBegun closed.entry.model.now routes.now at) }
     {
-        let penalties = Penalties::new(alloc, model.nodes)?;
-        let route_sums = AllRouteSums::new(alloc, model)?;
+        let penalties = Penalties::new(alloc, closed.model.nodes)?;
+        let route_sums = AllRouteSums::new(alloc, closed.model)?;
         let best = Incumbent {
             routes: routes.copy(alloc)?,
             cost: at.cost,
@@ -140,7 +145,7 @@ impl State {
 
 // Searches on from where it stands, and says why it ended.
 fn improve<J: Judge, L: Ledger>(
-    model: &Model,
+    closed: Closed<'_>,
     judge: &mut J,
     routes: &mut Routes,
     limit: Limit,
@@ -149,52 +154,60 @@ fn improve<J: Judge, L: Ledger>(
     watch: &mut Vec<Box<dyn Watch>>,
     steps: &mut Steps<L>,
 ) -> Result<End, NoMemory>
-    requires well_formed { IsWellFormed model.now }
-    requires judge_model { J.model judge.old ≡ model.now }
+    requires judge_model { J.model judge.old ≡ closed.model.now }
     requires limits { AreLimits limit lambda }
-    requires stands { Stands model.now limit (J.committed judge.old) routes.old state.old }
+    requires stands { Stands closed.model.now limit (J.committed judge.old) routes.old state.old }
     ensures outcome { IfOk result (λ stop. outcome_of routes.new.lists state.new stop
-        (from_state model.now limit lambda routes.old.lists state.old).events
-        ≡ from_state model.now limit lambda routes.old.lists state.old) }
+        (from_state closed.entry.model.now limit lambda routes.old.lists state.old).events
+        ≡ from_state closed.entry.model.now limit lambda routes.old.lists state.old) }
     ensures told { OnOk result (Told (λ w later. after w later) watch.old.items watch.new.items
-        (from_state model.now limit lambda routes.old.lists state.old).events) }
+        (from_state closed.entry.model.now limit lambda routes.old.lists state.old).events) }
     ensures asked { OnOk result (J.asked judge.new + state.old.at.used ≤ J.asked judge.old + state.new.at.used) }
     ensures looked { OnOk result (J.looked judge.new + 3 * state.old.at.used
         ≤ J.looked judge.old + 3 * state.new.at.used) }
-    ensures stands { OnOk result (Stands model.now limit (J.committed judge.new) routes.new state.new) }
+    ensures stands { OnOk result (Stands closed.entry.model.now limit (J.committed judge.new) routes.new state.new) }
     ensures no_dearer { OnOk result (state.new.best.cost ≤ℤ state.old.best.cost) }
 
-    ensures judge_model { J.model judge.new ≡ model.now }
-    ensures holds { HoldSame model.now (J.committed judge.new) routes.new }
+    ensures judge_model { J.model judge.new ≡ closed.entry.model.now }
+    ensures holds { HoldSame closed.entry.model.now (J.committed judge.new) routes.new }
     ensures told_in_part { OnErr result (ToldInPart (λ w later. after w later) watch.old.items watch.new.items
-        (from_state model.now limit lambda routes.old.lists state.old).events) }
+        (from_state closed.entry.model.now limit lambda routes.old.lists state.old).events) }
     ensures asked_at_most { OnErr result (J.asked judge.new + state.old.at.used ≤ J.asked judge.old + limit.tries) }
     ensures looked_at_most { OnErr result (J.looked judge.new + 3 * state.old.at.used
         ≤ J.looked judge.old + 3 * limit.tries) }
 {
-    let mut known = Known::of(model);
-    state.route_sums.write(model, &state.penalties, routes);
+    let mut known = Known::of(closed.model);
+    state.route_sums.write(closed, &state.penalties, routes);
     'scans: while state.at.found != limit.solutions {
         let guiding = Guiding {
-            model,
+            model: closed.model,
             lambda,
             penalties: &state.penalties,
             route_sums: &state.route_sums,
         };
         let ended = state.at.advance(
-            model, judge, routes, &guiding, limit, watch, steps, &mut known,
+            closed.model,
+            judge,
+            routes,
+            &guiding,
+            limit,
+            watch,
+            steps,
+            &mut known,
         )?;
         match ended {
             ScanEnd::Accepted { mv, .. } => {
-                state.route_sums.follow(model, &state.penalties, routes, mv);
+                state
+                    .route_sums
+                    .follow(closed, &state.penalties, routes, mv);
                 state.best.offer(routes, &state.at);
             }
             ScanEnd::Complete { length } => {
-                if is_stuck(model, routes, length) {
+                if is_stuck(closed, routes, length) {
                     return Ok(End::Optimum);
                 }
-                state.penalties.raise(model, routes, &mut known);
-                state.route_sums.write(model, &state.penalties, routes);
+                state.penalties.raise(closed, routes, &mut known);
+                state.route_sums.write(closed, &state.penalties, routes);
                 note_all(watch, state.at.event(Kind::Round))?;
             }
             ScanEnd::Cut => return Ok(End::Tries),
@@ -204,10 +217,9 @@ fn improve<J: Judge, L: Ledger>(
 }
 
 // Whether no penalty can help, after a scan of so many moves.
-fn is_stuck(model: &Model, routes: &Routes, moves: u64) -> bool
-    requires well_formed { IsWellFormed model.now }
-    requires valid { IsTrue (is_valid model.now routes.now.lists) }
-    ensures { result ≡ ((moves == 0) || not (has_costly_arc model.now routes.now.lists)) }
+fn is_stuck(closed: Closed<'_>, routes: &Routes, moves: u64) -> bool
+    requires { IsTrue (is_valid closed.model.now routes.now.lists) }
+    ensures { result ≡ ((moves == 0) || not (has_costly_arc closed.entry.model.now routes.now.lists)) }
 {
-    moves == 0 || !has_costly_arc(model, routes)
+    moves == 0 || !has_costly_arc(closed, routes)
 }

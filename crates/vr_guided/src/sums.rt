@@ -7,13 +7,13 @@ ghost use Rattle.vr_guided.specs.Sums.{AreArcSums, line_nodes, weight_by};
 ghost use Rattle.vr_model.specs.routes.Routes.{UsedArc, arcs_from};
 ghost use Rattle.vr_model.specs.tables.Numbers.{number_at, total_by};
 ghost use Rattle.vr_model.specs.tables.Tables.{vehicle_at};
-ghost use Rattle.vr_model.specs.tables.WellFormed.{IsIn, IsWellFormed};
+ghost use Rattle.vr_model.specs.tables.WellFormed.{IsIn};
 ghost use Rattle.vr_balance.specs.Sums.{last_of};
 
 use crate::penalties::Penalties;
 use arrayvec::ArrayVec;
 use std::marker::Model;
-use vr_model::Model as RoutingModel;
+use vr_model::Closed;
 
 /// At each stop of a vehicle with its list, what the arcs before it add up to. Penalties times costs take more than the
 /// 64 bits that `vr_balance` has for a sum.
@@ -46,29 +46,29 @@ impl Sums {
     /// Writes the sums of a vehicle with a list, of arcs that are taken on, or back.
     pub fn write(
         &mut self,
-        model: &RoutingModel,
+        closed: Closed<'_>,
         penalties: &Penalties,
         v: u32,
         list: &[u32],
         back: bool,
     )
-        requires well_formed { IsWellFormed model.now }
-        requires vehicle { v < length model.now.vehicles }
-        requires nodes { All (λ node. node < model.now.nodes) list.now }
+        requires vehicle { v < length closed.model.now.vehicles }
+        requires nodes { All (λ node. node < closed.model.now.nodes) list.now }
         requires short { length list.now ≤ 1000 }
-        requires covers { penalties.now.nodes ≡ model.now.nodes }
+        requires covers { penalties.now.nodes ≡ closed.model.now.nodes }
         requires few { AtMost 1000000000 (counted penalties.now) }
-        ensures { AreArcSums (weight_by model.now (counted penalties.now) back) v (vehicle_at model.now v).start
-            (line_nodes model.now v list.now) self.new }
+        ensures { AreArcSums (weight_by closed.entry.model.now (counted penalties.now) back) v
+            (vehicle_at closed.entry.model.now v).start
+            (line_nodes closed.entry.model.now v list.now) self.new }
     {
-        let ends = model.vehicles.get(v as usize);
+        let ends = closed.model.vehicles.get(v as usize);
         self.begin();
         let mut at = ends.start;
         for &node in list {
-            self.add(penalties.weight_by(model, v, at, node, back));
+            self.add(penalties.weight_by(closed, v, at, node, back));
             at = node;
         }
-        self.add(penalties.weight_by(model, v, at, ends.end, back));
+        self.add(penalties.weight_by(closed, v, at, ends.end, back));
     }
 
     // Begins: before the first stop nothing was added.

@@ -11,7 +11,7 @@ use crate::both::both;
 use crate::ranks::ranked_dimensions;
 use std::alloc::Global;
 use vr_filter::{Both, Each, PathFilter};
-use vr_model::{Model, NoMemory};
+use vr_model::{Closed, Model, NoMemory};
 use vr_pathfilters::{DimensionFilter, GroupFilter, PairFilter, VehicleFilter};
 use vr_routes::Routes;
 
@@ -39,7 +39,7 @@ pub fn filters_of<'m>(
     let groups = GroupFilter::open(alloc, model, routes);
     let vehicles = VehicleFilter::open(alloc, model, routes);
     let pairs = PairFilter::open(alloc, model, routes);
-    let dimensions = filters_of_dimensions(alloc, model, routes);
+    let dimensions = filters_of_dimensions(alloc, Closed { model }, routes);
     let front = both(groups, vehicles);
     let end = both(pairs, dimensions);
     let (front, end) = both(front, end)?;
@@ -60,25 +60,25 @@ pub fn filters_of<'m>(
 // The filters of all dimensions, those that ask least first.
 fn filters_of_dimensions<'m>(
     alloc: Global,
-    model: &'m Model,
+    closed: Closed<'m>,
     routes: &Routes,
 ) -> Result<Each<DimensionFilter<'m>>, NoMemory>
-    requires well_formed { IsWellFormed model.now }
-    requires of_model { routes.now.visits ≡ visits model.now }
-    requires many { length routes.now.lists ≡ length model.now.vehicles }
-    requires feasible { IsTrue (are_feasible model.now routes.now.lists) }
+    requires of_model { routes.now.visits ≡ visits closed.model.now }
+    requires many { length routes.now.lists ≡ length closed.model.now.vehicles }
+    requires feasible { IsTrue (are_feasible closed.model.now routes.now.lists) }
     ensures holds { IfOk result (λ each. (lists : List (List ℕ))
-        → ⟦<Each<DimensionFilter<'static>> as PathFilter>⟧.holds each lists ≡ are_feasible model.now lists) }
+        → ⟦<Each<DimensionFilter<'static>> as PathFilter>⟧.holds each lists
+        ≡ are_feasible closed.entry.model.now lists) }
     ensures weight { IfOk result (λ each. (before later : List (List ℕ))
         → ⟦<Each<DimensionFilter<'static>> as PathFilter>⟧.weight each before later
-        ≡ total_weight model.now before later) }
+        ≡ total_weight closed.entry.model.now before later) }
     ensures stands { IfOk result (λ each.
         ⟦<Each<DimensionFilter<'static>> as PathFilter>⟧.stands_at each routes.now) }
 {
-    let order = ranked_dimensions(alloc, model)?;
+    let order = ranked_dimensions(alloc, closed)?;
     let mut filters = Vec::with_capacity(alloc, order.len())?;
     for k in 0..order.len() {
-        filters.push(DimensionFilter::open(alloc, model, order[k], routes)?)?;
+        filters.push(DimensionFilter::open(alloc, closed.model, order[k], routes)?)?;
     }
     Ok(Each { filters })
 }

@@ -11,7 +11,7 @@ ghost use Rattle.vr_model.specs.declared.neighbours.Move.{Move as Moved};
 use crate::stamps::Stamps;
 use crate::{Touched, blocks};
 use std::marker::Model;
-use vr_model::{Model as RoutingModel, Move, Neighbourhood};
+use vr_model::{Closed, Model as RoutingModel, Move, Neighbourhood};
 use vr_routes::Routes;
 
 /// What is known of moves: those of some rows and vehicles were refused, and nothing on which they depend has changed
@@ -111,7 +111,7 @@ impl Known {
     {
         if let Some(stamps) = &mut self.stamps {
             stamps.know_room();
-            stamps.change(model, routes, mv, touched);
+            stamps.change(Closed { model }, routes, mv, touched);
             stamps.know_room();
         }
     }
@@ -144,7 +144,7 @@ impl Known {
     {
         if let Some(stamps) = &mut self.stamps {
             stamps.know_room();
-            stamps.settle(model, routes);
+            stamps.settle(Closed { model }, routes);
             stamps.know_room();
         }
     }

@@ -4,13 +4,12 @@ ghost use Rattle.std.specs.Prelude.{◌≡◌, ℕ, ◌⊎◌, ◌<◌, ◌≤�
 ghost use Rattle.vr_known.specs.Blocks.{AreSettled, IsApart, Learns, common_change, covers, first_of, is_behind};
 ghost use Rattle.vr_known.specs.Blocks.{is_kind_of, is_known, is_later, kind_of, rows_of};
 ghost use Rattle.vr_model.specs.moves.MoveTests.{is_move};
-ghost use Rattle.vr_model.specs.tables.WellFormed.{IsWellFormed};
 ghost use Rattle.vr_model.specs.declared.neighbours.Move.{Move as Moved};
 
 use crate::Touched;
 use crate::blocks::{first_of, kind_at, kind_of, rows_of, stamp_of};
 use std::marker::Model;
-use vr_model::{Model as RoutingModel, Move, Neighbourhood};
+use vr_model::{Closed, Move, Neighbourhood};
 use vr_routes::Routes;
 
 /// A clock, and what was stamped with it.
@@ -160,22 +159,16 @@ impl Stamps {
 
     /// A move was made, and `routes` are those after it: the lists of the vehicles that it touched changed, and where
     /// it is of a kind that changes activity, so did that.
-    pub(crate) fn change(
-        &mut self,
-        model: &RoutingModel,
-        routes: &Routes,
-        mv: Move,
-        touched: Touched,
-    )
-        requires well_formed { IsWellFormed model.now }
+    pub(crate) fn change(&mut self, closed: Closed<'_>, routes: &Routes, mv: Move, touched: Touched)
         requires first { touched.first < 100 }
         requires second { touched.second < 100 }
         ensures fewer { (k u w : ℕ) → IsTrue (is_known self.new k u w) → IsTrue (is_known self.old k u w) }
-        ensures apart { (m : Moved) → IsTrue (is_move model.now routes.now.lists m) → IsTrue (covers self.new m)
-            → IsApart model.now routes.now.lists mv touched.first touched.second m }
+        ensures apart { (m : Moved) → IsTrue (is_move closed.entry.model.now routes.now.lists m)
+            → IsTrue (covers self.new m)
+            → IsApart closed.entry.model.now routes.now.lists mv touched.first touched.second m }
     {
         self.stamp(mv, touched);
-        self.settle(model, routes);
+        self.settle(closed, routes);
     }
 
     // The lists of two vehicles change now, and activity where a move changes it.
@@ -196,16 +189,15 @@ impl Stamps {
     }
 
     /// The row of each pair is forgotten whose vehicle has another list than when the row was refused.
-    pub(crate) fn settle(&mut self, model: &RoutingModel, routes: &Routes)
-        requires well_formed { IsWellFormed model.now }
+    pub(crate) fn settle(&mut self, closed: Closed<'_>, routes: &Routes)
         ensures fewer { (k u w : ℕ) → IsTrue (is_known self.new k u w) → IsTrue (is_known self.old k u w) }
         ensures earlier { (k u w : ℕ) → IsTrue (is_later self.new k u w) → IsTrue (is_later self.old k u w) }
-        ensures settled { AreSettled model.now routes.now.lists self.new }
+        ensures settled { AreSettled closed.entry.model.now routes.now.lists self.new }
     {
         routes.know_once();
         let _few = routes.vehicles();
-        for p in 0..model.pairs.len() {
-            let pair = model.pairs.get(p);
+        for p in 0..closed.model.pairs.len() {
+            let pair = closed.model.pairs.get(p);
             match routes.vehicle_of(pair.pickup) {
                 Some(v) => self.settle_pair(p as u32, v),
                 None => {}

@@ -1,12 +1,11 @@
 //! Chosen schedules of lines of one visit, by each way to ask for them.
 
-ghost use Rattle.vr_model.specs.tables.WellFormed.{IsWellFormed};
 ghost use Rattle.vr_steps.specs.Lines.{IsSoundLine};
 
 use crate::lines::{line_in, model_of};
 use std::alloc::Global;
 use std::test::Fail;
-use vr_model::{Model, NoMemory, ScheduleRule};
+use vr_model::{Closed, NoMemory, ScheduleRule};
 use vr_plan::{Chooser, Plan, chosen_cumuls, schedule, schedule_over};
 use vr_reach::{Cumuls, Rows, Stops, write_earliest};
 use vr_samples::read_model_text;
@@ -224,29 +223,25 @@ fn all_find(
 }
 
 // Whether the cumuls of the list of node 1 are found stop by stop exactly where the row says so.
-fn is_early(alloc: Global, model: &Model, row: &Row) -> bool
-    requires { IsWellFormed model.now }
-{
-    if model.dimensions.len() == 0 {
+fn is_early(alloc: Global, closed: Closed<'_>, row: &Row) -> bool {
+    if closed.model.dimensions.len() == 0 {
         return false;
     }
-    if !model.is_visit(1) {
+    if !closed.model.is_visit(1) {
         return false;
     }
-    match Stops::build(alloc, model, 0) {
+    match Stops::build(alloc, closed.model, 0) {
         Ok(stops) => {
             let mut cumuls = Cumuls::new();
-            let found = write_earliest(model, 0, 0, &stops, &[1], &mut cumuls);
+            let found = write_earliest(closed.model, 0, 0, &stops, &[1], &mut cumuls);
             found == row.early && (!found || cumuls.as_slice() == row.earliest.cumuls)
         }
         Err(_) => false,
     }
 }
 
-fn holds_of(alloc: Global, chooser: &mut Chooser, model: &Model, row: &Row) -> bool
-    requires { IsWellFormed model.now }
-{
-    match line_in(alloc, model, 0) {
+fn holds_of(alloc: Global, chooser: &mut Chooser, closed: Closed<'_>, row: &Row) -> bool {
+    match line_in(alloc, closed.model, 0) {
         Some(line) => {
             all_find(alloc, chooser, &line, ScheduleRule::Earliest, &row.earliest)
                 && all_find(alloc, chooser, &line, ScheduleRule::Tight, &row.tight)
@@ -257,7 +252,10 @@ fn holds_of(alloc: Global, chooser: &mut Chooser, model: &Model, row: &Row) -> b
 
 fn holds(alloc: Global, chooser: &mut Chooser, row: &Row) -> bool {
     match model_of(alloc, row.fields) {
-        Some(model) => { holds_of(alloc, chooser, &model, row) && is_early(alloc, &model, row) }
+        Some(model) => {
+            holds_of(alloc, chooser, Closed { model: &model }, row)
+                && is_early(alloc, Closed { model: &model }, row)
+        }
         None => false,
     }
 }
@@ -274,26 +272,28 @@ fn all_hold(alloc: Global, rows: &[Row]) -> Result<(), Fail> {
 }
 
 // Whether the rule of vehicle 0 chooses the wanted schedule in a dimension.
-fn holds_in(alloc: Global, chooser: &mut Chooser, model: &Model, d: u32, wanted: &Wanted) -> bool
-    requires { IsWellFormed model.now }
-{
-    if model.vehicles.len() == 0 {
+fn holds_in(
+    alloc: Global,
+    chooser: &mut Chooser,
+    closed: Closed<'_>,
+    d: u32,
+    wanted: &Wanted,
+) -> bool {
+    if closed.model.vehicles.len() == 0 {
         return false;
     }
-    let rule = model.vehicles.get(0).schedule;
-    match line_in(alloc, model, d) {
+    let rule = closed.model.vehicles.get(0).schedule;
+    match line_in(alloc, closed.model, d) {
         Some(line) => all_find(alloc, chooser, &line, rule, wanted),
         None => false,
     }
 }
 
 // Whether it does so in both dimensions, one after another, with one place for both.
-fn holds_in_both(alloc: Global, model: &Model) -> bool
-    requires { IsWellFormed model.now }
-{
+fn holds_in_both(alloc: Global, closed: Closed<'_>) -> bool {
     let mut chooser = Chooser::new(alloc);
-    holds_in(alloc, &mut chooser, model, 0, &IN_EACH_DIMENSION[0])
-        && holds_in(alloc, &mut chooser, model, 1, &IN_EACH_DIMENSION[1])
+    holds_in(alloc, &mut chooser, closed, 0, &IN_EACH_DIMENSION[0])
+        && holds_in(alloc, &mut chooser, closed, 1, &IN_EACH_DIMENSION[1])
 }
 
 #[test]
@@ -320,7 +320,7 @@ fn breaks_are_taken_before_a_tight_start_inside_and_after(rt: HostRuntime) -> Re
 fn a_tight_vehicle_is_tight_in_each_dimension(rt: HostRuntime) -> Result<(), Fail> {
     match read_model_text(rt.alloc(), TWO_DIMENSIONS) {
         Some(model) => {
-            if holds_in_both(rt.alloc(), &model) {
+            if holds_in_both(rt.alloc(), Closed { model: &model }) {
                 Ok(())
             } else {
                 Err(Fail::new("two dimensions of a tight vehicle"))

@@ -5,7 +5,6 @@ ghost use Rattle.vr_model.specs.routes.Costs.{cost};
 ghost use Rattle.vr_model.specs.routes.Routes.{are_lists, route};
 ghost use Rattle.vr_model.specs.routes.Rules.{is_valid};
 ghost use Rattle.vr_model.specs.tables.Tables.{visits};
-ghost use Rattle.vr_model.specs.tables.WellFormed.{IsWellFormed};
 ghost use Rattle.vr_rules.specs.Placing.{AreBuilt};
 ghost use Rattle.vr_lns.specs.Cutters.{result_in, AreRoutesOf};
 ghost use Rattle.vr_lns.specs.Cuts.{result_of, where_better};
@@ -17,7 +16,7 @@ use crate::leaving::leave;
 use std::alloc::Global;
 use std::marker::Model;
 use vr_lists::NodeTables;
-use vr_model::{Model as RoutingModel, NoMemory};
+use vr_model::{Closed, NoMemory};
 use vr_routes::Routes;
 use vr_rules::Rules;
 
@@ -43,20 +42,15 @@ impl<'m> Model for Cutter<'m> {
 
 impl<'m> Cutter<'m> {
     /// The only refusal is want of memory.
-    pub(crate) fn open(
-        alloc: Global,
-        model: &'m RoutingModel,
-        most: u32,
-    ) -> Result<Cutter<'m>, NoMemory>
-        requires well_formed { IsWellFormed model.now }
+    pub(crate) fn open(alloc: Global, closed: Closed<'m>, most: u32) -> Result<Cutter<'m>, NoMemory>
         requires few { most ≤ 100 }
-        ensures { IfOk result (λ cutter. cutter ≡ record { model = model.now; most = most }) }
+        ensures { IfOk result (λ cutter. cutter ≡ record { model = closed.entry.model.now; most = most }) }
     {
         Ok(Cutter {
             alloc,
             most,
-            lookups: NodeTables::open(alloc, model)?,
-            rules: Rules::open(alloc, model)?,
+            lookups: NodeTables::open(alloc, closed.model)?,
+            rules: Rules::open(alloc, closed.model)?,
         })
     }
 

@@ -4,7 +4,6 @@ ghost use Rattle.std.specs.Prelude.{◌≡◌, ◌+◌, ◌<◌, ◌≤◌, IfOk
 ghost use Rattle.vr_model.specs.routes.Costs.{cost};
 ghost use Rattle.vr_model.specs.routes.Routes.{route};
 ghost use Rattle.vr_model.specs.routes.Rules.{is_valid};
-ghost use Rattle.vr_model.specs.tables.WellFormed.{IsWellFormed};
 ghost use Rattle.vr_lns.specs.Cuts.{accepted_by};
 ghost use Rattle.vr_lns.specs.Standing.{is_taken, lists_after, HoldValid};
 
@@ -12,7 +11,7 @@ use crate::Rebuild;
 use crate::cutter::Cutter;
 use std::alloc::Global;
 use std::marker::Model;
-use vr_model::{Model as RoutingModel, NoMemory};
+use vr_model::{Closed, NoMemory};
 use vr_routes::Routes;
 
 /// A cut: the vehicle whose list a chain of visits is taken out of, and the place there where the chain begins.
@@ -44,16 +43,15 @@ impl<'m> Cutting<'m> {
     /// What cuts of at most `most` visits of a model are tried by. The only refusal is want of memory.
     pub(crate) fn open(
         alloc: Global,
-        model: &'m RoutingModel,
+        closed: Closed<'m>,
         most: u32,
     ) -> Result<Cutting<'m>, NoMemory>
-        requires well_formed { IsWellFormed model.now }
         requires few { most ≤ 100 }
-        ensures { IfOk result (λ cutting. cutting ≡ record { model = model.now; most = most }) }
+        ensures { IfOk result (λ cutting. cutting ≡ record { model = closed.entry.model.now; most = most }) }
     {
-        let after = Routes::empty(alloc, model)?;
+        let after = Routes::empty(alloc, closed.model)?;
         Ok(Cutting {
-            cutter: Cutter::open(alloc, model, most)?,
+            cutter: Cutter::open(alloc, closed, most)?,
             after,
         })
     }

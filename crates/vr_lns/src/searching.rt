@@ -15,7 +15,7 @@ use crate::cutting::Cutting;
 use crate::rounds::RoundEnd;
 use crate::standing::Standing;
 use std::alloc::Global;
-use vr_model::{End, Kind, Limit, Model, NoMemory, Report};
+use vr_model::{Closed, End, Kind, Limit, Model, NoMemory, Report};
 use vr_routes::Routes;
 use vr_watch::{Watch, note_all};
 
@@ -65,7 +65,7 @@ pub fn lns<R: Rebuild>(
         (path_lns model.now routes.old.lists limit cut).events) }
     ensures made_at_most { OnErr result (R.made rebuild.new ≤ R.made rebuild.old + limit.tries) }
 {
-    let mut cutting = Cutting::open(alloc, model, cut)?;
+    let mut cutting = Cutting::open(alloc, Closed { model }, cut)?;
     search(&mut cutting, rebuild, routes, limit, watch)
 }
 

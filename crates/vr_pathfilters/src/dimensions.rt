@@ -30,7 +30,7 @@ use std::sync::ledger::{Blank, Ledger};
 use vr_balance::strip;
 use vr_filter::PathFilter;
 use vr_loads::Loads;
-use vr_model::{Model, NoMemory, Steps};
+use vr_model::{Closed, Model, NoMemory, Steps};
 use vr_reach::{Rows, Stops, Walk, no_line, passes_along};
 use vr_routes::{Change, Routes, Row};
 use vr_steps::Line;
@@ -83,7 +83,14 @@ impl<'m> DimensionFilter<'m> {
         routes.know_once();
         routes.know_entries();
         let stops = Stops::build(alloc, model, d)?;
-        let (loads, known) = kept_of::<Brand>(alloc, model, d, &stops, routes, Blank::new(1))?;
+        let (loads, known) = kept_of::<Brand>(
+            alloc,
+            Closed { model },
+            d,
+            &stops,
+            routes,
+            Blank::new(1),
+        )?;
         let room = if loads.is_some() {
             0
         } else {
@@ -211,7 +218,7 @@ impl<'m> PathFilter for DimensionFilter<'m> {
         let (stops, list, line) = (&self.stops, &mut self.list, &mut self.line);
         write_part::<Brand>(
             alloc,
-            model,
+            Closed { model },
             d,
             stops,
             routes,
@@ -225,7 +232,7 @@ impl<'m> PathFilter for DimensionFilter<'m> {
         let (stops, list, line) = (&self.stops, &mut self.list, &mut self.line);
         write_part::<Brand>(
             alloc,
-            model,
+            Closed { model },
             d,
             stops,
             routes,
@@ -276,7 +283,7 @@ fn put_part(known: &mut Vec<Rows>, change: &Change, k: usize, rows: &mut Rows)
 // What is kept of the lists of all vehicles: loads where the dimension is one, else rows.
 fn kept_of<L: Ledger>(
     alloc: Global,
-    model: &Model,
+    closed: Closed<'_>,
     d: u32,
     stops: &Stops,
     routes: &Routes,
@@ -285,19 +292,19 @@ fn kept_of<L: Ledger>(
     requires name { blank.name ≡ L.name }
     requires parts { blank.parts ≡ L.parts }
     requires some { 0 < blank.parts }
-    requires well_formed { IsWellFormed model.now }
-    requires dimension { d < length model.now.dimensions }
-    requires stops { AreStops model.now d stops.now }
-    requires tours { AreTours model.now routes.now }
-    ensures loads_known { IfOk result (λ kept. is_some kept.0 ≡ is_load model.now d) }
-    ensures loads { IfOk result (λ kept. WherePresent (KnowsLoads model.now d routes.now.lists) kept.0) }
-    ensures known { IfOk result (λ kept. kept.0 ≡ None → KnowsRows model.now d kept.1.items routes.now.lists) }
+    requires dimension { d < length closed.model.now.dimensions }
+    requires stops { AreStops closed.model.now d stops.now }
+    requires tours { AreTours closed.model.now routes.now }
+    ensures loads_known { IfOk result (λ kept. is_some kept.0 ≡ is_load closed.entry.model.now d) }
+    ensures loads { IfOk result (λ kept. WherePresent (KnowsLoads closed.entry.model.now d routes.now.lists) kept.0) }
+    ensures known { IfOk result (λ kept. kept.0 ≡ None
+        → KnowsRows closed.entry.model.now d kept.1.items routes.now.lists) }
 {
-    let loads = loads_of(alloc, model, d, routes)?;
+    let loads = loads_of(alloc, closed, d, routes)?;
     let mut line = no_line(alloc);
     let mut lists = Steps::<L>::new(blank);
     let known = rows_unless(
-        &loads, alloc, model, d, stops, routes, &mut line, &mut lists,
+        &loads, alloc, closed, d, stops, routes, &mut line, &mut lists,
     )?;
     Ok((loads, known))
 }

@@ -19,7 +19,7 @@ use std::sync::ledger::Ledger;
 use vr_balance::{Balance, active_in};
 use vr_filter::PathFilter;
 use vr_lists::group_numbers;
-use vr_model::{Model, NoMemory, Seq, Steps};
+use vr_model::{Closed, Model, NoMemory, Seq, Steps};
 use vr_routes::{Change, Piece, Routes};
 
 /// Lets a change pass where afterwards no group has more active nodes than it may have, each visit in no group is
@@ -95,19 +95,18 @@ fn many_in_pieces(numbers: &Seq<u32>, routes: &Routes, pieces: &[Piece], g: u32)
 }
 
 // Whether so many nodes of group g may come and go.
-fn allows(model: &Model, routes: &Routes, g: u32, come: usize, gone: usize) -> bool
-    requires well_formed { IsWellFormed model.now }
+fn allows(closed: Closed<'_>, routes: &Routes, g: u32, come: usize, gone: usize) -> bool
     requires few { IsInPieces come }
     requires few_too { IsInPieces gone }
-    ensures { result ≡ allows_number model.now routes.now.lists g come gone }
+    ensures { result ≡ allows_number closed.entry.model.now routes.now.lists g come gone }
 {
     if come == gone {
         return true;
     }
-    if g as usize >= model.groups.len() {
+    if g as usize >= closed.model.groups.len() {
         return false;
     }
-    let group = model.groups.get(g as usize);
+    let group = closed.model.groups.get(g as usize);
     group.penalty.is_some()
         && (come <= gone || active_in(routes, group) + come <= group.max as usize + gone)
 }
@@ -123,7 +122,15 @@ fn nodes_allow(filter: &GroupFilter<'_>, routes: &Routes, nodes: &[u32]) -> bool
         let g = number(&filter.numbers, node);
         let come = many_in_pieces(&filter.numbers, routes, filter.balance.come(), g);
         let gone = many_in_pieces(&filter.numbers, routes, filter.balance.gone(), g);
-        if !allows(filter.model, routes, g, come, gone) {
+        if !allows(
+            Closed {
+                model: filter.model,
+            },
+            routes,
+            g,
+            come,
+            gone,
+        ) {
             return false;
         }
     }

@@ -1,7 +1,7 @@
 //! What vehicles take along their lists, in a dimension that is a load.
 
 ghost use Rattle.std.specs.Prelude.{◌≡◌, ◌<◌, ◌≤◌, ℕ, List, length, IsTrue, IfOk, is_some};
-ghost use Rattle.vr_model.specs.tables.WellFormed.{IsWellFormed, WherePresent};
+ghost use Rattle.vr_model.specs.tables.WellFormed.{WherePresent};
 ghost use Rattle.vr_routes.specs.Changes.{IsMadeOn};
 ghost use Rattle.vr_routes.specs.Pieces.{changed, joined, part_at};
 ghost use Rattle.vr_reach.specs.Lists.{is_feasible_list};
@@ -13,26 +13,25 @@ ghost use Rattle.vr_pathfilters.specs.Known.{KnowsLoads, with_part};
 
 use std::alloc::Global;
 use vr_loads::{Loads, is_load};
-use vr_model::{Model, NoMemory};
+use vr_model::{Closed, Model, NoMemory};
 use vr_routes::{Change, Routes, Row};
 
 /// What is kept of the lists of all vehicles where dimension `d` is a load, nothing where it is none.
 pub(crate) fn loads_of(
     alloc: Global,
-    model: &Model,
+    closed: Closed<'_>,
     d: u32,
     routes: &Routes,
 ) -> Result<Option<Loads>, NoMemory>
-    requires well_formed { IsWellFormed model.now }
-    requires dimension { d < length model.now.dimensions }
-    requires tours { AreTours model.now routes.now }
-    ensures known { IfOk result (λ loads. is_some loads ≡ is_load_in model.now d) }
-    ensures loads { IfOk result (WherePresent (KnowsLoads model.now d routes.now.lists)) }
+    requires dimension { d < length closed.model.now.dimensions }
+    requires tours { AreTours closed.model.now routes.now }
+    ensures known { IfOk result (λ loads. is_some loads ≡ is_load_in closed.entry.model.now d) }
+    ensures loads { IfOk result (WherePresent (KnowsLoads closed.entry.model.now d routes.now.lists)) }
 {
-    if !is_load(model, d) {
+    if !is_load(closed.model, d) {
         return Ok(None);
     }
-    let loads = Loads::open(alloc, model, d, routes)?;
+    let loads = Loads::open(alloc, closed.model, d, routes)?;
     Ok(Some(loads))
 }
 

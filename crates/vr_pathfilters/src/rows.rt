@@ -3,7 +3,6 @@
 //! counter for them: it makes no rows.
 
 ghost use Rattle.std.specs.Prelude.{◌≡◌, ◌+◌, ◌<◌, length, IfOk, OnOk, None};
-ghost use Rattle.vr_model.specs.tables.WellFormed.{IsWellFormed};
 ghost use Rattle.vr_routes.specs.Changes.{IsMadeOn};
 ghost use Rattle.vr_reach.specs.KnownRows.{AreRowsIfUsed};
 ghost use Rattle.vr_reach.specs.Lists.{IsTour};
@@ -14,7 +13,7 @@ ghost use Rattle.vr_pathfilters.specs.Known.{AreRowsOfPart, KnowsRows};
 use std::alloc::Global;
 use std::sync::ledger::{Blank, Ledger};
 use vr_loads::Loads;
-use vr_model::{Model, NoMemory, Steps};
+use vr_model::{Closed, Model, NoMemory, Steps};
 use vr_reach::{Rows, Stops, write_rows};
 use vr_routes::{Change, Routes, Row};
 use vr_steps::Line;
@@ -23,7 +22,7 @@ use vr_steps::Line;
 // nothing is said of the rows.
 fn write_list<L: Ledger>(
     alloc: Global,
-    model: &Model,
+    closed: Closed<'_>,
     d: u32,
     v: u32,
     stops: &Stops,
@@ -32,16 +31,15 @@ fn write_list<L: Ledger>(
     rows: &mut Rows,
     lists: &mut Steps<L>,
 ) -> Result<(), NoMemory>
-    requires well_formed { IsWellFormed model.now }
-    requires dimension { d < length model.now.dimensions }
-    requires vehicle { v < length model.now.vehicles }
-    requires stops { AreStops model.now d stops.now }
-    requires tour { IsTour model.now list.now }
-    ensures rows { OnOk result (AreRowsIfUsed model.now d v list.now rows.new) }
+    requires dimension { d < length closed.model.now.dimensions }
+    requires vehicle { v < length closed.model.now.vehicles }
+    requires stops { AreStops closed.model.now d stops.now }
+    requires tour { IsTour closed.model.now list.now }
+    ensures rows { OnOk result (AreRowsIfUsed closed.entry.model.now d v list.now rows.new) }
     ensures count { lists.new ≡ lists.old + 1 }
 {
     lists.tick();
-    write_rows(alloc, model, d, v, stops, list, line, rows)?;
+    write_rows(alloc, closed.model, d, v, stops, list, line, rows)?;
     Ok(())
 }
 
@@ -49,7 +47,7 @@ fn write_list<L: Ledger>(
 /// is said of them.
 pub(crate) fn write_part<L: Ledger>(
     alloc: Global,
-    model: &Model,
+    closed: Closed<'_>,
     d: u32,
     stops: &Stops,
     routes: &Routes,
@@ -63,12 +61,11 @@ pub(crate) fn write_part<L: Ledger>(
     requires name { blank.name ≡ L.name }
     requires parts { blank.parts ≡ L.parts }
     requires some { 0 < blank.parts }
-    requires well_formed { IsWellFormed model.now }
-    requires dimension { d < length model.now.dimensions }
-    requires stops { AreStops model.now d stops.now }
-    requires tours { AreTours model.now routes.now }
+    requires dimension { d < length closed.model.now.dimensions }
+    requires stops { AreStops closed.model.now d stops.now }
+    requires tours { AreTours closed.model.now routes.now }
     requires made { IsMadeOn routes.now change.now }
-    ensures { OnOk result (AreRowsOfPart model.now d routes.now.lists change.now k rows.new) }
+    ensures { OnOk result (AreRowsOfPart closed.entry.model.now d routes.now.lists change.now k rows.new) }
 {
     if k >= change.parts() {
         return Ok(());
@@ -77,7 +74,7 @@ pub(crate) fn write_part<L: Ledger>(
     routes.write_after(change, k, list);
     write_list(
         alloc,
-        model,
+        closed,
         d,
         change.vehicle(k),
         stops,
@@ -93,23 +90,23 @@ pub(crate) fn write_part<L: Ledger>(
 pub(crate) fn rows_unless<L: Ledger>(
     loads: &Option<Loads>,
     alloc: Global,
-    model: &Model,
+    closed: Closed<'_>,
     d: u32,
     stops: &Stops,
     routes: &Routes,
     line: &mut Line,
     lists: &mut Steps<L>,
 ) -> Result<Vec<Rows>, NoMemory>
-    requires well_formed { IsWellFormed model.now }
-    requires dimension { d < length model.now.dimensions }
-    requires stops { AreStops model.now d stops.now }
-    requires tours { AreTours model.now routes.now }
-    ensures { IfOk result (λ known. loads.now ≡ None → KnowsRows model.now d known.items routes.now.lists) }
+    requires dimension { d < length closed.model.now.dimensions }
+    requires stops { AreStops closed.model.now d stops.now }
+    requires tours { AreTours closed.model.now routes.now }
+    ensures { IfOk result (λ known. loads.now ≡ None
+        → KnowsRows closed.entry.model.now d known.items routes.now.lists) }
 {
     if loads.is_some() {
         return Ok(Vec::new(alloc));
     }
-    let known = know_all(alloc, model, d, stops, routes, line, lists)?;
+    let known = know_all(alloc, closed, d, stops, routes, line, lists)?;
     Ok(known)
 }
 
@@ -121,25 +118,24 @@ pub(crate) fn most_stops(model: &Model) -> usize {
 // The rows of each vehicle with its list, with room for those of each other list.
 fn know_all<L: Ledger>(
     alloc: Global,
-    model: &Model,
+    closed: Closed<'_>,
     d: u32,
     stops: &Stops,
     routes: &Routes,
     line: &mut Line,
     lists: &mut Steps<L>,
 ) -> Result<Vec<Rows>, NoMemory>
-    requires well_formed { IsWellFormed model.now }
-    requires dimension { d < length model.now.dimensions }
-    requires stops { AreStops model.now d stops.now }
-    requires tours { AreTours model.now routes.now }
-    ensures { IfOk result (λ known. KnowsRows model.now d known.items routes.now.lists) }
+    requires dimension { d < length closed.model.now.dimensions }
+    requires stops { AreStops closed.model.now d stops.now }
+    requires tours { AreTours closed.model.now routes.now }
+    ensures { IfOk result (λ known. KnowsRows closed.entry.model.now d known.items routes.now.lists) }
 {
     let mut known = Vec::with_capacity(alloc, routes.vehicles() as usize)?;
     for v in 0..routes.vehicles() {
-        let mut rows = Rows::with_room(alloc, most_stops(model))?;
+        let mut rows = Rows::with_room(alloc, most_stops(closed.model))?;
         write_list(
             alloc,
-            model,
+            closed,
             d,
             v,
             stops,

@@ -1,13 +1,15 @@
-//! The schedule of a line that is chosen under the rule of its vehicle.
+//! The schedule of a line that is chosen under the rule of its vehicle, and what it comes to.
 //!
 //! Each stop in turn is settled at the least cumul that is reached there and from which the end is reached. The line
 //! that allows the settled cumuls alone keeps the same chosen schedule, which is what its proof carries from stop to
 //! stop. The tight schedule is found in the same way, where the end of the line was first narrowed to its least cumul
-//! and then the start to its greatest. `vr_plan` asks for cumuls, and `vr_print` for whole schedules.
+//! and then the start to its greatest.
 //!
-//! FROM vr_plan
-//! What the chosen schedule of one list comes to in one dimension, whether anything may be to pay for it, and from
-//! where to where the schedules of several lists reach.
+//! What is looked up of a dimension for all lists is a [`Table`]. A [`Timing`] is what the chosen schedule of one list
+//! comes to, found by the earliest cumuls where those tell it and by a [`Chooser`] else; an [`Extent`] is from where to
+//! where the schedules of several lists reach.
+//!
+//! `vr_print` asks for whole schedules, `vr_rules` and `vr_costfilter` for what they come to.
 #![tactic(auto)]
 
 mod choosers;

@@ -11,7 +11,7 @@ ghost use Rattle.vr_plan.specs.Tables.{keys_of as keys_of_rows, AreTables, IsTab
 use crate::paying::{is_free, is_hard};
 use std::alloc::Global;
 use vr_lists::write_places;
-use vr_model::{Model, NoMemory, Seq, StopRow};
+use vr_model::{Closed, Model, NoMemory, Seq, StopRow};
 use vr_reach::Stops;
 
 /// What is looked up of one dimension.
@@ -48,15 +48,15 @@ fn keys_of(alloc: Global, rows: &Seq<StopRow>) -> Result<Vec<u32>, NoMemory>
 }
 
 // For each node the place of its row among the rows of visits of dimension `d`, the number of rows where it has none.
-fn row_places(alloc: Global, model: &Model, d: u32) -> Result<Vec<u32>, NoMemory>
-    requires well_formed { IsWellFormed model.now }
-    requires dimension { d < length model.now.dimensions }
+fn row_places(alloc: Global, closed: Closed<'_>, d: u32) -> Result<Vec<u32>, NoMemory>
+    requires dimension { d < length closed.model.now.dimensions }
     ensures { IfOk result (λ places.
-        ArePlaces model.now.nodes (keys_of_rows (dimension_at model.now d).nodes) places.items) }
+        ArePlaces closed.entry.model.now.nodes
+        (keys_of_rows (dimension_at closed.entry.model.now d).nodes) places.items) }
 {
-    let keys = keys_of(alloc, &model.dimensions.get(d as usize).nodes)?;
+    let keys = keys_of(alloc, &closed.model.dimensions.get(d as usize).nodes)?;
     let mut places = Vec::new(alloc);
-    places.resize(model.nodes as usize, 0)?;
+    places.resize(closed.model.nodes as usize, 0)?;
     write_places(&keys, &mut places);
     Ok(places)
 }
@@ -72,16 +72,15 @@ pub fn row_of<'r>(rows: &'r Seq<StopRow>, places: &[u32], node: u32) -> Option<&
 }
 
 // What is looked up of dimension `d`.
-fn table_of(alloc: Global, model: &Model, d: u32) -> Result<Table, NoMemory>
-    requires well_formed { IsWellFormed model.now }
-    requires dimension { d < length model.now.dimensions }
-    ensures { IfOk result (IsTable model.now d) }
+fn table_of(alloc: Global, closed: Closed<'_>, d: u32) -> Result<Table, NoMemory>
+    requires dimension { d < length closed.model.now.dimensions }
+    ensures { IfOk result (IsTable closed.entry.model.now d) }
 {
     Ok(Table {
-        stops: Stops::build(alloc, model, d)?,
-        rows: row_places(alloc, model, d)?,
-        is_free: is_free(model.dimensions.get(d as usize)),
-        is_hard: is_hard(model.dimensions.get(d as usize)),
+        stops: Stops::build(alloc, closed.model, d)?,
+        rows: row_places(alloc, closed, d)?,
+        is_free: is_free(closed.model.dimensions.get(d as usize)),
+        is_hard: is_hard(closed.model.dimensions.get(d as usize)),
     })
 }
 
@@ -92,7 +91,7 @@ pub fn tables_of(alloc: Global, model: &Model) -> Result<Vec<Table>, NoMemory>
 {
     let mut tables = Vec::with_capacity(alloc, model.dimensions.len())?;
     for d in 0..model.dimensions.len() {
-        tables.push(table_of(alloc, model, d as u32)?)?;
+        tables.push(table_of(alloc, Closed { model }, d as u32)?)?;
     }
     Ok(tables)
 }

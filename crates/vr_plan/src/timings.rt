@@ -22,7 +22,7 @@ use crate::choosers::Chooser;
 use crate::tables::{Table, row_of};
 use arrayvec::ArrayVec;
 use std::alloc::Global;
-use vr_model::{Dimension, Model, NoMemory, ScheduleRule, Seq, StopRow};
+use vr_model::{Closed, Dimension, Model, NoMemory, ScheduleRule, Seq, StopRow};
 use vr_reach::{Cumuls, write_earliest, write_line};
 use vr_steps::{Breaks, Line};
 
@@ -85,8 +85,9 @@ pub fn timing_of(
     ensures timing { IfOk result (IsTiming model.now d v list.now) }
     ensures range { IfOk result (IsTimingOf (length list.now + 2)) }
 {
-    if write_early(model, table, d, v, list, &mut timer.early) {
-        return Ok(timing_at(model, table, d, v, list, timer.early.as_slice()));
+    let closed = Closed { model };
+    if write_early(closed, table, d, v, list, &mut timer.early) {
+        return Ok(timing_at(closed, table, d, v, list, timer.early.as_slice()));
     }
     write_line(model, d, v, &table.stops, list, &mut timer.line)?;
     let rule = model.vehicles.get(v as usize).schedule;
@@ -97,52 +98,58 @@ pub fn timing_of(
             last: 0,
         });
     }
-    Ok(timing_at(model, table, d, v, list, timer.chooser.cumuls()))
+    Ok(timing_at(closed, table, d, v, list, timer.chooser.cumuls()))
 }
 
 // Writes the cumuls of the chosen schedule of a list over others, where the rule of its vehicle is that they are least
 // and they are found stop by stop.
 fn write_early(
-    model: &Model,
+    closed: Closed<'_>,
     table: &Table,
     d: u32,
     v: u32,
     list: &[u32],
     cumuls: &mut Cumuls,
 ) -> bool
-    requires well_formed { IsWellFormed model.now }
-    requires dimension { d < length model.now.dimensions }
-    requires vehicle { v < length model.now.vehicles }
-    requires table { IsTable model.now d table.now }
-    requires used { IsUsed model.now list.now }
+    requires dimension { d < length closed.model.now.dimensions }
+    requires vehicle { v < length closed.model.now.vehicles }
+    requires table { IsTable closed.model.now d table.now }
+    requires used { IsUsed closed.model.now list.now }
     requires few { length list.now ≤ 1000 }
     ensures found { IsTrue result
-        ↔ (((vehicle_at model.now v).schedule ≡ Earliest) × CanBeFoundInTurn model.now d v list.now) }
-    ensures chosen { IsTrue result → AreChosen (chosen_line model.now d v list.now) cumuls.new.items }
+        ↔ (((vehicle_at closed.entry.model.now v).schedule ≡ Earliest)
+        × CanBeFoundInTurn closed.entry.model.now d v list.now) }
+    ensures chosen { IsTrue result → AreChosen (chosen_line closed.entry.model.now d v list.now) cumuls.new.items }
     ensures stops { IsTrue result → length cumuls.new.items ≡ suc (suc (length list.now)) }
     ensures range { IsTrue result → All (IsIn (pos 0) horizon) cumuls.new.items }
 {
-    match model.vehicles.get(v as usize).schedule {
-        ScheduleRule::Earliest => write_earliest(model, d, v, &table.stops, list, cumuls),
+    match closed.model.vehicles.get(v as usize).schedule {
+        ScheduleRule::Earliest => write_earliest(closed.model, d, v, &table.stops, list, cumuls),
         ScheduleRule::Tight => false,
     }
 }
 
 // What a list comes to with these cumuls in dimension `d`.
-fn timing_at(model: &Model, table: &Table, d: u32, v: u32, list: &[u32], cumuls: &[i64]) -> Timing
-    requires well_formed { IsWellFormed model.now }
-    requires dimension { d < length model.now.dimensions }
-    requires visits { IsTrue (list_all (is_visit model.now) list.now) }
+fn timing_at(
+    closed: Closed<'_>,
+    table: &Table,
+    d: u32,
+    v: u32,
+    list: &[u32],
+    cumuls: &[i64],
+) -> Timing
+    requires dimension { d < length closed.model.now.dimensions }
+    requires visits { IsTrue (list_all (is_visit closed.model.now) list.now) }
     requires few { length list.now ≤ 1000 }
-    requires table { IsTable model.now d table.now }
+    requires table { IsTable closed.model.now d table.now }
     requires stops { length cumuls.now ≡ suc (suc (length list.now)) }
     requires cumuls { All (IsIn (pos 0) horizon) cumuls.now }
-    ensures soft { result.soft ≡ soft_of (dimension_at model.now d) v list.now cumuls.now }
+    ensures soft { result.soft ≡ soft_of (dimension_at closed.entry.model.now d) v list.now cumuls.now }
     ensures start { result.start ≡ number_at cumuls.now 0 }
     ensures last { result.last ≡ number_at cumuls.now (suc (length list.now)) }
     ensures range { IsTimingOf (length list.now + 2) result }
 {
-    let dimension = model.dimensions.get(d as usize);
+    let dimension = closed.model.dimensions.get(d as usize);
     Timing {
         soft: soft_cost(dimension, &table.rows, v, list, cumuls),
         start: cumuls[0],

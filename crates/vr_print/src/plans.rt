@@ -8,7 +8,6 @@ ghost use Rattle.vr_model.specs.routes.Routes.{are_lists, is_distinct, is_empty,
 ghost use Rattle.vr_model.specs.schedules.Choices.{chosen};
 ghost use Rattle.vr_model.specs.schedules.Narrowed.{chosen_line};
 ghost use Rattle.vr_model.specs.tables.Tables.{is_visit};
-ghost use Rattle.vr_model.specs.tables.WellFormed.{IsWellFormed};
 ghost use Rattle.vr_plan.specs.Plans.{seen};
 ghost use Rattle.vr_print.specs.Solution as solution;
 
@@ -16,23 +15,29 @@ use crate::leaves::{text, wholes};
 use serde_json::Value;
 use std::alloc::Global;
 use vr_json::Tree;
-use vr_model::{Dimension, Model, NoMemory, Seq};
+use vr_model::{Closed, Dimension, NoMemory, Seq};
 use vr_plan::{Plan, schedule};
 use vr_routes::Routes;
 use vr_steps::Line;
 
 // The plan that the rule of vehicle `v` chooses for a list in dimension `d`, empty where the list has no schedule.
-fn chosen_plan(alloc: Global, model: &Model, d: u32, v: u32, list: &[u32]) -> Result<Plan, NoMemory>
-    requires well_formed { IsWellFormed model.now }
-    requires dimension { d < length model.now.dimensions }
-    requires vehicle { v < length model.now.vehicles }
+fn chosen_plan(
+    alloc: Global,
+    closed: Closed<'_>,
+    d: u32,
+    v: u32,
+    list: &[u32],
+) -> Result<Plan, NoMemory>
+    requires dimension { d < length closed.model.now.dimensions }
+    requires vehicle { v < length closed.model.now.vehicles }
     requires some { 0 < length list.now }
-    requires visits { IsTrue (list_all (is_visit model.now) list.now) }
+    requires visits { IsTrue (list_all (is_visit closed.model.now) list.now) }
     requires distinct { IsTrue (is_distinct list.now) }
-    ensures { IfOk result (λ plan. seen plan ≡ unwrap_or (chosen (chosen_line model.now d v list.now)) no_plan) }
+    ensures { IfOk result (λ plan. seen plan
+        ≡ unwrap_or (chosen (chosen_line closed.entry.model.now d v list.now)) no_plan) }
 {
-    let line = Line::build(alloc, model, d, v, list)?;
-    let rule = model.vehicles.get(v as usize).schedule;
+    let line = Line::build(alloc, closed.model, d, v, list)?;
+    let rule = closed.model.vehicles.get(v as usize).schedule;
     match schedule(alloc, &line, rule)? {
         Some(plan) => Ok(plan),
         None => Ok(Plan {
@@ -59,36 +64,39 @@ fn plan_tree(alloc: Global, dimension: &Dimension, plan: &Plan) -> Result<Value,
 // The chosen plan of a used vehicle in dimension `d`.
 fn dimension_tree(
     alloc: Global,
-    model: &Model,
+    closed: Closed<'_>,
     routes: &Routes,
     v: u32,
     d: u32,
 ) -> Result<Value, NoMemory>
-    requires well_formed { IsWellFormed model.now }
-    requires lists { IsTrue (are_lists model.now routes.now.lists) }
+    requires lists { IsTrue (are_lists closed.model.now routes.now.lists) }
     requires vehicle { v < length routes.now.lists }
-    requires dimension { d < length model.now.dimensions }
+    requires dimension { d < length closed.model.now.dimensions }
     requires used { is_empty (route routes.now.lists v) ≡ false }
-    ensures { let assignment = assigned model.now routes.now.lists in
-        IfOk result (λ tree. view tree ≡ solution.dimension_tree model.now assignment v d) }
+    ensures { let assignment = assigned closed.entry.model.now routes.now.lists in
+        IfOk result (λ tree. view tree ≡ solution.dimension_tree closed.entry.model.now assignment v d) }
 {
-    let plan = chosen_plan(alloc, model, d, v, routes.list(v))?;
-    let tree = plan_tree(alloc, model.dimensions.get(d as usize), &plan)?;
+    let plan = chosen_plan(alloc, closed, d, v, routes.list(v))?;
+    let tree = plan_tree(alloc, closed.model.dimensions.get(d as usize), &plan)?;
     Ok(tree)
 }
 
 // The chosen plans of a used vehicle, one in each dimension.
-fn used_plans_tree(alloc: Global, model: &Model, routes: &Routes, v: u32) -> Result<Value, NoMemory>
-    requires well_formed { IsWellFormed model.now }
-    requires lists { IsTrue (are_lists model.now routes.now.lists) }
+fn used_plans_tree(
+    alloc: Global,
+    closed: Closed<'_>,
+    routes: &Routes,
+    v: u32,
+) -> Result<Value, NoMemory>
+    requires lists { IsTrue (are_lists closed.model.now routes.now.lists) }
     requires vehicle { v < length routes.now.lists }
     requires used { is_empty (route routes.now.lists v) ≡ false }
-    ensures { let assignment = assigned model.now routes.now.lists in
-        IfOk result (λ tree. view tree ≡ solution.used_plans_tree model.now assignment v) }
+    ensures { let assignment = assigned closed.entry.model.now routes.now.lists in
+        IfOk result (λ tree. view tree ≡ solution.used_plans_tree closed.entry.model.now assignment v) }
 {
     let mut trees = Vec::new(alloc);
-    for d in 0..model.dimensions.len() {
-        let tree = dimension_tree(alloc, model, routes, v, d as u32)?;
+    for d in 0..closed.model.dimensions.len() {
+        let tree = dimension_tree(alloc, closed, routes, v, d as u32)?;
         trees.push(tree)?;
     }
     Ok(Value::Array(trees))
@@ -97,19 +105,18 @@ fn used_plans_tree(alloc: Global, model: &Model, routes: &Routes, v: u32) -> Res
 /// The chosen plans of a vehicle, one in each dimension; none where it is not used.
 pub(crate) fn plans_tree(
     alloc: Global,
-    model: &Model,
+    closed: Closed<'_>,
     routes: &Routes,
     v: u32,
 ) -> Result<Value, NoMemory>
-    requires well_formed { IsWellFormed model.now }
-    requires lists { IsTrue (are_lists model.now routes.now.lists) }
+    requires lists { IsTrue (are_lists closed.model.now routes.now.lists) }
     requires vehicle { v < length routes.now.lists }
-    ensures { let assignment = assigned model.now routes.now.lists in
-        IfOk result (λ tree. view tree ≡ solution.plans_tree model.now assignment v) }
+    ensures { let assignment = assigned closed.entry.model.now routes.now.lists in
+        IfOk result (λ tree. view tree ≡ solution.plans_tree closed.entry.model.now assignment v) }
 {
     if routes.len(v) == 0 {
         return Ok(Value::Array(Vec::new(alloc)));
     }
-    let tree = used_plans_tree(alloc, model, routes, v)?;
+    let tree = used_plans_tree(alloc, closed, routes, v)?;
     Ok(tree)
 }

@@ -5,7 +5,6 @@ ghost use Rattle.serde_json.specs.View.{view};
 ghost use Rattle.vr_model.specs.routes.Costs.{assigned};
 ghost use Rattle.vr_model.specs.routes.Routes.{are_lists, inactive, is_active, route};
 ghost use Rattle.vr_model.specs.tables.Tables.{is_visit, visits};
-ghost use Rattle.vr_model.specs.tables.WellFormed.{IsWellFormed};
 ghost use Rattle.vr_print.specs.Numbers as numbers;
 ghost use Rattle.vr_print.specs.Solution as solution;
 
@@ -14,7 +13,7 @@ use crate::plans::plans_tree;
 use serde_json::Value;
 use std::alloc::Global;
 use vr_json::Tree;
-use vr_model::{Model, NoMemory};
+use vr_model::{Closed, Model, NoMemory};
 use vr_routes::Routes;
 
 // The nodes of a route from its start to its end.
@@ -50,29 +49,32 @@ fn nodes_tree(alloc: Global, model: &Model, vehicle: u32, list: &[u32]) -> Resul
 
 // The route of a vehicle.
 #[tactic(auto, unfolding(crate::specs::Solution::route_tree))]
-fn route_tree(alloc: Global, model: &Model, routes: &Routes, v: u32) -> Result<Value, NoMemory>
-    requires well_formed { IsWellFormed model.now }
-    requires lists { IsTrue (are_lists model.now routes.now.lists) }
+fn route_tree(alloc: Global, closed: Closed<'_>, routes: &Routes, v: u32) -> Result<Value, NoMemory>
+    requires lists { IsTrue (are_lists closed.model.now routes.now.lists) }
     requires vehicle { v < length routes.now.lists }
-    ensures { let assignment = assigned model.now routes.now.lists in
-        IfOk result (λ tree. view tree ≡ solution.route_tree model.now assignment v) }
+    ensures { let assignment = assigned closed.entry.model.now routes.now.lists in
+        IfOk result (λ tree. view tree ≡ solution.route_tree closed.entry.model.now assignment v) }
 {
     let mut tree = Tree::new(alloc);
-    tree.put("dimensions", plans_tree(alloc, model, routes, v)?)?;
-    tree.put("nodes", nodes_tree(alloc, model, v, routes.list(v))?)?;
+    tree.put("dimensions", plans_tree(alloc, closed, routes, v)?)?;
+    tree.put("nodes", nodes_tree(alloc, closed.model, v, routes.list(v))?)?;
     tree.put("vehicle", Value::from(v))?;
     Ok(tree.finish())
 }
 
 /// The routes of all vehicles.
-pub(crate) fn routes_tree(alloc: Global, model: &Model, routes: &Routes) -> Result<Value, NoMemory>
-    requires well_formed { IsWellFormed model.now }
-    requires lists { IsTrue (are_lists model.now routes.now.lists) }
-    ensures { IfOk result (λ tree. view tree ≡ solution.routes_tree model.now (assigned model.now routes.now.lists)) }
+pub(crate) fn routes_tree(
+    alloc: Global,
+    closed: Closed<'_>,
+    routes: &Routes,
+) -> Result<Value, NoMemory>
+    requires { IsTrue (are_lists closed.model.now routes.now.lists) }
+    ensures { IfOk result (λ tree. view tree
+        ≡ solution.routes_tree closed.entry.model.now (assigned closed.entry.model.now routes.now.lists)) }
 {
     let mut trees = Vec::new(alloc);
     for v in 0..routes.vehicles() {
-        let route = route_tree(alloc, model, routes, v)?;
+        let route = route_tree(alloc, closed, routes, v)?;
         trees.push(route)?;
     }
     Ok(Value::Array(trees))

@@ -16,7 +16,7 @@ use crate::routes::{inactive, routes_tree};
 use serde_json::Value;
 use std::alloc::Global;
 use vr_json::{Tree, to_line};
-use vr_model::{End, Model, NoMemory, Parts, Report, Seq};
+use vr_model::{Closed, End, Model, NoMemory, Parts, Report, Seq};
 use vr_routes::Routes;
 use vr_rules::{cost, total_cost};
 
@@ -118,7 +118,7 @@ pub fn solution_tree(
 {
     let parts = cost(alloc, model, routes)?;
     let dropped = inactive(alloc, model, routes)?;
-    let trees = routes_tree(alloc, model, routes)?;
+    let trees = routes_tree(alloc, Closed { model }, routes)?;
     let tree = tree_of(alloc, &parts, &dropped, trees, first_cost, report)?;
     Ok(tree)
 }

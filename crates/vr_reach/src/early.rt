@@ -19,7 +19,7 @@ use crate::single::{Ahead, finish_of, slack_of, stop_ahead};
 use crate::spliced::Spliced;
 use crate::stops::{Stops, node_at};
 use arrayvec::ArrayVec;
-use vr_model::{Model, laws};
+use vr_model::{Closed, Model, laws};
 use vr_spans::Run;
 
 /// The cumuls of the stops of one list.
@@ -91,38 +91,45 @@ pub fn write_earliest(
             if runs.start.lo > runs.start.hi {
                 return false;
             }
-            drive(model, d, v, &runs, list, cumuls)
+            drive(Closed { model }, d, v, &runs, list, cumuls)
         }
         None => false,
     }
 }
 
 // Writes the earliest cumuls of all stops, where each can be had from the one before.
-fn drive(model: &Model, d: u32, v: u32, runs: &StopRuns, list: &[u32], cumuls: &mut Cumuls) -> bool
-    requires well_formed { IsWellFormed model.now }
-    requires dimension { d < length model.now.dimensions }
-    requires vehicle { v < length model.now.vehicles }
-    requires used { IsUsed model.now list.now }
+fn drive(
+    closed: Closed<'_>,
+    d: u32,
+    v: u32,
+    runs: &StopRuns,
+    list: &[u32],
+    cumuls: &mut Cumuls,
+) -> bool
+    requires dimension { d < length closed.model.now.dimensions }
+    requires vehicle { v < length closed.model.now.vehicles }
+    requires used { IsUsed closed.model.now list.now }
     requires few { length list.now ≤ 1000 }
-    requires start { IsRunFor (allowed_by model.now d v Start) runs.now.start }
+    requires start { IsRunFor (allowed_by closed.model.now d v Start) runs.now.start }
     requires some { runs.now.start.lo ≤ℤ runs.now.start.hi }
-    requires visits { AreVisitRuns model.now d v runs.now.visits.now }
-    requires finish { IsFinish model.now d v runs.now.finish }
+    requires visits { AreVisitRuns closed.model.now d v runs.now.visits.now }
+    requires finish { IsFinish closed.model.now d v runs.now.finish }
     ensures found { IsTrue result ↔ ((found : List ℤ)
-        × AreFoundInTurn (line model.now d v list.now) (suc (length list.now)) found) }
-    ensures early { IsTrue result → AreEarly (line model.now d v list.now) (length list.now + 1) cumuls.new.items }
+        × AreFoundInTurn (line closed.entry.model.now d v list.now) (suc (length list.now)) found) }
+    ensures early { IsTrue result → AreEarly (line closed.entry.model.now d v list.now)
+        (length list.now + 1) cumuls.new.items }
 {
     laws::lines_are_sound();
-    let evaluator = model.dimensions.get(d as usize).evaluator_of(v);
-    let slack = slack_of(model, d);
+    let evaluator = closed.model.dimensions.get(d as usize).evaluator_of(v);
+    let slack = slack_of(closed.model, d);
     let whole = Spliced::whole(list);
-    let mut origin = node_at(model, v, &whole, 0);
+    let mut origin = node_at(closed, v, &whole, 0);
     let mut cumul = runs.start.lo;
     cumuls.clear();
     cumuls.push(cumul);
     for k in 0..list.len() + 1 {
-        let ahead = stop_ahead(model, d, v, runs.visits, runs.finish, &whole, k);
-        let transit = model.transit_by(d, v, evaluator, origin, ahead.node);
+        let ahead = stop_ahead(closed, d, v, runs.visits, runs.finish, &whole, k);
+        let transit = closed.model.transit_by(d, v, evaluator, origin, ahead.node);
         match earliest_behind(cumul, transit, slack, ahead.allowed) {
             Some(next) => cumul = next,
             None => return false,

@@ -2,11 +2,10 @@
 
 ghost use Rattle.std.specs.Prelude.{◌≡◌, ◌<◌, ℕ, length, slice_index_or, IfOk};
 ghost use Rattle.vr_model.specs.routes.Routes.{is_empty};
-ghost use Rattle.vr_model.specs.tables.WellFormed.{IsWellFormed};
 ghost use Rattle.vr_reach.specs.Stops.{AreEndsOf};
 
 use std::alloc::Global;
-use vr_model::{Model, NoMemory, laws};
+use vr_model::{Closed, NoMemory, laws};
 use vr_spans::Spans;
 use vr_steps::{Breaks, Levels, StopName, allowed_at, end_levels, start_levels};
 
@@ -23,19 +22,18 @@ pub(crate) struct Ends {
 
 impl Ends {
     // The ends of vehicle `v` in dimension `d`.
-    pub(crate) fn build(alloc: Global, model: &Model, d: u32, v: u32) -> Result<Ends, NoMemory>
-        requires well_formed { IsWellFormed model.now }
-        requires dimension { d < length model.now.dimensions }
-        requires vehicle { v < length model.now.vehicles }
-        ensures { IfOk result (AreEndsOf model.now d v) }
+    pub(crate) fn build(alloc: Global, closed: Closed<'_>, d: u32, v: u32) -> Result<Ends, NoMemory>
+        requires dimension { d < length closed.model.now.dimensions }
+        requires vehicle { v < length closed.model.now.vehicles }
+        ensures { IfOk result (AreEndsOf closed.entry.model.now d v) }
     {
         laws::lines_are_sound();
         vr_steps::laws::start_is_reached();
         vr_steps::laws::end_is_reached();
-        let breaks = Breaks::of(model.dimensions.get(d as usize), v);
-        let start_set = allowed_at(alloc, model, d, v, StopName::Start)?;
+        let breaks = Breaks::of(closed.model.dimensions.get(d as usize), v);
+        let start_set = allowed_at(alloc, closed.model, d, v, StopName::Start)?;
         let start_levels = start_levels(alloc, &start_set, &breaks)?;
-        let end_set = allowed_at(alloc, model, d, v, StopName::End)?;
+        let end_set = allowed_at(alloc, closed.model, d, v, StopName::End)?;
         let end_levels = end_levels(alloc, &end_set, &breaks)?;
         Ok(Ends {
             breaks,
@@ -56,16 +54,15 @@ impl Ends {
 }
 
 // The ends of each vehicle in dimension `d`.
-pub(crate) fn ends_of_each(alloc: Global, model: &Model, d: u32) -> Result<Vec<Ends>, NoMemory>
-    requires well_formed { IsWellFormed model.now }
-    requires dimension { d < length model.now.dimensions }
-    ensures many { IfOk result (λ ends. length ends.items ≡ length model.now.vehicles) }
+pub(crate) fn ends_of_each(alloc: Global, closed: Closed<'_>, d: u32) -> Result<Vec<Ends>, NoMemory>
+    requires dimension { d < length closed.model.now.dimensions }
+    ensures many { IfOk result (λ ends. length ends.items ≡ length closed.entry.model.now.vehicles) }
     ensures each { IfOk result (λ ends. (v : ℕ) (other : Ends) → v < length ends.items
-        → AreEndsOf model.now d v (slice_index_or ends.items v other)) }
+        → AreEndsOf closed.entry.model.now d v (slice_index_or ends.items v other)) }
 {
-    let mut ends = Vec::with_capacity(alloc, model.vehicles.len())?;
-    for v in 0..model.vehicles.len() {
-        ends.push(Ends::build(alloc, model, d, v as u32)?)?;
+    let mut ends = Vec::with_capacity(alloc, closed.model.vehicles.len())?;
+    for v in 0..closed.model.vehicles.len() {
+        ends.push(Ends::build(alloc, closed, d, v as u32)?)?;
     }
     Ok(ends)
 }

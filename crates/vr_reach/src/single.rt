@@ -28,7 +28,7 @@ use crate::runs::{run_of, share};
 use crate::spliced::Spliced;
 use crate::stops::{VehicleStops, node_at};
 use std::sync::ledger::Ledger;
-use vr_model::{Evaluator, Model, Steps, laws};
+use vr_model::{Closed, Evaluator, Model, Steps, laws};
 use vr_spans::Run;
 use vr_steps::Levels;
 
@@ -174,11 +174,11 @@ pub(crate) fn carry_run<L: Ledger>(
     vr_steps::laws::runs_are_counted();
     let stops = &walk.stops;
     let mut run = from;
-    let mut origin = node_at(stops.model, stops.v, list, leg.begin);
+    let mut origin = node_at(Closed { model: stops.model }, stops.v, list, leg.begin);
     for k in leg.begin..leg.last {
         steps.tick();
         let ahead = stop_ahead(
-            stops.model,
+            Closed { model: stops.model },
             stops.d,
             stops.v,
             walk.visits,
@@ -198,7 +198,7 @@ pub(crate) fn carry_run<L: Ledger>(
 // The stop behind the arc from stop `k` of vehicle `v` with a list.
 #[inline]
 pub(crate) fn stop_ahead(
-    model: &Model,
+    closed: Closed<'_>,
     d: u32,
     v: u32,
     runs: &[Run],
@@ -206,15 +206,14 @@ pub(crate) fn stop_ahead(
     list: &Spliced,
     k: usize,
 ) -> Ahead
-    requires well_formed { IsWellFormed model.now }
-    requires vehicle { v < length model.now.vehicles }
-    requires runs { AreVisitRuns model.now d v runs.now }
-    requires finish { IsFinish model.now d v finish }
-    requires tour { IsTour model.now list.now }
+    requires vehicle { v < length closed.model.now.vehicles }
+    requires runs { AreVisitRuns closed.model.now d v runs.now }
+    requires finish { IsFinish closed.model.now d v finish }
+    requires tour { IsTour closed.model.now list.now }
     requires arc { k ≤ length list.now }
-    ensures node { result.node ≡ node_at_stop model.now v list.now (k + 1) }
-    ensures below { result.node < model.now.nodes }
-    ensures allowed { IsAllowedRun (line model.now d v list.now) (k + 1) result.allowed }
+    ensures node { result.node ≡ node_at_stop closed.entry.model.now v list.now (k + 1) }
+    ensures below { result.node < closed.entry.model.now.nodes }
+    ensures allowed { IsAllowedRun (line closed.entry.model.now d v list.now) (k + 1) result.allowed }
 {
     if k < list.len() {
         let node = list.get(k);

@@ -14,7 +14,7 @@ use crate::runs::run_tables;
 use crate::spliced::Spliced;
 use crate::visits::VisitSets;
 use std::alloc::Global;
-use vr_model::{Model, NoMemory, Seq};
+use vr_model::{Closed, Model, NoMemory, Seq};
 use vr_spans::{Run, Spans};
 use vr_steps::{Hop, hop};
 
@@ -35,8 +35,9 @@ impl Stops {
         requires dimension { d < length model.now.dimensions }
         ensures { IfOk result (AreStops model.now d) }
     {
-        let ends = ends_of_each(alloc, model, d)?;
-        let visits = VisitSets::build(alloc, model, d)?;
+        let closed = Closed { model };
+        let ends = ends_of_each(alloc, closed, d)?;
+        let visits = VisitSets::build(alloc, closed, d)?;
         let runs = run_tables(alloc, &visits.tables)?;
         Ok(Stops { ends, visits, runs })
     }
@@ -100,19 +101,18 @@ pub(crate) fn set_of<'a>(stops: &VehicleStops<'a>, list: &[u32], k: usize) -> &'
 
 // The node at a stop of vehicle `v` with a list.
 #[inline]
-pub(crate) fn node_at(model: &Model, v: u32, list: &Spliced, k: usize) -> u32
-    requires well_formed { IsWellFormed model.now }
-    requires vehicle { v < length model.now.vehicles }
-    requires tour { IsTour model.now list.now }
+pub(crate) fn node_at(closed: Closed<'_>, v: u32, list: &Spliced, k: usize) -> u32
+    requires vehicle { v < length closed.model.now.vehicles }
+    requires tour { IsTour closed.model.now list.now }
     requires stop { k ≤ suc (length list.now) }
-    ensures node { result ≡ node_at_stop model.now v list.now k }
-    ensures below { result < model.now.nodes }
+    ensures node { result ≡ node_at_stop closed.entry.model.now v list.now k }
+    ensures below { result < closed.entry.model.now.nodes }
 {
     if k == 0 {
-        return model.vehicles.get(v as usize).start;
+        return closed.model.vehicles.get(v as usize).start;
     }
     if k > list.len() {
-        return model.vehicles.get(v as usize).end;
+        return closed.model.vehicles.get(v as usize).end;
     }
     list.get(k - 1)
 }
@@ -128,8 +128,8 @@ pub(crate) fn hop_from(stops: &VehicleStops, list: &Spliced, k: usize) -> Hop
 {
     // that the list is in memory says that the sum fits
     let _few = list.len();
-    let origin = node_at(stops.model, stops.v, list, k);
-    let target = node_at(stops.model, stops.v, list, k + 1);
+    let origin = node_at(Closed { model: stops.model }, stops.v, list, k);
+    let target = node_at(Closed { model: stops.model }, stops.v, list, k + 1);
     hop(stops.model, stops.d, stops.v, origin, target)
 }
 

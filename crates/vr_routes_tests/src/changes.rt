@@ -6,7 +6,7 @@ ghost use Rattle.vr_model.specs.tables.WellFormed.{IsWellFormed};
 
 use std::alloc::Global;
 use std::test::Fail;
-use vr_model::{Model, Move};
+use vr_model::{Closed, Model, Move};
 use vr_routes::{Change, Indices, Routes};
 use vr_samples::{read_model_text, routes_of};
 
@@ -57,49 +57,44 @@ fn is_list(routes: &Routes, v: u32, wanted: &[u32]) -> bool {
 }
 
 // Whether the move of a row makes its lists, by a change that is committed.
-fn makes(model: &Model, routes: &mut Routes, change: &mut Change, row: &Row) -> bool
-    requires well_formed { IsWellFormed model.now }
-    requires of_model { routes.old.visits ≡ visits model.now }
+fn makes(closed: Closed<'_>, routes: &mut Routes, change: &mut Change, row: &Row) -> bool
+    requires of_model { routes.old.visits ≡ visits closed.model.now }
     ensures visits { routes.new.visits ≡ routes.old.visits }
     ensures many { length routes.new.lists ≡ length routes.old.lists }
 {
-    if !Change::of_into(model, routes, row.1, change) {
+    if !Change::of_into(closed.model, routes, row.1, change) {
         return false;
     }
     routes.commit(change);
     is_list(routes, 0, row.2) && is_list(routes, 1, row.3)
 }
 
-fn all_make(model: &Model, base: &Routes, routes: &mut Routes) -> Result<(), Fail>
-    requires well_formed { IsWellFormed model.now }
-    requires of_model { base.now.visits ≡ visits model.now }
+fn all_make(closed: Closed<'_>, base: &Routes, routes: &mut Routes) -> Result<(), Fail>
+    requires of_model { base.now.visits ≡ visits closed.model.now }
     requires same { routes.old ≡ base.now }
 {
     let mut change = Change::blank();
     for row in &ROWS {
         routes.assign(base);
-        if !makes(model, routes, &mut change, row) {
+        if !makes(closed, routes, &mut change, row) {
             return Err(Fail::new(row.0));
         }
     }
     Ok(())
 }
 
-fn all_make_of(alloc: Global, model: &Model, base: &Routes) -> Result<(), Fail>
-    requires well_formed { IsWellFormed model.now }
-    requires of_model { base.now.visits ≡ visits model.now }
+fn all_make_of(alloc: Global, closed: Closed<'_>, base: &Routes) -> Result<(), Fail>
+    requires of_model { base.now.visits ≡ visits closed.model.now }
 {
     match base.copy(alloc) {
-        Ok(mut routes) => all_make(model, base, &mut routes),
+        Ok(mut routes) => all_make(closed, base, &mut routes),
         Err(_) => Err("memory".into()),
     }
 }
 
-fn all_make_in(alloc: Global, model: &Model) -> Result<(), Fail>
-    requires { IsWellFormed model.now }
-{
-    match routes_of(alloc, model, &[LONG, &[9, 10]]) {
-        Ok(Some(base)) => all_make_of(alloc, model, &base),
+fn all_make_in(alloc: Global, closed: Closed<'_>) -> Result<(), Fail> {
+    match routes_of(alloc, closed.model, &[LONG, &[9, 10]]) {
+        Ok(Some(base)) => all_make_of(alloc, closed, &base),
         _ => Err("no routes".into()),
     }
 }
@@ -114,25 +109,21 @@ fn model(alloc: Global) -> Result<Model, Fail>
 #[test]
 fn moves_make_lists(rt: HostRuntime) -> Result<(), Fail> {
     let model = model(rt.alloc())?;
-    all_make_in(rt.alloc(), &model)
+    all_make_in(rt.alloc(), Closed { model: &model })
 }
 
-fn are_numbered(alloc: Global, model: &Model) -> bool
-    requires { IsWellFormed model.now }
-{
-    Indices::new(alloc, model).is_ok()
+fn are_numbered(alloc: Global, closed: Closed<'_>) -> bool {
+    Indices::new(alloc, closed.model).is_ok()
 }
 
-fn begin_empty(alloc: Global, model: &Model) -> bool
-    requires { IsWellFormed model.now }
-{
-    Routes::empty(alloc, model).is_ok()
+fn begin_empty(alloc: Global, closed: Closed<'_>) -> bool {
+    Routes::empty(alloc, closed.model).is_ok()
 }
 
 #[test]
 fn visits_are_numbered_and_routes_begin_empty(rt: HostRuntime) -> Result<(), Fail> {
     let model = model(rt.alloc())?;
-    assert!(rt; are_numbered(rt.alloc(), &model));
-    assert!(rt; begin_empty(rt.alloc(), &model));
+    assert!(rt; are_numbered(rt.alloc(), Closed { model: &model }));
+    assert!(rt; begin_empty(rt.alloc(), Closed { model: &model }));
     Ok(())
 }

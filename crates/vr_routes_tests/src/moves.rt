@@ -1,11 +1,10 @@
 //! The moves of each neighbourhood of small lists, in order.
 
 ghost use Rattle.std.specs.Iterator.{IsFinite};
-ghost use Rattle.vr_model.specs.tables.WellFormed.{IsWellFormed};
 
 use std::alloc::Global;
 use std::test::Fail;
-use vr_model::{Model, Move, Neighbourhood};
+use vr_model::{Closed, Move, Neighbourhood};
 use vr_moves_active::{make_active, make_inactive, swap_active};
 use vr_moves_cross::{cross_chains, exchange, relocate};
 use vr_moves_pair::{pair_active, pair_inactive, relocate_pair};
@@ -71,18 +70,16 @@ fn lists<I: Iterator<Item = Move>>(moves: I, kind: u32, wanted: &[[u32; 4]]) -> 
 type Row = (&'static str, Neighbourhood, &'static [[u32; 4]]);
 
 // Whether the moves of a neighbourhood have the numbers of the row.
-fn moves_are(model: &Model, routes: &Routes, row: &Row) -> bool
-    requires well_formed { IsWellFormed model.now }
-{
+fn moves_are(closed: Closed<'_>, routes: &Routes, row: &Row) -> bool {
     match row.1 {
         Neighbourhood::TwoOpt => lists(two_opt(routes), 0, row.2),
         Neighbourhood::OrOpt => lists(or_opt(routes), 1, row.2),
         Neighbourhood::Relocate => lists(relocate(routes), 2, row.2),
         Neighbourhood::Exchange => lists(exchange(routes), 3, row.2),
         Neighbourhood::Cross => lists(cross_chains(routes), 4, row.2),
-        Neighbourhood::RelocatePair => lists(relocate_pair(model, routes), 5, row.2),
-        Neighbourhood::PairActive => lists(pair_active(model, routes), 6, row.2),
-        Neighbourhood::PairInactive => lists(pair_inactive(model, routes), 7, row.2),
+        Neighbourhood::RelocatePair => lists(relocate_pair(closed.model, routes), 5, row.2),
+        Neighbourhood::PairActive => lists(pair_active(closed.model, routes), 6, row.2),
+        Neighbourhood::PairInactive => lists(pair_inactive(closed.model, routes), 7, row.2),
         Neighbourhood::MakeActive => lists(make_active(routes), 8, row.2),
         Neighbourhood::MakeInactive => lists(make_inactive(routes), 9, row.2),
         Neighbourhood::SwapActive => lists(swap_active(routes), 10, row.2),
@@ -142,29 +139,25 @@ static TABLES: [Table; 8] = [
     ] },
 ];
 
-fn all_are(model: &Model, routes: &Routes, rows: &[Row]) -> Result<(), Fail>
-    requires { IsWellFormed model.now }
-{
+fn all_are(closed: Closed<'_>, routes: &Routes, rows: &[Row]) -> Result<(), Fail> {
     for row in rows {
-        if !moves_are(model, routes, row) {
+        if !moves_are(closed, routes, row) {
             return Err(Fail::new(row.0));
         }
     }
     Ok(())
 }
 
-fn table_holds_of(alloc: Global, model: &Model, table: &Table) -> Result<(), Fail>
-    requires { IsWellFormed model.now }
-{
-    match routes_of(alloc, model, table.lists) {
-        Ok(Some(routes)) => all_are(model, &routes, table.rows),
+fn table_holds_of(alloc: Global, closed: Closed<'_>, table: &Table) -> Result<(), Fail> {
+    match routes_of(alloc, closed.model, table.lists) {
+        Ok(Some(routes)) => all_are(closed, &routes, table.rows),
         _ => Err("no routes".into()),
     }
 }
 
 fn table_holds(alloc: Global, table: &Table) -> Result<(), Fail> {
     match read_model_text(alloc, table.text) {
-        Some(model) => table_holds_of(alloc, &model, table),
+        Some(model) => table_holds_of(alloc, Closed { model: &model }, table),
         None => Err("no model".into()),
     }
 }

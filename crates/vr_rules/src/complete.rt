@@ -10,7 +10,7 @@ ghost use Rattle.vr_rules.specs.Placing.{is_complete as is_complete_of, is_fille
 use crate::marks::active_marks;
 use std::alloc::Global;
 use vr_lists::NodeTables;
-use vr_model::{Group, Model, NoMemory, Seq};
+use vr_model::{Closed, Group, Model, NoMemory, Seq};
 use vr_routes::Routes;
 
 // Whether a node is no visit, or marked, or in a group.
@@ -62,13 +62,12 @@ fn is_filled(marks: &[bool], group: &Group) -> bool
 }
 
 // Whether each group has a penalty, or as many marked nodes as it may have.
-fn are_filled(model: &Model, marks: &[bool]) -> bool
-    requires well_formed { IsWellFormed model.now }
-    requires marks { length marks.now ≡ model.now.nodes }
-    ensures { result ≡ list_all (is_filled_by marks.now) model.now.groups }
+fn are_filled(closed: Closed<'_>, marks: &[bool]) -> bool
+    requires marks { length marks.now ≡ closed.model.now.nodes }
+    ensures { result ≡ list_all (is_filled_by marks.now) closed.entry.model.now.groups }
 {
-    for k in 0..model.groups.len() {
-        if !is_filled(marks, model.groups.get(k)) {
+    for k in 0..closed.model.groups.len() {
+        if !is_filled(marks, closed.model.groups.get(k)) {
             return false;
         }
     }
@@ -83,7 +82,7 @@ pub fn is_complete(model: &Model, lookups: &NodeTables<'_>, marks: &[bool]) -> b
     requires marks { length marks.now ≡ model.now.nodes }
     ensures { result ≡ is_complete_of model.now marks.now }
 {
-    has_required(model, lookups, marks) && are_filled(model, marks)
+    has_required(model, lookups, marks) && are_filled(Closed { model }, marks)
 }
 
 /// Routes with these open lists of the model; `None` exactly where they are not valid, since something is missing in

@@ -4,76 +4,72 @@ ghost use Rattle.std.specs.Prelude.{◌≡◌, ◌<◌, ◌≤◌, ◌*◌, ◌^
 ghost use Rattle.vr_model.specs.routes.Costs.{arcs_part, fixed_part, sum_of};
 ghost use Rattle.vr_model.specs.routes.Routes.{are_lists, is_empty, route_cost};
 ghost use Rattle.vr_model.specs.tables.Tables.{vehicle_at};
-ghost use Rattle.vr_model.specs.tables.WellFormed.{IsWellFormed};
 ghost use Rattle.vr_rules.specs.Totals.{HasTotal};
 
-use vr_model::{Model, Parts};
+use vr_model::{Closed, Parts};
 use vr_routes::Routes;
 
 // The costs of the arcs that a vehicle takes with a list, added up. A list of 1000 visits has 1001 arcs.
-fn arcs_of_route(model: &Model, vehicle: u32, list: &[u32]) -> i64
-    requires well_formed { IsWellFormed model.now }
-    requires vehicle { vehicle < length model.now.vehicles }
-    requires nodes { All (λ node. node < model.now.nodes) list.now }
+fn arcs_of_route(closed: Closed<'_>, vehicle: u32, list: &[u32]) -> i64
+    requires vehicle { vehicle < length closed.model.now.vehicles }
+    requires nodes { All (λ node. node < closed.model.now.nodes) list.now }
     requires few { length list.now ≤ 1000 }
-    ensures value { result ≡ route_cost model.now vehicle list.now }
+    ensures value { result ≡ route_cost closed.entry.model.now vehicle list.now }
     ensures low { pos 0 ≤ℤ result }
     ensures high { result ≤ℤ pos (2 ^ 40 * 1001) }
 {
     if list.is_empty() {
         return 0;
     }
-    let ends = model.vehicles.get(vehicle as usize);
+    let ends = closed.model.vehicles.get(vehicle as usize);
     let mut at = ends.start;
     let mut total = 0;
     for &node in list {
-        total += model.arc_cost(vehicle, at, node);
+        total += closed.model.arc_cost(vehicle, at, node);
         at = node;
     }
-    total + model.arc_cost(vehicle, at, ends.end)
+    total + closed.model.arc_cost(vehicle, at, ends.end)
 }
 
 // What the use of a vehicle costs with these visits: nothing where there are none.
-fn fixed_of_route(model: &Model, vehicle: u32, visits: &[u32]) -> i64
-    requires well_formed { IsWellFormed model.now }
-    requires vehicle { vehicle < length model.now.vehicles }
-    ensures value { result ≡ (if is_empty visits.now then pos 0 else (vehicle_at model.now vehicle).fixed) }
+fn fixed_of_route(closed: Closed<'_>, vehicle: u32, visits: &[u32]) -> i64
+    requires vehicle { vehicle < length closed.model.now.vehicles }
+    ensures value { result ≡ (if is_empty visits.now then pos 0 else
+        (vehicle_at closed.entry.model.now vehicle).fixed) }
     ensures low { pos 0 ≤ℤ result }
     ensures high { result ≤ℤ pos (2 ^ 40) }
 {
     if visits.is_empty() {
         0
     } else {
-        model.vehicles.get(vehicle as usize).fixed
+        closed.model.vehicles.get(vehicle as usize).fixed
     }
 }
 
 // The arcs part of the cost of routes.
-pub(crate) fn arcs_of_routes(model: &Model, routes: &Routes) -> i64
-    requires well_formed { IsWellFormed model.now }
-    requires lists { IsTrue (are_lists model.now routes.now.lists) }
-    ensures value { result ≡ arcs_part model.now routes.now.lists }
+pub(crate) fn arcs_of_routes(closed: Closed<'_>, routes: &Routes) -> i64
+    requires { IsTrue (are_lists closed.model.now routes.now.lists) }
+    ensures value { result ≡ arcs_part closed.entry.model.now routes.now.lists }
     ensures low { pos 0 ≤ℤ result }
     ensures high { result ≤ℤ pos (2 ^ 40 * 1001 * 100) }
 {
     let mut total = 0;
     for vehicle in 0..routes.vehicles() {
-        total += arcs_of_route(model, vehicle, routes.list(vehicle));
+        total += arcs_of_route(closed, vehicle, routes.list(vehicle));
     }
     total
 }
 
 // The fixed part of the cost of routes.
-pub(crate) fn fixed_of_routes(model: &Model, routes: &Routes) -> i64
-    requires well_formed { IsWellFormed model.now }
-    requires lists { IsTrue (are_lists model.now routes.now.lists) }
-    ensures value { result ≡ fixed_part model.now routes.now.lists }
+pub(crate) fn fixed_of_routes(closed: Closed<'_>, routes: &Routes) -> i64
+    requires { IsTrue (are_lists closed.model.now routes.now.lists) }
+    ensures value { result ≡ fixed_part closed.entry.model.now routes.now.lists }
     ensures low { pos 0 ≤ℤ result }
     ensures high { result ≤ℤ pos (2 ^ 40 * 100) }
 {
     let mut total = 0;
     for vehicle in 0..routes.vehicles() {
-        total += fixed_of_route(model, vehicle, routes.list(vehicle));
+        total += fixed_of_route(closed, vehicle, routes.list(vehicle));
     }
     total
 }

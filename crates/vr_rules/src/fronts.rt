@@ -22,7 +22,7 @@ use std::alloc::Global;
 use std::marker::Brand;
 use std::sync::ledger::{Blank, Ledger};
 use vr_lists::{NodeTables, PairPlaces, keeps_pairs};
-use vr_model::{Model, NoMemory, Steps};
+use vr_model::{Closed, Model, NoMemory, Steps};
 use vr_reach::Walk;
 use vr_spans::Spans;
 use vr_steps::{Breaks, Levels, StopName, allowed_at, hop, start_levels};
@@ -52,29 +52,34 @@ pub fn last_stop(model: &Model, v: u32, list: &[u32]) -> u32
 }
 
 // What a node allows, where it is a visit.
-fn visit_set(alloc: Global, model: &Model, d: u32, v: u32, node: u32) -> Result<Spans, NoMemory>
-    requires well_formed { IsWellFormed model.now }
-    requires dimension { d < length model.now.dimensions }
-    requires vehicle { v < length model.now.vehicles }
-    ensures { IfOk result (λ set. IsTrue (is_visit_of model.now node) → IsStopSet model.now d v (Visit node) set) }
+fn visit_set(
+    alloc: Global,
+    closed: Closed<'_>,
+    d: u32,
+    v: u32,
+    node: u32,
+) -> Result<Spans, NoMemory>
+    requires dimension { d < length closed.model.now.dimensions }
+    requires vehicle { v < length closed.model.now.vehicles }
+    ensures { IfOk result (λ set. IsTrue (is_visit_of closed.entry.model.now node)
+        → IsStopSet closed.entry.model.now d v (Visit node) set) }
 {
-    if !model.is_visit(node) {
+    if !closed.model.is_visit(node) {
         return Ok(Spans::new(alloc));
     }
-    let set = allowed_at(alloc, model, d, v, StopName::Visit(node))?;
+    let set = allowed_at(alloc, closed.model, d, v, StopName::Visit(node))?;
     Ok(set)
 }
 
 // What each visit allows.
-fn visit_sets(alloc: Global, model: &Model, d: u32, v: u32) -> Result<Vec<Spans>, NoMemory>
-    requires well_formed { IsWellFormed model.now }
-    requires dimension { d < length model.now.dimensions }
-    requires vehicle { v < length model.now.vehicles }
-    ensures { IfOk result (λ sets. AreVisitSets model.now d v sets.items) }
+fn visit_sets(alloc: Global, closed: Closed<'_>, d: u32, v: u32) -> Result<Vec<Spans>, NoMemory>
+    requires dimension { d < length closed.model.now.dimensions }
+    requires vehicle { v < length closed.model.now.vehicles }
+    ensures { IfOk result (λ sets. AreVisitSets closed.entry.model.now d v sets.items) }
 {
-    let mut sets = Vec::with_capacity(alloc, model.nodes as usize)?;
-    for node in 0..model.nodes {
-        sets.push(visit_set(alloc, model, d, v, node)?)?;
+    let mut sets = Vec::with_capacity(alloc, closed.model.nodes as usize)?;
+    for node in 0..closed.model.nodes {
+        sets.push(visit_set(alloc, closed, d, v, node)?)?;
     }
     Ok(sets)
 }
@@ -82,39 +87,37 @@ fn visit_sets(alloc: Global, model: &Model, d: u32, v: u32) -> Result<Vec<Spans>
 // What vehicle `v` reaches at its start.
 fn levels_at_start(
     alloc: Global,
-    model: &Model,
+    closed: Closed<'_>,
     d: u32,
     v: u32,
     breaks: &Breaks,
 ) -> Result<Levels, NoMemory>
-    requires well_formed { IsWellFormed model.now }
-    requires dimension { d < length model.now.dimensions }
-    requires vehicle { v < length model.now.vehicles }
-    requires breaks { breaks.now ≡ breaks_of (dimension_at model.now d) v }
+    requires dimension { d < length closed.model.now.dimensions }
+    requires vehicle { v < length closed.model.now.vehicles }
+    requires breaks { breaks.now ≡ breaks_of (dimension_at closed.model.now d) v }
     requires each_break { All IsBreak breaks.now }
     requires few_breaks { length breaks.now ≤ 8 }
     ensures form { IfOk result (AreLevels breaks.now) }
-    ensures reached { IfOk result (AreReachedBehind model.now d v []) }
+    ensures reached { IfOk result (AreReachedBehind closed.entry.model.now d v []) }
 {
     vr_model::laws::lines_are_sound();
     vr_steps::laws::start_is_reached();
-    let start = allowed_at(alloc, model, d, v, StopName::Start)?;
+    let start = allowed_at(alloc, closed.model, d, v, StopName::Start)?;
     let levels = start_levels(alloc, &start, breaks)?;
     Ok(levels)
 }
 
 impl Front {
     // At the start of the vehicle.
-    fn at_start(alloc: Global, model: &Model, d: u32, v: u32) -> Result<Front, NoMemory>
-        requires well_formed { IsWellFormed model.now }
-        requires dimension { d < length model.now.dimensions }
-        requires vehicle { v < length model.now.vehicles }
-        ensures { IfOk result (IsFrontOf model.now d v []) }
+    fn at_start(alloc: Global, closed: Closed<'_>, d: u32, v: u32) -> Result<Front, NoMemory>
+        requires dimension { d < length closed.model.now.dimensions }
+        requires vehicle { v < length closed.model.now.vehicles }
+        ensures { IfOk result (IsFrontOf closed.entry.model.now d v []) }
     {
-        let breaks = Breaks::of(model.dimensions.get(d as usize), v);
-        let here = levels_at_start(alloc, model, d, v, &breaks)?;
-        let ending = allowed_at(alloc, model, d, v, StopName::End)?;
-        let visits = visit_sets(alloc, model, d, v)?;
+        let breaks = Breaks::of(closed.model.dimensions.get(d as usize), v);
+        let here = levels_at_start(alloc, closed, d, v, &breaks)?;
+        let ending = allowed_at(alloc, closed.model, d, v, StopName::End)?;
+        let visits = visit_sets(alloc, closed, d, v)?;
         Ok(Front {
             dimension: d,
             vehicle: v,
@@ -129,23 +132,22 @@ impl Front {
     fn leave<L: Ledger>(
         &self,
         walk: &mut Walk,
-        model: &Model,
+        closed: Closed<'_>,
         list: &[u32],
         node: u32,
         steps: &mut Steps<L>,
     ) -> Result<(), NoMemory>
-        requires well_formed { IsWellFormed model.now }
-        requires front { IsFront model.now list.now self.now }
-        requires visits { IsTrue (list_all (is_visit_of model.now) list.now) }
-        requires visit { IsTrue (is_visit_of model.now node) }
-        ensures reached { OnOk result (AreReachedBehind model.now self.now.dimension self.now.vehicle
+        requires front { IsFront closed.model.now list.now self.now }
+        requires visits { IsTrue (list_all (is_visit_of closed.model.now) list.now) }
+        requires visit { IsTrue (is_visit_of closed.model.now node) }
+        ensures reached { OnOk result (AreReachedBehind closed.entry.model.now self.now.dimension self.now.vehicle
             (list.now ++ node ∷ []) walk.new) }
         ensures levels { OnOk result (AreLevels self.now.breaks walk.new) }
     {
         vr_model::laws::lines_are_sound();
         vr_steps::laws::reached_behind_arc();
-        let origin = last_stop(model, self.vehicle, list);
-        let arc = hop(model, self.dimension, self.vehicle, origin, node);
+        let origin = last_stop(closed.model, self.vehicle, list);
+        let arc = hop(closed.model, self.dimension, self.vehicle, origin, node);
         let next = &self.visits[node as usize];
         walk.leave(&self.here, arc, next, &self.breaks, steps)?;
         Ok(())
@@ -155,26 +157,25 @@ impl Front {
     fn go_on<L: Ledger>(
         &self,
         walk: &mut Walk,
-        model: &Model,
+        closed: Closed<'_>,
         list: &[u32],
         before: u32,
         node: u32,
         steps: &mut Steps<L>,
     ) -> Result<(), NoMemory>
-        requires well_formed { IsWellFormed model.now }
-        requires front { IsFront model.now list.now self.now }
-        requires before { IsTrue (is_visit_of model.now before) }
-        requires visit { IsTrue (is_visit_of model.now node) }
-        requires here { AreReachedBehind model.now self.now.dimension self.now.vehicle
+        requires front { IsFront closed.model.now list.now self.now }
+        requires before { IsTrue (is_visit_of closed.model.now before) }
+        requires visit { IsTrue (is_visit_of closed.model.now node) }
+        requires here { AreReachedBehind closed.model.now self.now.dimension self.now.vehicle
             (list.now ++ before ∷ []) walk.old }
         requires form { AreLevels self.now.breaks walk.old }
-        ensures reached { OnOk result (AreReachedBehind model.now self.now.dimension self.now.vehicle
+        ensures reached { OnOk result (AreReachedBehind closed.entry.model.now self.now.dimension self.now.vehicle
             (list.now ++ before ∷ node ∷ []) walk.new) }
         ensures levels { OnOk result (AreLevels self.now.breaks walk.new) }
     {
         vr_model::laws::lines_are_sound();
         vr_steps::laws::reached_behind_arc();
-        let arc = hop(model, self.dimension, self.vehicle, before, node);
+        let arc = hop(closed.model, self.dimension, self.vehicle, before, node);
         let next = &self.visits[node as usize];
         walk.step(arc, next, &self.breaks, steps)?;
         Ok(())
@@ -184,24 +185,23 @@ impl Front {
     fn walk_item<L: Ledger>(
         &self,
         walk: &mut Walk,
-        model: &Model,
+        closed: Closed<'_>,
         list: &[u32],
         item: Item,
         steps: &mut Steps<L>,
     ) -> Result<(), NoMemory>
-        requires well_formed { IsWellFormed model.now }
-        requires front { IsFront model.now list.now self.now }
-        requires visits { IsTrue (list_all (is_visit_of model.now) list.now) }
-        requires item { IsTrue (list_all (is_visit_of model.now) (nodes_of item)) }
-        ensures reached { OnOk result (AreReachedBehind model.now self.now.dimension self.now.vehicle
+        requires front { IsFront closed.model.now list.now self.now }
+        requires visits { IsTrue (list_all (is_visit_of closed.model.now) list.now) }
+        requires item { IsTrue (list_all (is_visit_of closed.model.now) (nodes_of item)) }
+        ensures reached { OnOk result (AreReachedBehind closed.entry.model.now self.now.dimension self.now.vehicle
             (list.now ++ nodes_of item) walk.new) }
         ensures levels { OnOk result (AreLevels self.now.breaks walk.new) }
     {
         match item {
-            Item::Visit(node) => self.leave(walk, model, list, node, steps)?,
+            Item::Visit(node) => self.leave(walk, closed, list, node, steps)?,
             Item::PickupAndDelivery(pickup, delivery) => {
-                self.leave(walk, model, list, pickup, steps)?;
-                self.go_on(walk, model, list, pickup, delivery, steps)?
+                self.leave(walk, closed, list, pickup, steps)?;
+                self.go_on(walk, closed, list, pickup, delivery, steps)?
             }
         }
         Ok(())
@@ -212,26 +212,26 @@ impl Front {
     fn ends<L: Ledger>(
         &self,
         walk: &mut Walk,
-        model: &Model,
+        closed: Closed<'_>,
         list: &[u32],
         item: Item,
         steps: &mut Steps<L>,
     ) -> Result<bool, NoMemory>
-        requires well_formed { IsWellFormed model.now }
-        requires front { IsFront model.now list.now self.now }
-        requires driven { IsDriven model.now (list.now ++ nodes_of item) }
-        requires item { IsTrue (list_all (is_visit_of model.now) (nodes_of item)) }
-        requires here { AreReachedBehind model.now self.now.dimension self.now.vehicle
+        requires front { IsFront closed.model.now list.now self.now }
+        requires driven { IsDriven closed.model.now (list.now ++ nodes_of item) }
+        requires item { IsTrue (list_all (is_visit_of closed.model.now) (nodes_of item)) }
+        requires here { AreReachedBehind closed.model.now self.now.dimension self.now.vehicle
             (list.now ++ nodes_of item) walk.old }
         requires form { AreLevels self.now.breaks walk.old }
         ensures { IfOk result (λ ends. ends
-            ≡ is_feasible (line model.now self.now.dimension self.now.vehicle (list.now ++ nodes_of item))) }
+            ≡ is_feasible (line closed.entry.model.now self.now.dimension self.now.vehicle
+            (list.now ++ nodes_of item))) }
     {
         vr_model::laws::lines_are_sound();
         vr_model::laws::chosen_where_feasible();
         vr_steps::laws::reached_behind_arc();
-        let end = model.vehicles.get(self.vehicle as usize).end;
-        let arc = hop(model, self.dimension, self.vehicle, item.last(), end);
+        let end = closed.model.vehicles.get(self.vehicle as usize).end;
+        let arc = hop(closed.model, self.dimension, self.vehicle, item.last(), end);
         walk.step(arc, &self.ending, &self.breaks, steps)?;
         Ok(walk.ends(&self.breaks))
     }
@@ -240,7 +240,7 @@ impl Front {
     fn feasible_with<L: Ledger>(
         &self,
         walk: &mut Walk,
-        model: &Model,
+        closed: Closed<'_>,
         list: &[u32],
         item: Item,
         blank: Blank,
@@ -248,17 +248,17 @@ impl Front {
         requires name { blank.name ≡ L.name }
         requires parts { blank.parts ≡ L.parts }
         requires some { 0 < blank.parts }
-        requires well_formed { IsWellFormed model.now }
-        requires front { IsFront model.now list.now self.now }
-        requires driven { IsDriven model.now (list.now ++ nodes_of item) }
-        requires visits { IsTrue (list_all (is_visit_of model.now) list.now) }
-        requires item { IsTrue (list_all (is_visit_of model.now) (nodes_of item)) }
+        requires front { IsFront closed.model.now list.now self.now }
+        requires driven { IsDriven closed.model.now (list.now ++ nodes_of item) }
+        requires visits { IsTrue (list_all (is_visit_of closed.model.now) list.now) }
+        requires item { IsTrue (list_all (is_visit_of closed.model.now) (nodes_of item)) }
         ensures { IfOk result (λ feasible. feasible
-            ≡ is_feasible (line model.now self.now.dimension self.now.vehicle (list.now ++ nodes_of item))) }
+            ≡ is_feasible (line closed.entry.model.now self.now.dimension self.now.vehicle
+            (list.now ++ nodes_of item))) }
     {
         let mut steps = Steps::<L>::new(blank);
-        self.walk_item(walk, model, list, item, &mut steps)?;
-        let feasible = self.ends(walk, model, list, item, &mut steps)?;
+        self.walk_item(walk, closed, list, item, &mut steps)?;
+        let feasible = self.ends(walk, closed, list, item, &mut steps)?;
         Ok(feasible)
     }
 
@@ -266,7 +266,7 @@ impl Front {
     fn advance<L: Ledger>(
         &mut self,
         walk: &mut Walk,
-        model: &Model,
+        closed: Closed<'_>,
         list: &[u32],
         item: Item,
         blank: Blank,
@@ -274,16 +274,15 @@ impl Front {
         requires name { blank.name ≡ L.name }
         requires parts { blank.parts ≡ L.parts }
         requires some { 0 < blank.parts }
-        requires well_formed { IsWellFormed model.now }
-        requires front { IsFront model.now list.now self.old }
-        requires visits { IsTrue (list_all (is_visit_of model.now) list.now) }
-        requires item { IsTrue (list_all (is_visit_of model.now) (nodes_of item)) }
-        ensures front { OnOk result (IsFront model.now (list.now ++ nodes_of item) self.new) }
+        requires front { IsFront closed.model.now list.now self.old }
+        requires visits { IsTrue (list_all (is_visit_of closed.model.now) list.now) }
+        requires item { IsTrue (list_all (is_visit_of closed.model.now) (nodes_of item)) }
+        ensures front { OnOk result (IsFront closed.entry.model.now (list.now ++ nodes_of item) self.new) }
         ensures dimension { OnOk result (self.new.dimension ≡ self.old.dimension) }
         ensures vehicle { OnOk result (self.new.vehicle ≡ self.old.vehicle) }
     {
         let mut steps = Steps::<L>::new(blank);
-        self.walk_item(walk, model, list, item, &mut steps)?;
+        self.walk_item(walk, closed, list, item, &mut steps)?;
         walk.hand_over(&mut self.here);
         Ok(())
     }
@@ -293,20 +292,20 @@ impl Front {
 fn is_feasible_with(
     fronts: &Vec<Front>,
     walk: &mut Walk,
-    model: &Model,
+    closed: Closed<'_>,
     v: u32,
     list: &[u32],
     item: Item,
 ) -> Result<bool, NoMemory>
-    requires well_formed { IsWellFormed model.now }
-    requires fronts { AreFronts model.now v list.now fronts.now.items }
-    requires driven { IsDriven model.now (list.now ++ nodes_of item) }
-    requires visits { IsTrue (list_all (is_visit_of model.now) list.now) }
-    requires item { IsTrue (list_all (is_visit_of model.now) (nodes_of item)) }
-    ensures { IfOk result (λ answer. answer ≡ is_feasible_in_each model.now v (list.now ++ nodes_of item)) }
+    requires fronts { AreFronts closed.model.now v list.now fronts.now.items }
+    requires driven { IsDriven closed.model.now (list.now ++ nodes_of item) }
+    requires visits { IsTrue (list_all (is_visit_of closed.model.now) list.now) }
+    requires item { IsTrue (list_all (is_visit_of closed.model.now) (nodes_of item)) }
+    ensures { IfOk result (λ answer. answer
+        ≡ is_feasible_in_each closed.entry.model.now v (list.now ++ nodes_of item)) }
 {
     for d in 0..fronts.len() {
-        if !fronts[d].feasible_with::<Brand>(walk, model, list, item, Blank::new(1))? {
+        if !fronts[d].feasible_with::<Brand>(walk, closed, list, item, Blank::new(1))? {
             return Ok(false);
         }
     }
@@ -317,32 +316,30 @@ fn is_feasible_with(
 fn advance_each(
     fronts: &mut Vec<Front>,
     walk: &mut Walk,
-    model: &Model,
+    closed: Closed<'_>,
     v: u32,
     list: &[u32],
     item: Item,
 ) -> Result<(), NoMemory>
-    requires well_formed { IsWellFormed model.now }
-    requires fronts { AreFronts model.now v list.now fronts.old.items }
-    requires visits { IsTrue (list_all (is_visit_of model.now) list.now) }
-    requires item { IsTrue (list_all (is_visit_of model.now) (nodes_of item)) }
-    ensures { OnOk result (AreFronts model.now v (list.now ++ nodes_of item) fronts.new.items) }
+    requires fronts { AreFronts closed.model.now v list.now fronts.old.items }
+    requires visits { IsTrue (list_all (is_visit_of closed.model.now) list.now) }
+    requires item { IsTrue (list_all (is_visit_of closed.model.now) (nodes_of item)) }
+    ensures { OnOk result (AreFronts closed.entry.model.now v (list.now ++ nodes_of item) fronts.new.items) }
 {
     for d in 0..fronts.len() {
-        fronts[d].advance::<Brand>(walk, model, list, item, Blank::new(1))?;
+        fronts[d].advance::<Brand>(walk, closed, list, item, Blank::new(1))?;
     }
     Ok(())
 }
 
 // The fronts at the start of a vehicle.
-fn fronts_at_start(alloc: Global, model: &Model, v: u32) -> Result<Vec<Front>, NoMemory>
-    requires well_formed { IsWellFormed model.now }
-    requires vehicle { v < length model.now.vehicles }
-    ensures { IfOk result (λ fronts. AreFronts model.now v [] fronts.items) }
+fn fronts_at_start(alloc: Global, closed: Closed<'_>, v: u32) -> Result<Vec<Front>, NoMemory>
+    requires vehicle { v < length closed.model.now.vehicles }
+    ensures { IfOk result (λ fronts. AreFronts closed.entry.model.now v [] fronts.items) }
 {
-    let mut fronts = Vec::with_capacity(alloc, model.dimensions.len())?;
-    for d in 0..model.dimensions.len() {
-        fronts.push(Front::at_start(alloc, model, d as u32, v)?)?;
+    let mut fronts = Vec::with_capacity(alloc, closed.model.dimensions.len())?;
+    for d in 0..closed.model.dimensions.len() {
+        fronts.push(Front::at_start(alloc, closed, d as u32, v)?)?;
     }
     Ok(fronts)
 }
@@ -351,17 +348,16 @@ fn fronts_at_start(alloc: Global, model: &Model, v: u32) -> Result<Vec<Front>, N
 fn go_along(
     fronts: &mut Vec<Front>,
     walk: &mut Walk,
-    model: &Model,
+    closed: Closed<'_>,
     v: u32,
     list: &[u32],
 ) -> Result<(), NoMemory>
-    requires well_formed { IsWellFormed model.now }
-    requires fronts { AreFronts model.now v [] fronts.old.items }
-    requires visits { IsTrue (list_all (is_visit_of model.now) list.now) }
-    ensures { OnOk result (AreFronts model.now v list.now fronts.new.items) }
+    requires fronts { AreFronts closed.model.now v [] fronts.old.items }
+    requires visits { IsTrue (list_all (is_visit_of closed.model.now) list.now) }
+    ensures { OnOk result (AreFronts closed.entry.model.now v list.now fronts.new.items) }
 {
     for k in 0..list.len() {
-        advance_each(fronts, walk, model, v, &list[..k], Item::Visit(list[k]))?;
+        advance_each(fronts, walk, closed, v, &list[..k], Item::Visit(list[k]))?;
     }
     Ok(())
 }
@@ -385,21 +381,20 @@ fn longer(alloc: Global, list: &[u32], item: Item) -> Result<Vec<u32>, NoMemory>
 // memory where the model has no pairs.
 fn keeps_pairs_with(
     room: &mut Room,
-    model: &Model,
+    closed: Closed<'_>,
     v: u32,
     list: &[u32],
     item: Item,
 ) -> Result<bool, NoMemory>
-    requires well_formed { IsWellFormed model.now }
-    requires vehicle { v < length model.now.vehicles }
-    requires driven { IsDriven model.now (list.now ++ nodes_of item) }
-    ensures { IfOk result (λ keeps. keeps ≡ keeps_pairs model.now v (list.now ++ nodes_of item)) }
+    requires vehicle { v < length closed.model.now.vehicles }
+    requires driven { IsDriven closed.model.now (list.now ++ nodes_of item) }
+    ensures { IfOk result (λ keeps. keeps ≡ keeps_pairs closed.entry.model.now v (list.now ++ nodes_of item)) }
 {
-    if model.pairs.is_empty() {
+    if closed.model.pairs.is_empty() {
         return Ok(true);
     }
     let longer = longer(room.alloc, list, item)?;
-    Ok(keeps_pairs(model, v, &longer, &mut room.pairs))
+    Ok(keeps_pairs(closed.model, v, &longer, &mut room.pairs))
 }
 
 /// What is written over while items are tried at the end of a list.
@@ -436,8 +431,9 @@ impl Fronts {
         requires visits { IsTrue (list_all (is_visit_of model.now) list.now) }
         ensures { IfOk result (AreFrontsOf model.now v list.now) }
     {
-        let mut each = fronts_at_start(room.alloc, model, v)?;
-        go_along(&mut each, &mut room.walk, model, v, list)?;
+        let closed = Closed { model };
+        let mut each = fronts_at_start(room.alloc, closed, v)?;
+        go_along(&mut each, &mut room.walk, closed, v, list)?;
         Ok(Fronts { each })
     }
 
@@ -460,13 +456,14 @@ impl Fronts {
         requires driven { IsDriven model.now (list.now ++ nodes_of item) }
         ensures { IfOk result (λ may. may ≡ is_route_open model.now v (list.now ++ nodes_of item)) }
     {
+        let closed = Closed { model };
         if !allows_item(lookups, v, item) {
             return Ok(false);
         }
-        if !is_feasible_with(&self.each, &mut room.walk, model, v, list, item)? {
+        if !is_feasible_with(&self.each, &mut room.walk, closed, v, list, item)? {
             return Ok(false);
         }
-        let keeps = keeps_pairs_with(room, model, v, list, item)?;
+        let keeps = keeps_pairs_with(room, closed, v, list, item)?;
         Ok(keeps)
     }
 
@@ -484,7 +481,14 @@ impl Fronts {
         requires driven { IsDriven model.now (list.now ++ nodes_of item) }
         ensures { OnOk result (AreFrontsOf model.now v (list.now ++ nodes_of item) self.new) }
     {
-        advance_each(&mut self.each, &mut room.walk, model, v, list, item)?;
+        advance_each(
+            &mut self.each,
+            &mut room.walk,
+            Closed { model },
+            v,
+            list,
+            item,
+        )?;
         Ok(())
     }
 }

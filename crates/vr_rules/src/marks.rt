@@ -10,7 +10,7 @@ ghost use Rattle.vr_rules.specs.Placing.{fits_by, has_room_at, AreMarks};
 use crate::items::Item;
 use std::alloc::Global;
 use vr_lists::NodeTables;
-use vr_model::{Group, Model, NoMemory};
+use vr_model::{Closed, Group, Model, NoMemory};
 use vr_routes::Routes;
 
 // Whether a node is marked, or in the item.
@@ -37,36 +37,34 @@ fn has_room(marks: &[bool], item: Item, group: &Group) -> bool
 
 // Whether the group of a node, where it is in one, has room for an item beside the marked nodes.
 fn group_has_room(
-    model: &Model,
+    closed: Closed<'_>,
     lookups: &NodeTables<'_>,
     marks: &[bool],
     item: Item,
     node: u32,
 ) -> bool
-    requires well_formed { IsWellFormed model.now }
-    requires lookups { lookups.now ≡ model.now }
-    requires marks { length marks.now ≡ model.now.nodes }
-    ensures { result ≡ has_room_at model.now marks.now item node }
+    requires lookups { lookups.now ≡ closed.model.now }
+    requires marks { length marks.now ≡ closed.model.now.nodes }
+    ensures { result ≡ has_room_at closed.entry.model.now marks.now item node }
 {
     let g = lookups.group_number(node) as usize;
-    if g < model.groups.len() {
-        return has_room(marks, item, model.groups.get(g));
+    if g < closed.model.groups.len() {
+        return has_room(marks, item, closed.model.groups.get(g));
     }
     true
 }
 
 // Whether the groups of the nodes of an item have room for it.
-fn item_has_room(model: &Model, lookups: &NodeTables<'_>, marks: &[bool], item: Item) -> bool
-    requires well_formed { IsWellFormed model.now }
-    requires lookups { lookups.now ≡ model.now }
-    requires marks { length marks.now ≡ model.now.nodes }
-    ensures { result ≡ list_all (has_room_at model.now marks.now item) (nodes_of item) }
+fn item_has_room(closed: Closed<'_>, lookups: &NodeTables<'_>, marks: &[bool], item: Item) -> bool
+    requires lookups { lookups.now ≡ closed.model.now }
+    requires marks { length marks.now ≡ closed.model.now.nodes }
+    ensures { result ≡ list_all (has_room_at closed.entry.model.now marks.now item) (nodes_of item) }
 {
     match item {
-        Item::Visit(node) => group_has_room(model, lookups, marks, item, node),
+        Item::Visit(node) => group_has_room(closed, lookups, marks, item, node),
         Item::PickupAndDelivery(pickup, delivery) => {
-            group_has_room(model, lookups, marks, item, pickup)
-                && group_has_room(model, lookups, marks, item, delivery)
+            group_has_room(closed, lookups, marks, item, pickup)
+                && group_has_room(closed, lookups, marks, item, delivery)
         }
     }
 }
@@ -80,7 +78,7 @@ pub fn groups_have_room(model: &Model, lookups: &NodeTables<'_>, marks: &[bool],
     requires fit { IsTrue (list_all (fits_by marks.now) model.now.groups) }
     ensures { result ≡ list_all (has_room_of marks.now item) model.now.groups }
 {
-    item_has_room(model, lookups, marks, item)
+    item_has_room(Closed { model }, lookups, marks, item)
 }
 
 // Marks the nodes of a list.

@@ -5,11 +5,11 @@ ghost use Rattle.std.specs.Prelude.{pos, All, IsTrue, count_by, length, nat_le};
 ghost use Rattle.std.specs.List.{list_all};
 ghost use Rattle.vr_model.specs.tables.Numbers.{total_by};
 ghost use Rattle.vr_model.specs.tables.Limits.{greatest_cost};
-ghost use Rattle.vr_model.specs.tables.WellFormed.{IsIn, IsWellFormed, WherePresent};
+ghost use Rattle.vr_model.specs.tables.WellFormed.{IsIn, WherePresent};
 ghost use Rattle.vr_rules.specs.Placing.{fits_by, is_marked, penalty_by};
 
 use crate::complete::marked;
-use vr_model::{Group, Model};
+use vr_model::{Closed, Group};
 
 // How many nodes fewer of a group are marked than may be.
 fn missing(marks: &[bool], group: &Group) -> i64
@@ -41,17 +41,16 @@ fn penalty_of_group(marks: &[bool], group: &Group) -> i64
 
 // What all groups cost with the marked nodes: for each group with a penalty, the penalty times how many nodes fewer are
 // marked than may be.
-pub(crate) fn penalty_of_groups(model: &Model, marks: &[bool]) -> i64
-    requires well_formed { IsWellFormed model.now }
-    requires marks { length marks.now ≡ model.now.nodes }
-    requires fit { IsTrue (list_all (fits_by marks.now) model.now.groups) }
-    ensures value { result ≡ total_by (penalty_by marks.now) model.now.groups }
+pub(crate) fn penalty_of_groups(closed: Closed<'_>, marks: &[bool]) -> i64
+    requires marks { length marks.now ≡ closed.model.now.nodes }
+    requires fit { IsTrue (list_all (fits_by marks.now) closed.model.now.groups) }
+    ensures value { result ≡ total_by (penalty_by marks.now) closed.entry.model.now.groups }
     ensures low { pos 0 ≤ℤ result }
     ensures high { result ≤ℤ pos (2 ^ 40 * 1000 * 1000) }
 {
     let mut total = 0;
-    for k in 0..model.groups.len() {
-        total += penalty_of_group(marks, model.groups.get(k));
+    for k in 0..closed.model.groups.len() {
+        total += penalty_of_group(marks, closed.model.groups.get(k));
     }
     total
 }

@@ -11,7 +11,7 @@ ghost use Rattle.vr_plan.specs.Tables.{AreTables};
 
 use std::alloc::Global;
 use vr_lists::{NodeTables, PairPlaces, keeps_pairs};
-use vr_model::{Model, NoMemory};
+use vr_model::{Closed, Model, NoMemory};
 use vr_plan::Table;
 use vr_reach::{Walk, goes_through};
 
@@ -61,28 +61,27 @@ pub fn is_route_open(
     if !keeps_pairs(model, v, list, &mut driving.pairs) {
         return Ok(false);
     }
-    let feasible = is_feasible_in_each(model, tables, v, list, &mut driving.walk)?;
+    let feasible = is_feasible_in_each(Closed { model }, tables, v, list, &mut driving.walk)?;
     Ok(feasible)
 }
 
 // Whether the line of a list has a schedule in each dimension.
 fn is_feasible_in_each(
-    model: &Model,
+    closed: Closed<'_>,
     tables: &[Table],
     v: u32,
     list: &[u32],
     walk: &mut Walk,
 ) -> Result<bool, NoMemory>
-    requires well_formed { IsWellFormed model.now }
-    requires tables { AreTables model.now tables.now }
-    requires vehicle { v < length model.now.vehicles }
+    requires tables { AreTables closed.model.now tables.now }
+    requires vehicle { v < length closed.model.now.vehicles }
     requires some { 0 < length list.now }
-    requires visits { IsTrue (list_all (is_visit model.now) list.now) }
+    requires visits { IsTrue (list_all (is_visit closed.model.now) list.now) }
     requires distinct { IsTrue (is_distinct list.now) }
-    ensures { IfOk result (λ answer. answer ≡ is_feasible_in_each_of model.now v list.now) }
+    ensures { IfOk result (λ answer. answer ≡ is_feasible_in_each_of closed.entry.model.now v list.now) }
 {
-    for d in 0..model.dimensions.len() {
-        if !goes_through(model, d as u32, v, &tables[d].stops, list, walk)? {
+    for d in 0..closed.model.dimensions.len() {
+        if !goes_through(closed.model, d as u32, v, &tables[d].stops, list, walk)? {
             return Ok(false);
         }
     }

@@ -18,7 +18,7 @@ use crate::validity::{is_open, is_valid};
 use std::alloc::Global;
 use std::marker::Model;
 use vr_lists::NodeTables;
-use vr_model::{Model as RoutingModel, NoMemory, Parts};
+use vr_model::{Closed, Model as RoutingModel, NoMemory, Parts};
 use vr_plan::{Table, Timer, tables_of};
 use vr_routes::Routes;
 
@@ -119,7 +119,7 @@ impl<'m> Rules<'m> {
         let kept = &mut *self.kept;
         write_marks(self.model, routes, &mut kept.marks)?;
         let answer = is_open(
-            self.model,
+            Closed { model: self.model },
             &self.tables,
             &self.lookups,
             routes,
@@ -139,7 +139,7 @@ impl<'m> Rules<'m> {
         let kept = &mut *self.kept;
         write_marks(self.model, routes, &mut kept.marks)?;
         let answer = is_valid(
-            self.model,
+            Closed { model: self.model },
             &self.tables,
             &self.lookups,
             routes,
@@ -160,7 +160,7 @@ impl<'m> Rules<'m> {
         let kept = &mut *self.kept;
         write_marks(self.model, routes, &mut kept.marks)?;
         let parts = parts_of(
-            self.model,
+            Closed { model: self.model },
             &self.tables,
             routes,
             &kept.marks,

@@ -5,7 +5,7 @@ ghost use Rattle.std.specs.Prelude.{pos, All, IfOk, IfSome, IsSome, IsTrue, leng
 ghost use Rattle.std.specs.List.{list_all};
 ghost use Rattle.vr_model.specs.tables.Numbers.{number_at};
 ghost use Rattle.vr_model.specs.tables.Tables.{dimension_at, is_visit};
-ghost use Rattle.vr_model.specs.tables.WellFormed.{IsIn, IsWellFormed};
+ghost use Rattle.vr_model.specs.tables.WellFormed.{IsIn};
 ghost use Rattle.vr_model.specs.routes.Routes.{are_lists};
 ghost use Rattle.vr_plan.specs.Bounds.{cumul_cost, IsAround};
 ghost use Rattle.vr_plan.specs.Extents.{IsWider};
@@ -13,7 +13,7 @@ ghost use Rattle.vr_plan.specs.Tables.{IsTable};
 ghost use Rattle.vr_plan.specs.Timings.{IsTimingOf};
 ghost use Rattle.vr_rules.specs.Sums.{may_pay, AreSums};
 
-use vr_model::{Dimension, Model, NoMemory};
+use vr_model::{Closed, Dimension, NoMemory};
 use vr_plan::{Extent, Table, Timer, Timing, may_pay_alone, span_cost, timing_of, wider};
 use vr_routes::Routes;
 
@@ -28,18 +28,17 @@ pub(crate) struct Sums {
 
 // Whether schedules of a list may cost anything: the global span has a coefficient, or they may cost something by
 // themselves.
-fn may_pay(model: &Model, table: &Table, d: u32, v: u32, list: &[u32]) -> bool
-    requires well_formed { IsWellFormed model.now }
-    requires dimension { d < length model.now.dimensions }
-    requires vehicle { v < length model.now.vehicles }
-    requires visits { IsTrue (list_all (is_visit model.now) list.now) }
-    requires table { IsTable model.now d table.now }
-    ensures { result ≡ may_pay (dimension_at model.now d) v list.now }
+fn may_pay(closed: Closed<'_>, table: &Table, d: u32, v: u32, list: &[u32]) -> bool
+    requires dimension { d < length closed.model.now.dimensions }
+    requires vehicle { v < length closed.model.now.vehicles }
+    requires visits { IsTrue (list_all (is_visit closed.model.now) list.now) }
+    requires table { IsTable closed.model.now d table.now }
+    ensures { result ≡ may_pay (dimension_at closed.entry.model.now d) v list.now }
 {
-    if model.dimensions.get(d as usize).global_span_cost != 0 {
+    if closed.model.dimensions.get(d as usize).global_span_cost != 0 {
         return true;
     }
-    may_pay_alone(model, table, d, v, list)
+    may_pay_alone(closed.model, table, d, v, list)
 }
 
 // The sums with one used vehicle more, from what its schedule comes to.
@@ -65,7 +64,7 @@ fn with_timing(dimension: &Dimension, v: u32, timing: Timing, sums: Sums) -> Sum
 
 // The sums with one vehicle more.
 fn with_vehicle(
-    model: &Model,
+    closed: Closed<'_>,
     table: &Table,
     d: u32,
     routes: &Routes,
@@ -73,39 +72,37 @@ fn with_vehicle(
     sums: Sums,
     timer: &mut Timer,
 ) -> Result<Sums, NoMemory>
-    requires well_formed { IsWellFormed model.now }
-    requires dimension { d < length model.now.dimensions }
-    requires table { IsTable model.now d table.now }
-    requires lists { IsTrue (are_lists model.now routes.now.lists) }
+    requires dimension { d < length closed.model.now.dimensions }
+    requires table { IsTable closed.model.now d table.now }
+    requires lists { IsTrue (are_lists closed.model.now routes.now.lists) }
     requires vehicle { v < length routes.now.lists }
-    requires sums { AreSums model.now routes.now.lists d v sums }
-    ensures { IfOk result (AreSums model.now routes.now.lists d (v + 1)) }
+    requires sums { AreSums closed.model.now routes.now.lists d v sums }
+    ensures { IfOk result (AreSums closed.entry.model.now routes.now.lists d (v + 1)) }
 {
     let list = routes.list(v);
     if list.is_empty() {
         return Ok(sums);
     }
-    if !may_pay(model, table, d, v, list) {
+    if !may_pay(closed, table, d, v, list) {
         return Ok(sums);
     }
-    let timing = timing_of(model, table, d, v, list, timer)?;
-    let dimension = model.dimensions.get(d as usize);
+    let timing = timing_of(closed.model, table, d, v, list, timer)?;
+    let dimension = closed.model.dimensions.get(d as usize);
     Ok(with_timing(dimension, v, timing, sums))
 }
 
 // What the chosen schedules of routes come to in dimension `d`.
 pub(crate) fn sums_of(
-    model: &Model,
+    closed: Closed<'_>,
     table: &Table,
     d: u32,
     routes: &Routes,
     timer: &mut Timer,
 ) -> Result<Sums, NoMemory>
-    requires well_formed { IsWellFormed model.now }
-    requires dimension { d < length model.now.dimensions }
-    requires table { IsTable model.now d table.now }
-    requires lists { IsTrue (are_lists model.now routes.now.lists) }
-    ensures { IfOk result (AreSums model.now routes.now.lists d (length routes.now.lists)) }
+    requires dimension { d < length closed.model.now.dimensions }
+    requires table { IsTable closed.model.now d table.now }
+    requires lists { IsTrue (are_lists closed.model.now routes.now.lists) }
+    ensures { IfOk result (AreSums closed.entry.model.now routes.now.lists d (length routes.now.lists)) }
 {
     let mut sums = Sums {
         soft: 0,
@@ -113,7 +110,7 @@ pub(crate) fn sums_of(
         extent: None,
     };
     for v in 0..routes.vehicles() {
-        sums = with_vehicle(model, table, d, routes, v, sums, timer)?;
+        sums = with_vehicle(closed, table, d, routes, v, sums, timer)?;
     }
     Ok(sums)
 }

@@ -4,7 +4,6 @@ ghost use Rattle.std.specs.Prelude.{◌≡◌, ◌<◌, All, IfOk, IsTrue, count
 ghost use Rattle.std.specs.List.{list_all};
 ghost use Rattle.vr_model.specs.routes.Routes.{are_lists};
 ghost use Rattle.vr_model.specs.routes.Rules.{is_open as is_open_of, is_valid as is_valid_of};
-ghost use Rattle.vr_model.specs.tables.WellFormed.{IsWellFormed};
 ghost use Rattle.vr_rules.specs.Placing.{fits_by, AreMarks};
 ghost use Rattle.vr_rules.specs.RoutesOpen.{are_routes_open as are_routes_open_of};
 ghost use Rattle.vr_plan.specs.Tables.{AreTables};
@@ -12,26 +11,25 @@ ghost use Rattle.vr_plan.specs.Tables.{AreTables};
 use crate::complete::{is_complete, marked};
 use crate::routes_open::{Driving, is_route_open};
 use vr_lists::NodeTables;
-use vr_model::{Group, Model, NoMemory};
+use vr_model::{Closed, Group, NoMemory};
 use vr_plan::Table;
 use vr_routes::Routes;
 
 // Whether each vehicle may drive its list.
 fn are_routes_open(
-    model: &Model,
+    closed: Closed<'_>,
     tables: &[Table],
     lookups: &NodeTables<'_>,
     routes: &Routes,
     driving: &mut Driving,
 ) -> Result<bool, NoMemory>
-    requires well_formed { IsWellFormed model.now }
-    requires tables { AreTables model.now tables.now }
-    requires lookups { lookups.now ≡ model.now }
-    requires lists { IsTrue (are_lists model.now routes.now.lists) }
-    ensures { IfOk result (λ all. all ≡ are_routes_open_of model.now routes.now.lists) }
+    requires tables { AreTables closed.model.now tables.now }
+    requires lookups { lookups.now ≡ closed.model.now }
+    requires lists { IsTrue (are_lists closed.model.now routes.now.lists) }
+    ensures { IfOk result (λ all. all ≡ are_routes_open_of closed.entry.model.now routes.now.lists) }
 {
     for v in 0..routes.vehicles() {
-        if !is_route_open(model, tables, lookups, v, routes.list(v), driving)? {
+        if !is_route_open(closed.model, tables, lookups, v, routes.list(v), driving)? {
             return Ok(false);
         }
     }
@@ -47,13 +45,12 @@ fn fits(marks: &[bool], group: &Group) -> bool
 }
 
 // Whether no group has more marked nodes than it may have.
-fn groups_fit(model: &Model, marks: &[bool]) -> bool
-    requires well_formed { IsWellFormed model.now }
-    requires marks { length marks.now ≡ model.now.nodes }
-    ensures { result ≡ list_all (fits_by marks.now) model.now.groups }
+fn groups_fit(closed: Closed<'_>, marks: &[bool]) -> bool
+    requires marks { length marks.now ≡ closed.model.now.nodes }
+    ensures { result ≡ list_all (fits_by marks.now) closed.entry.model.now.groups }
 {
-    for k in 0..model.groups.len() {
-        if !fits(marks, model.groups.get(k)) {
+    for k in 0..closed.model.groups.len() {
+        if !fits(marks, closed.model.groups.get(k)) {
             return false;
         }
     }
@@ -62,46 +59,44 @@ fn groups_fit(model: &Model, marks: &[bool]) -> bool
 
 // Whether routes of the model are open, by the marks of their active nodes.
 pub(crate) fn is_open(
-    model: &Model,
+    closed: Closed<'_>,
     tables: &[Table],
     lookups: &NodeTables<'_>,
     routes: &Routes,
     marks: &[bool],
     driving: &mut Driving,
 ) -> Result<bool, NoMemory>
-    requires well_formed { IsWellFormed model.now }
-    requires tables { AreTables model.now tables.now }
-    requires lookups { lookups.now ≡ model.now }
-    requires lists { IsTrue (are_lists model.now routes.now.lists) }
-    requires marks { AreMarks model.now.nodes routes.now.lists marks.now }
-    ensures { IfOk result (λ answer. answer ≡ is_open_of model.now routes.now.lists) }
+    requires tables { AreTables closed.model.now tables.now }
+    requires lookups { lookups.now ≡ closed.model.now }
+    requires lists { IsTrue (are_lists closed.model.now routes.now.lists) }
+    requires marks { AreMarks closed.model.now.nodes routes.now.lists marks.now }
+    ensures { IfOk result (λ answer. answer ≡ is_open_of closed.entry.model.now routes.now.lists) }
 {
-    if !groups_fit(model, marks) {
+    if !groups_fit(closed, marks) {
         return Ok(false);
     }
-    let all = are_routes_open(model, tables, lookups, routes, driving)?;
+    let all = are_routes_open(closed, tables, lookups, routes, driving)?;
     Ok(all)
 }
 
 // Whether routes of the model are valid, by the marks of their active nodes.
 pub(crate) fn is_valid(
-    model: &Model,
+    closed: Closed<'_>,
     tables: &[Table],
     lookups: &NodeTables<'_>,
     routes: &Routes,
     marks: &[bool],
     driving: &mut Driving,
 ) -> Result<bool, NoMemory>
-    requires well_formed { IsWellFormed model.now }
-    requires tables { AreTables model.now tables.now }
-    requires lookups { lookups.now ≡ model.now }
-    requires lists { IsTrue (are_lists model.now routes.now.lists) }
-    requires marks { AreMarks model.now.nodes routes.now.lists marks.now }
-    ensures { IfOk result (λ answer. answer ≡ is_valid_of model.now routes.now.lists) }
+    requires tables { AreTables closed.model.now tables.now }
+    requires lookups { lookups.now ≡ closed.model.now }
+    requires lists { IsTrue (are_lists closed.model.now routes.now.lists) }
+    requires marks { AreMarks closed.model.now.nodes routes.now.lists marks.now }
+    ensures { IfOk result (λ answer. answer ≡ is_valid_of closed.entry.model.now routes.now.lists) }
 {
-    if !is_complete(model, lookups, marks) {
+    if !is_complete(closed.model, lookups, marks) {
         return Ok(false);
     }
-    let valid = is_open(model, tables, lookups, routes, marks, driving)?;
+    let valid = is_open(closed, tables, lookups, routes, marks, driving)?;
     Ok(valid)
 }

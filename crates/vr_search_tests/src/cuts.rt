@@ -3,7 +3,6 @@
 ghost use Rattle.std.specs.Prelude.{◌≡◌, ◌≤◌, ⊤, IsTrue};
 ghost use Rattle.vr_model.specs.routes.Rules.{is_valid};
 ghost use Rattle.vr_model.specs.tables.Tables.{visits};
-ghost use Rattle.vr_model.specs.tables.WellFormed.{IsWellFormed};
 
 use crate::models::{ON_TIME, ONE_WAY, TWO_FARES};
 use crate::rows::{Asks, Row, assert_rows};
@@ -12,7 +11,7 @@ use std::alloc::Global;
 use vr_first_insert::rebuild;
 use vr_lists::NodeTables;
 use vr_lns::{Rebuild, lns};
-use vr_model::{End, Limit, Model, NoMemory, Report};
+use vr_model::{Closed, End, Limit, Model, NoMemory, Report};
 use vr_routes::Routes;
 use vr_watch::Watch;
 
@@ -64,15 +63,14 @@ impl Rebuild for Inserting {
 // How the search ends from valid routes.
 fn report_of(
     alloc: Global,
-    model: &Model,
+    closed: Closed<'_>,
     inserting: &mut Inserting,
     routes: &mut Routes,
     limit: Limit,
     cut: u32,
 ) -> Result<Report, NoMemory>
-    requires well_formed { IsWellFormed model.now }
-    requires of_model { routes.old.visits ≡ visits model.now }
-    requires valid { IsTrue (is_valid model.now routes.old.lists) }
+    requires of_model { routes.old.visits ≡ visits closed.model.now }
+    requires valid { IsTrue (is_valid closed.model.now routes.old.lists) }
     requires tries { limit.tries ≤ 1000000000 }
     requires one_solution { 1 ≤ limit.solutions }
     requires solutions { limit.solutions ≤ 1000000000 }
@@ -80,7 +78,15 @@ fn report_of(
     requires few_visits { cut ≤ 100 }
 {
     let mut none: Vec<Box<dyn Watch>> = Vec::new(alloc);
-    let report = lns(alloc, model, inserting, routes, limit, cut, &mut none)?;
+    let report = lns(
+        alloc,
+        closed.model,
+        inserting,
+        routes,
+        limit,
+        cut,
+        &mut none,
+    )?;
     Ok(report)
 }
 
@@ -97,13 +103,12 @@ pub(crate) fn is_same_end(one: End, other: End) -> bool {
 /// Whether the search by cuts from valid routes finds what is wanted.
 pub(crate) fn finds(
     alloc: Global,
-    model: &Model,
+    closed: Closed<'_>,
     routes: &mut Routes,
     cuts: &Cuts,
 ) -> Result<bool, NoMemory>
-    requires well_formed { IsWellFormed model.now }
-    requires of_model { routes.old.visits ≡ visits model.now }
-    requires valid { IsTrue (is_valid model.now routes.old.lists) }
+    requires of_model { routes.old.visits ≡ visits closed.model.now }
+    requires valid { IsTrue (is_valid closed.model.now routes.old.lists) }
 {
     let mut inserting = Inserting { alloc, count: 0 };
     let limit = Limit {
@@ -111,7 +116,7 @@ pub(crate) fn finds(
         solutions: 100,
     };
     let cut = cuts.cut.clamp(1, 100);
-    let report = report_of(alloc, model, &mut inserting, routes, limit, cut)?;
+    let report = report_of(alloc, closed, &mut inserting, routes, limit, cut)?;
     Ok(
         report.tries == cuts.wanted.tries
             && report.solutions == cuts.wanted.solutions

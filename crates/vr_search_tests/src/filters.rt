@@ -3,7 +3,6 @@
 ghost use Rattle.std.specs.Prelude.{◌≡◌, ◌<◌, IsTrue, OnOk, length};
 ghost use Rattle.vr_model.specs.routes.Rules.{is_valid};
 ghost use Rattle.vr_model.specs.tables.Tables.{visits};
-ghost use Rattle.vr_model.specs.tables.WellFormed.{IsWellFormed};
 
 use crate::models::{BREAKS, GAP, LIFO, LOAD, OPTIONAL, PAIR, THREE, TWENTY, WINDOWS};
 use crate::rows::{Asks, Row, assert_rows};
@@ -11,7 +10,7 @@ use std::alloc::Global;
 use std::marker::Brand;
 use std::sync::ledger::{Blank, Ledger};
 use vr_filter::{Both, Each, PathFilter};
-use vr_model::{Model, Move, NoMemory, Steps};
+use vr_model::{Closed, Move, NoMemory, Steps};
 use vr_pathfilters::{DimensionFilter, GroupFilter, PairFilter, VehicleFilter};
 use vr_routes::{Change, Routes};
 
@@ -29,7 +28,7 @@ pub(crate) enum Filter {
 
 // Makes a move where it is one and the filter lets it pass; answers whether that was so.
 fn try_move<F: PathFilter, L: Ledger>(
-    model: &Model,
+    closed: Closed<'_>,
     filter: &mut F,
     routes: &mut Routes,
     mv: Move,
@@ -38,13 +37,12 @@ fn try_move<F: PathFilter, L: Ledger>(
     requires name { blank.name ≡ L.name }
     requires parts { blank.parts ≡ L.parts }
     requires some { 0 < blank.parts }
-    requires well_formed { IsWellFormed model.now }
-    requires of_model { routes.old.visits ≡ visits model.now }
+    requires of_model { routes.old.visits ≡ visits closed.model.now }
     requires stands { F.stands_at filter.old routes.old }
-    ensures of_model { OnOk result (routes.new.visits ≡ visits model.now) }
+    ensures of_model { OnOk result (routes.new.visits ≡ visits closed.entry.model.now) }
     ensures stands { OnOk result (F.stands_at filter.new routes.new) }
 {
-    let Some(change) = Change::of(model, routes, mv) else {
+    let Some(change) = Change::of(closed.model, routes, mv) else {
         return Ok(false);
     };
     let mut steps = Steps::<L>::new(blank);
@@ -59,17 +57,16 @@ fn try_move<F: PathFilter, L: Ledger>(
 
 // Whether a filter answers each of some moves, made one after another, as expected.
 fn follows<F: PathFilter>(
-    model: &Model,
+    closed: Closed<'_>,
     filter: &mut F,
     routes: &mut Routes,
     moves: &[(Move, bool)],
 ) -> Result<bool, NoMemory>
-    requires well_formed { IsWellFormed model.now }
-    requires of_model { routes.old.visits ≡ visits model.now }
+    requires of_model { routes.old.visits ≡ visits closed.model.now }
     requires stands { F.stands_at filter.old routes.old }
 {
     for &(mv, expected) in moves {
-        if try_move::<F, Brand>(model, filter, routes, mv, Blank::new(1))? != expected {
+        if try_move::<F, Brand>(closed, filter, routes, mv, Blank::new(1))? != expected {
             return Ok(false);
         }
     }
@@ -78,105 +75,99 @@ fn follows<F: PathFilter>(
 
 fn groups_follow(
     alloc: Global,
-    model: &Model,
+    closed: Closed<'_>,
     routes: &mut Routes,
     moves: &[(Move, bool)],
 ) -> Result<bool, NoMemory>
-    requires well_formed { IsWellFormed model.now }
-    requires of_model { routes.old.visits ≡ visits model.now }
-    requires many { length routes.old.lists ≡ length model.now.vehicles }
-    requires valid { IsTrue (is_valid model.now routes.old.lists) }
+    requires of_model { routes.old.visits ≡ visits closed.model.now }
+    requires many { length routes.old.lists ≡ length closed.model.now.vehicles }
+    requires valid { IsTrue (is_valid closed.model.now routes.old.lists) }
 {
-    let mut filter = GroupFilter::open(alloc, model, routes)?;
-    follows(model, &mut filter, routes, moves)
+    let mut filter = GroupFilter::open(alloc, closed.model, routes)?;
+    follows(closed, &mut filter, routes, moves)
 }
 
 fn vehicles_follow(
     alloc: Global,
-    model: &Model,
+    closed: Closed<'_>,
     routes: &mut Routes,
     moves: &[(Move, bool)],
 ) -> Result<bool, NoMemory>
-    requires well_formed { IsWellFormed model.now }
-    requires of_model { routes.old.visits ≡ visits model.now }
-    requires many { length routes.old.lists ≡ length model.now.vehicles }
-    requires valid { IsTrue (is_valid model.now routes.old.lists) }
+    requires of_model { routes.old.visits ≡ visits closed.model.now }
+    requires many { length routes.old.lists ≡ length closed.model.now.vehicles }
+    requires valid { IsTrue (is_valid closed.model.now routes.old.lists) }
 {
-    let mut filter = VehicleFilter::open(alloc, model, routes)?;
-    follows(model, &mut filter, routes, moves)
+    let mut filter = VehicleFilter::open(alloc, closed.model, routes)?;
+    follows(closed, &mut filter, routes, moves)
 }
 
 fn pairs_follow(
     alloc: Global,
-    model: &Model,
+    closed: Closed<'_>,
     routes: &mut Routes,
     moves: &[(Move, bool)],
 ) -> Result<bool, NoMemory>
-    requires well_formed { IsWellFormed model.now }
-    requires of_model { routes.old.visits ≡ visits model.now }
-    requires many { length routes.old.lists ≡ length model.now.vehicles }
-    requires valid { IsTrue (is_valid model.now routes.old.lists) }
+    requires of_model { routes.old.visits ≡ visits closed.model.now }
+    requires many { length routes.old.lists ≡ length closed.model.now.vehicles }
+    requires valid { IsTrue (is_valid closed.model.now routes.old.lists) }
 {
-    let mut filter = PairFilter::open(alloc, model, routes)?;
-    follows(model, &mut filter, routes, moves)
+    let mut filter = PairFilter::open(alloc, closed.model, routes)?;
+    follows(closed, &mut filter, routes, moves)
 }
 
 fn both_follow(
     alloc: Global,
-    model: &Model,
+    closed: Closed<'_>,
     routes: &mut Routes,
     moves: &[(Move, bool)],
 ) -> Result<bool, NoMemory>
-    requires well_formed { IsWellFormed model.now }
-    requires of_model { routes.old.visits ≡ visits model.now }
-    requires many { length routes.old.lists ≡ length model.now.vehicles }
-    requires valid { IsTrue (is_valid model.now routes.old.lists) }
+    requires of_model { routes.old.visits ≡ visits closed.model.now }
+    requires many { length routes.old.lists ≡ length closed.model.now.vehicles }
+    requires valid { IsTrue (is_valid closed.model.now routes.old.lists) }
 {
     let mut both = Both {
-        a: VehicleFilter::open(alloc, model, routes)?,
-        b: GroupFilter::open(alloc, model, routes)?,
+        a: VehicleFilter::open(alloc, closed.model, routes)?,
+        b: GroupFilter::open(alloc, closed.model, routes)?,
     };
-    follows(model, &mut both, routes, moves)
+    follows(closed, &mut both, routes, moves)
 }
 
 fn dimensions_follow(
     alloc: Global,
-    model: &Model,
+    closed: Closed<'_>,
     routes: &mut Routes,
     moves: &[(Move, bool)],
 ) -> Result<bool, NoMemory>
-    requires well_formed { IsWellFormed model.now }
-    requires of_model { routes.old.visits ≡ visits model.now }
-    requires many { length routes.old.lists ≡ length model.now.vehicles }
-    requires valid { IsTrue (is_valid model.now routes.old.lists) }
-    requires some { 0 < length model.now.dimensions }
+    requires of_model { routes.old.visits ≡ visits closed.model.now }
+    requires many { length routes.old.lists ≡ length closed.model.now.vehicles }
+    requires valid { IsTrue (is_valid closed.model.now routes.old.lists) }
+    requires some { 0 < length closed.model.now.dimensions }
 {
     let mut filters = Vec::with_capacity(alloc, 1)?;
-    filters.push(DimensionFilter::open(alloc, model, 0, routes)?)?;
+    filters.push(DimensionFilter::open(alloc, closed.model, 0, routes)?)?;
     let mut each = Each { filters };
-    follows(model, &mut each, routes, moves)
+    follows(closed, &mut each, routes, moves)
 }
 
 /// Whether a filter answers moves from valid routes as expected.
 pub(crate) fn passes(
     alloc: Global,
-    model: &Model,
+    closed: Closed<'_>,
     routes: &mut Routes,
     filter: Filter,
     moves: &[(Move, bool)],
 ) -> Result<bool, NoMemory>
-    requires well_formed { IsWellFormed model.now }
-    requires of_model { routes.old.visits ≡ visits model.now }
-    requires many { length routes.old.lists ≡ length model.now.vehicles }
-    requires valid { IsTrue (is_valid model.now routes.old.lists) }
+    requires of_model { routes.old.visits ≡ visits closed.model.now }
+    requires many { length routes.old.lists ≡ length closed.model.now.vehicles }
+    requires valid { IsTrue (is_valid closed.model.now routes.old.lists) }
 {
     match filter {
-        Filter::Groups => groups_follow(alloc, model, routes, moves),
-        Filter::Vehicles => vehicles_follow(alloc, model, routes, moves),
-        Filter::Pairs => pairs_follow(alloc, model, routes, moves),
-        Filter::Both => both_follow(alloc, model, routes, moves),
-        Filter::Dimensions if model.dimensions.is_empty() => Ok(false),
-        Filter::Dimensions => dimensions_follow(alloc, model, routes, moves),
+        Filter::Groups => groups_follow(alloc, closed, routes, moves),
+        Filter::Vehicles => vehicles_follow(alloc, closed, routes, moves),
+        Filter::Pairs => pairs_follow(alloc, closed, routes, moves),
+        Filter::Both => both_follow(alloc, closed, routes, moves),
+        Filter::Dimensions if closed.model.dimensions.is_empty() => Ok(false),
+        Filter::Dimensions => dimensions_follow(alloc, closed, routes, moves),
     }
 }
 

@@ -3,7 +3,6 @@
 ghost use Rattle.std.specs.Prelude.{◌≡◌, ◌<◌, IsTrue};
 ghost use Rattle.vr_model.specs.routes.Rules.{is_valid};
 ghost use Rattle.vr_model.specs.tables.Tables.{visits};
-ghost use Rattle.vr_model.specs.tables.WellFormed.{IsWellFormed};
 ghost use Rattle.vr_routes.specs.Judging.{HoldSame};
 
 use crate::models::{OPTIONAL, TWO_VANS};
@@ -12,7 +11,7 @@ use std::alloc::Global;
 use std::marker::Brand;
 use std::sync::ledger::{Blank, Ledger};
 use vr_judge::FilterJudge;
-use vr_model::{Model, Move, NoMemory, Steps};
+use vr_model::{Closed, Move, NoMemory, Steps};
 use vr_plain::PlainJudge;
 use vr_routes::{Change, Judge, Routes, Verdict};
 
@@ -21,23 +20,22 @@ pub(crate) type Said = (Move, bool, Verdict);
 
 // What a judge says of a move, `None` where it is none. A move that is not refused is made, where that is asked.
 fn judge_move<J: Judge, L: Ledger>(
-    model: &Model,
+    closed: Closed<'_>,
     judge: &mut J,
     routes: &mut Routes,
     mv: Move,
     makes: bool,
     blank: Blank,
 ) -> Result<Option<Verdict>, NoMemory>
-    requires well_formed { IsWellFormed model.now }
-    requires judge_model { J.model judge.old ≡ model.now }
-    requires holds { HoldSame model.now (J.committed judge.old) routes.old }
+    requires judge_model { J.model judge.old ≡ closed.model.now }
+    requires holds { HoldSame closed.model.now (J.committed judge.old) routes.old }
     requires name { blank.name ≡ L.name }
     requires parts { blank.parts ≡ L.parts }
     requires some { 0 < blank.parts }
-    ensures judge_model { J.model judge.new ≡ model.now }
-    ensures holds { HoldSame model.now (J.committed judge.new) routes.new }
+    ensures judge_model { J.model judge.new ≡ closed.entry.model.now }
+    ensures holds { HoldSame closed.entry.model.now (J.committed judge.new) routes.new }
 {
-    if Change::of(model, routes, mv).is_none() {
+    if Change::of(closed.model, routes, mv).is_none() {
         return Ok(None);
     }
     let mut steps = Steps::<L>::new(blank);
@@ -55,17 +53,16 @@ fn judge_move<J: Judge, L: Ledger>(
 
 // Whether a judge says of some moves, one after the other, what is wanted.
 fn says_all<J: Judge>(
-    model: &Model,
+    closed: Closed<'_>,
     judge: &mut J,
     routes: &mut Routes,
     moves: &[Said],
 ) -> Result<bool, NoMemory>
-    requires well_formed { IsWellFormed model.now }
-    requires judge_model { J.model judge.old ≡ model.now }
-    requires holds { HoldSame model.now (J.committed judge.old) routes.old }
+    requires judge_model { J.model judge.old ≡ closed.model.now }
+    requires holds { HoldSame closed.model.now (J.committed judge.old) routes.old }
 {
     for &(mv, makes, want) in moves {
-        if judge_move::<J, Brand>(model, judge, routes, mv, makes, Blank::new(1))? != Some(want) {
+        if judge_move::<J, Brand>(closed, judge, routes, mv, makes, Blank::new(1))? != Some(want) {
             return Ok(false);
         }
     }
@@ -74,30 +71,28 @@ fn says_all<J: Judge>(
 
 fn plain_says(
     alloc: Global,
-    model: &Model,
+    closed: Closed<'_>,
     routes: &mut Routes,
     moves: &[Said],
 ) -> Result<bool, NoMemory>
-    requires well_formed { IsWellFormed model.now }
-    requires of_model { routes.old.visits ≡ visits model.now }
-    requires valid { IsTrue (is_valid model.now routes.old.lists) }
+    requires of_model { routes.old.visits ≡ visits closed.model.now }
+    requires valid { IsTrue (is_valid closed.model.now routes.old.lists) }
 {
-    let mut judge = PlainJudge::open(alloc, model, routes)?;
-    says_all(model, &mut judge, routes, moves)
+    let mut judge = PlainJudge::open(alloc, closed.model, routes)?;
+    says_all(closed, &mut judge, routes, moves)
 }
 
 fn filters_say(
     alloc: Global,
-    model: &Model,
+    closed: Closed<'_>,
     routes: &mut Routes,
     moves: &[Said],
 ) -> Result<bool, NoMemory>
-    requires well_formed { IsWellFormed model.now }
-    requires of_model { routes.old.visits ≡ visits model.now }
-    requires valid { IsTrue (is_valid model.now routes.old.lists) }
+    requires of_model { routes.old.visits ≡ visits closed.model.now }
+    requires valid { IsTrue (is_valid closed.model.now routes.old.lists) }
 {
-    let mut judge = FilterJudge::open(alloc, model, routes)?;
-    let says = says_all(model, &mut judge, routes, moves);
+    let mut judge = FilterJudge::open(alloc, closed.model, routes)?;
+    let says = says_all(closed, &mut judge, routes, moves);
     judge.close();
     says
 }
@@ -105,18 +100,17 @@ fn filters_say(
 /// Whether a judge says what is wanted of moves from valid routes.
 pub(crate) fn says(
     alloc: Global,
-    model: &Model,
+    closed: Closed<'_>,
     routes: &mut Routes,
     by: By,
     moves: &[Said],
 ) -> Result<bool, NoMemory>
-    requires well_formed { IsWellFormed model.now }
-    requires of_model { routes.old.visits ≡ visits model.now }
-    requires valid { IsTrue (is_valid model.now routes.old.lists) }
+    requires of_model { routes.old.visits ≡ visits closed.model.now }
+    requires valid { IsTrue (is_valid closed.model.now routes.old.lists) }
 {
     match by {
-        By::Rebuilding => plain_says(alloc, model, routes, moves),
-        By::Filters => filters_say(alloc, model, routes, moves),
+        By::Rebuilding => plain_says(alloc, closed, routes, moves),
+        By::Filters => filters_say(alloc, closed, routes, moves),
     }
 }
 

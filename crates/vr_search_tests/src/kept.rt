@@ -5,7 +5,6 @@ ghost use Rattle.std.specs.Prelude.{◌≡◌, ◌<◌, IsTrue, OnOk, length};
 ghost use Rattle.vr_costfilter.specs.Kept.{AreAllKept};
 ghost use Rattle.vr_model.specs.routes.Rules.{is_valid};
 ghost use Rattle.vr_model.specs.tables.Tables.{visits};
-ghost use Rattle.vr_model.specs.tables.WellFormed.{IsWellFormed};
 ghost use Rattle.vr_routes.specs.Changes.{IsMadeOn};
 ghost use Rattle.vr_routes.specs.Pieces.{changed};
 ghost use Rattle.vr_plan.specs.Tables.{AreTables};
@@ -14,27 +13,26 @@ use crate::models::{LATE, LATE_TIGHT, LATE_TIGHT_FREE};
 use crate::rows::{Asks, Row, assert_rows, stays_valid};
 use std::alloc::Global;
 use vr_costfilter::{AllCumuls, Paid, Trail};
-use vr_model::{Model, Move, NoMemory};
+use vr_model::{Closed, Move, NoMemory};
 use vr_plan::{KnownDimension, Table, tables_of};
 use vr_routes::{Change, Piece, Routes};
 
 // Whether what is kept tells, in the first dimension, what the first list of a change comes to. An empty list has
 // nothing to tell.
 fn is_told(
-    model: &Model,
+    closed: Closed<'_>,
     tables: &[Table],
     kept: &AllCumuls,
     routes: &Routes,
     change: &Change,
 ) -> bool
-    requires well_formed { IsWellFormed model.now }
-    requires tables { AreTables model.now tables.now }
-    requires valid { IsTrue (is_valid model.now routes.now.lists) }
-    requires kept { AreAllKept model.now routes.now.lists kept.now }
+    requires tables { AreTables closed.model.now tables.now }
+    requires valid { IsTrue (is_valid closed.model.now routes.now.lists) }
+    requires kept { AreAllKept closed.model.now routes.now.lists kept.now }
     requires made { IsMadeOn routes.now change.now }
-    requires valid_after { IsTrue (is_valid model.now (changed routes.now.lists change.now)) }
+    requires valid_after { IsTrue (is_valid closed.model.now (changed routes.now.lists change.now)) }
 {
-    if model.dimensions.is_empty() || change.parts() == 0 {
+    if closed.model.dimensions.is_empty() || change.parts() == 0 {
         return false;
     }
     if Piece::nodes_in(routes, change.pieces(0)) == 0 {
@@ -42,7 +40,7 @@ fn is_told(
     }
     let mut trail = Trail::new();
     let first = KnownDimension {
-        model,
+        model: closed.model,
         table: &tables[0],
         d: 0,
     };
@@ -53,29 +51,28 @@ fn is_told(
 // Whether it tells of a move after which the lists are valid; the move is made then.
 fn tells_of(
     alloc: Global,
-    model: &Model,
+    closed: Closed<'_>,
     tables: &[Table],
     kept: &mut AllCumuls,
     routes: &mut Routes,
     mv: Move,
 ) -> Result<bool, NoMemory>
-    requires well_formed { IsWellFormed model.now }
-    requires tables { AreTables model.now tables.now }
-    requires of_model { routes.old.visits ≡ visits model.now }
-    requires valid { IsTrue (is_valid model.now routes.old.lists) }
-    requires kept { AreAllKept model.now routes.old.lists kept.old }
-    ensures of_model { OnOk result (routes.new.visits ≡ visits model.now) }
-    ensures valid { OnOk result (IsTrue (is_valid model.now routes.new.lists)) }
-    ensures kept { OnOk result (AreAllKept model.now routes.new.lists kept.new) }
+    requires tables { AreTables closed.model.now tables.now }
+    requires of_model { routes.old.visits ≡ visits closed.model.now }
+    requires valid { IsTrue (is_valid closed.model.now routes.old.lists) }
+    requires kept { AreAllKept closed.model.now routes.old.lists kept.old }
+    ensures of_model { OnOk result (routes.new.visits ≡ visits closed.entry.model.now) }
+    ensures valid { OnOk result (IsTrue (is_valid closed.entry.model.now routes.new.lists)) }
+    ensures kept { OnOk result (AreAllKept closed.entry.model.now routes.new.lists kept.new) }
 {
-    let Some(change) = Change::of(model, routes, mv) else {
+    let Some(change) = Change::of(closed.model, routes, mv) else {
         return Ok(false);
     };
-    if !stays_valid(alloc, model, routes, mv, &change)? {
+    if !stays_valid(alloc, closed, routes, mv, &change)? {
         return Ok(false);
     }
-    let told = is_told(model, tables, kept, routes, &change);
-    kept.commit(model, tables, routes, &change);
+    let told = is_told(closed, tables, kept, routes, &change);
+    kept.commit(closed.model, tables, routes, &change);
     routes.commit(&change);
     Ok(told)
 }
@@ -83,41 +80,39 @@ fn tells_of(
 // Whether what is kept for such costs tells of one move, and of another one then.
 fn tells_by(
     alloc: Global,
-    model: &Model,
+    closed: Closed<'_>,
     tables: &[Table],
     routes: &mut Routes,
     paid: Paid,
     first: Move,
     second: Move,
 ) -> Result<bool, NoMemory>
-    requires well_formed { IsWellFormed model.now }
-    requires tables { AreTables model.now tables.now }
-    requires of_model { routes.old.visits ≡ visits model.now }
-    requires valid { IsTrue (is_valid model.now routes.old.lists) }
+    requires tables { AreTables closed.model.now tables.now }
+    requires of_model { routes.old.visits ≡ visits closed.model.now }
+    requires valid { IsTrue (is_valid closed.model.now routes.old.lists) }
 {
-    let mut kept = AllCumuls::open(alloc, model, tables, paid, routes)?;
-    if !tells_of(alloc, model, tables, &mut kept, routes, first)? {
+    let mut kept = AllCumuls::open(alloc, closed.model, tables, paid, routes)?;
+    if !tells_of(alloc, closed, tables, &mut kept, routes, first)? {
         return Ok(false);
     }
-    tells_of(alloc, model, tables, &mut kept, routes, second)
+    tells_of(alloc, closed, tables, &mut kept, routes, second)
 }
 
 /// Whether what is kept of valid routes for such costs tells of a move after which lists are valid, and of another one
 /// then.
 pub(crate) fn tells(
     alloc: Global,
-    model: &Model,
+    closed: Closed<'_>,
     routes: &mut Routes,
     paid: Paid,
     first: Move,
     second: Move,
 ) -> Result<bool, NoMemory>
-    requires well_formed { IsWellFormed model.now }
-    requires of_model { routes.old.visits ≡ visits model.now }
-    requires valid { IsTrue (is_valid model.now routes.old.lists) }
+    requires of_model { routes.old.visits ≡ visits closed.model.now }
+    requires valid { IsTrue (is_valid closed.model.now routes.old.lists) }
 {
-    let tables = tables_of(alloc, model)?;
-    tells_by(alloc, model, &tables, routes, paid, first, second)
+    let tables = tables_of(alloc, closed.model)?;
+    tells_by(alloc, closed, &tables, routes, paid, first, second)
 }
 
 // Four of the visits before late windows.

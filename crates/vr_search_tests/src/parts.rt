@@ -3,7 +3,6 @@
 ghost use Rattle.std.specs.Prelude.{◌≡◌, IsTrue};
 ghost use Rattle.vr_model.specs.routes.Rules.{is_valid};
 ghost use Rattle.vr_model.specs.tables.Tables.{visits};
-ghost use Rattle.vr_model.specs.tables.WellFormed.{IsWellFormed};
 ghost use Rattle.vr_routes.specs.Changes.{IsMadeOn};
 ghost use Rattle.vr_routes.specs.Pieces.{changed};
 
@@ -11,7 +10,7 @@ use crate::models::PAID;
 use crate::rows::{Asks, Row, assert_rows, stays_valid};
 use std::alloc::Global;
 use vr_costfilter::{ArcCost, CostPart, FixedCost, GlobalSpan, GroupCost, PlanCost};
-use vr_model::{Model, Move, NoMemory};
+use vr_model::{Closed, Move, NoMemory};
 use vr_routes::{Change, Routes};
 
 /// Which part of the cost is asked.
@@ -40,99 +39,93 @@ fn committed<P: CostPart>(part: &mut P, routes: &Routes, change: &Change) -> Res
 
 fn arcs_added(
     alloc: Global,
-    model: &Model,
+    closed: Closed<'_>,
     routes: &Routes,
     change: &Change,
 ) -> Result<i64, NoMemory>
-    requires well_formed { IsWellFormed model.now }
-    requires of_model { routes.now.visits ≡ visits model.now }
-    requires valid { IsTrue (is_valid model.now routes.now.lists) }
+    requires of_model { routes.now.visits ≡ visits closed.model.now }
+    requires valid { IsTrue (is_valid closed.model.now routes.now.lists) }
     requires made { IsMadeOn routes.now change.now }
-    requires valid_after { IsTrue (is_valid model.now (changed routes.now.lists change.now)) }
+    requires valid_after { IsTrue (is_valid closed.model.now (changed routes.now.lists change.now)) }
 {
-    let mut part = ArcCost::open(alloc, model, routes)?;
+    let mut part = ArcCost::open(alloc, closed.model, routes)?;
     committed(&mut part, routes, change)
 }
 
-fn fixed_added(model: &Model, routes: &Routes, change: &Change) -> Result<i64, NoMemory>
-    requires well_formed { IsWellFormed model.now }
-    requires of_model { routes.now.visits ≡ visits model.now }
-    requires valid { IsTrue (is_valid model.now routes.now.lists) }
+fn fixed_added(closed: Closed<'_>, routes: &Routes, change: &Change) -> Result<i64, NoMemory>
+    requires of_model { routes.now.visits ≡ visits closed.model.now }
+    requires valid { IsTrue (is_valid closed.model.now routes.now.lists) }
     requires made { IsMadeOn routes.now change.now }
-    requires valid_after { IsTrue (is_valid model.now (changed routes.now.lists change.now)) }
+    requires valid_after { IsTrue (is_valid closed.model.now (changed routes.now.lists change.now)) }
 {
-    let mut part = FixedCost::open(model, routes)?;
+    let mut part = FixedCost::open(closed.model, routes)?;
     committed(&mut part, routes, change)
 }
 
 fn groups_added(
     alloc: Global,
-    model: &Model,
+    closed: Closed<'_>,
     routes: &Routes,
     change: &Change,
 ) -> Result<i64, NoMemory>
-    requires well_formed { IsWellFormed model.now }
-    requires of_model { routes.now.visits ≡ visits model.now }
-    requires valid { IsTrue (is_valid model.now routes.now.lists) }
+    requires of_model { routes.now.visits ≡ visits closed.model.now }
+    requires valid { IsTrue (is_valid closed.model.now routes.now.lists) }
     requires made { IsMadeOn routes.now change.now }
-    requires valid_after { IsTrue (is_valid model.now (changed routes.now.lists change.now)) }
+    requires valid_after { IsTrue (is_valid closed.model.now (changed routes.now.lists change.now)) }
 {
-    let mut part = GroupCost::open(alloc, model, routes)?;
+    let mut part = GroupCost::open(alloc, closed.model, routes)?;
     committed(&mut part, routes, change)
 }
 
 fn plans_added(
     alloc: Global,
-    model: &Model,
+    closed: Closed<'_>,
     routes: &Routes,
     change: &Change,
 ) -> Result<i64, NoMemory>
-    requires well_formed { IsWellFormed model.now }
-    requires of_model { routes.now.visits ≡ visits model.now }
-    requires valid { IsTrue (is_valid model.now routes.now.lists) }
+    requires of_model { routes.now.visits ≡ visits closed.model.now }
+    requires valid { IsTrue (is_valid closed.model.now routes.now.lists) }
     requires made { IsMadeOn routes.now change.now }
-    requires valid_after { IsTrue (is_valid model.now (changed routes.now.lists change.now)) }
+    requires valid_after { IsTrue (is_valid closed.model.now (changed routes.now.lists change.now)) }
 {
-    let mut part = PlanCost::open(alloc, model, routes)?;
+    let mut part = PlanCost::open(alloc, closed.model, routes)?;
     committed(&mut part, routes, change)
 }
 
 fn spans_added(
     alloc: Global,
-    model: &Model,
+    closed: Closed<'_>,
     routes: &Routes,
     change: &Change,
 ) -> Result<i64, NoMemory>
-    requires well_formed { IsWellFormed model.now }
-    requires of_model { routes.now.visits ≡ visits model.now }
-    requires valid { IsTrue (is_valid model.now routes.now.lists) }
+    requires of_model { routes.now.visits ≡ visits closed.model.now }
+    requires valid { IsTrue (is_valid closed.model.now routes.now.lists) }
     requires made { IsMadeOn routes.now change.now }
-    requires valid_after { IsTrue (is_valid model.now (changed routes.now.lists change.now)) }
+    requires valid_after { IsTrue (is_valid closed.model.now (changed routes.now.lists change.now)) }
 {
-    let mut part = GlobalSpan::open(alloc, model, routes)?;
+    let mut part = GlobalSpan::open(alloc, closed.model, routes)?;
     committed(&mut part, routes, change)
 }
 
 // What a change adds to a part of the cost.
 fn added(
     alloc: Global,
-    model: &Model,
+    closed: Closed<'_>,
     routes: &Routes,
     part: Part,
     change: &Change,
 ) -> Result<i64, NoMemory>
-    requires well_formed { IsWellFormed model.now }
-    requires of_model { routes.now.visits ≡ visits model.now }
-    requires valid { IsTrue (is_valid model.now routes.now.lists) }
+    requires of_model { routes.now.visits ≡ visits closed.model.now }
+    requires valid { IsTrue (is_valid closed.model.now routes.now.lists) }
     requires made { IsMadeOn routes.now change.now }
-    requires valid_after { IsTrue (is_valid model.now (changed routes.now.lists change.now)) }
+    requires valid_after { IsTrue (is_valid closed.model.now (changed routes.now.lists change.now)) }
 {
     match part {
-        Part::Arcs => arcs_added(alloc, model, routes, change),
-        Part::Fixed => fixed_added(model, routes, change),
-        Part::Groups => groups_added(alloc, model, routes, change),
-        Part::Plans => plans_added(alloc, model, routes, change),
-        Part::Spans => spans_added(alloc, model, routes, change),
+        Part::Arcs => arcs_added(alloc, closed, routes, change),
+        Part::Fixed => fixed_added(closed, routes, change),
+        Part::Groups => groups_added(alloc, closed, routes, change),
+        Part::Plans => plans_added(alloc, closed, routes, change),
+        Part::Spans => spans_added(alloc, closed, routes, change),
     }
 }
 
@@ -140,23 +133,22 @@ fn added(
 /// after it are not valid.
 pub(crate) fn adds(
     alloc: Global,
-    model: &Model,
+    closed: Closed<'_>,
     routes: &Routes,
     part: Part,
     mv: Move,
     wanted: i64,
 ) -> Result<bool, NoMemory>
-    requires well_formed { IsWellFormed model.now }
-    requires of_model { routes.now.visits ≡ visits model.now }
-    requires valid { IsTrue (is_valid model.now routes.now.lists) }
+    requires of_model { routes.now.visits ≡ visits closed.model.now }
+    requires valid { IsTrue (is_valid closed.model.now routes.now.lists) }
 {
-    let Some(change) = Change::of(model, routes, mv) else {
+    let Some(change) = Change::of(closed.model, routes, mv) else {
         return Ok(false);
     };
-    if !stays_valid(alloc, model, routes, mv, &change)? {
+    if !stays_valid(alloc, closed, routes, mv, &change)? {
         return Ok(false);
     }
-    Ok(added(alloc, model, routes, part, &change)? == wanted)
+    Ok(added(alloc, closed, routes, part, &change)? == wanted)
 }
 
 // The second vehicle loses its only visit.

@@ -4,7 +4,6 @@ ghost use Rattle.std.specs.Prelude.{◌≡◌, IfOk, IsTrue, length, true};
 ghost use Rattle.vr_model.specs.moves.MoveTests.{is_move};
 ghost use Rattle.vr_model.specs.routes.Rules.{is_valid};
 ghost use Rattle.vr_model.specs.tables.Tables.{visits};
-ghost use Rattle.vr_model.specs.tables.WellFormed.{IsWellFormed};
 ghost use Rattle.vr_routes.specs.Changes.{IsChange, IsMadeOn};
 ghost use Rattle.vr_routes.specs.Pieces.{changed};
 
@@ -18,7 +17,7 @@ use crate::{kept, stopped};
 use std::alloc::Global;
 use std::process::Abort;
 use vr_costfilter::Paid;
-use vr_model::{Model, Move, NoMemory};
+use vr_model::{Closed, Move, NoMemory};
 use vr_routes::{Change, Routes};
 use vr_rules::valid;
 use vr_samples::{read_model_text, valid_routes};
@@ -70,17 +69,15 @@ pub(crate) fn assert_rows(rt: &impl Abort, alloc: Global, rows: &[Row]) {
 // Whether a row is answered as it says: not where its text is no model, its lists are not valid, or memory is wanted.
 fn is_as_said(alloc: Global, row: &Row) -> bool {
     match read_model_text(alloc, row.text) {
-        Some(model) => of_model(alloc, &model, row) == Ok(true),
+        Some(model) => of_model(alloc, Closed { model: &model }, row) == Ok(true),
         None => false,
     }
 }
 
 // The same of the model.
-fn of_model(alloc: Global, model: &Model, row: &Row) -> Result<bool, NoMemory>
-    requires { IsWellFormed model.now }
-{
-    match valid_routes(alloc, model, row.lists)? {
-        Some(mut routes) => of_routes(alloc, model, &mut routes, row.asks),
+fn of_model(alloc: Global, closed: Closed<'_>, row: &Row) -> Result<bool, NoMemory> {
+    match valid_routes(alloc, closed.model, row.lists)? {
+        Some(mut routes) => of_routes(alloc, closed, &mut routes, row.asks),
         None => Ok(false),
     }
 }
@@ -88,46 +85,44 @@ fn of_model(alloc: Global, model: &Model, row: &Row) -> Result<bool, NoMemory>
 // The same of the routes.
 fn of_routes(
     alloc: Global,
-    model: &Model,
+    closed: Closed<'_>,
     routes: &mut Routes,
     asks: Asks,
 ) -> Result<bool, NoMemory>
-    requires well_formed { IsWellFormed model.now }
-    requires of_model { routes.old.visits ≡ visits model.now }
-    requires many { length routes.old.lists ≡ length model.now.vehicles }
-    requires valid { IsTrue (is_valid model.now routes.old.lists) }
+    requires of_model { routes.old.visits ≡ visits closed.model.now }
+    requires many { length routes.old.lists ≡ length closed.model.now.vehicles }
+    requires valid { IsTrue (is_valid closed.model.now routes.old.lists) }
 {
     match asks {
-        Asks::Filter(filter, moves) => filters::passes(alloc, model, routes, filter, moves),
-        Asks::Part(part, mv, added) => parts::adds(alloc, model, routes, part, mv, added),
-        Asks::Kept(paid, first, second) => kept::tells(alloc, model, routes, paid, first, second),
-        Asks::Judge(by, said) => judges::says(alloc, model, routes, by, said),
+        Asks::Filter(filter, moves) => filters::passes(alloc, closed, routes, filter, moves),
+        Asks::Part(part, mv, added) => parts::adds(alloc, closed, routes, part, mv, added),
+        Asks::Kept(paid, first, second) => kept::tells(alloc, closed, routes, paid, first, second),
+        Asks::Judge(by, said) => judges::says(alloc, closed, routes, by, said),
         Asks::Search(by, search, wanted) => searches::finds(
-            alloc, model, routes, by, search, wanted,
+            alloc, closed, routes, by, search, wanted,
         ),
-        Asks::Cuts(cuts) => cuts::finds(alloc, model, routes, cuts),
-        Asks::Tabu(by, tabus) => tabus::finds(alloc, model, routes, by, tabus),
-        Asks::Stopper => stopped::ends_between_watchers(alloc, model, routes),
+        Asks::Cuts(cuts) => cuts::finds(alloc, closed, routes, cuts),
+        Asks::Tabu(by, tabus) => tabus::finds(alloc, closed, routes, by, tabus),
+        Asks::Stopper => stopped::ends_between_watchers(alloc, closed, routes),
     }
 }
 
 /// Whether the lists after a change by a move are valid.
 pub(crate) fn stays_valid(
     alloc: Global,
-    model: &Model,
+    closed: Closed<'_>,
     routes: &Routes,
     mv: Move,
     change: &Change,
 ) -> Result<bool, NoMemory>
-    requires well_formed { IsWellFormed model.now }
-    requires valid { IsTrue (is_valid model.now routes.now.lists) }
-    requires is_one { is_move model.now routes.now.lists mv ≡ true }
-    requires change { IsChange model.now routes.now.lists mv change.now }
+    requires valid { IsTrue (is_valid closed.model.now routes.now.lists) }
+    requires is_one { is_move closed.model.now routes.now.lists mv ≡ true }
+    requires change { IsChange closed.model.now routes.now.lists mv change.now }
     requires made { IsMadeOn routes.now change.now }
-    ensures { IfOk result (λ stays. stays ≡ is_valid model.now (changed routes.now.lists change.now)) }
+    ensures { IfOk result (λ stays. stays ≡ is_valid closed.entry.model.now (changed routes.now.lists change.now)) }
 {
     let mut after = routes.copy(alloc)?;
     after.commit(change);
-    let stays = valid(alloc, model, &after)?;
+    let stays = valid(alloc, closed.model, &after)?;
     Ok(stays)
 }

@@ -8,7 +8,6 @@ ghost use Rattle.vr_model.specs.moves.MoveTests.{is_move};
 ghost use Rattle.vr_model.specs.routes.Costs.{cost};
 ghost use Rattle.vr_model.specs.routes.Rules.{is_valid};
 ghost use Rattle.vr_model.specs.tables.Tables.{visits};
-ghost use Rattle.vr_model.specs.tables.WellFormed.{IsWellFormed};
 ghost use Rattle.vr_routes.specs.Changes.{IsChange};
 ghost use Rattle.vr_routes.specs.Judging.{HoldSame, moved, verdict_of};
 
@@ -20,7 +19,7 @@ use std::sync::ledger::{Blank, Ledger};
 use vr_descent::descend;
 use vr_guided::guide;
 use vr_judge::FilterJudge;
-use vr_model::{Lambda, Limit, Model, Move, NoMemory, Report, Steps};
+use vr_model::{Closed, Lambda, Limit, Move, NoMemory, Report, Steps};
 use vr_plain::PlainJudge;
 use vr_routes::{Change, Judge, Routes, Verdict};
 use vr_rules::total;
@@ -114,17 +113,16 @@ impl<J: Judge> Counting<J> {
 // How a search by a judge went.
 fn report_of<J: Judge, L: Ledger>(
     alloc: Global,
-    model: &Model,
+    closed: Closed<'_>,
     judge: &mut J,
     routes: &mut Routes,
     first_cost: i64,
     search: Search,
     blank: Blank,
 ) -> Result<Report, NoMemory>
-    requires well_formed { IsWellFormed model.now }
-    requires judge_model { J.model judge.old ≡ model.now }
-    requires holds { HoldSame model.now (J.committed judge.old) routes.old }
-    requires first_cost { first_cost ≡ cost model.now routes.old.lists }
+    requires judge_model { J.model judge.old ≡ closed.model.now }
+    requires holds { HoldSame closed.model.now (J.committed judge.old) routes.old }
+    requires first_cost { first_cost ≡ cost closed.model.now routes.old.lists }
     requires name { blank.name ≡ L.name }
     requires parts { blank.parts ≡ L.parts }
     requires some { 0 < blank.parts }
@@ -140,14 +138,28 @@ fn report_of<J: Judge, L: Ledger>(
     match search {
         Search::Descent => {
             let report = descend(
-                model, judge, routes, first_cost, limit, &mut none, &mut steps,
+                closed.model,
+                judge,
+                routes,
+                first_cost,
+                limit,
+                &mut none,
+                &mut steps,
             )?;
             Ok(report)
         }
         Search::Guided => {
             let lambda = Lambda { p: 1, q: 10 };
             let guided = guide(
-                alloc, model, judge, routes, first_cost, limit, lambda, &mut none, &mut steps,
+                alloc,
+                closed.model,
+                judge,
+                routes,
+                first_cost,
+                limit,
+                lambda,
+                &mut none,
+                &mut steps,
             )?;
             Ok(guided.report)
         }
@@ -165,17 +177,16 @@ struct Count {
 // The same by a judge that counts.
 fn count_of<J: Judge, L: Ledger>(
     alloc: Global,
-    model: &Model,
+    closed: Closed<'_>,
     counting: &mut Counting<J>,
     routes: &mut Routes,
     first_cost: i64,
     search: Search,
     blank: Blank,
 ) -> Result<Count, NoMemory>
-    requires well_formed { IsWellFormed model.now }
-    requires judge_model { J.model counting.old.judge ≡ model.now }
-    requires holds { HoldSame model.now (J.committed counting.old.judge) routes.old }
-    requires first_cost { first_cost ≡ cost model.now routes.old.lists }
+    requires judge_model { J.model counting.old.judge ≡ closed.model.now }
+    requires holds { HoldSame closed.model.now (J.committed counting.old.judge) routes.old }
+    requires first_cost { first_cost ≡ cost closed.model.now routes.old.lists }
     requires none_judged { counting.old.count ≡ 0 }
     requires no_looks { counting.old.looks ≡ 0 }
     requires name { blank.name ≡ L.name }
@@ -185,7 +196,7 @@ fn count_of<J: Judge, L: Ledger>(
     ensures looked { IfOk result (λ count. count.looked ≤ 3 * count.report.tries) }
 {
     let report = report_of::<Counting<J>, L>(
-        alloc, model, counting, routes, first_cost, search, blank,
+        alloc, closed, counting, routes, first_cost, search, blank,
     )?;
     Ok(Count {
         asked: counting.count,
@@ -197,17 +208,16 @@ fn count_of<J: Judge, L: Ledger>(
 // The same by the judge that rebuilds, which rules nothing out.
 fn plain_count(
     alloc: Global,
-    model: &Model,
+    closed: Closed<'_>,
     routes: &mut Routes,
     first_cost: i64,
     search: Search,
 ) -> Result<Count, NoMemory>
-    requires well_formed { IsWellFormed model.now }
-    requires of_model { routes.old.visits ≡ visits model.now }
-    requires valid { IsTrue (is_valid model.now routes.old.lists) }
-    requires first_cost { first_cost ≡ cost model.now routes.old.lists }
+    requires of_model { routes.old.visits ≡ visits closed.model.now }
+    requires valid { IsTrue (is_valid closed.model.now routes.old.lists) }
+    requires first_cost { first_cost ≡ cost closed.model.now routes.old.lists }
 {
-    let judge = PlainJudge::open(alloc, model, routes)?;
+    let judge = PlainJudge::open(alloc, closed.model, routes)?;
     let mut counting = Counting {
         judge,
         count: 0,
@@ -215,7 +225,7 @@ fn plain_count(
     };
     let count = count_of::<PlainJudge<'_>, Brand>(
         alloc,
-        model,
+        closed,
         &mut counting,
         routes,
         first_cost,
@@ -229,17 +239,16 @@ fn plain_count(
 // The same by the judge of filters.
 fn filter_count(
     alloc: Global,
-    model: &Model,
+    closed: Closed<'_>,
     routes: &mut Routes,
     first_cost: i64,
     search: Search,
 ) -> Result<Count, NoMemory>
-    requires well_formed { IsWellFormed model.now }
-    requires of_model { routes.old.visits ≡ visits model.now }
-    requires valid { IsTrue (is_valid model.now routes.old.lists) }
-    requires first_cost { first_cost ≡ cost model.now routes.old.lists }
+    requires of_model { routes.old.visits ≡ visits closed.model.now }
+    requires valid { IsTrue (is_valid closed.model.now routes.old.lists) }
+    requires first_cost { first_cost ≡ cost closed.model.now routes.old.lists }
 {
-    let judge = FilterJudge::open(alloc, model, routes)?;
+    let judge = FilterJudge::open(alloc, closed.model, routes)?;
     let mut counting = Counting {
         judge,
         count: 0,
@@ -247,7 +256,7 @@ fn filter_count(
     };
     let count = count_of::<FilterJudge<'_>, Brand>(
         alloc,
-        model,
+        closed,
         &mut counting,
         routes,
         first_cost,
@@ -280,20 +289,19 @@ pub(crate) fn has_list(routes: &Routes, list: &[u32]) -> bool {
 /// Whether a search by a judge from valid routes finds what is wanted, and asks the judge as often as it should.
 pub(crate) fn finds(
     alloc: Global,
-    model: &Model,
+    closed: Closed<'_>,
     routes: &mut Routes,
     by: By,
     search: Search,
     wanted: &Wanted,
 ) -> Result<bool, NoMemory>
-    requires well_formed { IsWellFormed model.now }
-    requires of_model { routes.old.visits ≡ visits model.now }
-    requires valid { IsTrue (is_valid model.now routes.old.lists) }
+    requires of_model { routes.old.visits ≡ visits closed.model.now }
+    requires valid { IsTrue (is_valid closed.model.now routes.old.lists) }
 {
-    let first_cost = total(alloc, model, routes)?;
+    let first_cost = total(alloc, closed.model, routes)?;
     let count = match by {
-        By::Rebuilding => plain_count(alloc, model, routes, first_cost, search)?,
-        By::Filters => filter_count(alloc, model, routes, first_cost, search)?,
+        By::Rebuilding => plain_count(alloc, closed, routes, first_cost, search)?,
+        By::Filters => filter_count(alloc, closed, routes, first_cost, search)?,
     };
     let tries = count.report.tries;
     Ok(

@@ -4,7 +4,6 @@ ghost use Rattle.std.specs.Prelude.{◌≡◌, ◌<◌, IsTrue};
 ghost use Rattle.vr_model.specs.routes.Costs.{cost};
 ghost use Rattle.vr_model.specs.routes.Rules.{is_valid};
 ghost use Rattle.vr_model.specs.tables.Tables.{visits};
-ghost use Rattle.vr_model.specs.tables.WellFormed.{IsWellFormed};
 ghost use Rattle.vr_routes.specs.Judging.{HoldSame};
 
 use crate::models::OPTIONAL;
@@ -13,7 +12,7 @@ use std::alloc::Global;
 use std::marker::Brand;
 use std::sync::ledger::{Blank, Ledger};
 use vr_descent::descend;
-use vr_model::{Limit, Model, NoMemory, Steps};
+use vr_model::{Closed, Limit, NoMemory, Steps};
 use vr_plain::PlainJudge;
 use vr_routes::{Judge, Routes};
 use vr_rules::total;
@@ -21,17 +20,16 @@ use vr_watch::{Stopper, Trace, Watch};
 
 // Whether a descent wants memory.
 fn is_stopped<J: Judge, L: Ledger>(
-    model: &Model,
+    closed: Closed<'_>,
     judge: &mut J,
     routes: &mut Routes,
     first_cost: i64,
     watch: &mut Vec<Box<dyn Watch>>,
     blank: Blank,
 ) -> bool
-    requires well_formed { IsWellFormed model.now }
-    requires judge_model { J.model judge.old ≡ model.now }
-    requires holds { HoldSame model.now (J.committed judge.old) routes.old }
-    requires first_cost { first_cost ≡ cost model.now routes.old.lists }
+    requires judge_model { J.model judge.old ≡ closed.model.now }
+    requires holds { HoldSame closed.model.now (J.committed judge.old) routes.old }
+    requires first_cost { first_cost ≡ cost closed.model.now routes.old.lists }
     requires name { blank.name ≡ L.name }
     requires parts { blank.parts ≡ L.parts }
     requires some { 0 < blank.parts }
@@ -41,24 +39,32 @@ fn is_stopped<J: Judge, L: Ledger>(
         solutions: 100,
     };
     let mut steps = Steps::<L>::new(blank);
-    descend(model, judge, routes, first_cost, limit, watch, &mut steps).is_err()
+    descend(
+        closed.model,
+        judge,
+        routes,
+        first_cost,
+        limit,
+        watch,
+        &mut steps,
+    )
+    .is_err()
 }
 
 // The same by the judge that rebuilds.
 fn is_stopped_plain(
     alloc: Global,
-    model: &Model,
+    closed: Closed<'_>,
     routes: &mut Routes,
     watch: &mut Vec<Box<dyn Watch>>,
 ) -> Result<bool, NoMemory>
-    requires well_formed { IsWellFormed model.now }
-    requires of_model { routes.old.visits ≡ visits model.now }
-    requires valid { IsTrue (is_valid model.now routes.old.lists) }
+    requires of_model { routes.old.visits ≡ visits closed.model.now }
+    requires valid { IsTrue (is_valid closed.model.now routes.old.lists) }
 {
-    let first_cost = total(alloc, model, routes)?;
-    let mut judge = PlainJudge::open(alloc, model, routes)?;
+    let first_cost = total(alloc, closed.model, routes)?;
+    let mut judge = PlainJudge::open(alloc, closed.model, routes)?;
     Ok(is_stopped::<PlainJudge<'_>, Brand>(
-        model,
+        closed,
         &mut judge,
         routes,
         first_cost,
@@ -87,18 +93,17 @@ fn have_told(alloc: Global, watch: &[Box<dyn Watch>], wanted: &[u8]) -> Result<b
 /// to the first of them alone.
 pub(crate) fn ends_between_watchers(
     alloc: Global,
-    model: &Model,
+    closed: Closed<'_>,
     routes: &mut Routes,
 ) -> Result<bool, NoMemory>
-    requires well_formed { IsWellFormed model.now }
-    requires of_model { routes.old.visits ≡ visits model.now }
-    requires valid { IsTrue (is_valid model.now routes.old.lists) }
+    requires of_model { routes.old.visits ≡ visits closed.model.now }
+    requires valid { IsTrue (is_valid closed.model.now routes.old.lists) }
 {
     let mut watch: Vec<Box<dyn Watch>> = Vec::new(alloc);
     watch.push(Box::new(alloc, Trace::new(alloc))?)?;
     watch.push(Box::new(alloc, Stopper::new(alloc, 1))?)?;
     watch.push(Box::new(alloc, Trace::new(alloc))?)?;
-    let stopped = is_stopped_plain(alloc, model, routes, &mut watch)?;
+    let stopped = is_stopped_plain(alloc, closed, routes, &mut watch)?;
     let told = have_told(alloc, &watch, b"0 first 18\n6 move 13\n||0 first 18\n|")?;
     Ok(stopped && told && routes.vehicles() > 0 && routes.list(0) == [1].as_slice())
 }

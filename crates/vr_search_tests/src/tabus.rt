@@ -4,7 +4,6 @@ ghost use Rattle.std.specs.Prelude.{◌≡◌, ◌<◌, IsTrue};
 ghost use Rattle.vr_model.specs.routes.Costs.{cost};
 ghost use Rattle.vr_model.specs.routes.Rules.{is_valid};
 ghost use Rattle.vr_model.specs.tables.Tables.{visits};
-ghost use Rattle.vr_model.specs.tables.WellFormed.{IsWellFormed};
 ghost use Rattle.vr_routes.specs.Judging.{HoldSame};
 
 use crate::cuts::is_same_end;
@@ -15,7 +14,7 @@ use std::alloc::Global;
 use std::marker::Brand;
 use std::sync::ledger::{Blank, Ledger};
 use vr_judge::FilterJudge;
-use vr_model::{End, Limit, Model, NoMemory, Steps};
+use vr_model::{Closed, End, Limit, NoMemory, Steps};
 use vr_plain::PlainJudge;
 use vr_routes::{Judge, Routes};
 use vr_rules::total;
@@ -46,17 +45,16 @@ fn is_as_wanted(routes: &Routes, answer: &TabuAnswer, tabus: &Tabus) -> bool {
 // Whether tabu search by a judge finds what is wanted.
 fn finds_by<J: Judge, L: Ledger>(
     alloc: Global,
-    model: &Model,
+    closed: Closed<'_>,
     judge: &mut J,
     routes: &mut Routes,
     first_cost: i64,
     tabus: &Tabus,
     blank: Blank,
 ) -> Result<bool, NoMemory>
-    requires well_formed { IsWellFormed model.now }
-    requires judge_model { J.model judge.old ≡ model.now }
-    requires holds { HoldSame model.now (J.committed judge.old) routes.old }
-    requires first_cost { first_cost ≡ cost model.now routes.old.lists }
+    requires judge_model { J.model judge.old ≡ closed.model.now }
+    requires holds { HoldSame closed.model.now (J.committed judge.old) routes.old }
+    requires first_cost { first_cost ≡ cost closed.model.now routes.old.lists }
     requires name { blank.name ≡ L.name }
     requires parts { blank.parts ≡ L.parts }
     requires some { 0 < blank.parts }
@@ -69,7 +67,15 @@ fn finds_by<J: Judge, L: Ledger>(
     let mut none: Vec<Box<dyn Watch>> = Vec::new(alloc);
     let mut steps = Steps::<L>::new(blank);
     let answer = tabu(
-        alloc, model, judge, routes, first_cost, limit, tenure, &mut none, &mut steps,
+        alloc,
+        closed.model,
+        judge,
+        routes,
+        first_cost,
+        limit,
+        tenure,
+        &mut none,
+        &mut steps,
     )?;
     Ok(is_as_wanted(routes, &answer, tabus))
 }
@@ -77,20 +83,19 @@ fn finds_by<J: Judge, L: Ledger>(
 // The same by the judge that rebuilds.
 fn plain_finds(
     alloc: Global,
-    model: &Model,
+    closed: Closed<'_>,
     routes: &mut Routes,
     first_cost: i64,
     tabus: &Tabus,
 ) -> Result<bool, NoMemory>
-    requires well_formed { IsWellFormed model.now }
-    requires of_model { routes.old.visits ≡ visits model.now }
-    requires valid { IsTrue (is_valid model.now routes.old.lists) }
-    requires first_cost { first_cost ≡ cost model.now routes.old.lists }
+    requires of_model { routes.old.visits ≡ visits closed.model.now }
+    requires valid { IsTrue (is_valid closed.model.now routes.old.lists) }
+    requires first_cost { first_cost ≡ cost closed.model.now routes.old.lists }
 {
-    let mut judge = PlainJudge::open(alloc, model, routes)?;
+    let mut judge = PlainJudge::open(alloc, closed.model, routes)?;
     finds_by::<PlainJudge<'_>, Brand>(
         alloc,
-        model,
+        closed,
         &mut judge,
         routes,
         first_cost,
@@ -102,20 +107,19 @@ fn plain_finds(
 // The same by the judge of filters.
 fn filter_finds(
     alloc: Global,
-    model: &Model,
+    closed: Closed<'_>,
     routes: &mut Routes,
     first_cost: i64,
     tabus: &Tabus,
 ) -> Result<bool, NoMemory>
-    requires well_formed { IsWellFormed model.now }
-    requires of_model { routes.old.visits ≡ visits model.now }
-    requires valid { IsTrue (is_valid model.now routes.old.lists) }
-    requires first_cost { first_cost ≡ cost model.now routes.old.lists }
+    requires of_model { routes.old.visits ≡ visits closed.model.now }
+    requires valid { IsTrue (is_valid closed.model.now routes.old.lists) }
+    requires first_cost { first_cost ≡ cost closed.model.now routes.old.lists }
 {
-    let mut judge = FilterJudge::open(alloc, model, routes)?;
+    let mut judge = FilterJudge::open(alloc, closed.model, routes)?;
     let found = finds_by::<FilterJudge<'_>, Brand>(
         alloc,
-        model,
+        closed,
         &mut judge,
         routes,
         first_cost,
@@ -129,19 +133,18 @@ fn filter_finds(
 /// Whether tabu search by a judge from valid routes finds what is wanted.
 pub(crate) fn finds(
     alloc: Global,
-    model: &Model,
+    closed: Closed<'_>,
     routes: &mut Routes,
     by: By,
     tabus: &Tabus,
 ) -> Result<bool, NoMemory>
-    requires well_formed { IsWellFormed model.now }
-    requires of_model { routes.old.visits ≡ visits model.now }
-    requires valid { IsTrue (is_valid model.now routes.old.lists) }
+    requires of_model { routes.old.visits ≡ visits closed.model.now }
+    requires valid { IsTrue (is_valid closed.model.now routes.old.lists) }
 {
-    let first_cost = total(alloc, model, routes)?;
+    let first_cost = total(alloc, closed.model, routes)?;
     match by {
-        By::Rebuilding => plain_finds(alloc, model, routes, first_cost, tabus),
-        By::Filters => filter_finds(alloc, model, routes, first_cost, tabus),
+        By::Rebuilding => plain_finds(alloc, closed, routes, first_cost, tabus),
+        By::Filters => filter_finds(alloc, closed, routes, first_cost, tabus),
     }
 }
 

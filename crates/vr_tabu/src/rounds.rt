@@ -17,7 +17,7 @@ use crate::searching::State;
 use std::marker::PhantomData;
 use std::sync::ledger::Ledger;
 use vr_descent::{MoveList, moves};
-use vr_model::{Model, Move, NoMemory, Steps};
+use vr_model::{Closed, Model, Move, NoMemory, Steps};
 use vr_routes::{Change, Judge, Routes, Verdict};
 
 /// A move that may be made, and what it makes of the cost.
@@ -299,7 +299,7 @@ impl<'a> Round<'a> {
     {
         self.state
             .tabus
-            .is_tabu(self.model, self.routes, change, after)
+            .is_tabu(Closed { model: self.model }, self.routes, change, after)
     }
 
     // Whether a move that makes a difference is tabu and leads to lists that cost no less than the best before. Where

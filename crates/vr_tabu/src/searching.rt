@@ -24,7 +24,7 @@ use crate::tabu_list::TabuList;
 use std::alloc::Global;
 use std::sync::ledger::Ledger;
 use vr_descent::Progress;
-use vr_model::{End, Kind, Limit, Model, Move, NoMemory, Report, Steps};
+use vr_model::{Closed, End, Kind, Limit, Model, Move, NoMemory, Report, Steps};
 use vr_routes::{Change, Judge, Routes};
 use vr_watch::{Watch, note_all};
 
@@ -111,7 +111,15 @@ pub fn tabu<J: Judge, L: Ledger>(
     let bounds = Bounds { limit, tenure };
     note_all(watch, at.event(Kind::First))?;
     let mut state = State::open(alloc, model, routes, at)?;
-    let end = search(model, judge, routes, bounds, &mut state, watch, steps)?;
+    let end = search(
+        Closed { model },
+        judge,
+        routes,
+        bounds,
+        &mut state,
+        watch,
+        steps,
+    )?;
     Ok(TabuAnswer {
         report: state.at.report(end),
         best: state.best.routes,
@@ -144,45 +152,45 @@ impl State {
     // search ends. The tries are counted.
     fn advance<J: Judge, L: Ledger>(
         &mut self,
-        model: &Model,
+        closed: Closed<'_>,
         judge: &mut J,
         routes: &mut Routes,
         bounds: Bounds,
         watch: &mut Vec<Box<dyn Watch>>,
         steps: &mut Steps<L>,
     ) -> Result<Option<End>, NoMemory>
-        requires well_formed { IsWellFormed model.now }
-        requires judge_model { J.model judge.old ≡ model.now }
+        requires judge_model { J.model judge.old ≡ closed.model.now }
         requires bounds { AreBounds bounds }
-        requires stands { Stands model.now bounds (J.committed judge.old) routes.old self.old }
+        requires stands { Stands closed.model.now bounds (J.committed judge.old) routes.old self.old }
         requires more { self.old.at.found ≢ bounds.limit.solutions }
-        ensures outcome { IfOk result (λ stop. from_state model.now bounds routes.old.lists self.old
-            ≡ behind (next_events model.now bounds routes.old.lists self.old)
-            (left_of model.now bounds routes.new.lists self.new stop)) }
+        ensures outcome { IfOk result (λ stop. from_state closed.entry.model.now bounds routes.old.lists self.old
+            ≡ behind (next_events closed.entry.model.now bounds routes.old.lists self.old)
+            (left_of closed.entry.model.now bounds routes.new.lists self.new stop)) }
         ensures told { OnOk result (Told (λ w later. after w later) watch.old.items watch.new.items
-            (next_events model.now bounds routes.old.lists self.old)) }
+            (next_events closed.entry.model.now bounds routes.old.lists self.old)) }
         ensures asked { OnOk result (J.asked judge.new + self.old.at.used ≤ J.asked judge.old + self.new.at.used) }
         ensures looked { OnOk result (J.looked judge.new + 3 * self.old.at.used
             ≤ J.looked judge.old + 3 * self.new.at.used) }
-        ensures stands { OnOk result (Stands model.now bounds (J.committed judge.new) routes.new self.new) }
+        ensures stands { OnOk result (Stands closed.entry.model.now bounds
+            (J.committed judge.new) routes.new self.new) }
         ensures no_dearer { OnOk result (self.new.best.cost ≤ℤ self.old.best.cost) }
         ensures further { IfOk result (λ stop. stop ≡ None → self.old.at.used < self.new.at.used) }
 
-        ensures judge_model { J.model judge.new ≡ model.now }
-        ensures holds { HoldSame model.now (J.committed judge.new) routes.new }
+        ensures judge_model { J.model judge.new ≡ closed.entry.model.now }
+        ensures holds { HoldSame closed.entry.model.now (J.committed judge.new) routes.new }
         ensures told_in_part { OnErr result (ToldInPart (λ w later. after w later) watch.old.items watch.new.items
-            (next_events model.now bounds routes.old.lists self.old)) }
+            (next_events closed.entry.model.now bounds routes.old.lists self.old)) }
         ensures asked_at_most { OnErr result (J.asked judge.new + self.old.at.used
             ≤ J.asked judge.old + bounds.limit.tries) }
         ensures looked_at_most { OnErr result (J.looked judge.new + 3 * self.old.at.used
             ≤ J.looked judge.old + 3 * bounds.limit.tries) }
     {
         let rest = bounds.limit.tries - self.at.used;
-        let ended = run_round(model, judge, routes, self, rest, steps)?;
+        let ended = run_round(closed.model, judge, routes, self, rest, steps)?;
         match ended {
             RoundEnd::Best { length, candidate } => {
-                self.forbid(model, routes, candidate.mv, bounds.tenure);
-                self.take(model, judge, routes, watch, length, candidate)?;
+                self.forbid(closed, routes, candidate.mv, bounds.tenure);
+                self.take(closed, judge, routes, watch, length, candidate)?;
                 Ok(None)
             }
             RoundEnd::Stuck { length } => {
@@ -197,61 +205,59 @@ impl State {
     }
 
     // The visits that a move changes are tabu from the next round on.
-    fn forbid(&mut self, model: &Model, routes: &Routes, mv: Move, tenure: u32)
-        requires well_formed { IsWellFormed model.now }
-        requires of_model { routes.now.visits ≡ visits model.now }
-        requires valid { IsTrue (is_valid model.now routes.now.lists) }
-        requires mv { IsTrue (is_move model.now routes.now.lists mv) }
+    fn forbid(&mut self, closed: Closed<'_>, routes: &Routes, mv: Move, tenure: u32)
+        requires of_model { routes.now.visits ≡ visits closed.model.now }
+        requires valid { IsTrue (is_valid closed.model.now routes.now.lists) }
+        requires mv { IsTrue (is_move closed.model.now routes.now.lists mv) }
         requires round { self.old.tabus.round ≤ 1000000000 }
-        requires covers { length self.old.tabus.until.items ≡ model.now.nodes }
-        ensures next { tabus_of self.new.tabus ≡ next_round model.now tenure routes.now.lists
-            (apply model.now routes.now.lists mv) (tabus_of self.old.tabus) }
-        ensures covers { length self.new.tabus.until.items ≡ model.now.nodes }
+        requires covers { length self.old.tabus.until.items ≡ closed.model.now.nodes }
+        ensures next { tabus_of self.new.tabus ≡ next_round closed.entry.model.now tenure routes.now.lists
+            (apply closed.entry.model.now routes.now.lists mv) (tabus_of self.old.tabus) }
+        ensures covers { length self.new.tabus.until.items ≡ closed.entry.model.now.nodes }
         ensures at { self.new.at ≡ self.old.at }
         ensures best { self.new.best ≡ self.old.best }
     {
         let mut change = Change::blank();
         let mut after = NewList::new();
-        Change::write(model, routes, mv, &mut change);
+        Change::write(closed.model, routes, mv, &mut change);
         self.tabus
-            .follow(model, routes, &change, tenure, &mut after);
+            .follow(closed, routes, &change, tenure, &mut after);
     }
 
     // Makes the best candidate of a round of so many moves, and tells the watchers. Where memory is wanting, routes and
     // judge hold the same lists all the same.
     fn take<J: Judge>(
         &mut self,
-        model: &Model,
+        closed: Closed<'_>,
         judge: &mut J,
         routes: &mut Routes,
         watch: &mut Vec<Box<dyn Watch>>,
         length: u64,
         candidate: Candidate,
     ) -> Result<(), NoMemory>
-        requires well_formed { IsWellFormed model.now }
-        requires judge_model { J.model judge.old ≡ model.now }
-        requires holds { HoldSame model.now (J.committed judge.old) routes.old }
-        requires mv { IsTrue (is_move model.now routes.old.lists candidate.mv) }
-        requires valid { IsTrue (is_valid model.now (apply model.now routes.old.lists candidate.mv)) }
-        requires cost { self.old.at.cost ≡ cost model.now routes.old.lists }
-        requires known { IsKnown model.now routes.old.lists candidate }
+        requires judge_model { J.model judge.old ≡ closed.model.now }
+        requires holds { HoldSame closed.model.now (J.committed judge.old) routes.old }
+        requires mv { IsTrue (is_move closed.model.now routes.old.lists candidate.mv) }
+        requires valid { IsTrue (is_valid closed.model.now (apply closed.model.now routes.old.lists candidate.mv)) }
+        requires cost { self.old.at.cost ≡ cost closed.model.now routes.old.lists }
+        requires known { IsKnown closed.model.now routes.old.lists candidate }
         requires tries { self.old.at.used + length < 2 ^ 64 }
         requires found { self.old.at.found + 1 < 2 ^ 64 }
-        requires best { IsBest model.now routes.old.visits self.old.best }
-        ensures at { OnOk result (self.new.at ≡ after_move model.now routes.old.lists candidate.mv length
+        requires best { IsBest closed.model.now routes.old.visits self.old.best }
+        ensures at { OnOk result (self.new.at ≡ after_move closed.entry.model.now routes.old.lists candidate.mv length
             self.old.at) }
         ensures best { OnOk result (self.new.best ≡ kept self.old.best routes.new
-            (cost model.now routes.new.lists)) }
+            (cost closed.entry.model.now routes.new.lists)) }
         ensures tabus { self.new.tabus ≡ self.old.tabus }
-        ensures routes { OnOk result (routes.new ≡ moved model.now routes.old candidate.mv) }
-        ensures holds { HoldSame model.now (J.committed judge.new) routes.new }
-        ensures judge_model { J.model judge.new ≡ model.now }
+        ensures routes { OnOk result (routes.new ≡ moved closed.entry.model.now routes.old candidate.mv) }
+        ensures holds { HoldSame closed.entry.model.now (J.committed judge.new) routes.new }
+        ensures judge_model { J.model judge.new ≡ closed.entry.model.now }
         ensures asked { J.asked judge.new ≡ J.asked judge.old }
         ensures looked { J.looked judge.new ≡ J.looked judge.old }
         ensures told { OnOk result (Told (λ w later. after w later) watch.old.items watch.new.items
-            (move_event model.now routes.old.lists candidate.mv (self.old.at.used + length) ∷ [])) }
+            (move_event closed.entry.model.now routes.old.lists candidate.mv (self.old.at.used + length) ∷ [])) }
         ensures told_in_part { OnErr result (ToldInPart (λ w later. after w later) watch.old.items watch.new.items
-            (move_event model.now routes.old.lists candidate.mv (self.old.at.used + length) ∷ [])) }
+            (move_event closed.entry.model.now routes.old.lists candidate.mv (self.old.at.used + length) ∷ [])) }
     {
         judge.commit(routes, candidate.mv)?;
         self.follow(routes, length, candidate.difference);
@@ -310,7 +316,7 @@ fn run_round<J: Judge, L: Ledger>(
 
 // Searches on from where it stands, and says why it ended.
 fn search<J: Judge, L: Ledger>(
-    model: &Model,
+    closed: Closed<'_>,
     judge: &mut J,
     routes: &mut Routes,
     bounds: Bounds,
@@ -318,32 +324,31 @@ fn search<J: Judge, L: Ledger>(
     watch: &mut Vec<Box<dyn Watch>>,
     steps: &mut Steps<L>,
 ) -> Result<End, NoMemory>
-    requires well_formed { IsWellFormed model.now }
-    requires judge_model { J.model judge.old ≡ model.now }
+    requires judge_model { J.model judge.old ≡ closed.model.now }
     requires bounds { AreBounds bounds }
-    requires stands { Stands model.now bounds (J.committed judge.old) routes.old state.old }
-    ensures outcome { IfOk result (λ stop. from_state model.now bounds routes.old.lists state.old
-        ≡ behind (from_state model.now bounds routes.old.lists state.old).events
-        (left_of model.now bounds routes.new.lists state.new (Some stop))) }
+    requires stands { Stands closed.model.now bounds (J.committed judge.old) routes.old state.old }
+    ensures outcome { IfOk result (λ stop. from_state closed.entry.model.now bounds routes.old.lists state.old
+        ≡ behind (from_state closed.entry.model.now bounds routes.old.lists state.old).events
+        (left_of closed.entry.model.now bounds routes.new.lists state.new (Some stop))) }
     ensures told { OnOk result (Told (λ w later. after w later) watch.old.items watch.new.items
-        (from_state model.now bounds routes.old.lists state.old).events) }
+        (from_state closed.entry.model.now bounds routes.old.lists state.old).events) }
     ensures asked { OnOk result (J.asked judge.new + state.old.at.used ≤ J.asked judge.old + state.new.at.used) }
     ensures looked { OnOk result (J.looked judge.new + 3 * state.old.at.used
         ≤ J.looked judge.old + 3 * state.new.at.used) }
-    ensures stands { OnOk result (Stands model.now bounds (J.committed judge.new) routes.new state.new) }
+    ensures stands { OnOk result (Stands closed.entry.model.now bounds (J.committed judge.new) routes.new state.new) }
     ensures no_dearer { OnOk result (state.new.best.cost ≤ℤ state.old.best.cost) }
 
-    ensures judge_model { J.model judge.new ≡ model.now }
-    ensures holds { HoldSame model.now (J.committed judge.new) routes.new }
+    ensures judge_model { J.model judge.new ≡ closed.entry.model.now }
+    ensures holds { HoldSame closed.entry.model.now (J.committed judge.new) routes.new }
     ensures told_in_part { OnErr result (ToldInPart (λ w later. after w later) watch.old.items watch.new.items
-        (from_state model.now bounds routes.old.lists state.old).events) }
+        (from_state closed.entry.model.now bounds routes.old.lists state.old).events) }
     ensures asked_at_most { OnErr result (J.asked judge.new + state.old.at.used
         ≤ J.asked judge.old + bounds.limit.tries) }
     ensures looked_at_most { OnErr result (J.looked judge.new + 3 * state.old.at.used
         ≤ J.looked judge.old + 3 * bounds.limit.tries) }
 {
     'rounds: while state.at.found != bounds.limit.solutions {
-        let stop = state.advance(model, judge, routes, bounds, watch, steps)?;
+        let stop = state.advance(closed, judge, routes, bounds, watch, steps)?;
         if let Some(end) = stop {
             return Ok(end);
         }

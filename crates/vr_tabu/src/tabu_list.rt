@@ -4,7 +4,6 @@ ghost use Rattle.std.specs.Prelude.{◌≡◌, ◌<◌, ◌≤◌, ◌+◌, ◌=
 ghost use Rattle.std.specs.List.{list_any};
 ghost use Rattle.vr_model.specs.routes.Routes.{are_lists, holds};
 ghost use Rattle.vr_model.specs.tables.Tables.{vehicle_at};
-ghost use Rattle.vr_model.specs.tables.WellFormed.{IsWellFormed};
 ghost use Rattle.vr_routes.specs.Changes.{IsMadeOn};
 ghost use Rattle.vr_routes.specs.Pieces.{changed, joined, part_at};
 ghost use Rattle.vr_tabu.specs.Parts.{changes, frees, is_freed};
@@ -14,7 +13,7 @@ ghost use Rattle.vr_tabu.specs.TabuSearches.{is_tabu, is_tabu_visit, next_round,
 use crate::list_change::ListChange;
 use crate::new_list::NewList;
 use std::alloc::Global;
-use vr_model::{Model, NoMemory};
+use vr_model::{Closed, Model, NoMemory};
 use vr_routes::{Change, Routes};
 
 /// The number of the round, and the round before which each visit is tabu.
@@ -80,17 +79,17 @@ impl TabuList {
     /// memory.
     pub fn is_tabu(
         &self,
-        model: &Model,
+        closed: Closed<'_>,
         routes: &Routes,
         change: &Change,
         after: &mut NewList,
     ) -> bool
-        requires well_formed { IsWellFormed model.now }
-        requires are_lists { IsTrue (are_lists model.now routes.now.lists) }
+        requires are_lists { IsTrue (are_lists closed.model.now routes.now.lists) }
         requires made { IsMadeOn routes.now change.now }
-        requires after { IsTrue (are_lists model.now (changed routes.now.lists change.now)) }
+        requires after { IsTrue (are_lists closed.model.now (changed routes.now.lists change.now)) }
         ensures { result
-            ≡ is_tabu model.now (tabus_of self.now) routes.now.lists (changed routes.now.lists change.now) }
+            ≡ is_tabu closed.entry.model.now (tabus_of self.now) routes.now.lists
+            (changed routes.now.lists change.now) }
     {
         for k in 0..change.parts() {
             after.write(routes, change, k);
@@ -98,7 +97,7 @@ impl TabuList {
             let list = ListChange {
                 routes,
                 vehicle,
-                start: start_of(model, vehicle),
+                start: start_of(closed.model, vehicle),
                 after,
             };
             if self.frees(&list) {
@@ -152,21 +151,20 @@ impl TabuList {
     /// then on. The list is written over. Takes no memory.
     pub fn follow(
         &mut self,
-        model: &Model,
+        closed: Closed<'_>,
         routes: &Routes,
         change: &Change,
         tenure: u32,
         after: &mut NewList,
     )
-        requires well_formed { IsWellFormed model.now }
-        requires are_lists { IsTrue (are_lists model.now routes.now.lists) }
+        requires are_lists { IsTrue (are_lists closed.model.now routes.now.lists) }
         requires made { IsMadeOn routes.now change.now }
-        requires after { IsTrue (are_lists model.now (changed routes.now.lists change.now)) }
+        requires after { IsTrue (are_lists closed.model.now (changed routes.now.lists change.now)) }
         requires round { self.old.round ≤ 1000000000 }
-        requires covers { length self.old.until.items ≡ model.now.nodes }
-        ensures next { tabus_of self.new ≡ next_round model.now tenure routes.now.lists
+        requires covers { length self.old.until.items ≡ closed.model.now.nodes }
+        ensures next { tabus_of self.new ≡ next_round closed.entry.model.now tenure routes.now.lists
             (changed routes.now.lists change.now) (tabus_of self.old) }
-        ensures covers { length self.new.until.items ≡ model.now.nodes }
+        ensures covers { length self.new.until.items ≡ closed.entry.model.now.nodes }
     {
         let until = self.round + 1 + tenure as u64;
         for k in 0..change.parts() {
@@ -175,7 +173,7 @@ impl TabuList {
             let list = ListChange {
                 routes,
                 vehicle,
-                start: start_of(model, vehicle),
+                start: start_of(closed.model, vehicle),
                 after,
             };
             self.forbid(&list, until);

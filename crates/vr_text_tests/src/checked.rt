@@ -1,12 +1,10 @@
 //! Printed solutions of small models, what the check finds in them, and the lists that they print.
 
-ghost use Rattle.vr_model.specs.tables.WellFormed.{IsWellFormed};
-
 use serde_json::Value;
 use std::alloc::Global;
 use std::test::Fail;
 use vr_check::{Finding, check};
-use vr_model::{Model, NoMemory};
+use vr_model::{Closed, NoMemory};
 use vr_printed::{Printed, printed_lists, read_printed};
 use vr_samples::read_model_text;
 
@@ -86,21 +84,18 @@ fn has_list(alloc: Global, printed: &Printed, row: &Row) -> bool {
     }
 }
 
-fn prints(alloc: Global, model: &Model, solution: &Value, row: &Row) -> bool
-    requires { IsWellFormed model.now }
-{
-    match read_printed(alloc, model, solution) {
+fn prints(alloc: Global, closed: Closed<'_>, solution: &Value, row: &Row) -> bool {
+    match read_printed(alloc, closed.model, solution) {
         Ok(Some(printed)) => has_list(alloc, &printed, row),
         _ => false,
     }
 }
 
-fn holds_of(alloc: Global, model: &Model, row: &Row) -> bool
-    requires { IsWellFormed model.now }
-{
+fn holds_of(alloc: Global, closed: Closed<'_>, row: &Row) -> bool {
     match Value::from_str(alloc, row.2) {
         Ok(solution) => {
-            is_found(check(alloc, model, &solution), row) && prints(alloc, model, &solution, row)
+            is_found(check(alloc, closed.model, &solution), row)
+                && prints(alloc, closed, &solution, row)
         }
         Err(_) => false,
     }
@@ -108,7 +103,7 @@ fn holds_of(alloc: Global, model: &Model, row: &Row) -> bool
 
 fn holds(alloc: Global, row: &Row) -> bool {
     match read_model_text(alloc, row.1) {
-        Some(model) => holds_of(alloc, &model, row),
+        Some(model) => holds_of(alloc, Closed { model: &model }, row),
         None => false,
     }
 }

@@ -23,7 +23,7 @@ ghost use Rattle.vr_usecosts.specs.Groups.{IsForNodes, IsForPieces, Saves, Stand
 use std::alloc::Global;
 use std::marker::Model;
 use vr_balance::{Balance, active_in};
-use vr_model::{Group, Model as RoutingModel, Move, NoMemory, Seq};
+use vr_model::{Closed, Group, Model as RoutingModel, Move, NoMemory, Seq};
 use vr_parts::CostPart;
 use vr_routes::{Change, Piece, Routes};
 
@@ -74,13 +74,12 @@ fn has_node(group: &Group, node: u32) -> bool
 }
 
 // What a node saves where it is active.
-fn saving(model: &RoutingModel, node: u32) -> i64
-    requires well_formed { IsWellFormed model.now }
-    ensures value { result ≡ pos (saved_by model.now.groups node) }
+fn saving(closed: Closed<'_>, node: u32) -> i64
+    ensures value { result ≡ pos (saved_by closed.entry.model.now.groups node) }
     ensures range { IsUpTo 1 result }
 {
-    for g in 0..model.groups.len() {
-        let group = model.groups.get(g);
+    for g in 0..closed.model.groups.len() {
+        let group = closed.model.groups.get(g);
         if has_node(group, node) {
             return penalty(group);
         }
@@ -89,13 +88,12 @@ fn saving(model: &RoutingModel, node: u32) -> i64
 }
 
 // What each node saves where it is active.
-fn savings(alloc: Global, model: &RoutingModel) -> Result<Seq<i64>, NoMemory>
-    requires well_formed { IsWellFormed model.now }
-    ensures { IfOk result (AreSaved model.now) }
+fn savings(alloc: Global, closed: Closed<'_>) -> Result<Seq<i64>, NoMemory>
+    ensures { IfOk result (AreSaved closed.entry.model.now) }
 {
     let mut saved = Seq::new(alloc);
-    for node in 0..model.nodes {
-        saved.push(saving(model, node))?;
+    for node in 0..closed.model.nodes {
+        saved.push(saving(closed, node))?;
     }
     Ok(saved)
 }
@@ -207,14 +205,13 @@ fn penalty_of(routes: &Routes, group: &Group) -> i64
 }
 
 // What the groups cost.
-fn penalties(model: &RoutingModel, routes: &Routes) -> i64
-    requires well_formed { IsWellFormed model.now }
-    requires valid { IsTrue (is_valid model.now routes.now.lists) }
-    ensures { result ≡ penalty_part model.now routes.now.lists }
+fn penalties(closed: Closed<'_>, routes: &Routes) -> i64
+    requires valid { IsTrue (is_valid closed.model.now routes.now.lists) }
+    ensures { result ≡ penalty_part closed.entry.model.now routes.now.lists }
 {
     let mut total = 0;
-    for g in 0..model.groups.len() {
-        total += penalty_of(routes, model.groups.get(g));
+    for g in 0..closed.model.groups.len() {
+        total += penalty_of(routes, closed.model.groups.get(g));
     }
     total
 }
@@ -232,9 +229,10 @@ impl<'m> GroupCost<'m> {
         ensures model { IfOk result (λ part. part.model ≡ model.now) }
         ensures stands { IfOk result (λ part. StandsGroups part routes.now) }
     {
-        let saved = savings(alloc, model)?;
+        let closed = Closed { model };
+        let saved = savings(alloc, closed)?;
         let pays = is_some_paid(model);
-        let total = penalties(model, routes);
+        let total = penalties(closed, routes);
         Ok(GroupCost {
             model,
             saved,

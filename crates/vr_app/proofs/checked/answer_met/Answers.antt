@@ -3,8 +3,8 @@ use Rattle.vr_app.proofs.ReplyLemmas.{IsPrintable, met-printable}
 use Rattle.vr_app.proofs.SpanLemmas.{spans_of-printable}
 use Rattle.vr_app.proofs.checked.answer_met.Goals as goal
 
-pub spans_tree-requires-clause-meets : goal.spans_tree-requires-clause-meets
-spans_tree-requires-clause-meets c = (c.args.cost, c.requires.meets)
+pub spans_tree-requires : goal.spans_tree-requires
+spans_tree-requires c = (c.args.cost, c.requires.meets)
 
 pub line-requires : goal.line-requires
 line-requires c = let p = subst IsPrintable (sym c.in_ok-tree-in-Check.ensures) (met-printable _) in record { whole = p.whole; nested = p.nested }

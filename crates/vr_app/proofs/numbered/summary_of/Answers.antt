@@ -11,9 +11,9 @@ use Rattle.vr_app.proofs.numbered.summary_of.Goals as goal
 
 pub returns : goal.returns
 returns c = λ found is.
-    let model = c.args.model.now in
+    let model = c.args.closed.model.now in
     let lists : List (List ℕ) = c.args.best.now.routes.lists in
-    let bounds = costs_are_bounded model c.requires.well_formed lists c.requires.valid in
+    let bounds = costs_are_bounded model c.args.closed.well_formed lists c.requires.valid in
     let total : to_z w64 (of_z w64 c.in_ok-cost.cost) ≡ cost model lists = omega (arith, ints, c.in_ok-cost.ensures.value, bounds.least, bounds.greatest) in
     let idle : List ℕ → List (List ℕ) → List ℕ = λ nodes lists. filter (λ node. not (is_active lists node)) nodes in
     let dropped = ap length (c.inactive.ensures.value ∙ ap (λ nodes. idle nodes lists) is.ends.visits_are ∙ ap (idle (visits model)) is.ends.best_is) in

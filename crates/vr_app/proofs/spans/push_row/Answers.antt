@@ -14,7 +14,7 @@ use Rattle.vr_app.proofs.spans.push_row.Goals as goal
 
 pub returns-in_ok-push : goal.returns-in_ok-push
 returns-in_ok-push c =
-    let model = c.args.model.now in
+    let model = c.args.closed.model.now in
     let d = c.args.d in
     let list : List ℕ = c.args.list.now in
     let plans = printed_plans c.args.route.now in

@@ -10,7 +10,7 @@ use Rattle.vr_app.proofs.spans.push_used.Goals as goal
 
 pub loop-d-preserved : goal.loop-d-preserved
 loop-d-preserved c =
-    let model = c.args.model.now in
+    let model = c.args.closed.model.now in
     let plans = printed_plans c.args.route.now in
     let list = c.args.list.now in
     let d = c.loop-d.d in

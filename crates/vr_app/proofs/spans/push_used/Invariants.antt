@@ -6,4 +6,4 @@ use Rattle.vr_app.specs.Told.{printed_plans}
 use Rattle.vr_app.proofs.spans.push_used.Given as goal
 
 abbrev pub invariant-loop-d : goal.invariant-loop-d
-invariant-loop-d l = map view l.rows.items ≡ map view l.initial.rows.items ++ spans_in l.model l.v l.list (printed_plans l.route) (below l.d)
+invariant-loop-d l = map view l.rows.items ≡ map view l.initial.rows.items ++ spans_in l.closed.model.now l.v l.list (printed_plans l.route) (below l.d)

@@ -12,11 +12,11 @@ use Rattle.vr_app.proofs.spans.row.Goals as goal
 
 pub shortest-requires-clause-no_breaks : goal.shortest-requires-clause-no_breaks
 shortest-requires-clause-no_breaks c =
-    c.in_ok-line.ensures.exact.breaks ∙ no-breaks (dimension_at c.args.model.now c.args.d) c.requires.no_breaks c.args.v
+    c.in_ok-line.ensures.exact.breaks ∙ no-breaks (dimension_at c.args.closed.model.now c.args.d) c.requires.no_breaks c.args.v
 
 pub returns : goal.returns
 returns c =
-    let model = c.args.model.now in
+    let model = c.args.closed.model.now in
     let its : Line = line model c.args.d c.args.v c.args.list.now in
     let short = c.in_ok-least.ensures its c.in_ok-line.ensures.exact in
     let took = c.span_between-printed.ensures

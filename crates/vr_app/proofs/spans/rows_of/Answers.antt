@@ -9,21 +9,21 @@ use Rattle.vr_app.proofs.SpanLemmas.{few_routes, read_low, read_scheduled, rows_
 use Rattle.vr_app.proofs.spans.rows_of.Goals as goal
 
 pub overflow_cast-v : goal.overflow_cast-v
-overflow_cast-v c = record { fits = few_routes c.args.model.now c.args.routes.now c.args.lists.now c.loop-v.v c.requires.well_formed c.requires.scheduled c.requires.lists c.loop-v-test.true }
+overflow_cast-v c = record { fits = few_routes c.args.closed.model.now c.args.routes.now c.args.lists.now c.loop-v.v c.args.closed.well_formed c.requires.scheduled c.requires.lists c.loop-v-test.true }
 
-pub push_rows-requires-clause-scheduled : goal.push_rows-requires-clause-scheduled
-push_rows-requires-clause-scheduled c =
+pub push_rows-requires : goal.push_rows-requires
+push_rows-requires c =
     let routes = c.args.routes.now in
     let lists = c.args.lists.now in
     let v = c.loop-v.v in
     let low = c.loop-v-test.true in
-    let r_is = c.index-routes-v.is ∙ get_or_default routes v c.index-routes-v.result no_route (read_low c.args.model.now routes lists v c.requires.lists low) in
+    let r_is = c.index-routes-v.is ∙ get_or_default routes v c.index-routes-v.result no_route (read_low c.args.closed.model.now routes lists v c.requires.lists low) in
     let list_is = c.as_slice.ensures ∙ (c.index-lists-v.is ∙ get_or_default lists v c.index-lists-v.result [] low) in
-    read_scheduled c.args.model.now routes lists v c.requires.scheduled c.requires.lists low c.index-routes-v.result c.as_slice.result.now r_is list_is
+    read_scheduled c.args.closed.model.now routes lists v c.requires.scheduled c.requires.lists low c.index-routes-v.result c.as_slice.result.now r_is list_is
 
 pub loop-v-preserved : goal.loop-v-preserved
 loop-v-preserved c =
-    let model = c.args.model.now in
+    let model = c.args.closed.model.now in
     let routes = c.args.routes.now in
     let lists = c.args.lists.now in
     let v = c.loop-v.v in

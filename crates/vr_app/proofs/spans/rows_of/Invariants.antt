@@ -6,4 +6,4 @@ use Rattle.vr_app.specs.Spans.{span_rows}
 use Rattle.vr_app.proofs.spans.rows_of.Given as goal
 
 abbrev pub invariant-loop-v : goal.invariant-loop-v
-invariant-loop-v l = map view l.rows.items ≡ each (below l.v) (span_rows l.model (assignment_of l.routes))
+invariant-loop-v l = map view l.rows.items ≡ each (below l.v) (span_rows l.closed.model.now (assignment_of l.routes))

@@ -7,16 +7,16 @@ use Rattle.vr_app.proofs.SpanLemmas.{printed_scheduled, printed_some}
 use Rattle.vr_app.proofs.spans.spans_tree.Goals as goal
 
 pub unwrap-printed-requires : goal.unwrap-printed-requires
-unwrap-printed-requires c = printed_some c.args.model.now (view c.args.solution.now) c.requires.well_formed c.requires.meets _ c.in_ok-read_printed.ensures
+unwrap-printed-requires c = printed_some c.args.closed.model.now (view c.args.solution.now) c.args.closed.well_formed c.requires _ c.in_ok-read_printed.ensures
 
-pub routes_tree-requires-clause-scheduled : goal.routes_tree-requires-clause-scheduled
-routes_tree-requires-clause-scheduled c =
-    subst (AreScheduled c.args.model.now) (sym c.as_slice.ensures)
-    (printed_scheduled c.args.model.now (view c.args.solution.now) c.requires.well_formed c.requires.meets c.unwrap-printed.result (sym c.in_ok-read_printed.ensures ∙ c.unwrap-printed.ensures))
+pub routes_tree-requires : goal.routes_tree-requires
+routes_tree-requires c =
+    subst (AreScheduled c.args.closed.model.now) (sym c.as_slice.ensures)
+    (printed_scheduled c.args.closed.model.now (view c.args.solution.now) c.args.closed.well_formed c.requires c.unwrap-printed.result (sym c.in_ok-read_printed.ensures ∙ c.unwrap-printed.ensures))
 
 pub returns : goal.returns
 unfolding spans_of
 returns c =
     let is = sym c.unwrap-printed.ensures ∙ c.in_ok-read_printed.ensures in
-    c.in_ok-tree.ensures ∙ ap (λ routes. spans_tree c.args.model.now (assignment_of routes)) c.as_slice.ensures
-    ∙ ap (λ o. spans_tree c.args.model.now (printed_assignment o)) is
+    c.in_ok-tree.ensures ∙ ap (λ routes. spans_tree c.args.closed.model.now (assignment_of routes)) c.as_slice.ensures
+    ∙ ap (λ o. spans_tree c.args.closed.model.now (printed_assignment o)) is

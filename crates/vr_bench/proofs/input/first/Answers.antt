@@ -15,4 +15,4 @@ valid_where_given model lists true is (Some routes) given = let same : routes.li
 valid_where_given model lists false is (Some routes) given = absurd cc
 
 pub returns-clause-valid : goal.returns-clause-valid
-returns-clause-valid c = valid_where_given c.args.model.now (path_cheapest_arc c.args.model.now) (is_valid c.args.model.now (path_cheapest_arc c.args.model.now)) refl c.in_ok-routes.routes c.in_ok-routes.ensures.first
+returns-clause-valid c = valid_where_given c.args.closed.model.now (path_cheapest_arc c.args.closed.model.now) (is_valid c.args.closed.model.now (path_cheapest_arc c.args.closed.model.now)) refl c.in_ok-routes.routes c.in_ok-routes.ensures.first

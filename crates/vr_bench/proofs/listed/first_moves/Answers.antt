@@ -7,6 +7,6 @@ use Rattle.vr_bench.proofs.listed.first_moves.Goals as goal
 
 pub loop-mv-preserved-then-of_into : goal.loop-mv-preserved-then-of_into
 loop-mv-preserved-then-of_into c =
-    let IsOne : Move → Type 0 = λ mv. IsTrue (is_move c.args.model.now c.args.routes.now.lists mv) in
+    let IsOne : Move → Type 0 = λ mv. IsTrue (is_move c.args.closed.model.now c.args.routes.now.lists mv) in
     subst (All IsOne) (sym c.in_ok-push.ensures.items)
     (All-push IsOne c.loop-mv.kept.items c.in-Some.mv c.loop-mv.invariant (sym c.of_into.ensures.answer ∙ c.if-of_into.true))

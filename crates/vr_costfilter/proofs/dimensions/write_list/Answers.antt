@@ -14,12 +14,12 @@ write-requires-clause-table c =
     let low = c.loop-d-test.true in
     let many = c.loop-d.invariant.many in
     let ends = c.requires.many in
-    table_at c.args.model.now c.args.tables.now c.requires.tables c.loop-d.d c.index-tables-d.result c.index-tables-d.is (omega (arith, low, many, ends))
+    table_at c.args.closed.model.now c.args.tables.now c.requires.tables c.loop-d.d c.index-tables-d.result c.index-tables-d.is (omega (arith, low, many, ends))
 
 pub loop-d-preserved : goal.loop-d-preserved
 loop-d-preserved c =
     let i = c.loop-d.invariant in
-    let m = c.args.model.now in
+    let m = c.args.closed.model.now in
     let kept : List (List KeptList) = c.loop-d.kept in
     let at = c.loop-d.d in
     let new : List KeptList = c.write.new.self in

@@ -5,7 +5,7 @@ use Rattle.vr_costfilter.proofs.kept.write_list.Goals as goal
 
 pub returns-in-None-clause-kept : goal.returns-in-None-clause-kept
 returns-in-None-clause-kept c =
-    let m = c.args.model.now in
+    let m = c.args.closed.model.now in
     let none = c.forget.ensures.none in
     record {
       earliest = λ rule runs are. stages-none m c.args.d c.args.v runs c.args.list.now _ (omega (arith, none));

@@ -13,11 +13,11 @@ use Rattle.vr_costfilter.proofs.reaches.cost_of_span.Goals as goal
 pub global_cost-requires-clause-coefficient : goal.global_cost-requires-clause-coefficient
 global_cost-requires-clause-coefficient c =
     subst (λ x. IsIn (pos 0) (pos 10000) x.global_span_cost) (c.get-dimension.ensures.value no_dimension)
-    (c.requires.well_formed.each_dimension c.args.d no_dimension c.requires.dimension).global_span_cost_in_range
+    (c.args.closed.well_formed.each_dimension c.args.d no_dimension c.requires.dimension).global_span_cost_in_range
 
 pub reach-requires-clause-dimension : goal.reach-requires-clause-dimension
 reach-requires-clause-dimension c =
-    let few = c.requires.well_formed.number_of_dimensions in
+    let few = c.args.closed.well_formed.number_of_dimensions in
     let low = c.requires.dimension in
     omega (arith, few, low)
 
@@ -42,4 +42,4 @@ pub returns-then-dimension-eq0-clause-value : goal.returns-then-dimension-eq0-cl
 returns-then-dimension-eq0-clause-value c =
     let same = ap (λ x. x.global_span_cost) (c.get-dimension.ensures.value no_dimension) in
     let none = c.if-dimension-eq0.true in
-    sym (times-none (dimension_at c.args.model.now c.args.d).global_span_cost (length_of (extent_after c.args.d c.args.vehicles.now c.args.next.now c.args.orders.now)) (omega (arith, ints, same, none)))
+    sym (times-none (dimension_at c.args.closed.model.now c.args.d).global_span_cost (length_of (extent_after c.args.d c.args.vehicles.now c.args.next.now c.args.orders.now)) (omega (arith, ints, same, none)))

@@ -13,12 +13,12 @@ pub loop-d-preserved : goal.loop-d-preserved
 loop-d-preserved c =
     let i = c.loop-d.invariant in
     let d = c.loop-d.d in
-    let m = c.args.model.now in
+    let m = c.args.closed.model.now in
     let is = c.loop-d.cost-is in
     let e = c.cost_of_span-cost.ensures in
     let low = c.loop-d-test.true in
     let many = c.requires.ranged.many in
-    let few = c.requires.well_formed.number_of_dimensions in
+    let few = c.args.closed.well_formed.number_of_dimensions in
     let value : c.cost_of_span-cost.result ≡ span_cost_after m c.args.orders.now c.args.vehicles.now c.args.next.now d = e.value
     ∙ ap (λ (o : Orders). (dimension_at m d).global_span_cost *ℤ length_of (extent_after d c.args.vehicles.now c.args.next.now o)) (c.index-orders-d.is ∙ get_or_default c.args.orders.now d c.index-orders-d.result no_orders low) in
     let next = total_by-more (span_cost_after m c.args.orders.now c.args.vehicles.now c.args.next.now) d in

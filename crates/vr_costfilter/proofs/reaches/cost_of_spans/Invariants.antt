@@ -7,6 +7,6 @@ use Rattle.vr_costfilter.proofs.reaches.cost_of_spans.Given as goal
 -- what the global spans cost in the dimensions so far
 abbrev pub invariant-loop-d : goal.invariant-loop-d
 invariant-loop-d l = record {
-  sum : l.cost ≡ total_by (span_cost_after l.model l.orders l.vehicles l.next) (below l.d);
+  sum : l.cost ≡ total_by (span_cost_after l.closed.model.now l.orders l.vehicles l.next) (below l.d);
   range : IsAround (cumul_cost * l.d) l.cost;
 }

@@ -13,7 +13,7 @@ use Rattle.vr_costfilter.proofs.reaches.write_all.Goals.{then-get-ne0, else-get-
 
 pub write_in-requires-clause-orders : goal.write_in-requires-clause-orders
 write_in-requires-clause-orders c =
-    let m = c.args.model.now in
+    let m = c.args.closed.model.now in
     let d = c.loop-d.d in
     let less = c.loop-d-test.true in
     let many = c.requires.orders.many in
@@ -25,7 +25,7 @@ write_in-requires-clause-orders c =
 pub loop-d-preserved : goal.loop-d-preserved
 loop-d-preserved c =
     let lists : List (List ℕ) = changed c.args.routes.now.lists c.args.change.now in
-    let m = c.args.model.now in
+    let m = c.args.closed.model.now in
     let d = c.loop-d.d in
     let os : List Orders = c.loop-d.out in
     let i = c.loop-d.invariant in

@@ -7,6 +7,6 @@ use Rattle.vr_costfilter.proofs.reaches.write_all.Given as goal
 -- the dimensions so far are written
 abbrev pub invariant-loop-d : goal.invariant-loop-d
 invariant-loop-d l = record {
-  many : length l.out ≡ length l.model.dimensions;
-  done : (d : ℕ) → d < l.d → d < length l.model.dimensions → Pays l.model d → AreOrders l.model d (changed l.routes.lists l.change) (orders_at l.out d);
+  many : length l.out ≡ length l.closed.model.now.dimensions;
+  done : (d : ℕ) → d < l.d → d < length l.closed.model.now.dimensions → Pays l.closed.model.now d → AreOrders l.closed.model.now d (changed l.routes.lists l.change) (orders_at l.out d);
 }

@@ -13,14 +13,14 @@ cost_of_plan_after-requires-clause-at c =
     let n = c.requires.tables.one_of_each in
     let low = c.loop-d-test.true in
     record {
-      well_formed = c.requires.well_formed;
+      well_formed = c.args.closed.well_formed;
       dimension = omega (arith, n, low);
-      table = table_at c.args.model.now c.args.tables.now c.requires.tables c.loop-d.d c.index-tables-d.result c.index-tables-d.is (omega (arith, n, low));
+      table = table_at c.args.closed.model.now c.args.tables.now c.requires.tables c.loop-d.d c.index-tables-d.result c.index-tables-d.is (omega (arith, n, low));
     }
 
 pub loop-d-preserved : goal.loop-d-preserved
 loop-d-preserved c =
-    let model = c.args.model.now in
+    let model = c.args.closed.model.now in
     let v = (part_at c.args.change.now c.args.k).vehicle in
     let list : List ℕ = joined c.args.routes.now.lists (part_at c.args.change.now c.args.k).pieces in
     let f : ℕ → ℤ = λ d. soft_with model d v list +ℤ span_with model d v list in
@@ -31,7 +31,7 @@ loop-d-preserved c =
     let value : c.in_ok-cost.field-0 ≡ f c.loop-d.d = e.value in
     let low = c.loop-d-test.true in
     let n = c.requires.tables.one_of_each in
-    let few = c.requires.well_formed.number_of_dimensions in
+    let few = c.args.closed.well_formed.number_of_dimensions in
     record {
       sum = omega (arith, ints, next, i.sum, is, value, e.range.low, e.range.high, i.range.low, i.range.high, low, few, n);
       range = record { low = omega (arith, ints, is, e.range.low, e.range.high, i.range.low, i.range.high, low, few, n); high = omega (arith, ints, is, e.range.low, e.range.high, i.range.low, i.range.high, low, few, n) };
@@ -39,7 +39,7 @@ loop-d-preserved c =
 
 pub returns-clause-value : goal.returns-clause-value
 returns-clause-value c =
-    let model = c.args.model.now in
+    let model = c.args.closed.model.now in
     let v = (part_at c.args.change.now c.args.k).vehicle in
     let list : List ℕ = joined c.args.routes.now.lists (part_at c.args.change.now c.args.k).pieces in
     let f : ℕ → ℤ = λ d. soft_with model d v list +ℤ span_with model d v list in

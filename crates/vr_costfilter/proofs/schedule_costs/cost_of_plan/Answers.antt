@@ -11,7 +11,7 @@ use Rattle.vr_costfilter.proofs.schedule_costs.cost_of_plan.Goals as goal
 
 pub returns-then-not-may_pay_alone-clause-value : goal.returns-then-not-may_pay_alone-clause-value
 returns-then-not-may_pay_alone-clause-value c =
-    let model = c.args.model.now in
+    let model = c.args.closed.model.now in
     let d = c.args.d in
     let v = c.args.v in
     let list = c.args.list.now in
@@ -24,4 +24,4 @@ pub cost_of_timing-requires-clause-timing : goal.cost_of_timing-requires-clause-
 cost_of_timing-requires-clause-timing c = let few = c.requires.few in timing-more c.in_ok-timing.timing (length c.args.list.now + 2) 1002 (omega (arith, few)) c.in_ok-timing.ensures.range
 
 pub returns-clause-value : goal.returns-clause-value
-returns-clause-value c = timed-cost c.args.model.now c.args.d c.args.v c.args.list.now c.in_ok-timing.timing c.in_ok-timing.ensures.timing c.cost_of_timing.result c.cost_of_timing.ensures.value c.cost_of_timing.ensures.range
+returns-clause-value c = timed-cost c.args.closed.model.now c.args.d c.args.v c.args.list.now c.in_ok-timing.timing c.in_ok-timing.ensures.timing c.cost_of_timing.result c.cost_of_timing.ensures.value c.cost_of_timing.ensures.range

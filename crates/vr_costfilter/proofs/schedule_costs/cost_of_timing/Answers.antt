@@ -8,12 +8,12 @@ use Rattle.vr_costfilter.proofs.schedule_costs.cost_of_timing.Goals as goal
 
 pub span_cost-requires-clause-vehicle : goal.span_cost-requires-clause-vehicle
 span_cost-requires-clause-vehicle c =
-    let is = c.requires.well_formed.each_dimension c.args.d no_dimension c.requires.dimension in
+    let is = c.args.closed.well_formed.each_dimension c.args.d no_dimension c.requires.dimension in
     subst (λ x. c.args.v < length x.span_costs) (c.get-dimension.ensures.value no_dimension) (subst (λ n. c.args.v < n) (sym is.span_cost_of_each_vehicle) c.requires.vehicle)
 
 pub span_cost-requires-clause-coefficients : goal.span_cost-requires-clause-coefficients
 span_cost-requires-clause-coefficients c =
-    let is = c.requires.well_formed.each_dimension c.args.d no_dimension c.requires.dimension in
+    let is = c.args.closed.well_formed.each_dimension c.args.d no_dimension c.requires.dimension in
     subst (λ x. All (IsIn (pos 0) (pos 10000)) x.span_costs) (c.get-dimension.ensures.value no_dimension) is.span_costs_in_range
 
 pub overflow_add-result : goal.overflow_add-result
@@ -31,7 +31,7 @@ returns-clause-value c =
     let s = c.span_cost.ensures.range in
     let n = r.not_negative in
     let b = r.bound in
-    let span : c.span_cost.result ≡ number_at (dimension_at c.args.model.now c.args.d).span_costs c.args.v *ℤ (timing.last -ℤ timing.start) =
+    let span : c.span_cost.result ≡ number_at (dimension_at c.args.closed.model.now c.args.d).span_costs c.args.v *ℤ (timing.last -ℤ timing.start) =
     c.span_cost.ensures.value ∙ ap (λ x. number_at x.span_costs c.args.v *ℤ (timing.last -ℤ timing.start)) (sym (c.get-dimension.ensures.value no_dimension)) in
     omega (arith, ints, span, n, b, s.low, s.high)
 

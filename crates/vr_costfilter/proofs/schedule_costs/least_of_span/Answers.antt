@@ -13,7 +13,7 @@ use Rattle.vr_costfilter.proofs.schedule_costs.least_of_span.Goals as goal
 
 pub returns-then-coefficient-eq0-clause-value : goal.returns-then-coefficient-eq0-clause-value
 returns-then-coefficient-eq0-clause-value c =
-    let m = c.args.model.now in
+    let m = c.args.closed.model.now in
     let d = c.args.d in
     let part = part_at c.args.change.now c.args.k in
     let is : c.get-coefficient.result.now ≡ number_at (dimension_at m d).span_costs part.vehicle = sym (c.get-coefficient.ensures.value (pos 0)) ∙ ap (λ x. number_at x.span_costs c.vehicle-v.result) (sym (c.get.ensures.value no_dimension))
@@ -23,7 +23,7 @@ returns-then-coefficient-eq0-clause-value c =
 
 pub at-requires-clause-dimension : goal.at-requires-clause-dimension
 at-requires-clause-dimension c =
-    let few = c.requires.well_formed.number_of_dimensions in
+    let few = c.args.closed.well_formed.number_of_dimensions in
     let low = c.requires.dimension in
     omega (arith, few, low)
 
@@ -35,26 +35,26 @@ at-requires-clause-part c =
 
 pub times-requires-clause-coefficient : goal.times-requires-clause-coefficient
 times-requires-clause-coefficient c =
-    let m = c.args.model.now in
+    let m = c.args.closed.model.now in
     let d = c.args.d in
     let v = (part_at c.args.change.now c.args.k).vehicle in
     let is : c.get-coefficient.result.now ≡ number_at (dimension_at m d).span_costs v = sym (c.get-coefficient.ensures.value (pos 0)) ∙ ap (λ x. number_at x.span_costs c.vehicle-v.result) (sym (c.get.ensures.value no_dimension))
     ∙ ap (number_at (dimension_at m d).span_costs) c.vehicle-v.ensures in
-    let of_dimension = c.requires.well_formed.each_dimension d no_dimension c.requires.dimension in
+    let of_dimension = c.args.closed.well_formed.each_dimension d no_dimension c.requires.dimension in
     let r = of_dimension.span_costs_in_range v (pos 0) (subst (λ n. v < n) (sym of_dimension.span_cost_of_each_vehicle) c.requires.vehicle) in
     let low = r.at_least in let high = r.at_most in
     record { at_least = omega (arith, ints, is, low, high); at_most = omega (arith, ints, is, low, high) }
 
 pub times-requires-clause-range : goal.times-requires-clause-range
 times-requires-clause-range c =
-    let m = c.args.model.now in
+    let m = c.args.closed.model.now in
     let d = c.args.d in
     let part = part_at c.args.change.now c.args.k in
     let v = part.vehicle in
     let list : List ℕ = joined c.args._routes.now.lists part.pieces in
     let is : c.get-coefficient.result.now ≡ number_at (dimension_at m d).span_costs v = sym (c.get-coefficient.ensures.value (pos 0)) ∙ ap (λ x. number_at x.span_costs c.vehicle-v.result) (sym (c.get.ensures.value no_dimension))
     ∙ ap (number_at (dimension_at m d).span_costs) c.vehicle-v.ensures in
-    let of_dimension = c.requires.well_formed.each_dimension d no_dimension c.requires.dimension in
+    let of_dimension = c.args.closed.well_formed.each_dimension d no_dimension c.requires.dimension in
     let known : v < length (dimension_at m d).span_costs = subst (λ n. v < n) (sym of_dimension.span_cost_of_each_vehicle) c.requires.vehicle in
     let some = c.if-coefficient-eq0.false in
     let told : IsEarly m d v list c.at.result = subst (IsEarly m d v list) (sym c.at.ensures)
@@ -65,14 +65,14 @@ times-requires-clause-range c =
 
 pub returns-clause-value : goal.returns-clause-value
 returns-clause-value c =
-    let m = c.args.model.now in
+    let m = c.args.closed.model.now in
     let d = c.args.d in
     let part = part_at c.args.change.now c.args.k in
     let v = part.vehicle in
     let list : List ℕ = joined c.args._routes.now.lists part.pieces in
     let is : c.get-coefficient.result.now ≡ number_at (dimension_at m d).span_costs v = sym (c.get-coefficient.ensures.value (pos 0)) ∙ ap (λ x. number_at x.span_costs c.vehicle-v.result) (sym (c.get.ensures.value no_dimension))
     ∙ ap (number_at (dimension_at m d).span_costs) c.vehicle-v.ensures in
-    let of_dimension = c.requires.well_formed.each_dimension d no_dimension c.requires.dimension in
+    let of_dimension = c.args.closed.well_formed.each_dimension d no_dimension c.requires.dimension in
     let known : v < length (dimension_at m d).span_costs = subst (λ n. v < n) (sym of_dimension.span_cost_of_each_vehicle) c.requires.vehicle in
     let r = of_dimension.span_costs_in_range v (pos 0) known in
     let low = r.at_least in let high = r.at_most in

@@ -12,7 +12,7 @@ use Rattle.vr_costfilter.proofs.spreads.spread_after.Goals as goal
 
 pub loop-k-init : goal.loop-k-init
 loop-k-init c =
-    let model = c.args.model.now in
+    let model = c.args.closed.model.now in
     let d = c.args.d in
     let lists : List (List ℕ) = c.args.routes.now.lists in
     let parts = c.args.change.now in
@@ -27,7 +27,7 @@ loop-k-init c =
 
 pub loop-k-preserved : goal.loop-k-preserved
 loop-k-preserved c =
-    let model = c.args.model.now in
+    let model = c.args.closed.model.now in
     let lists : List (List ℕ) = c.args.routes.now.lists in
     let parts = c.args.change.now in
     let e = c.with_changed-spread.ensures in
@@ -44,4 +44,4 @@ returns-clause-value c =
     let many = c.parts-k-end.ensures.value in
     let end = c.loop-k-test.false in
     c.loop-k.invariant.value
-    ∙ ap (fold (with_changed c.args.model.now lists c.args.d) (spread_of_kept c.args.model.now lists c.args.change.now c.args.d (length lists))) (take_all c.loop-k.k c.args.change.now (omega (arith, many, end)))
+    ∙ ap (fold (with_changed c.args.closed.model.now lists c.args.d) (spread_of_kept c.args.closed.model.now lists c.args.change.now c.args.d (length lists))) (take_all c.loop-k.k c.args.change.now (omega (arith, many, end)))

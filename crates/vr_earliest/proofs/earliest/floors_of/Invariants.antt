@@ -7,5 +7,5 @@ use Rattle.vr_earliest.proofs.earliest.floors_of.Given as goal
 abbrev pub invariant-loop-d : goal.invariant-loop-d
 invariant-loop-d l = record {
   many : length l.floors.items ≡ l.d;
-  each : (d : ℕ) (other : Floors) → d < length l.floors.items → AreFloors l.model d (slice_index_or l.floors.items d other);
+  each : (d : ℕ) (other : Floors) → d < length l.floors.items → AreFloors l.closed.model.now d (slice_index_or l.floors.items d other);
 }

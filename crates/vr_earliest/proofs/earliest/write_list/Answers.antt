@@ -10,7 +10,7 @@ use Rattle.vr_earliest.proofs.earliest.write_list.Goals as goal
 pub loop-d-preserved : goal.loop-d-preserved
 loop-d-preserved c =
     let i = c.loop-d.invariant in
-    let m = c.args.model.now in
+    let m = c.args.closed.model.now in
     let kept : List (List KeptWays) = c.loop-d.kept in
     let at = c.loop-d.d in
     let new : List KeptWays = c.write.new.self in

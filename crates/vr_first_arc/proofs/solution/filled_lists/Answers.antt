@@ -7,7 +7,7 @@ use Rattle.vr_first_arc.proofs.solution.filled_lists.Goals as goal
 
 pub returns-clause-lists : goal.returns-clause-lists
 returns-clause-lists c =
-    let model = c.args.model.now in
+    let model = c.args.closed.model.now in
     let written : List (List ℕ) = c.fill_empty.new.lists in
     let done = c.in_ok-fill_empty.ensures in
     let begun : c.deref_mut.result.now ≡ empty_lists model = c.deref_mut.ensures.value ∙ c.in_ok-lists.ensures in
@@ -17,7 +17,7 @@ returns-clause-lists c =
 
 pub returns-clause-built : goal.returns-clause-built
 returns-clause-built c =
-    let model = c.args.model.now in
+    let model = c.args.closed.model.now in
     let written : List (List ℕ) = c.fill_empty.new.lists in
     let done = c.in_ok-fill_empty.ensures in
     let begun : c.deref_mut.result.now ≡ empty_lists model = c.deref_mut.ensures.value ∙ c.in_ok-lists.ensures in

@@ -8,7 +8,7 @@ use Rattle.vr_first_insert.proofs.bound.write_ahead.Goals as goal
 
 pub loop-k-preserved : goal.loop-k-preserved
 loop-k-preserved c =
-    let model = c.args.model.now in
+    let model = c.args.closed.model.now in
     let list = c.args.list.now in
     let v : ℕ = c.args.v in
     let node : ℕ = c.args.node in

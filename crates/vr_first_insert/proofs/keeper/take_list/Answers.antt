@@ -16,7 +16,7 @@ returns-then-is_same-clause-lists c =
     sym (set-get_or lists v []) ∙ ap (with_route lists v) (sym before ∙ c.is_same.ensures c.if-is_same.true)
 
 pub learn-requires-clause-others : goal.learn-requires-clause-others
-learn-requires-clause-others c = kept_but c.args.model.now c.args.lists.now c.args.keeps.now c.args.v c.write_list.new.out c.requires.kept
+learn-requires-clause-others c = kept_but c.args.closed.model.now c.args.lists.now c.args.keeps.now c.args.v c.write_list.new.out c.requires.kept
 
 pub learn-requires-clause-there : goal.learn-requires-clause-there
 learn-requires-clause-there c =
@@ -26,7 +26,7 @@ learn-requires-clause-there c =
 
 pub learn-requires-clause-tour : goal.learn-requires-clause-tour
 learn-requires-clause-tour c =
-    subst (IsTour c.args.model.now) (sym (route_set_same c.args.lists.now c.args.v c.write_list.new.out c.requires.there ∙ c.in_ok-write_list.ensures)) c.requires.tour
+    subst (IsTour c.args.closed.model.now) (sym (route_set_same c.args.lists.now c.args.v c.write_list.new.out c.requires.there ∙ c.in_ok-write_list.ensures)) c.requires.tour
 
 pub forget-requires : goal.forget-requires
 forget-requires c = record { vehicle = c.requires.row }
@@ -36,4 +36,4 @@ returns-clause-lists c = ap (with_route c.args.lists.now c.args.v) c.in_ok-write
 
 pub returns-clause-rows : goal.returns-clause-rows
 returns-clause-rows c = λ known are.
-    rows-forgotten c.args.model.now c.args.lists.now known c.args.rows.now c.forget.new.rows c.args.v c.write_list.new.out c.requires.there are c.forget.ensures
+    rows-forgotten c.args.closed.model.now c.args.lists.now known c.args.rows.now c.forget.new.rows c.args.v c.write_list.new.out c.requires.there are c.forget.ensures

@@ -13,11 +13,11 @@ learn-requires-clause-tour c =
     let lists = c.args.lists.now in
     let v : ℕ = c.args.v in
     let list : c.as_slice-list.result.now ≡ route lists v = list_at lists v c.as_slice-list.result.now c.index-lists-v.result c.as_slice-list.ensures c.index-lists-v.is c.requires.there in
-    subst (IsTour c.args.model.now) (sym list) c.requires.tour
+    subst (IsTour c.args.closed.model.now) (sym list) c.requires.tour
 
 pub loop-d-preserved : goal.loop-d-preserved
 loop-d-preserved c =
-    let model = c.args.model.now in
+    let model = c.args.closed.model.now in
     let lists = c.args.lists.now in
     let v : ℕ = c.args.v in
     let d : ℕ = c.loop-d.d in

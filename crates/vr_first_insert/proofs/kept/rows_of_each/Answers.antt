@@ -14,11 +14,11 @@ write_rows-requires-clause-tour c =
     let lists = c.args.lists.now in
     let v : ℕ = c.loop-v.v in
     let list : c.as_slice-list.result.now ≡ route lists v = list_at lists v c.as_slice-list.result.now c.index-lists-v.result c.as_slice-list.ensures c.index-lists-v.is c.loop-v-test.true in
-    subst (IsTour c.args.model.now) (sym list) (c.requires.tours v c.loop-v-test.true)
+    subst (IsTour c.args.closed.model.now) (sym list) (c.requires.tours v c.loop-v-test.true)
 
 pub loop-v-preserved : goal.loop-v-preserved
 loop-v-preserved c =
-    let model = c.args.model.now in
+    let model = c.args.closed.model.now in
     let lists = c.args.lists.now in
     let v : ℕ = c.loop-v.v in
     let m = c.loop-v.invariant in

@@ -6,5 +6,5 @@ use Rattle.vr_first_insert.proofs.kept.rows_of_each.Given as goal
 abbrev pub invariant-loop-v : goal.invariant-loop-v
 invariant-loop-v l = record {
   long : length l.known.items ≡ l.v;
-  each : AreRowsOfEach l.model l.d l.lists l.known.items;
+  each : AreRowsOfEach l.closed.model.now l.d l.lists l.known.items;
 }

@@ -20,17 +20,17 @@ use Rattle.vr_first_insert.proofs.one_list.best_behind.Goals as goal
 
 pub leave-requires-clause-used : goal.leave-requires-clause-used
 leave-requires-clause-used c =
-    subst (IsUsed c.args.model.now) (sym c.requires.half) (used-placed c.args.model.now c.args.list.now (One c.args.pickup c.args.s) c.requires.within (MayHold-pickup c.args.model.now c.args.list.now c.args.pickup c.args.delivery c.requires.may_hold))
+    subst (IsUsed c.args.closed.model.now) (sym c.requires.half) (used-placed c.args.closed.model.now c.args.list.now (One c.args.pickup c.args.s) c.requires.within (MayHold-pickup c.args.closed.model.now c.args.list.now c.args.pickup c.args.delivery c.requires.may_hold))
 
 pub leave-requires-clause-front : goal.leave-requires-clause-front
 leave-requires-clause-front c = subst (λ new. SharesFront c.args.list.now new c.args.s) (sym c.requires.half) (visit_front c.args.list.now c.args.s c.args.pickup c.requires.within)
 
 pub go_on-requires-clause-used : goal.go_on-requires-clause-used
 go_on-requires-clause-used c =
-    subst (IsUsed c.args.model.now) (sym c.requires.half) (used-placed c.args.model.now c.args.list.now (One c.args.pickup c.args.s) c.requires.within (MayHold-pickup c.args.model.now c.args.list.now c.args.pickup c.args.delivery c.requires.may_hold))
+    subst (IsUsed c.args.closed.model.now) (sym c.requires.half) (used-placed c.args.closed.model.now c.args.list.now (One c.args.pickup c.args.s) c.requires.within (MayHold-pickup c.args.closed.model.now c.args.list.now c.args.pickup c.args.delivery c.requires.may_hold))
 
 pub go_on-requires-clause-stops : goal.go_on-requires-clause-stops
-go_on-requires-clause-stops c = stops_of c.args.model.now c.args.v c.args.list.now c.args.keeps.now c.requires.ready.kept
+go_on-requires-clause-stops c = stops_of c.args.closed.model.now c.args.v c.args.list.now c.args.keeps.now c.requires.ready.kept
 
 pub go_on-requires-clause-stop : goal.go_on-requires-clause-stop
 go_on-requires-clause-stop c =
@@ -41,16 +41,16 @@ pub go_on-requires-clause-here : goal.go_on-requires-clause-here
 go_on-requires-clause-here c = c.in_ok-leave.ensures
 
 pub weigh_pair-requires-clause-here : goal.weigh_pair-requires-clause-here
-weigh_pair-requires-clause-here c = subst (λ half. AreReachedAt c.args.model.now c.args.v half (c.args.s + 1) c.leave.new.self) c.requires.half c.in_ok-leave.ensures
+weigh_pair-requires-clause-here c = subst (λ half. AreReachedAt c.args.closed.model.now c.args.v half (c.args.s + 1) c.leave.new.self) c.requires.half c.in_ok-leave.ensures
 
 pub overflow_cast-placing : goal.overflow_cast-placing
-overflow_cast-placing c = omega (arith, visits-few c.args.model.now c.args.list.now c.requires.may_hold.visits c.requires.may_hold.distinct, c.requires.well_formed.number_of_nodes.1)
+overflow_cast-placing c = omega (arith, visits-few c.args.closed.model.now c.args.list.now c.requires.may_hold.visits c.requires.may_hold.distinct, c.args.closed.well_formed.number_of_nodes.1)
 
 pub overflow_cast-placing-2 : goal.overflow_cast-placing-2
-overflow_cast-placing-2 c = omega (arith, visits-few c.args.model.now c.args.list.now c.requires.may_hold.visits c.requires.may_hold.distinct, c.requires.well_formed.number_of_nodes.1)
+overflow_cast-placing-2 c = omega (arith, visits-few c.args.closed.model.now c.args.list.now c.requires.may_hold.visits c.requires.may_hold.distinct, c.args.closed.well_formed.number_of_nodes.1)
 
 pub write_placed-requires-clause-few : goal.write_placed-requires-clause-few
-write_placed-requires-clause-few c = omega (arith, visits-few c.args.model.now c.args.list.now c.requires.may_hold.visits c.requires.may_hold.distinct, c.requires.well_formed.number_of_nodes.1)
+write_placed-requires-clause-few c = omega (arith, visits-few c.args.closed.model.now c.args.list.now c.requires.may_hold.visits c.requires.may_hold.distinct, c.args.closed.well_formed.number_of_nodes.1)
 
 pub best_further-requires-clause-longer : goal.best_further-requires-clause-longer
 best_further-requires-clause-longer c =
@@ -65,19 +65,19 @@ best_further-requires-clause-longer c =
 pub best_further-requires-clause-here : goal.best_further-requires-clause-here
 best_further-requires-clause-here c =
     let next : c.args.s + 1 + 1 ≡ c.args.s + 2 = omega arith in
-    subst (λ k. AreReachedAt c.args.model.now c.args.v c.args.half.now k c.go_on.new.self) next c.in_ok-go_on.ensures
+    subst (λ k. AreReachedAt c.args.closed.model.now c.args.v c.args.half.now k c.go_on.new.self) next c.in_ok-go_on.ensures
 
 pub returns-then-is_stuck : goal.returns-then-is_stuck
 returns-then-is_stuck c =
-    deliveries-stuck c.args.model.now c.args.v c.args.list.now c.args.class c.args.pickup c.args.delivery c.args.s c.args.s c.args.best c.leave.new.self c.requires.vehicle c.requires.may_hold (omega arith) c.requires.within
-    (subst (λ half. AreReachedAt c.args.model.now c.args.v half (c.args.s + 1) c.leave.new.self) c.requires.half c.in_ok-leave.ensures) (c.is_stuck.ensures c.if-is_stuck.true)
+    deliveries-stuck c.args.closed.model.now c.args.v c.args.list.now c.args.class c.args.pickup c.args.delivery c.args.s c.args.s c.args.best c.leave.new.self c.requires.vehicle c.requires.may_hold (omega arith) c.requires.within
+    (subst (λ half. AreReachedAt c.args.closed.model.now c.args.v half (c.args.s + 1) c.leave.new.self) c.requires.half c.in_ok-leave.ensures) (c.is_stuck.ensures c.if-is_stuck.true)
 
 pub least_further-requires-clause-nodes : goal.least_further-requires-clause-nodes
-least_further-requires-clause-nodes c = visits-below c.args.model.now c.args.list.now c.requires.may_hold.visits
+least_further-requires-clause-nodes c = visits-below c.args.closed.model.now c.args.list.now c.requires.may_hold.visits
 
 pub returns-then-not-may_improve : goal.returns-then-not-may_improve
 returns-then-not-may_improve c =
-    let model = c.args.model.now in
+    let model = c.args.closed.model.now in
     let list = c.args.list.now in
     let f : ℕ → Choice = pair_choice model c.args.v list c.args.class c.args.pickup c.args.delivery c.args.s in
     let further = c.least_further.ensures in
@@ -91,7 +91,7 @@ returns-then-not-may_improve c =
 
 pub returns : goal.returns
 returns c =
-    let model = c.args.model.now in
+    let model = c.args.closed.model.now in
     let list = c.args.list.now in
     let f : ℕ → Choice = pair_choice model c.args.v list c.args.class c.args.pickup c.args.delivery c.args.s in
     c.in_ok-best.ensures

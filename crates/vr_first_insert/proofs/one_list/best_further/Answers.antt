@@ -19,7 +19,7 @@ use Rattle.vr_first_insert.proofs.ReadyLemmas.{deliveries-stuck, used-placed, Ma
 use Rattle.vr_first_insert.proofs.one_list.best_further.Goals as goal
 
 pub weigh_pair-requires-clause-here : goal.weigh_pair-requires-clause-here
-weigh_pair-requires-clause-here c = subst (λ half. AreReachedAt c.args.model.now c.args.v half (c.loop-t.t + 1) c.loop-t.probes) c.requires.half c.loop-t.invariant.reached
+weigh_pair-requires-clause-here c = subst (λ half. AreReachedAt c.args.closed.model.now c.args.v half (c.loop-t.t + 1) c.loop-t.probes) c.requires.half c.loop-t.invariant.reached
 
 pub move_on-requires : goal.move_on-requires
 move_on-requires c =
@@ -43,10 +43,10 @@ weigh_pair-requires-clause-longer c =
 
 pub go_on-requires-clause-used : goal.go_on-requires-clause-used
 go_on-requires-clause-used c =
-    subst (IsUsed c.args.model.now) (sym c.requires.half) (used-placed c.args.model.now c.args.list.now (One c.args.pickup c.args.s) c.requires.within (MayHold-pickup c.args.model.now c.args.list.now c.args.pickup c.args.delivery c.requires.may_hold))
+    subst (IsUsed c.args.closed.model.now) (sym c.requires.half) (used-placed c.args.closed.model.now c.args.list.now (One c.args.pickup c.args.s) c.requires.within (MayHold-pickup c.args.closed.model.now c.args.list.now c.args.pickup c.args.delivery c.requires.may_hold))
 
 pub go_on-requires-clause-stops : goal.go_on-requires-clause-stops
-go_on-requires-clause-stops c = stops_of c.args.model.now c.args.v c.args.list.now c.args.keeps.now c.requires.ready.kept
+go_on-requires-clause-stops c = stops_of c.args.closed.model.now c.args.v c.args.list.now c.args.keeps.now c.requires.ready.kept
 
 pub go_on-requires-clause-stop : goal.go_on-requires-clause-stop
 go_on-requires-clause-stop c =
@@ -55,7 +55,7 @@ go_on-requires-clause-stop c =
 
 pub loop-t-preserved : goal.loop-t-preserved
 loop-t-preserved c =
-    let model = c.args.model.now in
+    let model = c.args.closed.model.now in
     let list = c.args.list.now in
     let f : ℕ → Choice = pair_choice model c.args.v list c.args.class c.args.pickup c.args.delivery c.args.s in
     record {
@@ -67,7 +67,7 @@ loop-t-preserved c =
 
 pub returns-then-is_stuck : goal.returns-then-is_stuck
 returns-then-is_stuck c =
-    let model = c.args.model.now in
+    let model = c.args.closed.model.now in
     let list = c.args.list.now in
     deliveries-stuck model c.args.v list c.args.class c.args.pickup c.args.delivery c.args.s c.loop-t.t c.loop-t.best c.loop-t.probes c.requires.vehicle c.requires.may_hold (omega arith) (omega arith)
     (subst (λ half. AreReachedAt model c.args.v half (c.loop-t.t + 1) c.loop-t.probes) c.requires.half c.loop-t.invariant.reached) (c.is_stuck.ensures c.if-is_stuck.true)
@@ -75,7 +75,7 @@ returns-then-is_stuck c =
 
 pub returns : goal.returns
 returns c =
-    let model = c.args.model.now in
+    let model = c.args.closed.model.now in
     let list = c.args.list.now in
     let f : ℕ → Choice = pair_choice model c.args.v list c.args.class c.args.pickup c.args.delivery c.args.s in
     walk_ends (λ ks. fold (weigh model list) c.loop-t.best (map f ks)) (suc (length list)) c.loop-t.t c.loop-t.invariant.best (omega arith)
@@ -83,10 +83,10 @@ returns c =
 pub loop-t-init : goal.loop-t-init
 loop-t-init c =
     let next : c.args.s + 2 ≡ c.args.s + 1 + 1 = omega arith in
-    record { best = refl; longer = c.requires.longer; reached = subst (λ k. AreReachedAt c.args.model.now c.args.v c.args.half.now k c.args.probes.now) next c.requires.here }
+    record { best = refl; longer = c.requires.longer; reached = subst (λ k. AreReachedAt c.args.closed.model.now c.args.v c.args.half.now k c.args.probes.now) next c.requires.here }
 
 pub visit_increase-alone-requires-clause-nodes : goal.visit_increase-alone-requires-clause-nodes
-visit_increase-alone-requires-clause-nodes c = visits-below c.args.model.now c.args.list.now c.requires.may_hold.visits
+visit_increase-alone-requires-clause-nodes c = visits-below c.args.closed.model.now c.args.list.now c.requires.may_hold.visits
 
 pub get-least-requires : goal.get-least-requires
 get-least-requires c =
@@ -96,16 +96,16 @@ get-least-requires c =
 pub least_apart-requires-clause-low : goal.least_apart-requires-clause-low
 least_apart-requires-clause-low c =
     let list = c.args.list.now in
-    (ahead-read c.args.model.now c.args.v list c.args.delivery (length list - c.loop-t.t) c.args.ahead.now c.get-least.result.now c.requires.ahead (c.get-least.ensures.value (pos 0)) (omega arith)).low
+    (ahead-read c.args.closed.model.now c.args.v list c.args.delivery (length list - c.loop-t.t) c.args.ahead.now c.get-least.result.now c.requires.ahead (c.get-least.ensures.value (pos 0)) (omega arith)).low
 
 pub least_apart-requires-clause-high : goal.least_apart-requires-clause-high
 least_apart-requires-clause-high c =
     let list = c.args.list.now in
-    (ahead-read c.args.model.now c.args.v list c.args.delivery (length list - c.loop-t.t) c.args.ahead.now c.get-least.result.now c.requires.ahead (c.get-least.ensures.value (pos 0)) (omega arith)).high
+    (ahead-read c.args.closed.model.now c.args.v list c.args.delivery (length list - c.loop-t.t) c.args.ahead.now c.get-least.result.now c.requires.ahead (c.get-least.ensures.value (pos 0)) (omega arith)).high
 
 pub returns-then-not-may_improve : goal.returns-then-not-may_improve
 returns-then-not-may_improve c =
-    let model = c.args.model.now in
+    let model = c.args.closed.model.now in
     let list = c.args.list.now in
     let v : ℕ = c.args.v in
     let t : ℕ = c.loop-t.t in

@@ -9,8 +9,8 @@ use Rattle.vr_first_insert.proofs.one_list.best_further.Given as goal
 -- and the delivery is written before the place before it
 abbrev pub invariant-loop-t : goal.invariant-loop-t
 invariant-loop-t l = record {
-  best : fold (weigh l.model l.list) l.best (map (pair_choice l.model l.v l.list l.class l.pickup l.delivery l.s) (from_to l.t (suc (length l.list))))
-      ≡ fold (weigh l.model l.list) l.initial.best (map (pair_choice l.model l.v l.list l.class l.pickup l.delivery l.s) (from_to (l.s + 1) (suc (length l.list))));
-  reached : AreReachedAt l.model l.v l.half (l.t + 1) l.probes;
+  best : fold (weigh l.closed.model.now l.list) l.best (map (pair_choice l.closed.model.now l.v l.list l.class l.pickup l.delivery l.s) (from_to l.t (suc (length l.list))))
+      ≡ fold (weigh l.closed.model.now l.list) l.initial.best (map (pair_choice l.closed.model.now l.v l.list l.class l.pickup l.delivery l.s) (from_to (l.s + 1) (suc (length l.list))));
+  reached : AreReachedAt l.closed.model.now l.v l.half (l.t + 1) l.probes;
   longer : l.trying.longer ≡ insert l.half l.t l.delivery;
 }

@@ -8,7 +8,7 @@ use Rattle.vr_first_insert.proofs.one_list.best_in_list.Goals as goal
 pub returns-then-not-allows_item : goal.returns-then-not-allows_item
 returns-then-not-allows_item c =
     let of_model = ap (λ model. list_all (allows_vehicle model c.args.v) (nodes_of c.args.candidate.item)) c.requires.lookups in
-    item-closed c.args.model.now c.args.v c.args.list.now c.args.candidate c.args.best c.requires.ready.stands (sym of_model ∙ sym c.allows_item.ensures ∙ c.if-not-allows_item.true)
+    item-closed c.args.closed.model.now c.args.v c.args.list.now c.args.candidate c.args.best c.requires.ready.stands (sym of_model ∙ sym c.allows_item.ensures ∙ c.if-not-allows_item.true)
 
 pub best_where_allowed-requires-clause-allowed : goal.best_where_allowed-requires-clause-allowed
 best_where_allowed-requires-clause-allowed c =

@@ -10,7 +10,7 @@ use Rattle.vr_first_insert.proofs.InsertLemmas.{fold-one}
 use Rattle.vr_first_insert.proofs.one_list.best_of_places.Goals as goal
 
 pub write_placed-requires-clause-few : goal.write_placed-requires-clause-few
-write_placed-requires-clause-few c = omega (arith, visits-few c.args.model.now c.args.list.now c.requires.may_hold.visits c.requires.may_hold.distinct, c.requires.well_formed.number_of_nodes.1)
+write_placed-requires-clause-few c = omega (arith, visits-few c.args.closed.model.now c.args.list.now c.requires.may_hold.visits c.requires.may_hold.distinct, c.args.closed.well_formed.number_of_nodes.1)
 
 pub move_on-requires : goal.move_on-requires
 move_on-requires c =
@@ -24,7 +24,7 @@ weigh_visit-requires-in-loop-t-clause-longer c = c.move_on.ensures c.args.list.n
 
 pub loop-t-preserved : goal.loop-t-preserved
 loop-t-preserved c =
-    let model = c.args.model.now in
+    let model = c.args.closed.model.now in
     let list = c.args.list.now in
     let t : ℕ = c.loop-t.t in
     let f : ℕ → Choice = visit_choice model c.args.v list c.args.class c.args.node in
@@ -37,7 +37,7 @@ loop-t-preserved c =
 
 pub returns : goal.returns
 returns c =
-    let model = c.args.model.now in
+    let model = c.args.closed.model.now in
     let list = c.args.list.now in
     let f : ℕ → Choice = visit_choice model c.args.v list c.args.class c.args.node in
     let end : c.loop-t.t + 1 ≡ suc (length list) = omega arith in

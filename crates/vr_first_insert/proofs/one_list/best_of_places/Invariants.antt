@@ -7,6 +7,6 @@ use Rattle.vr_first_insert.proofs.one_list.best_of_places.Given as goal
 -- the best beside the places so far, of which the last one is written
 abbrev pub invariant-loop-t : goal.invariant-loop-t
 invariant-loop-t l = record {
-  best : l.best ≡ fold (weigh l.model l.list) l.fn.best (map (visit_choice l.model l.v l.list l.class l.node) (below (l.t + 1)));
+  best : l.best ≡ fold (weigh l.closed.model.now l.list) l.fn.best (map (visit_choice l.closed.model.now l.v l.list l.class l.node) (below (l.t + 1)));
   longer : l.trying.longer ≡ insert l.list l.t l.node;
 }

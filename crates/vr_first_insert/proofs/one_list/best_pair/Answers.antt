@@ -8,7 +8,7 @@ use Rattle.vr_first_insert.proofs.one_list.best_pair.Goals as goal
 
 pub loop-s-preserved : goal.loop-s-preserved
 loop-s-preserved c =
-    let model = c.args.model.now in
+    let model = c.args.closed.model.now in
     let list = c.args.list.now in
     let f = deliveries model c.args.v list c.args.class c.args.pickup c.args.delivery in
     record {
@@ -19,7 +19,7 @@ loop-s-preserved c =
 
 pub returns : goal.returns
 returns c =
-    let model = c.args.model.now in
+    let model = c.args.closed.model.now in
     let list = c.args.list.now in
     let f = deliveries model c.args.v list c.args.class c.args.pickup c.args.delivery in
     let end : c.loop-s.s ≡ suc (length list) = omega arith in

@@ -8,6 +8,6 @@ use Rattle.vr_first_insert.proofs.one_list.best_pair.Given as goal
 -- the best beside the places of the pickup so far; what the delivery adds at least is written
 abbrev pub invariant-loop-s : goal.invariant-loop-s
 invariant-loop-s l = record {
-  best : l.best ≡ fold (weigh l.model l.list) l.initial.best (each (below l.s) (deliveries l.model l.v l.list l.class l.pickup l.delivery));
-  ahead : AreLeastAhead l.model l.v l.list l.delivery l.room.ahead;
+  best : l.best ≡ fold (weigh l.closed.model.now l.list) l.initial.best (each (below l.s) (deliveries l.closed.model.now l.v l.list l.class l.pickup l.delivery));
+  ahead : AreLeastAhead l.closed.model.now l.v l.list l.delivery l.room.ahead;
 }

@@ -10,14 +10,14 @@ use Rattle.vr_first_insert.proofs.FirstPlace.{first-taken}
 use Rattle.vr_first_insert.proofs.one_list.best_visit.Goals as goal
 
 pub write_placed-requires-clause-few : goal.write_placed-requires-clause-few
-write_placed-requires-clause-few c = omega (arith, visits-few c.args.model.now c.args.list.now c.requires.may_hold.visits c.requires.may_hold.distinct, c.requires.well_formed.number_of_nodes.1)
+write_placed-requires-clause-few c = omega (arith, visits-few c.args.closed.model.now c.args.list.now c.requires.may_hold.visits c.requires.may_hold.distinct, c.args.closed.well_formed.number_of_nodes.1)
 
 pub overflow_cast-t : goal.overflow_cast-t
-overflow_cast-t c = omega (arith, visits-few c.args.model.now c.args.list.now c.requires.may_hold.visits c.requires.may_hold.distinct, c.requires.well_formed.number_of_nodes.1, c.least_place-t.ensures.within)
+overflow_cast-t c = omega (arith, visits-few c.args.closed.model.now c.args.list.now c.requires.may_hold.visits c.requires.may_hold.distinct, c.args.closed.well_formed.number_of_nodes.1, c.least_place-t.ensures.within)
 
 pub returns-then-branch : goal.returns-then-branch
 returns-then-branch c =
-    let model = c.args.model.now in
+    let model = c.args.closed.model.now in
     let list = c.args.list.now in
     let place : ℕ = c.least_place-t.result in
     let better = improves key_of c.args.best (visit_choice model c.args.v list c.args.class c.args.node place) in

@@ -5,10 +5,10 @@ use Rattle.vr_first_insert.specs.declared.choice.Placing.TheVariants.{Two}
 use Rattle.vr_first_insert.proofs.one_list.pair_at.Goals as goal
 
 pub overflow_cast-result : goal.overflow_cast-result
-overflow_cast-result c = omega (arith, visits-few c.args.model.now c.args.list.now c.requires.may_hold.visits c.requires.may_hold.distinct, c.requires.well_formed.number_of_nodes.1)
+overflow_cast-result c = omega (arith, visits-few c.args.closed.model.now c.args.list.now c.requires.may_hold.visits c.requires.may_hold.distinct, c.args.closed.well_formed.number_of_nodes.1)
 
 pub overflow_cast-result-2 : goal.overflow_cast-result-2
-overflow_cast-result-2 c = omega (arith, visits-few c.args.model.now c.args.list.now c.requires.may_hold.visits c.requires.may_hold.distinct, c.requires.well_formed.number_of_nodes.1)
+overflow_cast-result-2 c = omega (arith, visits-few c.args.closed.model.now c.args.list.now c.requires.may_hold.visits c.requires.may_hold.distinct, c.args.closed.well_formed.number_of_nodes.1)
 
 pub returns : goal.returns
 returns c =
@@ -17,4 +17,4 @@ returns c =
     λ i. record { placing = Two c.args.pickup c.args.delivery c.args.s c.args.t; class = c.args.class; vehicle = c.args.v; increase = increase i }
 
 pub pair_increase-requires-clause-nodes : goal.pair_increase-requires-clause-nodes
-pair_increase-requires-clause-nodes c = visits-below c.args.model.now c.args.list.now c.requires.may_hold.visits
+pair_increase-requires-clause-nodes c = visits-below c.args.closed.model.now c.args.list.now c.requires.may_hold.visits

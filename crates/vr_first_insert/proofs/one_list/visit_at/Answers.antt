@@ -5,7 +5,7 @@ use Rattle.vr_first_insert.specs.declared.choice.Placing.TheVariants.{One}
 use Rattle.vr_first_insert.proofs.one_list.visit_at.Goals as goal
 
 pub overflow_cast-result : goal.overflow_cast-result
-overflow_cast-result c = omega (arith, visits-few c.args.model.now c.args.list.now c.requires.may_hold.visits c.requires.may_hold.distinct, c.requires.well_formed.number_of_nodes.1)
+overflow_cast-result c = omega (arith, visits-few c.args.closed.model.now c.args.list.now c.requires.may_hold.visits c.requires.may_hold.distinct, c.args.closed.well_formed.number_of_nodes.1)
 
 pub returns : goal.returns
 returns c =

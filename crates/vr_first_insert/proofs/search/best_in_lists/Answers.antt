@@ -8,7 +8,7 @@ use Rattle.vr_first_insert.proofs.search.best_in_lists.Goals as goal
 
 pub loop-v-preserved : goal.loop-v-preserved
 loop-v-preserved c =
-    let model = c.args.model.now in
+    let model = c.args.closed.model.now in
     let lists = c.args.lists.now in
     let v : ℕ = c.loop-v.v in
     let candidate = candidate_at c.args.candidates.now c.args.i in

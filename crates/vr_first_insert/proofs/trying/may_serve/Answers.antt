@@ -18,20 +18,20 @@ use Rattle.vr_first_insert.proofs.trying.may_serve.Goals as goal
 
 pub keeps_pairs-requires-clause-visits : goal.keeps_pairs-requires-clause-visits
 keeps_pairs-requires-clause-visits c =
-    ap (list_all (is_visit c.args.model.now)) (c.as_slice-longer.ensures ∙ c.requires.longer) ∙ placed-visits c.args.model.now c.args.list.now (Two c.args.pickup c.args.delivery c.args.s c.args.t) (c.requires.order, c.requires.within) c.requires.may_hold
+    ap (list_all (is_visit c.args.closed.model.now)) (c.as_slice-longer.ensures ∙ c.requires.longer) ∙ placed-visits c.args.closed.model.now c.args.list.now (Two c.args.pickup c.args.delivery c.args.s c.args.t) (c.requires.order, c.requires.within) c.requires.may_hold
 
 pub keeps_pairs-requires-clause-distinct : goal.keeps_pairs-requires-clause-distinct
 keeps_pairs-requires-clause-distinct c =
-    ap is_distinct (c.as_slice-longer.ensures ∙ c.requires.longer) ∙ placed-distinct c.args.model.now c.args.list.now (Two c.args.pickup c.args.delivery c.args.s c.args.t) (c.requires.order, c.requires.within) c.requires.may_hold
+    ap is_distinct (c.as_slice-longer.ensures ∙ c.requires.longer) ∙ placed-distinct c.args.closed.model.now c.args.list.now (Two c.args.pickup c.args.delivery c.args.s c.args.t) (c.requires.order, c.requires.within) c.requires.may_hold
 
 pub goes_from-requires-clause-used : goal.goes_from-requires-clause-used
 goes_from-requires-clause-used c =
-    subst (IsUsed c.args.model.now) (sym (c.as_slice-longer.ensures ∙ c.requires.longer)) (used-placed c.args.model.now c.args.list.now (Two c.args.pickup c.args.delivery c.args.s c.args.t) (c.requires.order, c.requires.within) c.requires.may_hold)
+    subst (IsUsed c.args.closed.model.now) (sym (c.as_slice-longer.ensures ∙ c.requires.longer)) (used-placed c.args.closed.model.now c.args.list.now (Two c.args.pickup c.args.delivery c.args.s c.args.t) (c.requires.order, c.requires.within) c.requires.may_hold)
 
 pub goes_from-requires-clause-here : goal.goes_from-requires-clause-here
 goes_from-requires-clause-here c =
-    subst (λ new. AreReachedAt c.args.model.now c.args.v new (c.args.t + 1) c.args.probes.now) (sym (c.as_slice-longer.ensures ∙ c.requires.longer))
-    (reached_in_each c.args.model.now c.args.v (insert c.args.list.now c.args.s c.args.pickup) (placed c.args.list.now (Two c.args.pickup c.args.delivery c.args.s c.args.t)) (c.args.t + 1) c.args.probes.now
+    subst (λ new. AreReachedAt c.args.closed.model.now c.args.v new (c.args.t + 1) c.args.probes.now) (sym (c.as_slice-longer.ensures ∙ c.requires.longer))
+    (reached_in_each c.args.closed.model.now c.args.v (insert c.args.list.now c.args.s c.args.pickup) (placed c.args.list.now (Two c.args.pickup c.args.delivery c.args.s c.args.t)) (c.args.t + 1) c.args.probes.now
     (pair_front (record { pickup = c.args.pickup; delivery = c.args.delivery }) c.args.list.now c.args.s c.args.t c.args.t c.requires.order (omega arith) c.requires.within) c.requires.here)
 
 pub goes_from-requires-clause-back : goal.goes_from-requires-clause-back
@@ -47,12 +47,12 @@ goes_from-requires-clause-apart c =
 pub returns-then-not-branch-clause-open : goal.returns-then-not-branch-clause-open
 returns-then-not-branch-clause-open c =
     let list = placed c.args.list.now (Two c.args.pickup c.args.delivery c.args.s c.args.t) in
-    sym (closed-by_lines c.args.model.now c.args.v list (used-placed c.args.model.now c.args.list.now (Two c.args.pickup c.args.delivery c.args.s c.args.t) (c.requires.order, c.requires.within) c.requires.may_hold).some
-    (ap (is_feasible_in_each c.args.model.now c.args.v) (sym (c.as_slice-longer.ensures ∙ c.requires.longer)) ∙ sym c.in_ok-goes_from.ensures ∙ c.if-not-branch.true))
+    sym (closed-by_lines c.args.closed.model.now c.args.v list (used-placed c.args.closed.model.now c.args.list.now (Two c.args.pickup c.args.delivery c.args.s c.args.t) (c.requires.order, c.requires.within) c.requires.may_hold).some
+    (ap (is_feasible_in_each c.args.closed.model.now c.args.v) (sym (c.as_slice-longer.ensures ∙ c.requires.longer)) ∙ sym c.in_ok-goes_from.ensures ∙ c.if-not-branch.true))
 
 pub returns-clause-open : goal.returns-clause-open
 returns-clause-open c =
     let is = c.as_slice-longer.ensures ∙ c.requires.longer in
-    c.keeps_pairs.ensures ∙ ap (keeps_pairs c.args.model.now c.args.v) is
-    ∙ sym (open-by_pairs c.args.model.now c.args.v c.args.list.now (Two c.args.pickup c.args.delivery c.args.s c.args.t) (c.requires.order, c.requires.within) c.requires.ready.stands c.requires.allowed
-    (ap (is_feasible_in_each c.args.model.now c.args.v) (sym is) ∙ sym c.in_ok-goes_from.ensures ∙ c.if-not-branch.false))
+    c.keeps_pairs.ensures ∙ ap (keeps_pairs c.args.closed.model.now c.args.v) is
+    ∙ sym (open-by_pairs c.args.closed.model.now c.args.v c.args.list.now (Two c.args.pickup c.args.delivery c.args.s c.args.t) (c.requires.order, c.requires.within) c.requires.ready.stands c.requires.allowed
+    (ap (is_feasible_in_each c.args.closed.model.now c.args.v) (sym is) ∙ sym c.in_ok-goes_from.ensures ∙ c.if-not-branch.false))

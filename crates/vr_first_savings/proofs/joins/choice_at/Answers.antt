@@ -9,21 +9,21 @@ use Rattle.vr_first_savings.proofs.joins.choice_at.Goals as goal
 
 pub saved-requires-clause-front : goal.saved-requires-clause-front
 saved-requires-clause-front c =
-    let model = c.args.model.now in
+    let model = c.args.closed.model.now in
     let routes = c.args.routes.now in
     subst (AreEnds model) (sym (ends_read model routes c.args.ends.now c.args.i c.requires.ends c.requires.front))
-    (are_ends model routes c.args.i c.requires.well_formed c.requires.apart c.requires.front)
+    (are_ends model routes c.args.i c.args.closed.well_formed c.requires.apart c.requires.front)
 
 pub saved-requires-clause-back : goal.saved-requires-clause-back
 saved-requires-clause-back c =
-    let model = c.args.model.now in
+    let model = c.args.closed.model.now in
     let routes = c.args.routes.now in
     subst (AreEnds model) (sym (ends_read model routes c.args.ends.now c.args.j c.requires.ends c.requires.back))
-    (are_ends model routes c.args.j c.requires.well_formed c.requires.apart c.requires.back)
+    (are_ends model routes c.args.j c.args.closed.well_formed c.requires.apart c.requires.back)
 
 pub returns : goal.returns
 returns c =
-    let model = c.args.model.now in
+    let model = c.args.closed.model.now in
     let routes = c.args.routes.now in
     let front : slice_index_or c.args.ends.now c.args.i unread ≡ ends_of model (route routes c.args.i) = ends_read model routes c.args.ends.now c.args.i c.requires.ends c.requires.front in
     let back : slice_index_or c.args.ends.now c.args.j unread ≡ ends_of model (route routes c.args.j) = ends_read model routes c.args.ends.now c.args.j c.requires.ends c.requires.back in

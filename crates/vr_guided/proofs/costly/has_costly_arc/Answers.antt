@@ -9,28 +9,28 @@ use Rattle.vr_guided.proofs.costly.has_costly_arc.Goals as goal
 
 pub loop-vehicle-init : goal.loop-vehicle-init
 loop-vehicle-init c =
-    ap (λ k. list_any (is_costly c.args.model.now) (each (range_with_len 0 k) (λ v. arcs_of c.args.model.now v (route c.args.routes.now.lists v)))) (vehicles_left c.args.model.now c.args.routes.now.lists c.requires.valid)
+    ap (λ k. list_any (is_costly c.args.closed.model.now) (each (range_with_len 0 k) (λ v. arcs_of c.args.closed.model.now v (route c.args.routes.now.lists v)))) (vehicles_left c.args.closed.model.now c.args.routes.now.lists c.requires.valid)
 
 pub list-requires : goal.list-requires
-list-requires c = record { vehicle = has_list c.args.model.now c.args.routes.now.lists c.requires.valid c.loop-vehicle-test.true c.len-vehicle-end.ensures }
+list-requires c = record { vehicle = has_list c.args.closed.model.now c.args.routes.now.lists c.requires.valid c.loop-vehicle-test.true c.len-vehicle-end.ensures }
 
 pub is_route_costly-requires-clause-nodes : goal.is_route_costly-requires-clause-nodes
-is_route_costly-requires-clause-nodes c = list_below c.args.model.now c.args.routes.now.lists c.requires.valid c.loop-vehicle.vehicle c.list.ensures.value
+is_route_costly-requires-clause-nodes c = list_below c.args.closed.model.now c.args.routes.now.lists c.requires.valid c.loop-vehicle.vehicle c.list.ensures.value
 
 pub returns-then-is_route_costly : goal.returns-then-is_route_costly
 returns-then-is_route_costly c =
-    let here : c.is_route_costly.result ≡ list_any (is_costly c.args.model.now) (arcs_of c.args.model.now c.loop-vehicle.vehicle (route c.args.routes.now.lists c.loop-vehicle.vehicle))
-    = c.is_route_costly.ensures ∙ ap (λ xs. list_any (is_costly c.args.model.now) (arcs_of c.args.model.now c.loop-vehicle.vehicle xs)) c.list.ensures.value in
-    sym (some_of_this (is_costly c.args.model.now) (λ v. arcs_of c.args.model.now v (route c.args.routes.now.lists v)) c.loop-vehicle.vehicle (length c.args.model.now.vehicles)
+    let here : c.is_route_costly.result ≡ list_any (is_costly c.args.closed.model.now) (arcs_of c.args.closed.model.now c.loop-vehicle.vehicle (route c.args.routes.now.lists c.loop-vehicle.vehicle))
+    = c.is_route_costly.ensures ∙ ap (λ xs. list_any (is_costly c.args.closed.model.now) (arcs_of c.args.closed.model.now c.loop-vehicle.vehicle xs)) c.list.ensures.value in
+    sym (some_of_this (is_costly c.args.closed.model.now) (λ v. arcs_of c.args.closed.model.now v (route c.args.routes.now.lists v)) c.loop-vehicle.vehicle (length c.args.closed.model.now.vehicles)
     (omega (arith, c.loop-vehicle-test.true, c.len-vehicle-end.ensures)) (sym here ∙ c.if-is_route_costly.true)) ∙ c.loop-vehicle.invariant
 
 pub loop-vehicle-preserved : goal.loop-vehicle-preserved
 loop-vehicle-preserved c =
-    let here : c.is_route_costly.result ≡ list_any (is_costly c.args.model.now) (arcs_of c.args.model.now c.loop-vehicle.vehicle (route c.args.routes.now.lists c.loop-vehicle.vehicle))
-    = c.is_route_costly.ensures ∙ ap (λ xs. list_any (is_costly c.args.model.now) (arcs_of c.args.model.now c.loop-vehicle.vehicle xs)) c.list.ensures.value in
-    sym (none_of_this (is_costly c.args.model.now) (λ v. arcs_of c.args.model.now v (route c.args.routes.now.lists v)) c.loop-vehicle.vehicle (length c.args.model.now.vehicles)
+    let here : c.is_route_costly.result ≡ list_any (is_costly c.args.closed.model.now) (arcs_of c.args.closed.model.now c.loop-vehicle.vehicle (route c.args.routes.now.lists c.loop-vehicle.vehicle))
+    = c.is_route_costly.ensures ∙ ap (λ xs. list_any (is_costly c.args.closed.model.now) (arcs_of c.args.closed.model.now c.loop-vehicle.vehicle xs)) c.list.ensures.value in
+    sym (none_of_this (is_costly c.args.closed.model.now) (λ v. arcs_of c.args.closed.model.now v (route c.args.routes.now.lists v)) c.loop-vehicle.vehicle (length c.args.closed.model.now.vehicles)
     (omega (arith, c.loop-vehicle-test.true, c.len-vehicle-end.ensures)) (sym here ∙ c.if-is_route_costly.false)) ∙ c.loop-vehicle.invariant
 
 pub returns : goal.returns
-returns c = sym (none_left (is_costly c.args.model.now) (λ v. arcs_of c.args.model.now v (route c.args.routes.now.lists v)) c.loop-vehicle.vehicle (length c.args.model.now.vehicles)
-    (omega (arith, c.loop-vehicle-test.false, c.len-vehicle-end.ensures, c.requires.well_formed.number_of_vehicles.at_most))) ∙ c.loop-vehicle.invariant
+returns c = sym (none_left (is_costly c.args.closed.model.now) (λ v. arcs_of c.args.closed.model.now v (route c.args.routes.now.lists v)) c.loop-vehicle.vehicle (length c.args.closed.model.now.vehicles)
+    (omega (arith, c.loop-vehicle-test.false, c.len-vehicle-end.ensures, c.args.closed.well_formed.number_of_vehicles.at_most))) ∙ c.loop-vehicle.invariant

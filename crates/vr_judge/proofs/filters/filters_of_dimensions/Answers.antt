@@ -15,7 +15,7 @@ use Rattle.vr_judge.proofs.filters.filters_of_dimensions.Goals as goal
 
 pub open-requires-clause-dimension : goal.open-requires-clause-dimension
 open-requires-clause-dimension c =
-    let model : Model = c.args.model.now in
+    let model : Model = c.args.closed.model.now in
     let order : c.in_ok-order.order.items ≡ by_rank model = c.in_ok-order.ensures in
     let d : c.index.result.now ≡ slice_index_or (by_rank model) c.loop-k.k c.index.result.now = c.index.ensures ∙ ap (λ l. slice_index_or l c.loop-k.k c.index.result.now) order in
     let low : c.loop-k.k < length (by_rank model) = (let n = ap length order in let l = c.loop-k-test.true in omega (arith, n, l)) in
@@ -23,7 +23,7 @@ open-requires-clause-dimension c =
 
 pub open-requires-clause-rule : goal.open-requires-clause-rule
 open-requires-clause-rule c =
-    let model : Model = c.args.model.now in
+    let model : Model = c.args.closed.model.now in
     let order : c.in_ok-order.order.items ≡ by_rank model = c.in_ok-order.ensures in
     let d : c.index.result.now ≡ slice_index_or (by_rank model) c.loop-k.k c.index.result.now = c.index.ensures ∙ ap (λ l. slice_index_or l c.loop-k.k c.index.result.now) order in
     let low : c.loop-k.k < length (by_rank model) = (let n = ap length order in let l = c.loop-k-test.true in omega (arith, n, l)) in
@@ -32,7 +32,7 @@ open-requires-clause-rule c =
 
 pub loop-k-preserved : goal.loop-k-preserved
 loop-k-preserved c =
-    let model : Model = c.args.model.now in
+    let model : Model = c.args.closed.model.now in
     let order = c.in_ok-order.order.items in
     let k = c.loop-k.k in
     let holds : DimensionFilter → List (List ℕ) → _ = λ f lists. holds_of_each (is_feasible_list f.model.now f.d) lists in
@@ -50,7 +50,7 @@ loop-k-preserved c =
 
 pub returns-clause-holds : goal.returns-clause-holds
 returns-clause-holds c = λ lists.
-    let model : Model = c.args.model.now in
+    let model : Model = c.args.closed.model.now in
     let order : c.in_ok-order.order.items ≡ by_rank model = c.in_ok-order.ensures in
     let high : length c.in_ok-order.order.items ≤ c.loop-k.k = (let l = c.loop-k-test.false in omega (arith, l)) in
     let all : take c.loop-k.k c.in_ok-order.order.items ≡ by_rank model = take_all c.loop-k.k c.in_ok-order.order.items high ∙ order in
@@ -58,7 +58,7 @@ returns-clause-holds c = λ lists.
 
 pub returns-clause-weight : goal.returns-clause-weight
 returns-clause-weight c = λ before later.
-    let model : Model = c.args.model.now in
+    let model : Model = c.args.closed.model.now in
     let order : c.in_ok-order.order.items ≡ by_rank model = c.in_ok-order.ensures in
     let high : length c.in_ok-order.order.items ≤ c.loop-k.k = (let l = c.loop-k-test.false in omega (arith, l)) in
     let all : take c.loop-k.k c.in_ok-order.order.items ≡ by_rank model = take_all c.loop-k.k c.in_ok-order.order.items high ∙ order in

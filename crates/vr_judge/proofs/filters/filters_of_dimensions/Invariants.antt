@@ -11,6 +11,6 @@ invariant-loop-k l = AreOf
     (λ f lists. holds_of_each (is_feasible_list f.model.now f.d) lists)
     (λ f before later. weight f.model.now f.d before later)
     (λ f. StandsAt f.model.now f.d f.stops f.loads f.known.items l.routes)
-    (λ d lists. holds_of_each (is_feasible_list l.model d) lists)
-    (λ d before later. weight l.model d before later)
+    (λ d lists. holds_of_each (is_feasible_list l.closed.model.now d) lists)
+    (λ d before later. weight l.closed.model.now d before later)
     (take l.k l.order.items) l.filters.items

@@ -6,8 +6,8 @@ use Rattle.vr_plan.proofs.tables.row_places.Goals as goal
 
 pub write_places-requires-clause-numbers : goal.write_places-requires-clause-numbers
 write_places-requires-clause-numbers c =
-    let model = c.args.model.now in
-    let is = c.requires.well_formed.each_dimension c.args.d no_dimension c.requires.dimension in
+    let model = c.args.closed.model.now in
+    let is = c.args.closed.well_formed.each_dimension c.args.d no_dimension c.requires.dimension in
     let visits = subst (λ x. All (λ row. IsTrue (is_visit model row.key)) x.nodes) (c.get.ensures.value no_dimension) is.rows_of_visits.each_key_is_visit in
     let long : length c.deref_mut.result.now ≡ model.nodes = c.deref_mut.ensures.len ∙ c.in_ok-resize.ensures.len in
     subst (λ (n : ℕ). All (λ node. node < n) c.deref.result.now) (sym long)

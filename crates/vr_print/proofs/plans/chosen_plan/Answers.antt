@@ -10,7 +10,7 @@ use Rattle.vr_print.proofs.plans.chosen_plan.Goals as goal
 
 pub returns-in-Some : goal.returns-in-Some
 returns-in-Some c =
-    let defined : Line = line c.args.model.now c.args.d c.args.v c.args.list.now in
+    let defined : Line = line c.args.closed.model.now c.args.d c.args.v c.args.list.now in
     let found : option_map seen (Some c.in-Some.plan) ≡ chosen_under c.get.result.now.schedule defined =
     ap (option_map seen) (sym c.in-Some.is) ∙ c.in_ok-plan.ensures.chosen defined c.in_ok-line.ensures.exact in
     let rule = ap (λ vehicle. vehicle.schedule) (sym (c.get.ensures.value no_vehicle)) in

@@ -6,4 +6,4 @@ use Rattle.vr_print.specs.Solution.{dimension_tree}
 use Rattle.vr_print.proofs.plans.used_plans_tree.Given as goal
 
 abbrev pub invariant-loop-d : goal.invariant-loop-d
-invariant-loop-d l = map view l.trees.items ≡ map (dimension_tree l.model (assigned l.model l.routes.lists) l.v) (below l.d)
+invariant-loop-d l = map view l.trees.items ≡ map (dimension_tree l.closed.model.now (assigned l.closed.model.now l.routes.lists) l.v) (below l.d)

@@ -7,5 +7,5 @@ use Rattle.vr_print.proofs.routes.routes_tree.Goals as goal
 
 pub loop-v-preserved : goal.loop-v-preserved
 loop-v-preserved c =
-    let more = map-below_more (route_tree c.args.model.now (assigned c.args.model.now c.args.routes.now.lists)) c.loop-v.v in
+    let more = map-below_more (route_tree c.args.closed.model.now (assigned c.args.closed.model.now c.args.routes.now.lists)) c.loop-v.v in
     grind (arith, common_steps)

@@ -6,4 +6,4 @@ use Rattle.vr_print.specs.Solution.{route_tree}
 use Rattle.vr_print.proofs.routes.routes_tree.Given as goal
 
 abbrev pub invariant-loop-v : goal.invariant-loop-v
-invariant-loop-v l = map view l.trees.items ≡ map (route_tree l.model (assigned l.model l.routes.lists)) (below l.v)
+invariant-loop-v l = map view l.trees.items ≡ map (route_tree l.closed.model.now (assigned l.closed.model.now l.routes.lists)) (below l.v)

@@ -9,8 +9,8 @@ use Rattle.vr_print.specs.Solution.{assignment_tree, solution_tree, tree_of}
 use Rattle.vr_print.proofs.TreeLemmas.{IsPrintable, assignment-printable}
 use Rattle.vr_print.proofs.solution.solution_tree.Goals as goal
 
-pub routes_tree-requires-clause-lists : goal.routes_tree-requires-clause-lists
-routes_tree-requires-clause-lists c = are-lists c.args.model.now c.args.routes.now.lists c.requires.valid
+pub routes_tree-requires : goal.routes_tree-requires
+routes_tree-requires c = are-lists c.args.model.now c.args.routes.now.lists c.requires.valid
 
 pub returns : goal.returns
 unfolding assignment_tree

@@ -10,10 +10,10 @@ use Rattle.vr_reach.proofs.early.drive.Given as goal
 -- the cumuls of the stops up to k are there
 abbrev pub invariant-loop-k : goal.invariant-loop-k
 invariant-loop-k l = record {
-  early : AreEarly (line l.model l.d l.v l.list) l.k l.cumuls.items;
-  found : AreFoundInTurn (line l.model l.d l.v l.list) l.k l.cumuls.items;
+  early : AreEarly (line l.closed.model.now l.d l.v l.list) l.k l.cumuls.items;
+  found : AreFoundInTurn (line l.closed.model.now l.d l.v l.list) l.k l.cumuls.items;
   cumul : l.cumul ≡ number_at l.cumuls.items l.k;
   range : IsIn (pos 0) horizon l.cumul;
-  origin : l.origin ≡ node_at_stop l.model l.v l.list l.k;
-  below : l.origin < l.model.nodes;
+  origin : l.origin ≡ node_at_stop l.closed.model.now l.v l.list l.k;
+  below : l.origin < l.closed.model.now.nodes;
 }

@@ -7,7 +7,7 @@ use Rattle.vr_reach.proofs.ends.ends_of_each.Goals as goal
 
 pub loop-v-preserved : goal.loop-v-preserved
 loop-v-preserved c =
-    let m = c.args.model.now in
+    let m = c.args.closed.model.now in
     let d = c.args.d in
     let before = c.loop-v.ends.items in
     let new = c.in_ok-build.field-0 in

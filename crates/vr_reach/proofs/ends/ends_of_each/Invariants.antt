@@ -7,5 +7,5 @@ use Rattle.vr_reach.proofs.ends.ends_of_each.Given as goal
 abbrev pub invariant-loop-v : goal.invariant-loop-v
 invariant-loop-v l = record {
   many : length l.ends.items ≡ l.v;
-  each : (v : ℕ) (other : Ends) → v < length l.ends.items → AreEndsOf l.model l.d v (get_or l.ends.items v other);
+  each : (v : ℕ) (other : Ends) → v < length l.ends.items → AreEndsOf l.closed.model.now l.d v (get_or l.ends.items v other);
 }

@@ -6,7 +6,7 @@ use Rattle.vr_reach.proofs.single.stop_ahead.Goals as goal
 
 pub returns-then-k-len-clause-allowed : goal.returns-then-k-len-clause-allowed
 returns-then-k-len-clause-allowed c =
-    let m = c.args.model.now in
+    let m = c.args.closed.model.now in
     let list = c.args.list.now in
     let runs = c.args.runs.now in
     let low : c.args.k < length list = omega (arith, c.if-k-len.true, c.len.ensures.value) in
@@ -15,7 +15,7 @@ returns-then-k-len-clause-allowed c =
     visit_allows_run m c.args.d c.args.v list c.args.k runs (get_or runs c.get-node.result none) none c.requires.runs c.requires.tour low known (ap (λ i. get_or runs i none) c.get-node.ensures)
 
 pub returns-clause-node : goal.returns-clause-node
-returns-clause-node c = c.requires.finish.node ∙ sym (end_node c.args.model.now c.args.v c.args.list.now c.args.k (omega (arith, c.requires.arc, c.if-k-len.false, c.len.ensures.value)))
+returns-clause-node c = c.requires.finish.node ∙ sym (end_node c.args.closed.model.now c.args.v c.args.list.now c.args.k (omega (arith, c.requires.arc, c.if-k-len.false, c.len.ensures.value)))
 
 pub returns-clause-allowed : goal.returns-clause-allowed
-returns-clause-allowed c = end_allows_run c.args.model.now c.args.d c.args.v c.args.list.now c.args.k c.args.finish.allowed c.requires.finish.allowed (omega (arith, c.requires.arc, c.if-k-len.false, c.len.ensures.value))
+returns-clause-allowed c = end_allows_run c.args.closed.model.now c.args.d c.args.v c.args.list.now c.args.k c.args.finish.allowed c.requires.finish.allowed (omega (arith, c.requires.arc, c.if-k-len.false, c.len.ensures.value))

@@ -6,7 +6,7 @@ use Rattle.vr_reach.proofs.visits.visit_sets.Goals as goal
 
 pub loop-node-preserved : goal.loop-node-preserved
 loop-node-preserved c =
-    let m = c.args.model.now in
+    let m = c.args.closed.model.now in
     let d = c.args.d in
     let before = c.loop-node.sets in
     let new = c.in_ok-visit_set.field-0 in

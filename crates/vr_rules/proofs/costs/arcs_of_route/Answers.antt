@@ -8,19 +8,19 @@ use Rattle.vr_rules.proofs.costs.arcs_of_route.Goals as goal
 
 pub loop-node-preserved : goal.loop-node-preserved
 loop-node-preserved c =
-    let next = path_cost-drop c.args.model.now c.args.vehicle c.loop-node.at c.get-ends.result.now.end c.args.list.now c.loop-node.node-index c.loop-node-test.true in
+    let next = path_cost-drop c.args.closed.model.now c.args.vehicle c.loop-node.at c.get-ends.result.now.end c.args.list.now c.loop-node.node-index c.loop-node-test.true in
     let arc = c.arc_cost-total.ensures in
     let so_far = c.loop-node.invariant in
     record {
       sum = omega (arith, ints, next, arc.value, arc.not_negative, arc.bound, so_far.sum, so_far.low, so_far.high, c.loop-node-test.true, c.requires.few);
       low = omega (arith, ints, arc.not_negative, arc.bound, so_far.low, so_far.high, c.loop-node-test.true, c.requires.few);
       high = omega (arith, ints, arc.not_negative, arc.bound, so_far.low, so_far.high, c.loop-node-test.true, c.requires.few);
-      at = All-get_or (λ node. node < c.args.model.now.nodes) c.args.list.now c.loop-node.node-index 0 c.loop-node-test.true c.requires.nodes;
+      at = All-get_or (λ node. node < c.args.closed.model.now.nodes) c.args.list.now c.loop-node.node-index 0 c.loop-node-test.true c.requires.nodes;
     }
 
 pub returns-clause-value : goal.returns-clause-value
 returns-clause-value c =
-    let model = c.args.model.now in
+    let model = c.args.closed.model.now in
     let v = c.args.vehicle in
     let list = c.args.list.now in
     let last = c.get-ends.result.now.end in

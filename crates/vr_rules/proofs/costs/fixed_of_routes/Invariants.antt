@@ -4,7 +4,7 @@ use Rattle.vr_rules.proofs.costs.fixed_of_routes.Given as goal
 
 abbrev pub invariant-loop-vehicle : goal.invariant-loop-vehicle
 invariant-loop-vehicle l = record {
-  sum : l.total ≡ fixed_of_first l.model l.routes.lists l.vehicle;
+  sum : l.total ≡ fixed_of_first l.closed.model.now l.routes.lists l.vehicle;
   low : pos 0 ≤ℤ l.total;
   high : l.total ≤ℤ pos (2 ^ 40 * l.vehicle);
 }

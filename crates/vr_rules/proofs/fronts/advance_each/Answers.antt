@@ -8,11 +8,11 @@ use Rattle.vr_rules.proofs.fronts.advance_each.Goals as goal
 
 pub advance-requires-clause-front : goal.advance-requires-clause-front
 advance-requires-clause-front c =
-    (subst (λ front. IsFrontOf c.args.model.now c.loop-d.d c.args.v c.args.list.now front) (sym c.index_mut.ensures.value) (c.loop-d.invariant.left c.loop-d.d c.index_mut.result.now (omega arith) (omega (arith, c.loop-d.invariant.long)))).front_of_list
+    (subst (λ front. IsFrontOf c.args.closed.model.now c.loop-d.d c.args.v c.args.list.now front) (sym c.index_mut.ensures.value) (c.loop-d.invariant.left c.loop-d.d c.index_mut.result.now (omega arith) (omega (arith, c.loop-d.invariant.long)))).front_of_list
 
 pub loop-d-preserved : goal.loop-d-preserved
 loop-d-preserved c =
-    let model = c.args.model.now in
+    let model = c.args.closed.model.now in
     let v = c.args.v in
     let list = c.args.list.now in
     let m = c.loop-d.invariant in

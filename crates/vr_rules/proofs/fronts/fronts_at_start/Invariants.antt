@@ -8,5 +8,5 @@ use Rattle.vr_rules.proofs.fronts.fronts_at_start.Given as goal
 abbrev pub invariant-loop-d : goal.invariant-loop-d
 invariant-loop-d l = record {
   long : length l.fronts.items ≡ l.d;
-  each : (d : ℕ) (other : Front) → d < length l.fronts.items → IsFrontOf l.model d l.v [] (slice_index_or l.fronts.items d other);
+  each : (d : ℕ) (other : Front) → d < length l.fronts.items → IsFrontOf l.closed.model.now d l.v [] (slice_index_or l.fronts.items d other);
 }

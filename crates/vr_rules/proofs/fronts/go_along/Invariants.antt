@@ -4,4 +4,4 @@ use Rattle.vr_rules.proofs.fronts.go_along.Given as goal
 
 -- the fronts stand behind the visits so far
 abbrev pub invariant-loop-k : goal.invariant-loop-k
-invariant-loop-k l = AreFronts l.model l.v (take l.k l.list) l.fronts.items
+invariant-loop-k l = AreFronts l.closed.model.now l.v (take l.k l.list) l.fronts.items

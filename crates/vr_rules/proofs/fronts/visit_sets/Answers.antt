@@ -10,7 +10,7 @@ use Rattle.vr_rules.proofs.fronts.visit_sets.Goals as goal
 
 pub loop-node-preserved : goal.loop-node-preserved
 loop-node-preserved c =
-    let model = c.args.model.now in
+    let model = c.args.closed.model.now in
     let m = c.loop-node.invariant in
     let P = λ (node : ℕ) (set : List Run). IsTrue (is_visit model node) → IsStopSet model c.args.d c.args.v (Visit node) set in
     rw c.in_ok-push.ensures.items (record {

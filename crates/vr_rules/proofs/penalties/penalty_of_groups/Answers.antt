@@ -10,7 +10,7 @@ use Rattle.vr_rules.proofs.penalties.penalty_of_groups.Goals as goal
 
 pub penalty_of_group-total-requires-clause-fits : goal.penalty_of_group-total-requires-clause-fits
 penalty_of_group-total-requires-clause-fits c =
-    let groups = c.args.model.now.groups in
+    let groups = c.args.closed.model.now.groups in
     let marks = c.args.marks.now in
     let group : Group = c.get.result.now in
     le-of-test (count_by (is_marked marks) group.nodes) group.max
@@ -18,10 +18,10 @@ penalty_of_group-total-requires-clause-fits c =
 
 pub loop-k-preserved : goal.loop-k-preserved
 loop-k-preserved c =
-    let model = c.args.model.now in
+    let model = c.args.closed.model.now in
     let group : Group = c.get.result.now in
     let low : c.loop-k.k < length model.groups = omega arith in
-    let few = c.requires.well_formed.number_of_groups in
+    let few = c.args.closed.well_formed.number_of_groups in
     let more = penalty_of_first-more model c.args.marks.now c.loop-k.k group low (c.get.ensures.value group) in
     let penalty = c.penalty_of_group-total.ensures in
     let so_far = c.loop-k.invariant in

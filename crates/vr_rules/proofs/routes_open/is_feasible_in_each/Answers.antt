@@ -6,7 +6,7 @@ use Rattle.vr_rules.proofs.routes_open.is_feasible_in_each.Goals as goal
 
 pub returns-then-not-branch : goal.returns-then-not-branch
 returns-then-not-branch c =
-    sym (one_fails (λ d. is_feasible (line c.args.model.now d c.args.v c.args.list.now)) (length c.args.model.now.dimensions) c.loop-d.d (omega arith) (sym c.in_ok-goes_through.ensures ∙ c.if-not-branch.true))
+    sym (one_fails (λ d. is_feasible (line c.args.closed.model.now d c.args.v c.args.list.now)) (length c.args.closed.model.now.dimensions) c.loop-d.d (omega arith) (sym c.in_ok-goes_through.ensures ∙ c.if-not-branch.true))
 
 pub returns : goal.returns
-returns c = sym (all_pass_below (λ d. is_feasible (line c.args.model.now d c.args.v c.args.list.now)) (length c.args.model.now.dimensions) (λ d lt. c.loop-d.invariant d (omega arith)))
+returns c = sym (all_pass_below (λ d. is_feasible (line c.args.closed.model.now d c.args.v c.args.list.now)) (length c.args.closed.model.now.dimensions) (λ d lt. c.loop-d.invariant d (omega arith)))

@@ -8,6 +8,6 @@ ghosts-try_move g a = record { name = a.blank.name; parts = a.blank.parts }
 -- the filter stands at the lists so far
 abbrev pub invariant-loop-mv : goal.invariant-loop-mv
 invariant-loop-mv g l = record {
-  of_model : l.routes.visits ≡ visits l.model;
+  of_model : l.routes.visits ≡ visits l.closed.model.now;
   stands : g.F.PathFilter.stands_at l.filter l.routes;
 }

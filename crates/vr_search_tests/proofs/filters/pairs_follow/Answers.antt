@@ -2,4 +2,4 @@ use Rattle.vr_search_tests.proofs.ValidRules.{valid_serves}
 use Rattle.vr_search_tests.proofs.filters.pairs_follow.Goals as goal
 
 pub open-requires-clause-rule : goal.open-requires-clause-rule
-open-requires-clause-rule c = valid_serves c.args.model.now c.args.routes.now.lists c.requires.valid
+open-requires-clause-rule c = valid_serves c.args.closed.model.now c.args.routes.now.lists c.requires.valid

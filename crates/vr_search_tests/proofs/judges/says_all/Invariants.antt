@@ -8,6 +8,6 @@ ghosts-judge_move g a = record { name = a.blank.name; parts = a.blank.parts }
 -- the judge holds the lists so far
 abbrev pub invariant-loop-mv : goal.invariant-loop-mv
 invariant-loop-mv g l = record {
-  judge_model : g.J.Judge.model l.judge ≡ l.model;
-  holds : HoldSame l.model (g.J.Judge.committed l.judge) l.routes;
+  judge_model : g.J.Judge.model l.judge ≡ l.closed.model.now;
+  holds : HoldSame l.closed.model.now (g.J.Judge.committed l.judge) l.routes;
 }

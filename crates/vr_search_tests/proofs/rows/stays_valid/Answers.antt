@@ -11,11 +11,11 @@ use Rattle.vr_search_tests.proofs.rows.stays_valid.Goals as goal
 
 pub valid-requires-clause-lists : goal.valid-requires-clause-lists
 valid-requires-clause-lists c =
-    let model = c.args.model.now in
+    let model = c.args.closed.model.now in
     let lists : List (List ℕ) = c.args.routes.now.lists in
     let after : c.commit.new.self.lists ≡ apply model lists c.args.mv = c.commit.ensures.lists ∙ (ap (λ (r : Tours). changed r.lists c.args.change.now) c.in_ok-after.ensures ∙ c.requires.change.lists_are) in
-    subst (λ ls. IsTrue (are_lists model ls)) (sym after) (moves_keep_lists model c.requires.well_formed lists c.args.mv (are-lists model lists c.requires.valid) c.requires.is_one)
+    subst (λ ls. IsTrue (are_lists model ls)) (sym after) (moves_keep_lists model c.args.closed.well_formed lists c.args.mv (are-lists model lists c.requires.valid) c.requires.is_one)
 
 pub returns : goal.returns
 returns c =
-    c.in_ok-stays.ensures ∙ ap (is_valid c.args.model.now) (c.commit.ensures.lists ∙ ap (λ (r : Tours). changed r.lists c.args.change.now) c.in_ok-after.ensures)
+    c.in_ok-stays.ensures ∙ ap (is_valid c.args.closed.model.now) (c.commit.ensures.lists ∙ ap (λ (r : Tours). changed r.lists c.args.change.now) c.in_ok-after.ensures)

@@ -14,7 +14,7 @@ use Rattle.vr_tabu.proofs.searching.search.Goals as goal
 
 pub returns-in_err-stop-clause-told_in_part : goal.returns-in_err-stop-clause-told_in_part
 returns-in_err-stop-clause-told_in_part g c =
-    let model = c.args.model.now in
+    let model = c.args.closed.model.now in
     let bounds = c.args.bounds in
     let whole = from_state model bounds c.args.routes.now.lists c.args.state.now in
     let state = c.rounds.state in
@@ -25,7 +25,7 @@ returns-in_err-stop-clause-told_in_part g c =
 
 pub returns-in-Some-clause-outcome : goal.returns-in-Some-clause-outcome
 returns-in-Some-clause-outcome g c =
-    let model = c.args.model.now in
+    let model = c.args.closed.model.now in
     let bounds = c.args.bounds in
     let whole = from_state model bounds c.args.routes.now.lists c.args.state.now in
     let on = goes_as (λ w. (goal.Watch-dyn g (w.vtable, w.value)).after w.value) whole _ _ _ _ c.in_ok-stop.ensures.outcome c.rounds.invariant.goes in
@@ -36,7 +36,7 @@ returns-in-Some-clause-outcome g c =
 
 pub returns-in-Some-clause-told : goal.returns-in-Some-clause-told
 returns-in-Some-clause-told g c =
-    let model = c.args.model.now in
+    let model = c.args.closed.model.now in
     let bounds = c.args.bounds in
     let whole = from_state model bounds c.args.routes.now.lists c.args.state.now in
     let on = goes_as (λ w. (goal.Watch-dyn g (w.vtable, w.value)).after w.value) whole _ _ _ _ c.in_ok-stop.ensures.outcome c.rounds.invariant.goes in
@@ -47,7 +47,7 @@ returns-in-Some-clause-told g c =
 
 pub rounds-preserved : goal.rounds-preserved
 rounds-preserved g c =
-    let model = c.args.model.now in
+    let model = c.args.closed.model.now in
     let bounds = c.args.bounds in
     let whole = from_state model bounds c.args.routes.now.lists c.args.state.now in
     let on = goes_as (λ w. (goal.Watch-dyn g (w.vtable, w.value)).after w.value) whole _ _ _ _ c.in_ok-stop.ensures.outcome c.rounds.invariant.goes in
@@ -63,7 +63,7 @@ rounds-preserved g c =
 
 pub returns-clause-outcome : goal.returns-clause-outcome
 returns-clause-outcome g c =
-    let model = c.args.model.now in
+    let model = c.args.closed.model.now in
     let bounds = c.args.bounds in
     let state = c.rounds.state in
     let whole = from_state model bounds c.args.routes.now.lists c.args.state.now in
@@ -73,7 +73,7 @@ returns-clause-outcome g c =
 
 pub returns-clause-told : goal.returns-clause-told
 returns-clause-told g c =
-    let model = c.args.model.now in
+    let model = c.args.closed.model.now in
     let bounds = c.args.bounds in
     let state = c.rounds.state in
     let whole = from_state model bounds c.args.routes.now.lists c.args.state.now in

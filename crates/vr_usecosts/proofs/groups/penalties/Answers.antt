@@ -9,15 +9,15 @@ use Rattle.vr_usecosts.proofs.groups.penalties.Goals as goal
 
 pub penalty_of-total-requires-clause-fits : goal.penalty_of-total-requires-clause-fits
 penalty_of-total-requires-clause-fits c =
-    let groups = c.args.model.now.groups in
+    let groups = c.args.closed.model.now.groups in
     let lists : List (List ℕ) = c.args.routes.now.lists in
     let q : Group = c.get.result.now in
     let low : c.loop-g.g < length groups = omega (arith, c.loop-g-test.true, c.len-g-end.ensures) in
-    subst (λ (g : Group). IsTrue (fits_group lists g)) (c.get.ensures.value q) (all-fit c.args.model.now lists c.requires.valid c.loop-g.g q low)
+    subst (λ (g : Group). IsTrue (fits_group lists g)) (c.get.ensures.value q) (all-fit c.args.closed.model.now lists c.requires.valid c.loop-g.g q low)
 
 pub loop-g-preserved : goal.loop-g-preserved
 loop-g-preserved c =
-    let groups = c.args.model.now.groups in
+    let groups = c.args.closed.model.now.groups in
     let lists : List (List ℕ) = c.args.routes.now.lists in
     let q : Group = c.get.result.now in
     let low : c.loop-g.g < length groups = omega (arith, c.loop-g-test.true, c.len-g-end.ensures) in
@@ -26,7 +26,7 @@ loop-g-preserved c =
     let a = c.penalty_of-total.ensures in
     let i = c.loop-g.invariant in
     let is = c.loop-g.total-is in
-    let few = c.requires.well_formed.number_of_groups in
+    let few = c.args.closed.well_formed.number_of_groups in
     record {
       value = omega (arith, ints, more, here, a.value, a.range.low, a.range.high, i.value, i.range.low, i.range.high, is, low, few);
       range = record { low = omega (arith, ints, a.range.low, a.range.high, i.range.low, i.range.high, is, low, few); high = omega (arith, ints, a.range.low, a.range.high, i.range.low, i.range.high, is, low, few) };

@@ -7,7 +7,7 @@ use Rattle.vr_usecosts.proofs.groups.saving.Goals as goal
 
 pub returns-then-has_node-clause-value : goal.returns-then-has_node-clause-value
 returns-then-has_node-clause-value c =
-    let groups = c.args.model.now.groups in
+    let groups = c.args.closed.model.now.groups in
     let q : Group = c.get-group.result.now in
     let low : c.loop-g.g < length groups = omega (arith, c.loop-g-test.true, c.len-g-end.ensures) in
     let next = saved-next groups c.args.node c.loop-g.g q low (c.get-group.ensures.value q) in
@@ -18,7 +18,7 @@ returns-then-has_node-clause-value c =
 
 pub loop-g-preserved : goal.loop-g-preserved
 loop-g-preserved c =
-    let groups = c.args.model.now.groups in
+    let groups = c.args.closed.model.now.groups in
     let q : Group = c.get-group.result.now in
     let low : c.loop-g.g < length groups = omega (arith, c.loop-g-test.true, c.len-g-end.ensures) in
     let next = saved-next groups c.args.node c.loop-g.g q low (c.get-group.ensures.value q) in

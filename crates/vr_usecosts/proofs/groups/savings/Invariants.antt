@@ -8,5 +8,5 @@ use Rattle.vr_usecosts.proofs.groups.savings.Given as goal
 abbrev pub invariant-loop-node : goal.invariant-loop-node
 invariant-loop-node l = record {
   long : length l.saved ≡ l.node;
-  each : (k : ℕ) → k < l.node → number_at l.saved k ≡ pos (saved_by l.model.groups k);
+  each : (k : ℕ) → k < l.node → number_at l.saved k ≡ pos (saved_by l.closed.model.now.groups k);
 }

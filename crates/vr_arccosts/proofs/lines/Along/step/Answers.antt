@@ -8,7 +8,7 @@ use Rattle.vr_arccosts.proofs.lines.Along.step.Goals as goal
 
 pub returns : goal.returns
 returns c list n h arc =
-    let m = c.args.model.now in
+    let m = c.args.closed.model.now in
     let v = c.args.v in
     let a = c.arc_cost.ensures in
     let b = c.arc_cost-2.ensures in

@@ -20,44 +20,44 @@ between-total-requires-else-reversed-clause-few c = omega (arith, c.list-list.en
 
 pub jump-requires-clause-first : goal.jump-requires-clause-first
 jump-requires-clause-first c =
-    (kept_back c.requires.route_sums c.args.v c.requires.owner c.of-sums.ensures c.requires.well_formed c.requires.few c.args.vehicle c.requires.vehicle c.requires.same c.list-list.ensures.value c.list-list.ensures.few c.args.from c.args.to c.requires.order c.requires.place c.requires.nodes (c.between-total.ensures _ _ _ _)).first_known
+    (kept_back c.requires.route_sums c.args.v c.requires.owner c.of-sums.ensures c.args.closed.well_formed c.requires.few c.args.vehicle c.requires.vehicle c.requires.same c.list-list.ensures.value c.list-list.ensures.few c.args.from c.args.to c.requires.order c.requires.place c.requires.nodes (c.between-total.ensures _ _ _ _)).first_known
 
 pub jump-requires-clause-last : goal.jump-requires-clause-last
 jump-requires-clause-last c =
-    (kept_back c.requires.route_sums c.args.v c.requires.owner c.of-sums.ensures c.requires.well_formed c.requires.few c.args.vehicle c.requires.vehicle c.requires.same c.list-list.ensures.value c.list-list.ensures.few c.args.from c.args.to c.requires.order c.requires.place c.requires.nodes (c.between-total.ensures _ _ _ _)).last_known
+    (kept_back c.requires.route_sums c.args.v c.requires.owner c.of-sums.ensures c.args.closed.well_formed c.requires.few c.args.vehicle c.requires.vehicle c.requires.same c.list-list.ensures.value c.list-list.ensures.few c.args.from c.args.to c.requires.order c.requires.place c.requires.nodes (c.between-total.ensures _ _ _ _)).last_known
 
 pub jump-requires-clause-total : goal.jump-requires-clause-total
 jump-requires-clause-total c =
-    let kept = kept_back c.requires.route_sums c.args.v c.requires.owner c.of-sums.ensures c.requires.well_formed c.requires.few c.args.vehicle c.requires.vehicle c.requires.same c.list-list.ensures.value c.list-list.ensures.few c.args.from c.args.to c.requires.order c.requires.place c.requires.nodes (c.between-total.ensures _ _ _ _) in
+    let kept = kept_back c.requires.route_sums c.args.v c.requires.owner c.of-sums.ensures c.args.closed.well_formed c.requires.few c.args.vehicle c.requires.vehicle c.requires.same c.list-list.ensures.value c.list-list.ensures.few c.args.from c.args.to c.requires.order c.requires.place c.requires.nodes (c.between-total.ensures _ _ _ _) in
     subst (IsIn (pos 0) (pos ((c.args.to - c.args.from - 1) * 2 ^ 70))) (sym kept.read) kept.range
 
 pub returns-then-reversed-clause-value : goal.returns-then-reversed-clause-value
 returns-then-reversed-clause-value c =
-    let m = c.args.model.now in
+    let m = c.args.closed.model.now in
     let p = counted c.args.self.now in
-    let kept = kept_back c.requires.route_sums c.args.v c.requires.owner c.of-sums.ensures c.requires.well_formed c.requires.few c.args.vehicle c.requires.vehicle c.requires.same c.list-list.ensures.value c.list-list.ensures.few c.args.from c.args.to c.requires.order c.requires.place c.requires.nodes (c.between-total.ensures _ _ _ _) in
+    let kept = kept_back c.requires.route_sums c.args.v c.requires.owner c.of-sums.ensures c.args.closed.well_formed c.requires.few c.args.vehicle c.requires.vehicle c.requires.same c.list-list.ensures.value c.list-list.ensures.few c.args.from c.args.to c.requires.order c.requires.place c.requires.nodes (c.between-total.ensures _ _ _ _) in
     let jump = kept.jump in
     c.jump.ensures.value jump.others jump.many jump.ends (kept.read ∙ jump.sum)
     ∙ (ap (walked m p c.args.vehicle c.args.walk.now) (sym jump.is) ∙ ap₂ (λ l b. walked m p c.args.vehicle c.args.walk.now (cond b (reverse (slice_range l c.args.from c.args.to)) (slice_range l c.args.from c.args.to))) c.list-list.ensures.value (sym c.if-reversed.true))
 
 pub jump-requires-else-reversed-clause-first : goal.jump-requires-else-reversed-clause-first
 jump-requires-else-reversed-clause-first c =
-    (kept_on c.requires.route_sums c.args.v c.requires.owner c.of-sums.ensures c.requires.well_formed c.requires.few c.args.vehicle c.requires.vehicle c.requires.same c.list-list.ensures.value c.list-list.ensures.few c.args.from c.args.to c.requires.order c.requires.place c.requires.nodes (c.between-total-else-reversed.ensures _ _ _ _)).first_known
+    (kept_on c.requires.route_sums c.args.v c.requires.owner c.of-sums.ensures c.args.closed.well_formed c.requires.few c.args.vehicle c.requires.vehicle c.requires.same c.list-list.ensures.value c.list-list.ensures.few c.args.from c.args.to c.requires.order c.requires.place c.requires.nodes (c.between-total-else-reversed.ensures _ _ _ _)).first_known
 
 pub jump-requires-else-reversed-clause-last : goal.jump-requires-else-reversed-clause-last
 jump-requires-else-reversed-clause-last c =
-    (kept_on c.requires.route_sums c.args.v c.requires.owner c.of-sums.ensures c.requires.well_formed c.requires.few c.args.vehicle c.requires.vehicle c.requires.same c.list-list.ensures.value c.list-list.ensures.few c.args.from c.args.to c.requires.order c.requires.place c.requires.nodes (c.between-total-else-reversed.ensures _ _ _ _)).last_known
+    (kept_on c.requires.route_sums c.args.v c.requires.owner c.of-sums.ensures c.args.closed.well_formed c.requires.few c.args.vehicle c.requires.vehicle c.requires.same c.list-list.ensures.value c.list-list.ensures.few c.args.from c.args.to c.requires.order c.requires.place c.requires.nodes (c.between-total-else-reversed.ensures _ _ _ _)).last_known
 
 pub jump-requires-else-reversed-clause-total : goal.jump-requires-else-reversed-clause-total
 jump-requires-else-reversed-clause-total c =
-    let kept = kept_on c.requires.route_sums c.args.v c.requires.owner c.of-sums.ensures c.requires.well_formed c.requires.few c.args.vehicle c.requires.vehicle c.requires.same c.list-list.ensures.value c.list-list.ensures.few c.args.from c.args.to c.requires.order c.requires.place c.requires.nodes (c.between-total-else-reversed.ensures _ _ _ _) in
+    let kept = kept_on c.requires.route_sums c.args.v c.requires.owner c.of-sums.ensures c.args.closed.well_formed c.requires.few c.args.vehicle c.requires.vehicle c.requires.same c.list-list.ensures.value c.list-list.ensures.few c.args.from c.args.to c.requires.order c.requires.place c.requires.nodes (c.between-total-else-reversed.ensures _ _ _ _) in
     subst (IsIn (pos 0) (pos ((c.args.to - c.args.from - 1) * 2 ^ 70))) (sym kept.read) kept.range
 
 pub returns-else-reversed-clause-value : goal.returns-else-reversed-clause-value
 returns-else-reversed-clause-value c =
-    let m = c.args.model.now in
+    let m = c.args.closed.model.now in
     let p = counted c.args.self.now in
-    let kept = kept_on c.requires.route_sums c.args.v c.requires.owner c.of-sums.ensures c.requires.well_formed c.requires.few c.args.vehicle c.requires.vehicle c.requires.same c.list-list.ensures.value c.list-list.ensures.few c.args.from c.args.to c.requires.order c.requires.place c.requires.nodes (c.between-total-else-reversed.ensures _ _ _ _) in
+    let kept = kept_on c.requires.route_sums c.args.v c.requires.owner c.of-sums.ensures c.args.closed.well_formed c.requires.few c.args.vehicle c.requires.vehicle c.requires.same c.list-list.ensures.value c.list-list.ensures.few c.args.from c.args.to c.requires.order c.requires.place c.requires.nodes (c.between-total-else-reversed.ensures _ _ _ _) in
     let jump = kept.jump in
     c.jump-else-reversed.ensures.value jump.others jump.many jump.ends (kept.read ∙ jump.sum)
     ∙ (ap (walked m p c.args.vehicle c.args.walk.now) (sym jump.is) ∙ ap₂ (λ l b. walked m p c.args.vehicle c.args.walk.now (cond b (reverse (slice_range l c.args.from c.args.to)) (slice_range l c.args.from c.args.to))) c.list-list.ensures.value (sym c.if-reversed.false))

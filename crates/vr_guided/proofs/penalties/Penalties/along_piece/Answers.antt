@@ -42,7 +42,7 @@ along_kept-requires-clause-place c =
 pub along_kept-requires-clause-nodes : goal.along_kept-requires-clause-nodes
 along_kept-requires-clause-nodes c =
     let x = c.in-Chain in
-    let Below : ℕ → Type 0 = λ node. node < c.args.model.now.nodes in
+    let Below : ℕ → Type 0 = λ node. node < c.args.closed.model.now.nodes in
     chain-all Below c.args.routes.now.lists x.v x.from x.to x.reversed (subst (λ q. All Below (nodes_of c.args.routes.now.lists q)) x.is c.requires.nodes)
 
 pub along_kept-requires-clause-room : goal.along_kept-requires-clause-room
@@ -59,4 +59,4 @@ along_back-requires-clause-nodes c =
     let lists = c.args.routes.now.lists in
     let here : nodes_of lists c.args.piece.now ≡ reverse (slice_range c.list.result.now x.from x.to) =
     ap (nodes_of lists) (x.is ∙ ap (λ b. Chain x.v x.from x.to b) c.if-reversed.true) ∙ ap (λ xs. reverse (slice_range xs x.from x.to)) (sym c.list.ensures.value) in
-    all_unreversed (λ node. node < c.args.model.now.nodes) (slice_range c.list.result.now x.from x.to) (subst (λ xs. All (λ node. node < c.args.model.now.nodes) xs) here c.requires.nodes)
+    all_unreversed (λ node. node < c.args.closed.model.now.nodes) (slice_range c.list.result.now x.from x.to) (subst (λ xs. All (λ node. node < c.args.closed.model.now.nodes) xs) here c.requires.nodes)

@@ -11,19 +11,19 @@ use Rattle.vr_guided.proofs.penalties.Penalties.change.Goals as goal
 
 pub change_of_part-first-requires-clause-part : goal.change_of_part-first-requires-clause-part
 change_of_part-first-requires-clause-part c =
-    first_part c.requires.well_formed c.requires.valid c.requires.parts c.requires.after c.parts-parts.ensures.value c.parts-parts.ensures.some c.vehicle.ensures c.pieces.ensures.value
+    first_part c.args.closed.well_formed c.requires.valid c.requires.parts c.requires.after c.parts-parts.ensures.value c.parts-parts.ensures.some c.vehicle.ensures c.pieces.ensures.value
 
 pub change_of_part-requires-clause-part : goal.change_of_part-requires-clause-part
 change_of_part-requires-clause-part c =
-    second_part c.requires.well_formed c.requires.valid c.requires.parts c.requires.after c.parts-parts.ensures.value c.parts-parts.ensures.some c.if-parts-eq1.false c.vehicle-2.ensures c.pieces-2.ensures.value
+    second_part c.args.closed.well_formed c.requires.valid c.requires.parts c.requires.after c.parts-parts.ensures.value c.parts-parts.ensures.some c.if-parts-eq1.false c.vehicle-2.ensures c.pieces-2.ensures.value
 
 pub returns-then-not-is_any-clause-value : goal.returns-then-not-is_any-clause-value
 returns-then-not-is_any-clause-value c =
-    sym (unchanged c.args.model.now (counted c.args.self.now) c.args.routes.now.lists (changed c.args.routes.now.lists c.args.change.now) (c.is_any.ensures c.if-not-is_any.true))
+    sym (unchanged c.args.closed.model.now (counted c.args.self.now) c.args.routes.now.lists (changed c.args.routes.now.lists c.args.change.now) (c.is_any.ensures c.if-not-is_any.true))
 
 pub returns-then-parts-eq1-clause-value : goal.returns-then-parts-eq1-clause-value
 returns-then-parts-eq1-clause-value c =
-    let m = c.args.model.now in
+    let m = c.args.closed.model.now in
     let p = counted c.args.self.now in
     let lists = c.args.routes.now.lists in
     let first = c.change_of_part-first.ensures in
@@ -34,7 +34,7 @@ returns-then-parts-eq1-clause-value c =
 
 pub returns-clause-value : goal.returns-clause-value
 returns-clause-value c =
-    let m = c.args.model.now in
+    let m = c.args.closed.model.now in
     let p = counted c.args.self.now in
     let lists = c.args.routes.now.lists in
     let first = c.change_of_part-first.ensures in

@@ -12,10 +12,10 @@ use Rattle.vr_guided.proofs.PartLemmas.{as_read, part_value, new_length}
 use Rattle.vr_guided.proofs.penalties.Penalties.change_of_part.Goals as goal
 
 pub new_stretch-new-requires-clause-start : goal.new_stretch-new-requires-clause-start
-new_stretch-new-requires-clause-start c = c.node_before-start.ensures.below c.args.model.now.nodes c.start_of.ensures.below (subst (λ xs. All (λ node. node < c.args.model.now.nodes) xs) (sym c.list-list.ensures.value) c.requires.part.old_nodes)
+new_stretch-new-requires-clause-start c = c.node_before-start.ensures.below c.args.closed.model.now.nodes c.start_of.ensures.below (subst (λ xs. All (λ node. node < c.args.closed.model.now.nodes) xs) (sym c.list-list.ensures.value) c.requires.part.old_nodes)
 
 pub new_stretch-new-requires-clause-next : goal.new_stretch-new-requires-clause-next
-new_stretch-new-requires-clause-next c = c.node_from-next.ensures.below c.args.model.now.nodes c.end_of.ensures.below (subst (λ xs. All (λ node. node < c.args.model.now.nodes) xs) (sym c.list-list.ensures.value) c.requires.part.old_nodes)
+new_stretch-new-requires-clause-next c = c.node_from-next.ensures.below c.args.closed.model.now.nodes c.end_of.ensures.below (subst (λ xs. All (λ node. node < c.args.closed.model.now.nodes) xs) (sym c.list-list.ensures.value) c.requires.part.old_nodes)
 
 pub new_stretch-new-requires-clause-nodes : goal.new_stretch-new-requires-clause-nodes
 new_stretch-new-requires-clause-nodes c =
@@ -23,8 +23,8 @@ new_stretch-new-requires-clause-nodes c =
     let ends = c.strip-ends.ensures in
     let list : List ℕ = route c.args.routes.now.lists c.args.v in
     let middle : List ℕ = joined lists c.strip-ends.result.middle.now in
-    all_left (λ node. node < c.args.model.now.nodes) middle (drop c.strip-ends.result.behind list)
-    (all_right (λ node. node < c.args.model.now.nodes) (take c.strip-ends.result.front list) (middle ++ drop c.strip-ends.result.behind list) (subst (λ xs. All (λ node. node < c.args.model.now.nodes) xs) ends.joins c.requires.part.nodes))
+    all_left (λ node. node < c.args.closed.model.now.nodes) middle (drop c.strip-ends.result.behind list)
+    (all_right (λ node. node < c.args.closed.model.now.nodes) (take c.strip-ends.result.front list) (middle ++ drop c.strip-ends.result.behind list) (subst (λ xs. All (λ node. node < c.args.closed.model.now.nodes) xs) ends.joins c.requires.part.nodes))
 
 pub returns-clause-low : goal.returns-clause-low
 returns-clause-low c =
@@ -42,7 +42,7 @@ returns-clause-high c =
 
 pub returns-clause-value : goal.returns-clause-value
 returns-clause-value c =
-    let m = c.args.model.now in
+    let m = c.args.closed.model.now in
     let p = counted c.args.self.now in
     let v = c.args.v in
     let lists = c.args.routes.now.lists in

@@ -11,22 +11,22 @@ use Rattle.vr_guided.proofs.penalties.Penalties.greatest.Goals as goal
 
 pub loop-vehicle-init : goal.loop-vehicle-init
 loop-vehicle-init c =
-    ap (λ k. greatest (worth_of c.args.model.now (counted c.args.self.now)) worthless (each (range_with_len 0 k) (λ v. arcs_of c.args.model.now v (route c.args.routes.now.lists v)))) (vehicles_left c.args.model.now c.args.routes.now.lists c.requires.valid)
+    ap (λ k. greatest (worth_of c.args.closed.model.now (counted c.args.self.now)) worthless (each (range_with_len 0 k) (λ v. arcs_of c.args.closed.model.now v (route c.args.routes.now.lists v)))) (vehicles_left c.args.closed.model.now c.args.routes.now.lists c.requires.valid)
 
 pub list-requires : goal.list-requires
-list-requires c = record { vehicle = has_list c.args.model.now c.args.routes.now.lists c.requires.valid c.loop-vehicle-test.true c.len-vehicle-end.ensures }
+list-requires c = record { vehicle = has_list c.args.closed.model.now c.args.routes.now.lists c.requires.valid c.loop-vehicle-test.true c.len-vehicle-end.ensures }
 
 pub greatest_in-best-requires-clause-nodes : goal.greatest_in-best-requires-clause-nodes
-greatest_in-best-requires-clause-nodes c = list_below c.args.model.now c.args.routes.now.lists c.requires.valid c.loop-vehicle.vehicle c.list.ensures.value
+greatest_in-best-requires-clause-nodes c = list_below c.args.closed.model.now c.args.routes.now.lists c.requires.valid c.loop-vehicle.vehicle c.list.ensures.value
 
 pub loop-vehicle-preserved : goal.loop-vehicle-preserved
 loop-vehicle-preserved c =
-    let arcs : ℕ → List UsedArc = λ v. arcs_of c.args.model.now v (route c.args.routes.now.lists v) in
+    let arcs : ℕ → List UsedArc = λ v. arcs_of c.args.closed.model.now v (route c.args.routes.now.lists v) in
     let v = c.loop-vehicle.vehicle in
-    let n = length c.args.model.now.vehicles in
+    let n = length c.args.closed.model.now.vehicles in
     let low : v < n = omega (arith, c.loop-vehicle-test.true, c.len-vehicle-end.ensures) in
-    let worth = worth_of c.args.model.now (counted c.args.self.now) in
-    let here = c.greatest_in-best.ensures ∙ ap (λ xs. greatest worth c.loop-vehicle.best (arcs_of c.args.model.now v xs)) c.list.ensures.value in
+    let worth = worth_of c.args.closed.model.now (counted c.args.self.now) in
+    let here = c.greatest_in-best.ensures ∙ ap (λ xs. greatest worth c.loop-vehicle.best (arcs_of c.args.closed.model.now v xs)) c.list.ensures.value in
     ap (λ b. greatest worth b (each (range_with_len (v + 1) (n - (v + 1))) arcs)) here
     ∙ (sym (greatest_more worth c.loop-vehicle.best (arcs v) (each (range_with_len (v + 1) (n - (v + 1))) arcs))
     ∙ (sym (ap (greatest worth c.loop-vehicle.best) (each_onward arcs v n low)) ∙ c.loop-vehicle.invariant))

@@ -11,7 +11,7 @@ use Rattle.vr_guided.proofs.penalties.Penalties.jump.Goals as goal
 
 pub returns-clause-value : goal.returns-clause-value
 returns-clause-value c nodes many ends sum =
-    let m = c.args.model.now in
+    let m = c.args.closed.model.now in
     let p = counted c.args.self.now in
     let v = c.args.vehicle in
     let first = c.args.first in

@@ -11,12 +11,12 @@ use Rattle.vr_guided.proofs.penalties.Penalties.raise.Goals as goal
 
 pub loop-vehicle-init : goal.loop-vehicle-init
 loop-vehicle-init c =
-    let model = c.args.model.now in
+    let model = c.args.closed.model.now in
     let lists = c.args.routes.now.lists in
     let old = counted c.args.self.now in
     record {
       goes = ap (λ best. raised_in_turn model best old (each (range_with_len 0 (length model.vehicles - 0)) (λ v. arcs_of model v (route lists v)))) c.greatest-greatest.ensures
-          ∙ (ap (λ k. raised_in_turn model (greatest (worth_of model old) worthless (used_arcs model lists)) old (each (range_with_len 0 k) (λ v. arcs_of model v (route lists v)))) (vehicles_left c.args.model.now c.args.routes.now.lists c.requires.valid)
+          ∙ (ap (λ k. raised_in_turn model (greatest (worth_of model old) worthless (used_arcs model lists)) old (each (range_with_len 0 k) (λ v. arcs_of model v (route lists v)))) (vehicles_left c.args.closed.model.now c.args.routes.now.lists c.requires.valid)
           ∙ raised_all model old lists c.requires.costly);
       nodes = c.requires.covers;
       few = at_most_more old 1000000000 _ (omega arith) c.requires.few;
@@ -26,20 +26,20 @@ loop-vehicle-init c =
     }
 
 pub list-requires : goal.list-requires
-list-requires c = record { vehicle = has_list c.args.model.now c.args.routes.now.lists c.requires.valid c.loop-vehicle-test.true c.len-vehicle-end.ensures }
+list-requires c = record { vehicle = has_list c.args.closed.model.now c.args.routes.now.lists c.requires.valid c.loop-vehicle-test.true c.len-vehicle-end.ensures }
 
 pub raise_vehicle-requires-clause-nodes : goal.raise_vehicle-requires-clause-nodes
-raise_vehicle-requires-clause-nodes c = list_below c.args.model.now c.args.routes.now.lists c.requires.valid c.loop-vehicle.vehicle c.list.ensures.value
+raise_vehicle-requires-clause-nodes c = list_below c.args.closed.model.now c.args.routes.now.lists c.requires.valid c.loop-vehicle.vehicle c.list.ensures.value
 
 pub raise_vehicle-requires-clause-short : goal.raise_vehicle-requires-clause-short
-raise_vehicle-requires-clause-short c = list_short c.args.model.now c.args.routes.now.lists c.requires.valid c.requires.well_formed c.loop-vehicle.vehicle c.list.ensures.value
+raise_vehicle-requires-clause-short c = list_short c.args.closed.model.now c.args.routes.now.lists c.requires.valid c.args.closed.well_formed c.loop-vehicle.vehicle c.list.ensures.value
 
 pub loop-vehicle-preserved : goal.loop-vehicle-preserved
 loop-vehicle-preserved c =
-    let model = c.args.model.now in
-    let arcs : ℕ → List UsedArc = λ v. arcs_of c.args.model.now v (route c.args.routes.now.lists v) in
+    let model = c.args.closed.model.now in
+    let arcs : ℕ → List UsedArc = λ v. arcs_of c.args.closed.model.now v (route c.args.routes.now.lists v) in
     let v = c.loop-vehicle.vehicle in
-    let n = length c.args.model.now.vehicles in
+    let n = length c.args.closed.model.now.vehicles in
     let best = c.greatest-greatest.result in
     let before = counted c.loop-vehicle.self in
     let rest = each (range_with_len (v + 1) (n - (v + 1))) arcs in

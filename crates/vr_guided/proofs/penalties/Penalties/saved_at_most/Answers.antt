@@ -29,20 +29,20 @@ both_taken before after part other saved more read same here there sum = omega (
 
 pub saved_by_part-first-requires-clause-part : goal.saved_by_part-first-requires-clause-part
 saved_by_part-first-requires-clause-part c =
-    first_part c.requires.well_formed c.requires.valid c.requires.parts c.requires.after c.parts-parts.ensures.value c.parts-parts.ensures.some c.vehicle.ensures c.pieces.ensures.value
+    first_part c.args.closed.well_formed c.requires.valid c.requires.parts c.requires.after c.parts-parts.ensures.value c.parts-parts.ensures.some c.vehicle.ensures c.pieces.ensures.value
 
 pub saved_by_part-requires-clause-part : goal.saved_by_part-requires-clause-part
 saved_by_part-requires-clause-part c =
-    second_part c.requires.well_formed c.requires.valid c.requires.parts c.requires.after c.parts-parts.ensures.value c.parts-parts.ensures.some c.if-parts-eq1.false c.vehicle-2.ensures c.pieces-2.ensures.value
+    second_part c.args.closed.well_formed c.requires.valid c.requires.parts c.requires.after c.parts-parts.ensures.value c.parts-parts.ensures.some c.if-parts-eq1.false c.vehicle-2.ensures c.pieces-2.ensures.value
 
 pub returns-then-not-is_any-clause-most : goal.returns-then-not-is_any-clause-most
 returns-then-not-is_any-clause-most c =
-    let none = unchanged c.args.model.now (counted c.args.self.now) c.args.routes.now.lists (changed c.args.routes.now.lists c.args.change.now) (c.is_any.ensures c.if-not-is_any.true) in
+    let none = unchanged c.args.closed.model.now (counted c.args.self.now) c.args.routes.now.lists (changed c.args.routes.now.lists c.args.change.now) (c.is_any.ensures c.if-not-is_any.true) in
     omega (arith, ints, none)
 
 pub returns-then-parts-eq1-clause-most : goal.returns-then-parts-eq1-clause-most
 returns-then-parts-eq1-clause-most c =
-    let m = c.args.model.now in
+    let m = c.args.closed.model.now in
     let p = counted c.args.self.now in
     let lists = c.args.routes.now.lists in
     let first = c.saved_by_part-first.ensures in
@@ -54,7 +54,7 @@ returns-then-parts-eq1-clause-most c =
 
 pub returns-clause-most : goal.returns-clause-most
 returns-clause-most c =
-    let m = c.args.model.now in
+    let m = c.args.closed.model.now in
     let p = counted c.args.self.now in
     let lists = c.args.routes.now.lists in
     let first = c.saved_by_part-first.ensures in

@@ -14,19 +14,19 @@ use Rattle.vr_guided.proofs.penalties.Penalties.saved_by_list.Goals as goal
 
 pub old_stretch-requires-clause-vehicle : goal.old_stretch-requires-clause-vehicle
 old_stretch-requires-clause-vehicle c =
-    let many = list_of_each c.args.model.now c.args.routes.now.lists c.requires.valid in
+    let many = list_of_each c.args.closed.model.now c.args.routes.now.lists c.requires.valid in
     let low = c.requires.vehicle in
     omega (arith, many, low)
 
 pub old_stretch-requires-clause-nodes : goal.old_stretch-requires-clause-nodes
-old_stretch-requires-clause-nodes c = list_below c.args.model.now c.args.routes.now.lists c.requires.valid c.args.v refl
+old_stretch-requires-clause-nodes c = list_below c.args.closed.model.now c.args.routes.now.lists c.requires.valid c.args.v refl
 
 pub old_stretch-requires-clause-short : goal.old_stretch-requires-clause-short
-old_stretch-requires-clause-short c = list_short c.args.model.now c.args.routes.now.lists c.requires.valid c.requires.well_formed c.args.v refl
+old_stretch-requires-clause-short c = list_short c.args.closed.model.now c.args.routes.now.lists c.requires.valid c.args.closed.well_formed c.args.v refl
 
 pub returns-clause-most : goal.returns-clause-most
 returns-clause-most c =
-    let m = c.args.model.now in
+    let m = c.args.closed.model.now in
     let p = counted c.args.self.now in
     let v = c.args.v in
     let list : List ℕ = route c.args.routes.now.lists v in
@@ -41,5 +41,5 @@ returns-clause-most c =
     let middle : slice_range list 0 n ≡ list = between_from_start list n ∙ take_all n list (omega (arith, is)) in
     let total : c.old_stretch.result ≡ stretch_weight m p v start list last = o.total last [] behind ∙ ap (λ xs. stretch_weight m p v start xs last) middle in
     let same : to_z w128 (of_z w128 c.old_stretch.result) ≡ c.old_stretch.result = omega (arith, ints, o.low, o.high) in
-    let most = whole_most m c.requires.well_formed p c.requires.few v (omega (arith, many, low)) list in
+    let most = whole_most m c.args.closed.well_formed p c.requires.few v (omega (arith, many, low)) list in
     subst (λ z. route_weight m p v list ≤ℤ z) (sym (same ∙ total)) most

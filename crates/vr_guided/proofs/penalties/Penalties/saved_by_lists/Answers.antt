@@ -10,7 +10,7 @@ use Rattle.vr_guided.proofs.penalties.Penalties.saved_by_lists.Goals as goal
 
 pub returns-then-not-is_any-clause-most : goal.returns-then-not-is_any-clause-most
 returns-then-not-is_any-clause-most c =
-    let m = c.args.model.now in
+    let m = c.args.closed.model.now in
     let p = counted c.args.self.now in
     let lists = c.args.routes.now.lists in
     let none = c.is_any.ensures c.if-not-is_any.true in
@@ -20,7 +20,7 @@ pub returns-then-named-clause-most : goal.returns-then-named-clause-most
 returns-then-named-clause-most c =
     let o = c.saved_by_list-first.ensures in
     let same : to_z w128 (of_z w128 c.saved_by_list-first.result) ≡ c.saved_by_list-first.result = omega (arith, ints, o.low, o.high) in
-    let weight = one_named c.args.model.now (counted c.args.self.now) c.args.routes.now.lists c.args.named c.if-named.true in
+    let weight = one_named c.args.closed.model.now (counted c.args.self.now) c.args.routes.now.lists c.args.named c.if-named.true in
     let most = o.most in
     omega (arith, ints, same, weight, most)
 
@@ -30,7 +30,7 @@ returns-clause-most c =
     let q = c.saved_by_list.ensures in
     let same : to_z w128 (of_z w128 (to_z w128 (of_z w128 c.saved_by_list-first.result) +ℤ to_z w128 (of_z w128 c.saved_by_list.result))) ≡ c.saved_by_list-first.result +ℤ c.saved_by_list.result
     = omega (arith, ints, o.low, o.high, q.low, q.high) in
-    let weight = two_named c.args.model.now (counted c.args.self.now) c.args.routes.now.lists c.args.named c.if-named.false in
+    let weight = two_named c.args.closed.model.now (counted c.args.self.now) c.args.routes.now.lists c.args.named c.if-named.false in
     let most = o.most in
     let most_w = q.most in
     omega (arith, ints, same, weight, most, most_w)

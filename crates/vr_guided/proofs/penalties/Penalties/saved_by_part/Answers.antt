@@ -13,7 +13,7 @@ use Rattle.vr_guided.proofs.penalties.Penalties.saved_by_part.Goals as goal
 
 pub returns-clause-most : goal.returns-clause-most
 returns-clause-most c =
-    let m = c.args.model.now in
+    let m = c.args.closed.model.now in
     let p = counted c.args.self.now in
     let v = c.args.v in
     let lists = c.args.routes.now.lists in
@@ -25,6 +25,6 @@ returns-clause-most c =
     let next = some_next (drop behind list) (vehicle_at m v).end in
     let saved : (route_weight m p v list -ℤ route_weight m p v (joined lists pieces)) ≤ℤ c.old_stretch.result
     = subst (λ z. (route_weight m p v list -ℤ route_weight m p v (joined lists pieces)) ≤ℤ z) (sym (o.total next.0 next.1.0 next.1.1))
-    (part_saved m c.requires.well_formed p c.requires.few v part.of_model lists pieces c.strip-ends.result.middle.now c.strip-ends.result.front behind next.0 next.1.0 c.strip-ends.ensures next.1.1 part.nodes) in
+    (part_saved m c.args.closed.well_formed p c.requires.few v part.of_model lists pieces c.strip-ends.result.middle.now c.strip-ends.result.front behind next.0 next.1.0 c.strip-ends.ensures next.1.1 part.nodes) in
     let same : to_z w128 (of_z w128 c.old_stretch.result) ≡ c.old_stretch.result = omega (arith, ints, o.low, o.high) in
     subst (λ z. (route_weight m p v list -ℤ route_weight m p v (joined lists pieces)) ≤ℤ z) (sym same) saved

@@ -6,7 +6,7 @@ use Rattle.vr_guided.proofs.route_sums.AllRouteSums.follow.Goals as goal
 
 pub returns-then-named : goal.returns-then-named
 returns-then-named c lists are is =
-    let m = c.args.model.now in
+    let m = c.args.closed.model.now in
     let later = c.args.routes.now.lists in
     let named = c.in-Some.named in
     let same = subst (SameBut named.v named.w lists) (sym is) (unnamed_kept m lists c.args.mv named (sym c.vehicles_of.ensures ∙ c.in-Some.is)) in
@@ -14,7 +14,7 @@ returns-then-named c lists are is =
 
 pub returns : goal.returns
 returns c lists are is =
-    let m = c.args.model.now in
+    let m = c.args.closed.model.now in
     let later = c.args.routes.now.lists in
     let named = c.in-Some.named in
     let same = subst (SameBut named.v named.w lists) (sym is) (unnamed_kept m lists c.args.mv named (sym c.vehicles_of.ensures ∙ c.in-Some.is)) in

@@ -12,14 +12,14 @@ use Rattle.vr_guided.proofs.sums.Sums.write.Goals as goal
 
 pub loop-node-init : goal.loop-node-init
 loop-node-init c = record {
-  sums = subst (AreArcSums (weight_by c.args.model.now (counted c.args.penalties.now) c.args.back) c.args.v c.get-ends.result.now.start []) (sym c.begin.ensures) (sums-begin (weight_by c.args.model.now (counted c.args.penalties.now) c.args.back) c.args.v c.get-ends.result.now.start);
+  sums = subst (AreArcSums (weight_by c.args.closed.model.now (counted c.args.penalties.now) c.args.back) c.args.v c.get-ends.result.now.start []) (sym c.begin.ensures) (sums-begin (weight_by c.args.closed.model.now (counted c.args.penalties.now) c.args.back) c.args.v c.get-ends.result.now.start);
   at = refl;
-  below = subst (λ x. x.start < c.args.model.now.nodes) (c.get-ends.ensures.value no_vehicle) (c.requires.well_formed.each_vehicle c.args.v no_vehicle c.requires.vehicle).start_in_range;
+  below = subst (λ x. x.start < c.args.closed.model.now.nodes) (c.get-ends.ensures.value no_vehicle) (c.args.closed.well_formed.each_vehicle c.args.v no_vehicle c.requires.vehicle).start_in_range;
 }
 
 pub loop-node-preserved : goal.loop-node-preserved
 loop-node-preserved c =
-    let f = weight_by c.args.model.now (counted c.args.penalties.now) c.args.back in
+    let f = weight_by c.args.closed.model.now (counted c.args.penalties.now) c.args.back in
     let inv = c.loop-node.invariant in
     let k = c.loop-node.node-index in
     let list : List ℕ = c.args.list.now in
@@ -39,7 +39,7 @@ loop-node-preserved c =
 
 pub returns : goal.returns
 returns c =
-    let f = weight_by c.args.model.now (counted c.args.penalties.now) c.args.back in
+    let f = weight_by c.args.closed.model.now (counted c.args.penalties.now) c.args.back in
     let inv = c.loop-node.invariant in
     let list : List ℕ = c.args.list.now in
     let ends = c.get-ends.result.now in

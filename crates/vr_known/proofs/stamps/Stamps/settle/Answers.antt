@@ -8,7 +8,7 @@ use Rattle.vr_known.proofs.stamps.Stamps.settle.Goals.{in-Some, in-None}
 
 pub loop-p-preserved : goal.loop-p-preserved
 loop-p-preserved c =
-    let model = c.args.model.now in
+    let model = c.args.closed.model.now in
     let lists = c.args.routes.now.lists in
     let begin = c.args.self.now in
     let p = c.loop-p.p in

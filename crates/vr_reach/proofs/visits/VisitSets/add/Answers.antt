@@ -6,7 +6,7 @@ use Rattle.vr_reach.proofs.visits.VisitSets.add.Goals as goal
 
 pub returns : goal.returns
 returns c =
-    let m = c.args.model.now in
+    let m = c.args.closed.model.now in
     let d = c.args.d in
     let v = c.args.v in
     let before = c.args.self.now.table_of in

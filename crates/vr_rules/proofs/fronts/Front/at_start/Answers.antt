@@ -8,7 +8,7 @@ levels_at_start-requires-clause-breaks c = c.of-breaks.ensures.exact ∙ ap (λ 
 pub returns : goal.returns
 returns c =
     let v = c.args.v in
-    let breaks : c.of-breaks.result ≡ breaks_of (dimension_at c.args.model.now c.args.d) v = c.of-breaks.ensures.exact ∙ ap (λ dimension. breaks_of dimension v) (sym (c.get.ensures.value no_dimension)) in
+    let breaks : c.of-breaks.result ≡ breaks_of (dimension_at c.args.closed.model.now c.args.d) v = c.of-breaks.ensures.exact ∙ ap (λ dimension. breaks_of dimension v) (sym (c.get.ensures.value no_dimension)) in
     record {
       front_of_list = record {
         dimension = c.requires.dimension;

@@ -10,7 +10,7 @@ use Rattle.vr_rules.proofs.fronts.Front.ends.Goals as goal
 
 pub returns : goal.returns
 returns g c =
-    let model = c.args.model.now in
+    let model = c.args.closed.model.now in
     let d = c.args.self.now.dimension in
     let v = c.args.self.now.vehicle in
     let whole = c.args.list.now ++ nodes_of c.args.item in
@@ -19,6 +19,6 @@ returns g c =
     let end = ap (λ (vehicle : Vehicle). vehicle.end) (sym (c.get.ensures.value no_vehicle)) in
     let arc = c.hop-arc.ensures.exact ∙ (λ t. hop_between model d v (last t) (end t)) in
     same_test _ _
-    (c.ends.ensures (line model d v whole) (at_end c.lines_are_sound.ensures model c.requires.well_formed d v front.dimension front.vehicle c.reached_behind_arc.ensures whole c.args.walk.now c.step.new.self c.hop-arc.result
+    (c.ends.ensures (line model d v whole) (at_end c.lines_are_sound.ensures model c.args.closed.well_formed d v front.dimension front.vehicle c.reached_behind_arc.ensures whole c.args.walk.now c.step.new.self c.hop-arc.result
     c.args.self.now.ending c.args.self.now.breaks c.requires.here front.breaks c.in_ok-step.ensures.exact arc front.ending c.requires.driven))
     (c.chosen_where_feasible.ensures (line model d v whole))

@@ -13,12 +13,12 @@ step-requires g c =
       few_breaks = front.few_breaks;
       form = c.requires.form;
       arc = c.hop-arc.ensures.sound;
-      cumuls = (visit_set_at c.args.model.now _ _ _ front.visits c.args.node c.index-next.result.now c.index-next.ensures c.requires.visit).cumuls;
+      cumuls = (visit_set_at c.args.closed.model.now _ _ _ front.visits c.args.node c.index-next.result.now c.index-next.ensures c.requires.visit).cumuls;
     }
 
 pub returns-clause-reached : goal.returns-clause-reached
 returns-clause-reached g c =
-    let model = c.args.model.now in
+    let model = c.args.closed.model.now in
     let d = c.args.self.now.dimension in
     let v = c.args.self.now.vehicle in
     let before = c.args.list.now ++ c.args.before ∷ [] in
@@ -26,5 +26,5 @@ returns-clause-reached g c =
     let set = visit_set_at model d v _ front.visits c.args.node c.index-next.result.now c.index-next.ensures c.requires.visit in
     let arc = c.hop-arc.ensures.exact ∙ ap (λ origin. hop_between model d v origin c.args.node) (sym (last_behind (vehicle_at model v).start c.args.list.now (c.args.before ∷ []))) in
     subst (λ list. AreReachedBehind model d v list c.step.new.self) (append_assoc c.args.list.now (c.args.before ∷ []) (c.args.node ∷ []))
-    (behind_visit c.lines_are_sound.ensures model c.requires.well_formed d v front.dimension front.vehicle c.reached_behind_arc.ensures before c.args.walk.now c.step.new.self c.hop-arc.result c.index-next.result.now
+    (behind_visit c.lines_are_sound.ensures model c.args.closed.well_formed d v front.dimension front.vehicle c.reached_behind_arc.ensures before c.args.walk.now c.step.new.self c.hop-arc.result c.index-next.result.now
     c.args.self.now.breaks c.requires.here front.breaks c.in_ok-step.ensures.exact c.args.node arc set)

@@ -11,17 +11,17 @@ leave-requires g c =
       few_breaks = front.few_breaks;
       form = front.form;
       arc = c.hop-arc.ensures.sound;
-      cumuls = (visit_set_at c.args.model.now _ _ _ front.visits c.args.node c.index-next.result.now c.index-next.ensures c.requires.visit).cumuls;
+      cumuls = (visit_set_at c.args.closed.model.now _ _ _ front.visits c.args.node c.index-next.result.now c.index-next.ensures c.requires.visit).cumuls;
     }
 
 pub returns-clause-reached : goal.returns-clause-reached
 returns-clause-reached g c =
-    let model = c.args.model.now in
+    let model = c.args.closed.model.now in
     let d = c.args.self.now.dimension in
     let v = c.args.self.now.vehicle in
     let list = c.args.list.now in
     let front = c.requires.front in
     let set = visit_set_at model d v _ front.visits c.args.node c.index-next.result.now c.index-next.ensures c.requires.visit in
     let arc = c.hop-arc.ensures.exact ∙ ap (λ origin. hop_between model d v origin c.args.node) (c.last_stop-origin.ensures ∙ tail_is model v list) in
-    behind_visit c.lines_are_sound.ensures model c.requires.well_formed d v front.dimension front.vehicle c.reached_behind_arc.ensures list c.args.self.now.here c.leave.new.self c.hop-arc.result c.index-next.result.now
+    behind_visit c.lines_are_sound.ensures model c.args.closed.well_formed d v front.dimension front.vehicle c.reached_behind_arc.ensures list c.args.self.now.here c.leave.new.self c.hop-arc.result c.index-next.result.now
     c.args.self.now.breaks front.reached front.breaks c.in_ok-leave.ensures.exact c.args.node arc set

@@ -20,7 +20,7 @@ returns-in_err-ended-clause-told_in_part g c =
 
 pub forbid-requires-clause-mv : goal.forbid-requires-clause-mv
 forbid-requires-clause-mv g c =
-    let model = c.args.model.now in
+    let model = c.args.closed.model.now in
     let lists = c.args.routes.now.lists in
     let state = c.args.self.now in
     let found = of_best model lists (next_of model c.args.bounds lists state) c.in-Best.length c.in-Best.candidate (sym c.in-Best.is ∙ c.in_ok-ended.ensures.ends) in
@@ -28,7 +28,7 @@ forbid-requires-clause-mv g c =
 
 pub take-requires-clause-mv : goal.take-requires-clause-mv
 take-requires-clause-mv g c =
-    let model = c.args.model.now in
+    let model = c.args.closed.model.now in
     let lists = c.args.routes.now.lists in
     let state = c.args.self.now in
     let found = of_best model lists (next_of model c.args.bounds lists state) c.in-Best.length c.in-Best.candidate (sym c.in-Best.is ∙ c.in_ok-ended.ensures.ends) in
@@ -36,7 +36,7 @@ take-requires-clause-mv g c =
 
 pub take-requires-clause-valid : goal.take-requires-clause-valid
 take-requires-clause-valid g c =
-    let model = c.args.model.now in
+    let model = c.args.closed.model.now in
     let lists = c.args.routes.now.lists in
     let state = c.args.self.now in
     let found = of_best model lists (next_of model c.args.bounds lists state) c.in-Best.length c.in-Best.candidate (sym c.in-Best.is ∙ c.in_ok-ended.ensures.ends) in
@@ -44,7 +44,7 @@ take-requires-clause-valid g c =
 
 pub returns-in_err-take-in-Best-clause-told_in_part : goal.returns-in_err-take-in-Best-clause-told_in_part
 returns-in_err-take-in-Best-clause-told_in_part g c =
-    let model = c.args.model.now in
+    let model = c.args.closed.model.now in
     let lists = c.args.routes.now.lists in
     let state = c.args.self.now in
     let found = of_best model lists (next_of model c.args.bounds lists state) c.in-Best.length c.in-Best.candidate (sym c.in-Best.is ∙ c.in_ok-ended.ensures.ends) in
@@ -54,7 +54,7 @@ returns-in_err-take-in-Best-clause-told_in_part g c =
 
 pub returns-in_ok-take-in-Best-clause-outcome : goal.returns-in_ok-take-in-Best-clause-outcome
 returns-in_ok-take-in-Best-clause-outcome g c =
-    let model = c.args.model.now in
+    let model = c.args.closed.model.now in
     let lists = c.args.routes.now.lists in
     let state = c.args.self.now in
     let mv = c.in-Best.candidate.mv in
@@ -74,7 +74,7 @@ returns-in_ok-take-in-Best-clause-outcome g c =
 
 pub returns-in_ok-take-in-Best-clause-told : goal.returns-in_ok-take-in-Best-clause-told
 returns-in_ok-take-in-Best-clause-told g c =
-    let model = c.args.model.now in
+    let model = c.args.closed.model.now in
     let lists = c.args.routes.now.lists in
     let state = c.args.self.now in
     let found = of_best model lists (next_of model c.args.bounds lists state) c.in-Best.length c.in-Best.candidate (sym c.in-Best.is ∙ c.in_ok-ended.ensures.ends) in
@@ -83,7 +83,7 @@ returns-in_ok-take-in-Best-clause-told g c =
 
 pub returns-in-Stuck-clause-outcome : goal.returns-in-Stuck-clause-outcome
 returns-in-Stuck-clause-outcome g c =
-    let model = c.args.model.now in
+    let model = c.args.closed.model.now in
     let lists = c.args.routes.now.lists in
     let state = c.args.self.now in
     let more = apart state.at.found c.args.bounds.limit.solutions c.requires.more in
@@ -91,7 +91,7 @@ returns-in-Stuck-clause-outcome g c =
 
 pub returns-in-Cut-clause-outcome : goal.returns-in-Cut-clause-outcome
 returns-in-Cut-clause-outcome g c =
-    let model = c.args.model.now in
+    let model = c.args.closed.model.now in
     let lists = c.args.routes.now.lists in
     let state = c.args.self.now in
     let more = apart state.at.found c.args.bounds.limit.solutions c.requires.more in

@@ -6,11 +6,11 @@ use Rattle.vr_model.proofs.routes.Lists.{are-lists}
 use Rattle.vr_tabu.proofs.searching.State.forbid.Goals as goal
 
 pub follow-requires-clause-are_lists : goal.follow-requires-clause-are_lists
-follow-requires-clause-are_lists c = are-lists c.args.model.now c.args.routes.now.lists c.requires.valid
+follow-requires-clause-are_lists c = are-lists c.args.closed.model.now c.args.routes.now.lists c.requires.valid
 
 pub follow-requires-clause-after : goal.follow-requires-clause-after
 follow-requires-clause-after c =
-    let model = c.args.model.now in
+    let model = c.args.closed.model.now in
     let lists = c.args.routes.now.lists in
     subst (λ after. IsTrue (are_lists model after)) (sym c.write.ensures.lists_are)
-    (moves_keep_lists model c.requires.well_formed lists c.args.mv (are-lists model lists c.requires.valid) c.requires.mv)
+    (moves_keep_lists model c.args.closed.well_formed lists c.args.mv (are-lists model lists c.requires.valid) c.requires.mv)

@@ -23,14 +23,14 @@ returns-in_err-commit-clause-told_in_part g c = on_err c.from_residual.result
 
 pub follow-requires-clause-low : goal.follow-requires-clause-low
 follow-requires-clause-low g c =
-    let fits = costs_are_bounded c.args.model.now c.requires.well_formed _ c.requires.valid in
-    let before = costs_are_bounded c.args.model.now c.requires.well_formed _ c.requires.holds.valid in
+    let fits = costs_are_bounded c.args.closed.model.now c.args.closed.well_formed _ c.requires.valid in
+    let before = costs_are_bounded c.args.closed.model.now c.args.closed.well_formed _ c.requires.holds.valid in
     omega (arith, ints, c.requires.cost, c.requires.known, fits.least, fits.greatest, before.least, before.greatest)
 
 pub follow-requires-clause-high : goal.follow-requires-clause-high
 follow-requires-clause-high g c =
-    let fits = costs_are_bounded c.args.model.now c.requires.well_formed _ c.requires.valid in
-    let before = costs_are_bounded c.args.model.now c.requires.well_formed _ c.requires.holds.valid in
+    let fits = costs_are_bounded c.args.closed.model.now c.args.closed.well_formed _ c.requires.valid in
+    let before = costs_are_bounded c.args.closed.model.now c.args.closed.well_formed _ c.requires.holds.valid in
     omega (arith, ints, c.requires.cost, c.requires.known, fits.least, fits.greatest, before.least, before.greatest)
 
 pub follow-requires-clause-visits : goal.follow-requires-clause-visits
@@ -38,51 +38,51 @@ follow-requires-clause-visits g c = c.requires.best.same_visits ∙ sym (ap (λ 
 
 pub follow-requires-clause-many : goal.follow-requires-clause-many
 follow-requires-clause-many g c =
-    as_many c.args.model.now c.args.self.now.best.routes.lists c.commit.new.routes.lists c.requires.best.valid
-    (subst (λ r. IsTrue (is_valid c.args.model.now r.lists)) (sym c.in_ok-commit.ensures.routes) (subst (λ (m : Model). IsTrue (is_valid c.args.model.now (apply m c.args.routes.now.lists c.args.candidate.mv))) (sym c.requires.judge_model) c.requires.valid))
+    as_many c.args.closed.model.now c.args.self.now.best.routes.lists c.commit.new.routes.lists c.requires.best.valid
+    (subst (λ r. IsTrue (is_valid c.args.closed.model.now r.lists)) (sym c.in_ok-commit.ensures.routes) (subst (λ (m : Model). IsTrue (is_valid c.args.closed.model.now (apply m c.args.routes.now.lists c.args.candidate.mv))) (sym c.requires.judge_model) c.requires.valid))
 
 pub returns-in_err-note_all-clause-told_in_part : goal.returns-in_err-note_all-clause-told_in_part
 returns-in_err-note_all-clause-told_in_part g c =
-    let after = apply c.args.model.now c.args.routes.now.lists c.args.candidate.mv in
-    let fits = costs_are_bounded c.args.model.now c.requires.well_formed _ c.requires.valid in
-    let before = costs_are_bounded c.args.model.now c.requires.well_formed _ c.requires.holds.valid in
-    let sum : c.args.self.now.at.cost +ℤ to_z w64 (of_z w64 c.args.candidate.difference) ≡ cost c.args.model.now after = omega (arith, ints, c.requires.cost, c.requires.known, fits.least, fits.greatest, before.least, before.greatest) in
-    let at : c.follow.new.self.at ≡ after_move c.args.model.now c.args.routes.now.lists c.args.candidate.mv c.args.length c.args.self.now.at
+    let after = apply c.args.closed.model.now c.args.routes.now.lists c.args.candidate.mv in
+    let fits = costs_are_bounded c.args.closed.model.now c.args.closed.well_formed _ c.requires.valid in
+    let before = costs_are_bounded c.args.closed.model.now c.args.closed.well_formed _ c.requires.holds.valid in
+    let sum : c.args.self.now.at.cost +ℤ to_z w64 (of_z w64 c.args.candidate.difference) ≡ cost c.args.closed.model.now after = omega (arith, ints, c.requires.cost, c.requires.known, fits.least, fits.greatest, before.least, before.greatest) in
+    let at : c.follow.new.self.at ≡ after_move c.args.closed.model.now c.args.routes.now.lists c.args.candidate.mv c.args.length c.args.self.now.at
     = c.follow.ensures.at ∙ ap {B = Progress} (λ k. record { used = c.args.self.now.at.used + c.args.length; found = c.args.self.now.at.found + 1; cost = k }) sum in
-    let event : c.event.result ≡ move_event c.args.model.now c.args.routes.now.lists c.args.candidate.mv (c.args.self.now.at.used + c.args.length)
+    let event : c.event.result ≡ move_event c.args.closed.model.now c.args.routes.now.lists c.args.candidate.mv (c.args.self.now.at.used + c.args.length)
     = c.event.ensures ∙ ap (λ (p : Progress). record { tries = p.used; kind = kind.Move; cost = p.cost }) at in
     on_err c.from_residual-in_err-note_all.result
     (subst (λ e. ToldInPart (λ w. (goal.Watch-dyn g (w.vtable, w.value)).after w.value) c.args.watch.now.items c.note_all.new.watch.items (e ∷ [])) event c.in_err-note_all.ensures.told_in_part)
 
 pub returns-clause-at : goal.returns-clause-at
 returns-clause-at g c =
-    let after = apply c.args.model.now c.args.routes.now.lists c.args.candidate.mv in
-    let fits = costs_are_bounded c.args.model.now c.requires.well_formed _ c.requires.valid in
-    let before = costs_are_bounded c.args.model.now c.requires.well_formed _ c.requires.holds.valid in
-    let sum : c.args.self.now.at.cost +ℤ to_z w64 (of_z w64 c.args.candidate.difference) ≡ cost c.args.model.now after = omega (arith, ints, c.requires.cost, c.requires.known, fits.least, fits.greatest, before.least, before.greatest) in
-    let at : c.follow.new.self.at ≡ after_move c.args.model.now c.args.routes.now.lists c.args.candidate.mv c.args.length c.args.self.now.at
+    let after = apply c.args.closed.model.now c.args.routes.now.lists c.args.candidate.mv in
+    let fits = costs_are_bounded c.args.closed.model.now c.args.closed.well_formed _ c.requires.valid in
+    let before = costs_are_bounded c.args.closed.model.now c.args.closed.well_formed _ c.requires.holds.valid in
+    let sum : c.args.self.now.at.cost +ℤ to_z w64 (of_z w64 c.args.candidate.difference) ≡ cost c.args.closed.model.now after = omega (arith, ints, c.requires.cost, c.requires.known, fits.least, fits.greatest, before.least, before.greatest) in
+    let at : c.follow.new.self.at ≡ after_move c.args.closed.model.now c.args.routes.now.lists c.args.candidate.mv c.args.length c.args.self.now.at
     = c.follow.ensures.at ∙ ap {B = Progress} (λ k. record { used = c.args.self.now.at.used + c.args.length; found = c.args.self.now.at.found + 1; cost = k }) sum in
     at
 
 pub returns-clause-best : goal.returns-clause-best
 returns-clause-best g c =
-    let after = apply c.args.model.now c.args.routes.now.lists c.args.candidate.mv in
-    let fits = costs_are_bounded c.args.model.now c.requires.well_formed _ c.requires.valid in
-    let before = costs_are_bounded c.args.model.now c.requires.well_formed _ c.requires.holds.valid in
-    let sum : c.args.self.now.at.cost +ℤ to_z w64 (of_z w64 c.args.candidate.difference) ≡ cost c.args.model.now after = omega (arith, ints, c.requires.cost, c.requires.known, fits.least, fits.greatest, before.least, before.greatest) in
-    let at : c.follow.new.self.at ≡ after_move c.args.model.now c.args.routes.now.lists c.args.candidate.mv c.args.length c.args.self.now.at
+    let after = apply c.args.closed.model.now c.args.routes.now.lists c.args.candidate.mv in
+    let fits = costs_are_bounded c.args.closed.model.now c.args.closed.well_formed _ c.requires.valid in
+    let before = costs_are_bounded c.args.closed.model.now c.args.closed.well_formed _ c.requires.holds.valid in
+    let sum : c.args.self.now.at.cost +ℤ to_z w64 (of_z w64 c.args.candidate.difference) ≡ cost c.args.closed.model.now after = omega (arith, ints, c.requires.cost, c.requires.known, fits.least, fits.greatest, before.least, before.greatest) in
+    let at : c.follow.new.self.at ≡ after_move c.args.closed.model.now c.args.routes.now.lists c.args.candidate.mv c.args.length c.args.self.now.at
     = c.follow.ensures.at ∙ ap {B = Progress} (λ k. record { used = c.args.self.now.at.used + c.args.length; found = c.args.self.now.at.found + 1; cost = k }) sum in
-    let routes : c.commit.new.routes ≡ moved c.args.model.now c.args.routes.now c.args.candidate.mv = c.in_ok-commit.ensures.routes ∙ ap (λ (m : Model). moved m c.args.routes.now c.args.candidate.mv) c.requires.judge_model in
-    c.follow.ensures.best ∙ ap (kept c.args.self.now.best c.commit.new.routes) (sum ∙ sym (ap (λ r. cost c.args.model.now r.lists) routes))
+    let routes : c.commit.new.routes ≡ moved c.args.closed.model.now c.args.routes.now c.args.candidate.mv = c.in_ok-commit.ensures.routes ∙ ap (λ (m : Model). moved m c.args.routes.now c.args.candidate.mv) c.requires.judge_model in
+    c.follow.ensures.best ∙ ap (kept c.args.self.now.best c.commit.new.routes) (sum ∙ sym (ap (λ r. cost c.args.closed.model.now r.lists) routes))
 
 pub returns-clause-told : goal.returns-clause-told
 returns-clause-told g c =
-    let after = apply c.args.model.now c.args.routes.now.lists c.args.candidate.mv in
-    let fits = costs_are_bounded c.args.model.now c.requires.well_formed _ c.requires.valid in
-    let before = costs_are_bounded c.args.model.now c.requires.well_formed _ c.requires.holds.valid in
-    let sum : c.args.self.now.at.cost +ℤ to_z w64 (of_z w64 c.args.candidate.difference) ≡ cost c.args.model.now after = omega (arith, ints, c.requires.cost, c.requires.known, fits.least, fits.greatest, before.least, before.greatest) in
-    let at : c.follow.new.self.at ≡ after_move c.args.model.now c.args.routes.now.lists c.args.candidate.mv c.args.length c.args.self.now.at
+    let after = apply c.args.closed.model.now c.args.routes.now.lists c.args.candidate.mv in
+    let fits = costs_are_bounded c.args.closed.model.now c.args.closed.well_formed _ c.requires.valid in
+    let before = costs_are_bounded c.args.closed.model.now c.args.closed.well_formed _ c.requires.holds.valid in
+    let sum : c.args.self.now.at.cost +ℤ to_z w64 (of_z w64 c.args.candidate.difference) ≡ cost c.args.closed.model.now after = omega (arith, ints, c.requires.cost, c.requires.known, fits.least, fits.greatest, before.least, before.greatest) in
+    let at : c.follow.new.self.at ≡ after_move c.args.closed.model.now c.args.routes.now.lists c.args.candidate.mv c.args.length c.args.self.now.at
     = c.follow.ensures.at ∙ ap {B = Progress} (λ k. record { used = c.args.self.now.at.used + c.args.length; found = c.args.self.now.at.found + 1; cost = k }) sum in
-    let event : c.event.result ≡ move_event c.args.model.now c.args.routes.now.lists c.args.candidate.mv (c.args.self.now.at.used + c.args.length)
+    let event : c.event.result ≡ move_event c.args.closed.model.now c.args.routes.now.lists c.args.candidate.mv (c.args.self.now.at.used + c.args.length)
     = c.event.ensures ∙ ap (λ (p : Progress). record { tries = p.used; kind = kind.Move; cost = p.cost }) at in
     subst (λ e. Told (λ w. (goal.Watch-dyn g (w.vtable, w.value)).after w.value) c.args.watch.now.items c.note_all.new.watch.items (e ∷ [])) event c.in_ok-note_all.ensures.told

@@ -1,8 +1,8 @@
 use Rattle.std.proofs.Common.{◌∙◌, ap, sym}
 use Rattle.vr_rules.specs.Placing.{lists_in}
 use Rattle.vr_app.proofs.SolutionLemmas.{first_lists-valid}
-use Rattle.vr_app.proofs.tests.is_searched.Goals as goal
+use Rattle.vr_app_tests.proofs.judged.is_searched.Goals as goal
 
 pub search_from-requires-clause-valid : goal.search_from-requires-clause-valid
 search_from-requires-clause-valid c =
-    first_lists-valid c.args.model.now _ (sym c.in_ok-first.ensures.lists ∙ ap lists_in c.in-Some.is)
+    first_lists-valid c.args.closed.model.now _ (sym c.in_ok-first.ensures.lists ∙ ap lists_in c.in-Some.is)

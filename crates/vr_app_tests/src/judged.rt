@@ -1,63 +1,55 @@
-//! What no test through [`crate::run`] can see.
+//! That the program searches by the judge of filters, which no test through [`vr_app::run`] can see.
 
 ghost use Rattle.std.specs.Prelude.{◌≡◌, IsTrue};
 ghost use Rattle.vr_model.specs.routes.Costs.{cost};
 ghost use Rattle.vr_model.specs.routes.Rules.{is_valid};
 ghost use Rattle.vr_model.specs.tables.Tables.{visits};
-ghost use Rattle.vr_model.specs.tables.WellFormed.{IsWellFormed};
 ghost use Rattle.vr_routes.specs.Judging.{HoldSame};
 
-use crate::first::first_routes;
-use crate::improving::FirstSolution;
-use crate::input::read_owned;
-use crate::search::improve_judged;
 use std::alloc::Global;
 use std::marker::Brand;
 use std::sync::ledger::Blank;
 use std::test::Fail;
+use vr_app::{FirstSolution, first_routes, improve_judged, read_owned};
 use vr_gen::generate;
 use vr_judge::FilterJudge;
-use vr_model::{Model, NoMemory};
+use vr_model::{Closed, NoMemory};
 use vr_routes::Routes;
 use vr_rules::total;
 
 // Searches from a first solution: by the judge of filters, and by no other.
 fn search_by(
     alloc: Global,
-    model: &Model,
+    closed: Closed<'_>,
     judge: &mut FilterJudge<'_>,
     first: FirstSolution,
 ) -> Result<(), NoMemory>
-    requires well_formed { IsWellFormed model.now }
-    requires judge_model { judge.old.model ≡ model.now }
-    requires holds { HoldSame model.now judge.old.lists first.routes }
-    requires first_cost { first.cost ≡ cost model.now first.routes.lists }
+    requires judge_model { judge.old.model ≡ closed.model.now }
+    requires holds { HoldSame closed.model.now judge.old.lists first.routes }
+    requires first_cost { first.cost ≡ cost closed.model.now first.routes.lists }
 {
     let mut none = Vec::new(alloc);
-    improve_judged::<Brand>(alloc, model, judge, first, &mut none, Blank::new(1))?;
+    improve_judged::<Brand>(alloc, closed, judge, first, &mut none, Blank::new(1))?;
     Ok(())
 }
 
 // Searches from routes, by a judge of filters that is opened for it.
-fn search_from(alloc: Global, model: &Model, routes: Routes) -> Result<(), NoMemory>
-    requires well_formed { IsWellFormed model.now }
-    requires of_model { routes.visits ≡ visits model.now }
-    requires valid { IsTrue (is_valid model.now routes.lists) }
+fn search_from(alloc: Global, closed: Closed<'_>, routes: Routes) -> Result<(), NoMemory>
+    requires of_model { routes.visits ≡ visits closed.model.now }
+    requires valid { IsTrue (is_valid closed.model.now routes.lists) }
 {
-    let cost = total(alloc, model, &routes)?;
-    let mut judge = FilterJudge::open(alloc, model, &routes)?;
-    let searched = search_by(alloc, model, &mut judge, FirstSolution { routes, cost });
+    let cost = total(alloc, closed.model, &routes)?;
+    let mut judge = FilterJudge::open(alloc, closed.model, &routes)?;
+    let searched = search_by(alloc, closed, &mut judge, FirstSolution { routes, cost });
     judge.close();
     searched
 }
 
 // Whether a model has a first solution; then it is searched from there.
-fn is_searched(alloc: Global, model: &Model) -> Result<bool, NoMemory>
-    requires { IsWellFormed model.now }
-{
-    match first_routes(alloc, model)? {
+fn is_searched(alloc: Global, closed: Closed<'_>) -> Result<bool, NoMemory> {
+    match first_routes(alloc, closed)? {
         Some(first) => {
-            search_from(alloc, model, first)?;
+            search_from(alloc, closed, first)?;
             Ok(true)
         }
         None => Ok(false),
@@ -68,7 +60,7 @@ fn is_searched(alloc: Global, model: &Model) -> Result<bool, NoMemory>
 fn is_numbered_searched(alloc: Global, number: u64) -> Result<bool, NoMemory> {
     let tree = generate(alloc, number)?;
     match read_owned(alloc, tree) {
-        Ok(model) => is_searched(alloc, &model),
+        Ok(model) => is_searched(alloc, Closed { model: &model }),
         Err(_) => Ok(false),
     }
 }
