@@ -6,12 +6,12 @@ ghost use Rattle.vr_model.specs.tables.Tables.{visits};
 ghost use Rattle.vr_model.specs.tables.WellFormed.{IsWellFormed};
 ghost use Rattle.vr_model.specs.routes.Rules.{is_valid};
 ghost use Rattle.vr_routes.specs.Pieces.{changed, joined, part_at};
-ghost use Rattle.vr_routes.specs.Changes.{IsMadeOn};
+ghost use Rattle.vr_routes.specs.Changes.{IsMadeOn, NothingReady};
 ghost use Rattle.vr_plan.specs.Bounds.{cumul_cost, IsAround};
 ghost use Rattle.vr_earliest.specs.Earlies.{AreEarlies};
 ghost use Rattle.vr_costfilter.specs.GlobalCosts.{global_cost_of, is_some_spanned, IsRow, AreLike, AreRows};
 ghost use Rattle.vr_costfilter.specs.GlobalCosts.{AreSpansReady, IsGlobalCost, StandsSpans};
-ghost use Rattle.vr_parts.specs.Parts.{CostAlike, NothingReady};
+ghost use Rattle.vr_parts.specs.Parts.{CostAlike};
 ghost use Rattle.vr_costfilter.specs.Spreads.{global_least};
 
 use crate::dimensions::AllCumuls;

@@ -5,9 +5,9 @@ ghost use Rattle.vr_model.specs.tables.Tables.{visits};
 ghost use Rattle.vr_model.specs.tables.WellFormed.{IsWellFormed};
 ghost use Rattle.vr_model.specs.routes.Rules.{is_valid};
 ghost use Rattle.vr_routes.specs.Pieces.{changed, part_at};
-ghost use Rattle.vr_routes.specs.Changes.{IsMadeOn};
+ghost use Rattle.vr_routes.specs.Changes.{IsMadeOn, NothingReady};
 ghost use Rattle.vr_earliest.specs.Earlies.{AreEarlies};
-ghost use Rattle.vr_parts.specs.Parts.{CostAlike, NothingReady};
+ghost use Rattle.vr_parts.specs.Parts.{CostAlike};
 ghost use Rattle.vr_costfilter.specs.PlanCosts.{cost_after, pays_no_plan, soft_and_span, AreNextCosts, ArePlansReady};
 ghost use Rattle.vr_costfilter.specs.PlanCosts.{plans_least, IsPlanChange, IsPlanCost, StandsPlans};
 

@@ -1,10 +1,9 @@
 //! Two filters as one.
 
 ghost use Rattle.std.specs.Prelude.{◌≡◌, ◌+◌, ◌≤◌, ◌&&◌, ℕ, Bool, false, List, IsTrue, IfOk, OnOk, OnErr};
-ghost use Rattle.vr_routes.specs.Changes.{IsMadeOn};
+ghost use Rattle.vr_routes.specs.Changes.{IsMadeOn, after};
 ghost use Rattle.vr_routes.specs.Pieces.{ListAfter, changed};
 ghost use Rattle.vr_routes.specs.Tours.{Tours};
-ghost use Rattle.vr_filter.specs.Filters.{after};
 ghost use Rattle.vr_filter.specs.Joined.{both_true};
 
 use crate::PathFilter;

@@ -2,10 +2,9 @@
 
 ghost use Rattle.std.specs.Prelude.{◌≡◌, ◌+◌, ◌≤◌, ℕ, Bool, false, List, All, IsTrue, IfOk, OnOk, OnErr, sum_by};
 ghost use Rattle.std.specs.List.{list_all};
-ghost use Rattle.vr_routes.specs.Changes.{IsMadeOn};
+ghost use Rattle.vr_routes.specs.Changes.{IsMadeOn, after};
 ghost use Rattle.vr_routes.specs.Pieces.{ListAfter, changed};
 ghost use Rattle.vr_routes.specs.Tours.{Tours};
-ghost use Rattle.vr_filter.specs.Filters.{after};
 ghost use Rattle.vr_filter.specs.Joined.{all_true};
 
 use crate::PathFilter;

@@ -1,10 +1,10 @@
 //! What a filter of changes is.
 
 ghost use Rattle.std.specs.Prelude.{◌≡◌, ◌+◌, ◌≤◌, ℕ, Bool, false, List, IsTrue, IfOk, OnOk, OnErr};
-ghost use Rattle.vr_routes.specs.Changes.{IsMadeOn};
+ghost use Rattle.vr_routes.specs.Changes.{IsMadeOn, after, NothingReady};
 ghost use Rattle.vr_routes.specs.Pieces.{ListAfter, changed};
 ghost use Rattle.vr_routes.specs.Tours.{Tours};
-ghost use Rattle.vr_filter.specs.Filters.{after, IsSameRule, IsSameWeight, NothingReady};
+ghost use Rattle.vr_filter.specs.Filters.{IsSameRule, IsSameWeight};
 
 use std::sync::ledger::Ledger;
 use vr_model::{NoMemory, Steps};

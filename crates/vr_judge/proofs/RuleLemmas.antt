@@ -4,7 +4,7 @@ use Rattle.std.specs.Prelude.{◌&&◌, IsTrue, filter}
 use Rattle.std.specs.List.{list_all}
 use Rattle.vr_model.specs.tables.Numbers.{below}
 use Rattle.vr_model.specs.deciding.Testing.{and_left, and_right, and_both, list_all_range, range_list_all}
-use Rattle.vr_model.specs.routes.Routes.{route, holds, are_lists, vehicles}
+use Rattle.vr_model.specs.routes.Routes.{route, holds, are_lists}
 use Rattle.vr_model.specs.routes.Rules.{fits_group, is_open, is_route_open}
 use Rattle.vr_model.specs.routes.Rules.{is_valid, keeps_policy, policy_allows, serves_pair}
 use Rattle.vr_model.specs.schedules.Lines.{line}
@@ -14,6 +14,7 @@ use Rattle.vr_model.specs.declared.records.Pair.{Pair}
 use Rattle.vr_model.proofs.tables.Tests.{same_tests, list_all-true}
 use Rattle.vr_reach.specs.Lists.{is_feasible_list}
 use Rattle.vr_model.specs.tables.Tables.{vehicle_at}
+use Rattle.vr_routes.specs.Tours.{are_routes_open}
 use Rattle.vr_pathfilters.specs.Lists.{holds_of_each}
 use Rattle.vr_pathfilters.proofs.PartTours.{rule_at, rule_of_all}
 use Rattle.vr_pathfilters.specs.Vehicles.{is_allowed_list}
@@ -75,7 +76,7 @@ module _ (model : Model) where
         (list_all_range (λ e. holds_of_each (is_feasible_list model e) lists) 0 (length model.dimensions) feasible d (omega arith) (omega (arith, there))) v low in
         and_both (are_lists model lists) _ are
         (and_both _ _
-        (and_both (list_all (λ v. is_route_open model v (route lists v)) (vehicles lists)) _
+        (and_both (are_routes_open model lists) _
         (rule_of_all (is_route_open model) lists (λ v low. list_opens v (route lists v) (rule_at (is_allowed_list model) lists allowed v low) (rule_at (keeps_pairs model) lists pairs v low) (goes v low)))
         (and_left (list_all (fits_group lists) model.groups) _ groups))
         (and_right (list_all (fits_group lists) model.groups) _ groups))
@@ -84,10 +85,10 @@ module _ (model : Model) where
     unfolding is_valid is_open
     kept_where_valid valid =
         let rest = and_right (are_lists model lists) _ valid in
-        let opens = and_left (list_all (λ v. is_route_open model v (route lists v)) (vehicles lists) && list_all (fits_group lists) model.groups) _ rest in
-        let enough = and_right (list_all (λ v. is_route_open model v (route lists v)) (vehicles lists) && list_all (fits_group lists) model.groups) _ rest in
-        let routes = and_left (list_all (λ v. is_route_open model v (route lists v)) (vehicles lists)) _ opens in
-        let fits = and_right (list_all (λ v. is_route_open model v (route lists v)) (vehicles lists)) _ opens in
+        let opens = and_left (are_routes_open model lists && list_all (fits_group lists) model.groups) _ rest in
+        let enough = and_right (are_routes_open model lists && list_all (fits_group lists) model.groups) _ rest in
+        let routes = and_left (are_routes_open model lists) _ opens in
+        let fits = and_right (are_routes_open model lists) _ opens in
         let each : (v : ℕ) → v < length lists → IsTrue (is_route_open model v (route lists v)) = rule_at (is_route_open model) lists routes in
         and_both (keeps_groups model lists) _ (and_both (list_all (fits_group lists) model.groups) _ fits enough)
         (and_both (holds_of_each (is_allowed_list model) lists) _ (rule_of_all (is_allowed_list model) lists (λ v low. open_allows v (route lists v) (each v low)))

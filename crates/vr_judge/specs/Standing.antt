@@ -6,11 +6,6 @@ use Rattle.vr_routes.specs.Tours.{Tours}
 use Rattle.vr_judge.specs.Rules.{keeps_rules, total_weight}
 use Rattle.vr_judge.specs.Costs.{KeptCosts, StandsCosts}
 
--- what contracts see of a judge: its model, and the lists that it has committed
-pub record Held : Type 0 where
-  pub model : Model
-  pub lists : List (List ℕ)
-
 -- the filters ask what valid lists of the model keep, within its weights; they and the parts of the cost stand at the
 -- lists that are held
 pub record IsJudging (model : Model) (held : Tours) (holds : List (List ℕ) → Bool)

@@ -32,7 +32,7 @@ pub struct FilterJudge<'m> {
 }
 
 impl<'m> Model for FilterJudge<'m> {
-    ghost use Rattle.vr_judge.specs.Standing.{Held};
+    ghost use Rattle.vr_routes.specs.Judging.{Held};
 
     ghost Value = { Held };
 

@@ -30,7 +30,8 @@ pub(crate) struct Judging<'m, F: PathFilter + Drop> {
 }
 
 impl<'m, F: PathFilter + Drop> Model for Judging<'m, F> {
-    ghost use Rattle.vr_judge.specs.Standing.{Held, IsJudging};
+    ghost use Rattle.vr_judge.specs.Standing.{IsJudging};
+    ghost use Rattle.vr_routes.specs.Judging.{Held};
 
     ghost Value = { Held };
 

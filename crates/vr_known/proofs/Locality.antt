@@ -6,7 +6,7 @@ use Rattle.vr_model.specs.deciding.Testing.{and_left, and_right, list_all_range}
 use Rattle.vr_model.specs.tables.Numbers.{below}
 use Rattle.vr_model.specs.tables.Tables.{visits}
 use Rattle.vr_model.specs.tables.WellFormed.{IsWellFormed}
-use Rattle.vr_model.specs.routes.Routes.{route, are_lists, vehicles, is_active}
+use Rattle.vr_model.specs.routes.Routes.{route, are_lists, is_active}
 use Rattle.vr_model.specs.routes.Rules.{is_route_open, is_open, is_valid, is_grouped, has_enough}
 use Rattle.vr_model.specs.moves.Moves.{apply}
 use Rattle.vr_model.specs.moves.MoveTests.{is_move}
@@ -14,6 +14,7 @@ use Rattle.vr_model.specs.declared.records.Model.{Model}
 use Rattle.vr_model.specs.declared.neighbours.Move.{Move}
 use Rattle.vr_model.proofs.routes.Lists.{are-lists}
 use Rattle.vr_model.proofs.moves.KeptLists.{as_many, moves_keep_lists}
+use Rattle.vr_routes.specs.Tours.{are_routes_open}
 use Rattle.vr_known.specs.Locality.{Alike, ValidityIsLocal, MovesAreLocal}
 use Rattle.vr_known.proofs.Local.{ComesToSame, IsLocal, is_local, moves_local}
 
@@ -32,31 +33,28 @@ module _ (model : Model) where
   abbrev enough : (ℕ → Bool) → Bool
   enough active = list_all (λ group. has_enough group.penalty group.max (count_by active group.nodes)) model.groups
 
-  abbrev opens : List (List ℕ) → Bool
-  opens lists = list_all (λ v. is_route_open model v (route lists v)) (vehicles lists)
-
   abbrev together : Bool → Bool → Bool → Bool → Bool → Bool
   together lists open_ fits needed full = lists && ((open_ && fits) && (needed && full))
 
-  valid_is : (lists : List (List ℕ)) → is_valid model lists ≡ together (are_lists model lists) (opens lists) (fit (is_active lists)) (required (is_active lists)) (enough (is_active lists))
+  valid_is : (lists : List (List ℕ)) → is_valid model lists ≡ together (are_lists model lists) (are_routes_open model lists) (fit (is_active lists)) (required (is_active lists)) (enough (is_active lists))
   unfolding is_valid is_open
   valid_is lists = refl
 
   record Keeps (lists : List (List ℕ)) : Type 0 where
-    open_routes : IsTrue (opens lists)
+    open_routes : IsTrue (are_routes_open model lists)
     fits : fit (is_active lists) ≡ true
     needed : required (is_active lists) ≡ true
     full : enough (is_active lists) ≡ true
 
   keeps : (lists : List (List ℕ)) → IsTrue (is_valid model lists) → Keeps lists
   keeps lists valid =
-      let all : IsTrue (together (are_lists model lists) (opens lists) (fit (is_active lists)) (required (is_active lists)) (enough (is_active lists))) = sym (valid_is lists) ∙ valid in
+      let all : IsTrue (together (are_lists model lists) (are_routes_open model lists) (fit (is_active lists)) (required (is_active lists)) (enough (is_active lists))) = sym (valid_is lists) ∙ valid in
       let rest = and_right (are_lists model lists) _ all in
-      let first = and_left (opens lists && fit (is_active lists)) _ rest in
-      let second = and_right (opens lists && fit (is_active lists)) _ rest in
+      let first = and_left (are_routes_open model lists && fit (is_active lists)) _ rest in
+      let second = and_right (are_routes_open model lists && fit (is_active lists)) _ rest in
       record {
-        open_routes = and_left (opens lists) _ first;
-        fits = and_right (opens lists) _ first;
+        open_routes = and_left (are_routes_open model lists) _ first;
+        fits = and_right (are_routes_open model lists) _ first;
         needed = and_left (required (is_active lists)) _ second;
         full = and_right (required (is_active lists)) _ second;
       }
@@ -83,7 +81,7 @@ module _ (model : Model) (lists other : List (List ℕ)) (mv : Move) (both : Ali
   opened u low = rule_local (is_route_open model u) (route lists u) (route other u) (route after u) (route later u)
       (open_at model lists both.valid u low) (open_at model other both.other_valid u (let many = local.many in omega (arith, low, many))) (local.each u)
 
-  opens_local : opens model after ≡ opens model later
+  opens_local : are_routes_open model after ≡ are_routes_open model later
   opens_local =
       ap (λ n. list_all (λ u. is_route_open model u (route after u)) (below n)) (as_many model lists mv)
       ∙ all_same (λ u. is_route_open model u (route after u)) (λ u. is_route_open model u (route later u)) 0 (length lists) (λ u low. opened u (omega (arith, low)))
@@ -102,11 +100,11 @@ validity_is_local model well lists other mv both =
     let there = keeps model other both.other_valid in
     let are : are_lists model now ≡ are_lists model then = moves_keep_lists model well lists mv (are-lists model lists both.valid) both.is_one ∙ sym (moves_keep_lists model well other mv (are-lists model other both.other_valid) h_other) in
     valid_is model now
-    ∙ ap (λ b. together model b (opens model now) (fit model (is_active now)) (required model (is_active now)) (enough model (is_active now))) are
+    ∙ ap (λ b. together model b (are_routes_open model now) (fit model (is_active now)) (required model (is_active now)) (enough model (is_active now))) are
     ∙ ap (λ b. together model (are_lists model then) b (fit model (is_active now)) (required model (is_active now)) (enough model (is_active now))) (opens_local model lists other mv both)
-    ∙ ap (λ b. together model (are_lists model then) (opens model then) b (required model (is_active now)) (enough model (is_active now))) (by_activity model lists other mv both (fit model) here.fits there.fits)
-    ∙ ap (λ b. together model (are_lists model then) (opens model then) (fit model (is_active then)) b (enough model (is_active now))) (by_activity model lists other mv both (required model) here.needed there.needed)
-    ∙ ap (λ b. together model (are_lists model then) (opens model then) (fit model (is_active then)) (required model (is_active then)) b) (by_activity model lists other mv both (enough model) here.full there.full)
+    ∙ ap (λ b. together model (are_lists model then) (are_routes_open model then) b (required model (is_active now)) (enough model (is_active now))) (by_activity model lists other mv both (fit model) here.fits there.fits)
+    ∙ ap (λ b. together model (are_lists model then) (are_routes_open model then) (fit model (is_active then)) b (enough model (is_active now))) (by_activity model lists other mv both (required model) here.needed there.needed)
+    ∙ ap (λ b. together model (are_lists model then) (are_routes_open model then) (fit model (is_active then)) (required model (is_active then)) b) (by_activity model lists other mv both (enough model) here.full there.full)
     ∙ sym (valid_is model then)
 
 pub moves_are_local : MovesAreLocal

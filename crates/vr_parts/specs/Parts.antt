@@ -2,18 +2,8 @@
 use Rattle.std.specs.Prelude.{◌≡◌, ℕ, ℤ, IsTrue, List}
 use Rattle.vr_model.specs.routes.Rules.{is_valid}
 use Rattle.vr_model.specs.declared.records.Model.{Model}
-use Rattle.vr_routes.specs.Pieces.{ListAfter, changed}
-use Rattle.vr_routes.specs.Tours.{Tours}
-
--- the routes after a change
-abbrev pub after : Tours → List ListAfter → Tours
-after tours parts = record { visits = tours.visits; lists = changed tours.lists parts }
 
 -- all valid lists of the model cost the same in a part
 abbrev pub CostAlike : (Model → List (List ℕ) → ℤ) → Model → Type 0
 CostAlike value model = (lists later : List (List ℕ)) → IsTrue (is_valid model lists) → IsTrue (is_valid model later)
     → value model later ≡ value model lists
-
--- no change of any routes is ready
-abbrev pub NothingReady : (Tours → List ListAfter → Type 0) → Type 0
-NothingReady ready = (tours : Tours) (parts : List ListAfter) → ready tours parts → ⊥

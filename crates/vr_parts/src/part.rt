@@ -4,9 +4,8 @@ ghost use Rattle.std.specs.Prelude.{◌≡◌, ◌-ℤ◌, ℕ, ℤ, List, IsTru
 ghost use Rattle.vr_model.specs.routes.Rules.{is_valid};
 ghost use Rattle.vr_model.specs.declared.records.Model.{Model as RoutingModel};
 ghost use Rattle.vr_routes.specs.Pieces.{ListAfter, changed};
-ghost use Rattle.vr_routes.specs.Changes.{IsMadeOn};
+ghost use Rattle.vr_routes.specs.Changes.{IsMadeOn, after, NothingReady};
 ghost use Rattle.vr_routes.specs.Tours.{Tours};
-ghost use Rattle.vr_parts.specs.Parts.{after, NothingReady};
 
 use vr_model::NoMemory;
 use vr_routes::{Change, Routes};

@@ -3,10 +3,9 @@ use Rattle.std.specs.Prelude.{List}
 use Rattle.vr_model.specs.declared.records.Model.{Model}
 use Rattle.vr_routes.specs.Tours.{Tours}
 use Rattle.vr_routes.specs.Pieces.{ListAfter}
-use Rattle.vr_routes.specs.Changes.{IsMadeOn}
+use Rattle.vr_routes.specs.Changes.{IsMadeOn, after}
 use Rattle.vr_routes.proofs.CommitLemmas.{as_many_lists, once_after, entry_after}
 use Rattle.std.proofs.Common.{◌∙◌}
-use Rattle.vr_filter.specs.Filters.{after}
 use Rattle.vr_pathfilters.specs.TourLists.{AreTours}
 
 -- the lists after a change are tours too

@@ -12,14 +12,13 @@ use Rattle.vr_model.proofs.tables.Members.{In, of_filter}
 use Rattle.vr_routes.specs.Seats.{IsSeat}
 use Rattle.vr_routes.specs.Tours.{Tours}
 use Rattle.vr_routes.specs.Pieces.{ListAfter, joined, changed, part_at, no_part}
-use Rattle.vr_routes.specs.Changes.{IsMadeOn, AreParts}
+use Rattle.vr_routes.specs.Changes.{IsMadeOn, AreParts, after}
 use Rattle.vr_routes.proofs.SeatLemmas.{active_at}
 use Rattle.vr_model.proofs.routes.Lists.{place_of_held}
 use Rattle.vr_routes.proofs.CommitLemmas.{as_many_lists}
 use Rattle.vr_routes.proofs.PartLemmas.{part_is, part_or_before}
 use Rattle.vr_reach.specs.Lists.{IsTour}
 use Rattle.vr_pathfilters.specs.Lists.{holds_of_each}
-use Rattle.vr_filter.specs.Filters.{after}
 use Rattle.vr_pathfilters.specs.TourLists.{AreTours}
 use Rattle.vr_pathfilters.proofs.AfterChanges.{tours_after}
 

@@ -8,10 +8,10 @@ ghost use Rattle.vr_model.specs.schedules.Weights.{weight as weight_in, list_wei
 ghost use Rattle.vr_model.specs.routes.Routes.{route};
 ghost use Rattle.vr_model.specs.declared.records.Model.{Model as Defined};
 ghost use Rattle.vr_model.specs.tables.WellFormed.{IsWellFormed, WherePresent};
-ghost use Rattle.vr_routes.specs.Changes.{IsMadeOn};
+ghost use Rattle.vr_routes.specs.Changes.{IsMadeOn, after, NothingReady};
 ghost use Rattle.vr_routes.specs.Pieces.{ListAfter, changed, joined, part_at};
 ghost use Rattle.vr_routes.specs.Tours.{Tours};
-ghost use Rattle.vr_filter.specs.Filters.{after, IsSameRule, IsSameWeight, NothingReady};
+ghost use Rattle.vr_filter.specs.Filters.{IsSameRule, IsSameWeight};
 ghost use Rattle.vr_reach.specs.Lists.{is_feasible_list};
 ghost use Rattle.vr_reach.specs.Stops.{AreStops};
 ghost use Rattle.vr_reach.specs.Tries.{list_tries};

@@ -1,5 +1,5 @@
 -- What a plain judge knows of the lists that it holds.
-use Rattle.std.specs.Prelude.{◌≡◌, ℕ, List, length, ℤ, pos, ◌≤ℤ◌}
+use Rattle.std.specs.Prelude.{◌≡◌, length, ℤ, pos, ◌≤ℤ◌}
 use Rattle.vr_model.specs.routes.Costs.{cost}
 use Rattle.vr_model.specs.tables.Tables.{visits}
 use Rattle.vr_model.specs.declared.records.Model.{Model}
@@ -12,8 +12,3 @@ pub record AreKept (model : Model) (held scratch : Tours) (total : ℤ) : Type 0
   pub scratch_for_all : length scratch.lists ≡ length model.vehicles
   pub costs : total ≡ cost model held.lists
   pub least : pos 0 ≤ℤ total
-
--- what contracts see of a plain judge: its model, and the lists that it has committed
-pub record Held : Type 0 where
-  pub model : Model
-  pub lists : List (List ℕ)

@@ -34,7 +34,8 @@ pub struct PlainJudge<'m> {
 }
 
 impl<'m> Model for PlainJudge<'m> {
-    ghost use Rattle.vr_plain.specs.Holding.{AreKept, Held};
+    ghost use Rattle.vr_plain.specs.Holding.{AreKept};
+    ghost use Rattle.vr_routes.specs.Judging.{Held};
 
     ghost Value = { Held };
 

@@ -11,6 +11,14 @@ use Rattle.vr_model.specs.tables.WellFormed.{IsWellFormed}
 use Rattle.vr_routes.specs.Tours.{Tours}
 use Rattle.vr_routes.specs.Pieces.{ListAfter, joined, changed, IsWithin}
 
+-- the routes after a change
+abbrev pub after : Tours → List ListAfter → Tours
+after tours parts = record { visits = tours.visits; lists = changed tours.lists parts }
+
+-- no change of any routes is ready
+abbrev pub NothingReady : (Tours → List ListAfter → Type 0) → Type 0
+NothingReady ready = (tours : Tours) (parts : List ListAfter) → ready tours parts → ⊥
+
 -- the pieces of the part, each within its list, are joined to the list of v
 pub record IsAfter (lists : List (List ℕ)) (part : ListAfter) (v : ℕ) (list : List ℕ) : Type 0 where
   pub vehicle_is : part.vehicle ≡ v

@@ -11,6 +11,11 @@ use Rattle.vr_routes.specs.Tours.{Tours}
 use Rattle.vr_routes.specs.declared.judging.Verdict.{Verdict}
 use Rattle.vr_routes.specs.declared.judging.Verdict.TheVariants.{Refused, Difference}
 
+-- what contracts see of a judge: its model, and the lists that it has committed
+pub record Held : Type 0 where
+  pub model : Model
+  pub lists : List (List ℕ)
+
 -- routes hold the lists that a judge has committed, and they are valid lists of its model
 pub record HoldSame (model : Model) (committed : List (List ℕ)) (routes : Tours) : Type 0 where
   pub same : committed ≡ routes.lists

@@ -1,8 +1,10 @@
 -- What is seen of routes.
-use Rattle.std.specs.Prelude.{◌≡◌, ℕ, ◌<◌, ◌≤◌, List, length, filter, not, IsTrue, All}
+use Rattle.std.specs.Prelude.{◌≡◌, ℕ, ◌<◌, ◌≤◌, Bool, List, length, filter, not, IsTrue, All}
+use Rattle.std.specs.List.{list_all}
 use Rattle.std.specs.List.Sorted.{IsStrictlyIncreasing}
 use Rattle.vr_model.specs.tables.Tables.{is_visit}
-use Rattle.vr_model.specs.routes.Routes.{route, holds, is_active}
+use Rattle.vr_model.specs.routes.Routes.{route, holds, is_active, vehicles}
+use Rattle.vr_model.specs.routes.Rules.{is_route_open}
 use Rattle.vr_routes.specs.Seats.{Seated}
 use Rattle.vr_model.specs.declared.records.Model.{Model}
 
@@ -32,3 +34,7 @@ pub record AreKept (visits seating : Seated) (inactive : List ℕ) : Type 0 wher
 -- each entry of the lists is a visit
 abbrev pub HaveVisits : Model → List (List ℕ) → Type 0
 HaveVisits model lists = (node : ℕ) → IsTrue (is_active lists node) → IsTrue (is_visit model node)
+
+-- each vehicle may drive its list
+abbrev pub are_routes_open : Model → List (List ℕ) → Bool
+are_routes_open model lists = list_all (λ v. is_route_open model v (route lists v)) (vehicles lists)

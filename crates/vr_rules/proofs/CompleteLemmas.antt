@@ -10,9 +10,8 @@ use Rattle.vr_model.specs.routes.Rules.{is_open, is_valid, is_grouped, has_enoug
 use Rattle.vr_model.specs.deciding.Testing.{range_list_all}
 use Rattle.vr_model.proofs.tables.Tests.{clash}
 use Rattle.vr_model.specs.tables.WellFormed.{IsWellFormed}
-use Rattle.vr_routes.specs.Tours.{Tours}
+use Rattle.vr_routes.specs.Tours.{Tours, are_routes_open}
 use Rattle.vr_rules.specs.Placing.{fits_by, is_complete, is_filled_by, is_marked, AreBuilt, AreMarks}
-use Rattle.vr_rules.specs.RoutesOpen.{are_routes_open}
 use Rattle.vr_rules.proofs.OpenLemmas.{one_fails}
 use Rattle.vr_model.proofs.routes.Lists.{visit_below}
 use Rattle.vr_rules.proofs.PlacingLemmas.{list_all-within, count_by-within}

@@ -6,12 +6,13 @@ use Rattle.std.specs.List.{list_all}
 use Rattle.std.proofs.lemmas.Bool.{eqb-true}
 use Rattle.std.proofs.lemmas.List.{length-set}
 use Rattle.vr_model.specs.declared.records.Model.{Model}
-use Rattle.vr_model.specs.routes.Routes.{route, holds, is_active, vehicles}
+use Rattle.vr_model.specs.routes.Routes.{route, holds, is_active}
 use Rattle.vr_model.specs.moves.Moves.{with_route}
 use Rattle.vr_model.specs.routes.Rules.{is_open, is_route_open}
 use Rattle.vr_model.specs.deciding.Testing.{and_left, list_all_range, range_list_all}
 use Rattle.vr_model.proofs.tables.Tests.{clash, fails}
 use Rattle.vr_model.proofs.routes.Lists.{route_set_same, route_set_other}
+use Rattle.vr_routes.specs.Tours.{are_routes_open}
 use Rattle.vr_rules.specs.Openness.{OpennessIsLocal}
 
 -- ---- the lists
@@ -30,17 +31,14 @@ each-route P lists v list low h others w = by (w == v) refl
         same_test : (a b : ℕ) → a ≡ b → (a == b) ≡ true
         same_test a b same = grind arith
 
-abbrev routes_pass : Model → List (List ℕ) → Bool
-routes_pass model lists = list_all (λ v. is_route_open model v (route lists v)) (vehicles lists)
-
-routes_pass-local : (model : Model) (lists : List (List ℕ)) (v : ℕ) (list : List ℕ) → v < length lists → routes_pass model lists ≡ true
-    → routes_pass model (with_route lists v list) ≡ is_route_open model v list
-routes_pass-local model lists v list low all = by (is_route_open model v list) refl
+open-local : (model : Model) (lists : List (List ℕ)) (v : ℕ) (list : List ℕ) → v < length lists → are_routes_open model lists ≡ true
+    → are_routes_open model (with_route lists v list) ≡ is_route_open model v list
+open-local model lists v list low all = by (is_route_open model v list) refl
   where
     count : length (with_route lists v list) ≡ length lists
     count = length-set lists v list
 
-    by : (b : Bool) → is_route_open model v list ≡ b → routes_pass model (with_route lists v list) ≡ b
+    by : (b : Bool) → is_route_open model v list ≡ b → are_routes_open model (with_route lists v list) ≡ b
     by true passes = range_list_all (λ w. is_route_open model w (route (with_route lists v list) w)) 0 (length (with_route lists v list)) (λ w start end. each w (w == v) refl (omega (arith, end, count)))
       where
         each : (w : ℕ) (b : Bool) → (w == v) ≡ b → w < length lists → is_route_open model w (route (with_route lists v list) w) ≡ true
@@ -84,5 +82,5 @@ unfolding is_open
 is_open-local model lists v list nodes are_open low added =
     let same : (node : ℕ) → is_active (with_route lists v list) node ≡ is_active (nodes ∷ lists) node = λ node. is_active-added lists v list nodes node low (added node) in
     ap₂ (λ a b. a && b)
-    (routes_pass-local model lists v list low (and_left (routes_pass model lists) _ are_open))
+    (open-local model lists v list low (and_left (are_routes_open model lists) _ are_open))
     (ap (λ f. list_all f model.groups) (λ t group. nat_le (count_by (λ node. same node t) group.nodes) group.max))

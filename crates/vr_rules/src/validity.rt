@@ -5,7 +5,7 @@ ghost use Rattle.std.specs.List.{list_all};
 ghost use Rattle.vr_model.specs.routes.Routes.{are_lists};
 ghost use Rattle.vr_model.specs.routes.Rules.{is_open as is_open_of, is_valid as is_valid_of};
 ghost use Rattle.vr_rules.specs.Placing.{fits_by, AreMarks};
-ghost use Rattle.vr_rules.specs.RoutesOpen.{are_routes_open as are_routes_open_of};
+ghost use Rattle.vr_routes.specs.Tours.{are_routes_open as are_routes_open_of};
 ghost use Rattle.vr_plan.specs.Tables.{AreTables};
 
 use crate::complete::{is_complete, marked};

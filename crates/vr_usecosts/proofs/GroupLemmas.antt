@@ -14,8 +14,8 @@ use Rattle.vr_model.specs.tables.Numbers.{total_by, number_at, each}
 use Rattle.vr_model.specs.tables.Limits.{greatest_cost}
 use Rattle.vr_model.specs.tables.WellFormed.{IsIn, IsWellFormed, WherePresent}
 use Rattle.vr_model.specs.tables.Tables.{is_visit}
-use Rattle.vr_model.specs.routes.Routes.{are_lists, holds, route, vehicles}
-use Rattle.vr_model.specs.routes.Rules.{active_in, fits_group, is_open, is_route_open, is_valid}
+use Rattle.vr_model.specs.routes.Routes.{are_lists, holds, route}
+use Rattle.vr_model.specs.routes.Rules.{active_in, fits_group, is_open, is_valid}
 use Rattle.vr_model.specs.deciding.Testing.{and_left, and_right}
 use Rattle.vr_model.specs.routes.Costs.{penalty_for, penalty_part}
 use Rattle.vr_model.specs.declared.records.Model.{Model}
@@ -28,6 +28,7 @@ use Rattle.vr_routes.specs.declared.pieces.Piece.{Piece}
 use Rattle.vr_routes.specs.declared.pieces.Piece.TheVariants.{Chain}
 use Rattle.vr_routes.specs.Pieces.{nodes_of}
 use Rattle.vr_routes.specs.Seats.{IsOnce}
+use Rattle.vr_routes.specs.Tours.{are_routes_open}
 use Rattle.vr_balance.specs.Balances.{Turnover, IsBalance, over_pieces}
 use Rattle.vr_balance.proofs.ActiveLemmas.{active-count, sum-same, sum-none, sum-plus, times-held}
 use Rattle.vr_usecosts.specs.Groups.{pay, has_penalty, is_some_paid, saved_by, saved_in, AreSaved, AreFew}
@@ -266,5 +267,5 @@ pub all-fit : (model : Model) (lists : List (List ℕ)) → IsTrue (is_valid mod
 unfolding is_valid is_open
 all-fit model lists valid =
     all-from_list_all (fits_group lists) model.groups
-    (and_right (list_all (λ v. is_route_open model v (route lists v)) (vehicles lists)) (list_all (fits_group lists) model.groups)
+    (and_right (are_routes_open model lists) (list_all (fits_group lists) model.groups)
     (and_left (is_open model lists) _ (and_right (are_lists model lists) _ valid)))

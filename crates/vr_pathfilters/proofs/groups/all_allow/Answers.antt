@@ -1,6 +1,6 @@
 use Rattle.std.proofs.Common.{sym, ap, ◌∙◌}
 use Rattle.std.specs.Prelude.{◌&&◌}
-use Rattle.vr_filter.specs.Filters.{after}
+use Rattle.vr_routes.specs.Changes.{after}
 use Rattle.vr_pathfilters.proofs.AfterChanges.{tours_after}
 use Rattle.vr_pathfilters.specs.Groups.{allows_pieces}
 use Rattle.vr_pathfilters.proofs.GroupLemmas.{whole}

@@ -8,7 +8,7 @@ use Rattle.vr_model.specs.tables.WellFormed.{IsWellFormed}
 use Rattle.vr_model.specs.declared.records.Model.{Model}
 use Rattle.vr_routes.specs.Pieces.{changed}
 use Rattle.vr_routes.specs.Tours.{Tours}
-use Rattle.vr_filter.specs.Filters.{after}
+use Rattle.vr_routes.specs.Changes.{after}
 use Rattle.vr_judge.specs.Costs.{StandsCosts}
 use Rattle.vr_judge.proofs.VerdictLemmas.{tested_as_valid}
 use Rattle.vr_judge.proofs.judging.JudgingJudge.commit.Goals as goal

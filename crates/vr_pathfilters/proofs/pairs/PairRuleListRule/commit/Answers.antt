@@ -3,7 +3,7 @@ use Rattle.vr_model.specs.declared.records.Model.{Model}
 use Rattle.vr_lists.specs.Pairs.{keeps_pairs}
 use Rattle.vr_routes.specs.Pieces.{joined, part_at}
 use Rattle.vr_routes.proofs.CommitLemmas.{once_after}
-use Rattle.vr_filter.specs.Filters.{after}
+use Rattle.vr_routes.specs.Changes.{after}
 use Rattle.vr_pathfilters.proofs.AfterChanges.{tours_after}
 use Rattle.vr_pathfilters.specs.Pairs.{IsListCounted, KnowsPairs}
 use Rattle.vr_pathfilters.proofs.TurnLemmas.{counted_at_first, counted_at_last, counted_part}
