@@ -6,10 +6,10 @@ use Rattle.std.proofs.lemmas.List.{get_or_append_left, get_or_default, get_or_pu
 use Rattle.vr_model.specs.declared.records.Model.{Model}
 use Rattle.vr_model.specs.tables.Tables.{arc_cost, vehicle_at}
 use Rattle.vr_model.specs.routes.Routes.{route}
-use Rattle.vr_balance.specs.Sums.{last_of, path_sum}
+use Rattle.vr_balance.specs.Sums.{last_of, path_sum, line_nodes}
 use Rattle.vr_arccosts.specs.Chains.{chain_of, chain_sum, first_of, turned}
 use Rattle.vr_arccosts.specs.declared.lines.Along.{Along}
-use Rattle.vr_arccosts.specs.Along.{between_cost, line_nodes, no_sums, AreAlong, IsAlong, IsArc}
+use Rattle.vr_arccosts.specs.Along.{between_cost, no_sums, AreAlong, IsAlong, IsArc}
 use Rattle.vr_arccosts.proofs.PathLemmas.{stretch-used}
 use Rattle.vr_arccosts.proofs.PieceLemmas.{chain-costs}
 

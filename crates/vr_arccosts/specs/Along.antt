@@ -1,13 +1,13 @@
 -- Sums of arc costs along the lines of vehicles.
 use Rattle.std.specs.Prelude.{◌≡◌, IsTrue, ℕ, ◌<◌, true, cond, ℤ, pos, ◌+ℤ◌}
-use Rattle.std.specs.Prelude.{List, [], ◌∷◌, ◌++◌, drop, length, slice_index_or, take}
+use Rattle.std.specs.Prelude.{List, [], ◌++◌, drop, length, slice_index_or, take}
 use Rattle.vr_model.specs.tables.Tables.{arc_cost, vehicle_at, visits}
 use Rattle.vr_model.specs.routes.Rules.{is_valid}
 use Rattle.vr_model.specs.tables.WellFormed.{IsWellFormed}
 use Rattle.vr_routes.specs.Tours.{Tours}
 use Rattle.vr_model.specs.routes.Routes.{is_empty, route}
 use Rattle.vr_model.specs.declared.records.Model.{Model}
-use Rattle.vr_balance.specs.Sums.{last_of, path_sum, AreSumsTo}
+use Rattle.vr_balance.specs.Sums.{last_of, line_nodes, path_sum, AreSumsTo}
 use Rattle.vr_arccosts.specs.Chains.{first_of, turned}
 use Rattle.vr_arccosts.specs.declared.lines.Along.{Along}
 
@@ -23,10 +23,6 @@ between_cost model v list f b nodes =
 -- the sums of no line
 abbrev pub no_sums : Along
 no_sums = record { ahead = []; behind = [] }
-
--- the nodes of the line of vehicle v with a list, behind its start
-abbrev pub line_nodes : Model → ℕ → List ℕ → List ℕ
-line_nodes model v list = list ++ (vehicle_at model v).end ∷ []
 
 -- the sums are those of the first n arcs of the line of vehicle v with a list, ahead and backwards
 pub record IsAlongTo (model : Model) (v : ℕ) (list : List ℕ) (n : ℕ) (along : Along) : Type 0 where

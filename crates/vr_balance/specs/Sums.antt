@@ -1,6 +1,12 @@
 -- Sums along paths of nodes.
-use Rattle.std.specs.Prelude.{◌≡◌, ℕ, suc, ◌<◌, ◌≤◌, List, [], ◌∷◌, length, take, ℤ, pos, ◌+ℤ◌, ◌*◌, ◌≤ℤ◌}
+use Rattle.std.specs.Prelude.{◌≡◌, ℕ, suc, ◌<◌, ◌≤◌, List, [], ◌∷◌, ◌++◌, length, take, ℤ, pos, ◌+ℤ◌, ◌*◌, ◌≤ℤ◌}
 use Rattle.vr_model.specs.tables.Numbers.{number_at}
+use Rattle.vr_model.specs.tables.Tables.{vehicle_at}
+use Rattle.vr_model.specs.declared.records.Model.{Model}
+
+-- the nodes of the line of vehicle v with a list, behind its start
+abbrev pub line_nodes : Model → ℕ → List ℕ → List ℕ
+line_nodes model v list = list ++ (vehicle_at model v).end ∷ []
 
 -- what a measure gives of the arcs from a node through others in turn, added up
 abbrev pub path_sum : (ℕ → ℕ → ℤ) → ℕ → List ℕ → ℤ

@@ -12,9 +12,9 @@ use Rattle.vr_model.specs.search.GuidedSearches.{Penalties}
 use Rattle.vr_model.specs.declared.records.Model.{Model}
 use Rattle.vr_guided.specs.Counts.{AtMost}
 use Rattle.vr_guided.specs.RouteSums.{AreAllRouteSums, AreRouteSums, no_route_sums}
-use Rattle.vr_guided.specs.Sums.{AreArcSums, line_nodes, weight_by}
+use Rattle.vr_guided.specs.Sums.{AreArcSums, weight_by}
 use Rattle.vr_guided.specs.Walks.{stretch_weight}
-use Rattle.vr_balance.specs.Sums.{last_of}
+use Rattle.vr_balance.specs.Sums.{last_of, line_nodes}
 use Rattle.vr_guided.specs.declared.route_sums.RouteSums.{RouteSums}
 use Rattle.vr_guided.proofs.ChainLemmas.{AreJump, all-reversed, jump-first, jump-last, jump-range, kept-back, kept-on, total-read}
 use Rattle.vr_guided.proofs.StretchLemmas.{stretch-range, stretch-value}

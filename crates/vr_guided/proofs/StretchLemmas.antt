@@ -11,9 +11,9 @@ use Rattle.vr_model.specs.search.GuidedSearches.{Penalties}
 use Rattle.vr_model.specs.declared.records.Model.{Model}
 use Rattle.vr_model.proofs.routes.Bounded.{up_to-more}
 use Rattle.vr_guided.specs.Counts.{AtMost}
-use Rattle.vr_guided.specs.Sums.{line_nodes, weight_by}
+use Rattle.vr_guided.specs.Sums.{weight_by}
 use Rattle.vr_guided.specs.Walks.{stretch_weight, weight}
-use Rattle.vr_balance.specs.Sums.{last_of}
+use Rattle.vr_balance.specs.Sums.{last_of, line_nodes}
 use Rattle.vr_guided.proofs.BoundLemmas.{last_below, most, path-up_to}
 use Rattle.vr_guided.proofs.LocalChanges.{along}
 use Rattle.vr_guided.proofs.SumLemmas.{stretch-line_nodes}

@@ -4,7 +4,8 @@ use Rattle.vr_model.specs.tables.Tables.{vehicle_at}
 use Rattle.vr_model.specs.routes.Routes.{route}
 use Rattle.vr_model.specs.search.GuidedSearches.{Penalties}
 use Rattle.vr_model.specs.declared.records.Model.{Model}
-use Rattle.vr_guided.specs.Sums.{AreArcSums, line_nodes, weight_by}
+use Rattle.vr_guided.specs.Sums.{AreArcSums, weight_by}
+use Rattle.vr_balance.specs.Sums.{line_nodes}
 use Rattle.vr_guided.specs.declared.route_sums.RouteSums.{RouteSums}
 
 -- the sums of vehicle v with a list, on and back

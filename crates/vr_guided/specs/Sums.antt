@@ -1,8 +1,7 @@
 -- Sums of what arcs add along the lists of vehicles.
-use Rattle.std.specs.Prelude.{◌≡◌, ℕ, suc, ◌<◌, ◌≤◌, ◌*◌, ◌^◌, Bool, cond, List, [], ◌∷◌, ◌++◌, length, take}
+use Rattle.std.specs.Prelude.{◌≡◌, ℕ, suc, ◌<◌, ◌≤◌, ◌*◌, ◌^◌, Bool, cond, List, length, take}
 use Rattle.std.specs.Prelude.{ℤ, pos}
 use Rattle.vr_model.specs.tables.Numbers.{number_at, total_by}
-use Rattle.vr_model.specs.tables.Tables.{vehicle_at}
 use Rattle.vr_model.specs.tables.WellFormed.{IsIn}
 use Rattle.vr_model.specs.routes.Routes.{UsedArc, arcs_from}
 use Rattle.vr_model.specs.search.GuidedSearches.{Penalties}
@@ -25,7 +24,3 @@ HaveWideRange sums = (k : ℕ) → k < length sums → IsIn (pos 0) (pos (k * 2 
 pub record AreArcSums (f : UsedArc → ℤ) (v node : ℕ) (nodes : List ℕ) (sums : List ℤ) : Type 0 where
   pub many : length sums ≡ suc (length nodes)
   pub each : (k : ℕ) → k ≤ length nodes → number_at sums k ≡ total_by f (arcs_from v node (take k nodes))
-
--- where vehicle v goes from its start with a list
-abbrev pub line_nodes : Model → ℕ → List ℕ → List ℕ
-line_nodes model v list = list ++ (vehicle_at model v).end ∷ []

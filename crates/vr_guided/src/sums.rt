@@ -3,12 +3,12 @@
 ghost use Rattle.std.specs.Prelude.{◌≡◌, ◌<◌, ◌≤◌, ◌++◌, ◌∷◌, [], ◌-◌, ◌^◌, ◌+ℤ◌, All, List, ℕ, ℤ, length, pos};
 ghost use Rattle.std.specs.Prelude.{slice_range, take};
 ghost use Rattle.vr_guided.specs.Counts.{AtMost, counted};
-ghost use Rattle.vr_guided.specs.Sums.{AreArcSums, line_nodes, weight_by};
+ghost use Rattle.vr_guided.specs.Sums.{AreArcSums, weight_by};
 ghost use Rattle.vr_model.specs.routes.Routes.{UsedArc, arcs_from};
 ghost use Rattle.vr_model.specs.tables.Numbers.{number_at, total_by};
 ghost use Rattle.vr_model.specs.tables.Tables.{vehicle_at};
 ghost use Rattle.vr_model.specs.tables.WellFormed.{IsIn};
-ghost use Rattle.vr_balance.specs.Sums.{last_of};
+ghost use Rattle.vr_balance.specs.Sums.{last_of, line_nodes};
 
 use crate::penalties::Penalties;
 use arrayvec::ArrayVec;

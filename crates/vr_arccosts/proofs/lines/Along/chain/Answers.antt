@@ -2,7 +2,7 @@ use Rattle.std.proofs.Common.{true, false, ap, arith}
 use Rattle.std.proofs.lemmas.Int.{ints}
 use Rattle.vr_model.specs.tables.Tables.{arc_cost, vehicle_at}
 use Rattle.vr_arccosts.specs.Chains.{chain_of, chain_sum, turned}
-use Rattle.vr_arccosts.specs.Along.{line_nodes}
+use Rattle.vr_balance.specs.Sums.{line_nodes}
 use Rattle.vr_arccosts.proofs.LineLemmas.{chain-kept}
 use Rattle.vr_arccosts.proofs.lines.Along.chain.Goals as goal
 

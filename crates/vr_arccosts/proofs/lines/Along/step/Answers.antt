@@ -1,7 +1,7 @@
 use Rattle.std.proofs.Common.{true, arith}
 use Rattle.std.proofs.lemmas.Int.{ints}
 use Rattle.vr_model.specs.tables.Tables.{arc_cost, vehicle_at}
-use Rattle.vr_arccosts.specs.Along.{line_nodes}
+use Rattle.vr_balance.specs.Sums.{line_nodes}
 use Rattle.vr_arccosts.specs.Chains.{turned}
 use Rattle.vr_arccosts.proofs.LineLemmas.{arc-value}
 use Rattle.vr_arccosts.proofs.lines.Along.step.Goals as goal

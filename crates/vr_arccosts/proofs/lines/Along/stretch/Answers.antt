@@ -1,7 +1,7 @@
 use Rattle.std.proofs.Common.{sym, arith}
 use Rattle.std.proofs.lemmas.Int.{ints}
 use Rattle.vr_model.specs.tables.Tables.{arc_cost, vehicle_at}
-use Rattle.vr_arccosts.specs.Along.{line_nodes}
+use Rattle.vr_balance.specs.Sums.{line_nodes}
 use Rattle.vr_arccosts.proofs.LineLemmas.{line-long, stretch-kept}
 use Rattle.vr_arccosts.proofs.PathLemmas.{stretch-unused}
 use Rattle.vr_arccosts.proofs.lines.Along.stretch.Goals as goal

@@ -2,7 +2,8 @@ use Rattle.std.proofs.Common.{◌≡◌, ◌∙◌, ◌+◌, ◌-◌, ◌<◌, r
 use Rattle.std.specs.Prelude.{slice_index_or}
 use Rattle.vr_model.specs.tables.Tables.{vehicle_at, no_vehicle}
 use Rattle.vr_balance.proofs.Paths.{sums-one}
-use Rattle.vr_arccosts.specs.Along.{line_nodes, IsAlongTo}
+use Rattle.vr_arccosts.specs.Along.{IsAlongTo}
+use Rattle.vr_balance.specs.Sums.{line_nodes}
 use Rattle.vr_arccosts.proofs.LineLemmas.{arc-inside, arc-last, line-long}
 use Rattle.vr_arccosts.proofs.PathLemmas.{last-kept, start-below}
 use Rattle.vr_arccosts.proofs.lines.Along.write.Goals as goal
