@@ -4,13 +4,13 @@ use Rattle.std.specs.Prelude.{nat_lt}
 use Rattle.std.proofs.lemmas.Bool.Decides.{nat_tests}
 use Rattle.serde_json.specs.Data.{Data, depth}
 use Rattle.serde_json.specs.Written.{has_float}
-use Rattle.vr_json.specs.Trees.{line_of}
+use Rattle.vr_json.specs.Trees.{line_of, count, listed}
 use Rattle.vr_json.specs.declared.fault.Fault.{Fault}
 use Rattle.vr_json.proofs.Readings.{Ensures, after, any_value, gives}
 use Rattle.vr_model.specs.tables.Numbers.{below}
 use Rattle.vr_tsplib.specs.Imported.{imported, model_of}
 use Rattle.vr_tsplib.specs.Rows.{demand_of}
-use Rattle.vr_tsplib.specs.Trees.{count, demands, distance, file_nodes, fleet, listed, loads, matrix, plane, plane_row, sites, square, square_row, tree_of, vehicle, weight}
+use Rattle.vr_tsplib.specs.Trees.{demands, distance, file_nodes, fleet, loads, matrix, plane, plane_row, sites, square, square_row, tree_of, vehicle, weight}
 use Rattle.vr_tsplib.specs.declared.files.State.{State}
 use Rattle.vr_tsplib.specs.declared.rows.SiteRow.{SiteRow}
 use Rattle.vr_tsplib.specs.declared.summaries.Distances.{Distances}

@@ -5,7 +5,8 @@ use Rattle.serde_json.specs.View.{items_of}
 use Rattle.serde_json.specs.Written.{has_float, items_have_float}
 use Rattle.vr_model.specs.tables.Numbers.{below}
 use Rattle.vr_gen.specs.Draws.{customers, sites}
-use Rattle.vr_gen.specs.Generated.{count, demand_of, distance, generated, group, listed, loads, model_of, rest, row, search_row, services, times, vehicle, window}
+use Rattle.vr_gen.specs.Generated.{demand_of, distance, generated, group, loads, model_of, rest, row, search_row, services, times, vehicle, window}
+use Rattle.vr_json.specs.Trees.{count, listed}
 use Rattle.vr_gen.specs.declared.draws.Site.{Site}
 use Rattle.vr_gen.specs.declared.draws.Customer.{Customer}
 use Rattle.vr_model.specs.declared.search.Event.{Event}

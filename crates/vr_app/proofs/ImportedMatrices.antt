@@ -22,7 +22,8 @@ use Rattle.vr_tsplib.specs.declared.summaries.Distances.{Distances}
 use Rattle.vr_tsplib.specs.declared.summaries.Distances.TheVariants.{Plane, Full, Lower}
 use Rattle.vr_tsplib.specs.Ranges.{IsLight, IsNear, IsSound}
 use Rattle.vr_tsplib.specs.Roots.{floor_root, nearest}
-use Rattle.vr_tsplib.specs.Trees.{apart, count, distance, file_nodes, listed, matrix, sites, weight, weight_at}
+use Rattle.vr_tsplib.specs.Trees.{apart, distance, file_nodes, matrix, sites, weight, weight_at}
+use Rattle.vr_json.specs.Trees.{count, listed}
 use Rattle.vr_tsplib.proofs.RootLemmas.{floor_root_is}
 use Rattle.vr_tsplib.proofs.TreeLemmas.{apart_low, squares_low, sites_near}
 

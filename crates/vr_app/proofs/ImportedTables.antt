@@ -23,7 +23,8 @@ use Rattle.vr_tsplib.specs.declared.rows.DemandRow.{DemandRow}
 use Rattle.vr_tsplib.specs.declared.files.State.{State}
 use Rattle.vr_tsplib.specs.Ranges.{IsFew}
 use Rattle.vr_tsplib.specs.Rows.{demand_of, demand_row_of}
-use Rattle.vr_tsplib.specs.Trees.{count, demands, file_nodes, fleet, loads, vehicle}
+use Rattle.vr_tsplib.specs.Trees.{demands, file_nodes, fleet, loads, vehicle}
+use Rattle.vr_json.specs.Trees.{count}
 
 -- ---- counts
 

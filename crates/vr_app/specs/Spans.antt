@@ -12,7 +12,8 @@ use Rattle.vr_model.specs.schedules.Lines.{Line, line}
 use Rattle.vr_model.specs.schedules.Schedules.{Plan, span}
 use Rattle.vr_model.specs.declared.records.Dimension.{Dimension}
 use Rattle.vr_model.specs.declared.records.Model.{Model}
-use Rattle.vr_print.specs.Numbers.{count, whole, wholes}
+use Rattle.vr_print.specs.Numbers.{whole, wholes}
+use Rattle.vr_json.specs.Trees.{count}
 use Rattle.vr_printed.specs.Printed.{assignment_of}
 use Rattle.vr_printed.specs.Shape.{printed_in}
 use Rattle.vr_printed.specs.declared.printed.Printed.{Printed}

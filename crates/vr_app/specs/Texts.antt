@@ -5,7 +5,8 @@ use Rattle.vr_json.specs.declared.fault.Fault.{Fault}
 use Rattle.vr_model.specs.routes.Costs.{cost}
 use Rattle.vr_model.specs.routes.Routes.{inactive, is_empty}
 use Rattle.vr_model.specs.declared.records.Model.{Model}
-use Rattle.vr_print.specs.Numbers.{count, whole}
+use Rattle.vr_print.specs.Numbers.{whole}
+use Rattle.vr_json.specs.Trees.{count}
 use Rattle.vr_check.specs.Check.{word_of}
 use Rattle.vr_check.specs.declared.finding.Rule.{Rule}
 use Rattle.vr_app.specs.Found.{Found}

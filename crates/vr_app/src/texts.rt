@@ -3,8 +3,8 @@
 ghost use Rattle.std.specs.Prelude.{◌≡◌, IfOk, OnOk};
 ghost use Rattle.serde_json.specs.Data.{no_members, object, put, string};
 ghost use Rattle.serde_json.specs.View.{view};
-ghost use Rattle.vr_json.specs.Trees.{members_put};
-ghost use Rattle.vr_print.specs.Numbers.{count, whole};
+ghost use Rattle.vr_json.specs.Trees.{members_put, count};
+ghost use Rattle.vr_print.specs.Numbers.{whole};
 ghost use Rattle.vr_app.specs.Texts as texts;
 
 use serde_json::{Value, json};

@@ -18,7 +18,7 @@ use Rattle.vr_json.specs.Kinds.{whole_in, whole, below as below_n}
 use Rattle.vr_model.specs.tables.Numbers.{below}
 use Rattle.vr_model.specs.deciding.Testing.{test_of_within}
 use Rattle.vr_model.proofs.tables.Ranges.{map-below_more}
-use Rattle.vr_gen.specs.Generated.{count, listed}
+use Rattle.vr_json.specs.Trees.{count, listed}
 
 -- a step gives x, and the rest gives y of it
 pub step : {A B E : Type 0} {r : Result A E} {x : A} {y : B} (f : A → Result B E) → r ≡ Ok x → f x ≡ Ok y → and_then r f ≡ Ok y

@@ -36,7 +36,8 @@ use Rattle.vr_read.specs.Visits.{group_node, group as group_of}
 use Rattle.vr_read.specs.Searches.{choices, search_row as search_of}
 use Rattle.vr_gen.specs.declared.draws.Site.{Site}
 use Rattle.vr_gen.specs.declared.draws.Customer.{Customer}
-use Rattle.vr_gen.specs.Generated.{count, listed, apart, distance, row, matrix, values, vehicle, pause, rest, window, services, times, demand_of, loads, dimensions, group, search_row}
+use Rattle.vr_gen.specs.Generated.{apart, distance, row, matrix, values, vehicle, pause, rest, window, services, times, demand_of, loads, dimensions, group, search_row}
+use Rattle.vr_json.specs.Trees.{count, listed}
 use Rattle.vr_gen.proofs.ExactReadings.{All-below, ReadsAs, step, whole_reads, below_reads, array_each, array_below, refuse_none}
 
 -- ---- numbers below a bound

@@ -1,22 +1,12 @@
 -- The tree of a generated model.
 use Rattle.std.specs.Prelude.{ℕ, ◌+◌, ◌-◌, true, List, [], ◌∷◌, map, length, codes, replicate, slice_index_or}
-use Rattle.serde_json.specs.Data.{Data, number, string, array, object, boolean, unsigned, no_members, member, item}
-use Rattle.serde_json.specs.Data.{no_items}
+use Rattle.serde_json.specs.Data.{Data, string, array, object, boolean, no_members, member}
 use Rattle.serde_json.specs.View.{items_of}
 use Rattle.vr_model.specs.tables.Numbers.{below}
+use Rattle.vr_json.specs.Trees.{count, listed, one}
 use Rattle.vr_gen.specs.Draws.{sites, customers}
 use Rattle.vr_gen.specs.declared.draws.Site.{Site}
 use Rattle.vr_gen.specs.declared.draws.Customer.{Customer}
-
-abbrev pub count : ℕ → Data
-count n = number (unsigned n)
-
-abbrev pub listed : {A : Type 0} → (A → Data) → List A → Data
-listed f xs = array (items_of (map f xs))
-
--- an array of one entry
-abbrev pub one : Data → Data
-one d = array (item d no_items)
 
 -- how far two numbers are apart
 abbrev pub apart : ℕ → ℕ → ℕ

@@ -4,6 +4,8 @@ ghost use Rattle.std.specs.Prelude.{◌≡◌, ◌∷◌, ◌+◌, [], map, leng
 ghost use Rattle.serde_json.specs.Data.{string};
 ghost use Rattle.serde_json.specs.View.{view};
 ghost use Rattle.vr_model.specs.tables.Numbers.{below};
+ghost use Rattle.vr_json.specs.Trees as json_trees;
+ghost use Rattle.vr_json.specs.Trees.{count, listed};
 ghost use Rattle.vr_gen.specs.Generated as trees;
 
 use crate::draws::{Customer, Site, customers, sites, words_of};
@@ -84,7 +86,7 @@ fn search_row(alloc: Global) -> Result<Value, NoMemory>
 
 // The vehicles.
 fn vehicles(alloc: Global) -> Result<Value, NoMemory>
-    ensures { IfOk result (λ tree. view tree ≡ trees.listed (λ v. trees.vehicle) (below 6)) }
+    ensures { IfOk result (λ tree. view tree ≡ listed (λ v. trees.vehicle) (below 6)) }
 {
     let mut all = Vec::new(alloc);
     for _v in 0..6u64 {
@@ -95,7 +97,7 @@ fn vehicles(alloc: Global) -> Result<Value, NoMemory>
 
 // The break of each vehicle.
 fn rests(alloc: Global) -> Result<Value, NoMemory>
-    ensures { IfOk result (λ tree. view tree ≡ trees.listed trees.rest (below 6)) }
+    ensures { IfOk result (λ tree. view tree ≡ listed trees.rest (below 6)) }
 {
     let mut all = Vec::new(alloc);
     for v in 0..6u64 {
@@ -106,7 +108,7 @@ fn rests(alloc: Global) -> Result<Value, NoMemory>
 
 // The group of each node but 0.
 fn groups(alloc: Global) -> Result<Value, NoMemory>
-    ensures { IfOk result (λ tree. view tree ≡ trees.listed trees.group (below 60)) }
+    ensures { IfOk result (λ tree. view tree ≡ listed trees.group (below 60)) }
 {
     let mut all = Vec::new(alloc);
     for k in 0..60u64 {
@@ -117,7 +119,7 @@ fn groups(alloc: Global) -> Result<Value, NoMemory>
 
 // Numbers as an array.
 fn counts(alloc: Global, numbers: &[u32]) -> Result<Vec<Value>, NoMemory>
-    ensures { IfOk result (λ values. map view values.items ≡ map trees.count numbers.now) }
+    ensures { IfOk result (λ values. map view values.items ≡ map count numbers.now) }
 {
     let mut values = Vec::new(alloc);
     for &number in numbers {
@@ -151,7 +153,7 @@ fn window(alloc: Global, customers: &[Customer], k: usize) -> Result<Value, NoMe
 fn windows(alloc: Global, customers: &[Customer]) -> Result<Value, NoMemory>
     requires { length customers.now ≤ 60 }
     ensures { IfOk result (λ tree.
-        view tree ≡ trees.listed (trees.window customers.now) (below (length customers.now))) }
+        view tree ≡ listed (trees.window customers.now) (below (length customers.now))) }
 {
     let mut all = Vec::new(alloc);
     for k in 0..customers.len() {
@@ -173,7 +175,7 @@ fn demands(alloc: Global, customers: &[Customer]) -> Result<Vec<u32>, NoMemory>
 
 // An array of one entry.
 fn one(alloc: Global, entry: Value) -> Result<Value, NoMemory>
-    ensures { IfOk result (λ tree. view tree ≡ trees.one (view entry)) }
+    ensures { IfOk result (λ tree. view tree ≡ json_trees.one (view entry)) }
 {
     let mut all = Vec::new(alloc);
     all.push(entry)?;

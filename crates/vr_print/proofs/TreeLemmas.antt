@@ -19,7 +19,8 @@ use Rattle.vr_model.specs.schedules.Choices.{chosen}
 use Rattle.vr_model.specs.schedules.Narrowed.{chosen_line}
 use Rattle.vr_model.specs.schedules.Schedules.{Plan}
 use Rattle.vr_model.proofs.tables.Ranges.{below-more}
-use Rattle.vr_print.specs.Numbers.{count, whole}
+use Rattle.vr_print.specs.Numbers.{whole}
+use Rattle.vr_json.specs.Trees.{count}
 use Rattle.vr_print.specs.Solution.{assignment_tree, tree_of, dimension_tree, used_plans_tree, plans_tree, parts_tree, plan_tree, route_nodes, route_tree}
 
 -- ---- numbers below another

@@ -1,12 +1,9 @@
 -- Numbers as they are printed.
 use Rattle.std.specs.Prelude.{ℕ, ℤ, List, map}
-use Rattle.serde_json.specs.Data.{Data, number, array, unsigned}
+use Rattle.serde_json.specs.Data.{Data, number, array}
 use Rattle.serde_json.specs.Find.{of_integer}
 use Rattle.serde_json.specs.View.{items_of}
-
--- a natural number
-abbrev pub count : ℕ → Data
-count n = number (unsigned n)
+use Rattle.vr_json.specs.Trees.{count}
 
 -- a whole number
 abbrev pub whole : ℤ → Data

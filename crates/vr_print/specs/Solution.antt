@@ -13,7 +13,8 @@ use Rattle.vr_model.specs.declared.records.Parts.{Parts}
 use Rattle.vr_model.specs.declared.records.Report.{Report}
 use Rattle.vr_model.specs.declared.records.End.{End}
 use Rattle.vr_model.specs.declared.records.End.TheVariants as stop
-use Rattle.vr_print.specs.Numbers.{count, counts, whole, wholes}
+use Rattle.vr_print.specs.Numbers.{counts, whole, wholes}
+use Rattle.vr_json.specs.Trees.{count}
 
 -- a plan of a dimension: its break starts, its cumuls, the name of the dimension, and its slacks
 unfoldable pub plan_tree : Dimension → Plan → Data

@@ -2,10 +2,9 @@
 use Rattle.std.specs.Prelude.{ℕ, ◌+◌, ◌-◌, ◌*◌, ◌/◌, ◌==◌, Bool, true, false, List, map, codes, get_or, max, min}
 use Rattle.std.specs.Prelude.{ℤ, ◌-ℤ◌, unsigned_abs, if◌then◌else◌}
 use Rattle.std.specs.List.{range_with_len}
-use Rattle.serde_json.specs.Data.{Data, number, string, array, object, boolean, unsigned, no_members, member, item}
-use Rattle.serde_json.specs.Data.{no_items}
-use Rattle.serde_json.specs.View.{items_of}
+use Rattle.serde_json.specs.Data.{Data, string, object, boolean, no_members, member}
 use Rattle.vr_model.specs.tables.Numbers.{below}
+use Rattle.vr_json.specs.Trees.{count, listed, one}
 use Rattle.vr_tsplib.specs.declared.rows.SiteRow.{SiteRow}
 use Rattle.vr_tsplib.specs.declared.rows.DemandRow.{DemandRow}
 use Rattle.vr_tsplib.specs.declared.files.State.{State}
@@ -14,16 +13,6 @@ use Rattle.vr_tsplib.specs.declared.summaries.Distances.{Distances}
 use Rattle.vr_tsplib.specs.declared.summaries.Distances.TheVariants.{Plane, Full, Lower}
 use Rattle.vr_tsplib.specs.Roots.{nearest}
 use Rattle.vr_tsplib.specs.Rows.{site_of, demand_of}
-
-abbrev pub count : ℕ → Data
-count n = number (unsigned n)
-
-abbrev pub listed : {A : Type 0} → (A → Data) → List A → Data
-listed f xs = array (items_of (map f xs))
-
--- an array of one entry
-abbrev pub one : Data → Data
-one d = array (item d no_items)
 
 -- the nodes of a file, from 1 on
 abbrev pub file_nodes : ℕ → List ℕ

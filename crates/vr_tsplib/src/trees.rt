@@ -5,6 +5,7 @@ ghost use Rattle.std.specs.List.{range_with_len};
 ghost use Rattle.serde_json.specs.Data.{string};
 ghost use Rattle.serde_json.specs.View.{view};
 ghost use Rattle.vr_model.specs.tables.Numbers.{below};
+ghost use Rattle.vr_json.specs.Trees as json_trees;
 ghost use Rattle.vr_tsplib.specs.Trees as trees;
 ghost use Rattle.vr_tsplib.specs.Rows as row_tables;
 ghost use Rattle.vr_tsplib.specs.Ranges.{IsNear};
@@ -20,7 +21,7 @@ use vr_model::NoMemory;
 
 // An array of one entry.
 fn one(alloc: Global, entry: Value) -> Result<Value, NoMemory>
-    ensures { IfOk result (λ tree. view tree ≡ trees.one (view entry)) }
+    ensures { IfOk result (λ tree. view tree ≡ json_trees.one (view entry)) }
 {
     let mut all = Vec::new(alloc);
     all.push(entry)?;

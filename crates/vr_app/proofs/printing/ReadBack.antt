@@ -23,6 +23,7 @@ use Rattle.vr_model.specs.declared.records.Parts.{Parts}
 use Rattle.vr_model.specs.declared.records.Report.{Report}
 use Rattle.vr_model.specs.declared.records.End.{End}
 use Rattle.vr_model.specs.declared.records.End.TheVariants as stop
+use Rattle.vr_json.specs.Trees as trees
 use Rattle.vr_print.specs.Numbers as printed
 use Rattle.vr_print.specs.Solution.{plan_tree, dimension_tree, used_plans_tree, plans_tree, route_nodes, route_tree, parts_tree, word_of, tree_of, routes_tree}
 use Rattle.vr_printed.specs.Tables.{any_whole, any_length, all, plan, printed_route, printed_parts, stop_words, solution}
@@ -47,8 +48,8 @@ numbers_back zs path few h =
 
 nodes_back : (n : ℕ) (nodes : List ℕ) (path : List ℕ) → n ≤ 1000 → length nodes ≤ any_length → All (λ node. node < n) nodes → all (below_n n) path (printed.counts nodes) ≡ Ok nodes
 nodes_back n nodes path small few h =
-    array_each (λ earlier. below_n n) printed.count (λ k. k) 0 any_length path nodes (omega arith) few
-    (All-weaker (λ node. node < n) (ReadsAs (λ earlier. below_n n) printed.count (λ k. k)) (λ k low earlier path. below_reads k (omega (arith, low, small)) n path low) nodes h) ∙ ap Ok (map-id nodes)
+    array_each (λ earlier. below_n n) trees.count (λ k. k) 0 any_length path nodes (omega arith) few
+    (All-weaker (λ node. node < n) (ReadsAs (λ earlier. below_n n) trees.count (λ k. k)) (λ k low earlier path. below_reads k (omega (arith, low, small)) n path low) nodes h) ∙ ap Ok (map-id nodes)
 
 text_back : (s : List ℕ) (path : List ℕ) → length s ≤ any_length → text 0 any_length path (string s) ≡ Ok s
 unfolding text at_path and_then
@@ -159,7 +160,7 @@ parts_back parts path h =
     (step _ (number_back parts.soft _ h.soft)
     (step _ (number_back parts.span _ h.span) refl)))))
 
-count_back : (n : ℕ) (path : List ℕ) → n ≤ 1000000000 → any_whole path (printed.count n) ≡ Ok (pos n)
+count_back : (n : ℕ) (path : List ℕ) → n ≤ 1000000000 → any_whole path (trees.count n) ≡ Ok (pos n)
 count_back n path few = number_back (pos n) path (record { at_least = omega (arith, ints); at_most = omega (arith, ints, few) })
 
 pub solution_back : (n : ℕ) (parts : Parts) (dropped : List ℕ) (tree : Data) (routes : List PrintedRoute) (first_cost : ℤ) (report : Report) (path : List ℕ)

@@ -3,7 +3,7 @@ use Rattle.std.proofs.lemmas.List.{take_all}
 use Rattle.serde_json.specs.Data.{array}
 use Rattle.serde_json.specs.View.{items_of}
 use Rattle.serde_json.proofs.Views.{view-Array}
-use Rattle.vr_print.specs.Numbers.{count}
+use Rattle.vr_json.specs.Trees.{count}
 use Rattle.vr_print.proofs.leaves.counts.Goals as goal
 
 pub returns : goal.returns

@@ -1,7 +1,7 @@
 use Rattle.std.proofs.Common.{arith}
 use Rattle.std.proofs.lemmas.Grind.{common_steps}
 use Rattle.vr_tsplib.specs.Rows.{demand_of}
-use Rattle.vr_tsplib.specs.Trees.{count}
+use Rattle.vr_json.specs.Trees.{count}
 use Rattle.vr_tsplib.proofs.TreeLemmas.{one_node_more}
 use Rattle.vr_tsplib.proofs.trees.demands.Goals as goal
 

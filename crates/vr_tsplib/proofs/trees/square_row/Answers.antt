@@ -1,7 +1,8 @@
 use Rattle.std.proofs.Common.{arith}
 use Rattle.std.proofs.lemmas.Grind.{common_steps}
 use Rattle.vr_model.proofs.tables.Ranges.{map-below_more}
-use Rattle.vr_tsplib.specs.Trees.{count, weight}
+use Rattle.vr_tsplib.specs.Trees.{weight}
+use Rattle.vr_json.specs.Trees.{count}
 use Rattle.vr_tsplib.proofs.trees.square_row.Goals as goal
 
 pub loop-j-preserved : goal.loop-j-preserved

@@ -1,7 +1,8 @@
 use Rattle.std.proofs.Common.{◌≡◌, map}
 use Rattle.serde_json.specs.View.{view}
 use Rattle.vr_model.specs.tables.Numbers.{below}
-use Rattle.vr_tsplib.specs.Trees.{count, weight}
+use Rattle.vr_tsplib.specs.Trees.{weight}
+use Rattle.vr_json.specs.Trees.{count}
 use Rattle.vr_tsplib.proofs.trees.square_row.Given as goal
 
 abbrev pub invariant-loop-j : goal.invariant-loop-j
