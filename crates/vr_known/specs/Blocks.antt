@@ -3,29 +3,16 @@ use Rattle.std.specs.Prelude.{◌≡◌, ◌≢◌, ℕ, ◌+◌, ◌*◌, ◌<�
 use Rattle.std.specs.Prelude.{List, [], ◌∷◌, slice_index_or, length, Option, Some, None, IsTrue}
 use Rattle.vr_model.specs.routes.Routes.{route, holds, is_active}
 use Rattle.vr_model.specs.tables.Tables.{pair_at}
+use Rattle.vr_model.specs.tables.WellFormed.{number_of as kind_at}
 use Rattle.vr_model.specs.declared.records.Model.{Model}
 use Rattle.vr_model.specs.declared.neighbours.Move.{Move}
 use Rattle.vr_model.specs.declared.neighbours.Move.TheVariants.{TwoOpt, OrOpt, Relocate, Exchange, Cross, RelocatePair}
 use Rattle.vr_model.specs.declared.neighbours.Move.TheVariants.{PairActive, PairInactive, MakeActive, MakeInactive}
 use Rattle.vr_model.specs.declared.neighbours.Move.TheVariants.{SwapActive}
 use Rattle.vr_model.specs.declared.neighbours.Neighbourhood.{Neighbourhood}
-use Rattle.vr_model.specs.declared.neighbours.Neighbourhood.TheVariants as all
 
--- the number of a kind of moves: those below 5 name their vehicles, those below 6 change no activity
-abbrev pub kind_at : Neighbourhood → ℕ
-kind_at all.TwoOpt = 0
-kind_at all.OrOpt = 1
-kind_at all.Relocate = 2
-kind_at all.Exchange = 3
-kind_at all.Cross = 4
-kind_at all.RelocatePair = 5
-kind_at all.PairActive = 6
-kind_at all.PairInactive = 7
-kind_at all.MakeActive = 8
-kind_at all.MakeInactive = 9
-kind_at all.SwapActive = 10
-
--- the number of the kind of a move
+-- the number of the kind of a move, that of its neighbourhood: those below 5 name their vehicles, those below 6 change
+-- no activity
 abbrev pub kind_of : Move → ℕ
 kind_of (TwoOpt v a b) = 0
 kind_of (OrOpt v a k t) = 1

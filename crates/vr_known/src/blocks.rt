@@ -2,13 +2,14 @@
 
 ghost use Rattle.std.specs.Prelude.{◌≡◌, ◌<◌};
 ghost use Rattle.vr_known.specs.Blocks as blocks;
+ghost use Rattle.vr_model.specs.tables.WellFormed.{number_of};
 
 use vr_model::{Move, Neighbourhood};
 
 /// The number of a kind of moves.
 #[inline(always)]
 pub(crate) fn kind_at(neighbourhood: Neighbourhood) -> u32
-    ensures value { result ≡ blocks.kind_at neighbourhood }
+    ensures value { result ≡ number_of neighbourhood }
     ensures few { result < 11 }
 {
     match neighbourhood {

@@ -2,10 +2,10 @@
 
 ghost use Rattle.std.specs.Prelude.{◌≡◌, ℕ, ◌⊎◌, ◌<◌, false, IsTrue};
 ghost use Rattle.vr_known.specs.Blocks.{AreSettled, IsApart, Learns, covers, first_of, is_behind, is_kind_of};
-ghost use Rattle.vr_known.specs.Blocks.{is_known, is_later, is_remembered, kind_at, kind_of, rows_of};
+ghost use Rattle.vr_known.specs.Blocks.{is_known, is_later, is_remembered, kind_of, rows_of};
 ghost use Rattle.vr_known.specs.Locality.{HasNoGlobalSpans};
 ghost use Rattle.vr_model.specs.moves.MoveTests.{is_move};
-ghost use Rattle.vr_model.specs.tables.WellFormed.{IsWellFormed};
+ghost use Rattle.vr_model.specs.tables.WellFormed.{IsWellFormed, number_of as kind_at};
 ghost use Rattle.vr_model.specs.declared.neighbours.Move.{Move as Moved};
 
 use crate::stamps::Stamps;

@@ -3,7 +3,8 @@
 ghost use Rattle.std.specs.Prelude.{◌≡◌, ℕ, ◌+◌, ◌<◌, ◌≤◌, IfSome, IsTrue};
 ghost use Rattle.vr_model.specs.declared.neighbours.Move.{Move as Moved};
 ghost use Rattle.vr_routes.specs.Runs.{with_last};
-ghost use Rattle.vr_known.specs.Blocks.{covers, is_remembered, kind_at, rows_of};
+ghost use Rattle.vr_model.specs.tables.WellFormed.{number_of as kind_at};
+ghost use Rattle.vr_known.specs.Blocks.{covers, is_remembered, rows_of};
 ghost use Rattle.vr_known.specs.Passing.{CoversBlock};
 
 use crate::Known;
