@@ -18,9 +18,9 @@ use Rattle.vr_model.specs.declared.neighbours.Move.{Move}
 use Rattle.vr_model.proofs.searches.SearchBounds.{descent_bound_unmet}
 use Rattle.vr_routes.specs.Judging.{cost_change}
 use Rattle.vr_descent.specs.Scanned.{is_acceptable, takes_less}
-use Rattle.vr_descent.specs.Searching.{events_after, move_event, scan_of}
+use Rattle.vr_descent.specs.Searching.{events_after, move_event, scan_of, behind}
 use Rattle.vr_descent.proofs.EndLemmas.{accepted_where}
-use Rattle.vr_descent.proofs.GoingOn.{behind, Goes}
+use Rattle.vr_descent.proofs.GoingOn.{Goes}
 use Rattle.vr_watch.proofs.ToldLemmas.{told_nothing}
 
 less : (a b : ℤ) → int_lt (a -ℤ b) (pos 0) ≡ int_lt a b

@@ -6,10 +6,7 @@ use Rattle.vr_model.specs.declared.records.End.{End}
 use Rattle.vr_model.specs.declared.search.Event.{Event}
 use Rattle.vr_watch.specs.Told.{Told, ToldInPart}
 use Rattle.vr_watch.proofs.ToldLemmas.{told_both, none_behind, in_part_behind}
-
--- these events, and then an outcome
-abbrev pub behind : List Event → Outcome → Outcome
-behind told rest = record rest { events = told ++ rest.events }
+use Rattle.vr_descent.specs.Searching.{behind}
 
 -- the whole search is what is left of it, behind the events that each watcher was told
 pub record Goes {W : Type 0} (after : W → List Event → List ℕ) (whole rest : Outcome) (old new : List W) : Type 0 where

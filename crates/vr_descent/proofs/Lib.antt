@@ -8,3 +8,4 @@ pub mod TakenLemmas
 pub mod PassedLemmas
 pub mod OrderLemmas
 pub mod RefusedLemmas
+pub mod IncumbentLemmas

@@ -3,3 +3,4 @@ pub mod Answering
 pub mod Scanned
 pub mod Refused
 pub mod Searching
+pub mod Incumbents

@@ -1,7 +1,8 @@
 -- Where a search in code stands, and what a scan makes of that.
-use Rattle.std.specs.Prelude.{ℕ, ◌+◌, ◌-◌, Bool, List, [], ◌∷◌, ℤ}
+use Rattle.std.specs.Prelude.{ℕ, ◌+◌, ◌-◌, Bool, List, [], ◌∷◌, ◌++◌, ℤ}
 use Rattle.vr_model.specs.moves.Moves.{apply, moves}
 use Rattle.vr_model.specs.routes.Costs.{cost}
+use Rattle.vr_model.specs.search.Outcomes.{SearchState, Outcome}
 use Rattle.vr_model.specs.search.Scans.{Scan, scan}
 use Rattle.vr_model.specs.search.Scans.Scan.{Accepted, Complete, Cut}
 use Rattle.vr_model.specs.declared.records.Model.{Model}
@@ -14,6 +15,14 @@ use Rattle.vr_routes.specs.Judging.{moved}
 use Rattle.vr_routes.specs.Tours.{Tours}
 use Rattle.vr_descent.specs.Scanned.{is_acceptable}
 use Rattle.vr_descent.specs.declared.progress.Progress.{Progress}
+
+-- where the definition stands
+abbrev pub standing : List (List ℕ) → List (List ℕ) → ℕ → ℕ → SearchState
+standing lists best used found = record { lists = lists; best = best; used = used; found = found }
+
+-- these events, and then an outcome
+abbrev pub behind : List Event → Outcome → Outcome
+behind told rest = record rest { events = told ++ rest.events }
 
 -- the event of a kind where a search stands
 abbrev pub event_of : Progress → Kind → Event

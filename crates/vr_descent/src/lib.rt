@@ -11,12 +11,14 @@
 //! whole search is what was told already, and behind that what it tells of the search from here. No move of these lists
 //! that is known is acceptable.
 //!
-//! `vr_guided` stands on it: it descends where a model asks for that, and scans by penalised costs.
+//! `vr_guided` stands on it: it descends where a model asks for that, and scans by penalised costs. It and
+//! `vr_tabu` go on to lists that cost more, and keep the best ones ([`Incumbent`]).
 #![tactic(auto)]
 
 mod accepting;
 mod descending;
 mod generators;
+mod incumbent;
 mod laws;
 mod listing;
 mod progress;
@@ -24,6 +26,7 @@ mod scanning;
 
 pub use accepting::Accept;
 pub use descending::descend;
+pub use incumbent::Incumbent;
 pub use laws::descent_is_sound;
 pub use listing::{MoveList, moves};
 pub use progress::Progress;

@@ -1,12 +1,7 @@
 -- Guided local search, scan by scan.
-use Rattle.std.proofs.Common.{◌≡◌, ◌∙◌, ℕ, zero, suc, ◌+◌, ◌-◌, ◌≤◌, Bool, true, false, cond, List, [], ◌∷◌, length, refl, sym, ap, ap₂, arith}
-use Rattle.std.proofs.lemmas.Int.{ints}
-use Rattle.std.specs.Prelude.{ℤ, ◌==◌, ◌||◌, not, int_lt, ◌≤ℤ◌, IsTrue}
-use Rattle.vr_model.specs.routes.Costs.{cost}
+use Rattle.std.proofs.Common.{◌≡◌, ◌∙◌, ℕ, zero, suc, ◌+◌, ◌-◌, ◌≤◌, Bool, true, false, cond, List, [], ◌∷◌, length, refl, sym, ap, arith}
+use Rattle.std.specs.Prelude.{◌==◌, ◌||◌, not, IsTrue}
 use Rattle.vr_model.specs.routes.Rules.{is_valid}
-use Rattle.vr_routes.specs.Tours.{Tours}
-use Rattle.vr_guided.specs.Kept.{kept}
-use Rattle.vr_guided.specs.declared.incumbent.Incumbent.{Incumbent}
 use Rattle.vr_model.specs.declared.records.End.{End}
 use Rattle.vr_model.specs.moves.Moves.{apply}
 use Rattle.vr_model.specs.search.Scans.{Scan}
@@ -22,13 +17,14 @@ use Rattle.vr_model.specs.declared.search.Kind.TheVariants as kind
 use Rattle.vr_model.specs.declared.neighbours.Move.{Move}
 use Rattle.vr_model.proofs.routes.Lists.{are-lists, are_lists-count}
 use Rattle.vr_model.proofs.searches.SearchBounds.{guided_bound_unmet}
-use Rattle.vr_descent.specs.Searching.{events_after, move_event, scan_of}
+use Rattle.vr_descent.specs.Searching.{events_after, move_event, scan_of, behind, standing}
 use Rattle.vr_descent.proofs.EndLemmas.{accepted_where, completed_where}
-use Rattle.vr_descent.proofs.GoingOn.{Goes, behind, breaks_off, goes_as, goes_more}
+use Rattle.vr_descent.proofs.GoingOn.{Goes, breaks_off, goes_as, goes_more}
 use Rattle.vr_watch.specs.Told.{Told, ToldInPart}
 use Rattle.vr_guided.specs.Counts.{AtMost}
 use Rattle.vr_guided.specs.Guides.{makes_less}
-use Rattle.vr_guided.specs.Standing.{IsBest, standing, from_here}
+use Rattle.vr_guided.specs.Standing.{from_here}
+use Rattle.vr_descent.specs.Incumbents.{kept}
 
 -- penalties of which none is greater than the tries rise by one at most, where one more was tried
 pub few_raised : (model : Model) (p : Penalties) (lists : List (List ℕ)) (used n : ℕ) → 1 ≤ n → AtMost used p → AtMost (used + n) (raised model p lists)
@@ -133,35 +129,6 @@ module _ (model : Model) (limit : Limit) (lambda : Lambda) (penalties : Penaltie
 
     pub scan_in_part : ToldInPart after b c told_by → ToldInPart after a c whole.events
     scan_in_part told = breaks_off after whole _ told_by a b c on told
-
--- the better of two
-pub better : (model : Model) (visits : List ℕ) (best new : Incumbent) (b : Bool) → IsBest model visits best → IsBest model visits new → IsBest model visits (cond b new best)
-better model visits best new true h n = n
-better model visits best new false h n = h
-
--- the lists of the better of two are the cheaper ones
-pub kept_lists : (model : Model) (best : Incumbent) (routes : Tours) (now : ℤ) → best.cost ≡ cost model best.routes.lists → now ≡ cost model routes.lists → (kept best routes now).routes.lists ≡ cheaper model best.routes.lists routes.lists
-kept_lists model best routes now e h = go (int_lt now best.cost) (int_lt (cost model routes.lists) (cost model best.routes.lists)) (ap₂ (λ x y. int_lt x y) h e)
-  where
-    go : (a b : Bool) → a ≡ b → (cond a (record { routes = routes; cost = now }) best).routes.lists ≡ cond b routes.lists best.routes.lists
-    go true true e = refl
-    go false false e = refl
-    go true false e = absurd (no e)
-      where
-        no : true ≡ false → ⊥
-        no e = Prim.cc
-    go false true e = absurd (no e)
-      where
-        no : false ≡ true → ⊥
-        no e = Prim.cc
-
--- the best is no dearer than before
-pub kept_no_dearer : (best : Incumbent) (routes : Tours) (now most : ℤ) → best.cost ≤ℤ most → (kept best routes now).cost ≤ℤ most
-kept_no_dearer best routes now most h = go (int_lt now best.cost) refl
-  where
-    go : (b : Bool) → int_lt now best.cost ≡ b → (cond b (record { routes = routes; cost = now }) best).cost ≤ℤ most
-    go true e = Prim.grind (arith, ints)
-    go false e = h
 
 -- where a search has ended, its outcome is where it stands
 pub ends_so : (whole : Outcome) (told : List Event) (last best : List (List ℕ)) (used found : ℕ) (stop : End) → whole ≡ behind told (ended (standing last best used found) stop)

@@ -1,20 +1,20 @@
 -- Where guided search in code stands.
-use Rattle.std.specs.Prelude.{◌≡◌, ℕ, suc, ◌-◌, ◌≤◌, List, length, IsTrue, pos, ◌≤ℤ◌}
+use Rattle.std.specs.Prelude.{◌≡◌, ℕ, suc, ◌-◌, ◌≤◌, List, length, pos, ◌≤ℤ◌}
 use Rattle.vr_model.specs.routes.Costs.{cost}
-use Rattle.vr_model.specs.routes.Rules.{is_valid}
-use Rattle.vr_model.specs.search.Outcomes.{SearchState, Outcome}
+use Rattle.vr_model.specs.search.Outcomes.{Outcome}
 use Rattle.vr_model.specs.search.GuidedSearches.{Penalties, guided_from, no_penalties}
 use Rattle.vr_model.specs.declared.records.Model.{Model}
 use Rattle.vr_model.specs.declared.records.End.{End}
 use Rattle.vr_model.specs.declared.search.Event.{Event}
 use Rattle.vr_model.specs.declared.search.Limit.{Limit}
 use Rattle.vr_model.specs.declared.search.Lambda.{Lambda}
+use Rattle.vr_descent.specs.Incumbents.{IsBest}
+use Rattle.vr_descent.specs.Searching.{standing}
 use Rattle.vr_descent.specs.declared.progress.Progress.{Progress}
 use Rattle.vr_routes.specs.Tours.{Tours}
 use Rattle.vr_routes.specs.Judging.{HoldSame}
 use Rattle.vr_guided.specs.Counts.{AtMost, counted}
 use Rattle.vr_guided.specs.declared.searching.State.{State}
-use Rattle.vr_guided.specs.declared.incumbent.Incumbent.{Incumbent}
 
 -- the limits of a search are in their ranges
 pub record AreLimits (limit : Limit) (lambda : Lambda) : Type 0 where
@@ -33,12 +33,6 @@ pub record IsBegun (model : Model) (routes : Tours) (at : Progress) (state : Sta
   pub covers : state.penalties.nodes ≡ model.nodes
   pub route_sums : length state.route_sums ≡ length model.vehicles
 
--- the best routes are valid, and their cost is known
-pub record IsBest (model : Model) (visits : List ℕ) (best : Incumbent) : Type 0 where
-  pub costs : best.cost ≡ cost model best.routes.lists
-  pub valid : IsTrue (is_valid model best.routes.lists)
-  pub same_visits : best.routes.visits ≡ visits
-
 -- routes and judge hold the same valid lists; their cost, the tries and the solutions are counted; the best routes are
 -- valid; no arc was penalised more often than a move was tried; each arc has a count; and each vehicle has sums
 pub record Stands (model : Model) (limit : Limit) (committed : List (List ℕ)) (routes : Tours) (state : State) :
@@ -52,10 +46,6 @@ pub record Stands (model : Model) (limit : Limit) (committed : List (List ℕ)) 
   pub few : AtMost state.at.used (counted state.penalties)
   pub covers : state.penalties.nodes ≡ model.nodes
   pub route_sums : length state.route_sums ≡ length model.vehicles
-
--- where the definition stands
-abbrev pub standing : List (List ℕ) → List (List ℕ) → ℕ → ℕ → SearchState
-standing lists best used found = record { lists = lists; best = best; used = used; found = found }
 
 -- guided search from there, by one scan more than there are tries left
 abbrev pub from_here : Model → Limit → Lambda → Penalties → List (List ℕ) → List (List ℕ) → ℕ → ℕ → Outcome

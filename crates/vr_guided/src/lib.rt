@@ -18,7 +18,6 @@
 mod changing;
 mod costly;
 mod guiding;
-mod incumbent;
 mod laws;
 mod penalties;
 mod raising;

@@ -11,12 +11,11 @@ ghost use Rattle.vr_watch.specs.Told.{Told, ToldInPart};
 
 use crate::costly::has_costly_arc;
 use crate::guiding::Guiding;
-use crate::incumbent::Incumbent;
 use crate::penalties::Penalties;
 use crate::route_sums::AllRouteSums;
 use std::alloc::Global;
 use std::sync::ledger::Ledger;
-use vr_descent::{Progress, ScanEnd};
+use vr_descent::{Incumbent, Progress, ScanEnd};
 use vr_known::Known;
 use vr_model::{Closed, End, Kind, Lambda, Limit, Model, NoMemory, Report, Steps};
 use vr_routes::{Judge, Routes};

@@ -10,7 +10,8 @@ use Rattle.vr_model.specs.declared.search.Limit.{Limit}
 use Rattle.vr_model.specs.declared.search.Kind.TheVariants as kind
 use Rattle.vr_watch.specs.Told.{Told, ToldInPart}
 use Rattle.vr_watch.proofs.ToldLemmas.{told_nothing}
-use Rattle.vr_descent.proofs.GoingOn.{behind, breaks_off, Goes, goes_as, goes_more, goes_to_end}
+use Rattle.vr_descent.proofs.GoingOn.{breaks_off, Goes, goes_as, goes_more, goes_to_end}
+use Rattle.vr_descent.specs.Searching.{behind}
 use Rattle.vr_lns.specs.Cuts.{improves}
 use Rattle.vr_lns.specs.Ending.{EndsAs}
 use Rattle.vr_lns.specs.Rounds.{Round}

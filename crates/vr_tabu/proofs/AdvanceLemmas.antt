@@ -7,11 +7,11 @@ use Rattle.vr_model.specs.declared.records.Model.{Model}
 use Rattle.vr_model.specs.declared.records.End.TheVariants.{Optimum, Tries}
 use Rattle.vr_model.specs.declared.search.Event.{Event}
 use Rattle.vr_model.specs.declared.neighbours.Move.{Move}
-use Rattle.vr_descent.specs.Searching.{after_move}
+use Rattle.vr_descent.specs.Searching.{after_move, behind, standing}
 use Rattle.vr_descent.specs.declared.progress.Progress.{Progress}
 use Rattle.vr_routes.specs.Judging.{cost_change}
 use Rattle.vr_tabu.specs.Rounds.{IsKnown, round_end, with_difference}
-use Rattle.vr_tabu.specs.Standing.{behind, events_of, from_here, from_state, next_events, next_of, standing}
+use Rattle.vr_tabu.specs.Standing.{events_of, from_here, from_state, next_events, next_of}
 use Rattle.vr_tabu.specs.TabuSearches.{TabuList, Round, next_round}
 use Rattle.vr_tabu.specs.TabuSearches.Round.{Best, Stuck, Cut}
 use Rattle.vr_tabu.specs.Tabus.{tabus_of}

@@ -1,7 +1,6 @@
 -- Tabu search, round by round.
-use Rattle.std.proofs.Common.{◌≡◌, ◌∙◌, ℕ, zero, suc, ◌+◌, ◌-◌, ◌<◌, ◌≤◌, Bool, true, false, cond, List, [], ◌∷◌, length, Option, Some, None, refl, sym, ap, ap₂, subst, arith}
-use Rattle.std.proofs.lemmas.Int.{ints}
-use Rattle.std.specs.Prelude.{ℤ, ◌==◌, int_lt, ◌≤ℤ◌, IsTrue, MatchOption, filter, nat_lt}
+use Rattle.std.proofs.Common.{◌≡◌, ◌∙◌, ℕ, zero, suc, ◌+◌, ◌-◌, ◌<◌, ◌≤◌, Bool, true, false, cond, List, [], ◌∷◌, length, Option, Some, None, refl, sym, ap, subst, arith}
+use Rattle.std.specs.Prelude.{ℤ, ◌==◌, IsTrue, MatchOption, filter, nat_lt}
 use Rattle.vr_model.specs.routes.Costs.{cost}
 use Rattle.vr_model.specs.routes.Rules.{is_valid}
 use Rattle.vr_model.specs.moves.Moves.{apply, moves}
@@ -17,11 +16,11 @@ use Rattle.vr_model.proofs.first.LeastChoice.{least_first}
 use Rattle.vr_model.proofs.routes.Lists.{are-lists, are_lists-count}
 use Rattle.vr_model.proofs.tables.Members.{In, of_contains, of_filter}
 use Rattle.vr_model.specs.deciding.Testing.{and_left}
-use Rattle.vr_routes.specs.Tours.{Tours}
-use Rattle.vr_tabu.specs.Standing.{IsBest, behind, events_of, from_here, kept, standing}
+use Rattle.vr_tabu.specs.Standing.{events_of, from_here}
+use Rattle.vr_descent.specs.Incumbents.{kept}
+use Rattle.vr_descent.specs.Searching.{behind, standing}
 use Rattle.vr_tabu.specs.TabuSearches.{TabuList, Round, is_candidate, least_candidate, next_round, none_tabu, round_of, round_with, tabu_from, tabu_on, tabu_search}
 use Rattle.vr_tabu.specs.TabuSearches.Round.{Best, Stuck, Cut}
-use Rattle.vr_tabu.specs.declared.incumbent.Incumbent.{Incumbent}
 use Rattle.vr_tabu.specs.declared.searching.Bounds.{Bounds}
 use Rattle.vr_tabu.proofs.RoundLemmas.{one_move}
 
@@ -194,26 +193,3 @@ module _ (model : Model) (bounds : Bounds) where
             ∙ fewer next k known.from_one known.within (apply model lists mv) (cheaper model best (apply model lists mv)) (found + 1))
         go (Stuck k) h = refl
         go Cut h = refl
-
--- ---- the best lists so far
-
--- the better of two
-pub better_is_best : (model : Model) (visits : List ℕ) (best new : Incumbent) (b : Bool) → IsBest model visits best → IsBest model visits new → IsBest model visits (cond b new best)
-better_is_best model visits best new true h n = n
-better_is_best model visits best new false h n = h
-
--- the lists of the better of two are the cheaper ones
-pub kept_lists : (model : Model) (best : Incumbent) (routes : Tours) (now : ℤ) → best.cost ≡ cost model best.routes.lists → now ≡ cost model routes.lists → (kept best routes now).routes.lists ≡ cheaper model best.routes.lists routes.lists
-kept_lists model best routes now e h = go (int_lt now best.cost) ∙ ap (λ b. cond b routes.lists best.routes.lists) (ap₂ (λ x y. int_lt x y) h e)
-  where
-    go : (b : Bool) → (cond b (record { routes = routes; cost = now }) best).routes.lists ≡ cond b routes.lists best.routes.lists
-    go true = refl
-    go false = refl
-
--- the best is no dearer than before
-pub kept_no_dearer : (best : Incumbent) (routes : Tours) (now : ℤ) → (kept best routes now).cost ≤ℤ best.cost
-kept_no_dearer best routes now = go (int_lt now best.cost) refl
-  where
-    go : (b : Bool) → int_lt now best.cost ≡ b → (cond b (record { routes = routes; cost = now }) best).cost ≤ℤ best.cost
-    go true e = Prim.grind (arith, ints)
-    go false e = omega (arith, ints)

@@ -12,7 +12,8 @@ use Rattle.vr_routes.specs.Judging.{HoldSame}
 use Rattle.vr_routes.specs.Tours.{Tours}
 use Rattle.vr_watch.specs.Told.{Told, ToldInPart}
 use Rattle.vr_watch.proofs.ToldLemmas.{told_nothing}
-use Rattle.vr_descent.proofs.GoingOn.{Goes, behind, breaks_off, goes_more}
+use Rattle.vr_descent.proofs.GoingOn.{Goes, breaks_off, goes_more}
+use Rattle.vr_descent.specs.Searching.{behind}
 use Rattle.vr_descent.specs.declared.progress.Progress.{Progress}
 use Rattle.vr_tabu.specs.Standing.{IsBegun, Stands, from_here, from_state}
 use Rattle.vr_tabu.specs.TabuSearches.{none_tabu, tabu_search}

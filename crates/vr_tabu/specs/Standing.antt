@@ -1,6 +1,5 @@
 -- Where tabu search in code stands.
-use Rattle.std.specs.Prelude.{◌≡◌, ℕ, suc, ◌++◌, ◌-◌, ◌≤◌, cond, List, [], ◌∷◌, length, Option, Some, None, IsTrue, ℤ}
-use Rattle.std.specs.Prelude.{int_lt}
+use Rattle.std.specs.Prelude.{◌≡◌, ℕ, suc, ◌-◌, ◌≤◌, List, [], ◌∷◌, length, Option, Some, None, IsTrue}
 use Rattle.vr_model.specs.routes.Costs.{cost}
 use Rattle.vr_model.specs.routes.Rules.{is_valid}
 use Rattle.vr_model.specs.search.Outcomes.{SearchState, Outcome, accepted, ended, event_at}
@@ -10,6 +9,8 @@ use Rattle.vr_model.specs.declared.records.Model.{Model}
 use Rattle.vr_model.specs.declared.records.End.{End}
 use Rattle.vr_model.specs.declared.search.Event.{Event}
 use Rattle.vr_model.specs.declared.search.Kind.TheVariants as kind
+use Rattle.vr_descent.specs.Incumbents.{IsBest}
+use Rattle.vr_descent.specs.Searching.{standing}
 use Rattle.vr_descent.specs.declared.progress.Progress.{Progress}
 use Rattle.vr_routes.specs.Tours.{Tours}
 use Rattle.vr_routes.specs.Judging.{HoldSame}
@@ -18,23 +19,12 @@ use Rattle.vr_tabu.specs.TabuSearches.Round.{Best, Stuck, Cut}
 use Rattle.vr_tabu.specs.Tabus.{tabus_of}
 use Rattle.vr_tabu.specs.declared.searching.State.{State}
 use Rattle.vr_tabu.specs.declared.searching.Bounds.{Bounds}
-use Rattle.vr_tabu.specs.declared.incumbent.Incumbent.{Incumbent}
-
--- the cheaper of two, the first of equally cheap ones
-abbrev pub kept : Incumbent → Tours → ℤ → Incumbent
-kept best routes cost = cond (int_lt cost best.cost) (record { routes = routes; cost = cost }) best
 
 -- the bounds of a search are in their ranges
 pub record AreBounds (bounds : Bounds) : Type 0 where
   pub tries : bounds.limit.tries ≤ 1000000000
   pub solutions : bounds.limit.solutions ≤ 1000000000
   pub tenure : bounds.tenure ≤ 1000
-
--- the best routes are valid, and their cost is known
-pub record IsBest (model : Model) (visits : List ℕ) (best : Incumbent) : Type 0 where
-  pub costs : best.cost ≡ cost model best.routes.lists
-  pub valid : IsTrue (is_valid model best.routes.lists)
-  pub same_visits : best.routes.visits ≡ visits
 
 -- what tabu search begins with: these routes are the best, they cost what is known there, and no visit is tabu
 pub record IsBegun (model : Model) (routes : Tours) (at : Progress) (state : State) : Type 0 where
@@ -64,10 +54,6 @@ pub record Stands (model : Model) (bounds : Bounds) (committed : List (List ℕ)
   pub round : suc state.tabus.round ≤ state.at.found
   pub covers : length state.tabus.until.items ≡ model.nodes
 
--- where the definition stands
-abbrev pub standing : List (List ℕ) → List (List ℕ) → ℕ → ℕ → SearchState
-standing lists best used found = record { lists = lists; best = best; used = used; found = found }
-
 -- tabu search from there, by one round more than there are tries left
 abbrev pub from_here : Model → Bounds → TabuList → List (List ℕ) → List (List ℕ) → ℕ → ℕ → Outcome
 from_here model bounds tabus lists best used found =
@@ -95,10 +81,6 @@ abbrev pub next_events : Model → Bounds → List (List ℕ) → State → List
 next_events model bounds lists state =
     events_of model (standing lists state.best.routes.lists state.at.used state.at.found)
     (next_of model bounds lists state)
-
--- some events, and then an outcome
-abbrev pub behind : List Event → Outcome → Outcome
-behind told rest = record rest { events = told ++ rest.events }
 
 -- what is left of the search where the code stands: it goes on, or it has ended
 abbrev pub left_of : Model → Bounds → List (List ℕ) → State → Option End → Outcome

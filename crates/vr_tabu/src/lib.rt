@@ -12,7 +12,6 @@
 //! Who improves a first solution as its model asks calls [`tabu`] for `TABU_SEARCH`.
 #![tactic(auto)]
 
-mod incumbent;
 mod laws;
 mod list_change;
 mod new_list;

@@ -11,7 +11,7 @@ use Rattle.vr_routes.specs.Judging.{moved}
 use Rattle.vr_watch.specs.Told.{Told, ToldInPart}
 use Rattle.vr_model.proofs.tables.Refusals.{on_err}
 use Rattle.vr_watch.proofs.ToldLemmas.{told_nothing}
-use Rattle.vr_descent.specs.Searching.{after_move, event_of, progress_after, routes_after}
+use Rattle.vr_descent.specs.Searching.{after_move, event_of, progress_after, routes_after, standing}
 use Rattle.vr_descent.proofs.EndLemmas.{accepted_at, completed, was_cut}
 use Rattle.vr_descent.proofs.GoingOn.{Goes, breaks_off, goes_as, goes_more, goes_to_end}
 use Rattle.vr_descent.proofs.DescentLemmas.{same_count}
@@ -19,8 +19,10 @@ use Rattle.vr_model.proofs.tables.Tests.{apart}
 use Rattle.vr_guided.specs.Counts.{AtMost, counted}
 use Rattle.vr_guided.specs.Guides.{makes_less}
 use Rattle.vr_guided.specs.RouteSums.{AreAllRouteSums}
-use Rattle.vr_guided.specs.Standing.{IsBest, from_here, from_state, standing}
-use Rattle.vr_guided.proofs.GuidedLemmas.{after_scan, as_many, at_end, at_round, better, costly_of, ends_so, enough, few_more, few_raised, kept_lists, kept_no_dearer, left_after, scan_in_part, some_moves}
+use Rattle.vr_guided.specs.Standing.{from_here, from_state}
+use Rattle.vr_descent.specs.Incumbents.{IsBest}
+use Rattle.vr_guided.proofs.GuidedLemmas.{after_scan, as_many, at_end, at_round, costly_of, ends_so, enough, few_more, few_raised, left_after, scan_in_part, some_moves}
+use Rattle.vr_descent.proofs.IncumbentLemmas.{better, kept_lists, kept_no_dearer}
 use Rattle.vr_descent.proofs.RefusedLemmas.{nothing_refused}
 use Rattle.vr_guided.proofs.GuidedStay.{guided_stays}
 use Rattle.vr_guided.proofs.SpareLemmas.{still_refused}

@@ -4,7 +4,8 @@ use Rattle.vr_model.specs.declared.records.End.TheVariants.{Solutions}
 use Rattle.vr_model.specs.deciding.Testing.{test_of_eq}
 use Rattle.vr_model.proofs.tables.Refusals.{on_err}
 use Rattle.vr_descent.proofs.GoingOn.{breaks_off, goes_as, goes_more, goes_to_end}
-use Rattle.vr_tabu.specs.Standing.{from_state, left_of, next_events, standing}
+use Rattle.vr_tabu.specs.Standing.{from_state, left_of, next_events}
+use Rattle.vr_descent.specs.Searching.{standing}
 use Rattle.vr_tabu.specs.Tabus.{tabus_of}
 use Rattle.vr_model.proofs.tables.Tests.{apart}
 use Rattle.vr_tabu.proofs.AdvanceLemmas.{left_behind, on_next}

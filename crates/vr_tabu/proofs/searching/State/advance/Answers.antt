@@ -8,10 +8,12 @@ use Rattle.vr_descent.specs.Searching.{after_move, move_event}
 use Rattle.vr_routes.specs.Judging.{moved}
 use Rattle.vr_watch.specs.Told.{Told, ToldInPart}
 use Rattle.vr_watch.proofs.ToldLemmas.{none_behind, told_nothing}
-use Rattle.vr_tabu.specs.Standing.{kept, next_of}
+use Rattle.vr_tabu.specs.Standing.{next_of}
+use Rattle.vr_descent.specs.Incumbents.{kept}
 use Rattle.vr_tabu.specs.Tabus.{tabus_of}
 use Rattle.vr_tabu.proofs.AdvanceLemmas.{after_best, after_cut, after_stuck, events_are, of_best, of_cut, of_stuck}
-use Rattle.vr_tabu.proofs.SearchLemmas.{best_where, kept_lists}
+use Rattle.vr_tabu.proofs.SearchLemmas.{best_where}
+use Rattle.vr_descent.proofs.IncumbentLemmas.{kept_lists}
 use Rattle.vr_tabu.proofs.searching.State.advance.Goals as goal
 
 pub returns-in_err-ended-clause-told_in_part : goal.returns-in_err-ended-clause-told_in_part

@@ -13,7 +13,7 @@ use Rattle.vr_model.proofs.tables.Refusals.{on_err}
 use Rattle.vr_routes.specs.Judging.{moved}
 use Rattle.vr_watch.specs.Told.{Told, ToldInPart}
 use Rattle.vr_watch.proofs.ToldLemmas.{none_behind, told_nothing}
-use Rattle.vr_tabu.specs.Standing.{kept}
+use Rattle.vr_descent.specs.Incumbents.{kept}
 use Rattle.vr_tabu.proofs.SearchLemmas.{as_many}
 use Rattle.vr_tabu.proofs.searching.State.take.Goals as goal
 

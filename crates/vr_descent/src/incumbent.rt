@@ -1,9 +1,9 @@
 //! The best lists so far.
 
 ghost use Rattle.std.specs.Prelude.{◌≡◌, length};
-ghost use Rattle.vr_tabu.specs.Standing.{kept};
+ghost use Rattle.vr_descent.specs.Incumbents.{kept};
 
-use vr_descent::Progress;
+use crate::Progress;
 use vr_routes::Routes;
 
 /// The first routes of the least cost so far.
