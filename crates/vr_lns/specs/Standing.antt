@@ -6,14 +6,13 @@ use Rattle.vr_model.specs.routes.Costs.{cost}
 use Rattle.vr_model.specs.declared.records.Model.{Model}
 use Rattle.vr_model.specs.declared.search.Event.{Event}
 use Rattle.vr_model.specs.declared.search.Limit.{Limit}
-use Rattle.vr_model.specs.declared.search.Kind.{Kind}
 use Rattle.vr_model.specs.declared.search.Kind.TheVariants as kind
 use Rattle.vr_routes.specs.Tours.{Tours}
 use Rattle.vr_lns.specs.Rounds.{Round, round}
 use Rattle.vr_lns.specs.Rounds.Round.{Accepted, Complete, Short}
 use Rattle.vr_lns.specs.declared.rounds.RoundEnd.{RoundEnd}
 use Rattle.vr_lns.specs.declared.rounds.RoundEnd.TheVariants as ends
-use Rattle.vr_lns.specs.declared.standing.Standing.{Standing}
+use Rattle.vr_descent.specs.declared.progress.Progress.{Progress}
 
 -- routes hold valid lists of a model that cost so much
 pub record HoldValid (model : Model) (routes : Tours) (total : ℤ) : Type 0 where
@@ -49,10 +48,6 @@ tries_of rest (ends.Accepted place) = place
 tries_of rest (ends.Complete length) = length
 tries_of rest ends.Short = rest
 
--- the event of a kind where a search stands
-abbrev pub event_of : Standing → Kind → Event
-event_of at kind = record { tries = at.used; kind = kind; cost = at.cost }
-
 -- the event of a cut that was made, after so many tries
 abbrev pub cut_event : Model → List (List ℕ) → ℕ → Event
 cut_event model after tries = record { tries = tries; kind = kind.Move; cost = cost model after }
@@ -64,7 +59,7 @@ events_after model used (Complete n) = []
 events_after model used Short = []
 
 -- where a search stands after a round
-abbrev pub standing_after : Model → Limit → Standing → Round → Standing
+abbrev pub standing_after : Model → Limit → Progress → Round → Progress
 standing_after model limit at (Accepted n after) =
     record { used = at.used + n; found = at.found + 1; cost = cost model after }
 standing_after model limit at (Complete n) = record { used = at.used + n; found = at.found; cost = at.cost }

@@ -13,8 +13,9 @@ ghost use Rattle.vr_watch.specs.Told.{Told, ToldInPart};
 use crate::Rebuild;
 use crate::cutting::Cutting;
 use crate::rounds::RoundEnd;
-use crate::standing::Standing;
+use crate::standing::advance;
 use std::alloc::Global;
+use vr_descent::Progress;
 use vr_model::{Closed, End, Kind, Limit, Model, NoMemory, Report};
 use vr_routes::Routes;
 use vr_watch::{Watch, note_all};
@@ -95,14 +96,14 @@ fn search<R: Rebuild>(
 {
     let cost = cutting.total(routes)?;
     cutting.know(rebuild)?;
-    let mut at = Standing {
+    let mut at = Progress {
         used: 0,
         found: 1,
         cost,
     };
     note_all(watch, at.event(Kind::First))?;
     'rounds: while at.found != limit.solutions {
-        let ended = at.advance(cutting, rebuild, routes, limit, watch)?;
+        let ended = advance(&mut at, cutting, rebuild, routes, limit, watch)?;
         match ended {
             RoundEnd::Accepted { .. } => {}
             RoundEnd::Complete { .. } => return Ok(at.report(End::Optimum)),

@@ -100,7 +100,7 @@ rounds-smaller g c =
     let left = left_after k.model k.most limit lists at.used at.found r in
     let round_is = ap (λ q. round_at q.model q.most limit lists at.used) c.rounds.invariant.cutter in
     let ends = c.in_ok-ended.ensures.ends ∙ ap round_end round_is in
-    let at_new : c.advance.new.self ≡ standing_after k.model limit at r = c.in_ok-ended.ensures.standing ∙ ap (λ q. standing_after q.model limit at (round_at q.model q.most limit lists at.used)) c.rounds.invariant.cutter in
+    let at_new : c.advance.new.at ≡ standing_after k.model limit at r = c.in_ok-ended.ensures.standing ∙ ap (λ q. standing_after q.model limit at (round_at q.model q.most limit lists at.used)) c.rounds.invariant.cutter in
     let lists_new : c.advance.new.routes.lists ≡ lists_after_round lists r = c.in_ok-ended.ensures.lists ∙ ap (lists_after_round lists) round_is in
     let made = made_told r c.in-Accepted.place (sym c.in-Accepted.is ∙ ends) in
     let tells = subst (Tells (λ after. IsTrue (improves k.model lists after)) (limit.tries - at.used) 0) made.1 (told_by_round k.model k.most lists (limit.tries - at.used)) in
@@ -124,7 +124,7 @@ rounds-preserved g c =
     let left = left_after k.model k.most limit lists at.used at.found r in
     let round_is = ap (λ q. round_at q.model q.most limit lists at.used) c.rounds.invariant.cutter in
     let ends = c.in_ok-ended.ensures.ends ∙ ap round_end round_is in
-    let at_new : c.advance.new.self ≡ standing_after k.model limit at r = c.in_ok-ended.ensures.standing ∙ ap (λ q. standing_after q.model limit at (round_at q.model q.most limit lists at.used)) c.rounds.invariant.cutter in
+    let at_new : c.advance.new.at ≡ standing_after k.model limit at r = c.in_ok-ended.ensures.standing ∙ ap (λ q. standing_after q.model limit at (round_at q.model q.most limit lists at.used)) c.rounds.invariant.cutter in
     let lists_new : c.advance.new.routes.lists ≡ lists_after_round lists r = c.in_ok-ended.ensures.lists ∙ ap (lists_after_round lists) round_is in
     let goes = goes_on (λ w. (goal.Watch-dyn g (w.vtable, w.value)).after w.value) whole here left (events_after k.model at.used r) _ _ _ on c.rounds.invariant.goes
     (subst (λ q. Told (λ w. (goal.Watch-dyn g (w.vtable, w.value)).after w.value) c.rounds.watch.items c.advance.new.watch.items (events_after q.model at.used (round_at q.model q.most limit lists at.used))) c.rounds.invariant.cutter c.in_ok-ended.ensures.told) in
@@ -137,7 +137,7 @@ rounds-preserved g c =
     let found = ap (λ s. s.found) standing_new in
     record {
       cutter = c.in_ok-ended.ensures.cutter ∙ c.rounds.invariant.cutter;
-      holds = subst (λ q. HoldValid q.model c.advance.new.routes c.advance.new.self.cost) c.rounds.invariant.cutter c.in_ok-ended.ensures.holds;
+      holds = subst (λ q. HoldValid q.model c.advance.new.routes c.advance.new.at.cost) c.rounds.invariant.cutter c.in_ok-ended.ensures.holds;
       used = omega (arith, used, within, c.rounds.invariant.used);
       found = omega (arith, found, c.rounds.invariant.found, c.rounds-test.true);
       knows = subst (λ q. g.R.Rebuild.knows c.advance.new.rebuild q.model) c.rounds.invariant.cutter c.in_ok-ended.ensures.knows;
@@ -162,7 +162,7 @@ returns-in-Complete-clause-ends g c =
     let left = left_after k.model k.most limit lists at.used at.found r in
     let round_is = ap (λ q. round_at q.model q.most limit lists at.used) c.rounds.invariant.cutter in
     let ends = c.in_ok-ended.ensures.ends ∙ ap round_end round_is in
-    let at_new : c.advance.new.self ≡ standing_after k.model limit at r = c.in_ok-ended.ensures.standing ∙ ap (λ q. standing_after q.model limit at (round_at q.model q.most limit lists at.used)) c.rounds.invariant.cutter in
+    let at_new : c.advance.new.at ≡ standing_after k.model limit at r = c.in_ok-ended.ensures.standing ∙ ap (λ q. standing_after q.model limit at (round_at q.model q.most limit lists at.used)) c.rounds.invariant.cutter in
     let lists_new : c.advance.new.routes.lists ≡ lists_after_round lists r = c.in_ok-ended.ensures.lists ∙ ap (lists_after_round lists) round_is in
     let goes = goes_on (λ w. (goal.Watch-dyn g (w.vtable, w.value)).after w.value) whole here left (events_after k.model at.used r) _ _ _ on c.rounds.invariant.goes
     (subst (λ q. Told (λ w. (goal.Watch-dyn g (w.vtable, w.value)).after w.value) c.rounds.watch.items c.advance.new.watch.items (events_after q.model at.used (round_at q.model q.most limit lists at.used))) c.rounds.invariant.cutter c.in_ok-ended.ensures.told) in
@@ -189,7 +189,7 @@ returns-in-Short-clause-ends g c =
     let left = left_after k.model k.most limit lists at.used at.found r in
     let round_is = ap (λ q. round_at q.model q.most limit lists at.used) c.rounds.invariant.cutter in
     let ends = c.in_ok-ended.ensures.ends ∙ ap round_end round_is in
-    let at_new : c.advance.new.self ≡ standing_after k.model limit at r = c.in_ok-ended.ensures.standing ∙ ap (λ q. standing_after q.model limit at (round_at q.model q.most limit lists at.used)) c.rounds.invariant.cutter in
+    let at_new : c.advance.new.at ≡ standing_after k.model limit at r = c.in_ok-ended.ensures.standing ∙ ap (λ q. standing_after q.model limit at (round_at q.model q.most limit lists at.used)) c.rounds.invariant.cutter in
     let lists_new : c.advance.new.routes.lists ≡ lists_after_round lists r = c.in_ok-ended.ensures.lists ∙ ap (lists_after_round lists) round_is in
     let goes = goes_on (λ w. (goal.Watch-dyn g (w.vtable, w.value)).after w.value) whole here left (events_after k.model at.used r) _ _ _ on c.rounds.invariant.goes
     (subst (λ q. Told (λ w. (goal.Watch-dyn g (w.vtable, w.value)).after w.value) c.rounds.watch.items c.advance.new.watch.items (events_after q.model at.used (round_at q.model q.most limit lists at.used))) c.rounds.invariant.cutter c.in_ok-ended.ensures.told) in
