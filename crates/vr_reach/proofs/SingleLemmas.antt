@@ -29,7 +29,8 @@ use Rattle.vr_steps.specs.Reached.{ArcAlone, AreReached, AreReachingEnd, RunsAre
 use Rattle.vr_steps.proofs.ArcLemmas.{plainly, leads}
 use Rattle.vr_steps.proofs.ImageLemmas.{none_between}
 use Rattle.vr_reach.specs.Counts.{arc_steps, join_steps, steps_between}
-use Rattle.vr_reach.specs.Singles.{IsCumulRun, IsOnlyRun, IsReachedRun, IsReachingRun}
+use Rattle.vr_reach.specs.Singles.{IsOnlyRun, IsReachedRun, IsReachingRun}
+use Rattle.vr_steps.specs.Samples.{IsCumulRun}
 use Rattle.vr_reach.specs.VisitRuns.{HasCumulEnds, IsAllowedRun}
 use Rattle.vr_reach.specs.Lists.{IsUsed, node_at_stop}
 use Rattle.vr_reach.proofs.Counting.{first_arc, runs_of}
@@ -74,7 +75,7 @@ module _ (crossing : ReachedByCrossing) (L : Line) (sound : IsSound L) where
       → new.lo ≡ int_max (run.lo +ℤ (arc_at L k).transit) allowed.lo → new.hi ≡ int_min (run.hi +ℤ ((arc_at L k).transit +ℤ L.slack_max)) allowed.hi → IsReachedRun L (suc k) b new
   ahead alone k b lt few run allowed new cumul is allows_is rises lo_is hi_is = record {
     reached = λ x there.
-        let way = came run allowed new (arc_at L k).transit L.slack_max cumul.some rises lo_is hi_is x there in
+        let way = came run allowed new (arc_at L k).transit L.slack_max cumul.in_order rises lo_is hi_is x there in
         let y = way.1.0 in
         let before = is.reached y way.1.1 in
         let here = reached_allowed L sound k b y (omega (arith, lt)) before in
@@ -89,7 +90,7 @@ module _ (crossing : ReachedByCrossing) (L : Line) (sound : IsSound L) where
         let way = (alone L sound k m.0 b lt y x).0 m.4 in
         let plain = plainly (hop_at L k) y x (subst (λ rows. Leads (hop_at L k) rows y x) (ap (λ a. between L.breaks a b) same ∙ none_between L.breaks b) way.2) in
         let before = is.all none y (subst (λ a. IsReached L k a y) same m.3) in
-        goes run allowed new (arc_at L k).transit L.slack_max cumul.some rises lo_is hi_is x y (allows_is.exact x ∙ (and_parts _ _ way.1).1) before plain.least plain.greatest;
+        goes run allowed new (arc_at L k).transit L.slack_max cumul.in_order rises lo_is hi_is x y (allows_is.exact x ∙ (and_parts _ _ way.1).1) before plain.least plain.greatest;
   }
 
   -- where nothing is reached, nothing is reached further on
@@ -131,10 +132,10 @@ module _ (law : LinesAreSound) (crossing : ReachedByCrossing) (alone : ArcAlone)
 
 -- a run that is not empty is one run of cumuls
 normal_run : (run : Run) → IsCumulRun run → IsNormal (run ∷ [])
-normal_run run cumul = let low = cumul.low in let high = cumul.high in (omega (arith, ints, low), cumul.some, omega (arith, ints, high), tt)
+normal_run run cumul = let low = cumul.least in let high = cumul.greatest in (omega (arith, ints, low), cumul.in_order, omega (arith, ints, high), tt)
 
 cumuls_of_run : (run : Run) → IsCumulRun run → IsCumuls (run ∷ [])
-cumuls_of_run run cumul x there = let low = cumul.low in let high = cumul.high in grind (arith, ints, low, high, there)
+cumuls_of_run run cumul x there = let low = cumul.least in let high = cumul.greatest in grind (arith, ints, low, high, there)
 
 pub alone_in : (run : Run) (x : ℤ) → IsTrue (has (run ∷ []) x) → IsTrue (in_run run x)
 alone_in run x there = grind (arith, there)

@@ -11,14 +11,9 @@ use Rattle.vr_model.specs.declared.records.BreakRow.{BreakRow}
 use Rattle.vr_model.specs.declared.records.Model.{Model}
 use Rattle.vr_steps.specs.declared.stops.StopName.TheVariants.{End}
 use Rattle.vr_steps.specs.Levels.{level_at}
+use Rattle.vr_steps.specs.Samples.{IsCumulRun}
 use Rattle.vr_steps.specs.Stops.{allowed_by}
 use Rattle.vr_reach.specs.VisitRuns.{is_one_run}
-
--- the run has a number, and its numbers are cumuls
-pub record IsCumulRun (run : Run) : Type 0 where
-  pub low : pos 0 ≤ℤ run.lo
-  pub some : run.lo ≤ℤ run.hi
-  pub high : run.hi ≤ℤ horizon
 
 -- the set has the numbers of the run, which are cumuls, and one at least
 pub record IsOnlyRun (set : List Run) (run : Run) : Type 0 where

@@ -5,7 +5,8 @@ use Rattle.vr_model.specs.schedules.Lines.{line}
 use Rattle.vr_reach.specs.Alone.{IsLedTo}
 use Rattle.vr_reach.specs.Counts.{steps_between}
 use Rattle.vr_reach.specs.Lists.{node_at_stop}
-use Rattle.vr_reach.specs.Singles.{IsCumulRun, IsReachedRun}
+use Rattle.vr_reach.specs.Singles.{IsReachedRun}
+use Rattle.vr_steps.specs.Samples.{IsCumulRun}
 use Rattle.vr_reach.proofs.single.carry_run.Given as goal
 
 -- the run is reached at stop k; what was counted and what is left are within the whole

@@ -47,5 +47,5 @@ returns-clause-led c =
     let L = line m c.args.walk.now.stops.d c.args.walk.now.stops.v list in
     let next : c.args.k + 1 ≡ suc c.args.k = omega arith in
     let way = way_of m c.args.walk.now.stops.d c.args.walk.now.stops.v list c.args.k c.args.origin c.args.ahead.node c.requires.arc c.requires.origin c.requires.target c.transit_by-transit.result c.transit_by-transit.ensures.value in
-    crossed L c.args.k c.args.run c.args.ahead.allowed c.run_behind.result c.transit_by-transit.result c.args.walk.now.slack c.requires.cumuls.some c.requires.walk.slack_range.at_least (lo_is c) (hi_is c)
+    crossed L c.args.k c.args.run c.args.ahead.allowed c.run_behind.result c.transit_by-transit.result c.args.walk.now.slack c.requires.cumuls.in_order c.requires.walk.slack_range.at_least (lo_is c) (hi_is c)
     (subst (λ i. IsAllowedRun L i c.args.ahead.allowed) next c.requires.allowed) way c.requires.walk.slack

@@ -33,7 +33,7 @@ pub share-requires-clause-first : goal.share-requires-clause-first
 share-requires-clause-first g c = let test = c.if-run.false in omega (arith, ints, test)
 
 pub share-requires-clause-second : goal.share-requires-clause-second
-share-requires-clause-second g c = c.requires.to_cumuls.some
+share-requires-clause-second g c = c.requires.to_cumuls.in_order
 
 pub returns-clause-exact : goal.returns-clause-exact
 returns-clause-exact g c =
