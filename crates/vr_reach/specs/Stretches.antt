@@ -14,6 +14,12 @@ pub record SharesBack (old new : List ℕ) (z : ℕ) : Type 0 where
   pub within_old : z ≤ length old
   pub within_new : z ≤ length new
 
+-- both lists begin and end with nodes that they share, no node of the second being among both
+pub record SharesEnds (old new : List ℕ) (shared : Stretch) : Type 0 where
+  pub front : SharesFront old new shared.front
+  pub back : SharesBack old new shared.back
+  pub apart : shared.front + shared.back ≤ length new
+
 -- the nodes behind those that both lists share at the front differ
 abbrev pub DifferAtFront : List ℕ → List ℕ → ℕ → Type 0
 DifferAtFront old new a = a < length old → a < length new → slice_index old a ≢ slice_index new a

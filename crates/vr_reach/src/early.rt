@@ -5,19 +5,20 @@ ghost use Rattle.std.specs.Prelude.{List, ℤ, neg_ℤ, pos};
 ghost use Rattle.vr_model.specs.schedules.Lines.{line};
 ghost use Rattle.vr_model.specs.tables.Numbers.{horizon};
 ghost use Rattle.vr_model.specs.tables.Tables.{breaks_of, dimension_at};
-ghost use Rattle.vr_model.specs.tables.WellFormed.{IsIn, IsWellFormed};
+ghost use Rattle.vr_model.specs.tables.WellFormed.{IsIn};
 ghost use Rattle.vr_steps.specs.Stops.{allowed_by};
 ghost use Rattle.vr_steps.specs.declared.stops.StopName.TheVariants.{Start};
 ghost use Rattle.vr_reach.specs.Early.{has_cumul_behind, AreChosen, AreEarly, AreFoundInTurn, CanBeFoundInTurn};
 ghost use Rattle.vr_reach.specs.Early.{IsEarliestBehind};
 ghost use Rattle.vr_reach.specs.Lists.{IsUsed};
 ghost use Rattle.vr_reach.specs.Stops.{AreStops};
+ghost use Rattle.vr_reach.specs.VehicleStops.{line_for, AreStopsFor};
 ghost use Rattle.vr_reach.specs.VisitRuns.{have_stops_one_run, AreVisitRuns, HasCumulEnds, IsFinish, IsRunFor};
 
 use crate::runs::run_of;
 use crate::single::{Ahead, finish_of, slack_of, stop_ahead};
 use crate::spliced::Spliced;
-use crate::stops::{Stops, node_at};
+use crate::stops::{Stops, StopsFor, node_at};
 use arrayvec::ArrayVec;
 use vr_model::{Closed, Model, laws};
 use vr_spans::Run;
@@ -65,33 +66,24 @@ pub fn single_runs<'a>(model: &Model, d: u32, v: u32, stops: &'a Stops) -> Optio
 /// Writes the cumuls of the earliest schedule of a list over others, where they are found stop by stop, each the least
 /// that the one before leaves: where the vehicle has no breaks, no stop allows more than one run of cumuls, and no
 /// slack would be too great. False exactly where they are not found so, also where there is no schedule.
-pub fn write_earliest(
-    model: &Model,
-    d: u32,
-    v: u32,
-    stops: &Stops,
-    list: &[u32],
-    cumuls: &mut Cumuls,
-) -> bool
-    requires well_formed { IsWellFormed model.now }
-    requires dimension { d < length model.now.dimensions }
-    requires vehicle { v < length model.now.vehicles }
-    requires stops { AreStops model.now d stops.now }
-    requires used { IsUsed model.now list.now }
+pub fn write_earliest(stops: &StopsFor, list: &[u32], cumuls: &mut Cumuls) -> bool
+    requires stops { AreStopsFor stops.now }
+    requires used { IsUsed stops.now.closed.model.now list.now }
     requires few { length list.now ≤ 1000 }
-    ensures found { IsTrue result ↔ CanBeFoundInTurn model.now d v list.now }
-    ensures chosen { IsTrue result → AreChosen (line model.now d v list.now) cumuls.new.items }
+    ensures found { IsTrue result ↔ CanBeFoundInTurn stops.now.closed.model.now stops.now.d stops.now.v list.now }
+    ensures chosen { IsTrue result → AreChosen (line_for stops.now list.now) cumuls.new.items }
     ensures stops { IsTrue result → length cumuls.new.items ≡ suc (suc (length list.now)) }
     ensures range { IsTrue result → All (IsIn (pos 0) horizon) cumuls.new.items }
 {
     laws::chosen_is_least();
     laws::lines_are_sound();
-    match single_runs(model, d, v, stops) {
+    let (closed, d, v) = (stops.closed, stops.d, stops.v);
+    match single_runs(closed.model, d, v, stops.of_dimension) {
         Some(runs) => {
             if runs.start.lo > runs.start.hi {
                 return false;
             }
-            drive(Closed { model }, d, v, &runs, list, cumuls)
+            drive(closed, d, v, &runs, list, cumuls)
         }
         None => false,
     }
@@ -121,7 +113,7 @@ fn drive(
 {
     laws::lines_are_sound();
     let evaluator = closed.model.dimensions.get(d as usize).evaluator_of(v);
-    let slack = slack_of(closed.model, d);
+    let slack = slack_of(closed, d);
     let whole = Spliced::whole(list);
     let mut origin = node_at(closed, v, &whole, 0);
     let mut cumul = runs.start.lo;

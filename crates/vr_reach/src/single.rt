@@ -8,17 +8,17 @@ ghost use Rattle.vr_model.specs.schedules.Lines.{line};
 ghost use Rattle.vr_model.specs.schedules.Weights.{walk_weight};
 ghost use Rattle.vr_model.specs.tables.Tables.{dimension_at};
 ghost use Rattle.vr_model.specs.tables.Numbers.{horizon};
-ghost use Rattle.vr_model.specs.tables.WellFormed.{IsIn, IsWellFormed};
+ghost use Rattle.vr_model.specs.tables.WellFormed.{IsIn};
 ghost use Rattle.vr_spans.specs.Runs.{in_run};
 ghost use Rattle.vr_steps.specs.Levels.{AreLevels, IsCumuls, level_at};
 ghost use Rattle.vr_steps.specs.Stops.{allowed_by};
 ghost use Rattle.vr_steps.specs.declared.stops.StopName.TheVariants.{End};
 ghost use Rattle.vr_reach.specs.Alone.{Follows, IsLedTo};
 ghost use Rattle.vr_reach.specs.Counts.{steps_between};
-ghost use Rattle.vr_reach.specs.Lists.{node_at_stop, IsTour, IsUsed};
+ghost use Rattle.vr_reach.specs.Lists.{node_at_stop, IsTour};
 ghost use Rattle.vr_reach.specs.Singles.{are_runs, is_run, IsOnlyRun, IsReachedRun};
+ghost use Rattle.vr_reach.specs.RunWalks.{line_along, IsRunWalk};
 ghost use Rattle.vr_steps.specs.Samples.{IsCumulRun};
-ghost use Rattle.vr_reach.specs.RunWalks.{line_along, IsLegAlong, IsRunWalk};
 ghost use Rattle.vr_reach.specs.Singles.{IsReachingRun};
 ghost use Rattle.vr_reach.specs.Stops.{AreEndsOf};
 ghost use Rattle.vr_reach.specs.VisitRuns.{is_one_run, AreVisitRuns, HasCumulEnds, IsAllowedRun, IsFinish};
@@ -27,7 +27,7 @@ use crate::ends::Ends;
 use crate::legs::Leg;
 use crate::runs::{run_of, share};
 use crate::spliced::Spliced;
-use crate::stops::{VehicleStops, node_at};
+use crate::stops::node_at;
 use std::sync::ledger::Ledger;
 use vr_model::{Closed, Evaluator, Model, Steps, laws};
 use vr_spans::Run;
@@ -42,11 +42,11 @@ pub struct Ahead {
     pub allowed: Run,
 }
 
-// What a walk of one run asks of a vehicle: its stops, of which no visit and not the end allows more than one run, and
-// what its arcs take.
+// What a walk of one run along a leg asks of its vehicle, where no visit and not the end allows more than one run: the
+// runs, and what the arcs take.
 #[derive(Clone, Copy)]
 pub(crate) struct RunWalk<'a> {
-    pub(crate) stops: VehicleStops<'a>,
+    pub(crate) leg: Leg<'a>,
     pub(crate) evaluator: &'a Evaluator,
     // the greatest slack
     pub(crate) slack: i64,
@@ -111,21 +111,18 @@ pub(crate) fn finish_of(model: &Model, d: u32, v: u32, ends: &Ends) -> Option<Ah
 // as `walk_through` counts.
 pub(crate) fn walk_by_runs<L: Ledger>(
     walk: &RunWalk,
-    list: &Spliced,
-    leg: &Leg,
     between: Between,
     steps: &mut Steps<L>,
 ) -> bool
     requires walk { IsRunWalk walk.now }
-    requires no_breaks { (line_along walk.now list.now).breaks ≡ [] }
-    requires used { IsUsed walk.now.stops.model.now list.now }
-    requires leg { IsLegAlong walk.now list.now leg.now }
+    requires no_breaks { (line_along walk.now).breaks ≡ [] }
     requires from_cumuls { IsCumulRun between.from }
-    requires from { IsReachedRun (line_along walk.now list.now) leg.now.begin 0 between.from }
+    requires from { IsReachedRun (line_along walk.now) walk.now.leg.begin 0 between.from }
     requires to_cumuls { IsCumulRun between.to }
-    requires to { IsReachingRun (line_along walk.now list.now) leg.now.last 0 between.to }
-    ensures exact { result ≡ is_feasible (line_along walk.now list.now) }
-    ensures count { steps.new ≤ steps.old + walk_weight (line_along walk.now list.now) leg.now.begin leg.now.last }
+    requires to { IsReachingRun (line_along walk.now) walk.now.leg.last 0 between.to }
+    ensures exact { result ≡ is_feasible (line_along walk.now) }
+    ensures count { steps.new
+        ≤ steps.old + walk_weight (line_along walk.now) walk.now.leg.begin walk.now.leg.last }
 {
     laws::lines_are_sound();
     laws::chosen_where_feasible();
@@ -133,7 +130,7 @@ pub(crate) fn walk_by_runs<L: Ledger>(
     laws::reached_as_tested();
     laws::end_reached_as_tested();
     vr_steps::laws::runs_are_counted();
-    let run = carry_run(walk, list, leg, 0, between.from, steps);
+    let run = carry_run(walk, 0, between.from, steps);
     if run.lo > run.hi {
         return false;
     }
@@ -148,46 +145,43 @@ pub(crate) fn walk_by_runs<L: Ledger>(
 // It counts a step for each arc.
 pub(crate) fn carry_run<L: Ledger>(
     walk: &RunWalk,
-    list: &Spliced,
-    leg: &Leg,
     taken: usize,
     from: Run,
     steps: &mut Steps<L>,
 ) -> Run
     requires walk { IsRunWalk walk.now }
-    requires used { IsUsed walk.now.stops.model.now list.now }
-    requires leg { IsLegAlong walk.now list.now leg.now }
-    requires breaks { taken ≤ length (line_along walk.now list.now).breaks }
+    requires breaks { taken ≤ length (line_along walk.now).breaks }
     requires from_cumuls { IsCumulRun from }
-    requires from { IsReachedRun (line_along walk.now list.now) leg.now.begin taken from }
+    requires from { IsReachedRun (line_along walk.now) walk.now.leg.begin taken from }
     ensures cumuls { result.lo ≤ℤ result.hi → IsCumulRun result }
-    ensures reached { IsReachedRun (line_along walk.now list.now) leg.now.last taken result }
-    ensures led { (y : ℤ) → IsTrue (in_run result y)
-        ↔ IsLedTo (line_along walk.now list.now) (in_run from) leg.now.begin (leg.now.last - leg.now.begin) y }
+    ensures reached { IsReachedRun (line_along walk.now) walk.now.leg.last taken result }
+    ensures led { (y : ℤ) → IsTrue (in_run result y) ↔ IsLedTo (line_along walk.now) (in_run from)
+        walk.now.leg.begin (walk.now.leg.last - walk.now.leg.begin) y }
     ensures count { taken ≡ 0 → steps.new
-        ≤ steps.old + steps_between (line_along walk.now list.now) leg.now.begin leg.now.last }
-    ensures arcs { steps.new ≤ steps.old + (leg.now.last - leg.now.begin) }
+        ≤ steps.old + steps_between (line_along walk.now) walk.now.leg.begin walk.now.leg.last }
+    ensures arcs { steps.new ≤ steps.old + (walk.now.leg.last - walk.now.leg.begin) }
 {
     laws::lines_are_sound();
     laws::reached_by_crossing();
     laws::reached_as_tested();
     vr_steps::laws::arc_alone();
     vr_steps::laws::runs_are_counted();
-    let stops = &walk.stops;
+    let leg = &walk.leg;
+    let stops = &leg.stops;
     let mut run = from;
-    let mut origin = node_at(Closed { model: stops.model }, stops.v, list, leg.begin);
+    let mut origin = node_at(stops.closed, stops.v, leg.list, leg.begin);
     for k in leg.begin..leg.last {
         steps.tick();
         let ahead = stop_ahead(
-            Closed { model: stops.model },
+            stops.closed,
             stops.d,
             stops.v,
             walk.visits,
             walk.finish,
-            list,
+            leg.list,
             k,
         );
-        run = cross_by_run(walk, list, k, taken, origin, run, ahead);
+        run = cross_by_run(walk, k, taken, origin, run, ahead);
         if run.lo > run.hi {
             return run;
         }
@@ -228,36 +222,30 @@ pub(crate) fn stop_ahead(
 
 // The run that is reached behind the arc from stop `k`, without a break inside it. It has no number where none is.
 #[inline]
-fn cross_by_run(
-    walk: &RunWalk,
-    list: &Spliced,
-    k: usize,
-    taken: usize,
-    origin: u32,
-    run: Run,
-    ahead: Ahead,
-) -> Run
+fn cross_by_run(walk: &RunWalk, k: usize, taken: usize, origin: u32, run: Run, ahead: Ahead) -> Run
     requires walk { IsRunWalk walk.now }
-    requires used { IsUsed walk.now.stops.model.now list.now }
-    requires arc { k ≤ length list.now }
-    requires breaks { taken ≤ length (line_along walk.now list.now).breaks }
-    requires origin { origin ≡ node_at_stop walk.now.stops.model.now walk.now.stops.v list.now k }
-    requires origin_below { origin < walk.now.stops.model.now.nodes }
+    requires arc { k ≤ length walk.now.leg.list.now }
+    requires breaks { taken ≤ length (line_along walk.now).breaks }
+    requires origin { origin
+        ≡ node_at_stop walk.now.leg.stops.closed.model.now walk.now.leg.stops.v walk.now.leg.list.now k }
+    requires origin_below { origin < walk.now.leg.stops.closed.model.now.nodes }
     requires cumuls { IsCumulRun run }
-    requires reached { IsReachedRun (line_along walk.now list.now) k taken run }
-    requires target { ahead.node ≡ node_at_stop walk.now.stops.model.now walk.now.stops.v list.now (k + 1) }
-    requires target_below { ahead.node < walk.now.stops.model.now.nodes }
-    requires allowed { IsAllowedRun (line_along walk.now list.now) (k + 1) ahead.allowed }
-    ensures reached { IsReachedRun (line_along walk.now list.now) (k + 1) taken result }
+    requires reached { IsReachedRun (line_along walk.now) k taken run }
+    requires target { ahead.node
+        ≡ node_at_stop walk.now.leg.stops.closed.model.now walk.now.leg.stops.v walk.now.leg.list.now (k + 1) }
+    requires target_below { ahead.node < walk.now.leg.stops.closed.model.now.nodes }
+    requires allowed { IsAllowedRun (line_along walk.now) (k + 1) ahead.allowed }
+    ensures reached { IsReachedRun (line_along walk.now) (k + 1) taken result }
     ensures led { (y : ℤ) → IsTrue (in_run result y)
-        ↔ ((x : ℤ) × IsTrue (in_run run x) × Follows (line_along walk.now list.now) k x y) }
+        ↔ ((x : ℤ) × IsTrue (in_run run x) × Follows (line_along walk.now) k x y) }
     ensures cumuls { result.lo ≤ℤ result.hi → IsCumulRun result }
 {
     laws::lines_are_sound();
     laws::reached_by_crossing();
     vr_steps::laws::arc_alone();
-    let stops = &walk.stops;
+    let stops = &walk.leg.stops;
     let transit = stops
+        .closed
         .model
         .transit_by(stops.d, stops.v, walk.evaluator, origin, ahead.node);
     run_behind(run, transit, walk.slack, ahead.allowed)
@@ -265,13 +253,12 @@ fn cross_by_run(
 
 /// The greatest slack of dimension `d`, in `0..=2^36`.
 #[inline]
-pub fn slack_of(model: &Model, d: u32) -> i64
-    requires well_formed { IsWellFormed model.now }
-    requires dimension { d < length model.now.dimensions }
-    ensures value { result ≡ (dimension_at model.now d).slack_max }
+pub fn slack_of(closed: Closed<'_>, d: u32) -> i64
+    requires dimension { d < length closed.model.now.dimensions }
+    ensures value { result ≡ (dimension_at closed.entry.model.now d).slack_max }
     ensures range { IsIn (pos 0) horizon result }
 {
-    model.dimensions.get(d as usize).slack_max
+    closed.model.dimensions.get(d as usize).slack_max
 }
 
 // The run at the end of an arc, of what is allowed there: it has no number where the arc leads to none.

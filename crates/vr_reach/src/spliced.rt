@@ -5,6 +5,17 @@ ghost use Rattle.vr_reach.specs.Spliced.{spliced};
 
 use std::marker::Model;
 
+/// Nodes that take the place of some others in a list.
+#[derive(Clone, Copy)]
+pub struct Splice<'a> {
+    /// The place of the first node that goes.
+    pub front: usize,
+    /// The place behind the last one.
+    pub behind: usize,
+    /// The nodes that come.
+    pub middle: &'a [u32],
+}
+
 // The nodes of a list below place `front` and those from place `behind` on, with others between.
 #[derive(Drop)]
 pub(crate) struct Spliced<'a> {

@@ -1,110 +1,102 @@
 //! Walks through what an insertion changes in a list whose rows are known, the stretch told or the levels kept.
 
 ghost use Rattle.std.specs.Prelude.{◌≡◌, ◌+◌, ◌<◌, ◌≤◌, IsTrue, length, IfOk, OnOk};
-ghost use Rattle.vr_model.specs.tables.WellFormed.{IsWellFormed};
-ghost use Rattle.vr_model.specs.schedules.Lines.{line};
 ghost use Rattle.vr_model.specs.schedules.Choices.{is_feasible};
 ghost use Rattle.vr_reach.specs.Lists.{IsUsed};
-ghost use Rattle.vr_reach.specs.KnownRows.{AreRowsIfUsed};
+ghost use Rattle.vr_reach.specs.KnownRows.{IsKnownList};
 ghost use Rattle.vr_reach.specs.Standing.{is_stuck, IsReachedAt, ReachesNoEnd};
-ghost use Rattle.vr_reach.specs.Stops.{AreStops};
-ghost use Rattle.vr_reach.specs.Stretches.{SharesFront, SharesBack};
-ghost use Rattle.vr_reach.specs.VehicleStops.{AreVehicleStops};
+ghost use Rattle.vr_reach.specs.Stretches.{SharesFront, SharesBack, SharesEnds};
+ghost use Rattle.vr_reach.specs.VehicleStops.{line_for, AreStopsFor, AreVehicleStops};
 
+use crate::known::KnownList;
 use crate::legs::Leg;
-use crate::rows::Rows;
-use crate::stops::{Stops, VehicleStops, hop_of, set_of};
+use crate::spliced::Spliced;
+use crate::stops::{StopsFor, VehicleStops, hop_of, set_of};
+use crate::stretches::Stretch;
 use crate::walking::{levels_before, levels_behind, walk_uncounted};
 use crate::walks::Walk;
 use std::marker::Brand;
 use std::sync::ledger::{Blank, Ledger};
-use vr_model::{Model, NoMemory, Steps, laws};
+use vr_model::{NoMemory, Steps, laws};
 use vr_steps::Levels;
 
-/// Whether the line of a list of vehicle `v` is feasible, found by a walk through what differs from the list before,
-/// whose rows are known: all but the first `front` and the last `back` nodes. Afterwards nothing is said of where the
-/// walk stands.
+/// Whether the line of a list of a vehicle is feasible, found by a walk through what differs from the list before,
+/// whose rows are known: all but the nodes that both share. Afterwards nothing is said of where the walk stands.
 ///
 /// `NoMemory` as of `passes_along`.
 pub fn goes_between(
-    model: &Model,
-    d: u32,
-    v: u32,
-    stops: &Stops,
-    rows: &Rows,
-    old: &[u32],
+    stops: &StopsFor,
+    known: &KnownList,
     new: &[u32],
-    front: usize,
-    back: usize,
+    shared: Stretch,
     walk: &mut Walk,
 ) -> Result<bool, NoMemory>
-    requires well_formed { IsWellFormed model.now }
-    requires dimension { d < length model.now.dimensions }
-    requires vehicle { v < length model.now.vehicles }
-    requires stops { AreStops model.now d stops.now }
-    requires rows { AreRowsIfUsed model.now d v old.now rows.now }
-    requires used { IsUsed model.now new.now }
-    requires front { SharesFront old.now new.now front }
-    requires back { SharesBack old.now new.now back }
-    requires apart { front + back ≤ length new.now }
-    ensures { IfOk result (λ goes. goes ≡ is_feasible (line model.now d v new.now)) }
+    requires stops { AreStopsFor stops.now }
+    requires known { IsKnownList stops.now known.now }
+    requires used { IsUsed stops.now.closed.model.now new.now }
+    requires shared { SharesEnds known.now.list.now new.now shared }
+    ensures { IfOk result (λ goes. goes ≡ is_feasible (line_for stops.now new.now)) }
 {
-    let ends = &stops.ends[v as usize];
-    let visits = stops.visits.of(model, d, v);
-    let runs = stops.runs_of(model, d, v);
-    let from = levels_before(ends, rows, front);
-    let to = levels_behind(ends, rows, old.len(), back);
-    let asked = VehicleStops {
-        model,
-        d,
-        v,
-        ends,
-        visits,
-    };
+    let ends = &stops.of_dimension.ends[stops.v as usize];
+    let visits = stops
+        .of_dimension
+        .visits
+        .of(stops.closed.model, stops.d, stops.v);
+    let runs = stops
+        .of_dimension
+        .runs_of(stops.closed.model, stops.d, stops.v);
+    let from = levels_before(ends, known.rows, shared.front);
+    let to = levels_behind(ends, known.rows, known.list.len(), shared.back);
+    let whole = Spliced::whole(new);
     let leg = Leg {
-        begin: front,
-        last: new.len() - back + 1,
+        stops: VehicleStops {
+            closed: stops.closed,
+            d: stops.d,
+            v: stops.v,
+            ends,
+            visits,
+        },
+        list: &whole,
+        begin: shared.front,
+        last: new.len() - shared.back + 1,
         from,
         to,
     };
-    let goes = walk_uncounted::<Brand>(&asked, runs, new, &leg, walk, Blank::new(1))?;
+    let goes = walk_uncounted::<Brand>(&leg, runs, walk, Blank::new(1))?;
     Ok(goes)
 }
 
-/// Writes what a list of vehicle `v` reaches behind its first `front` nodes and one arc more over `here`, where it
+/// Writes what a list of a vehicle reaches behind its first `front` nodes and one arc more over `here`, where it
 /// shares those nodes with another list, whose rows are known. Afterwards nothing is said of where the walk stands.
 ///
 /// `NoMemory` as of `passes_along`.
 pub fn leave_rows(
-    model: &Model,
-    d: u32,
-    v: u32,
-    stops: &Stops,
-    rows: &Rows,
-    old: &[u32],
+    stops: &StopsFor,
+    known: &KnownList,
     new: &[u32],
     front: usize,
     walk: &mut Walk,
     here: &mut Levels,
 ) -> Result<(), NoMemory>
-    requires well_formed { IsWellFormed model.now }
-    requires dimension { d < length model.now.dimensions }
-    requires vehicle { v < length model.now.vehicles }
-    requires stops { AreStops model.now d stops.now }
-    requires rows { AreRowsIfUsed model.now d v old.now rows.now }
-    requires used { IsUsed model.now new.now }
-    requires front { SharesFront old.now new.now front }
-    ensures { OnOk result (IsReachedAt model.now d v new.now (front + 1) here.new) }
+    requires stops { AreStopsFor stops.now }
+    requires known { IsKnownList stops.now known.now }
+    requires used { IsUsed stops.now.closed.model.now new.now }
+    requires front { SharesFront known.now.list.now new.now front }
+    ensures { OnOk result
+        (IsReachedAt stops.now.closed.model.now stops.now.d stops.now.v new.now (front + 1) here.new) }
 {
     // the nodes that both share tell which row there is
-    let _shared = old;
-    let ends = &stops.ends[v as usize];
-    let visits = stops.visits.of(model, d, v);
-    let from = levels_before(ends, rows, front);
+    let _shared = known.list;
+    let ends = &stops.of_dimension.ends[stops.v as usize];
+    let visits = stops
+        .of_dimension
+        .visits
+        .of(stops.closed.model, stops.d, stops.v);
+    let from = levels_before(ends, known.rows, front);
     let asked = VehicleStops {
-        model,
-        d,
-        v,
+        closed: stops.closed,
+        d: stops.d,
+        v: stops.v,
         ends,
         visits,
     };
@@ -113,35 +105,32 @@ pub fn leave_rows(
     Ok(())
 }
 
-/// Moves what is reached at stop `k` of a list of vehicle `v` on to the next stop. Afterwards nothing is said of where
+/// Moves what is reached at stop `k` of a list of a vehicle on to the next stop. Afterwards nothing is said of where
 /// the walk stands.
 ///
 /// `NoMemory` as of `passes_along`.
 pub fn go_on(
-    model: &Model,
-    d: u32,
-    v: u32,
-    stops: &Stops,
+    stops: &StopsFor,
     list: &[u32],
     k: usize,
     walk: &mut Walk,
     here: &mut Levels,
 ) -> Result<(), NoMemory>
-    requires well_formed { IsWellFormed model.now }
-    requires dimension { d < length model.now.dimensions }
-    requires vehicle { v < length model.now.vehicles }
-    requires stops { AreStops model.now d stops.now }
-    requires used { IsUsed model.now list.now }
+    requires stops { AreStopsFor stops.now }
+    requires used { IsUsed stops.now.closed.model.now list.now }
     requires stop { k ≤ length list.now }
-    requires here { IsReachedAt model.now d v list.now k here.old }
-    ensures { OnOk result (IsReachedAt model.now d v list.now (k + 1) here.new) }
+    requires here { IsReachedAt stops.now.closed.model.now stops.now.d stops.now.v list.now k here.old }
+    ensures { OnOk result (IsReachedAt stops.now.closed.model.now stops.now.d stops.now.v list.now (k + 1) here.new) }
 {
-    let ends = &stops.ends[v as usize];
-    let visits = stops.visits.of(model, d, v);
+    let ends = &stops.of_dimension.ends[stops.v as usize];
+    let visits = stops
+        .of_dimension
+        .visits
+        .of(stops.closed.model, stops.d, stops.v);
     let asked = VehicleStops {
-        model,
-        d,
-        v,
+        closed: stops.closed,
+        d: stops.d,
+        v: stops.v,
         ends,
         visits,
     };
@@ -150,53 +139,53 @@ pub fn go_on(
     Ok(())
 }
 
-/// Whether the line of a list of vehicle `v` is feasible, found by a walk from stop `k`, where `here` is reached, to
+/// Whether the line of a list of a vehicle is feasible, found by a walk from stop `k`, where `here` is reached, to
 /// its last `back` nodes, which it shares with the list before, whose rows are known. Afterwards nothing is said of
 /// where the walk stands.
 ///
 /// `NoMemory` as of `passes_along`.
 pub fn goes_from(
-    model: &Model,
-    d: u32,
-    v: u32,
-    stops: &Stops,
-    rows: &Rows,
-    old: &[u32],
+    stops: &StopsFor,
+    known: &KnownList,
     new: &[u32],
     k: usize,
     here: &Levels,
     back: usize,
     walk: &mut Walk,
 ) -> Result<bool, NoMemory>
-    requires well_formed { IsWellFormed model.now }
-    requires dimension { d < length model.now.dimensions }
-    requires vehicle { v < length model.now.vehicles }
-    requires stops { AreStops model.now d stops.now }
-    requires rows { AreRowsIfUsed model.now d v old.now rows.now }
-    requires used { IsUsed model.now new.now }
-    requires here { IsReachedAt model.now d v new.now k here.now }
-    requires back { SharesBack old.now new.now back }
+    requires stops { AreStopsFor stops.now }
+    requires known { IsKnownList stops.now known.now }
+    requires used { IsUsed stops.now.closed.model.now new.now }
+    requires here { IsReachedAt stops.now.closed.model.now stops.now.d stops.now.v new.now k here.now }
+    requires back { SharesBack known.now.list.now new.now back }
     requires apart { k + back ≤ length new.now }
-    ensures { IfOk result (λ goes. goes ≡ is_feasible (line model.now d v new.now)) }
+    ensures { IfOk result (λ goes. goes ≡ is_feasible (line_for stops.now new.now)) }
 {
-    let ends = &stops.ends[v as usize];
-    let visits = stops.visits.of(model, d, v);
-    let runs = stops.runs_of(model, d, v);
-    let to = levels_behind(ends, rows, old.len(), back);
-    let asked = VehicleStops {
-        model,
-        d,
-        v,
-        ends,
-        visits,
-    };
+    let ends = &stops.of_dimension.ends[stops.v as usize];
+    let visits = stops
+        .of_dimension
+        .visits
+        .of(stops.closed.model, stops.d, stops.v);
+    let runs = stops
+        .of_dimension
+        .runs_of(stops.closed.model, stops.d, stops.v);
+    let to = levels_behind(ends, known.rows, known.list.len(), back);
+    let whole = Spliced::whole(new);
     let leg = Leg {
+        stops: VehicleStops {
+            closed: stops.closed,
+            d: stops.d,
+            v: stops.v,
+            ends,
+            visits,
+        },
+        list: &whole,
         begin: k,
         last: new.len() - back + 1,
         from: here,
         to,
     };
-    let goes = walk_uncounted::<Brand>(&asked, runs, new, &leg, walk, Blank::new(1))?;
+    let goes = walk_uncounted::<Brand>(&leg, runs, walk, Blank::new(1))?;
     Ok(goes)
 }
 
@@ -237,10 +226,10 @@ fn cross_arc<L: Ledger>(
     requires parts { blank.parts ≡ L.parts }
     requires some { 0 < blank.parts }
     requires stops { AreVehicleStops stops.now }
-    requires used { IsUsed stops.now.model.now list.now }
+    requires used { IsUsed stops.now.closed.model.now list.now }
     requires stop { k ≤ length list.now }
-    requires from { IsReachedAt stops.now.model.now stops.now.d stops.now.v list.now k from.now }
-    ensures { OnOk result (IsReachedAt stops.now.model.now stops.now.d stops.now.v list.now (k + 1) walk.new) }
+    requires from { IsReachedAt stops.now.closed.model.now stops.now.d stops.now.v list.now k from.now }
+    ensures { OnOk result (IsReachedAt stops.now.closed.model.now stops.now.d stops.now.v list.now (k + 1) walk.new) }
 {
     laws::lines_are_sound();
     vr_steps::laws::reached_behind_arc();

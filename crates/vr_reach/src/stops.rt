@@ -1,7 +1,6 @@
 //! What the stops of one dimension ask.
 
 ghost use Rattle.std.specs.Prelude.{◌≡◌, ◌+◌, suc, ◌<◌, ◌≤◌, length, IfOk, IfSome, is_some};
-ghost use Rattle.vr_model.specs.tables.WellFormed.{IsWellFormed};
 ghost use Rattle.vr_steps.specs.Arcs.{IsSoundHop};
 ghost use Rattle.vr_steps.specs.Reached.{hop_at, IsAllowedSet};
 ghost use Rattle.vr_reach.specs.Lists.{node_at_stop, IsTour};
@@ -30,12 +29,10 @@ pub struct Stops {
 
 impl Stops {
     /// The stops of dimension `d`. The only refusal is want of memory.
-    pub fn build(alloc: Global, model: &Model, d: u32) -> Result<Stops, NoMemory>
-        requires well_formed { IsWellFormed model.now }
-        requires dimension { d < length model.now.dimensions }
-        ensures { IfOk result (AreStops model.now d) }
+    pub fn build(alloc: Global, closed: Closed<'_>, d: u32) -> Result<Stops, NoMemory>
+        requires dimension { d < length closed.model.now.dimensions }
+        ensures { IfOk result (AreStops closed.entry.model.now d) }
     {
-        let closed = Closed { model };
         let ends = ends_of_each(alloc, closed, d)?;
         let visits = VisitSets::build(alloc, closed, d)?;
         let runs = run_tables(alloc, &visits.tables)?;
@@ -59,11 +56,24 @@ impl Stops {
     }
 }
 
+/// The stops of a dimension, for one of the vehicles.
+#[derive(Clone, Copy)]
+pub struct StopsFor<'a> {
+    /// The model.
+    pub closed: Closed<'a>,
+    /// The dimension.
+    pub d: u32,
+    /// The vehicle.
+    pub v: u32,
+    /// What the stops of the dimension ask.
+    pub of_dimension: &'a Stops,
+}
+
 // The stops that vehicle `v` may have in dimension `d`: what its start, its end and its breaks ask, and the cumuls that
 // each visit allows it.
 #[derive(Clone, Copy)]
 pub(crate) struct VehicleStops<'a> {
-    pub(crate) model: &'a Model,
+    pub(crate) closed: Closed<'a>,
     pub(crate) d: u32,
     pub(crate) v: u32,
     pub(crate) ends: &'a Ends,
@@ -74,7 +84,7 @@ pub(crate) struct VehicleStops<'a> {
 #[inline]
 pub(crate) fn set_at<'a>(stops: &VehicleStops<'a>, list: &Spliced, k: usize) -> &'a Spans
     requires stops { AreVehicleStops stops.now }
-    requires tour { IsTour stops.now.model.now list.now }
+    requires tour { IsTour stops.now.closed.model.now list.now }
     requires stop { k ≤ suc (length list.now) }
     ensures { IsAllowedSet (line_of stops.now list.now) k result.now }
 {
@@ -91,7 +101,7 @@ pub(crate) fn set_at<'a>(stops: &VehicleStops<'a>, list: &Spliced, k: usize) -> 
 #[inline]
 pub(crate) fn set_of<'a>(stops: &VehicleStops<'a>, list: &[u32], k: usize) -> &'a Spans
     requires stops { AreVehicleStops stops.now }
-    requires tour { IsTour stops.now.model.now list.now }
+    requires tour { IsTour stops.now.closed.model.now list.now }
     requires stop { k ≤ suc (length list.now) }
     ensures { IsAllowedSet (line_of stops.now list.now) k result.now }
 {
@@ -121,23 +131,23 @@ pub(crate) fn node_at(closed: Closed<'_>, v: u32, list: &Spliced, k: usize) -> u
 #[inline]
 pub(crate) fn hop_from(stops: &VehicleStops, list: &Spliced, k: usize) -> Hop
     requires stops { AreVehicleStops stops.now }
-    requires tour { IsTour stops.now.model.now list.now }
+    requires tour { IsTour stops.now.closed.model.now list.now }
     requires stop { k ≤ length list.now }
     ensures exact { result ≡ hop_at (line_of stops.now list.now) k }
     ensures sound { IsSoundHop result }
 {
     // that the list is in memory says that the sum fits
     let _few = list.len();
-    let origin = node_at(Closed { model: stops.model }, stops.v, list, k);
-    let target = node_at(Closed { model: stops.model }, stops.v, list, k + 1);
-    hop(stops.model, stops.d, stops.v, origin, target)
+    let origin = node_at(stops.closed, stops.v, list, k);
+    let target = node_at(stops.closed, stops.v, list, k + 1);
+    hop(stops.closed.model, stops.d, stops.v, origin, target)
 }
 
 // The same, where the list is written out.
 #[inline]
 pub(crate) fn hop_of(stops: &VehicleStops, list: &[u32], k: usize) -> Hop
     requires stops { AreVehicleStops stops.now }
-    requires tour { IsTour stops.now.model.now list.now }
+    requires tour { IsTour stops.now.closed.model.now list.now }
     requires stop { k ≤ length list.now }
     ensures exact { result ≡ hop_at (line_of stops.now list.now) k }
     ensures sound { IsSoundHop result }

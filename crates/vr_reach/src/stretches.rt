@@ -5,13 +5,13 @@ ghost use Rattle.vr_reach.specs.Stretches.{SharesFront, SharesBack, DifferAtFron
 
 use crate::spliced::Spliced;
 
-// How many nodes two lists share at the front and at the back.
+/// How many nodes two lists share at the front and at the back.
 #[derive(Clone, Copy)]
-pub(crate) struct Stretch {
-    // the nodes that both begin with
-    pub(crate) front: usize,
-    // the nodes that both end with, beside those
-    pub(crate) back: usize,
+pub struct Stretch {
+    /// The nodes that both begin with.
+    pub front: usize,
+    /// The nodes that both end with, beside those.
+    pub back: usize,
 }
 
 impl Stretch {

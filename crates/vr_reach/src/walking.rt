@@ -1,121 +1,110 @@
 //! Walks along a list, and through what changed in one.
 
 ghost use Rattle.std.specs.Prelude.{◌≡◌, ◌+◌, ◌-◌, ◌<◌, ◌≤◌, suc, false, IsTrue, length, IfOk, IfSome, IsSome, None};
-ghost use Rattle.std.specs.List.{list_all};
-ghost use Rattle.vr_model.specs.tables.Tables.{is_visit};
-ghost use Rattle.vr_model.specs.tables.WellFormed.{IsWellFormed};
-ghost use Rattle.vr_model.specs.routes.Routes.{is_distinct};
-ghost use Rattle.vr_model.specs.schedules.Lines.{line};
 ghost use Rattle.vr_model.specs.schedules.Choices.{is_feasible};
 ghost use Rattle.vr_model.specs.schedules.Weights.{walk_weight, list_weight};
 ghost use Rattle.vr_reach.specs.Rows.{row_at};
 ghost use Rattle.vr_reach.specs.Lists.{is_feasible_list, IsTour, IsUsed};
-ghost use Rattle.vr_reach.specs.KnownRows.{AreRowsIfUsed};
-ghost use Rattle.vr_reach.specs.Spliced.{spliced};
+ghost use Rattle.vr_reach.specs.KnownRows.{IsKnownList};
+ghost use Rattle.vr_reach.specs.Legs.{line_of_leg, IsLeg};
+ghost use Rattle.vr_reach.specs.Spliced.{AreSeams};
+ghost use Rattle.vr_reach.specs.Splices.{spliced_by};
 ghost use Rattle.vr_reach.specs.GivenUp.{IsGivenUp};
-ghost use Rattle.vr_reach.specs.Stops.{AreStops};
 ghost use Rattle.vr_reach.specs.Tries.{list_tries, tries_between};
-ghost use Rattle.vr_reach.specs.VehicleStops.{line_of, AreVehicleStops, IsLegOf};
+ghost use Rattle.vr_reach.specs.VehicleStops.{line_for, AreStopsFor};
 ghost use Rattle.vr_reach.specs.VisitRuns.{AreVisitRuns};
 
 use crate::ends::Ends;
+use crate::known::KnownList;
 use crate::legs::Leg;
 use crate::probing::told_without_breaks;
 use crate::rows::Rows;
 use crate::single::{RunWalk, finish_of, runs_between, slack_of, walk_by_runs};
-use crate::spliced::Spliced;
-use crate::stops::{Stops, VehicleStops, hop_from, set_at};
+use crate::spliced::{Splice, Spliced};
+use crate::stops::{StopsFor, VehicleStops, hop_from, set_at};
 use crate::stretches::Stretch;
 use crate::walks::Walk;
 use std::marker::Brand;
 use std::sync::ledger::{Blank, Ledger};
-use vr_model::{Model, NoMemory, Steps, laws};
+use vr_model::{NoMemory, Steps, laws};
 use vr_spans::Run;
 use vr_steps::Levels;
 
 // Whether the line of a list is feasible, found by a walk along a leg of it. The walk carries one run where that is all
 // there is; else, where no visit allows more, walks without a break are asked first, whose arcs are counted as tries.
 fn walk_through<L: Ledger, M: Ledger>(
-    stops: &VehicleStops,
-    runs: Option<&[Run]>,
-    list: &Spliced,
     leg: &Leg,
+    runs: Option<&[Run]>,
     walk: &mut Walk,
     steps: &mut Steps<L>,
     tries: &mut Steps<M>,
 ) -> Result<bool, NoMemory>
-    requires stops { AreVehicleStops stops.now }
-    requires runs { IfSome runs (λ found. AreVisitRuns stops.now.model.now stops.now.d stops.now.v found.now) }
-    requires used { IsUsed stops.now.model.now list.now }
-    requires leg { IsLegOf stops.now list.now leg.now }
-    ensures exact { IfOk result (λ passed. passed ≡ is_feasible (line_of stops.now list.now)) }
-    ensures count { steps.new ≤ steps.old + walk_weight (line_of stops.now list.now) leg.now.begin leg.now.last }
-    ensures tries { tries.new ≤ tries.old + tries_between (line_of stops.now list.now) leg.now.begin leg.now.last }
+    requires leg { IsLeg leg.now }
+    requires runs { IfSome runs (λ found. AreVisitRuns leg.now.stops.closed.model.now leg.now.stops.d leg.now.stops.v
+        found.now) }
+    ensures exact { IfOk result (λ passed. passed ≡ is_feasible (line_of_leg leg.now)) }
+    ensures count { steps.new ≤ steps.old + walk_weight (line_of_leg leg.now) leg.now.begin leg.now.last }
+    ensures tries { tries.new ≤ tries.old + tries_between (line_of_leg leg.now) leg.now.begin leg.now.last }
 {
-    let told = told_by_runs(stops, runs, list, leg, steps, tries);
+    let told = told_by_runs(leg, runs, steps, tries);
     if let Some(passed) = told {
         return Ok(passed);
     }
-    let passed = walk_by_sets(stops, list, leg, walk, steps)?;
+    let passed = walk_by_sets(leg, walk, steps)?;
     Ok(passed)
 }
 
 // The same, where walks that carry one run tell.
 fn told_by_runs<L: Ledger, M: Ledger>(
-    stops: &VehicleStops,
-    runs: Option<&[Run]>,
-    list: &Spliced,
     leg: &Leg,
+    runs: Option<&[Run]>,
     steps: &mut Steps<L>,
     tries: &mut Steps<M>,
 ) -> Option<bool>
-    requires stops { AreVehicleStops stops.now }
-    requires runs { IfSome runs (λ found. AreVisitRuns stops.now.model.now stops.now.d stops.now.v found.now) }
-    requires used { IsUsed stops.now.model.now list.now }
-    requires leg { IsLegOf stops.now list.now leg.now }
-    ensures told { IfSome result (λ passed. passed ≡ is_feasible (line_of stops.now list.now)) }
+    requires leg { IsLeg leg.now }
+    requires runs { IfSome runs (λ found. AreVisitRuns leg.now.stops.closed.model.now leg.now.stops.d leg.now.stops.v
+        found.now) }
+    ensures told { IfSome result (λ passed. passed ≡ is_feasible (line_of_leg leg.now)) }
     ensures untold { result ≡ None → steps.new ≡ steps.old }
-    ensures given_up { result ≡ None → IsSome runs.entry → IsGivenUp stops.now list.now leg.now }
-    ensures known { IsSome result → IsSome runs.entry × (IsGivenUp stops.now list.now leg.now → ⊥) }
-    ensures count { steps.new ≤ steps.old + walk_weight (line_of stops.now list.now) leg.now.begin leg.now.last }
-    ensures tries { tries.new ≤ tries.old + tries_between (line_of stops.now list.now) leg.now.begin leg.now.last }
+    ensures given_up { result ≡ None → IsSome runs.entry → IsGivenUp leg.now }
+    ensures known { IsSome result → IsSome runs.entry × (IsGivenUp leg.now → ⊥) }
+    ensures count { steps.new ≤ steps.old + walk_weight (line_of_leg leg.now) leg.now.begin leg.now.last }
+    ensures tries { tries.new ≤ tries.old + tries_between (line_of_leg leg.now) leg.now.begin leg.now.last }
 {
     let visits = runs?;
-    let finish = finish_of(stops.model, stops.d, stops.v, stops.ends)?;
+    let stops = &leg.stops;
+    let finish = finish_of(stops.closed.model, stops.d, stops.v, stops.ends)?;
     let evaluator = stops
+        .closed
         .model
         .dimensions
         .get(stops.d as usize)
         .evaluator_of(stops.v);
-    let slack = slack_of(stops.model, stops.d);
+    let slack = slack_of(stops.closed, stops.d);
     let walk = RunWalk {
-        stops: *stops,
+        leg: *leg,
         evaluator,
         slack,
         visits,
         finish,
     };
     if let Some(between) = runs_between(stops.ends, leg) {
-        let passed = walk_by_runs(&walk, list, leg, between, steps);
+        let passed = walk_by_runs(&walk, between, steps);
         return Some(passed);
     }
-    let told = told_without_breaks(&walk, list, leg, tries)?;
+    let told = told_without_breaks(&walk, tries)?;
     Some(told)
 }
 
 // The same, carrying the sets of each number of breaks.
 fn walk_by_sets<L: Ledger>(
-    stops: &VehicleStops,
-    list: &Spliced,
     leg: &Leg,
     walk: &mut Walk,
     steps: &mut Steps<L>,
 ) -> Result<bool, NoMemory>
-    requires stops { AreVehicleStops stops.now }
-    requires used { IsUsed stops.now.model.now list.now }
-    requires leg { IsLegOf stops.now list.now leg.now }
-    ensures exact { IfOk result (λ passed. passed ≡ is_feasible (line_of stops.now list.now)) }
-    ensures count { steps.new ≤ steps.old + walk_weight (line_of stops.now list.now) leg.now.begin leg.now.last }
+    requires leg { IsLeg leg.now }
+    ensures exact { IfOk result (λ passed. passed ≡ is_feasible (line_of_leg leg.now)) }
+    ensures count { steps.new ≤ steps.old + walk_weight (line_of_leg leg.now) leg.now.begin leg.now.last }
 {
     laws::lines_are_sound();
     laws::chosen_where_feasible();
@@ -123,24 +112,24 @@ fn walk_by_sets<L: Ledger>(
     laws::end_reached_as_tested();
     vr_steps::laws::runs_are_counted();
     vr_steps::laws::reached_behind_arc();
-    let breaks = &stops.ends.breaks;
-    let hop = hop_from(stops, list, leg.begin);
-    let next = set_at(stops, list, leg.begin + 1);
+    let breaks = &leg.stops.ends.breaks;
+    let hop = hop_from(&leg.stops, leg.list, leg.begin);
+    let next = set_at(&leg.stops, leg.list, leg.begin + 1);
     walk.leave(leg.from, hop, next, breaks, steps)?;
     for k in leg.begin + 1..leg.last {
-        let hop = hop_from(stops, list, k);
-        let next = set_at(stops, list, k + 1);
+        let hop = hop_from(&leg.stops, leg.list, k);
+        let next = set_at(&leg.stops, leg.list, k + 1);
         walk.step(hop, next, breaks, steps)?;
     }
     let passed = walk.meets(leg.to, steps);
     Ok(passed)
 }
 
-/// Whether the list that vehicle `v` gets is empty or its line feasible: its list before, with other nodes in the place
-/// of those from place `front` up to place `behind`. It is found by a walk through what differs from the list before,
-/// which passes itself and whose rows are known. It counts a step for each run that it carries over an arc, once for
-/// each number of further breaks, and one for each run on both sides where it joins the rows: at most the weight that
-/// the definitions give the changed list. Afterwards nothing is said of where the walk stands.
+/// Whether the list that a vehicle gets is empty or its line feasible: its list before, with other nodes in the place
+/// of some. It is found by a walk through what differs from the list before, which passes itself and whose rows are
+/// known. It counts a step for each run that it carries over an arc, once for each number of further breaks, and one
+/// for each run on both sides where it joins the rows: at most the weight that the definitions give the changed list.
+/// Afterwards nothing is said of where the walk stands.
 ///
 /// Where no visit allows more than one run, it carries one run in place of sets; of a vehicle with breaks, walks
 /// without a break are tried before, one for each number of breaks taken before it, which tell of most moves. They
@@ -149,141 +138,129 @@ fn walk_by_sets<L: Ledger>(
 /// `NoMemory` where there was no memory: it is taken only where a set has more than four runs, or a vehicle more breaks
 /// than any before.
 pub fn passes_along<L: Ledger, M: Ledger>(
-    model: &Model,
-    d: u32,
-    v: u32,
-    stops: &Stops,
-    rows: &Rows,
-    old: &[u32],
-    front: usize,
-    behind: usize,
-    middle: &[u32],
+    stops: &StopsFor,
+    known: &KnownList,
+    splice: &Splice,
     walk: &mut Walk,
     steps: &mut Steps<L>,
     tries: &mut Steps<M>,
 ) -> Result<bool, NoMemory>
-    requires well_formed { IsWellFormed model.now }
-    requires dimension { d < length model.now.dimensions }
-    requires vehicle { v < length model.now.vehicles }
-    requires stops { AreStops model.now d stops.now }
-    requires rows { AreRowsIfUsed model.now d v old.now rows.now }
-    requires old_tour { IsTour model.now old.now }
-    requires order { front ≤ behind }
-    requires high { behind ≤ length old.now }
-    requires tour { IsTour model.now (spliced old.now front behind middle.now) }
-    requires passed { IsTrue (is_feasible_list model.now d v old.now) }
+    requires stops { AreStopsFor stops.now }
+    requires known { IsKnownList stops.now known.now }
+    requires seams { AreSeams (length known.now.list.now) splice.now.front splice.now.behind }
+    requires old_tour { IsTour stops.now.closed.model.now known.now.list.now }
+    requires tour { IsTour stops.now.closed.model.now (spliced_by known.now splice.now) }
+    requires passed { IsTrue
+        (is_feasible_list stops.now.closed.model.now stops.now.d stops.now.v known.now.list.now) }
     ensures exact { IfOk result (λ passed. passed
-        ≡ is_feasible_list model.now d v (spliced old.now front behind middle.now)) }
-    ensures count { steps.new
-        ≤ steps.old + list_weight model.now d v old.now (spliced old.now front behind middle.now) }
-    ensures tries { tries.new
-        ≤ tries.old + list_tries model.now d v old.now (spliced old.now front behind middle.now) }
+        ≡ is_feasible_list stops.now.closed.model.now stops.now.d stops.now.v (spliced_by known.now splice.now)) }
+    ensures count { steps.new ≤ steps.old + list_weight stops.now.closed.model.now stops.now.d stops.now.v
+        known.now.list.now (spliced_by known.now splice.now) }
+    ensures tries { tries.new ≤ tries.old + list_tries stops.now.closed.model.now stops.now.d stops.now.v
+        known.now.list.now (spliced_by known.now splice.now) }
 {
-    let new = Spliced::of(old, front, behind, middle);
+    let old = known.list;
+    let new = Spliced::of(old, splice.front, splice.behind, splice.middle);
     let n = new.len();
     if n == 0 {
         return Ok(true);
     }
     let told = Stretch {
-        front,
-        back: old.len() - behind,
+        front: splice.front,
+        back: old.len() - splice.behind,
     };
     let stretch = Stretch::of(old, &new, told);
     if stretch.front == old.len() && stretch.front == n {
         return Ok(true);
     }
-    let ends = &stops.ends[v as usize];
-    let visits = stops.visits.of(model, d, v);
-    let runs = stops.runs_of(model, d, v);
-    let from = levels_before(ends, rows, stretch.front);
-    let to = levels_behind(ends, rows, old.len(), stretch.back);
-    let asked = VehicleStops {
-        model,
-        d,
-        v,
-        ends,
-        visits,
-    };
+    let ends = &stops.of_dimension.ends[stops.v as usize];
+    let visits = stops
+        .of_dimension
+        .visits
+        .of(stops.closed.model, stops.d, stops.v);
+    let runs = stops
+        .of_dimension
+        .runs_of(stops.closed.model, stops.d, stops.v);
+    let from = levels_before(ends, known.rows, stretch.front);
+    let to = levels_behind(ends, known.rows, old.len(), stretch.back);
     let leg = Leg {
+        stops: VehicleStops {
+            closed: stops.closed,
+            d: stops.d,
+            v: stops.v,
+            ends,
+            visits,
+        },
+        list: &new,
         begin: stretch.front,
         last: n - stretch.back + 1,
         from,
         to,
     };
-    let passed = walk_through(&asked, runs, &new, &leg, walk, steps, tries)?;
+    let passed = walk_through(&leg, runs, walk, steps, tries)?;
     Ok(passed)
 }
 
-/// Whether vehicle `v` has a schedule with a list in dimension `d`: goes along the list from its start to its end.
+/// Whether a vehicle has a schedule with a list in a dimension: goes along the list from its start to its end.
 /// Afterwards nothing is said of where the walk stands.
 ///
 /// `NoMemory` as of `passes_along`.
-pub fn goes_through(
-    model: &Model,
-    d: u32,
-    v: u32,
-    stops: &Stops,
-    list: &[u32],
-    walk: &mut Walk,
-) -> Result<bool, NoMemory>
-    requires well_formed { IsWellFormed model.now }
-    requires dimension { d < length model.now.dimensions }
-    requires vehicle { v < length model.now.vehicles }
-    requires stops { AreStops model.now d stops.now }
-    requires some { 0 < length list.now }
-    requires visits { IsTrue (list_all (is_visit model.now) list.now) }
-    requires distinct { IsTrue (is_distinct list.now) }
-    ensures { IfOk result (λ goes. goes ≡ is_feasible (line model.now d v list.now)) }
+pub fn goes_through(stops: &StopsFor, list: &[u32], walk: &mut Walk) -> Result<bool, NoMemory>
+    requires stops { AreStopsFor stops.now }
+    requires used { IsUsed stops.now.closed.model.now list.now }
+    ensures { IfOk result (λ goes. goes ≡ is_feasible (line_for stops.now list.now)) }
 {
-    let ends = &stops.ends[v as usize];
-    let visits = stops.visits.of(model, d, v);
-    let runs = stops.runs_of(model, d, v);
-    let asked = VehicleStops {
-        model,
-        d,
-        v,
-        ends,
-        visits,
-    };
+    let ends = &stops.of_dimension.ends[stops.v as usize];
+    let visits = stops
+        .of_dimension
+        .visits
+        .of(stops.closed.model, stops.d, stops.v);
+    let runs = stops
+        .of_dimension
+        .runs_of(stops.closed.model, stops.d, stops.v);
+    let whole = Spliced::whole(list);
     let leg = Leg {
+        stops: VehicleStops {
+            closed: stops.closed,
+            d: stops.d,
+            v: stops.v,
+            ends,
+            visits,
+        },
+        list: &whole,
         begin: 0,
         last: list.len() + 1,
         from: &ends.start_levels,
         to: &ends.end_levels,
     };
-    let goes = walk_uncounted::<Brand>(&asked, runs, list, &leg, walk, Blank::new(1))?;
+    let goes = walk_uncounted::<Brand>(&leg, runs, walk, Blank::new(1))?;
     Ok(goes)
 }
 
 // The same as `walk_through`, where nobody counts steps or tries.
 pub(crate) fn walk_uncounted<L: Ledger>(
-    stops: &VehicleStops,
-    runs: Option<&[Run]>,
-    list: &[u32],
     leg: &Leg,
+    runs: Option<&[Run]>,
     walk: &mut Walk,
     blank: Blank,
 ) -> Result<bool, NoMemory>
     requires name { blank.name ≡ L.name }
     requires parts { blank.parts ≡ L.parts }
     requires some { 0 < blank.parts }
-    requires stops { AreVehicleStops stops.now }
-    requires runs { IfSome runs (λ found. AreVisitRuns stops.now.model.now stops.now.d stops.now.v found.now) }
-    requires used { IsUsed stops.now.model.now list.now }
-    requires leg { IsLegOf stops.now list.now leg.now }
-    ensures { IfOk result (λ goes. goes ≡ is_feasible (line_of stops.now list.now)) }
+    requires leg { IsLeg leg.now }
+    requires runs { IfSome runs (λ found. AreVisitRuns leg.now.stops.closed.model.now leg.now.stops.d leg.now.stops.v
+        found.now) }
+    ensures { IfOk result (λ goes. goes ≡ is_feasible (line_of_leg leg.now)) }
 {
     let mut steps = Steps::<L>::new(blank);
-    let goes = walk_untried::<L, Brand>(stops, runs, list, leg, walk, &mut steps, Blank::new(1))?;
+    let goes = walk_untried::<L, Brand>(leg, runs, walk, &mut steps, Blank::new(1))?;
     Ok(goes)
 }
 
 // The same as `walk_through`, where nobody counts tries.
 fn walk_untried<L: Ledger, M: Ledger>(
-    stops: &VehicleStops,
-    runs: Option<&[Run]>,
-    list: &[u32],
     leg: &Leg,
+    runs: Option<&[Run]>,
     walk: &mut Walk,
     steps: &mut Steps<L>,
     blank: Blank,
@@ -291,15 +268,13 @@ fn walk_untried<L: Ledger, M: Ledger>(
     requires name { blank.name ≡ M.name }
     requires parts { blank.parts ≡ M.parts }
     requires some { 0 < blank.parts }
-    requires stops { AreVehicleStops stops.now }
-    requires runs { IfSome runs (λ found. AreVisitRuns stops.now.model.now stops.now.d stops.now.v found.now) }
-    requires used { IsUsed stops.now.model.now list.now }
-    requires leg { IsLegOf stops.now list.now leg.now }
-    ensures { IfOk result (λ goes. goes ≡ is_feasible (line_of stops.now list.now)) }
+    requires leg { IsLeg leg.now }
+    requires runs { IfSome runs (λ found. AreVisitRuns leg.now.stops.closed.model.now leg.now.stops.d leg.now.stops.v
+        found.now) }
+    ensures { IfOk result (λ goes. goes ≡ is_feasible (line_of_leg leg.now)) }
 {
-    let whole = Spliced::whole(list);
     let mut tries = Steps::<M>::new(blank);
-    let goes = walk_through(stops, runs, &whole, leg, walk, steps, &mut tries)?;
+    let goes = walk_through(leg, runs, walk, steps, &mut tries)?;
     Ok(goes)
 }
 

@@ -7,13 +7,13 @@ use Rattle.vr_reach.proofs.FoundLemmas.{none_begun_list}
 use Rattle.vr_reach.proofs.early.write_earliest.Goals as goal
 
 pub returns-else-runs-clause-chosen : goal.returns-else-runs-clause-chosen
-returns-else-runs-clause-chosen c found = chosen_list c.args.model.now c.args.d c.args.v c.args.list.now c.drive.new.cumuls.items (c.drive.ensures.early found) c.chosen_is_least.ensures c.in-Some.ensures.no_breaks
+returns-else-runs-clause-chosen c found = chosen_list c.args.stops.now.closed.model.now c.args.stops.now.d c.args.stops.now.v c.args.list.now c.drive.new.cumuls.items (c.drive.ensures.early found) c.chosen_is_least.ensures c.in-Some.ensures.no_breaks
 
 pub returns-else-runs-clause-stops : goal.returns-else-runs-clause-stops
-returns-else-runs-clause-stops c found = as_many_stops c.args.model.now c.args.d c.args.v c.args.list.now c.drive.new.cumuls.items (c.drive.ensures.early found)
+returns-else-runs-clause-stops c found = as_many_stops c.args.stops.now.closed.model.now c.args.stops.now.d c.args.stops.now.v c.args.list.now c.drive.new.cumuls.items (c.drive.ensures.early found)
 
 pub returns-else-runs-clause-range : goal.returns-else-runs-clause-range
-returns-else-runs-clause-range c found = in_range c.args.model.now c.args.d c.args.v c.args.list.now c.drive.new.cumuls.items (c.drive.ensures.early found)
+returns-else-runs-clause-range c found = in_range c.args.stops.now.closed.model.now c.args.stops.now.d c.args.stops.now.v c.args.list.now c.drive.new.cumuls.items (c.drive.ensures.early found)
 
 pub returns-then-runs-clause-found : goal.returns-then-runs-clause-found
 returns-then-runs-clause-found c =
@@ -22,7 +22,7 @@ returns-then-runs-clause-found c =
     let lo = start.ends.lo in
     let hi = start.ends.hi in
     let empty : runs.start.hi <ℤ runs.start.lo = omega (arith, ints, c.if-runs.true, lo.at_least, lo.at_most, hi.at_least, hi.at_most) in
-    (λ t. absurd (false≢true t), λ m. absurd (none_begun_list c.args.model.now c.args.d c.args.v c.args.list.now runs.start start empty (suc (length c.args.list.now)) m.cumuls m.found))
+    (λ t. absurd (false≢true t), λ m. absurd (none_begun_list c.args.stops.now.closed.model.now c.args.stops.now.d c.args.stops.now.v c.args.list.now runs.start start empty (suc (length c.args.list.now)) m.cumuls m.found))
 
 pub returns-else-runs-clause-found : goal.returns-else-runs-clause-found
 returns-else-runs-clause-found c = (λ t. let found = c.drive.ensures.found.0 t in record { runs = sym c.in-Some.ensures.known; cumuls = found.0; found = found.1 }, λ m. c.drive.ensures.found.1 (m.cumuls, m.found))

@@ -12,7 +12,7 @@ use Rattle.vr_reach.proofs.lines.write_hops.Goals as goal
 
 pub loop-k-preserved : goal.loop-k-preserved
 loop-k-preserved c =
-    let m = c.args.stops.now.model.now in
+    let m = c.args.stops.now.closed.model.now in
     let d = c.args.stops.now.d in
     let v = c.args.stops.now.v in
     let list = c.args.list.now in
@@ -29,7 +29,7 @@ loop-k-preserved c =
 
 pub returns-clause-exact : goal.returns-clause-exact
 returns-clause-exact c =
-    let m = c.args.stops.now.model.now in
+    let m = c.args.stops.now.closed.model.now in
     let d = c.args.stops.now.d in
     let v = c.args.stops.now.v in
     let list = c.args.list.now in

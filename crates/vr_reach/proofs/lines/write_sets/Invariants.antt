@@ -7,6 +7,6 @@ use Rattle.vr_reach.proofs.lines.write_sets.Given as goal
 -- the sets so far are those of the first stops
 abbrev pub invariant-loop-k : goal.invariant-loop-k
 invariant-loop-k l = record {
-  exact : AllZip HasNumbers (take l.k (line l.stops.model.now l.stops.d l.stops.v l.list).allowed) l.sets;
+  exact : AllZip HasNumbers (take l.k (line l.stops.closed.model.now l.stops.d l.stops.v l.list).allowed) l.sets;
   cumuls : All IsCumuls l.sets;
 }

@@ -7,6 +7,6 @@ use Rattle.vr_reach.proofs.probing.goes_with_some.Given as goal
 abbrev pub invariant-loop-taken : goal.invariant-loop-taken
 invariant-loop-taken g l = record {
   some : 1 ≤ l.taken;
-  none : (b : ℕ) → 1 ≤ b → b < l.taken → GoesAlone (line l.walk.stops.model.now l.walk.stops.d l.walk.stops.v l.list) l.leg.from.now l.leg.to.now l.leg.begin l.leg.last b → ⊥;
-  count : l.tries ≤ l.fn.tries + (l.taken - 1) * (l.leg.last - l.leg.begin);
+  none : (b : ℕ) → 1 ≤ b → b < l.taken → GoesAlone (line l.walk.leg.stops.closed.model.now l.walk.leg.stops.d l.walk.leg.stops.v l.walk.leg.list.now) l.walk.leg.from.now l.walk.leg.to.now l.walk.leg.begin l.walk.leg.last b → ⊥;
+  count : l.tries ≤ l.fn.tries + (l.taken - 1) * (l.walk.leg.last - l.walk.leg.begin);
 }

@@ -12,13 +12,13 @@ use Rattle.vr_reach.proofs.single.carry_run.Given as goal
 -- the run is reached at stop k; what was counted and what is left are within the whole
 abbrev pub invariant-loop-k : goal.invariant-loop-k
 invariant-loop-k g l = record {
-  begun : l.leg.begin ≤ l.k;
-  within : l.k ≤ l.leg.last;
-  origin : l.origin ≡ node_at_stop l.walk.stops.model.now l.walk.stops.v l.list l.k;
-  below : l.origin < l.walk.stops.model.now.nodes;
+  begun : l.walk.leg.begin ≤ l.k;
+  within : l.k ≤ l.walk.leg.last;
+  origin : l.origin ≡ node_at_stop l.walk.leg.stops.closed.model.now l.walk.leg.stops.v l.walk.leg.list.now l.k;
+  below : l.origin < l.walk.leg.stops.closed.model.now.nodes;
   cumuls : IsCumulRun l.run;
-  reached : IsReachedRun (line l.walk.stops.model.now l.walk.stops.d l.walk.stops.v l.list) l.k l.taken l.run;
-  led : (y : ℤ) → IsTrue (in_run l.run y) ↔ IsLedTo (line l.walk.stops.model.now l.walk.stops.d l.walk.stops.v l.list) (in_run l.fn.from) l.leg.begin (l.k - l.leg.begin) y;
-  count : l.taken ≡ 0 → l.steps + steps_between (line l.walk.stops.model.now l.walk.stops.d l.walk.stops.v l.list) l.k l.leg.last ≤ l.fn.steps + steps_between (line l.walk.stops.model.now l.walk.stops.d l.walk.stops.v l.list) l.leg.begin l.leg.last;
-  arcs : l.steps + l.leg.begin ≤ l.fn.steps + l.k;
+  reached : IsReachedRun (line l.walk.leg.stops.closed.model.now l.walk.leg.stops.d l.walk.leg.stops.v l.walk.leg.list.now) l.k l.taken l.run;
+  led : (y : ℤ) → IsTrue (in_run l.run y) ↔ IsLedTo (line l.walk.leg.stops.closed.model.now l.walk.leg.stops.d l.walk.leg.stops.v l.walk.leg.list.now) (in_run l.fn.from) l.walk.leg.begin (l.k - l.walk.leg.begin) y;
+  count : l.taken ≡ 0 → l.steps + steps_between (line l.walk.leg.stops.closed.model.now l.walk.leg.stops.d l.walk.leg.stops.v l.walk.leg.list.now) l.k l.walk.leg.last ≤ l.fn.steps + steps_between (line l.walk.leg.stops.closed.model.now l.walk.leg.stops.d l.walk.leg.stops.v l.walk.leg.list.now) l.walk.leg.begin l.walk.leg.last;
+  arcs : l.steps + l.walk.leg.begin ≤ l.fn.steps + l.k;
 }

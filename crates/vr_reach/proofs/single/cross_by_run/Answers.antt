@@ -33,7 +33,7 @@ hi_is c =
 
 pub returns-clause-reached : goal.returns-clause-reached
 returns-clause-reached c =
-    run_next c.lines_are_sound.ensures c.reached_by_crossing.ensures c.arc_alone.ensures c.args.walk.now.stops.model.now c.requires.walk.stops.well_formed c.args.walk.now.stops.d c.args.walk.now.stops.v c.requires.walk.stops.dimension c.requires.walk.stops.vehicle c.args.list.now c.requires.used
+    run_next c.lines_are_sound.ensures c.reached_by_crossing.ensures c.arc_alone.ensures c.args.walk.now.leg.stops.closed.model.now c.args.walk.now.leg.stops.closed.well_formed c.args.walk.now.leg.stops.d c.args.walk.now.leg.stops.v c.requires.walk.leg.stops.dimension c.requires.walk.leg.stops.vehicle c.args.walk.now.leg.list.now c.requires.walk.leg.used
     c.args.k c.args.taken c.requires.arc c.requires.breaks c.args.run c.args.ahead.allowed c.run_behind.result c.requires.cumuls c.requires.reached c.requires.allowed
     c.args.origin c.args.ahead.node c.requires.origin c.requires.target c.transit_by-transit.result c.args.walk.now.slack c.transit_by-transit.ensures.value c.requires.walk.slack c.requires.walk.slack_range.at_least (lo_is c) (hi_is c)
 
@@ -42,10 +42,10 @@ returns-clause-cumuls c = λ some. cumuls_behind c.args.run c.args.ahead.allowed
 
 pub returns-clause-led : goal.returns-clause-led
 returns-clause-led c =
-    let m = c.args.walk.now.stops.model.now in
-    let list = c.args.list.now in
-    let L = line m c.args.walk.now.stops.d c.args.walk.now.stops.v list in
+    let m = c.args.walk.now.leg.stops.closed.model.now in
+    let list = c.args.walk.now.leg.list.now in
+    let L = line m c.args.walk.now.leg.stops.d c.args.walk.now.leg.stops.v list in
     let next : c.args.k + 1 ≡ suc c.args.k = omega arith in
-    let way = way_of m c.args.walk.now.stops.d c.args.walk.now.stops.v list c.args.k c.args.origin c.args.ahead.node c.requires.arc c.requires.origin c.requires.target c.transit_by-transit.result c.transit_by-transit.ensures.value in
+    let way = way_of m c.args.walk.now.leg.stops.d c.args.walk.now.leg.stops.v list c.args.k c.args.origin c.args.ahead.node c.requires.arc c.requires.origin c.requires.target c.transit_by-transit.result c.transit_by-transit.ensures.value in
     crossed L c.args.k c.args.run c.args.ahead.allowed c.run_behind.result c.transit_by-transit.result c.args.walk.now.slack c.requires.cumuls.in_order c.requires.walk.slack_range.at_least (lo_is c) (hi_is c)
     (subst (λ i. IsAllowedRun L i c.args.ahead.allowed) next c.requires.allowed) way c.requires.walk.slack

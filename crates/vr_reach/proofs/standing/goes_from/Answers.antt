@@ -1,5 +1,10 @@
-use Rattle.std.proofs.Common.{subst, arith}
+use Rattle.std.proofs.Common.{◌+◌, ◌-◌, ◌∙◌, length, ap, sym, subst, arith}
+use Rattle.vr_model.specs.schedules.Choices.{is_feasible}
+use Rattle.vr_model.specs.schedules.Lines.{line}
 use Rattle.vr_steps.specs.Levels.{AreLevels}
+use Rattle.vr_steps.specs.Reached.{AreReached, AreReachingEnd}
+use Rattle.vr_reach.specs.Lists.{IsUsed}
+use Rattle.vr_reach.specs.Stretches.{SharesBack}
 use Rattle.vr_reach.proofs.Transfer.{as_many_rows, met_at, not_empty}
 use Rattle.vr_reach.proofs.Tables.{ends_here}
 use Rattle.vr_reach.proofs.standing.goes_from.Goals as goal
@@ -7,22 +12,40 @@ use Rattle.vr_reach.proofs.standing.goes_from.Goals as goal
 pub levels_behind-to-requires-clause-row : goal.levels_behind-to-requires-clause-row
 levels_behind-to-requires-clause-row c = λ some.
     let within = c.requires.back.within_old in
-    let n = (as_many_rows c.args.model.now c.args.d c.args.v c.args.old.now c.args.rows.now (c.requires.rows (not_empty c.args.old.now (omega (arith, some, within))))).1 in
+    let n = (as_many_rows c.args.stops.now.closed.model.now c.args.stops.now.d c.args.stops.now.v c.args.known.now.list.now c.args.known.now.rows.now (c.requires.known (not_empty c.args.known.now.list.now (omega (arith, some, within))))).1 in
     omega (arith, n, within, some)
 
 pub walk_uncounted-requires-clause-leg : goal.walk_uncounted-requires-clause-leg
 walk_uncounted-requires-clause-leg c =
-    let m = c.args.model.now in
+    let m = c.args.stops.now.closed.model.now in
+    let d = c.args.stops.now.d in
+    let v = c.args.stops.now.v in
+    let old = c.args.known.now.list.now in
+    let new = c.whole-whole.result in
+    let same = c.whole-whole.ensures in
+    let many = ap length same in
     let at = c.index-ends.result.now in
     let to = c.levels_behind-to.result.now in
     let apart = c.requires.apart in
-    let ends = ends_here m c.args.d c.args.v c.args.stops.now c.requires.stops c.requires.vehicle at c.index-ends.ensures in
-    let met = met_at m c.args.d c.args.v c.args.old.now c.args.new.now at ends c.args.rows.now c.requires.rows c.requires.used c.args.back c.requires.back to c.levels_behind-to.ensures.end c.levels_behind-to.ensures.row in
+    let used = subst (IsUsed m) (sym same) c.requires.used in
+    let back = subst (λ l. SharesBack old l c.args.back) (sym same) c.requires.back in
+    let ends = ends_here m d v c.args.stops.now.of_dimension.now c.requires.stops.are c.requires.stops.vehicle at c.index-ends.ensures in
+    let met = met_at m d v old new at ends c.args.known.now.rows.now c.requires.known used c.args.back back to c.levels_behind-to.ensures.end c.levels_behind-to.ensures.row in
     record {
+      stops = record {
+        dimension = c.requires.stops.dimension;
+        vehicle = c.requires.stops.vehicle;
+        ends = ends;
+        visits = c.of-visits.ensures;
+      };
+      used = used;
       order = omega (arith, apart);
-      within = omega arith;
+      within = omega (arith, many);
       from_form = c.requires.here.form;
-      from = c.requires.here.reached;
+      from = subst (λ l. AreReached (line m d v l) c.args.k c.args.here.now) (sym same) c.requires.here.reached;
       to_form = subst (λ breaks. AreLevels breaks to) ends.breaks_are.same met.0;
-      to = met.1;
+      to = subst (λ n. AreReachingEnd (line m d v new) (n - c.args.back + 1) to) many met.1;
     }
+
+pub returns : goal.returns
+returns c = c.in_ok-goes.ensures ∙ ap (λ l. is_feasible (line c.args.stops.now.closed.model.now c.args.stops.now.d c.args.stops.now.v l)) c.whole-whole.ensures

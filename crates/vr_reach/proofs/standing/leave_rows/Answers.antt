@@ -8,12 +8,12 @@ pub levels_before-from-requires : goal.levels_before-from-requires
 levels_before-from-requires c = record {
   row = λ some.
       let within = c.requires.front.within_old in
-      let n = (as_many_rows c.args.model.now c.args.d c.args.v c.args.old.now c.args.rows.now (c.requires.rows (not_empty c.args.old.now (omega (arith, some, within))))).0 in
+      let n = (as_many_rows c.args.stops.now.closed.model.now c.args.stops.now.d c.args.stops.now.v c.args.known.now.list.now c.args.known.now.rows.now (c.requires.known (not_empty c.args.known.now.list.now (omega (arith, some, within))))).0 in
       omega (arith, n, within);
 }
 
 pub cross_arc-requires-clause-from : goal.cross_arc-requires-clause-from
 cross_arc-requires-clause-from c =
-    let ends = ends_here c.args.model.now c.args.d c.args.v c.args.stops.now c.requires.stops c.requires.vehicle c.index-ends.result.now c.index-ends.ensures in
-    let at = left_at c.args.model.now c.args.d c.args.v c.args.old.now c.args.new.now c.index-ends.result.now ends c.args.rows.now c.requires.rows c.requires.used c.args.front c.requires.front c.levels_before-from.result.now c.levels_before-from.ensures.start c.levels_before-from.ensures.row in
+    let ends = ends_here c.args.stops.now.closed.model.now c.args.stops.now.d c.args.stops.now.v c.args.stops.now.of_dimension.now c.requires.stops.are c.requires.stops.vehicle c.index-ends.result.now c.index-ends.ensures in
+    let at = left_at c.args.stops.now.closed.model.now c.args.stops.now.d c.args.stops.now.v c.args.known.now.list.now c.args.new.now c.index-ends.result.now ends c.args.known.now.rows.now c.requires.known c.requires.used c.args.front c.requires.front c.levels_before-from.result.now c.levels_before-from.ensures.start c.levels_before-from.ensures.row in
     record { form = subst (λ breaks. AreLevels breaks c.levels_before-from.result.now) ends.breaks_are.same at.0; reached = at.1 }

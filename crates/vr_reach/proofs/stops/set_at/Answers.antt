@@ -11,6 +11,6 @@ returns c =
     let node = c.get.ensures in
     let some = c.if-k-eq0.false in
     let within : c.args.k ≤ length list = omega (arith, c.if-k-len.false, c.len.ensures.value) in
-    let low : c.get.result < length sets = (let n = c.requires.stops.visits.long in let h = visit_below c.args.stops.now.model.now list (c.args.k - 1) 0 c.requires.tour.visits (omega (arith, some, within)) in omega (arith, n, h, node)) in
-    visit_allows c.args.stops.now.model.now c.args.stops.now.d c.args.stops.now.v list c.args.k sets (get_or sets c.get.result c.index-stops-get.result) c.requires.stops.visits c.requires.tour (omega (arith, some)) within
+    let low : c.get.result < length sets = (let n = c.requires.stops.visits.long in let h = visit_below c.args.stops.now.closed.model.now list (c.args.k - 1) 0 c.requires.tour.visits (omega (arith, some, within)) in omega (arith, n, h, node)) in
+    visit_allows c.args.stops.now.closed.model.now c.args.stops.now.d c.args.stops.now.v list c.args.k sets (get_or sets c.get.result c.index-stops-get.result) c.requires.stops.visits c.requires.tour (omega (arith, some)) within
     (get_or_default sets c.get.result c.index-stops-get.result [] low ∙ ap (λ i. get_or sets i []) node)

@@ -32,46 +32,53 @@ same_lists old new a shares e f = sym (take_all a old (omega (arith, e))) ∙ (s
 
 pub of-stretch-requires-clause-back : goal.of-stretch-requires-clause-back
 of-stretch-requires-clause-back g c =
-    subst (λ l. SharesBack c.args.old.now l (length c.args.old.now - c.args.behind)) (sym c.of-new.ensures)
-    (shares_back c.args.old.now c.args.middle.now c.args.front c.args.behind (record { order = c.requires.order; high = c.requires.high }))
+    subst (λ l. SharesBack c.args.known.now.list.now l (length c.args.known.now.list.now - c.args.splice.now.behind)) (sym c.of-new.ensures)
+    (shares_back c.args.known.now.list.now c.args.splice.now.middle.now c.args.splice.now.front c.args.splice.now.behind c.requires.seams)
 
 pub returns-clause-exact : goal.returns-clause-exact
 returns-clause-exact g c =
-    let m = c.args.model.now in
-    let used_here = used m (spliced c.args.old.now c.args.front c.args.behind c.args.middle.now) c.of-new.result c.of-new.ensures c.requires.tour c.len-n.result c.len-n.ensures.value c.if-n-eq0.false in
-    c.in_ok-passed.ensures.exact ∙ (sym (ap (λ e. e || is_feasible (line m c.args.d c.args.v c.of-new.result)) used_here.some) ∙ ap (is_feasible_list m c.args.d c.args.v) c.of-new.ensures)
+    let m = c.args.stops.now.closed.model.now in
+    let used_here = used m (spliced c.args.known.now.list.now c.args.splice.now.front c.args.splice.now.behind c.args.splice.now.middle.now) c.of-new.result c.of-new.ensures c.requires.tour c.len-n.result c.len-n.ensures.value c.if-n-eq0.false in
+    c.in_ok-passed.ensures.exact ∙ (sym (ap (λ e. e || is_feasible (line m c.args.stops.now.d c.args.stops.now.v c.of-new.result)) used_here.some) ∙ ap (is_feasible_list m c.args.stops.now.d c.args.stops.now.v) c.of-new.ensures)
 
 pub levels_before-from-requires : goal.levels_before-from-requires
 levels_before-from-requires g c = record {
   row = λ some.
       let within = c.of-stretch.ensures.front.within_old in
-      let n = (as_many_rows c.args.model.now c.args.d c.args.v c.args.old.now c.args.rows.now (c.requires.rows (not_empty c.args.old.now (omega (arith, some, within))))).0 in
+      let n = (as_many_rows c.args.stops.now.closed.model.now c.args.stops.now.d c.args.stops.now.v c.args.known.now.list.now c.args.known.now.rows.now (c.requires.known (not_empty c.args.known.now.list.now (omega (arith, some, within))))).0 in
       omega (arith, n, within);
 }
 
 pub levels_behind-to-requires-clause-row : goal.levels_behind-to-requires-clause-row
 levels_behind-to-requires-clause-row g c = λ some.
     let within = c.of-stretch.ensures.back.within_old in
-    let n = (as_many_rows c.args.model.now c.args.d c.args.v c.args.old.now c.args.rows.now (c.requires.rows (not_empty c.args.old.now (omega (arith, some, within))))).1 in
+    let n = (as_many_rows c.args.stops.now.closed.model.now c.args.stops.now.d c.args.stops.now.v c.args.known.now.list.now c.args.known.now.rows.now (c.requires.known (not_empty c.args.known.now.list.now (omega (arith, some, within))))).1 in
     omega (arith, n, within, some)
 
 pub walk_through-requires-clause-leg : goal.walk_through-requires-clause-leg
 walk_through-requires-clause-leg g c =
-    let m = c.args.model.now in
-    let d = c.args.d in
-    let v = c.args.v in
-    let old = c.args.old.now in
+    let m = c.args.stops.now.closed.model.now in
+    let d = c.args.stops.now.d in
+    let v = c.args.stops.now.v in
+    let old = c.args.known.now.list.now in
     let new = c.of-new.result in
     let from = c.levels_before-from.result.now in
     let to = c.levels_behind-to.result.now in
     let stretch = c.of-stretch.ensures in
     let many = c.len-n.ensures.value in
-    let ends = ends_here m d v c.args.stops.now c.requires.stops c.requires.vehicle c.index-ends.result.now c.index-ends.ensures in
-    let used_here = used m (spliced old c.args.front c.args.behind c.args.middle.now) new c.of-new.ensures c.requires.tour c.len-n.result many c.if-n-eq0.false in
-    let begun = left_at m d v old new c.index-ends.result.now ends c.args.rows.now c.requires.rows used_here c.of-stretch.result.front stretch.front from c.levels_before-from.ensures.start c.levels_before-from.ensures.row in
-    let met = met_at m d v old new c.index-ends.result.now ends c.args.rows.now c.requires.rows used_here c.of-stretch.result.back stretch.back to c.levels_behind-to.ensures.end c.levels_behind-to.ensures.row in
+    let ends = ends_here m d v c.args.stops.now.of_dimension.now c.requires.stops.are c.requires.stops.vehicle c.index-ends.result.now c.index-ends.ensures in
+    let used_here = used m (spliced old c.args.splice.now.front c.args.splice.now.behind c.args.splice.now.middle.now) new c.of-new.ensures c.requires.tour c.len-n.result many c.if-n-eq0.false in
+    let begun = left_at m d v old new c.index-ends.result.now ends c.args.known.now.rows.now c.requires.known used_here c.of-stretch.result.front stretch.front from c.levels_before-from.ensures.start c.levels_before-from.ensures.row in
+    let met = met_at m d v old new c.index-ends.result.now ends c.args.known.now.rows.now c.requires.known used_here c.of-stretch.result.back stretch.back to c.levels_behind-to.ensures.end c.levels_behind-to.ensures.row in
     let apart = stretch.apart in
     record {
+      stops = record {
+        dimension = c.requires.stops.dimension;
+        vehicle = c.requires.stops.vehicle;
+        ends = ends;
+        visits = c.of-visits.ensures;
+      };
+      used = used_here;
       order = omega (arith, apart, many);
       within = omega (arith, many);
       from_form = subst (λ breaks. AreLevels breaks from) ends.breaks_are.same begun.0;
@@ -82,40 +89,40 @@ walk_through-requires-clause-leg g c =
 
 pub returns-in_err-passed-clause-count : goal.returns-in_err-passed-clause-count
 returns-in_err-passed-clause-count g c =
-    let used_here = used c.args.model.now (spliced c.args.old.now c.args.front c.args.behind c.args.middle.now) c.of-new.result c.of-new.ensures c.requires.tour c.len-n.result c.len-n.ensures.value c.if-n-eq0.false in
-    let changed = goes_on c.args.old.now c.of-new.result c.of-stretch.result.front c.of-stretch.ensures.front (told_apart (length c.args.old.now) c.len-n.ensures.value c.else-stretch-old.either) in
+    let used_here = used c.args.stops.now.closed.model.now (spliced c.args.known.now.list.now c.args.splice.now.front c.args.splice.now.behind c.args.splice.now.middle.now) c.of-new.result c.of-new.ensures c.requires.tour c.len-n.result c.len-n.ensures.value c.if-n-eq0.false in
+    let changed = goes_on c.args.known.now.list.now c.of-new.result c.of-stretch.result.front c.of-stretch.ensures.front (told_apart (length c.args.known.now.list.now) c.len-n.ensures.value c.else-stretch-old.either) in
     subst (λ n. c.walk_through.new.steps ≤ c.args.steps.now + n)
-    (ap (λ n. walk_weight (line c.args.model.now c.args.d c.args.v c.of-new.result) c.of-stretch.result.front (n - c.of-stretch.result.back + 1)) c.len-n.ensures.value
-    ∙ (sym (weight_is c.args.model.now c.args.d c.args.v c.args.old.now c.of-new.result c.of-stretch.result c.of-stretch.ensures used_here.some c.requires.old_tour used_here.tour changed)
-    ∙ ap (list_weight c.args.model.now c.args.d c.args.v c.args.old.now) c.of-new.ensures))
+    (ap (λ n. walk_weight (line c.args.stops.now.closed.model.now c.args.stops.now.d c.args.stops.now.v c.of-new.result) c.of-stretch.result.front (n - c.of-stretch.result.back + 1)) c.len-n.ensures.value
+    ∙ (sym (weight_is c.args.stops.now.closed.model.now c.args.stops.now.d c.args.stops.now.v c.args.known.now.list.now c.of-new.result c.of-stretch.result c.of-stretch.ensures used_here.some c.requires.old_tour used_here.tour changed)
+    ∙ ap (list_weight c.args.stops.now.closed.model.now c.args.stops.now.d c.args.stops.now.v c.args.known.now.list.now) c.of-new.ensures))
     c.walk_through.ensures.count
 
 pub returns-clause-count : goal.returns-clause-count
 returns-clause-count g c =
-    let used_here = used c.args.model.now (spliced c.args.old.now c.args.front c.args.behind c.args.middle.now) c.of-new.result c.of-new.ensures c.requires.tour c.len-n.result c.len-n.ensures.value c.if-n-eq0.false in
-    let changed = goes_on c.args.old.now c.of-new.result c.of-stretch.result.front c.of-stretch.ensures.front (told_apart (length c.args.old.now) c.len-n.ensures.value c.else-stretch-old.either) in
+    let used_here = used c.args.stops.now.closed.model.now (spliced c.args.known.now.list.now c.args.splice.now.front c.args.splice.now.behind c.args.splice.now.middle.now) c.of-new.result c.of-new.ensures c.requires.tour c.len-n.result c.len-n.ensures.value c.if-n-eq0.false in
+    let changed = goes_on c.args.known.now.list.now c.of-new.result c.of-stretch.result.front c.of-stretch.ensures.front (told_apart (length c.args.known.now.list.now) c.len-n.ensures.value c.else-stretch-old.either) in
     subst (λ n. c.walk_through.new.steps ≤ c.args.steps.now + n)
-    (ap (λ n. walk_weight (line c.args.model.now c.args.d c.args.v c.of-new.result) c.of-stretch.result.front (n - c.of-stretch.result.back + 1)) c.len-n.ensures.value
-    ∙ (sym (weight_is c.args.model.now c.args.d c.args.v c.args.old.now c.of-new.result c.of-stretch.result c.of-stretch.ensures used_here.some c.requires.old_tour used_here.tour changed)
-    ∙ ap (list_weight c.args.model.now c.args.d c.args.v c.args.old.now) c.of-new.ensures))
+    (ap (λ n. walk_weight (line c.args.stops.now.closed.model.now c.args.stops.now.d c.args.stops.now.v c.of-new.result) c.of-stretch.result.front (n - c.of-stretch.result.back + 1)) c.len-n.ensures.value
+    ∙ (sym (weight_is c.args.stops.now.closed.model.now c.args.stops.now.d c.args.stops.now.v c.args.known.now.list.now c.of-new.result c.of-stretch.result c.of-stretch.ensures used_here.some c.requires.old_tour used_here.tour changed)
+    ∙ ap (list_weight c.args.stops.now.closed.model.now c.args.stops.now.d c.args.stops.now.v c.args.known.now.list.now) c.of-new.ensures))
     c.walk_through.ensures.count
 
 pub returns-in_err-passed-clause-tries : goal.returns-in_err-passed-clause-tries
 returns-in_err-passed-clause-tries g c =
-    let used_here = used c.args.model.now (spliced c.args.old.now c.args.front c.args.behind c.args.middle.now) c.of-new.result c.of-new.ensures c.requires.tour c.len-n.result c.len-n.ensures.value c.if-n-eq0.false in
-    let changed = goes_on c.args.old.now c.of-new.result c.of-stretch.result.front c.of-stretch.ensures.front (told_apart (length c.args.old.now) c.len-n.ensures.value c.else-stretch-old.either) in
+    let used_here = used c.args.stops.now.closed.model.now (spliced c.args.known.now.list.now c.args.splice.now.front c.args.splice.now.behind c.args.splice.now.middle.now) c.of-new.result c.of-new.ensures c.requires.tour c.len-n.result c.len-n.ensures.value c.if-n-eq0.false in
+    let changed = goes_on c.args.known.now.list.now c.of-new.result c.of-stretch.result.front c.of-stretch.ensures.front (told_apart (length c.args.known.now.list.now) c.len-n.ensures.value c.else-stretch-old.either) in
     subst (λ n. c.walk_through.new.tries ≤ c.args.tries.now + n)
-    (ap (λ n. tries_between (line c.args.model.now c.args.d c.args.v c.of-new.result) c.of-stretch.result.front (n - c.of-stretch.result.back + 1)) c.len-n.ensures.value
-    ∙ (sym (tries_are c.args.model.now c.args.d c.args.v c.args.old.now c.of-new.result c.of-stretch.result c.of-stretch.ensures used_here.some c.requires.old_tour used_here.tour changed)
-    ∙ ap (list_tries c.args.model.now c.args.d c.args.v c.args.old.now) c.of-new.ensures))
+    (ap (λ n. tries_between (line c.args.stops.now.closed.model.now c.args.stops.now.d c.args.stops.now.v c.of-new.result) c.of-stretch.result.front (n - c.of-stretch.result.back + 1)) c.len-n.ensures.value
+    ∙ (sym (tries_are c.args.stops.now.closed.model.now c.args.stops.now.d c.args.stops.now.v c.args.known.now.list.now c.of-new.result c.of-stretch.result c.of-stretch.ensures used_here.some c.requires.old_tour used_here.tour changed)
+    ∙ ap (list_tries c.args.stops.now.closed.model.now c.args.stops.now.d c.args.stops.now.v c.args.known.now.list.now) c.of-new.ensures))
     c.walk_through.ensures.tries
 
 pub returns-clause-tries : goal.returns-clause-tries
 returns-clause-tries g c =
-    let used_here = used c.args.model.now (spliced c.args.old.now c.args.front c.args.behind c.args.middle.now) c.of-new.result c.of-new.ensures c.requires.tour c.len-n.result c.len-n.ensures.value c.if-n-eq0.false in
-    let changed = goes_on c.args.old.now c.of-new.result c.of-stretch.result.front c.of-stretch.ensures.front (told_apart (length c.args.old.now) c.len-n.ensures.value c.else-stretch-old.either) in
+    let used_here = used c.args.stops.now.closed.model.now (spliced c.args.known.now.list.now c.args.splice.now.front c.args.splice.now.behind c.args.splice.now.middle.now) c.of-new.result c.of-new.ensures c.requires.tour c.len-n.result c.len-n.ensures.value c.if-n-eq0.false in
+    let changed = goes_on c.args.known.now.list.now c.of-new.result c.of-stretch.result.front c.of-stretch.ensures.front (told_apart (length c.args.known.now.list.now) c.len-n.ensures.value c.else-stretch-old.either) in
     subst (λ n. c.walk_through.new.tries ≤ c.args.tries.now + n)
-    (ap (λ n. tries_between (line c.args.model.now c.args.d c.args.v c.of-new.result) c.of-stretch.result.front (n - c.of-stretch.result.back + 1)) c.len-n.ensures.value
-    ∙ (sym (tries_are c.args.model.now c.args.d c.args.v c.args.old.now c.of-new.result c.of-stretch.result c.of-stretch.ensures used_here.some c.requires.old_tour used_here.tour changed)
-    ∙ ap (list_tries c.args.model.now c.args.d c.args.v c.args.old.now) c.of-new.ensures))
+    (ap (λ n. tries_between (line c.args.stops.now.closed.model.now c.args.stops.now.d c.args.stops.now.v c.of-new.result) c.of-stretch.result.front (n - c.of-stretch.result.back + 1)) c.len-n.ensures.value
+    ∙ (sym (tries_are c.args.stops.now.closed.model.now c.args.stops.now.d c.args.stops.now.v c.args.known.now.list.now c.of-new.result c.of-stretch.result c.of-stretch.ensures used_here.some c.requires.old_tour used_here.tour changed)
+    ∙ ap (list_tries c.args.stops.now.closed.model.now c.args.stops.now.d c.args.stops.now.v c.args.known.now.list.now) c.of-new.ensures))
     c.walk_through.ensures.tries

@@ -21,18 +21,18 @@ read x range = let low = range.at_least in let high = range.at_most in omega (ar
 
 pub evaluator_of-evaluator-requires-clause-vehicle : goal.evaluator_of-evaluator-requires-clause-vehicle
 evaluator_of-evaluator-requires-clause-vehicle g c =
-    let is = c.requires.stops.well_formed.each_dimension c.args.stops.now.d no_dimension c.requires.stops.dimension in
-    subst (λ (x : Dimension). c.args.stops.now.v < length x.vehicle_evaluators) (c.get.ensures.value no_dimension) (let n = is.evaluator_of_each_vehicle in let low = c.requires.stops.vehicle in omega (arith, n, low))
+    let is = c.args.leg.now.stops.closed.well_formed.each_dimension c.args.leg.now.stops.d no_dimension c.requires.leg.stops.dimension in
+    subst (λ (x : Dimension). c.args.leg.now.stops.v < length x.vehicle_evaluators) (c.get.ensures.value no_dimension) (let n = is.evaluator_of_each_vehicle in let low = c.requires.leg.stops.vehicle in omega (arith, n, low))
 
 pub evaluator_of-evaluator-requires-clause-numbers : goal.evaluator_of-evaluator-requires-clause-numbers
 evaluator_of-evaluator-requires-clause-numbers g c =
-    let is = c.requires.stops.well_formed.each_dimension c.args.stops.now.d no_dimension c.requires.stops.dimension in
+    let is = c.args.leg.now.stops.closed.well_formed.each_dimension c.args.leg.now.stops.d no_dimension c.requires.leg.stops.dimension in
     subst (λ (x : Dimension). All (λ k. k < length x.evaluators) x.vehicle_evaluators) (c.get.ensures.value no_dimension) is.vehicle_evaluators_in_range
 
 pub walk_by_runs-passed-requires-clause-walk : goal.walk_by_runs-passed-requires-clause-walk
 walk_by_runs-passed-requires-clause-walk g c = record {
-  stops = c.requires.stops;
-  evaluator = c.evaluator_of-evaluator.ensures ∙ ap (λ dimension. evaluator_of dimension c.args.stops.now.v) (sym (c.get.ensures.value no_dimension));
+  leg = c.requires.leg;
+  evaluator = c.evaluator_of-evaluator.ensures ∙ ap (λ dimension. evaluator_of dimension c.args.leg.now.stops.v) (sym (c.get.ensures.value no_dimension));
   slack = read c.slack_of-slack.result c.slack_of-slack.ensures.range ∙ c.slack_of-slack.ensures.value;
   slack_range = subst (IsIn (pos 0) horizon) (sym (read c.slack_of-slack.result c.slack_of-slack.ensures.range)) c.slack_of-slack.ensures.range;
   visits = search rules;
@@ -41,33 +41,35 @@ walk_by_runs-passed-requires-clause-walk g c = record {
 
 pub walk_by_runs-passed-requires-clause-from : goal.walk_by_runs-passed-requires-clause-from
 walk_by_runs-passed-requires-clause-from g c =
-    run_reached (line c.args.stops.now.model.now c.args.stops.now.d c.args.stops.now.v c.args.list.now) c.args.leg.now.begin 0 c.args.leg.now.from.now c.in-Some.between.from (omega arith) c.requires.leg.from c.in-Some.ensures.from
+    run_reached (line c.args.leg.now.stops.closed.model.now c.args.leg.now.stops.d c.args.leg.now.stops.v c.args.leg.now.list.now) c.args.leg.now.begin 0 c.args.leg.now.from.now c.in-Some.between.from (omega arith) c.requires.leg.from c.in-Some.ensures.from
 
 pub walk_by_runs-passed-requires-clause-to : goal.walk_by_runs-passed-requires-clause-to
 walk_by_runs-passed-requires-clause-to g c =
-    run_reaching (line c.args.stops.now.model.now c.args.stops.now.d c.args.stops.now.v c.args.list.now) c.args.leg.now.last 0 c.args.leg.now.to.now c.in-Some.between.to (omega arith) c.requires.leg.to c.in-Some.ensures.to
+    run_reaching (line c.args.leg.now.stops.closed.model.now c.args.leg.now.stops.d c.args.leg.now.stops.v c.args.leg.now.list.now) c.args.leg.now.last 0 c.args.leg.now.to.now c.in-Some.between.to (omega arith) c.requires.leg.to c.in-Some.ensures.to
 
-pub told_without_breaks-requires-clause-walk : goal.told_without_breaks-requires-clause-walk
-told_without_breaks-requires-clause-walk g c = record {
-  stops = c.requires.stops;
-  evaluator = c.evaluator_of-evaluator.ensures ∙ ap (λ dimension. evaluator_of dimension c.args.stops.now.v) (sym (c.get.ensures.value no_dimension));
-  slack = read c.slack_of-slack.result c.slack_of-slack.ensures.range ∙ c.slack_of-slack.ensures.value;
-  slack_range = subst (IsIn (pos 0) horizon) (sym (read c.slack_of-slack.result c.slack_of-slack.ensures.range)) c.slack_of-slack.ensures.range;
-  visits = search rules;
-  finish = c.in_ok-finish.ensures.finish;
+pub told_without_breaks-requires : goal.told_without_breaks-requires
+told_without_breaks-requires g c = record {
+  walk = record {
+    leg = c.requires.leg;
+    evaluator = c.evaluator_of-evaluator.ensures ∙ ap (λ dimension. evaluator_of dimension c.args.leg.now.stops.v) (sym (c.get.ensures.value no_dimension));
+    slack = read c.slack_of-slack.result c.slack_of-slack.ensures.range ∙ c.slack_of-slack.ensures.value;
+    slack_range = subst (IsIn (pos 0) horizon) (sym (read c.slack_of-slack.result c.slack_of-slack.ensures.range)) c.slack_of-slack.ensures.range;
+    visits = search rules;
+    finish = c.in_ok-finish.ensures.finish;
+  };
 }
 
 pub returns-in_err-told-clause-given_up : goal.returns-in_err-told-clause-given_up
 returns-in_err-told-clause-given_up g c _ _ =
-    let m = c.args.stops.now.model.now in
-    let d = c.args.stops.now.d in
-    let v = c.args.stops.now.v in
+    let m = c.args.leg.now.stops.closed.model.now in
+    let d = c.args.leg.now.stops.d in
+    let v = c.args.leg.now.stops.v in
     let from = c.args.leg.now.from.now in
     let to = c.args.leg.now.to.now in
     record {
       not_one = λ t. (
           let both = and_parts (is_one_run (allowed_by m d v End)) (are_runs (breaks_of (dimension_at m d) v) from to) t in
-          false≢true (c.in_default.ensures.known ∙ ap (λ breaks. are_runs breaks from to) c.requires.stops.ends.breaks_are.same ∙ both.1)
+          false≢true (c.in_default.ensures.known ∙ ap (λ breaks. are_runs breaks from to) c.requires.leg.stops.ends.breaks_are.same ∙ both.1)
           );
       untold = λ t. c.in_err-told.ensures.untold refl (and_parts (is_one_run (allowed_by m d v End)) (is_run (level_at from 0)) t).1;
     }

@@ -9,7 +9,7 @@ use Rattle.vr_reach.proofs.walking.walk_by_sets.Given as goal
 abbrev pub invariant-loop-k : goal.invariant-loop-k
 invariant-loop-k g l = record {
   within : l.k ≤ l.leg.last;
-  form : AreLevels l.stops.ends.now.breaks l.walk;
-  reached : AreReached (line l.stops.model.now l.stops.d l.stops.v l.list) l.k l.walk;
-  count : l.steps + steps_between (line l.stops.model.now l.stops.d l.stops.v l.list) l.k l.leg.last ≤ l.fn.steps + steps_between (line l.stops.model.now l.stops.d l.stops.v l.list) l.leg.begin l.leg.last;
+  form : AreLevels l.leg.stops.ends.now.breaks l.walk;
+  reached : AreReached (line l.leg.stops.closed.model.now l.leg.stops.d l.leg.stops.v l.leg.list.now) l.k l.walk;
+  count : l.steps + steps_between (line l.leg.stops.closed.model.now l.leg.stops.d l.leg.stops.v l.leg.list.now) l.k l.leg.last ≤ l.fn.steps + steps_between (line l.leg.stops.closed.model.now l.leg.stops.d l.leg.stops.v l.leg.list.now) l.leg.begin l.leg.last;
 }
