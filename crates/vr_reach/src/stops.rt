@@ -58,15 +58,15 @@ impl Stops {
 
 /// The stops of a dimension, for one of the vehicles.
 #[derive(Clone, Copy)]
-pub struct StopsFor<'a> {
+pub struct StopsFor<'m, 's> {
     /// The model.
-    pub closed: Closed<'a>,
+    pub closed: Closed<'m>,
     /// The dimension.
     pub d: u32,
     /// The vehicle.
     pub v: u32,
     /// What the stops of the dimension ask.
-    pub of_dimension: &'a Stops,
+    pub of_dimension: &'s Stops,
 }
 
 // The stops that vehicle `v` may have in dimension `d`: what its start, its end and its breaks ask, and the cumuls that
