@@ -1,7 +1,6 @@
 -- What is reached carries over to another list that shares the nodes up to there, and what the end is reached from to one
 -- that shares the nodes from there on.
 use Rattle.std.proofs.Common.{◌≡◌, ℕ, zero, suc, ◌+◌, ◌-◌, ◌<◌, ◌≤◌, Bool, false, List, [], ◌∷◌, ◌++◌, length, map, take, drop, ℤ, refl, sym, ap, subst, ◌∙◌, arith}
-use Rattle.std.proofs.lemmas.Slice.Zip.{AllZip-long}
 use Rattle.vr_spans.specs.declared.runs.Run.{Run}
 use Rattle.vr_model.specs.tables.Numbers.{number_at}
 use Rattle.vr_model.specs.tables.Tables.{vehicle_at, dimension_at, breaks_of, row_of}
@@ -9,11 +8,10 @@ use Rattle.vr_model.specs.routes.Routes.{UsedArc, arcs_from, is_empty}
 use Rattle.vr_model.specs.schedules.Lines.{line, line_arc, start_allows, stop_allows}
 use Rattle.vr_model.specs.schedules.Schedules.{Plan, KeepsRules, before_only, after_only, cumul, front, back, IsReached, ReachesEnd}
 use Rattle.vr_model.specs.declared.records.Model.{Model}
-use Rattle.vr_steps.specs.Levels.{HasNumbers, AreLevels}
+use Rattle.vr_steps.specs.Levels.{AreLevels}
 use Rattle.vr_steps.specs.Reached.{AreReached, AreReachingEnd}
 use Rattle.vr_reach.specs.Rows.{BothWays, row_at}
 use Rattle.vr_reach.specs.Lists.{IsUsed}
-use Rattle.vr_reach.proofs.LineParts.{stops_of_line}
 use Rattle.vr_reach.specs.Stretches.{SharesFront, SharesBack}
 use Rattle.vr_reach.specs.declared.ends.Ends.{Ends}
 use Rattle.vr_reach.specs.Stops.{AreEndsOf}
@@ -90,10 +88,7 @@ not_empty (x ∷ xs) some = refl
 
 -- how many rows there are
 pub as_many_rows : (model : Model) (d v : ℕ) (list : List ℕ) (rows : BothWays) → AreRowsOf model d v list rows → (length rows.forward ≡ suc (suc (length list))) × (length rows.backward ≡ suc (suc (length list)))
-as_many_rows model d v list rows are =
-    let zip = AllZip-long HasNumbers (line model d v list).allowed are.made.allowed are.line_is.allowed in
-    let long = stops_of_line model d v list in
-    (are.rows_are.forward.row_of_each_stop ∙ (zip ∙ long), are.rows_are.backward.row_of_each_stop ∙ (zip ∙ long))
+as_many_rows model d v list rows are = (are.forward.row_of_each_stop, are.backward.row_of_each_stop)
 
 module _ (model : Model) (d v : ℕ) (old new : List ℕ) (ends : Ends) (are : AreEndsOf model d v ends) (rows : BothWays) (kept : is_empty old ≡ false → AreRowsOf model d v old rows) (used : IsUsed model new) where
   -- the levels at the last stop that both lists share at the front
@@ -103,12 +98,10 @@ module _ (model : Model) (d v : ℕ) (old new : List ℕ) (ends : Ends) (are : A
   left_at (suc a) shares levels start row =
       let within = shares.within_old in
       let r = kept (not_empty old (omega (arith, within))) in
-      let many = as_many_rows model d v old rows r in
-      let low : suc a < length r.made.allowed = (let n = many.0 in let m = r.rows_are.forward.row_of_each_stop in omega (arith, n, m, within)) in
-      let f = r.rows_are.forward.each (suc a) low in
+      let f = r.forward.each (suc a) (omega (arith, within)) in
       let here = row (omega arith) in (
-        subst (AreLevels ends.breaks) (sym here) (subst (λ b. AreLevels b (row_at rows.forward (suc a))) (r.line_is.breaks ∙ sym are.breaks_are.same) f.form),
-        subst (AreReached (line model d v new) (suc a)) (sym here) (reached_too model d v old new (suc a) shares (row_at rows.forward (suc a)) (f.exact (line model d v old) r.line_is)),
+        subst (AreLevels ends.breaks) (sym here) (subst (λ b. AreLevels b (row_at rows.forward (suc a))) (sym are.breaks_are.same) f.form),
+        subst (AreReached (line model d v new) (suc a)) (sym here) (reached_too model d v old new (suc a) shares (row_at rows.forward (suc a)) f.reached),
       )
 
   -- the levels at the first stop that both lists share at the back
@@ -123,13 +116,11 @@ module _ (model : Model) (d v : ℕ) (old new : List ℕ) (ends : Ends) (are : A
       let within = shares.within_old in
       let within_new = shares.within_new in
       let r = kept (not_empty old (omega (arith, within))) in
-      let many = as_many_rows model d v old rows r in
       let k : suc (length old - suc z) ≡ length old - suc z + 1 = omega (arith, within) in
       let j : suc (length new - suc z) ≡ length new - suc z + 1 = omega (arith, within_new) in
-      let low : suc (length old - suc z) < length r.made.allowed = (let n = many.1 in let m = r.rows_are.backward.row_of_each_stop in omega (arith, n, m, within)) in
-      let f = r.rows_are.backward.each (suc (length old - suc z)) low in
+      let f = r.backward.each (suc (length old - suc z)) (omega (arith, within)) in
       let here : levels ≡ row_at rows.backward (suc (length old - suc z)) = row (omega arith) ∙ sym (ap (row_at rows.backward) k) in (
-        subst (AreLevels ends.breaks) (sym here) (subst (λ b. AreLevels b (row_at rows.backward (suc (length old - suc z)))) (r.line_is.breaks ∙ sym are.breaks_are.same) f.form),
+        subst (AreLevels ends.breaks) (sym here) (subst (λ b. AreLevels b (row_at rows.backward (suc (length old - suc z)))) (sym are.breaks_are.same) f.form),
         subst (λ i. AreReachingEnd (line model d v new) i levels) j (subst (AreReachingEnd (line model d v new) (suc (length new - suc z))) (sym here)
-            (reaching_too model d v old new (suc z) shares (row_at rows.backward (suc (length old - suc z))) (f.exact (line model d v old) r.line_is))),
+            (reaching_too model d v old new (suc z) shares (row_at rows.backward (suc (length old - suc z))) f.reaching)),
       )

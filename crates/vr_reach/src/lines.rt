@@ -5,50 +5,13 @@ ghost use Rattle.std.specs.List.{AllZip};
 ghost use Rattle.vr_steps.specs.Arcs.{IsSoundHop};
 ghost use Rattle.vr_steps.specs.Levels.{HasNumbers, IsCumuls};
 ghost use Rattle.vr_steps.specs.Lines.{hops_along, IsLineOf, IsSoundLine};
-ghost use Rattle.vr_reach.specs.KnownRows.{AreRowsIfUsed};
 ghost use Rattle.vr_reach.specs.Lists.{IsTour, IsUsed};
 ghost use Rattle.vr_reach.specs.VehicleStops.{line_for, line_of, AreStopsFor, AreVehicleStops};
 
-use crate::rows::Rows;
 use crate::stops::{StopsFor, VehicleStops, hop_of, set_of};
-use arrayvec::ArrayVec;
-use std::alloc::Global;
 use vr_model::{NoMemory, Seq, laws};
 use vr_spans::Spans;
 use vr_steps::{Breaks, Hop, Line};
-
-/// A place for lines. It takes no memory.
-pub fn no_line(alloc: Global) -> Line {
-    Line {
-        allowed: Seq::new(alloc),
-        hops: Seq::new(alloc),
-        breaks: Breaks {
-            rows: ArrayVec::new(),
-        },
-    }
-}
-
-/// Writes the rows of a vehicle with a list in a dimension over others, where the list is not empty; the line is
-/// written over. After `NoMemory` nothing is said of the rows.
-pub fn write_rows(
-    alloc: Global,
-    stops: &StopsFor,
-    list: &[u32],
-    line: &mut Line,
-    rows: &mut Rows,
-) -> Result<(), NoMemory>
-    requires stops { AreStopsFor stops.now }
-    requires tour { IsTour stops.now.closed.model.now list.now }
-    ensures { OnOk result
-        (AreRowsIfUsed stops.now.closed.model.now stops.now.d stops.now.v list.now rows.new) }
-{
-    if list.is_empty() {
-        return Ok(());
-    }
-    write_line(stops, list, line)?;
-    rows.rebuild(alloc, line)?;
-    Ok(())
-}
 
 /// Writes the line of a vehicle with a list in a dimension over another line, as `Line::build` makes it. After
 /// `NoMemory` nothing is said of the line.

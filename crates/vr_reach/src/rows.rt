@@ -5,10 +5,14 @@ ghost use Rattle.vr_model.specs.schedules.Lines.{Line as Defined};
 ghost use Rattle.vr_model.specs.schedules.Schedules.{IsFeasible};
 ghost use Rattle.vr_steps.specs.Lines.{IsLineOf, IsSoundLine};
 ghost use Rattle.vr_steps.specs.declared.lines.Line.{Line as Made};
+ghost use Rattle.vr_reach.specs.KnownRows.{AreFirstRows, AreLastRows, AreRowsOf};
+ghost use Rattle.vr_reach.specs.Lists.{IsUsed};
 ghost use Rattle.vr_reach.specs.Rows.{AreRows};
+ghost use Rattle.vr_reach.specs.VehicleStops.{AreVehicleStops};
 
 use crate::Sweep;
 use crate::shared::share_at_first;
+use crate::stops::VehicleStops;
 use std::alloc::Global;
 use std::marker::Model;
 use vr_model::NoMemory;
@@ -71,6 +75,27 @@ impl Rows {
     {
         self.ahead.forward(alloc, line)?;
         self.behind.backward(alloc, line)?;
+        Ok(())
+    }
+
+    /// Writes the rows of a list of a vehicle over these, of which the first `ahead` and the last `behind` are those of
+    /// the list. After `NoMemory` nothing is said of them.
+    pub(crate) fn rewrite(
+        &mut self,
+        alloc: Global,
+        stops: &VehicleStops,
+        list: &[u32],
+        ahead: usize,
+        behind: usize,
+    ) -> Result<(), NoMemory>
+        requires stops { AreVehicleStops stops.now }
+        requires used { IsUsed stops.now.closed.model.now list.now }
+        requires ahead { AreFirstRows stops.now.closed.model.now stops.now.d stops.now.v list.now ahead self.old.forward }
+        requires behind { AreLastRows stops.now.closed.model.now stops.now.d stops.now.v list.now behind self.old.backward }
+        ensures { OnOk result (AreRowsOf stops.now.closed.model.now stops.now.d stops.now.v list.now self.new) }
+    {
+        self.ahead.forward_along(alloc, stops, list, ahead)?;
+        self.behind.backward_along(alloc, stops, list, behind)?;
         Ok(())
     }
 

@@ -1,0 +1,79 @@
+//! The rows of lists, written over those of other lists.
+
+ghost use Rattle.std.specs.Prelude.{◌≡◌, ◌+◌, ◌<◌, ◌≤◌, OnOk, [], length};
+ghost use Rattle.vr_reach.specs.KnownRows.{AreRowsIfUsed};
+ghost use Rattle.vr_reach.specs.Lists.{IsTour};
+ghost use Rattle.vr_reach.specs.VehicleStops.{AreStopsFor};
+
+use crate::rows::Rows;
+use crate::spliced::Spliced;
+use crate::stops::{StopsFor, VehicleStops};
+use crate::stretches::Stretch;
+use std::alloc::Global;
+use vr_model::NoMemory;
+
+/// Writes the rows of a vehicle with a list in a dimension over others, where the list is not empty. After `NoMemory`
+/// nothing is said of the rows.
+///
+/// It takes memory only where a list has more stops than any before, or a set more than four runs.
+pub fn write_rows(
+    alloc: Global,
+    stops: &StopsFor,
+    list: &[u32],
+    rows: &mut Rows,
+) -> Result<(), NoMemory>
+    requires stops { AreStopsFor stops.now }
+    requires tour { IsTour stops.now.closed.model.now list.now }
+    ensures { OnOk result
+        (AreRowsIfUsed stops.now.closed.model.now stops.now.d stops.now.v list.now rows.new) }
+{
+    rewrite_rows(alloc, stops, &[], list, rows)?;
+    Ok(())
+}
+
+/// Writes the rows of a list over those of another, as `write_rows` does. What both lists reach at stops that they share
+/// at the front stays, and so does what their end is reached from at those that they share at the back.
+pub fn rewrite_rows(
+    alloc: Global,
+    stops: &StopsFor,
+    old: &[u32],
+    list: &[u32],
+    rows: &mut Rows,
+) -> Result<(), NoMemory>
+    requires stops { AreStopsFor stops.now }
+    requires rows { AreRowsIfUsed stops.now.closed.model.now stops.now.d stops.now.v old.now rows.old }
+    requires tour { IsTour stops.now.closed.model.now list.now }
+    ensures { OnOk result
+        (AreRowsIfUsed stops.now.closed.model.now stops.now.d stops.now.v list.now rows.new) }
+{
+    if list.is_empty() {
+        return Ok(());
+    }
+    let whole = Spliced::whole(list);
+    let stretch = Stretch::of(old, &whole, Stretch { front: 0, back: 0 });
+    let ends = &stops.of_dimension.ends[stops.v as usize];
+    let visits = stops
+        .of_dimension
+        .visits
+        .of(stops.closed.model, stops.d, stops.v);
+    let asked = VehicleStops {
+        closed: stops.closed,
+        d: stops.d,
+        v: stops.v,
+        ends,
+        visits,
+    };
+    let ahead = known_with(old, stretch.front);
+    let behind = known_with(old, stretch.back);
+    rows.rewrite(alloc, &asked, list, ahead, behind)?;
+    Ok(())
+}
+
+// How many rows are known with so many nodes: one more, but none of an empty list.
+fn known_with(list: &[u32], nodes: usize) -> usize
+    requires { nodes ≤ length list.now }
+    ensures empty { list.now ≡ [] → result ≡ 0 }
+    ensures some { 0 < length list.now → result ≡ nodes + 1 }
+{
+    if list.is_empty() { 0 } else { nodes + 1 }
+}
