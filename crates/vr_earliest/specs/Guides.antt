@@ -1,14 +1,16 @@
 -- What is looked up of a vehicle in a dimension.
-use Rattle.std.specs.Prelude.{◌≡◌, ◌<◌, length}
+use Rattle.std.specs.Prelude.{◌≡◌, ◌<◌, ℕ, length}
 use Rattle.vr_model.specs.tables.Tables.{dimension_at, evaluator_of}
 use Rattle.vr_model.specs.tables.WellFormed.{IsWellFormed}
+use Rattle.vr_model.specs.declared.records.Evaluator.{Evaluator}
+use Rattle.vr_model.specs.declared.records.Model.{Model}
 use Rattle.vr_earliest.specs.Floors.{AreFloors}
-use Rattle.vr_earliest.specs.declared.ways.Guide.{Guide}
+use Rattle.vr_earliest.specs.declared.floors.Floors.{Floors}
 
--- a guide has the floors of its dimension of a well formed model, and the evaluator of its vehicle there
-pub record IsGuide (guide : Guide) : Type 0 where
-  pub well_formed : IsWellFormed guide.model.now
-  pub dimension : guide.d < length guide.model.now.dimensions
-  pub vehicle : guide.v < length guide.model.now.vehicles
-  pub floors_are : AreFloors guide.model.now guide.d guide.floors.now
-  pub evaluator_is : guide.evaluator.now ≡ evaluator_of (dimension_at guide.model.now guide.d) guide.v
+-- these are the floors of dimension d of a well formed model, and the evaluator of vehicle v there
+pub record IsGuide (model : Model) (d v : ℕ) (floors : Floors) (evaluator : Evaluator) : Type 0 where
+  pub well_formed : IsWellFormed model
+  pub dimension : d < length model.dimensions
+  pub vehicle : v < length model.vehicles
+  pub floors_are : AreFloors model d floors
+  pub evaluator_is : evaluator ≡ evaluator_of (dimension_at model d) v

@@ -10,7 +10,6 @@ ghost use Rattle.vr_routes.specs.Changes.{AreParts, IsMadeOn};
 ghost use Rattle.vr_routes.specs.Pieces.{changed, joined, part_at, IsWithin};
 ghost use Rattle.vr_earliest.specs.Earlies.{AreEarlies, IsEarlyRow};
 ghost use Rattle.vr_earliest.specs.Floors.{AreAllFloors};
-ghost use Rattle.vr_earliest.specs.Guides.{IsGuide};
 ghost use Rattle.vr_earliest.specs.Kept.{HaveAllWays, HaveWays, StandsEarliest};
 ghost use Rattle.vr_earliest.specs.Ways.{earliest_end, least_span, whole_way, IsWholeWay};
 
@@ -87,7 +86,7 @@ impl<'m> Earliest<'m> {
         ensures last_range { IsIn (pos 0) horizon result.last }
         ensures span_range { IsIn (neg_ℤ horizon) horizon result.span }
     {
-        let guide = Guide::of(self.model, &self.floors[d as usize], d, v);
+        let guide = Guide::of(Closed { model: self.model }, &self.floors[d as usize], d, v);
         let way = way_after(&guide, &self.kept[d as usize], routes, pieces);
         let span = guide.span_by(way);
         Early {
@@ -158,7 +157,7 @@ fn floors_of(alloc: Global, closed: Closed<'_>) -> Result<Vec<Floors>, NoMemory>
 {
     let mut floors = Vec::with_capacity(alloc, closed.model.dimensions.len())?;
     for d in 0..closed.model.dimensions.len() {
-        floors.push(Floors::of(alloc, closed.model, d as u32)?)?;
+        floors.push(Floors::of(alloc, closed, d as u32)?)?;
     }
     Ok(floors)
 }
@@ -176,7 +175,7 @@ fn kept_of(
 {
     let mut kept = Vec::with_capacity(alloc, floors.len())?;
     for d in 0..floors.len() {
-        kept.push(KeptLists::of(alloc, closed.model, &floors[d], d as u32, routes)?)?;
+        kept.push(KeptLists::of(alloc, closed, &floors[d], d as u32, routes)?)?;
     }
     Ok(kept)
 }
@@ -192,14 +191,13 @@ fn write_list(closed: Closed<'_>, floors: &[Floors], kept: &mut [KeptLists], v: 
         → HaveAllWays closed.entry.model.now (with_route lists v list.now) kept.new }
 {
     for d in 0..kept.len() {
-        kept[d].write(closed.model, &floors[d], d as u32, v, list);
+        kept[d].write(closed, &floors[d], d as u32, v, list);
     }
 }
 
 // The whole way of the vehicle along the list that pieces are joined to. What is kept of its list is not walked.
 #[inline(always)]
 fn way_after(guide: &Guide, kept: &KeptLists, routes: &Routes, pieces: &[Piece]) -> Way
-    requires guide { IsGuide guide.now }
     requires vehicle { guide.now.v < length routes.now.lists }
     requires kept { HaveWays guide.now.model.now guide.now.d routes.now.lists kept.now }
     requires nodes_before { All (λ node. node < guide.now.model.now.nodes) (route routes.now.lists guide.now.v) }

@@ -4,7 +4,7 @@ ghost use Rattle.std.specs.Prelude.{◌≡◌, ◌<◌, ◌≤◌, ◌≤ℤ◌,
 ghost use Rattle.std.specs.Option.{option_copied};
 ghost use Rattle.vr_model.specs.tables.Numbers.{horizon};
 ghost use Rattle.vr_model.specs.tables.Tables.{dimension_at};
-ghost use Rattle.vr_model.specs.tables.WellFormed.{IsIn, IsInterval, IsStopRow, IsWellFormed, WherePresent};
+ghost use Rattle.vr_model.specs.tables.WellFormed.{IsIn, IsInterval, IsStopRow, WherePresent};
 ghost use Rattle.vr_earliest.specs.Floors.{behind as behind_interval, floor_of as floor_of_row, opening as opening_of};
 ghost use Rattle.vr_earliest.specs.Floors.{forbids_none as row_forbids_none, is_earliest as is_earliest_rule};
 ghost use Rattle.vr_earliest.specs.Floors.{starts_freely as starts_freely_in};
@@ -12,7 +12,7 @@ ghost use Rattle.vr_earliest.specs.Floors.{AreFloors, AreFree, HaveFloors};
 
 use std::alloc::Global;
 use vr_model::limits::HORIZON;
-use vr_model::{Dimension, Interval, Model, NoMemory, ScheduleRule, Seq, StopRow, Vehicle};
+use vr_model::{Closed, Dimension, Interval, NoMemory, ScheduleRule, Seq, StopRow, Vehicle};
 
 /// The floors of the visits, the starts and the ends of a dimension, below which a stop allows no cumul, and which
 /// vehicles start freely.
@@ -31,11 +31,11 @@ pub struct Floors {
 
 impl Floors {
     /// Those of dimension `d`. The only refusal is want of memory.
-    pub fn of(alloc: Global, model: &Model, d: u32) -> Result<Floors, NoMemory>
-        requires well_formed { IsWellFormed model.now }
-        requires dimension { d < length model.now.dimensions }
-        ensures { IfOk result (AreFloors model.now d) }
+    pub fn of(alloc: Global, closed: Closed<'_>, d: u32) -> Result<Floors, NoMemory>
+        requires { d < length closed.model.now.dimensions }
+        ensures { IfOk result (AreFloors closed.entry.model.now d) }
     {
+        let model = closed.model;
         let dimension = model.dimensions.get(d as usize);
         let vehicles = model.vehicles.len() as u32;
         Ok(Floors {

@@ -4,9 +4,7 @@ ghost use Rattle.std.specs.Prelude.{◌≡◌, ◌≢◌, ◌<◌, ◌≤◌, �
 ghost use Rattle.std.specs.Prelude.{slice_index_or};
 ghost use Rattle.vr_model.specs.moves.Moves.{with_route};
 ghost use Rattle.vr_model.specs.routes.Rules.{is_valid};
-ghost use Rattle.vr_model.specs.tables.WellFormed.{IsWellFormed};
 ghost use Rattle.vr_earliest.specs.Floors.{AreFloors};
-ghost use Rattle.vr_earliest.specs.Guides.{IsGuide};
 ghost use Rattle.vr_earliest.specs.declared.ways.Rest.{Rest as RestOf};
 ghost use Rattle.vr_earliest.specs.declared.ways.Way.{Way as WayOf};
 ghost use Rattle.vr_earliest.specs.Kept.{AreRestsTo, AreWaysTo, HasWays, HaveWays, IsUnpaid};
@@ -16,7 +14,7 @@ use crate::ways::{Guide, Rest, Way};
 use arrayvec::ArrayVec;
 use std::alloc::Global;
 use std::marker::Model;
-use vr_model::{Dimension, Model as RoutingModel, NoMemory};
+use vr_model::{Closed, Dimension, NoMemory};
 use vr_routes::Routes;
 
 /// What is kept of the list of a vehicle in one dimension.
@@ -58,7 +56,6 @@ impl KeptWays {
 
     // Writes what is kept of a list.
     fn write(&mut self, guide: &Guide, list: &[u32])
-        requires guide { IsGuide guide.now }
         requires few { length list.now ≤ 1000 }
         requires nodes { All (λ node. node < guide.now.model.now.nodes) list.now }
         ensures { HasWays guide.now.model.now guide.now.d guide.now.v list.now self.new }
@@ -69,7 +66,6 @@ impl KeptWays {
 
     // Writes the ways along a list.
     fn write_ways(&mut self, guide: &Guide, list: &[u32])
-        requires guide { IsGuide guide.now }
         requires few { length list.now ≤ 1000 }
         requires nodes { All (λ node. node < guide.now.model.now.nodes) list.now }
         ensures ways { AreWaysTo guide.now.model.now guide.now.d guide.now.v list.now (length list.now)
@@ -87,7 +83,6 @@ impl KeptWays {
 
     // Writes what is left from each stop of a list on.
     fn write_rests(&mut self, guide: &Guide, list: &[u32])
-        requires guide { IsGuide guide.now }
         requires few { length list.now ≤ 1000 }
         requires nodes { All (λ node. node < guide.now.model.now.nodes) list.now }
         ensures rests { AreRestsTo guide.now.model.now guide.now.d guide.now.v list.now (length list.now)
@@ -124,40 +119,38 @@ impl KeptLists {
     /// Of the lists of routes in dimension `d`. The only refusal is want of memory.
     pub fn of(
         alloc: Global,
-        model: &RoutingModel,
+        closed: Closed<'_>,
         floors: &Floors,
         d: u32,
         routes: &Routes,
     ) -> Result<KeptLists, NoMemory>
-        requires well_formed { IsWellFormed model.now }
-        requires valid { IsTrue (is_valid model.now routes.now.lists) }
-        requires dimension { d < length model.now.dimensions }
-        requires floors { AreFloors model.now d floors.now }
-        ensures { IfOk result (HaveWays model.now d routes.now.lists) }
+        requires valid { IsTrue (is_valid closed.model.now routes.now.lists) }
+        requires dimension { d < length closed.model.now.dimensions }
+        requires floors { AreFloors closed.model.now d floors.now }
+        ensures { IfOk result (HaveWays closed.entry.model.now d routes.now.lists) }
     {
-        let many = how_many(model.dimensions.get(d as usize), routes);
+        let many = how_many(closed.model.dimensions.get(d as usize), routes);
         let mut lists = Vec::with_capacity(alloc, many as usize)?;
         for v in 0..many {
             let mut kept = KeptWays::new();
-            kept.write(&Guide::of(model, floors, d, v), routes.list(v));
+            kept.write(&Guide::of(closed, floors, d, v), routes.list(v));
             lists.push(kept)?;
         }
         Ok(KeptLists { lists })
     }
 
     /// Vehicle `v` gets another list.
-    pub fn write(&mut self, model: &RoutingModel, floors: &Floors, d: u32, v: u32, list: &[u32])
-        requires well_formed { IsWellFormed model.now }
-        requires dimension { d < length model.now.dimensions }
-        requires vehicle { v < length model.now.vehicles }
-        requires floors { AreFloors model.now d floors.now }
+    pub fn write(&mut self, closed: Closed<'_>, floors: &Floors, d: u32, v: u32, list: &[u32])
+        requires dimension { d < length closed.model.now.dimensions }
+        requires vehicle { v < length closed.model.now.vehicles }
+        requires floors { AreFloors closed.model.now d floors.now }
         requires few { length list.now ≤ 1000 }
-        requires nodes { All (λ node. node < model.now.nodes) list.now }
-        ensures { (lists : List (List ℕ)) → HaveWays model.now d lists self.old → v < length lists
-            → HaveWays model.now d (with_route lists v list.now) self.new }
+        requires nodes { All (λ node. node < closed.model.now.nodes) list.now }
+        ensures { (lists : List (List ℕ)) → HaveWays closed.entry.model.now d lists self.old → v < length lists
+            → HaveWays closed.entry.model.now d (with_route lists v list.now) self.new }
     {
         if (v as usize) < self.lists.len() {
-            let guide = Guide::of(model, floors, d, v);
+            let guide = Guide::of(closed, floors, d, v);
             self.lists[v as usize].write(&guide, list);
         }
     }

@@ -1,10 +1,12 @@
 //! Ways of vehicles along lists.
 
+ghost use Rattle.std.proofs.Props.{props};
 ghost use Rattle.std.specs.Prelude.{◌≡◌, ◌<◌, ◌≤◌, All, cond, length, reverse, slice_index_or};
 ghost use Rattle.std.specs.Prelude.{pos, neg_ℤ, ◌≤ℤ◌, ◌^◌};
 ghost use Rattle.vr_model.specs.tables.Tables.{transit as transit_of};
 ghost use Rattle.vr_model.specs.tables.Numbers.{horizon};
-ghost use Rattle.vr_model.specs.tables.WellFormed.{IsIn, IsWellFormed};
+ghost use Rattle.vr_model.specs.tables.WellFormed.{IsIn};
+ghost use Rattle.vr_model.specs.tables.WellFormedOnce.{IsWellFormed-prop};
 ghost use Rattle.vr_routes.specs.Pieces.{joined, nodes_of, IsWithin};
 ghost use Rattle.vr_earliest.specs.Floors.{AreFloors};
 ghost use Rattle.vr_earliest.specs.Guides.{IsGuide};
@@ -15,7 +17,7 @@ ghost use Rattle.vr_earliest.specs.Ways.{to_node as to_node_on, to_visit as to_v
 ghost use Rattle.vr_earliest.specs.Ways.{IsFrontWay, IsLongWay, IsMiddleWay, IsWayOf, IsWholeWay};
 
 use crate::floors::Floors;
-use vr_model::{Evaluator, Model};
+use vr_model::{Closed, Evaluator, Model};
 use vr_routes::{Piece, Routes};
 
 /// How far a vehicle is on its way: the node of the stop where it is, the earliest time there as far as floors and
@@ -44,34 +46,33 @@ pub struct Guide<'m> {
     pub d: u32,
     pub v: u32,
     pub evaluator: &'m Evaluator,
+    /// It is that of a well formed model, and the look-ups are those of its dimension and its vehicle.
+    pub ghost sound: { IsGuide model.now d v floors.now evaluator.now } by { Prim.hlevel (props, IsWellFormed-prop) },
 }
 
 impl<'m> Guide<'m> {
     /// What is looked up once.
     #[inline]
-    pub fn of(model: &'m Model, floors: &'m Floors, d: u32, v: u32) -> Guide<'m>
-        requires well_formed { IsWellFormed model.now }
-        requires dimension { d < length model.now.dimensions }
-        requires vehicle { v < length model.now.vehicles }
-        requires floors { AreFloors model.now d floors.now }
-        ensures guide { IsGuide result }
-        ensures model { result.model.now ≡ model.now }
+    pub fn of(closed: Closed<'m>, floors: &'m Floors, d: u32, v: u32) -> Guide<'m>
+        requires dimension { d < length closed.model.now.dimensions }
+        requires vehicle { v < length closed.model.now.vehicles }
+        requires floors { AreFloors closed.model.now d floors.now }
+        ensures model { result.model.now ≡ closed.entry.model.now }
         ensures dimension { result.d ≡ d }
         ensures vehicle { result.v ≡ v }
     {
         Guide {
-            model,
+            model: closed.model,
             floors,
             d,
             v,
-            evaluator: model.dimensions.get(d as usize).evaluator_of(v),
+            evaluator: closed.model.dimensions.get(d as usize).evaluator_of(v),
         }
     }
 
     /// The vehicle stands at its start.
     #[inline(always)]
     pub fn setting_out(&self) -> Way
-        requires guide { IsGuide self.now }
         ensures value { result ≡ setting_out_of self.now.model.now self.now.d self.now.v }
         ensures range { IsWayOf self.now.model.now 0 result }
     {
@@ -85,7 +86,6 @@ impl<'m> Guide<'m> {
     /// What is left from the end on.
     #[inline]
     pub fn at_end(&self) -> Rest
-        requires guide { IsGuide self.now }
         ensures value { result ≡ at_end_of self.now.model.now self.now.d self.now.v }
         ensures range { IsRestOf self.now.model.now 0 result }
     {
@@ -99,7 +99,6 @@ impl<'m> Guide<'m> {
     /// A way goes on along the nodes of pieces.
     #[inline(always)]
     pub fn along_pieces(&self, routes: &Routes, pieces: &[Piece], way: Way) -> Way
-        requires guide { IsGuide self.now }
         requires within { All (IsWithin routes.now.lists) pieces.now }
         requires few { length pieces.now ≤ 8 }
         requires nodes { All (λ node. node < self.now.model.now.nodes) (joined routes.now.lists pieces.now) }
@@ -118,7 +117,6 @@ impl<'m> Guide<'m> {
     // It goes on along the nodes of a piece.
     #[inline(always)]
     fn along_piece(&self, routes: &Routes, piece: Piece, way: Way) -> Way
-        requires guide { IsGuide self.now }
         requires within { IsWithin routes.now.lists piece }
         requires nodes { All (λ node. node < self.now.model.now.nodes) (nodes_of routes.now.lists piece) }
         requires way { IsMiddleWay self.now.model.now way }
@@ -143,7 +141,6 @@ impl<'m> Guide<'m> {
     // It goes on along a chain, or along the chain backwards.
     #[inline(always)]
     fn along_chain(&self, chain: &[u32], reversed: bool, way: Way) -> Way
-        requires guide { IsGuide self.now }
         requires few { length chain.now ≤ 1000 }
         requires nodes { All (λ node. node < self.now.model.now.nodes) (cond reversed (reverse chain.now) chain.now) }
         requires way { IsMiddleWay self.now.model.now way }
@@ -160,7 +157,6 @@ impl<'m> Guide<'m> {
     /// It goes on to a visit.
     #[inline(always)]
     pub fn to_visit(&self, way: Way, node: u32) -> Way
-        requires guide { IsGuide self.now }
         requires way { IsLongWay self.now.model.now way }
         requires node { node < self.now.model.now.nodes }
         ensures { result ≡ to_visit_on self.now.model.now self.now.d self.now.v way node }
@@ -171,7 +167,6 @@ impl<'m> Guide<'m> {
     // It goes on to a node, where no time lies below a floor.
     #[inline(always)]
     fn to_node(&self, way: Way, node: u32, floor: i64) -> Way
-        requires guide { IsGuide self.now }
         requires way { IsLongWay self.now.model.now way }
         requires node { node < self.now.model.now.nodes }
         requires floor { IsIn (pos 0) horizon floor }
@@ -188,7 +183,6 @@ impl<'m> Guide<'m> {
     /// It goes on to a stop and through what is left from there to the end.
     #[inline(always)]
     pub fn to_end(&self, way: Way, rest: Rest) -> Way
-        requires guide { IsGuide self.now }
         requires way { IsMiddleWay self.now.model.now way }
         requires rest { IsListRest self.now.model.now rest }
         ensures value { result ≡ to_end_on self.now.model.now self.now.d self.now.v way rest }
@@ -205,7 +199,6 @@ impl<'m> Guide<'m> {
     /// What is left from a visit on, which comes before what is left from the next stop on.
     #[inline]
     pub fn before(&self, node: u32, rest: Rest) -> Rest
-        requires guide { IsGuide self.now }
         requires node { node < self.now.model.now.nodes }
         requires rest { IsListRest self.now.model.now rest }
         ensures { result ≡ before_rest self.now.model.now self.now.d self.now.v node rest }
@@ -221,7 +214,6 @@ impl<'m> Guide<'m> {
     /// What a whole way tells of the span.
     #[inline(always)]
     pub fn span_by(&self, way: Way) -> i64
-        requires guide { IsGuide self.now }
         requires way { IsWholeWay self.now.model.now way }
         ensures { result ≡ span_by_way self.now.model.now self.now.d self.now.v way }
     {
@@ -235,7 +227,6 @@ impl<'m> Guide<'m> {
     // The transit from one node to another.
     #[inline(always)]
     fn transit(&self, from: u32, to: u32) -> i64
-        requires guide { IsGuide self.now }
         requires from { from < self.now.model.now.nodes }
         requires to { to < self.now.model.now.nodes }
         ensures value { result ≡ transit_of self.now.model.now self.now.d self.now.v from to }

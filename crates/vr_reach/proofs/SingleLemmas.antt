@@ -189,9 +189,9 @@ arc_counted counted tested L k last b run low cumul is none start total now new 
 -- a run of what is allowed, behind an arc
 pub cumuls_behind : (run allowed new : Run) (t s : ℤ) → HasCumulEnds allowed → new.lo ≡ int_max (run.lo +ℤ t) allowed.lo → new.hi ≡ int_min (run.hi +ℤ (t +ℤ s)) allowed.hi → new.lo ≤ℤ new.hi → IsCumulRun new
 cumuls_behind run allowed new t s ends lo_is hi_is some = record {
-  low = let low = ends.lo.at_least in omega (arith, ints, clamps, lo_is, low);
-  some = some;
-  high = let high = ends.hi.at_most in omega (arith, ints, clamps, hi_is, high);
+  least = let low = ends.lo.at_least in omega (arith, ints, clamps, lo_is, low);
+  in_order = some;
+  greatest = let high = ends.hi.at_most in omega (arith, ints, clamps, hi_is, high);
 }
 
 -- a line without breaks is feasible where the run that is reached at a stop and that from which the end is share a number

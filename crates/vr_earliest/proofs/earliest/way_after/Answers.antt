@@ -22,7 +22,7 @@ along_pieces-way-requires-clause-nodes c =
 pub along_pieces-way-requires-clause-way : goal.along_pieces-way-requires-clause-way
 along_pieces-way-requires-clause-way c =
     let g = c.args.guide.now in
-    let h = c.requires.guide in
+    let h = c.args.guide.now.sound in
     let front = c.strip-ends.result.front in
     let e = c.strip-ends.ensures in
     let low : front ≤ length (route c.args.routes.now.lists g.v) = (let a = e.order in let b = e.high in omega (arith, a, b)) in
@@ -36,7 +36,7 @@ along_pieces-way-requires-clause-way c =
 pub to_end-requires-clause-rest : goal.to_end-requires-clause-rest
 to_end-requires-clause-rest c =
     let g = c.args.guide.now in
-    let h = c.requires.guide in
+    let h = c.args.guide.now.sound in
     let behind = c.strip-ends.result.behind in
     let list : List ℕ = route c.args.routes.now.lists g.v in
     let one = c.index-list.result.now in

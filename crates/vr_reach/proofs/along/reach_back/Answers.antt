@@ -17,17 +17,17 @@ stops-init g c =
     record {
       within = omega (arith, begun);
       long = c.requires.long;
-      each = last_from stops.model.now stops.d stops.v c.args.list.now c.args.known c.args.rows.now c.requires.known c.requires.long _ (omega (arith, within));
+      each = last_from stops.closed.model.now stops.d stops.v c.args.list.now c.args.known c.args.rows.now c.requires.known c.requires.long _ (omega (arith, within));
     }
 
 pub cross_back_into-requires : goal.cross_back_into-requires
 cross_back_into-requires g c =
     let stops = c.args.stops.now in
     let m = c.stops.invariant in
-    let breaks = breaks_of (dimension_at stops.model.now stops.d) stops.v in
+    let breaks = breaks_of (dimension_at stops.closed.model.now stops.d) stops.v in
     let same : c.stops.k - 1 + 1 ≡ c.stops.k = omega arith in
     let read = ap (λ rows. slice_index_or rows 0 c.index-done-0.result) (c.split_at_mut-left.ensures.back ∙ ap (λ i. drop i c.stops.rows) same) ∙ read_back c.stops.rows c.stops.k c.index-done-0.result (omega (arith, m.long, m.within)) in
-    crossing_by stops.model.now stops.d stops.v stops.ends.now c.requires.stops.ends.breaks_are _ (subst (AreLevels breaks) (sym read) (m.each c.stops.k (omega arith) (omega (arith, m.long, m.within))).form)
+    crossing_by stops.closed.model.now stops.d stops.v stops.ends.now c.requires.stops.ends.breaks_are _ (subst (AreLevels breaks) (sym read) (m.each c.stops.k (omega arith) (omega (arith, m.long, m.within))).form)
     c.hop_of-hop.result c.hop_of-hop.ensures.sound c.set_of-here.result.now c.set_of-here.ensures.cumuls
 
 pub stops-preserved : goal.stops-preserved
@@ -44,13 +44,13 @@ stops-preserved g c =
     let whole : set c.split_at_mut-left.result.0.now k new ++ c.split_at_mut-left.result.1.now ≡ set c.stops.rows k new =
     ap₂ (λ front back. set front k new ++ back) c.split_at_mut-left.ensures.front c.split_at_mut-left.ensures.back ∙ set_front c.stops.rows k new in
     let crossed = subst (λ to. AreCrossedBack to c.hop_of-hop.result c.set_of-here.result.now stops.ends.now.breaks new) read c.in_ok-cross_back_into.ensures.exact in
-    let behind = subst (λ i. IsReachingFrom stops.model.now stops.d stops.v list i (row_at c.stops.rows c.stops.k)) next (m.each c.stops.k (omega arith) (omega (arith, m.long, m.within))) in
+    let behind = subst (λ i. IsReachingFrom stops.closed.model.now stops.d stops.v list i (row_at c.stops.rows c.stops.k)) next (m.each c.stops.k (omega arith) (omega (arith, m.long, m.within))) in
     rw whole (record {
       within = omega (arith, m.within);
       long = length-set c.stops.rows k new ∙ m.long;
-      each = hold_earlier (IsReachingFrom stops.model.now stops.d stops.v list) k c.stops.rows new (omega (arith, m.long, m.within)) (subst (λ i. HoldFrom (IsReachingFrom stops.model.now stops.d stops.v list) i c.stops.rows) next m.each) (record {
+      each = hold_earlier (IsReachingFrom stops.closed.model.now stops.d stops.v list) k c.stops.rows new (omega (arith, m.long, m.within)) (subst (λ i. HoldFrom (IsReachingFrom stops.closed.model.now stops.d stops.v list) i c.stops.rows) next m.each) (record {
         form = subst (λ breaks. AreLevels breaks new) breaks_same c.in_ok-cross_back_into.ensures.levels;
-        reaching = reaching_before c.lines_are_sound.ensures stops.model.now c.args.stops.now.closed.well_formed stops.d stops.v c.requires.stops.dimension c.requires.stops.vehicle list c.requires.used c.end_reached_before_arc.ensures stops.ends.now.breaks breaks_same
+        reaching = reaching_before c.lines_are_sound.ensures stops.closed.model.now c.args.stops.now.closed.well_formed stops.d stops.v c.requires.stops.dimension c.requires.stops.vehicle list c.requires.used c.end_reached_before_arc.ensures stops.ends.now.breaks breaks_same
             k (omega (arith, m.within)) c.hop_of-hop.result c.hop_of-hop.ensures.exact c.set_of-here.result.now c.set_of-here.ensures (row_at c.stops.rows c.stops.k) new behind.reaching crossed;
       });
     })

@@ -25,9 +25,9 @@ pub cross_into-requires : goal.cross_into-requires
 cross_into-requires g c =
     let stops = c.args.stops.now in
     let m = c.loop-k.invariant in
-    let breaks = breaks_of (dimension_at stops.model.now stops.d) stops.v in
+    let breaks = breaks_of (dimension_at stops.closed.model.now stops.d) stops.v in
     let read = ap (λ rows. slice_index_or rows c.loop-k.k c.index-done-k.result) c.split_at_mut-done.ensures.front ∙ read_front c.loop-k.rows (c.loop-k.k + 1) c.loop-k.k c.index-done-k.result (omega arith) (omega (arith, m.long)) in
-    crossing_by stops.model.now stops.d stops.v stops.ends.now c.requires.stops.ends.breaks_are _ (subst (AreLevels breaks) (sym read) (m.each c.loop-k.k (omega arith)).form)
+    crossing_by stops.closed.model.now stops.d stops.v stops.ends.now c.requires.stops.ends.breaks_are _ (subst (AreLevels breaks) (sym read) (m.each c.loop-k.k (omega arith)).form)
     c.hop_of-hop.result c.hop_of-hop.ensures.sound c.set_of-next.result.now c.set_of-next.ensures.cumuls
 
 pub loop-k-preserved : goal.loop-k-preserved
@@ -45,9 +45,9 @@ loop-k-preserved g c =
     rw whole (record {
       within = omega arith;
       long = length-set c.loop-k.rows (k + 1) new ∙ m.long;
-      each = hold_next (IsReachedAt stops.model.now stops.d stops.v list) k c.loop-k.rows new (omega (arith, m.long)) m.each (record {
+      each = hold_next (IsReachedAt stops.closed.model.now stops.d stops.v list) k c.loop-k.rows new (omega (arith, m.long)) m.each (record {
         form = subst (λ breaks. AreLevels breaks new) same c.in_ok-cross_into.ensures.levels;
-        reached = reached_next c.lines_are_sound.ensures stops.model.now c.args.stops.now.closed.well_formed stops.d stops.v c.requires.stops.dimension c.requires.stops.vehicle list c.requires.used c.reached_behind_arc.ensures stops.ends.now.breaks same
+        reached = reached_next c.lines_are_sound.ensures stops.closed.model.now c.args.stops.now.closed.well_formed stops.d stops.v c.requires.stops.dimension c.requires.stops.vehicle list c.requires.used c.reached_behind_arc.ensures stops.ends.now.breaks same
             k (omega arith) c.hop_of-hop.result c.hop_of-hop.ensures.exact c.set_of-next.result.now c.set_of-next.ensures (row_at c.loop-k.rows k) new (m.each k (omega arith)).reached crossed;
       });
     })

@@ -10,7 +10,7 @@ write_back-requires-clause-known c =
     let list = c.args.list.now in
     let is : c.split_at_mut-rows.result.0.now ≡ take (suc (suc (length list))) (drop c.args.first c.args.kept.now) =
     (let two : length list + 2 ≡ suc (suc (length list)) = omega arith in c.split_at_mut-rows.ensures.front ∙ ap₂ take two c.split_at_mut-behind.ensures.back) in
-    subst (AreLastRows stops.model.now stops.d stops.v list c.args.known) (sym is) c.requires.known
+    subst (AreLastRows stops.closed.model.now stops.d stops.v list c.args.known) (sym is) c.requires.known
 
 pub write_back-requires-clause-long : goal.write_back-requires-clause-long
 write_back-requires-clause-long c =
@@ -26,4 +26,4 @@ returns c =
     let there = c.requires.there in
     let before = ap length c.split_at_mut-behind.ensures.front ∙ length-take-le c.args.first c.args.kept.now (omega (arith, there)) in
     let rows = c.in_ok-write_back.ensures in
-    record { rows = subst (AreReachingRows stops.model.now stops.d stops.v list) (sym (window_of c.split_at_mut-behind.result.0.now c.write_back.new.rows c.split_at_mut-rows.result.1.now c.args.first (suc (suc (length list))) before rows.row_of_each_stop)) rows }
+    record { rows = subst (AreReachingRows stops.closed.model.now stops.d stops.v list) (sym (window_of c.split_at_mut-behind.result.0.now c.write_back.new.rows c.split_at_mut-rows.result.1.now c.args.first (suc (suc (length list))) before rows.row_of_each_stop)) rows }

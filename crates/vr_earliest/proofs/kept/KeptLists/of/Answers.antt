@@ -9,20 +9,20 @@ use Rattle.vr_earliest.proofs.kept.KeptLists.of.Goals as goal
 
 pub of-requires-clause-vehicle : goal.of-requires-clause-vehicle
 of-requires-clause-vehicle c =
-    let many = (small c.args.model.now c.requires.well_formed c.args.routes.now.lists c.requires.valid).many in
+    let many = (small c.args.closed.model.now c.args.closed.well_formed c.args.routes.now.lists c.requires.valid).many in
     let no_more = c.how_many-many.ensures.no_more in
     let low = c.loop-v-test.true in
     omega (arith, many, no_more, low)
 
 pub write-requires-clause-nodes : goal.write-requires-clause-nodes
 write-requires-clause-nodes c =
-    let few = small c.args.model.now c.requires.well_formed c.args.routes.now.lists c.requires.valid in
-    subst (λ m. All (λ node. node < m.nodes) c.list.result.now) (sym c.of.ensures.model) (subst (λ l. All (λ node. node < c.args.model.now.nodes) l) (sym c.list.ensures.value) (few.below c.loop-v.v))
+    let few = small c.args.closed.model.now c.args.closed.well_formed c.args.routes.now.lists c.requires.valid in
+    subst (λ m. All (λ node. node < m.nodes) c.list.result.now) (sym c.of.ensures.model) (subst (λ l. All (λ node. node < c.args.closed.model.now.nodes) l) (sym c.list.ensures.value) (few.below c.loop-v.v))
 
 pub loop-v-preserved : goal.loop-v-preserved
 loop-v-preserved c =
     let i = c.loop-v.invariant in
-    let m = c.args.model.now in
+    let m = c.args.closed.model.now in
     let lists : List (List ℕ) = c.args.routes.now.lists in
     let P = λ (v : ℕ) (kept : KeptWays). HasWays m c.args.d v (route lists v) kept in
     let new = c.write.new.self in

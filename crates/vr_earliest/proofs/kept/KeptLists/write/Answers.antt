@@ -6,7 +6,7 @@ use Rattle.vr_earliest.proofs.kept.KeptLists.write.Goals as goal
 
 pub returns-then-v-len : goal.returns-then-v-len
 returns-then-v-len c lists h known =
-    let m = c.args.model.now in
+    let m = c.args.closed.model.now in
     let e = c.of-guide.ensures in
     let list = c.args.list.now in
     let new = c.write.new.self in
@@ -22,5 +22,5 @@ pub returns-else-v-len : goal.returns-else-v-len
 returns-else-v-len c lists h known =
     let len = c.len.ensures in
     let high = c.if-v-len.false in
-    subst (HaveWays c.args.model.now c.args.d (with_route lists c.args.v c.args.list.now)) c.self.view_is
-    (kept-stays c.args.model.now c.args.d lists c.self.inside.lists.items c.args.v c.args.list.now (subst (HaveWays c.args.model.now c.args.d lists) (sym c.self.view_is) h) (omega (arith, len, high)))
+    subst (HaveWays c.args.closed.model.now c.args.d (with_route lists c.args.v c.args.list.now)) c.self.view_is
+    (kept-stays c.args.closed.model.now c.args.d lists c.self.inside.lists.items c.args.v c.args.list.now (subst (HaveWays c.args.closed.model.now c.args.d lists) (sym c.self.view_is) h) (omega (arith, len, high)))

@@ -15,7 +15,7 @@ before-rest-requires-clause-rest c =
 pub loop-k-preserved : goal.loop-k-preserved
 loop-k-preserved c =
     let g = c.args.guide.now in
-    let h = c.requires.guide in
+    let h = c.args.guide.now.sound in
     let list = c.args.list.now in
     let k = c.loop-k.k in
     let i = c.loop-k.invariant in

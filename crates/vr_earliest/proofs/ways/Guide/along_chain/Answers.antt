@@ -14,7 +14,7 @@ to_visit-gone-requires-clause-way c =
     let low = c.loop-k-test.true in
     subst (IsWayOf m 10000) (sym c.loop-k.invariant)
     (way-more m (9000 + k) 10000 (along m c.args.self.now.d c.args.self.now.v c.args.way (take k nodes)) (omega (arith, few, low))
-    (along-part m c.requires.guide.well_formed c.args.self.now.d c.args.self.now.v c.requires.guide.dimension c.requires.guide.vehicle c.args.self.now.floors.now.visits.items c.requires.guide.floors_are.visits nodes c.requires.nodes 9000 c.args.way c.requires.way k (omega (arith, long, low))))
+    (along-part m c.args.self.now.sound.well_formed c.args.self.now.d c.args.self.now.v c.args.self.now.sound.dimension c.args.self.now.sound.vehicle c.args.self.now.floors.now.visits.items c.args.self.now.sound.floors_are.visits nodes c.requires.nodes 9000 c.args.way c.requires.way k (omega (arith, long, low))))
 
 pub loop-k-preserved : goal.loop-k-preserved
 loop-k-preserved c =

@@ -38,7 +38,7 @@ loop-k-preserved c =
           ∙ sym (ap (along m d v c.args.way) (joined_next lists c.args.pieces.now k first_piece c.loop-k-test.true) ∙ fold-append (to_visit m d v) c.args.way (joined lists (take k c.args.pieces.now)) nodes);
       range = subst (IsWayOf m (1000 + 1000 * (k + 1))) (sym e.value)
           (way-more m (1000 + 1000 * k + length nodes) (1000 + 1000 * (k + 1)) (along m d v c.loop-k.gone nodes) (omega (arith, few))
-          (along-way m c.requires.guide.well_formed d v c.requires.guide.dimension c.requires.guide.vehicle c.args.self.now.floors.now.visits.items c.requires.guide.floors_are.visits nodes all (1000 + 1000 * k) c.loop-k.gone c.loop-k.invariant.range));
+          (along-way m c.args.self.now.sound.well_formed d v c.args.self.now.sound.dimension c.args.self.now.sound.vehicle c.args.self.now.floors.now.visits.items c.args.self.now.sound.floors_are.visits nodes all (1000 + 1000 * k) c.loop-k.gone c.loop-k.invariant.range));
     }
 
 pub returns-clause-range : goal.returns-clause-range

@@ -10,7 +10,7 @@ use Rattle.vr_earliest.proofs.ways.Guide.before.Goals as goal
 
 pub overflow_add-index : goal.overflow_add-index
 overflow_add-index c =
-    let f = (floor-at _ _ c.args.self.now.floors.now.visits.items c.requires.guide.floors_are.visits c.args.node c.requires.node c.index.result.now c.index.ensures).range in
+    let f = (floor-at _ _ c.args.self.now.floors.now.visits.items c.args.self.now.sound.floors_are.visits c.args.node c.requires.node c.index.result.now c.index.ensures).range in
     let f_low = f.at_least in let f_high = f.at_most in
     let a = c.transit.ensures.least in let b = c.transit.ensures.greatest in
     let low = c.requires.rest.low in let high = c.requires.rest.high in
@@ -22,7 +22,7 @@ returns c =
     let rest = c.args.rest in
     let t = transit m c.args.self.now.d c.args.self.now.v c.args.node rest.at in
     let floor = visit_floor m c.args.self.now.d c.args.node in
-    let f = floor-at _ _ c.args.self.now.floors.now.visits.items c.requires.guide.floors_are.visits c.args.node c.requires.node c.index.result.now c.index.ensures in
+    let f = floor-at _ _ c.args.self.now.floors.now.visits.items c.args.self.now.sound.floors_are.visits c.args.node c.requires.node c.index.result.now c.index.ensures in
     let f_is = f.is in let f_low = f.range.at_least in let f_high = f.range.at_most in
     let e = c.transit.ensures.value in let a = c.transit.ensures.least in let b = c.transit.ensures.greatest in
     let low = c.requires.rest.low in let high = c.requires.rest.high in

@@ -43,5 +43,5 @@ returns-clause-value c =
 pub returns-clause-range : goal.returns-clause-range
 returns-clause-range c =
     let s = c.args.self.now in
-    let g = c.requires.guide in
+    let g = c.args.self.now.sound in
     subst (IsWayOf s.model.now 10001) (sym (returns-clause-value c)) (end-way s.model.now g.well_formed s.d s.v g.dimension g.vehicle 9000 1000 c.args.way c.args.rest c.requires.way c.requires.rest)
