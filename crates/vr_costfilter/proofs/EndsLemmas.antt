@@ -14,7 +14,7 @@ use Rattle.vr_parts.proofs.RowLemmas.{rows-push}
 use Rattle.vr_routes.proofs.JoinedPieces.{all_left, all_right}
 use Rattle.vr_reach.specs.Lists.{IsTour}
 use Rattle.vr_costfilter.specs.KeptWays.{AreRestsTo, AreWays, AreWaysTo, HasWays}
-use Rattle.vr_costfilter.specs.Guides.{runs_of, IsGuide}
+use Rattle.vr_costfilter.specs.GuideRuns.{runs_of}
 use Rattle.vr_costfilter.specs.Rests.{rest_before, rest_by, rest_of, way_through, IsRestOf}
 use Rattle.vr_costfilter.specs.Runs.{Runs, AllowsRuns, AreRuns, no_run, run_at, stop_runs}
 use Rattle.vr_costfilter.specs.Ways.{way_along, way_on, way_out, way_to_visit, whole_way, IsWayOf}
@@ -101,22 +101,22 @@ module _ (model : Model) (d v : ℕ) (a b : Runs) (of_a : AreRuns model d v a) (
       (subst (λ (r : Run). r.lo ≤ℤ r.hi) (stop-visit a list k low) (some (suc k) (omega (arith, low)))))
 
 -- the numbers of what is kept
-module _ (g : Guide) (h : IsGuide g) (list : List ℕ) (few : length list ≤ 1000) (visits : All (λ node. IsTrue (is_visit g.model.now node)) list) (kept : KeptWays) (has : HasWays g.model.now g.d g.v (runs_of g) list kept) where
+module _ (g : Guide) (list : List ℕ) (few : length list ≤ 1000) (visits : All (λ node. IsTrue (is_visit g.model.now node)) list) (kept : KeptWays) (has : HasWays g.model.now g.d g.v (runs_of g) list kept) where
   pub kept-way : (k : ℕ) (other : Way) → k ≤ length list → IsWayOf g.model.now 1000 (slice_index_or kept.ways.items k other)
   kept-way k other low =
       subst (IsWayOf g.model.now 1000) (sym (has.ways.each k other low))
       (way-more g.model.now (0 + k) 1000 _ (omega (arith, few, low))
-      (along-part g.model.now h.well_formed g.d g.v h.dimension h.vehicle (runs_of g) h.visits list visits 0 (way_out g.model.now g.v (runs_of g)) (out-way g.model.now h.well_formed g.d g.v h.dimension h.vehicle (runs_of g) h.start) k low))
+      (along-part g.model.now g.sound.well_formed g.d g.v g.sound.dimension g.sound.vehicle (runs_of g) g.sound.visits list visits 0 (way_out g.model.now g.v (runs_of g)) (out-way g.model.now g.sound.well_formed g.d g.v g.sound.dimension g.sound.vehicle (runs_of g) g.sound.start) k low))
 
   pub kept-rest : (k : ℕ) (other : Rest) → k ≤ length list → IsRestOf g.model.now 1000 (slice_index_or kept.rests.items k other)
   kept-rest k other low =
       subst (IsRestOf g.model.now 1000) (sym (has.rests.each k other low))
       (rest-more g.model.now (length (drop (length list - k) list)) 1000 _ (let l = length-drop (length list - k) list in omega (arith, few, l))
-      (rest-range g.model.now h.well_formed g.d g.v h.dimension h.vehicle (runs_of g) h.visits h.finish (drop (length list - k) list) (All-drop (λ node. IsTrue (is_visit g.model.now node)) (length list - k) list visits)))
+      (rest-range g.model.now g.sound.well_formed g.d g.v g.sound.dimension g.sound.vehicle (runs_of g) g.sound.visits g.sound.finish (drop (length list - k) list) (All-drop (λ node. IsTrue (is_visit g.model.now node)) (length list - k) list visits)))
 
 -- ---- a list keeps the front and the end of an old one
 
-module _ (g : Guide) (h : IsGuide g) (are : AreRuns g.model.now g.d g.v (runs_of g)) (old list : List ℕ) (front behind : ℕ) (middle : List ℕ) (joins : list ≡ take front old ++ (middle ++ drop behind old))
+module _ (g : Guide) (are : AreRuns g.model.now g.d g.v (runs_of g)) (old list : List ℕ) (front behind : ℕ) (middle : List ℕ) (joins : list ≡ take front old ++ (middle ++ drop behind old))
     (tour : IsTour g.model.now list) (few : length list ≤ 1000) (feasible : IsFeasible (line g.model.now g.d g.v list)) (kept : KeptWays) (is : AreWays g.model.now g.d g.v old kept) where
   same-all : All (λ node. slice_index_or is.runs.visits node no_run ≡ slice_index_or g.visits.now node no_run) list
   same-all = same-visits g.model.now g.d g.v is.runs (runs_of g) is.has.runs_are are list tour feasible
@@ -160,7 +160,7 @@ module _ (g : Guide) (h : IsGuide g) (are : AreRuns g.model.now g.d g.v (runs_of
       let n = parts in
       subst (IsWayOf g.model.now 1000) (sym (way-known way low read))
       (way-more g.model.now (0 + length (take front old)) 1000 _ (omega (arith, n, few))
-      (along-way g.model.now h.well_formed g.d g.v h.dimension h.vehicle (runs_of g) h.visits (take front old) (in-front (λ node. IsTrue (is_visit g.model.now node)) visits) 0 (way_out g.model.now g.v (runs_of g)) (out-way g.model.now h.well_formed g.d g.v h.dimension h.vehicle (runs_of g) h.start)))
+      (along-way g.model.now g.sound.well_formed g.d g.v g.sound.dimension g.sound.vehicle (runs_of g) g.sound.visits (take front old) (in-front (λ node. IsTrue (is_visit g.model.now node)) visits) 0 (way_out g.model.now g.v (runs_of g)) (out-way g.model.now g.sound.well_formed g.d g.v g.sound.dimension g.sound.vehicle (runs_of g) g.sound.start)))
 
   -- what is kept behind
   pub rest-known : (rest : Rest) → behind ≤ length old → ((other : Rest) → rest ≡ slice_index_or kept.rests.items (length kept.rests.items - 1 - behind) other)
@@ -178,7 +178,7 @@ module _ (g : Guide) (h : IsGuide g) (are : AreRuns g.model.now g.d g.v (runs_of
       let n = parts in
       subst (IsRestOf g.model.now 1000) (sym (rest-known rest low read))
       (rest-more g.model.now (length (drop behind old)) 1000 _ (omega (arith, n, few))
-      (rest-range g.model.now h.well_formed g.d g.v h.dimension h.vehicle (runs_of g) h.visits h.finish (drop behind old) (in-back (λ node. IsTrue (is_visit g.model.now node)) visits)))
+      (rest-range g.model.now g.sound.well_formed g.d g.v g.sound.dimension g.sound.vehicle (runs_of g) g.sound.visits g.sound.finish (drop behind old) (in-back (λ node. IsTrue (is_visit g.model.now node)) visits)))
 
   -- the way along the front, on along the middle and through what is left is the whole one
   pub whole-known : (first way whole : Way) (rest : Rest) → front ≤ length old → behind ≤ length old → ((other : Way) → first ≡ slice_index_or kept.ways.items front other)
@@ -192,4 +192,4 @@ module _ (g : Guide) (h : IsGuide g) (are : AreRuns g.model.now g.d g.v (runs_of
   pub whole-small : (way whole : Way) (rest : Rest) → behind ≤ length old → IsWayOf g.model.now 2000 way → ((other : Rest) → rest ≡ slice_index_or kept.rests.items (length kept.rests.items - 1 - behind) other)
       → whole ≡ way_through g.model.now g.d g.v way rest → IsWayOf g.model.now 3001 whole
   whole-small way whole rest high range read whole_is =
-      subst (IsWayOf g.model.now 3001) (sym whole_is) (end-way g.model.now h.well_formed g.d g.v h.dimension h.vehicle 2000 1000 way rest range (rest-small rest high read))
+      subst (IsWayOf g.model.now 3001) (sym whole_is) (end-way g.model.now g.sound.well_formed g.d g.v g.sound.dimension g.sound.vehicle 2000 1000 way rest range (rest-small rest high read))

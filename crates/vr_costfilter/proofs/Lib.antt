@@ -29,3 +29,5 @@ pub mod StuckLemmas
 pub mod FeasibleLemmas
 pub mod AfterLemmas
 pub mod AlongLemmas
+pub mod GuideLemmas
+pub mod CostLemmas

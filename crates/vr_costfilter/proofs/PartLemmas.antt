@@ -16,6 +16,8 @@ use Rattle.vr_routes.specs.Pieces.{ListAfter, changed, joined, no_part, part_at}
 use Rattle.vr_routes.proofs.CommitLemmas.{as_many_lists}
 use Rattle.vr_routes.proofs.PartLemmas.{part_is}
 use Rattle.vr_reach.specs.Lists.{IsTour, IsUsed}
+use Rattle.vr_costfilter.specs.PartsAfter.{list_after}
+use Rattle.vr_costfilter.specs.declared.parts_after.PartAfter.{PartAfter}
 
 -- a list of a valid model
 pub record IsListOf (model : Model) (list : List ℕ) : Type 0 where
@@ -54,3 +56,7 @@ feasible-after model lists parts are valid k low d dimension some =
     let same = part_is lists parts are k low in
     let known : v < length (changed lists parts) = (let n = as_many_lists lists parts in let h = are.each_vehicle k no_part low in omega (arith, n, h)) in
     subst (λ l. IsFeasible (line model d v l)) same (feasible-of model (changed lists parts) valid d v dimension known (subst (λ l. is_empty l ≡ false) (sym same) some))
+
+-- the list that a part of a change gives its vehicle
+pub list-of-part : (part : PartAfter) → IsListOf part.model.now (list_after part)
+list-of-part part = list-after part.model.now part.sound.well_formed part.routes.now.lists part.change.now part.sound.parts_are part.sound.valid part.k part.sound.part

@@ -1,28 +1,32 @@
 -- What is looked up of a vehicle once for many arcs.
-use Rattle.std.specs.Prelude.{◌≡◌, ◌<◌, length, pos}
+use Rattle.std.specs.Prelude.{◌≡◌, ◌<◌, ℕ, ℤ, IsTrue, List, length, pos}
+use Rattle.vr_lists.specs.Places.{ArePlaces}
 use Rattle.vr_model.specs.tables.Numbers.{horizon}
 use Rattle.vr_model.specs.tables.Tables.{dimension_at, evaluator_of, vehicle_at}
 use Rattle.vr_model.specs.tables.WellFormed.{IsIn, IsWellFormed}
-use Rattle.vr_plan.specs.Tables.{IsTable}
+use Rattle.vr_model.specs.declared.records.Evaluator.{Evaluator}
+use Rattle.vr_model.specs.declared.records.Model.{Model}
+use Rattle.vr_plan.specs.Paying.{CostsNoSoft}
+use Rattle.vr_plan.specs.Tables.{keys_of}
+use Rattle.vr_plan.specs.declared.tables.Table.{Table}
 use Rattle.vr_reach.specs.VisitRuns.{AreVisitRuns, HasCumulEnds}
-use Rattle.vr_costfilter.specs.Runs.{Runs}
-use Rattle.vr_costfilter.specs.declared.guides.Guide.{Guide}
+use Rattle.vr_reach.specs.declared.single.Ahead.{Ahead}
+use Rattle.vr_spans.specs.declared.runs.Run.{Run}
 
--- the runs that a guide has
-abbrev pub runs_of : Guide → Runs
-runs_of guide = record { start = guide.start; visits = guide.visits.now; finish = guide.finish.allowed }
-
--- a guide has the table of its dimension of a well formed model, and of its vehicle the evaluator, the runs of visits,
--- and a run of cumuls for each of its ends
-pub record IsGuide (guide : Guide) : Type 0 where
-  pub well_formed : IsWellFormed guide.model.now
-  pub dimension : guide.d < length guide.model.now.dimensions
-  pub vehicle : guide.v < length guide.model.now.vehicles
-  pub table_is : IsTable guide.model.now guide.d guide.table.now
-  pub evaluator_is : guide.evaluator.now ≡ evaluator_of (dimension_at guide.model.now guide.d) guide.v
-  pub slack_is : guide.slack ≡ (dimension_at guide.model.now guide.d).slack_max
-  pub slack_range : IsIn (pos 0) horizon guide.slack
-  pub start : HasCumulEnds guide.start
-  pub visits : AreVisitRuns guide.model.now guide.d guide.v guide.visits.now
-  pub finish : HasCumulEnds guide.finish.allowed
-  pub end_is : guide.finish.node ≡ (vehicle_at guide.model.now guide.v).end
+-- these are, of dimension d of a well formed model, where the rows of visits stand, whether no stop has a soft upper
+-- bound, and the greatest slack; and of vehicle v there the evaluator, the runs of visits, a run of cumuls for its
+-- start, and its end with one
+pub record IsGuide (model : Model) (d v : ℕ) (table : Table) (evaluator : Evaluator) (slack : ℤ) (first : Run)
+    (each : List Run) (ahead : Ahead) : Type 0 where
+  pub well_formed : IsWellFormed model
+  pub dimension : d < length model.dimensions
+  pub vehicle : v < length model.vehicles
+  pub places : ArePlaces model.nodes (keys_of (dimension_at model d).nodes) table.rows.items
+  pub hard : IsTrue table.is_hard → CostsNoSoft (dimension_at model d)
+  pub evaluator_is : evaluator ≡ evaluator_of (dimension_at model d) v
+  pub slack_is : slack ≡ (dimension_at model d).slack_max
+  pub slack_range : IsIn (pos 0) horizon slack
+  pub start : HasCumulEnds first
+  pub visits : AreVisitRuns model d v each
+  pub finish : HasCumulEnds ahead.allowed
+  pub end_is : ahead.node ≡ (vehicle_at model v).end

@@ -7,8 +7,14 @@ pub mod Runs
 pub mod Floors
 pub mod Stages
 pub mod Guides
+pub mod GuideRuns
 pub mod Ways
 pub mod Rests
 pub mod KeptWays
 pub mod Steps
 pub mod Kept
+pub mod Joined
+pub mod Asked
+pub mod ValidParts
+pub mod PartsAfter
+pub mod EarlyParts

@@ -7,19 +7,20 @@ ghost use Rattle.vr_model.specs.moves.Moves.{with_route};
 ghost use Rattle.vr_model.specs.routes.Routes.{is_empty, route};
 ghost use Rattle.vr_model.specs.routes.Rules.{is_valid};
 ghost use Rattle.vr_model.specs.tables.Tables.{dimension_at, is_visit};
-ghost use Rattle.vr_model.specs.tables.WellFormed.{IsWellFormed};
 ghost use Rattle.vr_routes.specs.Changes.{IsMadeOn};
-ghost use Rattle.vr_routes.specs.Pieces.{changed, joined, part_at};
-ghost use Rattle.vr_plan.specs.Tables.{AreTables, IsKnownDimension, IsTable};
+ghost use Rattle.vr_routes.specs.Pieces.{changed};
+ghost use Rattle.vr_plan.specs.Tables.{AreTables, IsTable};
 ghost use Rattle.vr_plan.specs.Timings.{IsTiming, IsTimingOf};
 ghost use Rattle.vr_costfilter.specs.Kept.{AreAllKept, AreAsMany, AreKept, AreOfEach, IsPaid, IsKnown};
+ghost use Rattle.vr_costfilter.specs.PartsAfter.{list_after, vehicle_after};
 ghost use Rattle.vr_costfilter.specs.declared.kept.KeptList.{KeptList as KeptOf};
 
 use crate::kept::KeptCumuls;
+use crate::parts_after::PartAfter;
 use crate::trails::Trail;
 use std::alloc::Global;
 use std::marker::Model;
-use vr_model::{Closed, Model as RoutingModel, NoMemory};
+use vr_model::{Closed, NoMemory};
 use vr_plan::{KnownDimension, Table, Timing};
 use vr_routes::{Change, Routes, Row};
 
@@ -54,20 +55,19 @@ impl AllCumuls {
     /// Of the lists of routes, in the dimensions with such costs. The only refusal is want of memory.
     pub fn open(
         alloc: Global,
-        model: &RoutingModel,
+        closed: Closed<'_>,
         tables: &[Table],
         paid: Paid,
         routes: &Routes,
     ) -> Result<AllCumuls, NoMemory>
-        requires well_formed { IsWellFormed model.now }
-        requires valid { IsTrue (is_valid model.now routes.now.lists) }
-        requires tables { AreTables model.now tables.now }
-        ensures kept { IfOk result (AreAllKept model.now routes.now.lists) }
-        ensures each { IfOk result (AreOfEach model.now tables.now paid (length routes.now.lists)) }
+        requires valid { IsTrue (is_valid closed.model.now routes.now.lists) }
+        requires tables { AreTables closed.model.now tables.now }
+        ensures kept { IfOk result (AreAllKept closed.entry.model.now routes.now.lists) }
+        ensures each { IfOk result (AreOfEach closed.entry.model.now tables.now paid (length routes.now.lists)) }
     {
         let mut dimensions = Vec::with_capacity(alloc, tables.len())?;
         for d in 0..tables.len() {
-            dimensions.push(kept_in(alloc, Closed { model }, &tables[d], d as u32, paid, routes)?)?;
+            dimensions.push(kept_in(alloc, closed, &tables[d], d as u32, paid, routes)?)?;
         }
         Ok(AllCumuls {
             dimensions,
@@ -75,58 +75,51 @@ impl AllCumuls {
         })
     }
 
-    /// What the chosen schedule of the list comes to that part `k` of a change gives its vehicle, in a dimension.
+    /// What the chosen schedule of the list comes to that a part of a change gives its vehicle, in dimension `d`.
     /// Nothing exactly where what is kept does not tell; then it has to be looked for. The trail is room that the
     /// caller lends: it is written over.
     pub fn timing_after(
         &self,
-        at: &KnownDimension,
-        routes: &Routes,
-        change: &Change,
-        k: usize,
+        part: &PartAfter,
+        table: &Table,
+        d: u32,
         trail: &mut Trail,
     ) -> Option<Timing>
-        requires at { IsKnownDimension at.now }
-        requires kept { AreAllKept at.now.model.now routes.now.lists self.now }
-        requires before { IsTrue (is_valid at.now.model.now routes.now.lists) }
-        requires made { IsMadeOn routes.now change.now }
-        requires valid { IsTrue (is_valid at.now.model.now (changed routes.now.lists change.now)) }
-        requires part { k < length change.now }
-        requires some { is_empty (joined routes.now.lists (part_at change.now k).pieces) ≡ false }
+        requires dimension { d < length part.now.model.now.dimensions }
+        requires table { IsTable part.now.model.now d table.now }
+        requires kept { AreAllKept part.now.model.now part.now.routes.now.lists self.now }
+        requires some { is_empty (list_after part.now) ≡ false }
         ensures known { (other : List KeptOf) → IsTrue (is_some result)
-            ↔ IsKnown at.now.model.now at.now.d (part_at change.now k).vehicle
-            (route routes.now.lists (part_at change.now k).vehicle) (slice_index_or self.now at.now.d other) }
-        ensures timing { IfSome result (IsTiming at.now.model.now at.now.d (part_at change.now k).vehicle
-            (joined routes.now.lists (part_at change.now k).pieces)) }
-        ensures range { IfSome result
-            (IsTimingOf (length (joined routes.now.lists (part_at change.now k).pieces) + 2)) }
+            ↔ IsKnown part.now.model.now d (vehicle_after part.now)
+            (route part.now.routes.now.lists (vehicle_after part.now)) (slice_index_or self.now d other) }
+        ensures timing { IfSome result
+            (IsTiming part.now.model.now d (vehicle_after part.now) (list_after part.now)) }
+        ensures range { IfSome result (IsTimingOf (length (list_after part.now) + 2)) }
     {
-        let kept = &self.dimensions[at.d as usize];
-        kept.timing_after(at, change.vehicle(k), routes, change.pieces(k), trail)
+        let kept = &self.dimensions[d as usize];
+        let at = KnownDimension {
+            model: part.model,
+            table,
+            d,
+        };
+        kept.timing_after(&at, part.vehicle(), part.routes, part.pieces(), trail)
     }
 
     /// Commits the lists after a change, where they are valid. It is called before the routes are changed, and takes no
     /// memory.
-    pub fn commit(
-        &mut self,
-        model: &RoutingModel,
-        tables: &[Table],
-        routes: &Routes,
-        change: &Change,
-    )
-        requires well_formed { IsWellFormed model.now }
-        requires tables { AreTables model.now tables.now }
-        requires kept { AreAllKept model.now routes.now.lists self.old }
-        requires before { IsTrue (is_valid model.now routes.now.lists) }
+    pub fn commit(&mut self, closed: Closed<'_>, tables: &[Table], routes: &Routes, change: &Change)
+        requires tables { AreTables closed.model.now tables.now }
+        requires kept { AreAllKept closed.model.now routes.now.lists self.old }
+        requires before { IsTrue (is_valid closed.model.now routes.now.lists) }
         requires made { IsMadeOn routes.now change.now }
-        requires valid { IsTrue (is_valid model.now (changed routes.now.lists change.now)) }
-        ensures kept { AreAllKept model.now (changed routes.now.lists change.now) self.new }
+        requires valid { IsTrue (is_valid closed.model.now (changed routes.now.lists change.now)) }
+        ensures kept { AreAllKept closed.entry.model.now (changed routes.now.lists change.now) self.new }
         ensures many { AreAsMany self.old self.new }
     {
         for k in 0..change.parts() {
             routes.join_into(change.pieces(k), &mut self.row);
             write_list(
-                Closed { model },
+                closed,
                 tables,
                 &mut self.dimensions,
                 change.vehicle(k),
@@ -166,7 +159,7 @@ fn kept_in(
     if !is_paid(closed, table, d, paid) {
         return Ok(KeptCumuls::none(alloc));
     }
-    let kept = KeptCumuls::open(alloc, closed.model, table, d, routes)?;
+    let kept = KeptCumuls::open(alloc, closed, table, d, routes)?;
     Ok(kept)
 }
 
@@ -182,6 +175,6 @@ fn write_list(closed: Closed<'_>, tables: &[Table], kept: &mut [KeptCumuls], v: 
     ensures many { AreAsMany kept.old kept.new }
 {
     for d in 0..kept.len() {
-        kept[d].write(closed.model, &tables[d], d as u32, v, list);
+        kept[d].write(closed, &tables[d], d as u32, v, list);
     }
 }

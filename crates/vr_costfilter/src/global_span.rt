@@ -23,7 +23,7 @@ use std::alloc::Global;
 use std::marker::Model;
 use std::mem;
 use vr_earliest::Earlies;
-use vr_model::{Model as RoutingModel, NoMemory};
+use vr_model::{Closed, Model as RoutingModel, NoMemory};
 use vr_parts::CostPart;
 use vr_routes::{Change, Routes};
 
@@ -80,7 +80,7 @@ impl<'m> GlobalSpan<'m> {
         ensures model { IfOk result (λ part. part.model ≡ model.now) }
         ensures stands { IfOk result (λ part. StandsSpans part routes.now) }
     {
-        let rules = SpanRules::open(alloc, model)?;
+        let rules = SpanRules::open(alloc, Closed { model })?;
         let mut scratch = Scratch::new(alloc);
         let (orders, next_orders, cumuls) = rules.kept(alloc, routes, &mut scratch.timer)?;
         let cost = rules.cost(&orders, &[], &[]);

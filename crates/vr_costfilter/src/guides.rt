@@ -5,12 +5,14 @@
 //! committed list, with at most 1000 steps of a trail behind its front 2002, and then at most 1001 more to the end.
 //! 4000 is above all of these.
 
+ghost use Rattle.std.proofs.Props.{props};
 ghost use Rattle.std.specs.Prelude.{◌≡◌, ◌<◌, ◌≤◌, ◌+◌, ◌*◌, All, IfSome, IsTrue, Some, cond, is_some, length, reverse};
 ghost use Rattle.std.specs.Prelude.{ℕ, List, [], ◌∷◌, slice_index_or, pos, ◌+ℤ◌, ◌≤ℤ◌};
 ghost use Rattle.std.specs.Option.{option_copied};
 ghost use Rattle.vr_model.specs.tables.Numbers.{horizon};
 ghost use Rattle.vr_model.specs.tables.Tables.{dimension_at, is_visit, row_of as row_of_key, transit, vehicle_at};
-ghost use Rattle.vr_model.specs.tables.WellFormed.{IsIn, IsStopRow, IsWellFormed, WherePresent};
+ghost use Rattle.vr_model.specs.tables.WellFormed.{IsIn, IsStopRow, WherePresent};
+ghost use Rattle.vr_model.specs.tables.WellFormedOnce.{IsWellFormed-prop};
 ghost use Rattle.vr_routes.specs.Pieces.{joined, nodes_of, IsWithin};
 ghost use Rattle.vr_plan.specs.Bounds.{cumul_cost};
 ghost use Rattle.vr_plan.specs.Tables.{IsTable};
@@ -18,13 +20,12 @@ ghost use Rattle.vr_reach.specs.VisitRuns.{have_stops_one_run, HasCumulEnds};
 ghost use Rattle.vr_costfilter.specs.Floors.{before as before_by, end_step as end_step_by, floor_of as floor_by};
 ghost use Rattle.vr_costfilter.specs.Floors.{first_step};
 ghost use Rattle.vr_costfilter.specs.Floors.{IsStep, IsVisitStep, WentBack};
-ghost use Rattle.vr_costfilter.specs.Guides.{runs_of, IsGuide};
-ghost use Rattle.vr_costfilter.specs.Runs.{AreRuns};
+ghost use Rattle.vr_costfilter.specs.Guides.{IsGuide};
 ghost use Rattle.vr_costfilter.specs.Stages.{along, go_on as go_on_by, standing as standing_by};
 ghost use Rattle.vr_costfilter.specs.Stages.{to_end as to_end_by, to_visit as to_visit_by, IsStageOf};
 
 use crate::trails::{Step, Trail};
-use vr_model::{Evaluator, Model, StopRow};
+use vr_model::{Closed, Evaluator, Model, StopRow};
 use vr_plan::{Table, row_cost, row_of};
 use vr_reach::{Ahead, earliest_behind, single_runs, slack_of};
 use vr_routes::{Piece, Routes};
@@ -57,23 +58,27 @@ pub struct Guide<'m> {
     pub visits: &'m [Run],
     /// Its end.
     pub finish: Ahead,
+    /// What it says of them is so, of a well formed model.
+    pub ghost sound: { IsGuide model.now d v table.now evaluator.now slack start visits.now finish } by { Prim.hlevel
+        (props, IsWellFormed-prop) },
 }
 
 impl<'m> Guide<'m> {
+    ghost use Rattle.vr_costfilter.specs.GuideRuns.{runs_of, HasItsRuns};
+
     /// What is looked up once, nothing exactly where the vehicle has breaks, or a stop allows several runs of cumuls.
     #[inline]
-    pub fn of(model: &'m Model, table: &'m Table, d: u32, v: u32) -> Option<Guide<'m>>
-        requires well_formed { IsWellFormed model.now }
-        requires dimension { d < length model.now.dimensions }
-        requires vehicle { v < length model.now.vehicles }
-        requires table { IsTable model.now d table.now }
-        ensures guide { IfSome result IsGuide }
-        ensures runs { IfSome result (λ guide. AreRuns guide.model.now guide.d guide.v (runs_of guide)) }
-        ensures model { IfSome result (λ guide. guide.model.now ≡ model.now) }
+    pub fn of(closed: Closed<'m>, table: &'m Table, d: u32, v: u32) -> Option<Guide<'m>>
+        requires dimension { d < length closed.model.now.dimensions }
+        requires vehicle { v < length closed.model.now.vehicles }
+        requires table { IsTable closed.model.now d table.now }
+        ensures runs { IfSome result HasItsRuns }
+        ensures model { IfSome result (λ guide. guide.model.now ≡ closed.entry.model.now) }
         ensures dimension { IfSome result (λ guide. guide.d ≡ d) }
         ensures vehicle { IfSome result (λ guide. guide.v ≡ v) }
-        ensures known { is_some result ≡ have_stops_one_run model.now d v }
+        ensures known { is_some result ≡ have_stops_one_run closed.entry.model.now d v }
     {
+        let model = closed.model;
         let runs = single_runs(model, d, v, &table.stops)?;
         Some(Guide {
             model,
@@ -91,7 +96,6 @@ impl<'m> Guide<'m> {
     /// The step to the end.
     #[inline]
     pub fn end_step(&self) -> Step
-        requires guide { IsGuide self.now }
         ensures value { result ≡ end_step_by self.now.model.now self.now.v (runs_of self.now) }
         ensures range { IsStep self.now.model.now result }
     {
@@ -112,7 +116,6 @@ impl<'m> Guide<'m> {
         next: Step,
         trail: &mut Trail,
     ) -> Option<Step>
-        requires guide { IsGuide self.now }
         requires within { All (IsWithin routes.now.lists) pieces.now }
         requires visits { All (λ node. IsTrue (is_visit self.now.model.now node)) (joined routes.now.lists pieces.now) }
         requires next { IsStep self.now.model.now next }
@@ -142,7 +145,6 @@ impl<'m> Guide<'m> {
         next: Step,
         trail: &mut Trail,
     ) -> Option<Step>
-        requires guide { IsGuide self.now }
         requires within { IsWithin routes.now.lists piece }
         requires visits { All (λ node. IsTrue (is_visit self.now.model.now node)) (nodes_of routes.now.lists piece) }
         requires next { IsStep self.now.model.now next }
@@ -176,7 +178,6 @@ impl<'m> Guide<'m> {
         next: Step,
         trail: &mut Trail,
     ) -> Option<Step>
-        requires guide { IsGuide self.now }
         requires visits { All (λ node. IsTrue (is_visit self.now.model.now node))
             (cond reversed (reverse chain.now) chain.now) }
         requires next { IsStep self.now.model.now next }
@@ -201,7 +202,6 @@ impl<'m> Guide<'m> {
     // Back to a visit.
     #[inline]
     fn step_back(&self, node: u32, next: Step, trail: &mut Trail) -> Option<Step>
-        requires guide { IsGuide self.now }
         requires node { IsTrue (is_visit self.now.model.now node) }
         requires next { IsStep self.now.model.now next }
         requires room { length trail.old.steps.items < 1000 }
@@ -219,7 +219,6 @@ impl<'m> Guide<'m> {
     /// The step to a visit that comes before the next step, nothing exactly where it allows no cumul from its floor on.
     #[inline]
     pub fn before(&self, node: u32, next: Step) -> Option<Step>
-        requires guide { IsGuide self.now }
         requires node { IsTrue (is_visit self.now.model.now node) }
         requires next { IsStep self.now.model.now next }
         ensures value { result ≡ before_by self.now.model.now self.now.d self.now.v (runs_of self.now) node next }
@@ -232,7 +231,6 @@ impl<'m> Guide<'m> {
     /// The floor of the start before the next step, nothing exactly where it allows no cumul from there on.
     #[inline]
     pub fn start_floor(&self, next: Step) -> Option<i64>
-        requires guide { IsGuide self.now }
         requires next { IsStep self.now.model.now next }
         ensures value { result ≡ floor_by self.now.model.now self.now.d self.now.v
             (vehicle_at self.now.model.now self.now.v).start self.now.start next }
@@ -244,7 +242,6 @@ impl<'m> Guide<'m> {
     /// The same, where the start allows another run.
     #[inline]
     pub fn floor_from(&self, start: Run, next: Step) -> Option<i64>
-        requires guide { IsGuide self.now }
         requires start { HasCumulEnds start }
         requires next { IsStep self.now.model.now next }
         ensures value { result ≡ floor_by self.now.model.now self.now.d self.now.v
@@ -258,7 +255,6 @@ impl<'m> Guide<'m> {
     // The floor of a stop at a node, before the next step.
     #[inline]
     fn floor_of(&self, node: u32, allowed: Run, next: Step) -> Option<i64>
-        requires guide { IsGuide self.now }
         requires node { node < self.now.model.now.nodes }
         requires allowed { HasCumulEnds allowed }
         requires next { IsStep self.now.model.now next }
@@ -278,7 +274,6 @@ impl<'m> Guide<'m> {
     /// The vehicle stands at its start, at a cumul.
     #[inline]
     pub fn standing(&self, cumul: i64) -> Stage
-        requires guide { IsGuide self.now }
         requires cumul { IsIn (pos 0) horizon cumul }
         ensures value { result ≡ standing_by self.now.model.now self.now.d self.now.v cumul }
         ensures range { IsStageOf self.now.model.now 1 result }
@@ -294,7 +289,6 @@ impl<'m> Guide<'m> {
     /// It goes on along a trail, from the last step on it to the first; nothing exactly where it cannot.
     #[inline]
     pub fn along_trail(&self, trail: &Trail, stage: Stage) -> Option<Stage>
-        requires guide { IsGuide self.now }
         requires steps { All (IsVisitStep self.now.model.now) (reverse trail.now.steps.items) }
         requires stage { IsStageOf self.now.model.now 1002 stage }
         ensures value { result ≡ along self.now.model.now self.now.d self.now.v (runs_of self.now) (Some stage)
@@ -315,7 +309,6 @@ impl<'m> Guide<'m> {
     /// It goes on to a visit, nothing exactly where it cannot.
     #[inline]
     pub fn to_visit(&self, stage: Stage, step: Step) -> Option<Stage>
-        requires guide { IsGuide self.now }
         requires stage { IsStageOf self.now.model.now 4000 stage }
         requires step { IsVisitStep self.now.model.now step }
         ensures value { result ≡ to_visit_by self.now.model.now self.now.d self.now.v (runs_of self.now) step stage }
@@ -335,7 +328,6 @@ impl<'m> Guide<'m> {
     /// It goes on to its end, nothing exactly where it cannot.
     #[inline]
     pub fn to_end(&self, stage: Stage) -> Option<Stage>
-        requires guide { IsGuide self.now }
         requires stage { IsStageOf self.now.model.now 4000 stage }
         ensures value { result ≡ to_end_by self.now.model.now self.now.d self.now.v (runs_of self.now) stage }
         ensures range { IfSome result (λ next. (n : ℕ) → IsStageOf self.now.model.now n stage
@@ -349,7 +341,6 @@ impl<'m> Guide<'m> {
     // It goes on to a node that allows a run of cumuls.
     #[inline]
     fn go_on(&self, stage: Stage, node: u32, allowed: Run, row: Option<&StopRow>) -> Option<Stage>
-        requires guide { IsGuide self.now }
         requires stage { IsStageOf self.now.model.now 4000 stage }
         requires node { node < self.now.model.now.nodes }
         requires allowed { HasCumulEnds allowed }

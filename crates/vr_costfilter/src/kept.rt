@@ -8,24 +8,26 @@ ghost use Rattle.vr_model.specs.routes.Routes.{route};
 ghost use Rattle.vr_model.specs.routes.Rules.{is_valid};
 ghost use Rattle.vr_model.specs.schedules.Choices.{is_feasible};
 ghost use Rattle.vr_model.specs.schedules.Lines.{line, Line};
-ghost use Rattle.vr_model.specs.schedules.Narrowed.{chosen_line};
 ghost use Rattle.vr_model.specs.schedules.Schedules.{IsFeasible};
-ghost use Rattle.vr_model.specs.tables.Tables.{is_visit, vehicle_at};
+ghost use Rattle.vr_model.specs.tables.Tables.{is_visit};
 ghost use Rattle.vr_model.specs.tables.Numbers.{horizon};
-ghost use Rattle.vr_model.specs.tables.WellFormed.{IsIn, IsWellFormed};
+ghost use Rattle.vr_model.specs.tables.WellFormed.{IsIn};
 ghost use Rattle.vr_model.specs.declared.records.Model.{Model as Defined};
 ghost use Rattle.vr_model.specs.declared.records.ScheduleRule.TheVariants.{Earliest, Tight};
-ghost use Rattle.vr_routes.specs.Pieces.{joined, IsWithin};
+ghost use Rattle.vr_routes.specs.Pieces.{joined};
 ghost use Rattle.vr_plan.specs.Tables.{IsKnownDimension, IsTable};
 ghost use Rattle.vr_plan.specs.Timings.{IsTiming, IsTimingOf};
-ghost use Rattle.vr_reach.specs.Lists.{IsUsed};
+ghost use Rattle.vr_costfilter.specs.Joined.{AreJoined};
 ghost use Rattle.vr_costfilter.specs.KeptWays.{AreEndsOf, HasCumuls, HasWays, HaveKeptWays};
-ghost use Rattle.vr_costfilter.specs.Guides.{runs_of, IsGuide};
+ghost use Rattle.vr_costfilter.specs.Asked.{new_choice, new_line, new_list, old_list};
+ghost use Rattle.vr_costfilter.specs.Asked.{ChoiceAllows, IsKeptOfOld, IsNewTiming};
+ghost use Rattle.vr_costfilter.specs.GuideRuns.{rule_of, runs_of, HasItsRuns};
 ghost use Rattle.vr_costfilter.specs.Kept.{is_tight, AreKept, HasRoom, IsKept, IsKnown, HasAllStages, HasAllWays};
-ghost use Rattle.vr_costfilter.specs.Runs.{between_runs, AllowsRuns, AreRuns};
+ghost use Rattle.vr_costfilter.specs.Runs.{between_runs, AllowsRuns};
 ghost use Rattle.vr_costfilter.specs.Steps.{HasStages};
 ghost use Rattle.vr_costfilter.specs.declared.kept_ways.KeptWays.{KeptWays as EndsOf};
 
+use crate::asked::Asked;
 use crate::guides::Guide;
 use crate::kept_ways::KeptWays;
 use crate::steps::KeptSteps;
@@ -33,7 +35,7 @@ use crate::tight::TightEnds;
 use crate::trails::Trail;
 use std::alloc::Global;
 use std::marker::Model;
-use vr_model::{Closed, Model as RoutingModel, NoMemory, ScheduleRule};
+use vr_model::{Closed, NoMemory, ScheduleRule};
 use vr_plan::{KnownDimension, Table, Timing};
 use vr_routes::{Piece, Routes};
 
@@ -82,9 +84,8 @@ impl KeptList {
 
     // Writes what is kept of a list of a vehicle that chooses its earliest schedule.
     fn write_earliest(&mut self, guide: &Guide, list: &[u32])
-        requires guide { IsGuide guide.now }
-        requires runs { AreRuns guide.now.model.now guide.now.d guide.now.v (runs_of guide.now) }
-        requires rule { (vehicle_at guide.now.model.now guide.now.v).schedule ≡ Earliest }
+        requires runs { HasItsRuns guide.now }
+        requires rule { rule_of guide.now ≡ Earliest }
         requires few { length list.now ≤ 1000 }
         requires visits { All (λ node. IsTrue (is_visit guide.now.model.now node)) list.now }
         ensures kept { IsKept guide.now.model.now guide.now.d guide.now.v list.now self.new }
@@ -96,9 +97,8 @@ impl KeptList {
 
     // Writes what is kept of a list of a vehicle that chooses its tight schedule.
     fn write_tight(&mut self, guide: &Guide, list: &[u32])
-        requires guide { IsGuide guide.now }
-        requires runs { AreRuns guide.now.model.now guide.now.d guide.now.v (runs_of guide.now) }
-        requires rule { (vehicle_at guide.now.model.now guide.now.v).schedule ≡ Tight }
+        requires runs { HasItsRuns guide.now }
+        requires rule { rule_of guide.now ≡ Tight }
         requires few { length list.now ≤ 1000 }
         requires visits { All (λ node. IsTrue (is_visit guide.now.model.now node)) list.now }
         ensures kept { IsKept guide.now.model.now guide.now.d guide.now.v list.now self.new }
@@ -114,7 +114,6 @@ impl KeptList {
 
     // Writes the steps and the stages of a list between its two ends, where soft upper bounds may cost anything.
     fn write_between(&mut self, guide: &Guide, list: &[u32])
-        requires guide { IsGuide guide.now }
         requires few { length list.now ≤ 1000 }
         requires visits { All (λ node. IsTrue (is_visit guide.now.model.now node)) list.now }
         requires ends { 0 < length self.old.ends.items }
@@ -140,155 +139,95 @@ impl KeptList {
         self.steps.write(&guide.between(ends), list);
     }
 
-    // What the tight schedule of the list that pieces are joined to comes to; nothing exactly where what is kept does
-    // not tell.
-    fn tight_after(
-        &self,
-        guide: &Guide,
-        routes: &Routes,
-        pieces: &[Piece],
-        trail: &mut Trail,
-    ) -> Option<Timing>
-        requires guide { IsGuide guide.now }
-        requires runs { AreRuns guide.now.model.now guide.now.d guide.now.v (runs_of guide.now) }
-        requires rule { (vehicle_at guide.now.model.now guide.now.v).schedule ≡ Tight }
-        requires known { guide.now.v < length routes.now.lists }
-        requires kept { IsKept guide.now.model.now guide.now.d guide.now.v (route routes.now.lists guide.now.v)
-            self.now }
-        requires short { length (route routes.now.lists guide.now.v) ≤ 1000 }
-        requires within { All (IsWithin routes.now.lists) pieces.now }
-        requires used { IsUsed guide.now.model.now (joined routes.now.lists pieces.now) }
-        requires few { length (joined routes.now.lists pieces.now) ≤ 1000 }
-        requires feasible { IsFeasible (line guide.now.model.now guide.now.d guide.now.v
-            (joined routes.now.lists pieces.now)) }
-        ensures known { IsTrue (is_some result) ↔ HasAllWays (route routes.now.lists guide.now.v) self.now }
-        ensures timing { IfSome result (IsTiming guide.now.model.now guide.now.d guide.now.v
-            (joined routes.now.lists pieces.now)) }
-        ensures range { IfSome result (IsTimingOf (length (joined routes.now.lists pieces.now) + 2)) }
+    // What the tight schedule of the list comes to that is asked of; nothing exactly where what is kept does not tell.
+    fn tight_after(&self, asked: &Asked, trail: &mut Trail) -> Option<Timing>
+        requires runs { HasItsRuns asked.now.guide.now }
+        requires rule { rule_of asked.now.guide.now ≡ Tight }
+        requires kept { IsKeptOfOld asked.now self.now }
+        requires feasible { IsFeasible (new_line asked.now) }
+        ensures known { IsTrue (is_some result) ↔ HasAllWays (old_list asked.now) self.now }
+        ensures timing { IfSome result (IsNewTiming asked.now) }
+        ensures range { IfSome result (IsTimingOf (length (new_list asked.now) + 2)) }
     {
         if self.ends.is_empty() {
             return None;
         }
         let kept = &self.ends[0];
-        let list = routes.list(guide.v);
+        let list = asked.routes.list(asked.guide.v);
         if !kept.has_ways(list.len()) {
             return None;
         }
-        let ends = guide.ends_of(kept, routes, pieces);
-        if guide.table.is_hard {
+        let ends = asked.ends_of(kept);
+        if asked.guide.table.is_hard {
             return Some(Timing {
                 soft: 0,
                 start: ends.start,
                 last: ends.last,
             });
         }
-        self.timing_between(guide, ends, routes, pieces, trail)
+        self.timing_between(asked, ends, trail)
     }
 
     // The same between its two ends: by what is kept, where the list ended as it does now. Nothing exactly where there
     // is no such schedule.
-    fn timing_between(
-        &self,
-        guide: &Guide,
-        ends: TightEnds,
-        routes: &Routes,
-        pieces: &[Piece],
-        trail: &mut Trail,
-    ) -> Option<Timing>
-        requires guide { IsGuide guide.now }
-        requires allows { AllowsRuns guide.now.model.now guide.now.d guide.now.v
-            (between_runs (runs_of guide.now) ends.start ends.last) (joined routes.now.lists pieces.now)
-            (chosen_line guide.now.model.now guide.now.d guide.now.v (joined routes.now.lists pieces.now)) }
-        requires runs { AreRuns guide.now.model.now guide.now.d guide.now.v (runs_of guide.now) }
-        requires rule { (vehicle_at guide.now.model.now guide.now.v).schedule ≡ Tight }
+    fn timing_between(&self, asked: &Asked, ends: TightEnds, trail: &mut Trail) -> Option<Timing>
+        requires allows { ChoiceAllows asked.now
+            (between_runs (runs_of asked.now.guide.now) ends.start ends.last) }
+        requires runs { HasItsRuns asked.now.guide.now }
+        requires rule { rule_of asked.now.guide.now ≡ Tight }
+        requires kept { IsKeptOfOld asked.now self.now }
         requires ends { HasCumuls ends }
-        requires known { guide.now.v < length routes.now.lists }
-        requires kept { IsKept guide.now.model.now guide.now.d guide.now.v (route routes.now.lists guide.now.v)
-            self.now }
-        requires short { length (route routes.now.lists guide.now.v) ≤ 1000 }
-        requires within { All (IsWithin routes.now.lists) pieces.now }
-        requires visits { IsTrue (list_all (is_visit guide.now.model.now) (joined routes.now.lists pieces.now)) }
-        requires few { length (joined routes.now.lists pieces.now) ≤ 1000 }
-        ensures known { is_some result ≡ is_feasible (chosen_line guide.now.model.now guide.now.d guide.now.v
-            (joined routes.now.lists pieces.now)) }
-        ensures timing { IfSome result (IsTiming guide.now.model.now guide.now.d guide.now.v
-            (joined routes.now.lists pieces.now)) }
-        ensures range { IfSome result (IsTimingOf (length (joined routes.now.lists pieces.now) + 2)) }
+        ensures known { is_some result ≡ is_feasible (new_choice asked.now) }
+        ensures timing { IfSome result (IsNewTiming asked.now) }
+        ensures range { IfSome result (IsTimingOf (length (new_list asked.now) + 2)) }
     {
-        let list = routes.list(guide.v);
+        let list = asked.routes.list(asked.guide.v);
         if self.steps.are_of(list.len()) {
             if self.between.last == ends.last {
-                return self.timing_from(guide, ends.start, routes, pieces, trail);
+                return self.timing_from(asked, ends.start, trail);
             }
         }
-        guide.timing_between(ends, routes, pieces, trail)
+        asked.timing_between(ends, trail)
     }
 
     // The same from another start to the end that is kept.
-    fn timing_from(
-        &self,
-        guide: &Guide,
-        start: i64,
-        routes: &Routes,
-        pieces: &[Piece],
-        trail: &mut Trail,
-    ) -> Option<Timing>
-        requires guide { IsGuide guide.now }
-        requires allows { AllowsRuns guide.now.model.now guide.now.d guide.now.v
-            (between_runs (runs_of guide.now) start self.now.between.last) (joined routes.now.lists pieces.now)
-            (chosen_line guide.now.model.now guide.now.d guide.now.v (joined routes.now.lists pieces.now)) }
-        requires runs { AreRuns guide.now.model.now guide.now.d guide.now.v (runs_of guide.now) }
-        requires rule { (vehicle_at guide.now.model.now guide.now.v).schedule ≡ Tight }
+    fn timing_from(&self, asked: &Asked, start: i64, trail: &mut Trail) -> Option<Timing>
+        requires allows { ChoiceAllows asked.now
+            (between_runs (runs_of asked.now.guide.now) start self.now.between.last) }
+        requires runs { HasItsRuns asked.now.guide.now }
+        requires rule { rule_of asked.now.guide.now ≡ Tight }
+        requires kept { IsKeptOfOld asked.now self.now }
         requires start { IsIn (pos 0) horizon start }
-        requires many { length self.now.steps.stages.items ≡ length (route routes.now.lists guide.now.v) + 2 }
-        requires known { guide.now.v < length routes.now.lists }
-        requires kept { IsKept guide.now.model.now guide.now.d guide.now.v (route routes.now.lists guide.now.v)
-            self.now }
-        requires short { length (route routes.now.lists guide.now.v) ≤ 1000 }
-        requires within { All (IsWithin routes.now.lists) pieces.now }
-        requires visits { IsTrue (list_all (is_visit guide.now.model.now) (joined routes.now.lists pieces.now)) }
-        requires few { length (joined routes.now.lists pieces.now) ≤ 1000 }
-        ensures known { is_some result ≡ is_feasible (chosen_line guide.now.model.now guide.now.d guide.now.v
-            (joined routes.now.lists pieces.now)) }
-        ensures timing { IfSome result (IsTiming guide.now.model.now guide.now.d guide.now.v
-            (joined routes.now.lists pieces.now)) }
-        ensures range { IfSome result (IsTimingOf (length (joined routes.now.lists pieces.now) + 2)) }
+        requires many { length self.now.steps.stages.items ≡ length (old_list asked.now) + 2 }
+        ensures known { is_some result ≡ is_feasible (new_choice asked.now) }
+        ensures timing { IfSome result (IsNewTiming asked.now) }
+        ensures range { IfSome result (IsTimingOf (length (new_list asked.now) + 2)) }
     {
-        let kept = guide.between(self.between);
-        self.steps.after(&kept, Some(start), routes, pieces, trail)
+        let kept = asked.guide.between(self.between);
+        let asked = Asked {
+            guide: &kept,
+            routes: asked.routes,
+            pieces: asked.pieces,
+        };
+        self.steps.after(&asked, Some(start), trail)
     }
 
-    // What the earliest schedule of the list that pieces are joined to comes to; nothing exactly where what is kept
-    // does not tell.
-    fn earliest_after(
-        &self,
-        guide: &Guide,
-        routes: &Routes,
-        pieces: &[Piece],
-        trail: &mut Trail,
-    ) -> Option<Timing>
-        requires guide { IsGuide guide.now }
-        requires runs { AreRuns guide.now.model.now guide.now.d guide.now.v (runs_of guide.now) }
-        requires rule { (vehicle_at guide.now.model.now guide.now.v).schedule ≡ Earliest }
-        requires known { guide.now.v < length routes.now.lists }
-        requires kept { IsKept guide.now.model.now guide.now.d guide.now.v (route routes.now.lists guide.now.v)
-            self.now }
-        requires short { length (route routes.now.lists guide.now.v) ≤ 1000 }
-        requires within { All (IsWithin routes.now.lists) pieces.now }
-        requires used { IsUsed guide.now.model.now (joined routes.now.lists pieces.now) }
-        requires few { length (joined routes.now.lists pieces.now) ≤ 1000 }
-        ensures known { IsFeasible
-            (line guide.now.model.now guide.now.d guide.now.v (joined routes.now.lists pieces.now))
-            → IsTrue (is_some result) ↔ HasAllStages (route routes.now.lists guide.now.v) self.now }
-        ensures timing { IfSome result (IsTiming guide.now.model.now guide.now.d guide.now.v
-            (joined routes.now.lists pieces.now)) }
-        ensures range { IfSome result (IsTimingOf (length (joined routes.now.lists pieces.now) + 2)) }
+    // What the earliest schedule of the list comes to that is asked of; nothing exactly where what is kept does not
+    // tell.
+    fn earliest_after(&self, asked: &Asked, trail: &mut Trail) -> Option<Timing>
+        requires runs { HasItsRuns asked.now.guide.now }
+        requires rule { rule_of asked.now.guide.now ≡ Earliest }
+        requires kept { IsKeptOfOld asked.now self.now }
+        ensures known { IsFeasible (new_line asked.now)
+            → IsTrue (is_some result) ↔ HasAllStages (old_list asked.now) self.now }
+        ensures timing { IfSome result (IsNewTiming asked.now) }
+        ensures range { IfSome result (IsTimingOf (length (new_list asked.now) + 2)) }
     {
-        let list = routes.list(guide.v);
+        let list = asked.routes.list(asked.guide.v);
         if !self.steps.are_of(list.len()) {
             return None;
         }
-        self.steps.after(guide, None, routes, pieces, trail)
+        self.steps.after(asked, None, trail)
     }
 }
 
@@ -331,48 +270,39 @@ impl KeptCumuls {
     /// Of the lists of routes in dimension `d`. The only refusal is want of memory.
     pub fn open(
         alloc: Global,
-        model: &RoutingModel,
+        closed: Closed<'_>,
         table: &Table,
         d: u32,
         routes: &Routes,
     ) -> Result<KeptCumuls, NoMemory>
-        requires well_formed { IsWellFormed model.now }
-        requires valid { IsTrue (is_valid model.now routes.now.lists) }
-        requires dimension { d < length model.now.dimensions }
-        requires table { IsTable model.now d table.now }
-        ensures kept { IfOk result (AreKept model.now d routes.now.lists) }
+        requires valid { IsTrue (is_valid closed.model.now routes.now.lists) }
+        requires dimension { d < length closed.model.now.dimensions }
+        requires table { IsTable closed.model.now d table.now }
+        ensures kept { IfOk result (AreKept closed.entry.model.now d routes.now.lists) }
         ensures each { IfOk result (λ kept. length kept ≡ length routes.now.lists) }
     {
         let mut lists = Vec::new(alloc);
         for v in 0..routes.vehicles() {
-            let mut kept = KeptList::new(alloc, model.vehicles.get(v as usize).schedule)?;
-            write_list(Closed { model }, table, d, v, routes.list(v), &mut kept);
+            let mut kept = KeptList::new(alloc, closed.model.vehicles.get(v as usize).schedule)?;
+            write_list(closed, table, d, v, routes.list(v), &mut kept);
             lists.push(kept)?;
         }
         Ok(KeptCumuls { lists })
     }
 
     /// Vehicle `v` gets another list. It takes no memory.
-    pub fn write(&mut self, model: &RoutingModel, table: &Table, d: u32, v: u32, list: &[u32])
-        requires well_formed { IsWellFormed model.now }
-        requires dimension { d < length model.now.dimensions }
-        requires vehicle { v < length model.now.vehicles }
-        requires table { IsTable model.now d table.now }
+    pub fn write(&mut self, closed: Closed<'_>, table: &Table, d: u32, v: u32, list: &[u32])
+        requires dimension { d < length closed.model.now.dimensions }
+        requires vehicle { v < length closed.model.now.vehicles }
+        requires table { IsTable closed.model.now d table.now }
         requires few { length list.now ≤ 1000 }
-        requires visits { IsTrue (list_all (is_visit model.now) list.now) }
-        ensures kept { (lists : List (List ℕ)) → AreKept model.now d lists self.old → v < length lists
-            → AreKept model.now d (with_route lists v list.now) self.new }
+        requires visits { IsTrue (list_all (is_visit closed.model.now) list.now) }
+        ensures kept { (lists : List (List ℕ)) → AreKept closed.entry.model.now d lists self.old → v < length lists
+            → AreKept closed.entry.model.now d (with_route lists v list.now) self.new }
         ensures many { length self.new ≡ length self.old }
     {
         if (v as usize) < self.lists.len() {
-            write_list(
-                Closed { model },
-                table,
-                d,
-                v,
-                list,
-                &mut self.lists[v as usize],
-            );
+            write_list(closed, table, d, v, list, &mut self.lists[v as usize]);
         }
     }
 
@@ -393,11 +323,7 @@ impl KeptCumuls {
         requires at { IsKnownDimension at.now }
         requires vehicle { v < length at.now.model.now.vehicles }
         requires kept { AreKept at.now.model.now at.now.d routes.now.lists self.now }
-        requires known { v < length routes.now.lists }
-        requires short { length (route routes.now.lists v) ≤ 1000 }
-        requires within { All (IsWithin routes.now.lists) pieces.now }
-        requires used { IsUsed at.now.model.now (joined routes.now.lists pieces.now) }
-        requires few { length (joined routes.now.lists pieces.now) ≤ 1000 }
+        requires joined { AreJoined at.now.model.now v routes.now.lists pieces.now }
         requires feasible { IsFeasible (line at.now.model.now at.now.d v (joined routes.now.lists pieces.now)) }
         ensures known { IsTrue (is_some result)
             ↔ IsKnown at.now.model.now at.now.d v (route routes.now.lists v) self.now }
@@ -407,12 +333,17 @@ impl KeptCumuls {
         if v as usize >= self.lists.len() {
             return None;
         }
-        let guide = Guide::of(at.model, at.table, at.d, v)?;
+        let guide = Guide::of(Closed { model: at.model }, at.table, at.d, v)?;
+        let asked = Asked {
+            guide: &guide,
+            routes,
+            pieces,
+        };
         let kept = &self.lists[v as usize];
         let vehicle = at.model.vehicles.get(v as usize);
         match vehicle.schedule {
-            ScheduleRule::Earliest => kept.earliest_after(&guide, routes, pieces, trail),
-            ScheduleRule::Tight => kept.tight_after(&guide, routes, pieces, trail),
+            ScheduleRule::Earliest => kept.earliest_after(&asked, trail),
+            ScheduleRule::Tight => kept.tight_after(&asked, trail),
         }
     }
 }
@@ -427,7 +358,7 @@ fn write_list(closed: Closed<'_>, table: &Table, d: u32, v: u32, list: &[u32], k
     ensures kept { IsKept closed.entry.model.now d v list.now kept.new }
     ensures room { length kept.new.ends.items ≡ length kept.old.ends.items }
 {
-    match Guide::of(closed.model, table, d, v) {
+    match Guide::of(closed, table, d, v) {
         Some(guide) => match closed.model.vehicles.get(v as usize).schedule {
             ScheduleRule::Earliest => kept.write_earliest(&guide, list),
             ScheduleRule::Tight => kept.write_tight(&guide, list),

@@ -6,8 +6,7 @@ ghost use Rattle.vr_model.specs.tables.Numbers.{horizon};
 ghost use Rattle.vr_model.specs.tables.Tables.{is_visit};
 ghost use Rattle.vr_model.specs.tables.WellFormed.{IsIn};
 ghost use Rattle.vr_costfilter.specs.KeptWays.{AreEndsOf, AreRestsTo, AreWaysTo, HasCumuls, HasWays};
-ghost use Rattle.vr_costfilter.specs.Guides.{runs_of, IsGuide};
-ghost use Rattle.vr_costfilter.specs.Runs.{AreRuns};
+ghost use Rattle.vr_costfilter.specs.GuideRuns.{runs_of, HasItsRuns};
 ghost use Rattle.vr_costfilter.specs.Ways.{nearest_cumul};
 ghost use Rattle.vr_costfilter.specs.declared.rests.Rest.{Rest as RestOf};
 ghost use Rattle.vr_costfilter.specs.declared.tight.Way.{Way as WayOf};
@@ -78,7 +77,6 @@ impl KeptWays {
     /// The ends of the tight schedule of a list whose ways are kept: those that its whole way tells, brought within the
     /// horizon, also where it has none.
     pub fn ends(&self, guide: &Guide, list: &[u32]) -> TightEnds
-        requires guide { IsGuide guide.now }
         requires few { length list.now ≤ 1000 }
         requires visits { All (λ node. IsTrue (is_visit guide.now.model.now node)) list.now }
         requires ways { HasWays guide.now.model.now guide.now.d guide.now.v (runs_of guide.now) list.now self.now }
@@ -97,8 +95,7 @@ impl KeptWays {
 
     /// Writes what is kept of a list.
     pub fn write(&mut self, guide: &Guide, list: &[u32])
-        requires guide { IsGuide guide.now }
-        requires runs { AreRuns guide.now.model.now guide.now.d guide.now.v (runs_of guide.now) }
+        requires runs { HasItsRuns guide.now }
         requires few { length list.now ≤ 1000 }
         requires visits { All (λ node. IsTrue (is_visit guide.now.model.now node)) list.now }
         ensures { HasWays guide.now.model.now guide.now.d guide.now.v (runs_of guide.now) list.now self.new }
@@ -109,7 +106,6 @@ impl KeptWays {
 
     // Writes the ways along a list.
     fn write_ways(&mut self, guide: &Guide, list: &[u32])
-        requires guide { IsGuide guide.now }
         requires few { length list.now ≤ 1000 }
         requires visits { All (λ node. IsTrue (is_visit guide.now.model.now node)) list.now }
         ensures { AreWaysTo guide.now.model.now guide.now.d guide.now.v (runs_of guide.now) list.now
@@ -126,7 +122,6 @@ impl KeptWays {
 
     // Writes what is left from each stop of a list on.
     fn write_rests(&mut self, guide: &Guide, list: &[u32])
-        requires guide { IsGuide guide.now }
         requires few { length list.now ≤ 1000 }
         requires visits { All (λ node. IsTrue (is_visit guide.now.model.now node)) list.now }
         ensures rests { AreRestsTo guide.now.model.now guide.now.d guide.now.v (runs_of guide.now) list.now

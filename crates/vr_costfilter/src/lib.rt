@@ -19,13 +19,16 @@
 //! who changes them commits the change here first.
 #![tactic(auto)]
 
+mod asked;
 mod dimensions;
+mod early_change;
 mod global_span;
 mod guides;
 mod kept;
 mod kept_ways;
 mod order;
 mod orders;
+mod parts_after;
 mod plan_cost;
 mod reaches;
 mod rests;
@@ -38,6 +41,7 @@ mod trails;
 
 pub use dimensions::{AllCumuls, Paid};
 pub use global_span::GlobalSpan;
+pub use parts_after::PartAfter;
 pub use plan_cost::PlanCost;
 pub use trails::Trail;
 pub use vr_arccosts::ArcCost;

@@ -1,10 +1,9 @@
 //! The used vehicles of lists by the starts and by the ends of their chosen schedules.
 
-ghost use Rattle.std.specs.Prelude.{◌≡◌, ◌<◌, [], IfSome, length};
+ghost use Rattle.std.specs.Prelude.{◌≡◌, [], IfSome};
 ghost use Rattle.vr_plan.specs.Extents.{IsExtentInRange};
 ghost use Rattle.vr_costfilter.specs.Orders as orders;
-ghost use Rattle.vr_costfilter.specs.Orders.{with_timing, AreInRange, IsInRange};
-ghost use Rattle.vr_costfilter.specs.Order.{without};
+ghost use Rattle.vr_costfilter.specs.Orders.{with_timing, AreInRange, HasRoomFor, IsInRange};
 
 use crate::order::Order;
 use vr_model::limits::HORIZON;
@@ -58,8 +57,7 @@ impl Orders {
     /// Vehicle `v` gets a list with another chosen schedule, or an empty list.
     pub fn set(&mut self, v: u32, timing: Option<Timing>)
         requires range { IfSome timing IsInRange }
-        requires starts { length (without v self.old.starts) < 100 }
-        requires ends { length (without v self.old.ends) < 100 }
+        requires room { HasRoomFor v self.old }
         ensures { self.new ≡ with_timing v timing self.old }
     {
         match timing {

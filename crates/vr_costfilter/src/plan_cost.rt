@@ -18,7 +18,7 @@ use arrayvec::ArrayVec;
 use std::alloc::Global;
 use std::marker::Model;
 use vr_earliest::Earlies;
-use vr_model::{Model as RoutingModel, NoMemory};
+use vr_model::{Closed, Model as RoutingModel, NoMemory};
 use vr_parts::CostPart;
 use vr_routes::{Change, Routes};
 
@@ -69,7 +69,7 @@ impl<'m> PlanCost<'m> {
         ensures model { IfOk result (λ part. part.model ≡ model.now) }
         ensures stands { IfOk result (λ part. StandsPlans part routes.now) }
     {
-        let rules = PlanRules::open(alloc, model)?;
+        let rules = PlanRules::open(alloc, Closed { model })?;
         let mut scratch = Scratch::new(alloc);
         let (costs, cumuls) = rules.kept(alloc, routes, &mut scratch.timer)?;
         Ok(PlanCost {

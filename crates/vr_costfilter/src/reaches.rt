@@ -3,14 +3,13 @@
 ghost use Rattle.std.specs.Prelude.{◌≡◌, ◌<◌, ◌≤◌, ◌+◌, ◌*ℤ◌, IsTrue, IfOk, IfSome, length, not, take};
 ghost use Rattle.std.specs.List.{list_all};
 ghost use Rattle.vr_model.specs.tables.Tables.{dimension_at, is_visit};
-ghost use Rattle.vr_model.specs.tables.WellFormed.{IsWellFormed};
 ghost use Rattle.vr_model.specs.routes.Routes.{is_distinct, route};
 ghost use Rattle.vr_model.specs.routes.Rules.{is_valid};
 ghost use Rattle.vr_routes.specs.Changes.{AreParts, IsMadeOn};
 ghost use Rattle.vr_routes.specs.Pieces.{changed, joined, part_at};
 ghost use Rattle.vr_plan.specs.Bounds.{cumul_cost, IsAround};
 ghost use Rattle.vr_plan.specs.Extents.{length_of, IsExtentInRange};
-ghost use Rattle.vr_plan.specs.Tables.{AreTables, IsKnownDimension, IsTable};
+ghost use Rattle.vr_plan.specs.Tables.{AreTables, IsTable};
 ghost use Rattle.vr_earliest.specs.Earlies.{AreEarlies};
 ghost use Rattle.vr_costfilter.specs.Kept.{AreAllKept};
 ghost use Rattle.vr_costfilter.specs.Orders.{AreInRange, AreOrders};
@@ -19,9 +18,12 @@ ghost use Rattle.vr_costfilter.specs.GlobalCosts.{extent_after, spans_cost_after
 ghost use Rattle.vr_costfilter.specs.GlobalCosts.{AreRanged, AreRows, AreTold, AreToldOf, IsGlobalCost, IsToldIfPaid};
 ghost use Rattle.vr_costfilter.specs.GlobalCosts.{is_some_spanned, Pays};
 ghost use Rattle.vr_costfilter.specs.Spreads.{global_least};
+ghost use Rattle.vr_costfilter.specs.PartsAfter.{list_after, vehicle_after};
 
 use crate::dimensions::{AllCumuls, Paid};
+use crate::early_change::EarlyChange;
 use crate::orders::{Orders, beside};
+use crate::parts_after::PartAfter;
 use crate::scratch::Scratch;
 use crate::spreads::least_of_global_spans;
 use arrayvec::ArrayVec;
@@ -29,8 +31,8 @@ use std::alloc::Global;
 use std::marker::Model;
 use vr_earliest::Earlies;
 use vr_model::{Closed, Model as RoutingModel, NoMemory};
-use vr_plan::{Extent, KnownDimension, Table, Timer, Timing, global_cost, tables_of, timing_of};
-use vr_routes::{Change, Piece, Routes};
+use vr_plan::{Extent, Table, Timer, Timing, global_cost, tables_of, timing_of};
+use vr_routes::{Change, Routes};
 
 /// What the schedule of a list comes to in each dimension whose global span has a coefficient, none of an empty one.
 pub type ListTimings = [Option<Timing>; 4];
@@ -57,10 +59,10 @@ impl<'m> Model for SpanRules<'m> {
 
 impl<'m> SpanRules<'m> {
     /// What is looked up of a model.
-    pub fn open(alloc: Global, model: &'m RoutingModel) -> Result<SpanRules<'m>, NoMemory>
-        requires { IsWellFormed model.now }
-        ensures { IfOk result (λ rules. rules ≡ model.now) }
+    pub fn open(alloc: Global, closed: Closed<'m>) -> Result<SpanRules<'m>, NoMemory>
+        ensures { IfOk result (λ rules. rules ≡ closed.entry.model.now) }
     {
+        let model = closed.model;
         let tables = tables_of(alloc, model)?;
         Ok(SpanRules {
             model,
@@ -91,7 +93,13 @@ impl<'m> SpanRules<'m> {
     {
         let orders = self.orders(alloc, routes, timer)?;
         let next_orders = self.no_orders(alloc)?;
-        let cumuls = AllCumuls::open(alloc, self.model, &self.tables, Paid::Together, routes)?;
+        let cumuls = AllCumuls::open(
+            alloc,
+            Closed { model: self.model },
+            &self.tables,
+            Paid::Together,
+            routes,
+        )?;
         Ok((orders, next_orders, cumuls))
     }
 
@@ -138,7 +146,7 @@ impl<'m> SpanRules<'m> {
         requires valid { IsTrue (is_valid self.now (changed routes.now.lists change.now)) }
         ensures { AreAllKept self.now (changed routes.now.lists change.now) cumuls.new }
     {
-        cumuls.commit(self.model, &self.tables, routes, change);
+        cumuls.commit(Closed { model: self.model }, &self.tables, routes, change);
     }
 
     /// What the chosen schedules of the list come to that part `k` of a change gives its vehicle. The list is written
@@ -159,15 +167,13 @@ impl<'m> SpanRules<'m> {
         ensures { IfOk result (IsRow self.now (part_at change.now k).vehicle
             (joined routes.now.lists (part_at change.now k).pieces)) }
     {
-        let timings = row_of_part(
-            Closed { model: self.model },
-            &self.tables,
-            cumuls,
+        let part = PartAfter {
+            model: self.model,
             routes,
             change,
             k,
-            scratch,
-        )?;
+        };
+        let timings = row_of_part(&part, &self.tables, cumuls, scratch)?;
         Ok(timings)
     }
 
@@ -221,7 +227,13 @@ impl<'m> SpanRules<'m> {
         ensures value { result ≡ global_least self.now routes.now.lists change.now }
         ensures range { IsGlobalCost result }
     {
-        least_of_global_spans(self.model, earlies, orders, routes, change)
+        let early = EarlyChange {
+            model: self.model,
+            routes,
+            change,
+            earlies,
+        };
+        least_of_global_spans(&early, orders)
     }
 }
 
@@ -296,71 +308,53 @@ fn kept_in(
     Ok(Some(timing))
 }
 
-// What the chosen schedules of the list come to that part `k` of a change gives its vehicle.
+// What the chosen schedules of the list come to that a part of a change gives its vehicle.
 fn row_of_part(
-    closed: Closed<'_>,
+    part: &PartAfter,
     tables: &[Table],
     cumuls: &AllCumuls,
-    routes: &Routes,
-    change: &Change,
-    k: usize,
     scratch: &mut Scratch,
 ) -> Result<ListTimings, NoMemory>
-    requires tables { AreTables closed.model.now tables.now }
-    requires kept { AreAllKept closed.model.now routes.now.lists cumuls.now }
-    requires before { IsTrue (is_valid closed.model.now routes.now.lists) }
-    requires made { IsMadeOn routes.now change.now }
-    requires valid { IsTrue (is_valid closed.model.now (changed routes.now.lists change.now)) }
-    requires part { k < length change.now }
-    ensures { IfOk result (IsRow closed.entry.model.now (part_at change.now k).vehicle
-        (joined routes.now.lists (part_at change.now k).pieces)) }
+    requires tables { AreTables part.now.model.now tables.now }
+    requires kept { AreAllKept part.now.model.now part.now.routes.now.lists cumuls.now }
+    ensures { IfOk result (IsRow part.now.model.now (vehicle_after part.now) (list_after part.now)) }
 {
     let mut timings: ListTimings = [None; 4];
     for d in 0..tables.len() {
-        let at = KnownDimension {
-            model: closed.model,
-            table: &tables[d],
-            d: d as u32,
-        };
-        timings[d] = kept_after(&at, cumuls, routes, change, k, scratch)?;
+        timings[d] = kept_after(part, &tables[d], d as u32, cumuls, scratch)?;
     }
     Ok(timings)
 }
 
 // The same in one dimension.
 fn kept_after(
-    at: &KnownDimension,
+    part: &PartAfter,
+    table: &Table,
+    d: u32,
     cumuls: &AllCumuls,
-    routes: &Routes,
-    change: &Change,
-    k: usize,
     scratch: &mut Scratch,
 ) -> Result<Option<Timing>, NoMemory>
-    requires at { IsKnownDimension at.now }
-    requires kept { AreAllKept at.now.model.now routes.now.lists cumuls.now }
-    requires before { IsTrue (is_valid at.now.model.now routes.now.lists) }
-    requires made { IsMadeOn routes.now change.now }
-    requires valid { IsTrue (is_valid at.now.model.now (changed routes.now.lists change.now)) }
-    requires part { k < length change.now }
-    ensures { IfOk result (IsToldIfPaid at.now.model.now at.now.d (part_at change.now k).vehicle
-        (joined routes.now.lists (part_at change.now k).pieces)) }
+    requires dimension { d < length part.now.model.now.dimensions }
+    requires table { IsTable part.now.model.now d table.now }
+    requires kept { AreAllKept part.now.model.now part.now.routes.now.lists cumuls.now }
+    ensures { IfOk result (IsToldIfPaid part.now.model.now d (vehicle_after part.now) (list_after part.now)) }
 {
-    if at.model.dimensions.get(at.d as usize).global_span_cost == 0 {
+    if part.model.dimensions.get(d as usize).global_span_cost == 0 {
         return Ok(None);
     }
-    if Piece::nodes_in(routes, change.pieces(k)) == 0 {
+    if part.is_empty() {
         return Ok(None);
     }
-    let told = cumuls.timing_after(at, routes, change, k, &mut scratch.trail);
+    let told = cumuls.timing_after(part, table, d, &mut scratch.trail);
     if let Some(timing) = told {
         return Ok(Some(timing));
     }
-    routes.write_after(change, k, &mut scratch.row);
+    part.write(&mut scratch.row);
     let timing = kept_in(
-        Closed { model: at.model },
-        at.table,
-        at.d,
-        change.vehicle(k),
+        Closed { model: part.model },
+        table,
+        d,
+        part.vehicle(),
         scratch.row.as_slice(),
         &mut scratch.timer,
     )?;

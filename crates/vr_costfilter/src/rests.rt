@@ -3,7 +3,7 @@
 ghost use Rattle.std.specs.Prelude.{◌≡◌, ◌<◌, IsTrue};
 ghost use Rattle.vr_model.specs.tables.Tables.{is_visit, transit as transit_of};
 ghost use Rattle.vr_reach.specs.VisitRuns.{HasCumulEnds};
-ghost use Rattle.vr_costfilter.specs.Guides.{runs_of, IsGuide};
+ghost use Rattle.vr_costfilter.specs.GuideRuns.{runs_of};
 ghost use Rattle.vr_costfilter.specs.Rests.{rest_at_end as at_end_of, rest_before as before_by};
 ghost use Rattle.vr_costfilter.specs.Rests.{rest_by, way_through as through_rest, IsRestOf};
 ghost use Rattle.vr_costfilter.specs.Ways.{IsWayOf};
@@ -27,7 +27,6 @@ impl<'m> Guide<'m> {
     /// What is left from the end on.
     #[inline]
     pub fn rest_at_end(&self) -> Rest
-        requires guide { IsGuide self.now }
         ensures value { result ≡ at_end_of self.now.model.now self.now.v (runs_of self.now) }
         ensures range { IsRestOf self.now.model.now 0 result }
     {
@@ -42,7 +41,6 @@ impl<'m> Guide<'m> {
     /// What is left from a visit on, which comes before what is left from the next stop on.
     #[inline]
     pub fn rest_before(&self, node: u32, rest: Rest) -> Rest
-        requires guide { IsGuide self.now }
         requires node { IsTrue (is_visit self.now.model.now node) }
         requires rest { IsRestOf self.now.model.now 1000 rest }
         ensures { result ≡ before_by self.now.model.now self.now.d self.now.v (runs_of self.now) node rest }
@@ -53,7 +51,6 @@ impl<'m> Guide<'m> {
     // What is left from a node on that allows a run of cumuls.
     #[inline]
     fn rest_on(&self, node: u32, allowed: Run, rest: Rest) -> Rest
-        requires guide { IsGuide self.now }
         requires node { node < self.now.model.now.nodes }
         requires allowed { HasCumulEnds allowed }
         requires rest { IsRestOf self.now.model.now 1000 rest }
@@ -75,7 +72,6 @@ impl<'m> Guide<'m> {
     /// A way goes on to a stop and through what is left from there to the end.
     #[inline(always)]
     pub fn way_through(&self, way: Way, rest: Rest) -> Way
-        requires guide { IsGuide self.now }
         requires way { IsWayOf self.now.model.now 2000 way }
         requires rest { IsRestOf self.now.model.now 1000 rest }
         ensures { result ≡ through_rest self.now.model.now self.now.d self.now.v way rest }

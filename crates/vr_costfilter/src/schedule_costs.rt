@@ -4,11 +4,10 @@ ghost use Rattle.std.specs.Prelude.{◌≡◌, ◌<◌, ◌≤◌, ◌*◌, ◌+
 ghost use Rattle.std.specs.List.{list_all};
 ghost use Rattle.vr_model.specs.tables.Numbers.{below, number_at, total_by};
 ghost use Rattle.vr_model.specs.tables.Tables.{dimension_at, is_visit};
-ghost use Rattle.vr_model.specs.tables.WellFormed.{IsWellFormed};
 ghost use Rattle.vr_model.specs.declared.records.Model.{Model as Defined};
 ghost use Rattle.vr_model.specs.routes.Routes.{is_distinct, is_empty};
 ghost use Rattle.vr_model.specs.routes.Rules.{is_valid};
-ghost use Rattle.vr_plan.specs.Tables.{AreTables, IsKnownDimension, IsTable};
+ghost use Rattle.vr_plan.specs.Tables.{AreTables, IsTable};
 ghost use Rattle.vr_plan.specs.Timings.{soft_with, span_with, IsTimingOf};
 ghost use Rattle.vr_plan.specs.Bounds.{cumul_cost, IsAround};
 ghost use Rattle.vr_routes.specs.Changes.{AreParts, IsMadeOn};
@@ -18,16 +17,17 @@ ghost use Rattle.vr_earliest.specs.Earlies.{AreEarlies};
 ghost use Rattle.vr_earliest.specs.Ways.{least_span};
 ghost use Rattle.vr_costfilter.specs.PlanCosts.{cost_after, pays_no_plan, plans_cost, spans_least, AreCosts};
 ghost use Rattle.vr_costfilter.specs.PlanCosts.{IsPlanCost, IsPlanCostIn};
+ghost use Rattle.vr_costfilter.specs.PartsAfter.{list_after, vehicle_after};
 
 use crate::dimensions::{AllCumuls, Paid};
+use crate::early_change::EarlyChange;
+use crate::parts_after::PartAfter;
 use crate::scratch::Scratch;
 use std::alloc::Global;
 use std::marker::Model;
 use vr_earliest::Earlies;
 use vr_model::{Closed, Model as RoutingModel, NoMemory};
-use vr_plan::{
-    KnownDimension, Table, Timer, Timing, may_pay_alone, span_cost, tables_of, times, timing_of,
-};
+use vr_plan::{Table, Timer, Timing, may_pay_alone, span_cost, tables_of, times, timing_of};
 use vr_routes::{Change, Piece, Routes};
 
 /// What is looked up of a model once. Contracts see the model.
@@ -53,10 +53,10 @@ impl<'m> Model for PlanRules<'m> {
 
 impl<'m> PlanRules<'m> {
     /// What is looked up of a model.
-    pub fn open(alloc: Global, model: &'m RoutingModel) -> Result<PlanRules<'m>, NoMemory>
-        requires { IsWellFormed model.now }
-        ensures { IfOk result (λ rules. rules ≡ model.now) }
+    pub fn open(alloc: Global, closed: Closed<'m>) -> Result<PlanRules<'m>, NoMemory>
+        ensures { IfOk result (λ rules. rules ≡ closed.entry.model.now) }
     {
+        let model = closed.model;
         let tables = tables_of(alloc, model)?;
         let idle = pays_no_plan(&tables);
         Ok(PlanRules {
@@ -86,7 +86,13 @@ impl<'m> PlanRules<'m> {
         ensures cumuls { IfOk result (λ kept. AreAllKept self.now routes.now.lists kept.1) }
     {
         let costs = self.costs(alloc, routes, timer)?;
-        let cumuls = AllCumuls::open(alloc, self.model, &self.tables, Paid::Alone, routes)?;
+        let cumuls = AllCumuls::open(
+            alloc,
+            Closed { model: self.model },
+            &self.tables,
+            Paid::Alone,
+            routes,
+        )?;
         Ok((costs, cumuls))
     }
 
@@ -118,7 +124,7 @@ impl<'m> PlanRules<'m> {
         requires valid { IsTrue (is_valid self.now (changed routes.now.lists change.now)) }
         ensures { AreAllKept self.now (changed routes.now.lists change.now) cumuls.new }
     {
-        cumuls.commit(self.model, &self.tables, routes, change);
+        cumuls.commit(Closed { model: self.model }, &self.tables, routes, change);
     }
 
     /// What the list costs that part `k` of a change gives its vehicle. The list is written out only where what is kept
@@ -139,27 +145,25 @@ impl<'m> PlanRules<'m> {
         ensures value { IfOk result (λ cost. cost ≡ cost_after self.now routes.now.lists (part_at change.now k)) }
         ensures range { IfOk result IsPlanCost }
     {
-        if Piece::nodes_in(routes, change.pieces(k)) == 0 {
-            return Ok(0);
-        }
-        let cost = cost_of_part(
-            Closed { model: self.model },
-            &self.tables,
-            cumuls,
+        let part = PartAfter {
+            model: self.model,
             routes,
             change,
             k,
-            scratch,
-        )?;
+        };
+        if part.is_empty() {
+            return Ok(0);
+        }
+        let cost = cost_of_part(&part, &self.tables, cumuls, scratch)?;
         Ok(cost)
     }
 
     /// What the spans of the list cost at least that part `k` of a change gives its vehicle. No schedule is built.
     pub fn least(&self, earlies: &Earlies, routes: &Routes, change: &Change, k: usize) -> i64
         requires earlies { AreEarlies self.now routes.now.lists change.now earlies.now }
+        requires as_many { length routes.now.lists ≡ length self.now.vehicles }
         requires parts { AreParts routes.now.lists change.now }
         requires part { k < length change.now }
-        requires vehicle { (part_at change.now k).vehicle < length self.now.vehicles }
         ensures value { result ≡ spans_least self.now (part_at change.now k).vehicle
             (joined routes.now.lists (part_at change.now k).pieces) }
         ensures range { IsAround (cumul_cost * 4) result }
@@ -167,7 +171,13 @@ impl<'m> PlanRules<'m> {
         if Piece::nodes_in(routes, change.pieces(k)) == 0 {
             return 0;
         }
-        least_of_spans(Closed { model: self.model }, earlies, routes, change, k)
+        let early = EarlyChange {
+            model: self.model,
+            routes,
+            change,
+            earlies,
+        };
+        least_of_spans(&early, k)
     }
 }
 
@@ -197,75 +207,57 @@ fn cost_of_plans(
     Ok(cost)
 }
 
-// What the list costs that part `k` of a change gives its vehicle, where it has nodes.
+// What the list costs that a part of a change gives its vehicle, where it has nodes.
 fn cost_of_part(
-    closed: Closed<'_>,
+    part: &PartAfter,
     tables: &[Table],
     cumuls: &AllCumuls,
-    routes: &Routes,
-    change: &Change,
-    k: usize,
     scratch: &mut Scratch,
 ) -> Result<i64, NoMemory>
-    requires tables { AreTables closed.model.now tables.now }
-    requires kept { AreAllKept closed.model.now routes.now.lists cumuls.now }
-    requires before { IsTrue (is_valid closed.model.now routes.now.lists) }
-    requires made { IsMadeOn routes.now change.now }
-    requires valid { IsTrue (is_valid closed.model.now (changed routes.now.lists change.now)) }
-    requires part { k < length change.now }
-    requires some { is_empty (joined routes.now.lists (part_at change.now k).pieces) ≡ false }
+    requires tables { AreTables part.now.model.now tables.now }
+    requires kept { AreAllKept part.now.model.now part.now.routes.now.lists cumuls.now }
+    requires some { is_empty (list_after part.now) ≡ false }
     ensures value { IfOk result (λ cost. cost
-        ≡ cost_after closed.entry.model.now routes.now.lists (part_at change.now k)) }
+        ≡ cost_after part.now.model.now part.now.routes.now.lists (part_at part.now.change.now part.now.k)) }
     ensures range { IfOk result IsPlanCost }
 {
     let mut cost = 0;
     for d in 0..tables.len() {
-        let at = KnownDimension {
-            model: closed.model,
-            table: &tables[d],
-            d: d as u32,
-        };
-        cost += cost_of_plan_after(&at, cumuls, routes, change, k, scratch)?;
+        cost += cost_of_plan_after(part, &tables[d], d as u32, cumuls, scratch)?;
     }
     Ok(cost)
 }
 
 // The same in one dimension.
 fn cost_of_plan_after(
-    at: &KnownDimension,
+    part: &PartAfter,
+    table: &Table,
+    d: u32,
     cumuls: &AllCumuls,
-    routes: &Routes,
-    change: &Change,
-    k: usize,
     scratch: &mut Scratch,
 ) -> Result<i64, NoMemory>
-    requires at { IsKnownDimension at.now }
-    requires kept { AreAllKept at.now.model.now routes.now.lists cumuls.now }
-    requires before { IsTrue (is_valid at.now.model.now routes.now.lists) }
-    requires made { IsMadeOn routes.now change.now }
-    requires valid { IsTrue (is_valid at.now.model.now (changed routes.now.lists change.now)) }
-    requires part { k < length change.now }
-    requires some { is_empty (joined routes.now.lists (part_at change.now k).pieces) ≡ false }
-    ensures value { let part = part_at change.now k in
-        let list = joined routes.now.lists part.pieces in
-        IfOk result (λ cost. cost
-        ≡ soft_with at.now.model.now at.now.d part.vehicle list +ℤ span_with at.now.model.now at.now.d part.vehicle
-        list) }
+    requires dimension { d < length part.now.model.now.dimensions }
+    requires table { IsTable part.now.model.now d table.now }
+    requires kept { AreAllKept part.now.model.now part.now.routes.now.lists cumuls.now }
+    requires some { is_empty (list_after part.now) ≡ false }
+    ensures value { IfOk result (λ cost. cost
+        ≡ soft_with part.now.model.now d (vehicle_after part.now) (list_after part.now)
+        +ℤ span_with part.now.model.now d (vehicle_after part.now) (list_after part.now)) }
     ensures range { IfOk result IsPlanCostIn }
 {
-    if at.table.is_free {
+    if table.is_free {
         return Ok(0);
     }
-    let v = change.vehicle(k);
-    let told = cumuls.timing_after(at, routes, change, k, &mut scratch.trail);
+    let v = part.vehicle();
+    let told = cumuls.timing_after(part, table, d, &mut scratch.trail);
     if let Some(timing) = told {
-        return Ok(cost_of_timing(Closed { model: at.model }, at.d, v, timing));
+        return Ok(cost_of_timing(Closed { model: part.model }, d, v, timing));
     }
-    routes.write_after(change, k, &mut scratch.row);
+    part.write(&mut scratch.row);
     let cost = cost_of_plan(
-        Closed { model: at.model },
-        at.table,
-        at.d,
+        Closed { model: part.model },
+        table,
+        d,
         v,
         scratch.row.as_slice(),
         &mut scratch.timer,
@@ -274,49 +266,34 @@ fn cost_of_plan_after(
 }
 
 // What the spans of a list that has nodes cost at least.
-fn least_of_spans(
-    closed: Closed<'_>,
-    earlies: &Earlies,
-    routes: &Routes,
-    change: &Change,
-    k: usize,
-) -> i64
-    requires earlies { AreEarlies closed.model.now routes.now.lists change.now earlies.now }
-    requires part { k < length change.now }
-    requires vehicle { (part_at change.now k).vehicle < length closed.model.now.vehicles }
-    ensures value { result ≡ total_by (λ d. number_at (dimension_at closed.entry.model.now d).span_costs
-        (part_at change.now k).vehicle *ℤ least_span closed.entry.model.now d (part_at change.now k).vehicle
-        (joined routes.now.lists (part_at change.now k).pieces)) (below (length closed.entry.model.now.dimensions)) }
+fn least_of_spans(early: &EarlyChange, k: usize) -> i64
+    requires { k < length early.now.change.now }
+    ensures value { result ≡ total_by (λ d. number_at (dimension_at early.now.model.now d).span_costs
+        (part_at early.now.change.now k).vehicle *ℤ least_span early.now.model.now d
+        (part_at early.now.change.now k).vehicle
+        (joined early.now.routes.now.lists (part_at early.now.change.now k).pieces))
+        (below (length early.now.model.now.dimensions)) }
     ensures range { IsAround (cumul_cost * 4) result }
 {
     let mut cost = 0;
-    for d in 0..closed.model.dimensions.len() {
-        cost += least_of_span(closed, earlies, routes, change, k, d as u32);
+    for d in 0..early.model.dimensions.len() {
+        cost += least_of_span(early, k, d as u32);
     }
     cost
 }
 
 // The same in one dimension.
-fn least_of_span(
-    closed: Closed<'_>,
-    earlies: &Earlies,
-    _routes: &Routes,
-    change: &Change,
-    k: usize,
-    d: u32,
-) -> i64
-    requires earlies { AreEarlies closed.model.now _routes.now.lists change.now earlies.now }
-    requires part { k < length change.now }
-    requires dimension { d < length closed.model.now.dimensions }
-    requires vehicle { (part_at change.now k).vehicle < length closed.model.now.vehicles }
-    ensures value { result ≡ (number_at (dimension_at closed.entry.model.now d).span_costs
-        (part_at change.now k).vehicle
-        *ℤ least_span closed.entry.model.now d (part_at change.now k).vehicle
-        (joined _routes.now.lists (part_at change.now k).pieces)) }
+fn least_of_span(early: &EarlyChange, k: usize, d: u32) -> i64
+    requires part { k < length early.now.change.now }
+    requires dimension { d < length early.now.model.now.dimensions }
+    ensures value { result ≡ (number_at (dimension_at early.now.model.now d).span_costs
+        (part_at early.now.change.now k).vehicle
+        *ℤ least_span early.now.model.now d (part_at early.now.change.now k).vehicle
+        (joined early.now.routes.now.lists (part_at early.now.change.now k).pieces)) }
     ensures range { IsAround cumul_cost result }
 {
-    let v = change.vehicle(k);
-    let coefficient = *closed
+    let v = early.vehicle(k);
+    let coefficient = *early
         .model
         .dimensions
         .get(d as usize)
@@ -325,7 +302,7 @@ fn least_of_span(
     if coefficient == 0 {
         return 0;
     }
-    times(coefficient, earlies.at(d, k).span)
+    times(coefficient, early.earlies.at(d, k).span)
 }
 
 // What the list of a vehicle costs by soft upper bounds and by its span in one dimension.

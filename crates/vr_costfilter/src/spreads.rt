@@ -1,23 +1,19 @@
 //! What global spans cost at least after a change, told without a schedule of the changed lists.
 
-ghost use Rattle.std.specs.Prelude.{◌≡◌, ◌<◌, ◌≤◌, length};
-ghost use Rattle.vr_model.specs.tables.WellFormed.{IsWellFormed};
+ghost use Rattle.std.specs.Prelude.{◌≡◌, ◌<◌, length};
 ghost use Rattle.vr_plan.specs.Bounds.{cumul_cost, IsAround};
-ghost use Rattle.vr_routes.specs.Changes.{AreParts};
 ghost use Rattle.vr_routes.specs.Pieces.{part_at};
-ghost use Rattle.vr_earliest.specs.Earlies.{AreEarlies};
 ghost use Rattle.vr_costfilter.specs.Orders.{extent_but, AreInRange, AreOrders};
 ghost use Rattle.vr_costfilter.specs.GlobalCosts.{AreAllOrders, IsGlobalCost, Pays};
 ghost use Rattle.vr_costfilter.specs.Spreads as spreads;
 ghost use Rattle.vr_costfilter.specs.Spreads.{global_least, global_least_in, spread_of, IsSpreadInRange};
 
+use crate::early_change::EarlyChange;
 use crate::orders::Orders;
 use crate::reaches::vehicles_of;
-use vr_earliest::Earlies;
 use vr_model::limits::HORIZON;
-use vr_model::{Closed, Model as RoutingModel};
 use vr_plan::times;
-use vr_routes::{Change, Piece, Routes};
+use vr_routes::Piece;
 
 /// How far lists reach at least in one dimension.
 #[derive(Clone, Copy)]
@@ -31,79 +27,48 @@ pub struct Spread {
 }
 
 /// What the global spans cost at least after a change.
-pub fn least_of_global_spans(
-    model: &RoutingModel,
-    earlies: &Earlies,
-    orders: &[Orders],
-    routes: &Routes,
-    change: &Change,
-) -> i64
-    requires well_formed { IsWellFormed model.now }
-    requires earlies { AreEarlies model.now routes.now.lists change.now earlies.now }
-    requires orders { AreAllOrders model.now routes.now.lists orders.now }
-    requires parts { AreParts routes.now.lists change.now }
-    ensures value { result ≡ global_least model.now routes.now.lists change.now }
+pub fn least_of_global_spans(early: &EarlyChange, orders: &[Orders]) -> i64
+    requires { AreAllOrders early.now.model.now early.now.routes.now.lists orders.now }
+    ensures value { result ≡ global_least early.now.model.now early.now.routes.now.lists early.now.change.now }
     ensures range { IsGlobalCost result }
 {
     let mut cost = 0;
     for d in 0..orders.len() {
-        cost += least_of_global_span(
-            Closed { model },
-            earlies,
-            &orders[d],
-            routes,
-            change,
-            d as u32,
-        );
+        cost += least_of_global_span(early, &orders[d], d as u32);
     }
     cost
 }
 
 // The same in dimension `d`.
-fn least_of_global_span(
-    closed: Closed<'_>,
-    earlies: &Earlies,
-    orders: &Orders,
-    routes: &Routes,
-    change: &Change,
-    d: u32,
-) -> i64
-    requires dimension { d < length closed.model.now.dimensions }
-    requires earlies { AreEarlies closed.model.now routes.now.lists change.now earlies.now }
-    requires orders { Pays closed.model.now d → AreOrders closed.model.now d routes.now.lists orders.now }
-    requires parts { AreParts routes.now.lists change.now }
-    ensures value { result ≡ global_least_in closed.entry.model.now routes.now.lists change.now d }
+fn least_of_global_span(early: &EarlyChange, orders: &Orders, d: u32) -> i64
+    requires dimension { d < length early.now.model.now.dimensions }
+    requires orders { Pays early.now.model.now d
+        → AreOrders early.now.model.now d early.now.routes.now.lists orders.now }
+    ensures value { result
+        ≡ global_least_in early.now.model.now early.now.routes.now.lists early.now.change.now d }
     ensures range { IsAround cumul_cost result }
 {
-    let coefficient = closed.model.dimensions.get(d as usize).global_span_cost;
+    let coefficient = early.model.dimensions.get(d as usize).global_span_cost;
     if coefficient == 0 {
         return 0;
     }
-    let spread = spread_after(closed, earlies, orders, routes, change, d);
+    let spread = spread_after(early, orders, d);
     times(coefficient, (spread.last - spread.start).max(spread.span))
 }
 
 // How far the lists after a change reach at least.
-fn spread_after(
-    closed: Closed<'_>,
-    earlies: &Earlies,
-    orders: &Orders,
-    routes: &Routes,
-    change: &Change,
-    d: u32,
-) -> Spread
-    requires dimension { d < length closed.model.now.dimensions }
-    requires pays { Pays closed.model.now d }
-    requires earlies { AreEarlies closed.model.now routes.now.lists change.now earlies.now }
-    requires orders { AreOrders closed.model.now d routes.now.lists orders.now }
-    requires parts { AreParts routes.now.lists change.now }
-    ensures value { result ≡ spreads.spread_after closed.entry.model.now routes.now.lists change.now d }
+fn spread_after(early: &EarlyChange, orders: &Orders, d: u32) -> Spread
+    requires dimension { d < length early.now.model.now.dimensions }
+    requires pays { Pays early.now.model.now d }
+    requires orders { AreOrders early.now.model.now d early.now.routes.now.lists orders.now }
+    ensures value { result
+        ≡ spreads.spread_after early.now.model.now early.now.routes.now.lists early.now.change.now d }
     ensures range { IsSpreadInRange result }
 {
-    let vehicles = vehicles_of(change);
+    let vehicles = vehicles_of(early.change);
     let mut spread = spread_but(orders, &vehicles);
-    for k in 0..change.parts() {
-        spread = with_changed(closed.model, earlies, routes, change, d, k, spread);
+    for k in 0..early.change.parts() {
+        spread = with_changed(early, d, k, spread);
     }
     spread
 }
@@ -130,32 +95,23 @@ fn spread_but(orders: &Orders, vehicles: &[u32]) -> Spread
 
 // It reaches over the list too that part `k` of the change gives its vehicle.
 #[inline]
-fn with_changed(
-    _model: &RoutingModel,
-    earlies: &Earlies,
-    routes: &Routes,
-    change: &Change,
-    d: u32,
-    k: usize,
-    spread: Spread,
-) -> Spread
-    requires earlies { AreEarlies _model.now routes.now.lists change.now earlies.now }
-    requires dimension { d < length _model.now.dimensions }
-    requires dimensions { length _model.now.dimensions ≤ 4 }
-    requires parts { AreParts routes.now.lists change.now }
-    requires part { k < length change.now }
-    requires pays { Pays _model.now d }
+fn with_changed(early: &EarlyChange, d: u32, k: usize, spread: Spread) -> Spread
+    requires dimension { d < length early.now.model.now.dimensions }
+    requires part { k < length early.now.change.now }
+    requires pays { Pays early.now.model.now d }
     requires range { IsSpreadInRange spread }
-    ensures value { result ≡ spreads.with_changed _model.now routes.now.lists d spread (part_at change.now k) }
+    ensures value { result
+        ≡ spreads.with_changed early.now.model.now early.now.routes.now.lists d spread
+        (part_at early.now.change.now k) }
     ensures range { IsSpreadInRange result }
 {
-    if Piece::nodes_in(routes, change.pieces(k)) == 0 {
+    if Piece::nodes_in(early.routes, early.change.pieces(k)) == 0 {
         return spread;
     }
-    let early = earlies.at(d, k);
+    let told = early.earlies.at(d, k);
     Spread {
-        last: spread.last.max(early.last),
+        last: spread.last.max(told.last),
         start: spread.start,
-        span: spread.span.max(early.span),
+        span: spread.span.max(told.span),
     }
 }

@@ -4,32 +4,29 @@
 ghost use Rattle.std.specs.Prelude.{◌*◌, ◌-ℤ◌, pos};
 ghost use Rattle.std.specs.Prelude.{◌≡◌, ◌<◌, ◌≤◌, ◌+◌, All, IfSome, IsTrue, List, Some, drop, length};
 ghost use Rattle.std.specs.Prelude.{◌↔◌, is_some, option_map, slice_index_or, take};
-ghost use Rattle.std.specs.List.{list_all};
-ghost use Rattle.vr_model.specs.routes.Routes.{route};
 ghost use Rattle.vr_model.specs.schedules.Choices.{is_feasible};
 ghost use Rattle.vr_model.specs.schedules.Lines.{Line};
-ghost use Rattle.vr_model.specs.schedules.Narrowed.{chosen_line};
 ghost use Rattle.vr_model.specs.schedules.Schedules.{IsFeasible};
 ghost use Rattle.vr_model.specs.tables.Tables.{is_visit};
 ghost use Rattle.vr_model.specs.tables.Numbers.{horizon};
 ghost use Rattle.vr_model.specs.tables.WellFormed.{IsIn, WherePresent};
-ghost use Rattle.vr_routes.specs.Pieces.{joined, IsWithin};
 ghost use Rattle.vr_plan.specs.Bounds.{cumul_cost};
-ghost use Rattle.vr_plan.specs.Timings.{IsTiming, IsTimingOf};
-ghost use Rattle.vr_costfilter.specs.Guides.{runs_of, IsGuide};
+ghost use Rattle.vr_plan.specs.Timings.{IsTimingOf};
+ghost use Rattle.vr_costfilter.specs.Asked.{new_choice, new_list, old_list, ChoiceAllows, IsNewTiming};
+ghost use Rattle.vr_costfilter.specs.GuideRuns.{runs_of};
 ghost use Rattle.vr_costfilter.specs.Floors.{end_step, first_of, first_step, IsStep, IsVisitStep};
 ghost use Rattle.vr_costfilter.specs.Runs.{only as only_of, start_run, starting, AllowsRuns};
 ghost use Rattle.vr_costfilter.specs.Steps.{steps_of, AreAllStages, AreSteps, HasLed, HasPaced, HasSetOut, HasStages};
 ghost use Rattle.vr_costfilter.specs.Steps.{first_led, reached, AreStagesOf, IsKeptLead};
 ghost use Rattle.vr_costfilter.specs.Stages.{along, paid_more, setting_out, standing, whole, IsStageOf};
 
+use crate::asked::Asked;
 use crate::guides::{Guide, Stage};
 use crate::tight::only;
 use crate::trails::{Step, Trail};
 use arrayvec::ArrayVec;
 use vr_balance::strip;
 use vr_plan::Timing;
-use vr_routes::{Piece, Routes};
 
 /// The steps and the stages of a list.
 #[derive(Drop)]
@@ -85,7 +82,6 @@ impl KeptSteps {
 
     /// Writes the steps and the stages of a list, as far as there are any: all of them where it is feasible.
     pub fn write(&mut self, guide: &Guide, list: &[u32])
-        requires guide { IsGuide guide.now }
         requires few { length list.now ≤ 1000 }
         requires visits { All (λ node. IsTrue (is_visit guide.now.model.now node)) list.now }
         ensures stages { HasStages guide.now.model.now guide.now.d guide.now.v (runs_of guide.now) list.now self.new }
@@ -104,7 +100,6 @@ impl KeptSteps {
 
     // Writes the stages along the steps, of which `first` is the first one.
     fn write_stages(&mut self, guide: &Guide, list: &[u32], first: Step)
-        requires guide { IsGuide guide.now }
         requires few { length list.now ≤ 1000 }
         requires none { length self.old.stages.items ≡ 0 }
         requires steps { AreSteps guide.now.model.now guide.now.d guide.now.v (runs_of guide.now) list.now
@@ -135,43 +130,27 @@ impl KeptSteps {
         }
     }
 
-    /// What the chosen schedule of the list comes to that pieces are joined to, where its start is at a cumul that is
-    /// given, or else at its floor; nothing exactly where there is none.
-    pub fn after(
-        &self,
-        guide: &Guide,
-        start: Option<i64>,
-        routes: &Routes,
-        pieces: &[Piece],
-        trail: &mut Trail,
-    ) -> Option<Timing>
-        requires guide { IsGuide guide.now }
-        requires allows { AllowsRuns guide.now.model.now guide.now.d guide.now.v
-            (starting (runs_of guide.now) (start_run (runs_of guide.now) start))
-            (joined routes.now.lists pieces.now) (chosen_line guide.now.model.now guide.now.d guide.now.v
-            (joined routes.now.lists pieces.now)) }
+    /// What the chosen schedule of the list comes to that is asked of, where its start is at a cumul that is given, or
+    /// else at its floor; nothing exactly where there is none.
+    pub fn after(&self, asked: &Asked, start: Option<i64>, trail: &mut Trail) -> Option<Timing>
+        requires allows { ChoiceAllows asked.now (starting (runs_of asked.now.guide.now)
+            (start_run (runs_of asked.now.guide.now) start)) }
         requires start { WherePresent (IsIn (pos 0) horizon) start }
-        requires known { guide.now.v < length routes.now.lists }
-        requires stages { AreAllStages guide.now.model.now guide.now.d guide.now.v (runs_of guide.now)
-            (route routes.now.lists guide.now.v) (steps_of self.now) self.now.stages.items }
-        requires many { length self.now.stages.items ≡ length (route routes.now.lists guide.now.v) + 2 }
-        requires short { length (route routes.now.lists guide.now.v) ≤ 1000 }
-        requires within { All (IsWithin routes.now.lists) pieces.now }
-        requires visits { IsTrue (list_all (is_visit guide.now.model.now) (joined routes.now.lists pieces.now)) }
-        requires few { length (joined routes.now.lists pieces.now) ≤ 1000 }
-        ensures known { is_some result ≡ is_feasible (chosen_line guide.now.model.now guide.now.d guide.now.v
-            (joined routes.now.lists pieces.now)) }
-        ensures timing { IfSome result (IsTiming guide.now.model.now guide.now.d guide.now.v
-            (joined routes.now.lists pieces.now)) }
-        ensures range { IfSome result (IsTimingOf (length (joined routes.now.lists pieces.now) + 2)) }
+        requires stages { AreAllStages asked.now.guide.now.model.now asked.now.guide.now.d asked.now.guide.now.v
+            (runs_of asked.now.guide.now) (old_list asked.now) (steps_of self.now) self.now.stages.items }
+        requires many { length self.now.stages.items ≡ length (old_list asked.now) + 2 }
+        ensures known { is_some result ≡ is_feasible (new_choice asked.now) }
+        ensures timing { IfSome result (IsNewTiming asked.now) }
+        ensures range { IfSome result (IsTimingOf (length (new_list asked.now) + 2)) }
     {
-        let list = routes.list(guide.v);
-        let ends = strip(routes, guide.v, pieces);
+        let guide = asked.guide;
+        let list = asked.routes.list(guide.v);
+        let ends = strip(asked.routes, guide.v, asked.pieces);
         let front = ends.front as usize;
         let behind = ends.behind as usize;
         trail.steps.clear();
         let next = self.step_behind(guide, list.len(), behind);
-        let first = guide.back_along_pieces(routes, ends.middle, next, trail)?;
+        let first = guide.back_along_pieces(asked.routes, ends.middle, next, trail)?;
         let lead = self.lead(guide, list, front, first, trail)?;
         let met = self.set_out(guide, list, start, lead)?;
         let gone = guide.along_trail(trail, met.stage)?;
@@ -185,7 +164,6 @@ impl KeptSteps {
 
     // Where new steps begin, nothing exactly where the vehicle does not come there.
     fn set_out(&self, guide: &Guide, list: &[u32], start: Option<i64>, lead: Lead) -> Option<Outset>
-        requires guide { IsGuide guide.now }
         requires stages { AreAllStages guide.now.model.now guide.now.d guide.now.v (runs_of guide.now) list.now
             (steps_of self.now) self.now.stages.items }
         requires many { length self.now.stages.items ≡ length list.now + 2 }
@@ -211,7 +189,6 @@ impl KeptSteps {
     // The kept step to the stop behind the first `k` visits of a list of `n`.
     #[inline]
     fn step_behind(&self, guide: &Guide, n: usize, k: usize) -> Step
-        requires guide { IsGuide guide.now }
         requires many { length self.now.trail.steps.items ≡ n }
         requires known { All (IsVisitStep guide.now.model.now) (steps_of self.now) }
         requires place { k ≤ n }
@@ -236,7 +213,6 @@ impl KeptSteps {
         next: Step,
         trail: &mut Trail,
     ) -> Option<Lead>
-        requires guide { IsGuide guide.now }
         requires stages { AreAllStages guide.now.model.now guide.now.d guide.now.v (runs_of guide.now) list.now
             (steps_of self.now) self.now.stages.items }
         requires few { length list.now ≤ 1000 }
@@ -272,7 +248,6 @@ impl KeptSteps {
     // The stage where new steps begin: the kept one where a floor in front of them is as kept, and else that at the
     // start. Nothing exactly where the start allows no cumul from its floor on.
     fn meet(&self, guide: &Guide, lead: Lead) -> Option<Outset>
-        requires guide { IsGuide guide.now }
         requires stages { AreStagesOf guide.now.model.now guide.now.d guide.now.v (runs_of guide.now) self.now }
         requires few { length (steps_of self.now) ≤ 1000 }
         requires place { lead.place ≤ length (steps_of self.now) }
@@ -297,7 +272,6 @@ impl KeptSteps {
 
     // The stage at the start before another step, nothing exactly where the start allows no cumul from its floor on.
     fn at_floor(&self, guide: &Guide, next: Step) -> Option<Outset>
-        requires guide { IsGuide guide.now }
         requires stages { AreStagesOf guide.now.model.now guide.now.d guide.now.v (runs_of guide.now) self.now }
         requires few { length (steps_of self.now) ≤ 1000 }
         requires next { IsStep guide.now.model.now next }
@@ -319,7 +293,6 @@ impl KeptSteps {
 
     // The stage at the start at a cumul, the kept one where it is the same.
     fn start_stage(&self, guide: &Guide, cumul: i64) -> Stage
-        requires guide { IsGuide guide.now }
         requires stages { AreStagesOf guide.now.model.now guide.now.d guide.now.v (runs_of guide.now) self.now }
         requires few { length (steps_of self.now) ≤ 1000 }
         requires cumul { IsIn (pos 0) horizon cumul }
@@ -335,7 +308,6 @@ impl KeptSteps {
 
     // The same, where the vehicle starts at another cumul than the kept one.
     fn meet_from(&self, guide: &Guide, list: &[u32], start: i64, lead: Lead) -> Option<Outset>
-        requires guide { IsGuide guide.now }
         requires stages { AreAllStages guide.now.model.now guide.now.d guide.now.v (runs_of guide.now) list.now
             (steps_of self.now) self.now.stages.items }
         requires many { length self.now.stages.items ≡ length list.now + 2 }
@@ -358,7 +330,6 @@ impl KeptSteps {
     // A vehicle goes on from a stage at the start along the first `place` visits of the list: to the kept stage there,
     // once it comes to a cumul that is kept. Nothing exactly where it cannot.
     fn pace(&self, guide: &Guide, list: &[u32], place: usize, out: Stage) -> Option<Outset>
-        requires guide { IsGuide guide.now }
         requires stages { AreAllStages guide.now.model.now guide.now.d guide.now.v (runs_of guide.now) list.now
             (steps_of self.now) self.now.stages.items }
         requires many { length self.now.stages.items ≡ length list.now + 2 }
@@ -397,7 +368,6 @@ impl KeptSteps {
     // The stage at the end of a vehicle that goes on along the list from place `behind` on, nothing exactly where it
     // cannot. Once it comes to a cumul that is kept, all that follows is as kept.
     fn end_behind(&self, guide: &Guide, list: &[u32], behind: usize, stage: Stage) -> Option<Stage>
-        requires guide { IsGuide guide.now }
         requires stages { AreAllStages guide.now.model.now guide.now.d guide.now.v (runs_of guide.now) list.now
             (steps_of self.now) self.now.stages.items }
         requires many { length self.now.stages.items ≡ length list.now + 2 }

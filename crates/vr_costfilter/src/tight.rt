@@ -3,34 +3,20 @@
 //! cumuls the tight schedule is the earliest one, and is found as that is: by floors from the end backwards, and along
 //! them.
 
-ghost use Rattle.std.specs.Prelude.{◌≡◌, ◌<◌, ◌≤◌, ◌+◌, All, IfSome, IsTrue, cond, length, pos};
-ghost use Rattle.std.specs.Prelude.{is_some, reverse};
-ghost use Rattle.std.specs.List.{list_all};
-ghost use Rattle.vr_model.specs.routes.Routes.{route};
-ghost use Rattle.vr_model.specs.schedules.Choices.{is_feasible};
-ghost use Rattle.vr_model.specs.schedules.Lines.{line};
-ghost use Rattle.vr_model.specs.schedules.Narrowed.{chosen_line};
-ghost use Rattle.vr_model.specs.schedules.Schedules.{IsFeasible};
-ghost use Rattle.vr_model.specs.schedules.Tight.{IsLatestStart, IsLeastEnd};
+ghost use Rattle.std.specs.Prelude.{◌≡◌, ◌<◌, ◌≤◌, All, IsTrue, cond, length, pos, reverse};
 ghost use Rattle.vr_model.specs.tables.Numbers.{horizon};
 ghost use Rattle.vr_model.specs.tables.Tables.{is_visit};
 ghost use Rattle.vr_model.specs.tables.WellFormed.{IsIn};
 ghost use Rattle.vr_routes.specs.Pieces.{joined, nodes_of, IsWithin};
-ghost use Rattle.vr_plan.specs.Timings.{IsTiming, IsTimingOf};
-ghost use Rattle.vr_reach.specs.Lists.{IsUsed};
 ghost use Rattle.vr_reach.specs.VisitRuns.{HasCumulEnds};
-ghost use Rattle.vr_costfilter.specs.KeptWays.{AreWays, HasCumuls};
-ghost use Rattle.vr_costfilter.specs.Guides.{runs_of, IsGuide};
-ghost use Rattle.vr_costfilter.specs.Runs.{between_runs, only as only_of, AllowsRuns, AreRuns};
+ghost use Rattle.vr_costfilter.specs.KeptWays.{HasCumuls};
+ghost use Rattle.vr_costfilter.specs.GuideRuns.{runs_of};
+ghost use Rattle.vr_costfilter.specs.Runs.{between_runs, only as only_of};
 ghost use Rattle.vr_costfilter.specs.Ways.{last_by, start_by, way_along as along_by, way_on as way_on_by};
 ghost use Rattle.vr_costfilter.specs.Ways.{way_out as way_out_by};
 ghost use Rattle.vr_costfilter.specs.Ways.{way_to_visit as way_to_visit_by, IsWayOf};
 
 use crate::guides::{Guide, node_in};
-use crate::kept_ways::KeptWays;
-use crate::trails::Trail;
-use vr_balance::strip;
-use vr_plan::Timing;
 use vr_reach::Ahead;
 use vr_routes::{Piece, Routes};
 use vr_spans::Run;
@@ -54,68 +40,9 @@ pub struct TightEnds {
 }
 
 impl<'m> Guide<'m> {
-    /// What the chosen schedule comes to of the list that pieces are joined to, between these ends; nothing exactly
-    /// where there is none. The whole list is walked, and the trail is written over.
-    pub fn timing_between(
-        &self,
-        ends: TightEnds,
-        routes: &Routes,
-        pieces: &[Piece],
-        trail: &mut Trail,
-    ) -> Option<Timing>
-        requires guide { IsGuide self.now }
-        requires allows { AllowsRuns self.now.model.now self.now.d self.now.v
-            (between_runs (runs_of self.now) ends.start ends.last) (joined routes.now.lists pieces.now)
-            (chosen_line self.now.model.now self.now.d self.now.v (joined routes.now.lists pieces.now)) }
-        requires ends { HasCumuls ends }
-        requires within { All (IsWithin routes.now.lists) pieces.now }
-        requires visits { IsTrue (list_all (is_visit self.now.model.now) (joined routes.now.lists pieces.now)) }
-        requires few { length (joined routes.now.lists pieces.now) ≤ 1000 }
-        ensures known { is_some result ≡ is_feasible (chosen_line self.now.model.now self.now.d self.now.v
-            (joined routes.now.lists pieces.now)) }
-        ensures timing { IfSome result (IsTiming self.now.model.now self.now.d self.now.v
-            (joined routes.now.lists pieces.now)) }
-        ensures range { IfSome result (IsTimingOf (length (joined routes.now.lists pieces.now) + 2)) }
-    {
-        let guide = self.between(ends);
-        guide.timing_along(routes, pieces, trail)
-    }
-
-    // What the chosen schedule comes to of the list that pieces are joined to, where the line of which it is chosen
-    // allows the runs of the guide; nothing exactly where there is none. The trail is written over.
-    fn timing_along(&self, routes: &Routes, pieces: &[Piece], trail: &mut Trail) -> Option<Timing>
-        requires guide { IsGuide self.now }
-        requires allows { AllowsRuns self.now.model.now self.now.d self.now.v (runs_of self.now)
-            (joined routes.now.lists pieces.now)
-            (chosen_line self.now.model.now self.now.d self.now.v (joined routes.now.lists pieces.now)) }
-        requires within { All (IsWithin routes.now.lists) pieces.now }
-        requires visits { IsTrue (list_all (is_visit self.now.model.now) (joined routes.now.lists pieces.now)) }
-        requires few { length (joined routes.now.lists pieces.now) ≤ 1000 }
-        ensures known { is_some result ≡ is_feasible (chosen_line self.now.model.now self.now.d self.now.v
-            (joined routes.now.lists pieces.now)) }
-        ensures timing { IfSome result (IsTiming self.now.model.now self.now.d self.now.v
-            (joined routes.now.lists pieces.now)) }
-        ensures range { IfSome result (IsTimingOf (length (joined routes.now.lists pieces.now) + 2)) }
-    {
-        trail.steps.clear();
-        let next = self.end_step();
-        let first = self.back_along_pieces(routes, pieces, next, trail)?;
-        let floor = self.start_floor(first)?;
-        let stage = self.standing(floor);
-        let gone = self.along_trail(trail, stage)?;
-        let end = self.to_end(gone)?;
-        Some(Timing {
-            soft: end.soft,
-            start: floor,
-            last: end.cumul,
-        })
-    }
-
     /// The same guide, where the start and the end of the vehicle allow one cumul each.
     pub fn between(&self, ends: TightEnds) -> Guide<'m>
-        requires guide { IsGuide self.now }
         requires ends { HasCumuls ends }
-        ensures guide { IsGuide result }
         ensures model { result.model.now ≡ self.now.model.now }
         ensures dimension { result.d ≡ self.now.d }
         ensures vehicle { result.v ≡ self.now.v }
@@ -139,31 +66,6 @@ impl<'m> Guide<'m> {
         }
     }
 
-    /// The ends of the tight schedule of the list that pieces are joined to. What is kept of the vehicle's list is not
-    /// walked.
-    pub fn ends_of(&self, kept: &KeptWays, routes: &Routes, pieces: &[Piece]) -> TightEnds
-        requires guide { IsGuide self.now }
-        requires runs { AreRuns self.now.model.now self.now.d self.now.v (runs_of self.now) }
-        requires known { self.now.v < length routes.now.lists }
-        requires kept { AreWays self.now.model.now self.now.d self.now.v (route routes.now.lists self.now.v) kept.now }
-        requires within { All (IsWithin routes.now.lists) pieces.now }
-        requires used { IsUsed self.now.model.now (joined routes.now.lists pieces.now) }
-        requires few { length (joined routes.now.lists pieces.now) ≤ 1000 }
-        requires feasible { IsFeasible (line self.now.model.now self.now.d self.now.v
-            (joined routes.now.lists pieces.now)) }
-        ensures last { IsLeastEnd (line self.now.model.now self.now.d self.now.v
-            (joined routes.now.lists pieces.now)) result.last }
-        ensures start { IsLatestStart (line self.now.model.now self.now.d self.now.v
-            (joined routes.now.lists pieces.now)) result.last result.start }
-    {
-        let ends = strip(routes, self.v, pieces);
-        let front = kept.way(ends.front);
-        let left = kept.rest(ends.behind);
-        let way = self.way_along_pieces(routes, ends.middle, front);
-        let whole = self.way_through(way, left);
-        self.ends_by(whole)
-    }
-
     /// The ends that a whole way tells.
     #[inline]
     pub fn ends_by(&self, whole: Way) -> TightEnds
@@ -180,7 +82,6 @@ impl<'m> Guide<'m> {
     /// The vehicle stands at its start.
     #[inline(always)]
     pub fn way_out(&self) -> Way
-        requires guide { IsGuide self.now }
         ensures value { result ≡ way_out_by self.now.model.now self.now.v (runs_of self.now) }
         ensures range { IsWayOf self.now.model.now 0 result }
     {
@@ -192,10 +93,9 @@ impl<'m> Guide<'m> {
         }
     }
 
-    // A way goes on along the nodes of pieces.
+    /// A way goes on along the nodes of pieces.
     #[inline(always)]
-    fn way_along_pieces(&self, routes: &Routes, pieces: &[Piece], way: Way) -> Way
-        requires guide { IsGuide self.now }
+    pub fn way_along_pieces(&self, routes: &Routes, pieces: &[Piece], way: Way) -> Way
         requires within { All (IsWithin routes.now.lists) pieces.now }
         requires visits { All (λ node. IsTrue (is_visit self.now.model.now node)) (joined routes.now.lists pieces.now) }
         requires few { length (joined routes.now.lists pieces.now) ≤ 1000 }
@@ -214,7 +114,6 @@ impl<'m> Guide<'m> {
     // It goes on along the nodes of a piece.
     #[inline(always)]
     fn way_along_piece(&self, routes: &Routes, piece: Piece, way: Way) -> Way
-        requires guide { IsGuide self.now }
         requires within { IsWithin routes.now.lists piece }
         requires visits { All (λ node. IsTrue (is_visit self.now.model.now node)) (nodes_of routes.now.lists piece) }
         requires few { length (nodes_of routes.now.lists piece) ≤ 1000 }
@@ -239,7 +138,6 @@ impl<'m> Guide<'m> {
     // It goes on along a chain, or along the chain backwards.
     #[inline(always)]
     fn way_along_chain(&self, chain: &[u32], reversed: bool, way: Way) -> Way
-        requires guide { IsGuide self.now }
         requires visits { All (λ node. IsTrue (is_visit self.now.model.now node))
             (cond reversed (reverse chain.now) chain.now) }
         requires few { length (cond reversed (reverse chain.now) chain.now) ≤ 1000 }
@@ -257,7 +155,6 @@ impl<'m> Guide<'m> {
     /// It goes on to a visit.
     #[inline(always)]
     pub fn way_to_visit(&self, way: Way, node: u32) -> Way
-        requires guide { IsGuide self.now }
         requires node { IsTrue (is_visit self.now.model.now node) }
         requires way { IsWayOf self.now.model.now 3000 way }
         ensures { result
@@ -269,7 +166,6 @@ impl<'m> Guide<'m> {
     // It goes on to a node that allows a run of cumuls.
     #[inline(always)]
     fn way_on(&self, way: Way, node: u32, allowed: Run) -> Way
-        requires guide { IsGuide self.now }
         requires node { node < self.now.model.now.nodes }
         requires allowed { HasCumulEnds allowed }
         requires way { IsWayOf self.now.model.now 3000 way }

@@ -12,9 +12,9 @@ ghost use Rattle.vr_plan.specs.Tables.{AreTables};
 use crate::models::{LATE, LATE_TIGHT, LATE_TIGHT_FREE};
 use crate::rows::{Asks, Row, assert_rows, stays_valid};
 use std::alloc::Global;
-use vr_costfilter::{AllCumuls, Paid, Trail};
+use vr_costfilter::{AllCumuls, Paid, PartAfter, Trail};
 use vr_model::{Closed, Move, NoMemory};
-use vr_plan::{KnownDimension, Table, tables_of};
+use vr_plan::{Table, tables_of};
 use vr_routes::{Change, Piece, Routes};
 
 // Whether what is kept tells, in the first dimension, what the first list of a change comes to. An empty list has
@@ -39,12 +39,13 @@ fn is_told(
         return true;
     }
     let mut trail = Trail::new();
-    let first = KnownDimension {
+    let first = PartAfter {
         model: closed.model,
-        table: &tables[0],
-        d: 0,
+        routes,
+        change,
+        k: 0,
     };
-    kept.timing_after(&first, routes, change, 0, &mut trail)
+    kept.timing_after(&first, &tables[0], 0, &mut trail)
         .is_some()
 }
 
@@ -72,7 +73,7 @@ fn tells_of(
         return Ok(false);
     }
     let told = is_told(closed, tables, kept, routes, &change);
-    kept.commit(closed.model, tables, routes, &change);
+    kept.commit(closed, tables, routes, &change);
     routes.commit(&change);
     Ok(told)
 }
@@ -91,7 +92,7 @@ fn tells_by(
     requires of_model { routes.old.visits ≡ visits closed.model.now }
     requires valid { IsTrue (is_valid closed.model.now routes.old.lists) }
 {
-    let mut kept = AllCumuls::open(alloc, closed.model, tables, paid, routes)?;
+    let mut kept = AllCumuls::open(alloc, closed, tables, paid, routes)?;
     if !tells_of(alloc, closed, tables, &mut kept, routes, first)? {
         return Ok(false);
     }

@@ -8,15 +8,11 @@ use Rattle.vr_plan.proofs.TableLemmas.{table_at}
 use Rattle.vr_costfilter.specs.GlobalCosts.{IsToldIfPaid}
 use Rattle.vr_costfilter.proofs.reaches.row_of_part.Goals as goal
 
-pub kept_after-requires-clause-at : goal.kept_after-requires-clause-at
-kept_after-requires-clause-at c =
+pub kept_after-requires-clause-table : goal.kept_after-requires-clause-table
+kept_after-requires-clause-table c =
     let n = c.requires.tables.one_of_each in
     let low = c.loop-d-test.true in
-    record {
-      well_formed = c.args.closed.well_formed;
-      dimension = omega (arith, n, low);
-      table = table_at c.args.closed.model.now c.args.tables.now c.requires.tables c.loop-d.d c.index-tables-d.result c.index-tables-d.is (omega (arith, n, low));
-    }
+    table_at c.args.part.now.model.now c.args.tables.now c.requires.tables c.loop-d.d c.index-tables-d.result c.index-tables-d.is (omega (arith, n, low))
 
 pub loop-d-preserved : goal.loop-d-preserved
 loop-d-preserved c =
@@ -25,17 +21,17 @@ loop-d-preserved c =
     let row : List (Option Timing) = c.loop-d.timings in
     let new : Option Timing = c.in_ok-timings.field-0 in
     let n = c.requires.tables.one_of_each in
-    let few = c.args.closed.well_formed.number_of_dimensions in
+    let few = c.args.part.now.sound.well_formed.number_of_dimensions in
     let low = c.loop-d-test.true in
     let many = i.many in
     record {
       many = length-set row d new ∙ i.many;
       each = λ e under. elim (cases_lt e d) [
-        | inl before ↦ subst (IsToldIfPaid c.args.closed.model.now e (part_at c.args.change.now c.args.k).vehicle (joined c.args.routes.now.lists (part_at c.args.change.now c.args.k).pieces)) (sym (get_or-set_other row d e new None (omega (arith, before)))) (i.each e before)
+        | inl before ↦ subst (IsToldIfPaid c.args.part.now.model.now e (part_at c.args.part.now.change.now c.args.part.now.k).vehicle (joined c.args.part.now.routes.now.lists (part_at c.args.part.now.change.now c.args.part.now.k).pieces)) (sym (get_or-set_other row d e new None (omega (arith, before)))) (i.each e before)
         | inr past ↦ (
             let here : d ≡ e = omega (arith, under, past) in
-            subst (λ k. IsToldIfPaid c.args.closed.model.now k (part_at c.args.change.now c.args.k).vehicle (joined c.args.routes.now.lists (part_at c.args.change.now c.args.k).pieces) (slice_index_or (slice_set row d new) k None)) here
-            (subst (IsToldIfPaid c.args.closed.model.now d (part_at c.args.change.now c.args.k).vehicle (joined c.args.routes.now.lists (part_at c.args.change.now c.args.k).pieces)) (sym (get_or-set_same row d new None (omega (arith, n, few, low, many)))) c.in_ok-timings.ensures))
+            subst (λ k. IsToldIfPaid c.args.part.now.model.now k (part_at c.args.part.now.change.now c.args.part.now.k).vehicle (joined c.args.part.now.routes.now.lists (part_at c.args.part.now.change.now c.args.part.now.k).pieces) (slice_index_or (slice_set row d new) k None)) here
+            (subst (IsToldIfPaid c.args.part.now.model.now d (part_at c.args.part.now.change.now c.args.part.now.k).vehicle (joined c.args.part.now.routes.now.lists (part_at c.args.part.now.change.now c.args.part.now.k).pieces)) (sym (get_or-set_same row d new None (omega (arith, n, few, low, many)))) c.in_ok-timings.ensures))
       ];
     }
 

@@ -8,5 +8,5 @@ use Rattle.vr_costfilter.proofs.reaches.row_of_part.Given as goal
 abbrev pub invariant-loop-d : goal.invariant-loop-d
 invariant-loop-d l = record {
   many : length l.timings ≡ 4;
-  each : (d : ℕ) → d < l.d → IsToldIfPaid l.closed.model.now d (part_at l.change l.k).vehicle (joined l.routes.lists (part_at l.change l.k).pieces) (slice_index_or l.timings d None);
+  each : (d : ℕ) → d < l.d → IsToldIfPaid l.part.model.now d (part_at l.part.change.now l.part.k).vehicle (joined l.part.routes.now.lists (part_at l.part.change.now l.part.k).pieces) (slice_index_or l.timings d None);
 }

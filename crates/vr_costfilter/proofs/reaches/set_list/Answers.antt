@@ -13,8 +13,8 @@ use Rattle.vr_costfilter.proofs.AllOrdersLemmas.{left-at, route-first, route-mor
 use Rattle.vr_costfilter.proofs.reaches.set_list.Goals as goal
 use Rattle.vr_costfilter.proofs.reaches.set_list.Goals.{then-get-ne0, else-get-ne0}
 
-pub set-requires-clause-starts : goal.set-requires-clause-starts
-set-requires-clause-starts c =
+pub set-requires-clause-room : goal.set-requires-clause-room
+set-requires-clause-room c =
     let m = c.args.model.now in
     let d = c.loop-d.d in
     let os : List Orders = c.loop-d.orders in
@@ -31,27 +31,7 @@ set-requires-clause-starts c =
     let read : slice_index_or os d c.index-orders-d.result ≡ orders_at os d = get_or_default os d c.index-orders-d.result no_orders inside in
     let are = subst (AreOrders m d lists) (sym read) (i.left d (omega arith) low pays) in
     let few = c.requires.few in
-    (orders-room m d lists (slice_index_or os d c.index-orders-d.result) are c.args.v (c.args.v + 1) (λ u used. (let l = used-first c.args._routes.now.lists c.args.v u used in omega (arith, l))) (omega arith) (let known = c.requires.vehicle in omega (arith, few, known))).0
-
-pub set-requires-clause-ends : goal.set-requires-clause-ends
-set-requires-clause-ends c =
-    let m = c.args.model.now in
-    let d = c.loop-d.d in
-    let os : List Orders = c.loop-d.orders in
-    let i = c.loop-d.invariant in
-    let many = i.many in
-    let long = c.loop-d.auto.orders in
-    let less = c.loop-d-test.true in
-    let low : d < length m.dimensions = omega (arith, many, long, less) in
-    let inside : d < length os = omega (arith, long, less) in
-    let some = c.if-get-ne0.true in
-    let same = ap (λ x. x.global_span_cost) (c.get.ensures.value no_dimension) in
-    let pays : Pays m d = λ none. absurd (omega (arith, ints, some, same, none)) in
-    let lists : List (List ℕ) = take c.args.v c.args._routes.now.lists in
-    let read : slice_index_or os d c.index-orders-d.result ≡ orders_at os d = get_or_default os d c.index-orders-d.result no_orders inside in
-    let are = subst (AreOrders m d lists) (sym read) (i.left d (omega arith) low pays) in
-    let few = c.requires.few in
-    (orders-room m d lists (slice_index_or os d c.index-orders-d.result) are c.args.v (c.args.v + 1) (λ u used. (let l = used-first c.args._routes.now.lists c.args.v u used in omega (arith, l))) (omega arith) (let known = c.requires.vehicle in omega (arith, few, known))).1
+    orders-room m d lists (slice_index_or os d c.index-orders-d.result) are c.args.v (c.args.v + 1) (λ u used. (let l = used-first c.args._routes.now.lists c.args.v u used in omega (arith, l))) (omega arith) (let known = c.requires.vehicle in omega (arith, few, known))
 
 pub loop-d-preserved : goal.loop-d-preserved
 loop-d-preserved c =

@@ -10,8 +10,8 @@ use Rattle.vr_parts.proofs.SumLemmas.{upto, upto-many, upto-next}
 use Rattle.vr_costfilter.specs.GlobalCosts.{told_in}
 use Rattle.vr_costfilter.proofs.reaches.write_in.Goals as goal
 
-pub set-requires-clause-starts : goal.set-requires-clause-starts
-set-requires-clause-starts c =
+pub set-requires-clause-room : goal.set-requires-clause-room
+set-requires-clause-room c =
     let m = c.args._model.now in
     let d = c.args.d in
     let lists : List (List ℕ) = c.args._routes.now.lists in
@@ -25,24 +25,7 @@ set-requires-clause-starts c =
     let known : (part_at parts k).vehicle < length lists = c.requires.parts.each_vehicle k no_part low in
     let all = upto-many lists parts k in
     let few = c.requires.few in
-    (orders-room m d base c.loop-k.out c.loop-k.invariant c.vehicle.result (length base) (λ u used. used-known base u used) (omega (arith, vehicle, known, all)) (omega (arith, few, all))).0
-
-pub set-requires-clause-ends : goal.set-requires-clause-ends
-set-requires-clause-ends c =
-    let m = c.args._model.now in
-    let d = c.args.d in
-    let lists : List (List ℕ) = c.args._routes.now.lists in
-    let parts = c.args.change.now in
-    let k = c.loop-k.k in
-    let base : List (List ℕ) = upto lists parts k in
-    let less = c.loop-k-test.true in
-    let many = c.parts-k-end.ensures.value in
-    let low : k < length parts = omega (arith, less, many) in
-    let vehicle = c.vehicle.ensures in
-    let known : (part_at parts k).vehicle < length lists = c.requires.parts.each_vehicle k no_part low in
-    let all = upto-many lists parts k in
-    let few = c.requires.few in
-    (orders-room m d base c.loop-k.out c.loop-k.invariant c.vehicle.result (length base) (λ u used. used-known base u used) (omega (arith, vehicle, known, all)) (omega (arith, few, all))).1
+    orders-room m d base c.loop-k.out c.loop-k.invariant c.vehicle.result (length base) (λ u used. used-known base u used) (omega (arith, vehicle, known, all)) (omega (arith, few, all))
 
 pub loop-k-preserved : goal.loop-k-preserved
 loop-k-preserved c =

@@ -8,21 +8,17 @@ use Rattle.vr_plan.proofs.TableLemmas.{table_at}
 use Rattle.vr_routes.specs.Pieces.{joined, part_at}
 use Rattle.vr_costfilter.proofs.schedule_costs.cost_of_part.Goals as goal
 
-pub cost_of_plan_after-requires-clause-at : goal.cost_of_plan_after-requires-clause-at
-cost_of_plan_after-requires-clause-at c =
+pub cost_of_plan_after-requires-clause-table : goal.cost_of_plan_after-requires-clause-table
+cost_of_plan_after-requires-clause-table c =
     let n = c.requires.tables.one_of_each in
     let low = c.loop-d-test.true in
-    record {
-      well_formed = c.args.closed.well_formed;
-      dimension = omega (arith, n, low);
-      table = table_at c.args.closed.model.now c.args.tables.now c.requires.tables c.loop-d.d c.index-tables-d.result c.index-tables-d.is (omega (arith, n, low));
-    }
+    table_at c.args.part.now.model.now c.args.tables.now c.requires.tables c.loop-d.d c.index-tables-d.result c.index-tables-d.is (omega (arith, n, low))
 
 pub loop-d-preserved : goal.loop-d-preserved
 loop-d-preserved c =
-    let model = c.args.closed.model.now in
-    let v = (part_at c.args.change.now c.args.k).vehicle in
-    let list : List ℕ = joined c.args.routes.now.lists (part_at c.args.change.now c.args.k).pieces in
+    let model = c.args.part.now.model.now in
+    let v = (part_at c.args.part.now.change.now c.args.part.now.k).vehicle in
+    let list : List ℕ = joined c.args.part.now.routes.now.lists (part_at c.args.part.now.change.now c.args.part.now.k).pieces in
     let f : ℕ → ℤ = λ d. soft_with model d v list +ℤ span_with model d v list in
     let next = total_by-more f c.loop-d.d in
     let i = c.loop-d.invariant in
@@ -31,7 +27,7 @@ loop-d-preserved c =
     let value : c.in_ok-cost.field-0 ≡ f c.loop-d.d = e.value in
     let low = c.loop-d-test.true in
     let n = c.requires.tables.one_of_each in
-    let few = c.args.closed.well_formed.number_of_dimensions in
+    let few = c.args.part.now.sound.well_formed.number_of_dimensions in
     record {
       sum = omega (arith, ints, next, i.sum, is, value, e.range.low, e.range.high, i.range.low, i.range.high, low, few, n);
       range = record { low = omega (arith, ints, is, e.range.low, e.range.high, i.range.low, i.range.high, low, few, n); high = omega (arith, ints, is, e.range.low, e.range.high, i.range.low, i.range.high, low, few, n) };
@@ -39,9 +35,9 @@ loop-d-preserved c =
 
 pub returns-clause-value : goal.returns-clause-value
 returns-clause-value c =
-    let model = c.args.closed.model.now in
-    let v = (part_at c.args.change.now c.args.k).vehicle in
-    let list : List ℕ = joined c.args.routes.now.lists (part_at c.args.change.now c.args.k).pieces in
+    let model = c.args.part.now.model.now in
+    let v = (part_at c.args.part.now.change.now c.args.part.now.k).vehicle in
+    let list : List ℕ = joined c.args.part.now.routes.now.lists (part_at c.args.part.now.change.now c.args.part.now.k).pieces in
     let f : ℕ → ℤ = λ d. soft_with model d v list +ℤ span_with model d v list in
     let many = c.requires.tables.one_of_each in
     let high = c.loop-d-test.false in

@@ -10,6 +10,6 @@ use Rattle.vr_costfilter.proofs.schedule_costs.cost_of_part.Given as goal
 -- what the list costs in the dimensions so far
 abbrev pub invariant-loop-d : goal.invariant-loop-d
 invariant-loop-d l = record {
-  sum : l.cost ≡ total_by (λ d. soft_with l.closed.model.now d (part_at l.change l.k).vehicle (joined l.routes.lists (part_at l.change l.k).pieces) +ℤ span_with l.closed.model.now d (part_at l.change l.k).vehicle (joined l.routes.lists (part_at l.change l.k).pieces)) (below l.d);
+  sum : l.cost ≡ total_by (λ d. soft_with l.part.model.now d (part_at l.part.change.now l.part.k).vehicle (joined l.part.routes.now.lists (part_at l.part.change.now l.part.k).pieces) +ℤ span_with l.part.model.now d (part_at l.part.change.now l.part.k).vehicle (joined l.part.routes.now.lists (part_at l.part.change.now l.part.k).pieces)) (below l.d);
   range : IsFrom (plan_saved * l.d) (plan_paid * l.d) l.cost;
 }

@@ -10,6 +10,6 @@ use Rattle.vr_costfilter.proofs.schedule_costs.least_of_spans.Given as goal
 -- what spans cost at least in the dimensions so far
 abbrev pub invariant-loop-d : goal.invariant-loop-d
 invariant-loop-d l = record {
-  sum : l.cost ≡ total_by (λ d. number_at (dimension_at l.closed.model.now d).span_costs (part_at l.change l.k).vehicle *ℤ least_span l.closed.model.now d (part_at l.change l.k).vehicle (joined l.routes.lists (part_at l.change l.k).pieces)) (below l.d);
+  sum : l.cost ≡ total_by (λ d. number_at (dimension_at l.early.model.now d).span_costs (part_at l.early.change.now l.k).vehicle *ℤ least_span l.early.model.now d (part_at l.early.change.now l.k).vehicle (joined l.early.routes.now.lists (part_at l.early.change.now l.k).pieces)) (below l.d);
   range : IsAround (cumul_cost * l.d) l.cost;
 }

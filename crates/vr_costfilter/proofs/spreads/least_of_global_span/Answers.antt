@@ -14,7 +14,7 @@ use Rattle.vr_costfilter.proofs.spreads.least_of_global_span.Goals as goal
 pub times-requires-clause-coefficient : goal.times-requires-clause-coefficient
 times-requires-clause-coefficient c =
     let is = ap (λ x. x.global_span_cost) (c.get.ensures.value no_dimension) in
-    let r = (c.args.closed.well_formed.each_dimension c.args.d no_dimension c.requires.dimension).global_span_cost_in_range in
+    let r = (c.args.early.now.sound.well_formed.each_dimension c.args.d no_dimension c.requires.dimension).global_span_cost_in_range in
     let low = r.at_least in
     let high = r.at_most in
     record { at_least = omega (arith, ints, is, low, high); at_most = omega (arith, ints, is, low, high) }
@@ -38,14 +38,14 @@ times-requires-clause-range c =
 
 pub returns-then-coefficient-eq0-clause-value : goal.returns-then-coefficient-eq0-clause-value
 returns-then-coefficient-eq0-clause-value c =
-    let s = spread_after c.args.closed.model.now c.args.routes.now.lists c.args.change.now c.args.d in
+    let s = spread_after c.args.early.now.model.now c.args.early.now.routes.now.lists c.args.early.now.change.now c.args.d in
     let is = ap (λ x. x.global_span_cost) (c.get.ensures.value no_dimension) in
     let zero = c.if-coefficient-eq0.true in
-    sym (times-none (dimension_at c.args.closed.model.now c.args.d).global_span_cost (int_max (s.last -ℤ s.start) s.span) (omega (arith, ints, is, zero)))
+    sym (times-none (dimension_at c.args.early.now.model.now c.args.d).global_span_cost (int_max (s.last -ℤ s.start) s.span) (omega (arith, ints, is, zero)))
 
 pub returns-clause-value : goal.returns-clause-value
 returns-clause-value c =
-    let model = c.args.closed.model.now in
+    let model = c.args.early.now.model.now in
     let d = c.args.d in
     let s = c.spread_after-spread.result in
     let e = c.spread_after-spread.ensures in
@@ -56,7 +56,7 @@ returns-clause-value c =
     let is : c.max.result ≡ int_max (s.last -ℤ s.start) s.span = c.max.ensures.value ∙ ap₂ (λ x y. int_max x y) less (read-span s.span e.range.span) in
     let max : to_z w64 (of_z w64 c.max.result) ≡ c.max.result = omega (arith, ints, fits) in
     let same = ap (λ x. x.global_span_cost) (c.get.ensures.value no_dimension) in
-    let r = (c.args.closed.well_formed.each_dimension d no_dimension c.requires.dimension).global_span_cost_in_range in
+    let r = (c.args.early.now.sound.well_formed.each_dimension d no_dimension c.requires.dimension).global_span_cost_in_range in
     let low = r.at_least in
     let high = r.at_most in
     let coefficient : to_z w64 (of_z w64 c.get.result.now.global_span_cost) ≡ (dimension_at model d).global_span_cost = omega (arith, ints, same, low, high) in

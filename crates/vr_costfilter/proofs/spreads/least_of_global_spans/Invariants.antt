@@ -7,6 +7,6 @@ use Rattle.vr_costfilter.proofs.spreads.least_of_global_spans.Given as goal
 -- what the global spans cost at least in the dimensions so far
 abbrev pub invariant-loop-d : goal.invariant-loop-d
 invariant-loop-d l = record {
-  sum : l.cost ≡ total_by (global_least_in l.model l.routes.lists l.change) (below l.d);
+  sum : l.cost ≡ total_by (global_least_in l.early.model.now l.early.routes.now.lists l.early.change.now) (below l.d);
   range : IsAround (cumul_cost * l.d) l.cost;
 }

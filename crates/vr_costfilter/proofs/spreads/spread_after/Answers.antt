@@ -12,10 +12,10 @@ use Rattle.vr_costfilter.proofs.spreads.spread_after.Goals as goal
 
 pub loop-k-init : goal.loop-k-init
 loop-k-init c =
-    let model = c.args.closed.model.now in
+    let model = c.args.early.now.model.now in
     let d = c.args.d in
-    let lists : List (List ℕ) = c.args.routes.now.lists in
-    let parts = c.args.change.now in
+    let lists : List (List ℕ) = c.args.early.now.routes.now.lists in
+    let parts = c.args.early.now.change.now in
     let e = c.spread_but-spread.ensures in
     let vehicles = c.deref.ensures.0 ∙ c.vehicles_of-vehicles.ensures in
     let extent = extent_but (vehicles_of parts) c.args.orders.now in
@@ -27,9 +27,9 @@ loop-k-init c =
 
 pub loop-k-preserved : goal.loop-k-preserved
 loop-k-preserved c =
-    let model = c.args.closed.model.now in
-    let lists : List (List ℕ) = c.args.routes.now.lists in
-    let parts = c.args.change.now in
+    let model = c.args.early.now.model.now in
+    let lists : List (List ℕ) = c.args.early.now.routes.now.lists in
+    let parts = c.args.early.now.change.now in
     let e = c.with_changed-spread.ensures in
     let low = subst (λ n. c.loop-k.k < n) c.parts-k-end.ensures.value c.loop-k-test.true in
     record {
@@ -40,8 +40,8 @@ loop-k-preserved c =
 
 pub returns-clause-value : goal.returns-clause-value
 returns-clause-value c =
-    let lists : List (List ℕ) = c.args.routes.now.lists in
+    let lists : List (List ℕ) = c.args.early.now.routes.now.lists in
     let many = c.parts-k-end.ensures.value in
     let end = c.loop-k-test.false in
     c.loop-k.invariant.value
-    ∙ ap (fold (with_changed c.args.closed.model.now lists c.args.d) (spread_of_kept c.args.closed.model.now lists c.args.change.now c.args.d (length lists))) (take_all c.loop-k.k c.args.change.now (omega (arith, many, end)))
+    ∙ ap (fold (with_changed c.args.early.now.model.now lists c.args.d) (spread_of_kept c.args.early.now.model.now lists c.args.early.now.change.now c.args.d (length lists))) (take_all c.loop-k.k c.args.early.now.change.now (omega (arith, many, end)))

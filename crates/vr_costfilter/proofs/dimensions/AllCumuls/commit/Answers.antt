@@ -16,13 +16,13 @@ use Rattle.vr_costfilter.proofs.dimensions.AllCumuls.commit.Goals as goal
 pub join_into-requires-clause-room : goal.join_into-requires-clause-room
 join_into-requires-clause-room c =
     let low = subst (λ n. c.loop-k.k < n) c.parts-k-end.ensures.value c.loop-k-test.true in
-    let part = list-after c.args.model.now c.requires.well_formed c.args.routes.now.lists c.args.change.now c.requires.made.makes.parts_are c.requires.valid c.loop-k.k low in
+    let part = list-after c.args.closed.model.now c.args.closed.well_formed c.args.routes.now.lists c.args.change.now c.requires.made.makes.parts_are c.requires.valid c.loop-k.k low in
     subst (λ l. length (joined c.args.routes.now.lists l) ≤ 1000) (sym c.pieces.ensures.value) part.few
 
 pub write_list-requires-clause-vehicle : goal.write_list-requires-clause-vehicle
 write_list-requires-clause-vehicle c =
     let low = subst (λ n. c.loop-k.k < n) c.parts-k-end.ensures.value c.loop-k-test.true in
-    let many = (small c.args.model.now c.requires.well_formed c.args.routes.now.lists c.requires.before).many in
+    let many = (small c.args.closed.model.now c.args.closed.well_formed c.args.routes.now.lists c.requires.before).many in
     let known = c.requires.made.makes.parts_are.each_vehicle c.loop-k.k no_part low in
     let e = c.vehicle.ensures in
     omega (arith, e, known, many)
@@ -31,14 +31,14 @@ pub write_list-requires-clause-visits : goal.write_list-requires-clause-visits
 write_list-requires-clause-visits c =
     let lists : List (List ℕ) = c.args.routes.now.lists in
     let low = subst (λ n. c.loop-k.k < n) c.parts-k-end.ensures.value c.loop-k-test.true in
-    let part = list-after c.args.model.now c.requires.well_formed lists c.args.change.now c.requires.made.makes.parts_are c.requires.valid c.loop-k.k low in
+    let part = list-after c.args.closed.model.now c.args.closed.well_formed lists c.args.change.now c.requires.made.makes.parts_are c.requires.valid c.loop-k.k low in
     let list = c.as_slice.ensures.value ∙ c.join_into.ensures ∙ ap (joined lists) c.pieces.ensures.value in
-    subst (λ l. IsTrue (list_all (is_visit c.args.model.now) l)) (sym list) part.tour.visits
+    subst (λ l. IsTrue (list_all (is_visit c.args.closed.model.now) l)) (sym list) part.tour.visits
 
 pub loop-k-preserved : goal.loop-k-preserved
 loop-k-preserved c =
     let i = c.loop-k.invariant.kept in
-    let m = c.args.model.now in
+    let m = c.args.closed.model.now in
     let lists : List (List ℕ) = c.args.routes.now.lists in
     let parts = c.args.change.now in
     let k = c.loop-k.k in
@@ -64,6 +64,6 @@ loop-k-preserved c =
 
 pub loop-k-init : goal.loop-k-init
 loop-k-init c = record {
-  kept = subst (AreAllKept c.args.model.now c.args.routes.now.lists) (sym c.self.view_is) c.requires.kept;
+  kept = subst (AreAllKept c.args.closed.model.now c.args.routes.now.lists) (sym c.self.view_is) c.requires.kept;
   as_many = subst (λ l. AreAsMany l c.self.inside.dimensions.items) c.self.view_is (as-many-same c.self.inside.dimensions.items);
 }

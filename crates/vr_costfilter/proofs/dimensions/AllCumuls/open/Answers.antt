@@ -13,14 +13,14 @@ pub kept_in-requires-clause-table : goal.kept_in-requires-clause-table
 kept_in-requires-clause-table c =
     let n = c.requires.tables.one_of_each in
     let low = c.loop-d-test.true in
-    table_at c.args.model.now c.args.tables.now c.requires.tables c.loop-d.d c.index-tables-d.result c.index-tables-d.is (omega (arith, n, low))
+    table_at c.args.closed.model.now c.args.tables.now c.requires.tables c.loop-d.d c.index-tables-d.result c.index-tables-d.is (omega (arith, n, low))
 
 pub loop-d-preserved : goal.loop-d-preserved
 loop-d-preserved c =
     let m = c.loop-d.invariant in
-    let P = λ (d : ℕ) (kept : List KeptList). AreKept c.args.model.now d c.args.routes.now.lists kept in
-    let Q = λ (d : ℕ) (kept : List KeptList). (table : Table) → IsPaid c.args.paid (slice_index_or c.args.tables.now d table) (dimension_at c.args.model.now d) → length kept ≡ length c.args.routes.now.lists in
-    let here : Q c.loop-d.d c.in_ok-kept_in.field-0 = λ table paid. c.in_ok-kept_in.ensures.each (subst (λ (t : Table). IsPaid c.args.paid t (dimension_at c.args.model.now c.loop-d.d)) (get_or_default c.args.tables.now c.loop-d.d table c.index-tables-d.result c.loop-d-test.true ∙ sym c.index-tables-d.is) paid) in
+    let P = λ (d : ℕ) (kept : List KeptList). AreKept c.args.closed.model.now d c.args.routes.now.lists kept in
+    let Q = λ (d : ℕ) (kept : List KeptList). (table : Table) → IsPaid c.args.paid (slice_index_or c.args.tables.now d table) (dimension_at c.args.closed.model.now d) → length kept ≡ length c.args.routes.now.lists in
+    let here : Q c.loop-d.d c.in_ok-kept_in.field-0 = λ table paid. c.in_ok-kept_in.ensures.each (subst (λ (t : Table). IsPaid c.args.paid t (dimension_at c.args.closed.model.now c.loop-d.d)) (get_or_default c.args.tables.now c.loop-d.d table c.index-tables-d.result c.loop-d-test.true ∙ sym c.index-tables-d.is) paid) in
     rw c.in_ok-push.ensures.items (record {
       many = length-append c.loop-d.dimensions.items _ ∙ ap (λ n. n + 1) m.many;
       each = λ d other low. each-push P c.loop-d.dimensions.items c.in_ok-kept_in.field-0 m.each (subst (λ n. P n c.in_ok-kept_in.field-0) (sym m.many) c.in_ok-kept_in.ensures.kept) d other low;

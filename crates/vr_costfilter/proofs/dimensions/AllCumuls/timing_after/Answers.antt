@@ -10,63 +10,57 @@ use Rattle.vr_reach.specs.Lists.{IsUsed}
 use Rattle.vr_costfilter.specs.Kept.{IsKnown}
 use Rattle.vr_costfilter.specs.declared.kept.KeptList.{KeptList}
 use Rattle.vr_parts.proofs.PartLemmas.{small}
-use Rattle.vr_costfilter.proofs.PartLemmas.{feasible-after, list-after, list-of, used-after}
+use Rattle.vr_costfilter.proofs.PartLemmas.{feasible-after, list-of, list-of-part, used-after}
 use Rattle.vr_costfilter.proofs.dimensions.AllCumuls.timing_after.Goals as goal
 
-pub timing_after-requires-clause-vehicle : goal.timing_after-requires-clause-vehicle
-timing_after-requires-clause-vehicle c =
-    let many = (small c.args.at.now.model.now c.requires.at.well_formed c.args.routes.now.lists c.requires.before).many in
-    let known = c.requires.made.makes.parts_are.each_vehicle c.args.k no_part c.requires.part in
-    let e = c.vehicle.ensures in
-    omega (arith, e, known, many)
-
-pub timing_after-requires-clause-short : goal.timing_after-requires-clause-short
-timing_after-requires-clause-short c = (list-of c.args.at.now.model.now c.requires.at.well_formed c.args.routes.now.lists c.requires.before c.vehicle.result).few
-
-pub timing_after-requires-clause-used : goal.timing_after-requires-clause-used
-timing_after-requires-clause-used c =
-    let m = c.args.at.now.model.now in
-    let lists : List (List ℕ) = c.args.routes.now.lists in
-    let part = list-after m c.requires.at.well_formed lists c.args.change.now c.requires.made.makes.parts_are c.requires.valid c.args.k c.requires.part in
-    subst (λ ps. IsUsed m (joined lists ps)) (sym c.pieces.ensures.value) (used-after m (joined lists (part_at c.args.change.now c.args.k).pieces) part c.requires.some)
-
-pub timing_after-requires-clause-few : goal.timing_after-requires-clause-few
-timing_after-requires-clause-few c =
-    let m = c.args.at.now.model.now in
-    let lists : List (List ℕ) = c.args.routes.now.lists in
-    let part = list-after m c.requires.at.well_formed lists c.args.change.now c.requires.made.makes.parts_are c.requires.valid c.args.k c.requires.part in
-    subst (λ ps. length (joined lists ps) ≤ 1000) (sym c.pieces.ensures.value) part.few
+pub timing_after-requires-clause-joined : goal.timing_after-requires-clause-joined
+timing_after-requires-clause-joined c =
+    let part = c.args.part.now in
+    let m = part.model.now in
+    let lists : List (List ℕ) = part.routes.now.lists in
+    let parts = part.change.now in
+    let is = list-of-part part in
+    let many = (small m part.sound.well_formed lists part.sound.before).many in
+    let v = c.vehicle.ensures.known in
+    let joined_is = sym c.pieces.ensures.value in
+    record {
+      known = omega (arith, many, v);
+      short = (list-of m part.sound.well_formed lists part.sound.before c.vehicle.result).few;
+      within = c.pieces.ensures.within;
+      used = subst (λ ps. IsUsed m (joined lists ps)) joined_is (used-after m (joined lists (part_at parts part.k).pieces) is c.requires.some);
+      few = subst (λ ps. length (joined lists ps) ≤ 1000) joined_is is.few;
+    }
 
 pub timing_after-requires-clause-feasible : goal.timing_after-requires-clause-feasible
 timing_after-requires-clause-feasible c =
-    let m = c.args.at.now.model.now in
-    let lists : List (List ℕ) = c.args.routes.now.lists in
-    let parts = c.args.change.now in
-    let a = feasible-after m lists parts c.requires.made.makes.parts_are c.requires.valid c.args.k c.requires.part c.args.at.now.d c.requires.at.dimension c.requires.some in
-    let b = subst (λ v. IsFeasible (line m c.args.at.now.d v (joined lists (part_at parts c.args.k).pieces))) (sym c.vehicle.ensures) a in
-    subst (λ ps. IsFeasible (line m c.args.at.now.d c.vehicle.result (joined lists ps))) (sym c.pieces.ensures.value) b
+    let m = c.args.part.now.model.now in
+    let lists : List (List ℕ) = c.args.part.now.routes.now.lists in
+    let parts = c.args.part.now.change.now in
+    let a = feasible-after m lists parts c.args.part.now.sound.parts_are c.args.part.now.sound.valid c.args.part.now.k c.args.part.now.sound.part c.args.d c.requires.dimension c.requires.some in
+    let b = subst (λ v. IsFeasible (line m c.args.d v (joined lists (part_at parts c.args.part.now.k).pieces))) (sym c.vehicle.ensures.value) a in
+    subst (λ ps. IsFeasible (line m c.args.d c.vehicle.result (joined lists ps))) (sym c.pieces.ensures.value) b
 
 pub returns-clause-timing : goal.returns-clause-timing
 returns-clause-timing c =
-    let m = c.args.at.now.model.now in
-    let lists : List (List ℕ) = c.args.routes.now.lists in
+    let m = c.args.part.now.model.now in
+    let lists : List (List ℕ) = c.args.part.now.routes.now.lists in
     let timing = c.timing_after.result in
-    let a = subst (λ v. IfSome timing (IsTiming m c.args.at.now.d v (joined lists c.pieces.result.now))) c.vehicle.ensures c.timing_after.ensures.timing in
-    subst (λ ps. IfSome timing (IsTiming m c.args.at.now.d (part_at c.args.change.now c.args.k).vehicle (joined lists ps))) c.pieces.ensures.value a
+    let a = subst (λ v. IfSome timing (IsTiming m c.args.d v (joined lists c.pieces.result.now))) c.vehicle.ensures.value c.timing_after.ensures.timing in
+    subst (λ ps. IfSome timing (IsTiming m c.args.d (part_at c.args.part.now.change.now c.args.part.now.k).vehicle (joined lists ps))) c.pieces.ensures.value a
 
 pub returns-clause-range : goal.returns-clause-range
 returns-clause-range c =
-    subst (λ ps. IfSome c.timing_after.result (IsTimingOf (length (joined c.args.routes.now.lists ps) + 2))) c.pieces.ensures.value c.timing_after.ensures.range
+    subst (λ ps. IfSome c.timing_after.result (IsTimingOf (length (joined c.args.part.now.routes.now.lists ps) + 2))) c.pieces.ensures.value c.timing_after.ensures.range
 
 pub returns-clause-known : goal.returns-clause-known
 returns-clause-known c other =
-    let m = c.args.at.now.model.now in
-    let lists : List (List ℕ) = c.args.routes.now.lists in
+    let m = c.args.part.now.model.now in
+    let lists : List (List ℕ) = c.args.part.now.routes.now.lists in
     let some = is_some c.timing_after.result in
     let kept = c.index-kept.result.now in
-    let a = subst (λ v. IsTrue some ↔ IsKnown m c.args.at.now.d v (route lists v) kept) c.vehicle.ensures c.timing_after.ensures.known in
-    let dimension = c.requires.at.dimension in
+    let a = subst (λ v. IsTrue some ↔ IsKnown m c.args.d v (route lists v) kept) c.vehicle.ensures.value c.timing_after.ensures.known in
+    let dimension = c.requires.dimension in
     let many = c.requires.kept.many in
-    let b = subst (λ k. IsTrue some ↔ IsKnown m c.args.at.now.d (part_at c.args.change.now c.args.k).vehicle (route lists (part_at c.args.change.now c.args.k).vehicle) k) c.index-kept.ensures a in
-    subst (λ k. IsTrue some ↔ IsKnown m c.args.at.now.d (part_at c.args.change.now c.args.k).vehicle (route lists (part_at c.args.change.now c.args.k).vehicle) k)
-    (get_or_default c.self.inside.dimensions.items c.args.at.now.d kept other (let view = ap length c.self.view_is in omega (arith, dimension, many, view)) ∙ ap (λ (l : List (List KeptList)). slice_index_or l c.args.at.now.d other) c.self.view_is) b
+    let b = subst (λ k. IsTrue some ↔ IsKnown m c.args.d (part_at c.args.part.now.change.now c.args.part.now.k).vehicle (route lists (part_at c.args.part.now.change.now c.args.part.now.k).vehicle) k) c.index-kept.ensures a in
+    subst (λ k. IsTrue some ↔ IsKnown m c.args.d (part_at c.args.part.now.change.now c.args.part.now.k).vehicle (route lists (part_at c.args.part.now.change.now c.args.part.now.k).vehicle) k)
+    (get_or_default c.self.inside.dimensions.items c.args.d kept other (let view = ap length c.self.view_is in omega (arith, dimension, many, view)) ∙ ap (λ (l : List (List KeptList)). slice_index_or l c.args.d other) c.self.view_is) b

@@ -1,5 +1,5 @@
 use Rattle.std.proofs.Common.{◌≡◌, ◌+◌, Some, reverse, take}
-use Rattle.vr_costfilter.specs.Guides.{runs_of}
+use Rattle.vr_costfilter.specs.GuideRuns.{runs_of}
 use Rattle.vr_costfilter.specs.Stages.{along, IsStageOf}
 use Rattle.vr_costfilter.proofs.guides.Guide.along_trail.Given as goal
 

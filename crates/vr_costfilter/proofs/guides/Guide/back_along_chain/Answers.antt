@@ -4,7 +4,7 @@ use Rattle.std.specs.Option.{option_and_then}
 use Rattle.std.proofs.lemmas.List.{drop_all, length-drop, length-reverse, take-append-drop}
 use Rattle.vr_model.specs.tables.Tables.{is_visit}
 use Rattle.vr_costfilter.specs.Floors.{before, WentBack}
-use Rattle.vr_costfilter.specs.Guides.{runs_of}
+use Rattle.vr_costfilter.specs.GuideRuns.{runs_of}
 use Rattle.vr_costfilter.proofs.FloorLemmas.{back-many, back-more, back-none, drop-one}
 use Rattle.vr_costfilter.proofs.FirstLemmas.{begin-none, went-begin}
 use Rattle.vr_costfilter.proofs.guides.Guide.back_along_chain.Goals as goal

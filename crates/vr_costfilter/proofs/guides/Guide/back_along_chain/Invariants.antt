@@ -1,6 +1,6 @@
 use Rattle.std.proofs.Common.{◌-◌, cond, drop, length, reverse}
 use Rattle.vr_costfilter.specs.Floors.{IsStep, WentBack}
-use Rattle.vr_costfilter.specs.Guides.{runs_of}
+use Rattle.vr_costfilter.specs.GuideRuns.{runs_of}
 use Rattle.vr_costfilter.proofs.guides.Guide.back_along_chain.Given as goal
 
 abbrev pub invariant-loop-k : goal.invariant-loop-k

@@ -3,7 +3,7 @@ use Rattle.std.specs.Prelude.{All, IsTrue}
 use Rattle.vr_model.specs.tables.Tables.{is_visit}
 use Rattle.vr_routes.specs.Pieces.{nodes_of}
 use Rattle.vr_costfilter.specs.Floors.{first_step, WentBack}
-use Rattle.vr_costfilter.specs.Guides.{runs_of}
+use Rattle.vr_costfilter.specs.GuideRuns.{runs_of}
 use Rattle.vr_costfilter.specs.declared.trails.Step.{Step}
 use Rattle.vr_costfilter.proofs.FloorLemmas.{some-map}
 use Rattle.vr_costfilter.proofs.guides.Guide.back_along_piece.Goals as goal

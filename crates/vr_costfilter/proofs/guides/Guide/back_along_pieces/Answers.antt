@@ -7,7 +7,7 @@ use Rattle.vr_routes.specs.declared.pieces.Piece.TheVariants.{Chain}
 use Rattle.vr_routes.specs.Pieces.{joined, nodes_of}
 use Rattle.vr_routes.proofs.JoinedPieces.{all_at, joined_rest}
 use Rattle.vr_costfilter.specs.Floors.{WentBack}
-use Rattle.vr_costfilter.specs.Guides.{runs_of}
+use Rattle.vr_costfilter.specs.GuideRuns.{runs_of}
 use Rattle.vr_costfilter.proofs.FloorLemmas.{back-many, back-more, back-none, drop-one}
 use Rattle.vr_costfilter.proofs.FirstLemmas.{begin-none, begin-stuck, went-begin}
 use Rattle.vr_costfilter.proofs.guides.Guide.back_along_pieces.Goals as goal

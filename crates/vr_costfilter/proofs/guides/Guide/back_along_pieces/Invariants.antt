@@ -1,7 +1,7 @@
 use Rattle.std.proofs.Common.{◌-◌, drop, length}
 use Rattle.vr_routes.specs.Pieces.{joined}
 use Rattle.vr_costfilter.specs.Floors.{IsStep, WentBack}
-use Rattle.vr_costfilter.specs.Guides.{runs_of}
+use Rattle.vr_costfilter.specs.GuideRuns.{runs_of}
 use Rattle.vr_costfilter.proofs.guides.Guide.back_along_pieces.Given as goal
 
 abbrev pub invariant-loop-k : goal.invariant-loop-k

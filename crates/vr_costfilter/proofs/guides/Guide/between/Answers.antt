@@ -7,23 +7,26 @@ use Rattle.vr_plan.proofs.BoundLemmas.{read-cumul}
 use Rattle.vr_costfilter.specs.Runs.{Runs, only}
 use Rattle.vr_costfilter.proofs.guides.Guide.between.Goals as goal
 
-pub returns-clause-guide : goal.returns-clause-guide
-returns-clause-guide c =
+pub invariant_of-result : goal.invariant_of-result
+invariant_of-result c =
     let g = c.args.self.now in
-    let h = c.requires.guide in
+    let h = c.args.self.now.sound in
     let slack = read-cumul g.slack h.slack_range in
     record {
-      well_formed = h.well_formed;
-      dimension = h.dimension;
-      vehicle = h.vehicle;
-      table_is = h.table_is;
-      evaluator_is = h.evaluator_is;
-      slack_is = slack ∙ h.slack_is;
-      slack_range = subst (IsIn (pos 0) horizon) (sym slack) h.slack_range;
-      start = c.only-start.ensures.range;
-      visits = h.visits;
-      finish = c.only-last.ensures.range;
-      end_is = h.end_is;
+      sound = record {
+        well_formed = h.well_formed;
+        dimension = h.dimension;
+        vehicle = h.vehicle;
+        places = h.places;
+        hard = h.hard;
+        evaluator_is = h.evaluator_is;
+        slack_is = slack ∙ h.slack_is;
+        slack_range = subst (IsIn (pos 0) horizon) (sym slack) h.slack_range;
+        start = c.only-start.ensures.range;
+        visits = h.visits;
+        finish = c.only-last.ensures.range;
+        end_is = h.end_is;
+      };
     }
 
 pub returns-clause-runs : goal.returns-clause-runs

@@ -12,7 +12,7 @@ use Rattle.vr_costfilter.proofs.guides.Guide.floor_of.Goals as goal
 pub returns-then-floor-allowed-clause-value : goal.returns-then-floor-allowed-clause-value
 returns-then-floor-allowed-clause-value c =
     let g = c.args.self.now in
-    let h = c.requires.guide in
+    let h = c.args.self.now.sound in
     let f = c.args.next.floor in
     let r = c.transit_by-transit.result in
     let it = c.max-floor.result in
@@ -30,7 +30,7 @@ returns-then-floor-allowed-clause-value c =
 pub returns-clause-value : goal.returns-clause-value
 returns-clause-value c =
     let g = c.args.self.now in
-    let h = c.requires.guide in
+    let h = c.args.self.now.sound in
     let f = c.args.next.floor in
     let r = c.transit_by-transit.result in
     let it = c.max-floor.result in

@@ -13,7 +13,7 @@ use Rattle.vr_costfilter.proofs.guides.Guide.go_on.Goals as goal
 pub returns-clause-value : goal.returns-clause-value
 returns-clause-value c =
     let g = c.args.self.now in
-    let h = c.requires.guide in
+    let h = c.args.self.now.sound in
     let stage = c.args.stage in
     let t = c.transit_by-transit.ensures in
     let least = t.least in
@@ -35,7 +35,7 @@ returns-clause-value c =
 pub returns-in_err-cumul-clause-value : goal.returns-in_err-cumul-clause-value
 returns-in_err-cumul-clause-value c =
     let g = c.args.self.now in
-    let h = c.requires.guide in
+    let h = c.args.self.now.sound in
     let stage = c.args.stage in
     let t = c.transit_by-transit.ensures in
     let least = t.least in

@@ -9,30 +9,33 @@ use Rattle.vr_costfilter.proofs.guides.Guide.of.Goals as goal
 
 pub evaluator_of-requires-clause-vehicle : goal.evaluator_of-requires-clause-vehicle
 evaluator_of-requires-clause-vehicle c =
-    let is = c.requires.well_formed.each_dimension c.args.d no_dimension c.requires.dimension in
+    let is = c.args.closed.well_formed.each_dimension c.args.d no_dimension c.requires.dimension in
     subst (λ (x : Dimension). c.args.v < length x.vehicle_evaluators) (c.get.ensures.value no_dimension) (let n = is.evaluator_of_each_vehicle in let low = c.requires.vehicle in omega (arith, n, low))
 
 pub evaluator_of-requires-clause-numbers : goal.evaluator_of-requires-clause-numbers
 evaluator_of-requires-clause-numbers c =
-    let is = c.requires.well_formed.each_dimension c.args.d no_dimension c.requires.dimension in
+    let is = c.args.closed.well_formed.each_dimension c.args.d no_dimension c.requires.dimension in
     subst (λ (x : Dimension). All (λ k. k < length x.evaluators) x.vehicle_evaluators) (c.get.ensures.value no_dimension) is.vehicle_evaluators_in_range
 
-pub returns-clause-guide : goal.returns-clause-guide
-returns-clause-guide c =
+pub invariant_of-result : goal.invariant_of-result
+invariant_of-result c =
     let r = c.in_ok-runs.ensures in
     let slack = read-cumul c.slack_of.result c.slack_of.ensures.range in
     record {
-      well_formed = c.requires.well_formed;
-      dimension = c.requires.dimension;
-      vehicle = c.requires.vehicle;
-      table_is = c.requires.table;
-      evaluator_is = c.evaluator_of.ensures ∙ ap (λ x. evaluator_of x c.args.v) (sym (c.get.ensures.value no_dimension));
-      slack_is = slack ∙ c.slack_of.ensures.value;
-      slack_range = subst (IsIn (pos 0) horizon) (sym slack) c.slack_of.ensures.range;
-      start = r.start.ends;
-      visits = r.visits;
-      finish = r.finish.allowed.ends;
-      end_is = r.finish.node;
+      sound = record {
+        well_formed = c.args.closed.well_formed;
+        dimension = c.requires.dimension;
+        vehicle = c.requires.vehicle;
+        places = c.requires.table.places;
+        hard = c.requires.table.hard;
+        evaluator_is = c.evaluator_of.ensures ∙ ap (λ x. evaluator_of x c.args.v) (sym (c.get.ensures.value no_dimension));
+        slack_is = slack ∙ c.slack_of.ensures.value;
+        slack_range = subst (IsIn (pos 0) horizon) (sym slack) c.slack_of.ensures.range;
+        start = r.start.ends;
+        visits = r.visits;
+        finish = r.finish.allowed.ends;
+        end_is = r.finish.node;
+      };
     }
 
 pub returns-clause-runs : goal.returns-clause-runs

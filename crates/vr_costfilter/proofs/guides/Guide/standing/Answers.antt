@@ -14,7 +14,7 @@ use Rattle.vr_costfilter.proofs.guides.Guide.standing.Goals as goal
 
 pub row_cost-requires-clause-valid : goal.row_cost-requires-clause-valid
 row_cost-requires-clause-valid c =
-    let g = c.requires.guide in
+    let g = c.args.self.now.sound in
     let is = g.well_formed.each_dimension c.args.self.now.d no_dimension g.dimension in
     c.of_key.ensures.valid (subst (λ (x : Dimension). All IsStopRow x.starts) (c.get-dimension.ensures.value no_dimension) is.rows_of_starts.each_row)
 
@@ -30,7 +30,7 @@ returns-clause-value c =
 
 pub returns-clause-range : goal.returns-clause-range
 returns-clause-range c =
-    let g = c.requires.guide in
+    let g = c.args.self.now.sound in
     let costs = c.row_cost.ensures in
     let low = costs.low in
     let high = costs.range.high in

@@ -1,6 +1,6 @@
 use Rattle.std.proofs.Common.{sym, subst}
 use Rattle.vr_costfilter.specs.Floors.{WentBack}
-use Rattle.vr_costfilter.specs.Guides.{runs_of}
+use Rattle.vr_costfilter.specs.GuideRuns.{runs_of}
 use Rattle.vr_costfilter.proofs.FloorLemmas.{back-one}
 use Rattle.vr_costfilter.proofs.guides.Guide.step_back.Goals as goal
 

@@ -2,7 +2,7 @@ use Rattle.std.proofs.Common.{◌∙◌, ◌+◌, ℕ, List, cond, reverse, take
 use Rattle.std.specs.Prelude.{IsTrue}
 use Rattle.std.proofs.lemmas.List.Sums.{fold_more}
 use Rattle.vr_model.specs.tables.Tables.{is_visit}
-use Rattle.vr_costfilter.specs.Guides.{runs_of}
+use Rattle.vr_costfilter.specs.GuideRuns.{runs_of}
 use Rattle.vr_costfilter.specs.Ways.{way_along, way_to_visit, IsWayOf}
 use Rattle.vr_costfilter.proofs.WayLemmas.{along-part, ordered-long, way-more}
 use Rattle.vr_costfilter.proofs.guides.Guide.way_along_chain.Goals as goal
@@ -16,7 +16,7 @@ way_to_visit-gone-requires-clause-node c =
 pub way_to_visit-gone-requires-clause-way : goal.way_to_visit-gone-requires-clause-way
 way_to_visit-gone-requires-clause-way c =
     let g = c.args.self.now in
-    let h = c.requires.guide in
+    let h = c.args.self.now.sound in
     let nodes : List ℕ = cond c.args.reversed (reverse c.args.chain.now) c.args.chain.now in
     let k = c.loop-k.k in
     let long = ordered-long c.args.reversed c.args.chain.now in

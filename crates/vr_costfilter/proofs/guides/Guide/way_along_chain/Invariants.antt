@@ -1,5 +1,5 @@
 use Rattle.std.proofs.Common.{◌≡◌, cond, reverse, take}
-use Rattle.vr_costfilter.specs.Guides.{runs_of}
+use Rattle.vr_costfilter.specs.GuideRuns.{runs_of}
 use Rattle.vr_costfilter.specs.Ways.{way_along}
 use Rattle.vr_costfilter.proofs.guides.Guide.way_along_chain.Given as goal
 

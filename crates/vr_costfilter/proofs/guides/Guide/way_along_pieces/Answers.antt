@@ -6,7 +6,7 @@ use Rattle.vr_routes.specs.declared.pieces.Piece.{Piece}
 use Rattle.vr_routes.specs.declared.pieces.Piece.TheVariants.{Chain}
 use Rattle.vr_routes.specs.Pieces.{joined, nodes_of}
 use Rattle.vr_routes.proofs.JoinedPieces.{all_at, all_left, joined_next, joined_rest}
-use Rattle.vr_costfilter.specs.Guides.{runs_of, IsGuide}
+use Rattle.vr_costfilter.specs.GuideRuns.{runs_of}
 use Rattle.vr_costfilter.specs.Ways.{way_along, way_to_visit, IsWayOf}
 use Rattle.vr_costfilter.specs.declared.guides.Guide.{Guide}
 use Rattle.vr_costfilter.specs.declared.tight.Way.{Way}
@@ -40,18 +40,18 @@ way_along_piece-gone-requires-clause-few c =
     omega (arith, next, two, few)
 
 -- the way so far
-gone-way : (g : Guide) → IsGuide g → (lists : List (List ℕ)) (pieces : List Piece) (k : ℕ) → All (λ node. IsTrue (is_visit g.model.now node)) (joined lists pieces) → length (joined lists pieces) ≤ 1000 → (way gone : Way) → IsWayOf g.model.now 1000 way
+gone-way : (g : Guide) → (lists : List (List ℕ)) (pieces : List Piece) (k : ℕ) → All (λ node. IsTrue (is_visit g.model.now node)) (joined lists pieces) → length (joined lists pieces) ≤ 1000 → (way gone : Way) → IsWayOf g.model.now 1000 way
     → gone ≡ way_along g.model.now g.d g.v (runs_of g) way (joined lists (take k pieces)) → IsWayOf g.model.now 2000 gone
-gone-way g h lists pieces k visits all way gone range is =
+gone-way g lists pieces k visits all way gone range is =
     let nodes : List ℕ = joined lists (take k pieces) in
     let few = front-few lists pieces k all in
     subst (IsWayOf g.model.now 2000) (sym is)
     (way-more g.model.now (1000 + length nodes) 2000 _ (omega (arith, few))
-    (along-way g.model.now h.well_formed g.d g.v h.dimension h.vehicle (runs_of g) h.visits nodes (front-visits (λ node. IsTrue (is_visit g.model.now node)) lists pieces k visits) 1000 way range))
+    (along-way g.model.now g.sound.well_formed g.d g.v g.sound.dimension g.sound.vehicle (runs_of g) g.sound.visits nodes (front-visits (λ node. IsTrue (is_visit g.model.now node)) lists pieces k visits) 1000 way range))
 
 pub way_along_piece-gone-requires-clause-way : goal.way_along_piece-gone-requires-clause-way
 way_along_piece-gone-requires-clause-way c =
-    gone-way c.args.self.now c.requires.guide c.args.routes.now.lists c.args.pieces.now c.loop-k.k c.requires.visits c.requires.few c.args.way c.loop-k.gone c.requires.way c.loop-k.invariant
+    gone-way c.args.self.now c.args.routes.now.lists c.args.pieces.now c.loop-k.k c.requires.visits c.requires.few c.args.way c.loop-k.gone c.requires.way c.loop-k.invariant
 
 pub loop-k-preserved : goal.loop-k-preserved
 loop-k-preserved c =
@@ -66,4 +66,4 @@ loop-k-preserved c =
 
 pub returns-clause-range : goal.returns-clause-range
 returns-clause-range c =
-    gone-way c.args.self.now c.requires.guide c.args.routes.now.lists c.args.pieces.now c.loop-k.k c.requires.visits c.requires.few c.args.way c.loop-k.gone c.requires.way c.loop-k.invariant
+    gone-way c.args.self.now c.args.routes.now.lists c.args.pieces.now c.loop-k.k c.requires.visits c.requires.few c.args.way c.loop-k.gone c.requires.way c.loop-k.invariant

@@ -1,6 +1,6 @@
 use Rattle.std.proofs.Common.{◌≡◌, take}
 use Rattle.vr_routes.specs.Pieces.{joined}
-use Rattle.vr_costfilter.specs.Guides.{runs_of}
+use Rattle.vr_costfilter.specs.GuideRuns.{runs_of}
 use Rattle.vr_costfilter.specs.Ways.{way_along}
 use Rattle.vr_costfilter.proofs.guides.Guide.way_along_pieces.Given as goal
 

@@ -33,4 +33,4 @@ returns c =
     let rest = c.args.rest in
     let t = c.transit_by-transit.ensures in
     through-read g.model.now way rest (transit g.model.now g.d g.v way.at rest.at) c.transit_by-transit.result c.requires.way c.requires.rest t.value t.least t.greatest
-    g.finish.node (vehicle_at g.model.now g.v).end c.max.result c.min.result c.requires.guide.end_is c.max.ensures.value c.min.ensures.value
+    g.finish.node (vehicle_at g.model.now g.v).end c.max.result c.min.result c.args.self.now.sound.end_is c.max.ensures.value c.min.ensures.value

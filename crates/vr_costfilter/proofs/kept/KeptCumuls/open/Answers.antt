@@ -12,26 +12,26 @@ use Rattle.vr_costfilter.proofs.kept.KeptCumuls.open.Goals as goal
 
 pub get-requires : goal.get-requires
 get-requires c =
-    let many = are_lists-count c.args.model.now c.args.routes.now.lists (are-lists c.args.model.now c.args.routes.now.lists c.requires.valid) in
+    let many = are_lists-count c.args.closed.model.now c.args.routes.now.lists (are-lists c.args.closed.model.now c.args.routes.now.lists c.requires.valid) in
     let end = c.vehicles-v-end.ensures.value in
     let low = c.loop-v-test.true in
     omega (arith, many, end, low)
 
 pub write_list-requires-clause-vehicle : goal.write_list-requires-clause-vehicle
 write_list-requires-clause-vehicle c =
-    let many = are_lists-count c.args.model.now c.args.routes.now.lists (are-lists c.args.model.now c.args.routes.now.lists c.requires.valid) in
+    let many = are_lists-count c.args.closed.model.now c.args.routes.now.lists (are-lists c.args.closed.model.now c.args.routes.now.lists c.requires.valid) in
     let end = c.vehicles-v-end.ensures.value in
     let low = c.loop-v-test.true in
     omega (arith, many, end, low)
 
 pub write_list-requires-clause-visits : goal.write_list-requires-clause-visits
 write_list-requires-clause-visits c =
-    subst (λ l. IsTrue (list_all (is_visit c.args.model.now) l)) (sym c.list.ensures.value) (route-visits c.args.model.now c.args.routes.now.lists c.loop-v.v (are-lists c.args.model.now c.args.routes.now.lists c.requires.valid))
+    subst (λ l. IsTrue (list_all (is_visit c.args.closed.model.now) l)) (sym c.list.ensures.value) (route-visits c.args.closed.model.now c.args.routes.now.lists c.loop-v.v (are-lists c.args.closed.model.now c.args.routes.now.lists c.requires.valid))
 
 pub loop-v-preserved : goal.loop-v-preserved
 loop-v-preserved c =
     let i = c.loop-v.invariant in
-    let m = c.args.model.now in
+    let m = c.args.closed.model.now in
     let lists : List (List ℕ) = c.args.routes.now.lists in
     let P = λ (v : ℕ) (kept : KeptList). IsKept m c.args.d v (route lists v) kept in
     let R = λ (v : ℕ) (kept : KeptList). HasRoom (vehicle_at m v).schedule kept in

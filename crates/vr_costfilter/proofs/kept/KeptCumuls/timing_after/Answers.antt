@@ -14,6 +14,7 @@ use Rattle.vr_model.specs.declared.records.Vehicle.{Vehicle}
 use Rattle.vr_reach.specs.VisitRuns.{have_stops_one_run}
 use Rattle.vr_costfilter.specs.Kept.{IsKnown, HasAllAsked, HasAllStages, HasAllWays}
 use Rattle.vr_costfilter.specs.declared.kept.KeptList.{KeptList}
+use Rattle.vr_costfilter.specs.Joined.{AreJoined}
 use Rattle.vr_costfilter.proofs.kept.KeptCumuls.timing_after.Goals as goal
 
 -- what is kept of its list decides
@@ -23,6 +24,12 @@ told-so model d v list inside seen view kept low is one some to from = subst (λ
   λ h. record { known = low; runs = one; tells = λ other. subst (HasAllAsked (vehicle_at model v).schedule list) (is ∙ get_or_default inside v kept other low) (to h) },
   λ told. from (subst (HasAllAsked (vehicle_at model v).schedule list) (sym is) (told.tells kept)),
 )
+
+pub invariant_of-asked : goal.invariant_of-asked
+invariant_of-asked c =
+    let e = c.in_ok-guide.ensures in
+    let lists : List (List ℕ) = c.args.routes.now.lists in
+    record { sound = subst (λ m. AreJoined m c.in_ok-guide.guide.v lists c.args.pieces.now) (sym e.model) (subst (λ v. AreJoined c.args.at.now.model.now v lists c.args.pieces.now) (sym e.vehicle) c.requires.joined) }
 
 pub returns-then-v-len-clause-known : goal.returns-then-v-len-clause-known
 returns-then-v-len-clause-known c =

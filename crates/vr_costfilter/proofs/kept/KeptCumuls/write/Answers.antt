@@ -6,7 +6,7 @@ use Rattle.vr_costfilter.proofs.kept.KeptCumuls.write.Goals as goal
 
 pub returns-then-v-len-clause-kept : goal.returns-then-v-len-clause-kept
 returns-then-v-len-clause-kept c lists h known =
-    let m = c.args.model.now in
+    let m = c.args.closed.model.now in
     let old = subst (AreKept m c.args.d lists) (sym c.self.view_is) h in
     let len = c.len.ensures in
     let low = c.if-v-len.true in

@@ -3,7 +3,7 @@ use Rattle.std.proofs.lemmas.Bool.{false≢true}
 use Rattle.vr_model.specs.schedules.Lines.{Line, line}
 use Rattle.vr_model.specs.schedules.Narrowed.{narrowed}
 use Rattle.vr_routes.specs.Pieces.{joined}
-use Rattle.vr_costfilter.specs.Guides.{runs_of}
+use Rattle.vr_costfilter.specs.GuideRuns.{runs_of}
 use Rattle.vr_costfilter.specs.Runs.{AllowsRuns}
 use Rattle.vr_costfilter.proofs.RunLemmas.{line-allows}
 use Rattle.vr_costfilter.proofs.TightLemmas.{chosen-feasible}
@@ -11,14 +11,14 @@ use Rattle.vr_costfilter.proofs.kept.KeptList.earliest_after.Goals as goal
 
 pub after-requires-clause-allows : goal.after-requires-clause-allows
 after-requires-clause-allows c =
-    let g = c.args.guide.now in
-    let new : List ℕ = joined c.args.routes.now.lists c.args.pieces.now in
-    let by = line-allows g.model.now g.d g.v (runs_of g) c.requires.runs new c.requires.used.tour in
+    let g = c.args.asked.now.guide.now in
+    let new : List ℕ = joined c.args.asked.now.routes.now.lists c.args.asked.now.pieces.now in
+    let by = line-allows g.model.now g.d g.v (runs_of g) c.requires.runs new c.args.asked.now.sound.used.tour in
     subst (λ (l : Line). AllowsRuns g.model.now g.d g.v (runs_of g) new l) (sym (ap (λ rule. narrowed rule (line g.model.now g.d g.v new)) c.requires.rule)) by
 
 pub after-requires-clause-stages : goal.after-requires-clause-stages
 after-requires-clause-stages c =
-    let g = c.args.guide.now in
+    let g = c.args.asked.now.guide.now in
     let many = c.are_of.ensures.0 c.if-not-are_of.false in
     let list = ap length c.list-list.ensures.value in
     (c.requires.kept.earliest c.requires.rule (runs_of g) c.requires.runs).told (omega (arith, many, list))
@@ -31,10 +31,10 @@ after-requires-clause-many c =
 
 pub returns-clause-known : goal.returns-clause-known
 returns-clause-known c feasible =
-    let g = c.args.guide.now in
+    let g = c.args.asked.now.guide.now in
     let many = c.are_of.ensures.0 c.if-not-are_of.false in
     let list = ap length c.list-list.ensures.value in
-    (λ _. omega (arith, many, list), λ _. c.after.ensures.known ∙ chosen-feasible g.model.now g.d g.v (joined c.args.routes.now.lists c.args.pieces.now) feasible)
+    (λ _. omega (arith, many, list), λ _. c.after.ensures.known ∙ chosen-feasible g.model.now g.d g.v (joined c.args.asked.now.routes.now.lists c.args.asked.now.pieces.now) feasible)
 
 pub returns-then-not-are_of-clause-known : goal.returns-then-not-are_of-clause-known
 returns-then-not-are_of-clause-known c feasible =

@@ -10,7 +10,7 @@ use Rattle.vr_routes.specs.Pieces.{joined}
 use Rattle.vr_plan.proofs.BoundLemmas.{read-cumul}
 use Rattle.vr_spans.proofs.RunsLemmas.{none_from_test, some_from_test}
 use Rattle.vr_costfilter.specs.KeptWays.{AreKeptWays}
-use Rattle.vr_costfilter.specs.Guides.{runs_of}
+use Rattle.vr_costfilter.specs.GuideRuns.{runs_of}
 use Rattle.vr_costfilter.specs.declared.kept_ways.KeptWays.{KeptWays}
 use Rattle.vr_costfilter.specs.Runs.{AllowsRuns, between_runs}
 use Rattle.vr_costfilter.proofs.BetweenLemmas.{between-allows, end-in, start-in}
@@ -24,20 +24,20 @@ told-ways ends first n some is many other = subst (λ (k : KeptWays). length k.w
 
 pub ends_of-ends-requires-clause-kept : goal.ends_of-ends-requires-clause-kept
 ends_of-ends-requires-clause-kept c =
-    let g = c.args.guide.now in
+    let g = c.args.asked.now.guide.now in
     let many = c.has_ways.ensures.0 c.if-not-has_ways.false in
     let list = ap length c.list-list.ensures.value in
     let some : 0 < length c.args.self.now.ends.items = (let some = some_from_test _ _ c.if-is_empty.false c.is_empty.ensures in omega (arith, some)) in
-    let is = subst (AreKeptWays g.model.now g.d g.v (route c.args.routes.now.lists g.v)) (sym c.index-kept.ensures) (c.requires.kept.ends.first c.index-kept.result.now some) in
+    let is = subst (AreKeptWays g.model.now g.d g.v (route c.args.asked.now.routes.now.lists g.v)) (sym c.index-kept.ensures) (c.requires.kept.ends.first c.index-kept.result.now some) in
     is.ways (omega (arith, many, list))
 
 pub timing_between-requires-clause-allows : goal.timing_between-requires-clause-allows
 timing_between-requires-clause-allows c =
-    let g = c.args.guide.now in
+    let g = c.args.asked.now.guide.now in
     let m = g.model.now in
-    let list : List ℕ = joined c.args.routes.now.lists c.args.pieces.now in
+    let list : List ℕ = joined c.args.asked.now.routes.now.lists c.args.asked.now.pieces.now in
     let L : Line = line m g.d g.v list in
-    let by = line-allows m g.d g.v (runs_of g) c.requires.runs list c.requires.used.tour in
+    let by = line-allows m g.d g.v (runs_of g) c.requires.runs list c.args.asked.now.sound.used.tour in
     let ends = c.ends_of-ends.result in
     let told = c.ends_of-ends.ensures in
     let is : chosen_line m g.d g.v list ≡ between L ends.start ends.last =
@@ -47,47 +47,47 @@ timing_between-requires-clause-allows c =
 
 pub timing_between-requires-clause-ends : goal.timing_between-requires-clause-ends
 timing_between-requires-clause-ends c =
-    let g = c.args.guide.now in
-    let list : List ℕ = joined c.args.routes.now.lists c.args.pieces.now in
+    let g = c.args.asked.now.guide.now in
+    let list : List ℕ = joined c.args.asked.now.routes.now.lists c.args.asked.now.pieces.now in
     let L : Line = line g.model.now g.d g.v list in
-    let by = line-allows g.model.now g.d g.v (runs_of g) c.requires.runs list c.requires.used.tour in
+    let by = line-allows g.model.now g.d g.v (runs_of g) c.requires.runs list c.args.asked.now.sound.used.tour in
     let ends = c.ends_of-ends.result in
     let start = c.ends_of-ends.ensures.start in
     record { start = start-in g.model.now g.d g.v (runs_of g) list L by ends.start ends.last start; last = end-in g.model.now g.d g.v (runs_of g) list L by ends.start ends.last start }
 
 -- told by its ends alone
-pub returns-then-guide : goal.returns-then-guide
-returns-then-guide c =
-    let g = c.args.guide.now in
+pub returns-then-asked : goal.returns-then-asked
+returns-then-asked c =
+    let g = c.args.asked.now.guide.now in
     let m = g.model.now in
-    let list : List ℕ = joined c.args.routes.now.lists c.args.pieces.now in
+    let list : List ℕ = joined c.args.asked.now.routes.now.lists c.args.asked.now.pieces.now in
     let L : Line = line m g.d g.v list in
-    let by = line-allows m g.d g.v (runs_of g) c.requires.runs list c.requires.used.tour in
+    let by = line-allows m g.d g.v (runs_of g) c.requires.runs list c.args.asked.now.sound.used.tour in
     let some : 0 < length c.args.self.now.ends.items = (let some = some_from_test _ _ c.if-is_empty.false c.is_empty.ensures in omega (arith, some)) in
     let ends = c.ends_of-ends.result in
     let told = c.ends_of-ends.ensures in
     let start = start-in m g.d g.v (runs_of g) list L by ends.start ends.last told.start in
     let last = end-in m g.d g.v (runs_of g) list L by ends.start ends.last told.start in
-    let timed = ends-timed m g.d g.v list c.requires.rule c.requires.feasible ends.start ends.last told.last told.start (c.requires.guide.table_is.hard c.if-guide.true) start last
+    let timed = ends-timed m g.d g.v list c.requires.rule c.requires.feasible ends.start ends.last told.last told.start (c.args.asked.now.guide.now.sound.hard c.if-asked.true) start last
     (to_z w64 (of_z w64 ends.start)) (to_z w64 (of_z w64 ends.last)) (read-cumul ends.start start) (read-cumul ends.last last) in
     let many = c.has_ways.ensures.0 c.if-not-has_ways.false in
     let length_is = ap length c.list-list.ensures.value in
-    let ways : length c.index-kept.result.now.ways.items ≡ length (route c.args.routes.now.lists g.v) + 1 = omega (arith, many, length_is) in
+    let ways : length c.index-kept.result.now.ways.items ≡ length (route c.args.asked.now.routes.now.lists g.v) + 1 = omega (arith, many, length_is) in
     record {
-      known = (λ _. record { room = some; ways = told-ways c.args.self.now.ends.items c.index-kept.result.now (length (route c.args.routes.now.lists g.v)) some c.index-kept.ensures ways }, λ _. refl);
+      known = (λ _. record { room = some; ways = told-ways c.args.self.now.ends.items c.index-kept.result.now (length (route c.args.asked.now.routes.now.lists g.v)) some c.index-kept.ensures ways }, λ _. refl);
       timing = timed.is_timing;
       range = timed.range;
     }
 
 pub returns-clause-known : goal.returns-clause-known
 returns-clause-known c =
-    let g = c.args.guide.now in
-    let list : List ℕ = joined c.args.routes.now.lists c.args.pieces.now in
+    let g = c.args.asked.now.guide.now in
+    let list : List ℕ = joined c.args.asked.now.routes.now.lists c.args.asked.now.pieces.now in
     let some : 0 < length c.args.self.now.ends.items = (let some = some_from_test _ _ c.if-is_empty.false c.is_empty.ensures in omega (arith, some)) in
     let many = c.has_ways.ensures.0 c.if-not-has_ways.false in
     let length_is = ap length c.list-list.ensures.value in
-    let ways : length c.index-kept.result.now.ways.items ≡ length (route c.args.routes.now.lists g.v) + 1 = omega (arith, many, length_is) in (
-      λ _. record { room = some; ways = told-ways c.args.self.now.ends.items c.index-kept.result.now (length (route c.args.routes.now.lists g.v)) some c.index-kept.ensures ways },
+    let ways : length c.index-kept.result.now.ways.items ≡ length (route c.args.asked.now.routes.now.lists g.v) + 1 = omega (arith, many, length_is) in (
+      λ _. record { room = some; ways = told-ways c.args.self.now.ends.items c.index-kept.result.now (length (route c.args.asked.now.routes.now.lists g.v)) some c.index-kept.ensures ways },
       λ _. c.timing_between.ensures.known ∙ chosen-feasible g.model.now g.d g.v list c.requires.feasible,
     )
 
@@ -100,7 +100,7 @@ pub returns-then-not-has_ways-clause-known : goal.returns-then-not-has_ways-clau
 returns-then-not-has_ways-clause-known c =
     let length_is = ap length c.list-list.ensures.value in (
       λ e. absurd (false≢true e),
-      λ told. (let many : length c.index-kept.result.now.ways.items ≡ length (route c.args.routes.now.lists c.args.guide.now.v) + 1 =
-          subst (λ (k : KeptWays). length k.ways.items ≡ length (route c.args.routes.now.lists c.args.guide.now.v) + 1) (sym c.index-kept.ensures) (told.ways c.index-kept.result.now) in
+      λ told. (let many : length c.index-kept.result.now.ways.items ≡ length (route c.args.asked.now.routes.now.lists c.args.asked.now.guide.now.v) + 1 =
+          subst (λ (k : KeptWays). length k.ways.items ≡ length (route c.args.asked.now.routes.now.lists c.args.asked.now.guide.now.v) + 1) (sym c.index-kept.ensures) (told.ways c.index-kept.result.now) in
           absurd (false≢true (sym c.if-not-has_ways.true ∙ c.has_ways.ensures.1 (omega (arith, many, length_is))))),
     )

@@ -4,14 +4,14 @@ use Rattle.std.proofs.lemmas.Int.{ints}
 use Rattle.vr_model.specs.schedules.Narrowed.{chosen_line}
 use Rattle.vr_routes.specs.Pieces.{joined}
 use Rattle.vr_plan.proofs.BoundLemmas.{read-cumul}
-use Rattle.vr_costfilter.specs.Guides.{runs_of}
+use Rattle.vr_costfilter.specs.GuideRuns.{runs_of}
 use Rattle.vr_costfilter.specs.Runs.{between_runs, AllowsRuns}
 use Rattle.vr_costfilter.proofs.kept.KeptList.timing_between.Goals as goal
 
 pub timing_from-requires-clause-allows : goal.timing_from-requires-clause-allows
 timing_from-requires-clause-allows c =
-    let g = c.args.guide.now in
-    let new : List ℕ = joined c.args.routes.now.lists c.args.pieces.now in
+    let g = c.args.asked.now.guide.now in
+    let new : List ℕ = joined c.args.asked.now.routes.now.lists c.args.asked.now.pieces.now in
     let test = c.if-self-ends.true in
     let a = c.requires.ends.last in
     let b = c.requires.kept.between.last in

@@ -2,7 +2,7 @@ use Rattle.std.proofs.Common.{◌∙◌, sym, subst, arith}
 use Rattle.std.proofs.lemmas.Bool.{false≢true}
 use Rattle.std.specs.Prelude.{All, IsTrue}
 use Rattle.vr_model.specs.tables.Tables.{is_visit}
-use Rattle.vr_costfilter.specs.Guides.{runs_of}
+use Rattle.vr_costfilter.specs.GuideRuns.{runs_of}
 use Rattle.vr_costfilter.specs.Runs.{AllowsRuns, Runs}
 use Rattle.vr_costfilter.specs.Steps.{HasStages}
 use Rattle.vr_costfilter.proofs.KeptCumulLemmas.{stages-none}

@@ -3,7 +3,7 @@ use Rattle.vr_model.specs.schedules.Lines.{line}
 use Rattle.vr_model.specs.tables.Tables.{vehicle_at}
 use Rattle.vr_model.specs.declared.records.ScheduleRule.{ScheduleRule}
 use Rattle.vr_model.specs.declared.records.ScheduleRule.TheVariants.{Earliest}
-use Rattle.vr_costfilter.specs.Guides.{runs_of}
+use Rattle.vr_costfilter.specs.GuideRuns.{runs_of}
 use Rattle.vr_costfilter.specs.Kept.{HasAllAsked}
 use Rattle.vr_costfilter.specs.declared.kept.KeptList.{KeptList}
 use Rattle.vr_costfilter.proofs.KeptCumulLemmas.{other-rule, stages-so}

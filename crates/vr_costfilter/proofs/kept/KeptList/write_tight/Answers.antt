@@ -6,7 +6,7 @@ use Rattle.vr_model.specs.declared.records.ScheduleRule.{ScheduleRule}
 use Rattle.vr_model.specs.declared.records.ScheduleRule.TheVariants.{Tight}
 use Rattle.vr_spans.proofs.RunsLemmas.{none_from_test, some_from_test}
 use Rattle.vr_costfilter.specs.KeptWays.{AreKeptWays, HasWays, HaveKeptWays}
-use Rattle.vr_costfilter.specs.Guides.{runs_of}
+use Rattle.vr_costfilter.specs.GuideRuns.{runs_of}
 use Rattle.vr_costfilter.specs.Kept.{is_tight, HasAllAsked, HasAllWays}
 use Rattle.vr_costfilter.specs.declared.kept_ways.KeptWays.{KeptWays}
 use Rattle.vr_costfilter.specs.declared.kept.KeptList.{KeptList}

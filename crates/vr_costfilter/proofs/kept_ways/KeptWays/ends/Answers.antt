@@ -1,11 +1,12 @@
-use Rattle.std.proofs.Common.{◌≡◌, ◌∙◌, ◌-◌, ℕ, List, [], length, ap, ap₂, sym, subst, arith, to_z, of_z, w64}
-use Rattle.std.specs.Prelude.{ℤ, pos, slice_index_or}
+use Rattle.std.proofs.Common.{◌≡◌, ◌≤◌, ◌∙◌, ◌-◌, ℕ, List, [], length, ap, ap₂, sym, subst, arith, to_z, of_z, w64}
+use Rattle.std.specs.Prelude.{All, IsTrue, ℤ, pos, slice_index_or}
 use Rattle.std.proofs.lemmas.List.{drop_all, take_all}
 use Rattle.vr_model.specs.tables.Numbers.{horizon}
+use Rattle.vr_model.specs.tables.Tables.{is_visit}
 use Rattle.vr_model.specs.tables.WellFormed.{IsIn}
 use Rattle.vr_plan.proofs.BoundLemmas.{read-cumul}
 use Rattle.vr_costfilter.specs.KeptWays.{HasWays}
-use Rattle.vr_costfilter.specs.Guides.{runs_of}
+use Rattle.vr_costfilter.specs.GuideRuns.{runs_of}
 use Rattle.vr_costfilter.specs.Ways.{last_by, nearest_cumul, start_by, way_along, way_out, whole_way, IsWayOf}
 use Rattle.vr_costfilter.specs.Rests.{rest_of, way_through, IsRestOf}
 use Rattle.vr_costfilter.specs.declared.kept_ways.KeptWays.{KeptWays}
@@ -23,28 +24,28 @@ no_way = record { at = 0; time = pos 0; transits = pos 0; latest = pos 0 }
 abbrev no_rest : Rest
 no_rest = record { at = 0; transits = pos 0; least_end = pos 0; latest_cumul = pos 0 }
 
+-- the way along the whole list, and what is left from its start on, as they are read
+way-read : (g : Guide) (list : List ℕ) → length list ≤ 1000 → All (λ node. IsTrue (is_visit g.model.now node)) list → (kept : KeptWays) → HasWays g.model.now g.d g.v (runs_of g) list kept → (ways : List Way) → ways ≡ kept.ways.items
+    → IsWayOf g.model.now 2000 (slice_index_or ways (length list) no_way)
+way-read g list few visits kept has ways same =
+    subst (λ (l : List Way). IsWayOf g.model.now 2000 (slice_index_or l (length list) no_way)) (sym same) (way-more g.model.now 1000 2000 _ (omega arith) (kept-way g list few visits kept has (length list) no_way (omega arith)))
+
+rest-read : (g : Guide) (list : List ℕ) → length list ≤ 1000 → All (λ node. IsTrue (is_visit g.model.now node)) list → (kept : KeptWays) → HasWays g.model.now g.d g.v (runs_of g) list kept → (rests : List Rest) → rests ≡ kept.rests.items
+    → IsRestOf g.model.now 1000 (slice_index_or rests 0 no_rest)
+rest-read g list few visits kept has rests same = subst (λ (l : List Rest). IsRestOf g.model.now 1000 (slice_index_or l 0 no_rest)) (sym same) (kept-rest g list few visits kept has 0 no_rest (omega arith))
+
 pub way_through-whole-requires-clause-way : goal.way_through-whole-requires-clause-way
-way_through-whole-requires-clause-way c =
-    let g = c.args.guide.now in
-    let list = c.args.list.now in
-    subst (λ (ways : List Way). IsWayOf g.model.now 2000 (slice_index_or ways (length list) no_way)) (sym c.deref.ensures.0)
-    (way-more g.model.now 1000 2000 _ (omega arith) (kept-way g c.requires.guide list c.requires.few c.requires.visits c.args.self.now c.requires.ways (length list) no_way (omega arith)))
+way_through-whole-requires-clause-way c = way-read c.args.guide.now c.args.list.now c.requires.few c.requires.visits c.args.self.now c.requires.ways c.deref.result.now c.deref.ensures.0
 
 pub way_through-whole-requires-clause-rest : goal.way_through-whole-requires-clause-rest
-way_through-whole-requires-clause-rest c =
-    let g = c.args.guide.now in
-    subst (λ (rests : List Rest). IsRestOf g.model.now 1000 (slice_index_or rests 0 no_rest)) (sym c.deref-2.ensures.0)
-    (kept-rest g c.requires.guide c.args.list.now c.requires.few c.requires.visits c.args.self.now c.requires.ways 0 no_rest (omega arith))
+way_through-whole-requires-clause-rest c = rest-read c.args.guide.now c.args.list.now c.requires.few c.requires.visits c.args.self.now c.requires.ways c.deref-2.result.now c.deref-2.ensures.0
 
 pub ends_by-ends-requires : goal.ends_by-ends-requires
 ends_by-ends-requires c =
     let g = c.args.guide.now in
-    let h = c.requires.guide in
-    let list = c.args.list.now in
-    let way = subst (λ (ways : List Way). IsWayOf g.model.now 2000 (slice_index_or ways (length list) no_way)) (sym c.deref.ensures.0)
-    (way-more g.model.now 1000 2000 _ (omega arith) (kept-way g h list c.requires.few c.requires.visits c.args.self.now c.requires.ways (length list) no_way (omega arith))) in
-    let rest = subst (λ (rests : List Rest). IsRestOf g.model.now 1000 (slice_index_or rests 0 no_rest)) (sym c.deref-2.ensures.0)
-    (kept-rest g h list c.requires.few c.requires.visits c.args.self.now c.requires.ways 0 no_rest (omega arith)) in
+    let h = g.sound in
+    let way = way-read g c.args.list.now c.requires.few c.requires.visits c.args.self.now c.requires.ways c.deref.result.now c.deref.ensures.0 in
+    let rest = rest-read g c.args.list.now c.requires.few c.requires.visits c.args.self.now c.requires.ways c.deref-2.result.now c.deref-2.ensures.0 in
     subst (IsWayOf g.model.now 3001) (sym c.way_through-whole.ensures) (end-way g.model.now h.well_formed g.d g.v h.dimension h.vehicle 2000 1000 _ _ way rest)
 
 -- the whole way along a list, by what is kept of it
@@ -60,13 +61,11 @@ whole-kept g list kept has ways rests ways_are rests_are =
 pub returns : goal.returns
 returns c =
     let g = c.args.guide.now in
-    let h = c.requires.guide in
+    let h = c.args.guide.now.sound in
     let list = c.args.list.now in
     let whole = c.way_through-whole.result in
-    let way = subst (λ (ways : List Way). IsWayOf g.model.now 2000 (slice_index_or ways (length list) no_way)) (sym c.deref.ensures.0)
-    (way-more g.model.now 1000 2000 _ (omega arith) (kept-way g h list c.requires.few c.requires.visits c.args.self.now c.requires.ways (length list) no_way (omega arith))) in
-    let rest = subst (λ (rests : List Rest). IsRestOf g.model.now 1000 (slice_index_or rests 0 no_rest)) (sym c.deref-2.ensures.0)
-    (kept-rest g h list c.requires.few c.requires.visits c.args.self.now c.requires.ways 0 no_rest (omega arith)) in
+    let way = way-read g list c.requires.few c.requires.visits c.args.self.now c.requires.ways c.deref.result.now c.deref.ensures.0 in
+    let rest = rest-read g list c.requires.few c.requires.visits c.args.self.now c.requires.ways c.deref-2.result.now c.deref-2.ensures.0 in
     let small = subst (IsWayOf g.model.now 3001) (sym c.way_through-whole.ensures) (end-way g.model.now h.well_formed g.d g.v h.dimension h.vehicle 2000 1000 _ _ way rest) in
     let is = c.way_through-whole.ensures ∙ whole-kept g list c.args.self.now c.requires.ways c.deref.result.now c.deref-2.result.now c.deref.ensures.0 c.deref-2.ensures.0 in
     let start = c.ends_by-ends.ensures.start in

@@ -1,6 +1,6 @@
 use Rattle.std.proofs.Common.{◌∙◌, ◌+◌, ◌-◌, ap, length, sym, subst, arith}
 use Rattle.std.specs.Prelude.{slice_index_or}
-use Rattle.vr_costfilter.specs.Guides.{runs_of}
+use Rattle.vr_costfilter.specs.GuideRuns.{runs_of}
 use Rattle.vr_costfilter.specs.Rests.{rest_before, IsRestOf}
 use Rattle.vr_costfilter.specs.declared.rests.Rest.{Rest}
 use Rattle.vr_costfilter.proofs.EndsLemmas.{rest-next, rests-more}
@@ -16,7 +16,7 @@ rest_before-rest-requires-clause-rest c =
 pub loop-k-preserved : goal.loop-k-preserved
 loop-k-preserved c =
     let g = c.args.guide.now in
-    let h = c.requires.guide in
+    let h = c.args.guide.now.sound in
     let list = c.args.list.now in
     let k = c.loop-k.k in
     let i = c.loop-k.invariant in

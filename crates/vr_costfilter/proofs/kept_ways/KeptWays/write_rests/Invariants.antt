@@ -1,6 +1,6 @@
 use Rattle.std.proofs.Common.{◌≡◌, ◌-◌, drop, length}
 use Rattle.vr_costfilter.specs.KeptWays.{AreRestsTo}
-use Rattle.vr_costfilter.specs.Guides.{runs_of}
+use Rattle.vr_costfilter.specs.GuideRuns.{runs_of}
 use Rattle.vr_costfilter.specs.Rests.{rest_of, IsRestOf}
 use Rattle.vr_costfilter.proofs.kept_ways.KeptWays.write_rests.Given as goal
 

@@ -2,7 +2,7 @@ use Rattle.std.proofs.Common.{◌∙◌, ◌+◌, ap, sym, subst, arith}
 use Rattle.std.specs.Prelude.{slice_index_or}
 use Rattle.std.proofs.lemmas.List.Sums.{fold_more}
 use Rattle.vr_model.proofs.routes.Lists.{visit_below}
-use Rattle.vr_costfilter.specs.Guides.{runs_of}
+use Rattle.vr_costfilter.specs.GuideRuns.{runs_of}
 use Rattle.vr_costfilter.specs.Runs.{no_run}
 use Rattle.vr_costfilter.specs.Ways.{way_out, way_to_visit, IsWayOf}
 use Rattle.vr_costfilter.specs.declared.tight.Way.{Way}
@@ -19,7 +19,7 @@ way_to_visit-way-requires-clause-way c =
 pub loop-k-preserved : goal.loop-k-preserved
 loop-k-preserved c =
     let g = c.args.guide.now in
-    let h = c.requires.guide in
+    let h = c.args.guide.now.sound in
     let list = c.args.list.now in
     let k = c.loop-k.k in
     let i = c.loop-k.invariant in

@@ -1,6 +1,6 @@
 use Rattle.std.proofs.Common.{◌≡◌, take}
 use Rattle.vr_costfilter.specs.KeptWays.{AreWaysTo}
-use Rattle.vr_costfilter.specs.Guides.{runs_of}
+use Rattle.vr_costfilter.specs.GuideRuns.{runs_of}
 use Rattle.vr_costfilter.specs.Ways.{way_along, way_out, IsWayOf}
 use Rattle.vr_costfilter.proofs.kept_ways.KeptWays.write_ways.Given as goal
 

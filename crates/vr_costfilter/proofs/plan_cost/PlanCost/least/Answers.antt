@@ -1,13 +1,14 @@
-use Rattle.std.proofs.Common.{◌∙◌, ◌<◌, ℕ, List, length, ap, sym, subst, arith}
+use Rattle.std.proofs.Common.{◌≡◌, ◌∙◌, ◌<◌, ℕ, List, length, ap, sym, subst, arith}
 use Rattle.std.proofs.lemmas.Int.{ints}
-use Rattle.std.proofs.lemmas.List.{get_or_default, take_all}
+use Rattle.std.proofs.lemmas.List.{take_all}
 use Rattle.std.specs.Prelude.{pos, ◌-ℤ◌, ◌≤ℤ◌}
 use Rattle.vr_model.specs.tables.Numbers.{number_at, total_by}
 use Rattle.vr_model.specs.routes.Routes.{route}
 use Rattle.vr_model.specs.declared.records.Model.{Model}
 use Rattle.vr_routes.specs.Pieces.{changed, joined, no_part, part_at}
 use Rattle.vr_earliest.specs.Earlies.{AreEarlies}
-use Rattle.vr_costfilter.specs.PlanCosts.{plans_cost, soft_and_span, spans_least, IsPlanCost}
+use Rattle.vr_costfilter.specs.PlanCosts.{plans_cost, soft_and_span, spans_least}
+use Rattle.vr_costfilter.proofs.CostLemmas.{kept-cost}
 use Rattle.vr_costfilter.proofs.PlanLemmas.{idle-where, IsIdle}
 use Rattle.vr_parts.specs.Sums.{part_less}
 use Rattle.vr_costfilter.proofs.LeastSpanLemmas.{change-idle, change-least, least-idle, less-more}
@@ -17,13 +18,9 @@ pub least-requires-clause-earlies : goal.least-requires-clause-earlies
 least-requires-clause-earlies c =
     subst (λ (m : Model). AreEarlies m c.args.routes.now.lists c.args.change.now c.args.earlies.now) (sym (ap (λ s. s.model) c.self.view_is)) c.requires.earlies
 
-pub least-requires-clause-vehicle : goal.least-requires-clause-vehicle
-least-requires-clause-vehicle c =
-    let h = c.requires.stands in
-    let low = subst (λ n. c.loop-k.k < n) c.parts-k-end.ensures.value c.loop-k-test.true in
-    let v = (part_at c.args.change.now c.loop-k.k).vehicle in
-    subst (λ (m : Model). v < length m.vehicles) (sym (ap (λ s. s.model) c.self.view_is))
-    (subst (λ n. v < n) h.as_many (c.requires.made.makes.parts_are.each_vehicle c.loop-k.k no_part low))
+pub least-requires-clause-as_many : goal.least-requires-clause-as_many
+least-requires-clause-as_many c =
+    subst (λ (m : Model). length c.args.routes.now.lists ≡ length m.vehicles) (sym (ap (λ s. s.model) c.self.view_is)) c.requires.stands.as_many
 
 pub overflow_sub-least : goal.overflow_sub-least
 overflow_sub-least c =
@@ -32,10 +29,8 @@ overflow_sub-least c =
     let low = subst (λ n. k < n) c.parts-k-end.ensures.value c.loop-k-test.true in
     let v = c.vehicle-v.result in
     let known = subst (λ w. w < length c.args.routes.now.lists) (sym c.vehicle-v.ensures) (c.requires.made.makes.parts_are.each_vehicle k no_part low) in
-    let kept = ap (λ s. s.costs) c.self.view_is in
-    let within : v < length c.self.inside.costs.items = subst (λ n. v < n) (sym (ap length kept ∙ h.many ∙ sym h.as_many)) known in
-    let is = c.index.ensures ∙ get_or_default c.self.inside.costs.items v c.index.result.now (pos 0) within ∙ ap (λ l. number_at l v) kept in
-    let b = subst IsPlanCost (sym is) (h.range v known) in
+    let before = kept-cost c.args.self.now c.args.routes.now h c.self.inside.costs.items (ap (λ s. s.costs) c.self.view_is) v known c.index.result.now c.index.ensures in
+    let b = before.range in
     let r = c.least.ensures.range in
     omega (arith, ints, b.low, b.high, r.low, r.high)
 
@@ -46,10 +41,8 @@ overflow_add-least c =
     let low = subst (λ n. k < n) c.parts-k-end.ensures.value c.loop-k-test.true in
     let v = c.vehicle-v.result in
     let known = subst (λ w. w < length c.args.routes.now.lists) (sym c.vehicle-v.ensures) (c.requires.made.makes.parts_are.each_vehicle k no_part low) in
-    let kept = ap (λ s. s.costs) c.self.view_is in
-    let within : v < length c.self.inside.costs.items = subst (λ n. v < n) (sym (ap length kept ∙ h.many ∙ sym h.as_many)) known in
-    let is = c.index.ensures ∙ get_or_default c.self.inside.costs.items v c.index.result.now (pos 0) within ∙ ap (λ l. number_at l v) kept in
-    let b = subst IsPlanCost (sym is) (h.range v known) in
+    let before = kept-cost c.args.self.now c.args.routes.now h c.self.inside.costs.items (ap (λ s. s.costs) c.self.view_is) v known c.index.result.now c.index.ensures in
+    let b = before.range in
     let r = c.least.ensures.range in
     let i = c.loop-k.invariant in
     let same = c.loop-k.least-is in
@@ -67,12 +60,10 @@ loop-k-preserved c =
     let v = c.vehicle-v.result in
     let part = part_at c.args.change.now k in
     let known = subst (λ w. w < length lists) (sym c.vehicle-v.ensures) (c.requires.made.makes.parts_are.each_vehicle k no_part low) in
-    let kept = ap (λ s. s.costs) c.self.view_is in
-    let within : v < length c.self.inside.costs.items = subst (λ n. v < n) (sym (ap length kept ∙ h.many ∙ sym h.as_many)) known in
-    let is = c.index.ensures ∙ get_or_default c.self.inside.costs.items v c.index.result.now (pos 0) within ∙ ap (λ l. number_at l v) kept in
-    let old = is ∙ h.costs v known ∙ ap (λ w. plans_cost model w (route lists w)) c.vehicle-v.ensures in
+    let before = kept-cost c.args.self.now c.args.routes.now h c.self.inside.costs.items (ap (λ s. s.costs) c.self.view_is) v known c.index.result.now c.index.ensures in
+    let old = before.value ∙ ap (λ w. plans_cost model w (route lists w)) c.vehicle-v.ensures in
     let new = c.least.ensures.value ∙ ap (λ m. spans_least m part.vehicle (joined lists part.pieces)) (ap (λ s. s.model) c.self.view_is) in
-    let b = subst IsPlanCost (sym is) (h.range v known) in
+    let b = before.range in
     let r = c.least.ensures.range in
     let i = c.loop-k.invariant in
     let same = c.loop-k.least-is in

@@ -1,69 +1,45 @@
 use Rattle.std.proofs.Common.{◌≡◌, ◌∙◌, ◌<◌, ℕ, List, length, refl, ap, sym, subst, arith}
 use Rattle.std.proofs.lemmas.Int.{ints}
-use Rattle.std.proofs.lemmas.List.{get_or_default}
 use Rattle.std.specs.Prelude.{ℤ, pos, ◌-ℤ◌}
 use Rattle.vr_model.specs.tables.Numbers.{number_at}
 use Rattle.vr_model.specs.routes.Routes.{route}
 use Rattle.vr_routes.specs.Pieces.{joined, no_part, part_at, changed}
-use Rattle.vr_costfilter.specs.PlanCosts.{plans_cost, IsPlanCost}
+use Rattle.vr_costfilter.specs.PlanCosts.{plans_cost}
 use Rattle.vr_parts.proofs.SumLemmas.{sum-step, sum-whole}
+use Rattle.vr_costfilter.proofs.CostLemmas.{kept-cost, next-cost}
 use Rattle.vr_costfilter.proofs.PlanLemmas.{idle-sum, idle-where, plans-like, plans-over, IsIdle}
 use Rattle.vr_costfilter.proofs.plan_cost.PlanCostCostPart.difference.Goals as goal
 
 pub overflow_sub-total : goal.overflow_sub-total
 overflow_sub-total c =
-    let model = c.args.self.now.model in
-    let f = plans_cost model in
     let lists : List (List ℕ) = c.args.routes.now.lists in
     let parts = c.args.change.now in
     let k = c.loop-k.k in
-    let part = part_at parts k in
     let low = subst (λ n. k < n) c.parts-k-end.ensures.value c.loop-k-test.true in
-    let ready = c.in_ok-make_ready.ensures.ready.costed in
-    let same_model = c.in_ok-make_ready.ensures.model in
-    let same_costs = c.in_ok-make_ready.ensures.costs in
-    let h = c.requires.stands in
+    let e = c.in_ok-make_ready.ensures in
     let v = c.vehicle.result in
     let known : v < length lists = subst (λ w. w < length lists) (sym c.vehicle.ensures) (c.requires.made.makes.parts_are.each_vehicle k no_part low) in
-    let after : ℤ = number_at c.deref.result.now k in
-    let is : after ≡ number_at c.make_ready.new.self.next k = ap (λ l. number_at l k) (c.deref.ensures.0 ∙ ap (λ s. s.next) c.self-2.view_is) in
-    let after_value : after ≡ f v (joined lists part.pieces) = is ∙ ready.next k low ∙ ap (λ m. plans_cost m part.vehicle (joined lists part.pieces)) same_model ∙ ap (λ w. f w (joined lists part.pieces)) (sym c.vehicle.ensures) in
-    let a = subst (IsPlanCost) (sym is) (ready.range k low) in
-    let kept : c.self-2.inside.costs.items ≡ c.args.self.now.costs = ap (λ s. s.costs) c.self-2.view_is ∙ same_costs in
-    let within : v < length c.self-2.inside.costs.items = subst (λ n. v < n) (sym (ap length kept ∙ h.many ∙ sym h.as_many)) known in
-    let before : c.index.result.now ≡ number_at c.args.self.now.costs v = c.index.ensures ∙ get_or_default c.self-2.inside.costs.items v c.index.result.now (pos 0) within ∙ ap (λ l. number_at l v) kept in
-    let before_value = before ∙ h.costs v known in
-    let b = subst (IsPlanCost) (sym before) (h.range v known) in
-    let i = c.loop-k.invariant in
-    let total = c.loop-k.total-is in
-    let few = c.parts-k-end.ensures.few in
-    let less = c.loop-k-test.true in
+    let after = next-cost c.make_ready.new.self c.args.routes.now parts e.ready.costed c.args.self.now.model e.model k low v c.vehicle.ensures (number_at c.deref.result.now k)
+    (ap (λ l. number_at l k) (c.deref.ensures.0 ∙ ap (λ s. s.next) c.self-2.view_is)) in
+    let before = kept-cost c.args.self.now c.args.routes.now c.requires.stands c.self-2.inside.costs.items (ap (λ s. s.costs) c.self-2.view_is ∙ e.costs) v known c.index.result.now c.index.ensures in
+    let a = after.range in
+    let b = before.range in
     omega (arith, ints, a.low, a.high, b.low, b.high)
 
 pub overflow_add-total : goal.overflow_add-total
 overflow_add-total c =
-    let model = c.args.self.now.model in
-    let f = plans_cost model in
     let lists : List (List ℕ) = c.args.routes.now.lists in
     let parts = c.args.change.now in
     let k = c.loop-k.k in
-    let part = part_at parts k in
     let low = subst (λ n. k < n) c.parts-k-end.ensures.value c.loop-k-test.true in
-    let ready = c.in_ok-make_ready.ensures.ready.costed in
-    let same_model = c.in_ok-make_ready.ensures.model in
-    let same_costs = c.in_ok-make_ready.ensures.costs in
-    let h = c.requires.stands in
+    let e = c.in_ok-make_ready.ensures in
     let v = c.vehicle.result in
     let known : v < length lists = subst (λ w. w < length lists) (sym c.vehicle.ensures) (c.requires.made.makes.parts_are.each_vehicle k no_part low) in
-    let after : ℤ = number_at c.deref.result.now k in
-    let is : after ≡ number_at c.make_ready.new.self.next k = ap (λ l. number_at l k) (c.deref.ensures.0 ∙ ap (λ s. s.next) c.self-2.view_is) in
-    let after_value : after ≡ f v (joined lists part.pieces) = is ∙ ready.next k low ∙ ap (λ m. plans_cost m part.vehicle (joined lists part.pieces)) same_model ∙ ap (λ w. f w (joined lists part.pieces)) (sym c.vehicle.ensures) in
-    let a = subst (IsPlanCost) (sym is) (ready.range k low) in
-    let kept : c.self-2.inside.costs.items ≡ c.args.self.now.costs = ap (λ s. s.costs) c.self-2.view_is ∙ same_costs in
-    let within : v < length c.self-2.inside.costs.items = subst (λ n. v < n) (sym (ap length kept ∙ h.many ∙ sym h.as_many)) known in
-    let before : c.index.result.now ≡ number_at c.args.self.now.costs v = c.index.ensures ∙ get_or_default c.self-2.inside.costs.items v c.index.result.now (pos 0) within ∙ ap (λ l. number_at l v) kept in
-    let before_value = before ∙ h.costs v known in
-    let b = subst (IsPlanCost) (sym before) (h.range v known) in
+    let after = next-cost c.make_ready.new.self c.args.routes.now parts e.ready.costed c.args.self.now.model e.model k low v c.vehicle.ensures (number_at c.deref.result.now k)
+    (ap (λ l. number_at l k) (c.deref.ensures.0 ∙ ap (λ s. s.next) c.self-2.view_is)) in
+    let before = kept-cost c.args.self.now c.args.routes.now c.requires.stands c.self-2.inside.costs.items (ap (λ s. s.costs) c.self-2.view_is ∙ e.costs) v known c.index.result.now c.index.ensures in
+    let a = after.range in
+    let b = before.range in
     let i = c.loop-k.invariant in
     let total = c.loop-k.total-is in
     let few = c.parts-k-end.ensures.few in
@@ -72,34 +48,29 @@ overflow_add-total c =
 
 pub loop-k-preserved : goal.loop-k-preserved
 loop-k-preserved c =
-    let model = c.args.self.now.model in
-    let f = plans_cost model in
     let lists : List (List ℕ) = c.args.routes.now.lists in
     let parts = c.args.change.now in
     let k = c.loop-k.k in
-    let part = part_at parts k in
     let low = subst (λ n. k < n) c.parts-k-end.ensures.value c.loop-k-test.true in
-    let ready = c.in_ok-make_ready.ensures.ready.costed in
-    let same_model = c.in_ok-make_ready.ensures.model in
-    let same_costs = c.in_ok-make_ready.ensures.costs in
-    let h = c.requires.stands in
+    let e = c.in_ok-make_ready.ensures in
     let v = c.vehicle.result in
     let known : v < length lists = subst (λ w. w < length lists) (sym c.vehicle.ensures) (c.requires.made.makes.parts_are.each_vehicle k no_part low) in
-    let after : ℤ = number_at c.deref.result.now k in
-    let is : after ≡ number_at c.make_ready.new.self.next k = ap (λ l. number_at l k) (c.deref.ensures.0 ∙ ap (λ s. s.next) c.self-2.view_is) in
-    let after_value : after ≡ f v (joined lists part.pieces) = is ∙ ready.next k low ∙ ap (λ m. plans_cost m part.vehicle (joined lists part.pieces)) same_model ∙ ap (λ w. f w (joined lists part.pieces)) (sym c.vehicle.ensures) in
-    let a = subst (IsPlanCost) (sym is) (ready.range k low) in
-    let kept : c.self-2.inside.costs.items ≡ c.args.self.now.costs = ap (λ s. s.costs) c.self-2.view_is ∙ same_costs in
-    let within : v < length c.self-2.inside.costs.items = subst (λ n. v < n) (sym (ap length kept ∙ h.many ∙ sym h.as_many)) known in
-    let before : c.index.result.now ≡ number_at c.args.self.now.costs v = c.index.ensures ∙ get_or_default c.self-2.inside.costs.items v c.index.result.now (pos 0) within ∙ ap (λ l. number_at l v) kept in
-    let before_value = before ∙ h.costs v known in
-    let b = subst (IsPlanCost) (sym before) (h.range v known) in
+    let after = next-cost c.make_ready.new.self c.args.routes.now parts e.ready.costed c.args.self.now.model e.model k low v c.vehicle.ensures (number_at c.deref.result.now k)
+    (ap (λ l. number_at l k) (c.deref.ensures.0 ∙ ap (λ s. s.next) c.self-2.view_is)) in
+    let before = kept-cost c.args.self.now c.args.routes.now c.requires.stands c.self-2.inside.costs.items (ap (λ s. s.costs) c.self-2.view_is ∙ e.costs) v known c.index.result.now c.index.ensures in
+    let a = after.range in
+    let b = before.range in
     let i = c.loop-k.invariant in
     let total = c.loop-k.total-is in
     let few = c.parts-k-end.ensures.few in
     let less = c.loop-k-test.true in
-    let value : after -ℤ c.index.result.now ≡ f v (joined lists part.pieces) -ℤ f v (route lists v) = omega (arith, ints, after_value, before_value) in
-    let next = sum-step f lists parts k v part.pieces c.loop-k.total (after -ℤ c.index.result.now) low c.vehicle.ensures refl (sym total ∙ i.total) value in
+    let f = plans_cost c.args.self.now.model in
+    let pieces = (part_at parts k).pieces in
+    let change : ℤ = number_at c.deref.result.now k -ℤ c.index.result.now in
+    let after_is = after.value in
+    let before_is = before.value in
+    let value : change ≡ f v (joined lists pieces) -ℤ f v (route lists v) = omega (arith, ints, after_is, before_is) in
+    let next = sum-step f lists parts k v pieces c.loop-k.total change low c.vehicle.ensures refl (sym total ∙ i.total) value in
     record {
       total = omega (arith, ints, next, a.low, a.high, b.low, b.high, i.range.low, i.range.high, total, few, less);
       range = record { low = omega (arith, ints, a.low, a.high, b.low, b.high, i.range.low, i.range.high, total, few, less); high = omega (arith, ints, a.low, a.high, b.low, b.high, i.range.low, i.range.high, total, few, less) };

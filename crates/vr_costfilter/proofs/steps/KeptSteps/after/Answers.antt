@@ -7,7 +7,7 @@ use Rattle.vr_model.specs.routes.Routes.{route}
 use Rattle.vr_routes.specs.Pieces.{joined}
 use Rattle.vr_routes.proofs.JoinedPieces.{all_left, all_right}
 use Rattle.vr_costfilter.specs.Floors.{first_step, WentBack}
-use Rattle.vr_costfilter.specs.Guides.{runs_of}
+use Rattle.vr_costfilter.specs.GuideRuns.{runs_of}
 use Rattle.vr_costfilter.specs.Runs.{start_run}
 use Rattle.vr_costfilter.specs.Steps.{steps_of, HasLed}
 use Rattle.vr_costfilter.specs.Stages.{whole}
@@ -21,24 +21,24 @@ use Rattle.vr_costfilter.proofs.steps.KeptSteps.after.Goals as goal
 
 pub step_behind-next-requires-clause-many : goal.step_behind-next-requires-clause-many
 step_behind-next-requires-clause-many c =
-    let g = c.args.guide.now in
-    let list : List ℕ = route c.args.routes.now.lists g.v in
+    let g = c.args.asked.now.guide.now in
+    let list : List ℕ = route c.args.asked.now.routes.now.lists g.v in
     items-many g.model.now g.d g.v (runs_of g) list c.args.self.now.trail.steps.items c.requires.stages.steps_are ∙ ap length (sym c.list-list.ensures.value)
 
 pub back_along_pieces-requires-clause-visits : goal.back_along_pieces-requires-clause-visits
 back_along_pieces-requires-clause-visits c =
-    let lists : List (List ℕ) = c.args.routes.now.lists in
+    let lists : List (List ℕ) = c.args.asked.now.routes.now.lists in
     let ends = c.strip-ends.result in
-    let list : List ℕ = route lists c.args.guide.now.v in
+    let list : List ℕ = route lists c.args.asked.now.guide.now.v in
     let middle : List ℕ = joined lists ends.middle.now in
-    let P : ℕ → Type 0 = λ node. IsTrue (is_visit c.args.guide.now.model.now node) in
-    let all : All P (take ends.front list ++ (middle ++ drop ends.behind list)) = subst (All P) c.strip-ends.ensures.joins (all-visits c.args.guide.now.model.now (joined lists c.args.pieces.now) c.requires.visits) in
+    let P : ℕ → Type 0 = λ node. IsTrue (is_visit c.args.asked.now.guide.now.model.now node) in
+    let all : All P (take ends.front list ++ (middle ++ drop ends.behind list)) = subst (All P) c.strip-ends.ensures.joins (all-visits c.args.asked.now.guide.now.model.now (joined lists c.args.asked.now.pieces.now) c.args.asked.now.sound.used.tour.visits) in
     all_left P middle (drop ends.behind list) (all_right P (take ends.front list) (middle ++ drop ends.behind list) all)
 
 pub lead-requires-clause-room : goal.lead-requires-clause-room
 lead-requires-clause-room c =
-    let g = c.args.guide.now in
-    let lists : List (List ℕ) = c.args.routes.now.lists in
+    let g = c.args.asked.now.guide.now in
+    let lists : List (List ℕ) = c.args.asked.now.routes.now.lists in
     let list : List ℕ = route lists g.v in
     let ends = c.strip-ends.result in
     let middle : List ℕ = joined lists ends.middle.now in
@@ -51,7 +51,7 @@ lead-requires-clause-room c =
     let two = length-append (take ends.front list) (middle ++ drop ends.behind list) in
     let more = length-append middle (drop ends.behind list) in
     let front = length-take-le ends.front list (omega (arith, order, high)) in
-    let few = c.requires.few in
+    let few = c.args.asked.now.sound.few in
     omega (arith, many, all, two, more, front, few)
 
 pub set_out-requires-clause-place : goal.set_out-requires-clause-place
@@ -66,20 +66,20 @@ set_out-requires-clause-place c =
 
 pub along_trail-requires-clause-steps : goal.along_trail-requires-clause-steps
 along_trail-requires-clause-steps c =
-    let g = c.args.guide.now in
+    let g = c.args.asked.now.guide.now in
     let ends = c.strip-ends.result in
     let between = c.back_along_pieces.new.trail.steps.items in
-    let middle : List ℕ = joined c.args.routes.now.lists ends.middle.now in
+    let middle : List ℕ = joined c.args.asked.now.routes.now.lists ends.middle.now in
     let back = subst (λ l. WentBack g.model.now g.d g.v (runs_of g) middle c.step_behind-next.result l between c.in_ok-first.first) c.clear.ensures c.in_ok-first.ensures.back in
     trail-known g.model.now g.d g.v (runs_of g) (steps_of c.args.self.now) (take ends.front c.list-list.result.now) middle c.step_behind-next.result c.in_ok-first.first between c.lead.new.trail.steps.items c.in_ok-lead.lead back c.in_ok-lead.ensures.led
 
 pub overflow_add-result : goal.overflow_add-result
 overflow_add-result c =
-    let g = c.args.guide.now in
-    let h = c.requires.guide in
-    let lists : List (List ℕ) = c.args.routes.now.lists in
+    let g = c.args.asked.now.guide.now in
+    let h = c.args.asked.now.guide.now.sound in
+    let lists : List (List ℕ) = c.args.asked.now.routes.now.lists in
     let list : List ℕ = route lists g.v in
-    let new : List ℕ = joined lists c.args.pieces.now in
+    let new : List ℕ = joined lists c.args.asked.now.pieces.now in
     let ends = c.strip-ends.result in
     let start = start_run (runs_of g) c.args.start in
     let middle : List ℕ = joined lists ends.middle.now in
@@ -99,15 +99,15 @@ overflow_add-result c =
     first between trail back lead led met set c.in_ok-gone.gone end gone_is end_is chosen_is_least h.well_formed h.dimension c.requires.allows in
     let high = after-high g.model.now g.d g.v (runs_of g) list (steps_of c.args.self.now) c.requires.stages.steps_are new ends.front ends.behind middle c.strip-ends.ensures.joins next c.step_behind-next.ensures.value start
     first between trail back lead led met set c.in_ok-gone.gone end gone_is end_is chosen_is_least h.well_formed h.dimension c.requires.allows in
-    (read-more end.soft met.more (length new) c.requires.few low high set.paced.more).fits
+    (read-more end.soft met.more (length new) c.args.asked.now.sound.few low high set.paced.more).fits
 
 pub returns : goal.returns
 returns c =
-    let g = c.args.guide.now in
-    let h = c.requires.guide in
-    let lists : List (List ℕ) = c.args.routes.now.lists in
+    let g = c.args.asked.now.guide.now in
+    let h = c.args.asked.now.guide.now.sound in
+    let lists : List (List ℕ) = c.args.asked.now.routes.now.lists in
     let list : List ℕ = route lists g.v in
-    let new : List ℕ = joined lists c.args.pieces.now in
+    let new : List ℕ = joined lists c.args.asked.now.pieces.now in
     let ends = c.strip-ends.result in
     let start = start_run (runs_of g) c.args.start in
     let middle : List ℕ = joined lists ends.middle.now in
@@ -128,8 +128,8 @@ returns c =
     let high = after-high g.model.now g.d g.v (runs_of g) list (steps_of c.args.self.now) c.requires.stages.steps_are new ends.front ends.behind middle c.strip-ends.ensures.joins next c.step_behind-next.ensures.value start
     first between trail back lead led met set c.in_ok-gone.gone end gone_is end_is chosen_is_least h.well_formed h.dimension c.requires.allows in
     let timed = after-timed g.model.now g.d g.v (runs_of g) list (steps_of c.args.self.now) c.requires.stages.steps_are new ends.front ends.behind middle c.strip-ends.ensures.joins next c.step_behind-next.ensures.value start
-    first between trail back lead led met set c.in_ok-gone.gone end gone_is end_is chosen_is_least h.well_formed h.dimension c.requires.allows c.requires.few in
-    let soft = (read-more end.soft met.more (length new) c.requires.few low high set.paced.more).read in
+    first between trail back lead led met set c.in_ok-gone.gone end gone_is end_is chosen_is_least h.well_formed h.dimension c.requires.allows c.args.asked.now.sound.few in
+    let soft = (read-more end.soft met.more (length new) c.args.asked.now.sound.few low high set.paced.more).read in
     let all = subst (λ (x : ℤ). IsTimed g.model.now g.d g.v new (record { soft = x; start = to_z w64 (of_z w64 met.start); last = to_z w64 (of_z w64 end.cumul) })) (sym soft) timed in
     record {
       known = sym (after-feasible g.model.now g.d g.v (runs_of g) list (steps_of c.args.self.now) c.requires.stages.steps_are new ends.front ends.behind middle c.strip-ends.ensures.joins next c.step_behind-next.ensures.value start
@@ -142,11 +142,11 @@ returns c =
 
 pub returns-in_err-first-clause-known : goal.returns-in_err-first-clause-known
 returns-in_err-first-clause-known c =
-    let g = c.args.guide.now in
-    let h = c.requires.guide in
-    let lists : List (List ℕ) = c.args.routes.now.lists in
+    let g = c.args.asked.now.guide.now in
+    let h = c.args.asked.now.guide.now.sound in
+    let lists : List (List ℕ) = c.args.asked.now.routes.now.lists in
     let list : List ℕ = route lists g.v in
-    let new : List ℕ = joined lists c.args.pieces.now in
+    let new : List ℕ = joined lists c.args.asked.now.pieces.now in
     let ends = c.strip-ends.result in
     let start = start_run (runs_of g) c.args.start in
     let middle : List ℕ = joined lists ends.middle.now in
@@ -156,11 +156,11 @@ returns-in_err-first-clause-known c =
 
 pub returns-in_err-lead-clause-known : goal.returns-in_err-lead-clause-known
 returns-in_err-lead-clause-known c =
-    let g = c.args.guide.now in
-    let h = c.requires.guide in
-    let lists : List (List ℕ) = c.args.routes.now.lists in
+    let g = c.args.asked.now.guide.now in
+    let h = c.args.asked.now.guide.now.sound in
+    let lists : List (List ℕ) = c.args.asked.now.routes.now.lists in
     let list : List ℕ = route lists g.v in
-    let new : List ℕ = joined lists c.args.pieces.now in
+    let new : List ℕ = joined lists c.args.asked.now.pieces.now in
     let ends = c.strip-ends.result in
     let start = start_run (runs_of g) c.args.start in
     let middle : List ℕ = joined lists ends.middle.now in
@@ -173,11 +173,11 @@ returns-in_err-lead-clause-known c =
 
 pub returns-in_err-met-clause-known : goal.returns-in_err-met-clause-known
 returns-in_err-met-clause-known c =
-    let g = c.args.guide.now in
-    let h = c.requires.guide in
-    let lists : List (List ℕ) = c.args.routes.now.lists in
+    let g = c.args.asked.now.guide.now in
+    let h = c.args.asked.now.guide.now.sound in
+    let lists : List (List ℕ) = c.args.asked.now.routes.now.lists in
     let list : List ℕ = route lists g.v in
-    let new : List ℕ = joined lists c.args.pieces.now in
+    let new : List ℕ = joined lists c.args.asked.now.pieces.now in
     let ends = c.strip-ends.result in
     let start = start_run (runs_of g) c.args.start in
     let middle : List ℕ = joined lists ends.middle.now in
@@ -193,11 +193,11 @@ returns-in_err-met-clause-known c =
 
 pub returns-in_err-gone-clause-known : goal.returns-in_err-gone-clause-known
 returns-in_err-gone-clause-known c =
-    let g = c.args.guide.now in
-    let h = c.requires.guide in
-    let lists : List (List ℕ) = c.args.routes.now.lists in
+    let g = c.args.asked.now.guide.now in
+    let h = c.args.asked.now.guide.now.sound in
+    let lists : List (List ℕ) = c.args.asked.now.routes.now.lists in
     let list : List ℕ = route lists g.v in
-    let new : List ℕ = joined lists c.args.pieces.now in
+    let new : List ℕ = joined lists c.args.asked.now.pieces.now in
     let ends = c.strip-ends.result in
     let start = start_run (runs_of g) c.args.start in
     let middle : List ℕ = joined lists ends.middle.now in
@@ -217,11 +217,11 @@ returns-in_err-gone-clause-known c =
 
 pub returns-in_err-end-clause-known : goal.returns-in_err-end-clause-known
 returns-in_err-end-clause-known c =
-    let g = c.args.guide.now in
-    let h = c.requires.guide in
-    let lists : List (List ℕ) = c.args.routes.now.lists in
+    let g = c.args.asked.now.guide.now in
+    let h = c.args.asked.now.guide.now.sound in
+    let lists : List (List ℕ) = c.args.asked.now.routes.now.lists in
     let list : List ℕ = route lists g.v in
-    let new : List ℕ = joined lists c.args.pieces.now in
+    let new : List ℕ = joined lists c.args.asked.now.pieces.now in
     let ends = c.strip-ends.result in
     let start = start_run (runs_of g) c.args.start in
     let middle : List ℕ = joined lists ends.middle.now in

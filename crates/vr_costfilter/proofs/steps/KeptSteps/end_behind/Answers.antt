@@ -3,7 +3,7 @@ use Rattle.std.specs.Prelude.{ℤ, ◌+ℤ◌, ◌-ℤ◌, pos, slice_index_or}
 use Rattle.std.proofs.lemmas.Int.{ints}
 use Rattle.std.proofs.lemmas.List.{drop_all, length-reverse}
 use Rattle.vr_costfilter.specs.Floors.{end_step, IsVisitStep}
-use Rattle.vr_costfilter.specs.Guides.{runs_of}
+use Rattle.vr_costfilter.specs.GuideRuns.{runs_of}
 use Rattle.vr_costfilter.specs.Steps.{steps_of, AreAllStages}
 use Rattle.vr_costfilter.specs.Stages.{paid_more, to_end, to_visit, whole}
 use Rattle.vr_costfilter.specs.declared.guides.Guide.{Guide}
@@ -31,11 +31,11 @@ to_visit-requires-clause-stage c =
     let low = c.loop-k-test.true in
     stage-more c.args.guide.now.model.now (2002 + c.loop-k.k) 4000 c.loop-k.gone (omega (arith, few, low)) c.loop-k.invariant.range
 
-pub to_end-requires-clause-stage : goal.to_end-requires-clause-stage
-to_end-requires-clause-stage c =
+pub to_end-requires : goal.to_end-requires
+to_end-requires c =
     let few = c.requires.few in
     let end = c.loop-k.auto.k-end in
-    stage-more c.args.guide.now.model.now (2002 + c.loop-k.k) 4000 c.loop-k.gone (omega (arith, few, end)) c.loop-k.invariant.range
+    record { stage = stage-more c.args.guide.now.model.now (2002 + c.loop-k.k) 4000 c.loop-k.gone (omega (arith, few, end)) c.loop-k.invariant.range }
 
 pub resumed-requires-clause-end : goal.resumed-requires-clause-end
 resumed-requires-clause-end c =

@@ -1,5 +1,5 @@
 use Rattle.std.proofs.Common.{◌≡◌, ◌+◌, Some, drop}
-use Rattle.vr_costfilter.specs.Guides.{runs_of}
+use Rattle.vr_costfilter.specs.GuideRuns.{runs_of}
 use Rattle.vr_costfilter.specs.Steps.{steps_of}
 use Rattle.vr_costfilter.specs.Stages.{whole, IsStageOf}
 use Rattle.vr_costfilter.proofs.steps.KeptSteps.end_behind.Given as goal

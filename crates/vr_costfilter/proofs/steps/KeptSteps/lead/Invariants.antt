@@ -1,6 +1,6 @@
 use Rattle.std.proofs.Common.{◌-◌, drop, take}
 use Rattle.vr_costfilter.specs.Floors.{IsStep, WentBack}
-use Rattle.vr_costfilter.specs.Guides.{runs_of}
+use Rattle.vr_costfilter.specs.GuideRuns.{runs_of}
 use Rattle.vr_costfilter.proofs.steps.KeptSteps.lead.Given as goal
 
 abbrev pub invariant-loop-k : goal.invariant-loop-k

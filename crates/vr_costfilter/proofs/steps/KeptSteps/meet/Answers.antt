@@ -3,7 +3,7 @@ use Rattle.std.specs.Prelude.{IfSome, pos, slice_index_or}
 use Rattle.std.proofs.lemmas.List.{length-map}
 use Rattle.vr_plan.proofs.BoundLemmas.{read-cumul}
 use Rattle.vr_costfilter.specs.Floors.{nodes_in}
-use Rattle.vr_costfilter.specs.Guides.{runs_of}
+use Rattle.vr_costfilter.specs.GuideRuns.{runs_of}
 use Rattle.vr_costfilter.specs.Steps.{steps_of, HasSetOut}
 use Rattle.vr_costfilter.specs.Stages.{along, setting_out, IsStageOf}
 use Rattle.vr_costfilter.specs.declared.guides.Stage.{Stage}

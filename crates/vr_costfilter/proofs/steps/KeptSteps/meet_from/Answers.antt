@@ -4,7 +4,7 @@ use Rattle.vr_spans.specs.declared.runs.Run.{Run}
 use Rattle.vr_model.specs.tables.Tables.{vehicle_at}
 use Rattle.vr_plan.proofs.BoundLemmas.{read-cumul}
 use Rattle.vr_costfilter.specs.Floors.{floor_of}
-use Rattle.vr_costfilter.specs.Guides.{runs_of}
+use Rattle.vr_costfilter.specs.GuideRuns.{runs_of}
 use Rattle.vr_costfilter.specs.Runs.{only, starting}
 use Rattle.vr_costfilter.specs.Stages.{along, setting_out, standing}
 use Rattle.vr_costfilter.specs.Steps.{reached, steps_of, HasPaced, HasSetOut}

@@ -5,7 +5,7 @@ use Rattle.std.proofs.lemmas.List.{length-reverse}
 use Rattle.std.proofs.lemmas.List.Sums.{fold_more}
 use Rattle.vr_plan.proofs.BoundLemmas.{read-cumul}
 use Rattle.vr_costfilter.specs.Floors.{end_step, first_of, IsVisitStep}
-use Rattle.vr_costfilter.specs.Guides.{runs_of}
+use Rattle.vr_costfilter.specs.GuideRuns.{runs_of}
 use Rattle.vr_costfilter.specs.Steps.{steps_of}
 use Rattle.vr_costfilter.specs.Stages.{along, paid_more, to_visit, visit_more}
 use Rattle.vr_costfilter.specs.declared.guides.Stage.{Stage}

@@ -1,6 +1,6 @@
 use Rattle.std.proofs.Common.{◌≡◌, ◌+◌, Some, take}
 use Rattle.std.specs.Prelude.{slice_index_or}
-use Rattle.vr_costfilter.specs.Guides.{runs_of}
+use Rattle.vr_costfilter.specs.GuideRuns.{runs_of}
 use Rattle.vr_costfilter.specs.Steps.{steps_of}
 use Rattle.vr_costfilter.specs.Stages.{along, IsStageOf}
 use Rattle.vr_costfilter.specs.declared.guides.Stage.{Stage}

@@ -2,7 +2,7 @@ use Rattle.std.proofs.Common.{List, sym, subst, arith}
 use Rattle.std.specs.Prelude.{pos}
 use Rattle.std.proofs.lemmas.List.{length-reverse}
 use Rattle.vr_costfilter.specs.Floors.{end_step, IsStep}
-use Rattle.vr_costfilter.specs.Guides.{runs_of}
+use Rattle.vr_costfilter.specs.GuideRuns.{runs_of}
 use Rattle.vr_costfilter.specs.declared.trails.Step.{Step}
 use Rattle.vr_costfilter.proofs.FloorLemmas.{step-read, visit-step}
 use Rattle.vr_costfilter.proofs.steps.KeptSteps.step_behind.Goals as goal

@@ -4,7 +4,7 @@ use Rattle.std.specs.Option.{option_and_then}
 use Rattle.std.proofs.lemmas.List.{get_or_push, length-reverse, take_all}
 use Rattle.vr_plan.proofs.BoundLemmas.{read-cumul}
 use Rattle.vr_costfilter.specs.Floors.{end_step, first_of, IsVisitStep}
-use Rattle.vr_costfilter.specs.Guides.{runs_of}
+use Rattle.vr_costfilter.specs.GuideRuns.{runs_of}
 use Rattle.vr_costfilter.specs.Steps.{steps_of, AreAllStages, AreStages}
 use Rattle.vr_costfilter.specs.Stages.{along, setting_out, standing, to_end, to_visit, whole}
 use Rattle.vr_costfilter.specs.declared.guides.Stage.{Stage}
@@ -41,11 +41,11 @@ to_visit-requires-clause-stage c =
     let low = c.loop-k-test.true in
     stage-more c.args.guide.now.model.now (suc c.loop-k.k) 4000 c.loop-k.stage (omega (arith, few, low)) c.loop-k.invariant.range
 
-pub to_end-requires-clause-stage : goal.to_end-requires-clause-stage
-to_end-requires-clause-stage c =
+pub to_end-requires : goal.to_end-requires
+to_end-requires c =
     let few = c.requires.few in
     let end = c.loop-k.auto.k-end in
-    stage-more c.args.guide.now.model.now (suc c.loop-k.k) 4000 c.loop-k.stage (omega (arith, few, end)) c.loop-k.invariant.range
+    record { stage = stage-more c.args.guide.now.model.now (suc c.loop-k.k) 4000 c.loop-k.stage (omega (arith, few, end)) c.loop-k.invariant.range }
 
 pub loop-k-init : goal.loop-k-init
 loop-k-init c =

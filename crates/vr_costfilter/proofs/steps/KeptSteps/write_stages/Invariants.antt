@@ -1,6 +1,6 @@
 use Rattle.std.proofs.Common.{◌≡◌, suc, length}
 use Rattle.std.specs.Prelude.{slice_index_or}
-use Rattle.vr_costfilter.specs.Guides.{runs_of}
+use Rattle.vr_costfilter.specs.GuideRuns.{runs_of}
 use Rattle.vr_costfilter.specs.Steps.{steps_of, AreStages}
 use Rattle.vr_costfilter.specs.Stages.{IsStageOf}
 use Rattle.vr_costfilter.specs.declared.guides.Stage.{Stage}

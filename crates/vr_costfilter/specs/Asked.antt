@@ -1,0 +1,42 @@
+-- What is asked of a list that comes in the place of another one.
+use Rattle.std.specs.Prelude.{ℕ, Bool, List}
+use Rattle.vr_model.specs.routes.Routes.{route}
+use Rattle.vr_model.specs.schedules.Choices.{is_feasible}
+use Rattle.vr_model.specs.schedules.Lines.{line, Line}
+use Rattle.vr_model.specs.schedules.Narrowed.{chosen_line}
+use Rattle.vr_plan.specs.Timings.{IsTiming}
+use Rattle.vr_plan.specs.declared.timings.Timing.{Timing}
+use Rattle.vr_routes.specs.Pieces.{joined}
+use Rattle.vr_costfilter.specs.Kept.{IsKept}
+use Rattle.vr_costfilter.specs.Runs.{Runs, AllowsRuns}
+use Rattle.vr_costfilter.specs.declared.asked.Asked.{Asked}
+use Rattle.vr_costfilter.specs.declared.kept.KeptList.{KeptList}
+
+-- the list that the vehicle has
+abbrev pub old_list : Asked → List ℕ
+old_list asked = route asked.routes.now.lists asked.guide.now.v
+
+-- the list that is asked of
+abbrev pub new_list : Asked → List ℕ
+new_list asked = joined asked.routes.now.lists asked.pieces.now
+
+-- its line
+abbrev pub new_line : Asked → Line
+new_line asked = line asked.guide.now.model.now asked.guide.now.d asked.guide.now.v (new_list asked)
+
+-- the line of which its schedule is chosen
+abbrev pub new_choice : Asked → Line
+new_choice asked = chosen_line asked.guide.now.model.now asked.guide.now.d asked.guide.now.v (new_list asked)
+
+-- that line allows these runs
+abbrev pub ChoiceAllows : Asked → Runs → Type 0
+ChoiceAllows asked runs = AllowsRuns asked.guide.now.model.now asked.guide.now.d asked.guide.now.v runs (new_list asked)
+    (new_choice asked)
+
+-- what its chosen schedule comes to
+abbrev pub IsNewTiming : Asked → Timing → Type 0
+IsNewTiming asked = IsTiming asked.guide.now.model.now asked.guide.now.d asked.guide.now.v (new_list asked)
+
+-- what is kept is of the list that the vehicle has
+abbrev pub IsKeptOfOld : Asked → KeptList → Type 0
+IsKeptOfOld asked = IsKept asked.guide.now.model.now asked.guide.now.d asked.guide.now.v (old_list asked)

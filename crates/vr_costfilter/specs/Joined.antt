@@ -1,0 +1,23 @@
+-- The list of a vehicle that pieces are joined to.
+use Rattle.std.specs.Prelude.{◌<◌, ◌≤◌, ℕ, All, List, length}
+use Rattle.std.proofs.Props.{props}
+use mathlib.Core.HLevel.{Unit-prop}
+use Rattle.vr_model.specs.routes.Routes.{route}
+use Rattle.vr_model.specs.declared.records.Model.{Model}
+use Rattle.vr_reach.specs.Lists.{IsUsed}
+use Rattle.vr_routes.specs.Pieces.{joined, IsWithin}
+use Rattle.vr_routes.specs.declared.pieces.Piece.{Piece}
+use Rattle.vr_routes.specs.declared.pieces.Piece.TheVariants.{Chain, Node}
+
+-- these pieces, each within its list, are joined to another list of vehicle v than it has here, of distinct visits
+pub record AreJoined (model : Model) (v : ℕ) (lists : List (List ℕ)) (pieces : List Piece) : Type 0 where
+  pub known : v < length lists
+  pub short : length (route lists v) ≤ 1000
+  pub within : All (IsWithin lists) pieces
+  pub used : IsUsed model (joined lists pieces)
+  pub few : length (joined lists pieces) ≤ 1000
+
+-- a piece lies within its list in one way at most
+pub IsWithin-prop : (lists : List (List ℕ)) (piece : Piece) → IsProp (IsWithin lists piece)
+IsWithin-prop lists (Chain v from to reversed) = Prim.hlevel props
+IsWithin-prop lists (Node node) = Unit-prop

@@ -1,0 +1,94 @@
+//! Lists that come in the place of others, of which it is asked what their chosen schedules come to.
+
+ghost use Rattle.std.proofs.Props.{props};
+ghost use Rattle.std.specs.Prelude.{◌≡◌, ◌+◌, IfSome, is_some, length};
+ghost use Rattle.vr_model.specs.schedules.Choices.{is_feasible};
+ghost use Rattle.vr_model.specs.schedules.Schedules.{IsFeasible};
+ghost use Rattle.vr_model.specs.schedules.Tight.{IsLatestStart, IsLeastEnd};
+ghost use Rattle.vr_plan.specs.Timings.{IsTimingOf};
+ghost use Rattle.vr_costfilter.specs.Joined.{AreJoined, IsWithin-prop};
+
+use crate::guides::Guide;
+use crate::kept_ways::KeptWays;
+use crate::tight::TightEnds;
+use crate::trails::Trail;
+use vr_balance::strip;
+use vr_plan::Timing;
+use vr_routes::{Piece, Routes};
+
+/// The list that pieces are joined to, in the place of the one that the vehicle of a guide has.
+#[derive(Drop)]
+pub struct Asked<'a, 'm> {
+    pub guide: &'a Guide<'m>,
+    pub routes: &'a Routes,
+    pub pieces: &'a [Piece],
+    /// The pieces lie within their lists, and are joined to a list of distinct visits.
+    pub ghost sound: { AreJoined guide.now.model.now guide.now.v routes.now.lists pieces.now } by { Prim.hlevel
+        (props, IsWithin-prop) },
+}
+
+impl<'a, 'm> Asked<'a, 'm> {
+    ghost use Rattle.vr_costfilter.specs.Asked.{new_choice, new_line, new_list, old_list, ChoiceAllows, IsNewTiming};
+    ghost use Rattle.vr_costfilter.specs.GuideRuns.{runs_of, HasItsRuns};
+    ghost use Rattle.vr_costfilter.specs.KeptWays.{AreWays, HasCumuls};
+    ghost use Rattle.vr_costfilter.specs.Runs.{between_runs};
+
+    /// What its chosen schedule comes to between these ends; nothing exactly where there is none. The whole list is
+    /// walked, and the trail is written over.
+    pub fn timing_between(&self, ends: TightEnds, trail: &mut Trail) -> Option<Timing>
+        requires allows { ChoiceAllows self.now
+            (between_runs (runs_of self.now.guide.now) ends.start ends.last) }
+        requires ends { HasCumuls ends }
+        ensures known { is_some result ≡ is_feasible (new_choice self.now) }
+        ensures timing { IfSome result (IsNewTiming self.now) }
+        ensures range { IfSome result (IsTimingOf (length (new_list self.now) + 2)) }
+    {
+        let guide = self.guide.between(ends);
+        let asked = Asked {
+            guide: &guide,
+            routes: self.routes,
+            pieces: self.pieces,
+        };
+        asked.timing_along(trail)
+    }
+
+    // The same, where the line of which it is chosen allows the runs of the guide.
+    fn timing_along(&self, trail: &mut Trail) -> Option<Timing>
+        requires { ChoiceAllows self.now (runs_of self.now.guide.now) }
+        ensures known { is_some result ≡ is_feasible (new_choice self.now) }
+        ensures timing { IfSome result (IsNewTiming self.now) }
+        ensures range { IfSome result (IsTimingOf (length (new_list self.now) + 2)) }
+    {
+        trail.steps.clear();
+        let next = self.guide.end_step();
+        let first = self
+            .guide
+            .back_along_pieces(self.routes, self.pieces, next, trail)?;
+        let floor = self.guide.start_floor(first)?;
+        let stage = self.guide.standing(floor);
+        let gone = self.guide.along_trail(trail, stage)?;
+        let end = self.guide.to_end(gone)?;
+        Some(Timing {
+            soft: end.soft,
+            start: floor,
+            last: end.cumul,
+        })
+    }
+
+    /// The ends of its tight schedule. What is kept of the list that the vehicle has is not walked.
+    pub fn ends_of(&self, kept: &KeptWays) -> TightEnds
+        requires runs { HasItsRuns self.now.guide.now }
+        requires kept { AreWays self.now.guide.now.model.now self.now.guide.now.d self.now.guide.now.v
+            (old_list self.now) kept.now }
+        requires feasible { IsFeasible (new_line self.now) }
+        ensures last { IsLeastEnd (new_line self.now) result.last }
+        ensures start { IsLatestStart (new_line self.now) result.last result.start }
+    {
+        let ends = strip(self.routes, self.guide.v, self.pieces);
+        let front = kept.way(ends.front);
+        let left = kept.rest(ends.behind);
+        let way = self.guide.way_along_pieces(self.routes, ends.middle, front);
+        let whole = self.guide.way_through(way, left);
+        self.guide.ends_by(whole)
+    }
+}
