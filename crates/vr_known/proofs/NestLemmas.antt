@@ -1,7 +1,9 @@
 -- Ranges of numbers, and the lists made of them.
-use Rattle.std.proofs.Common.{◌≡◌, ◌∙◌, ℕ, zero, suc, ◌+◌, ◌-◌, ◌<◌, ◌≤◌, Bool, true, false, cond, List, [], ◌∷◌, ◌++◌, map, length, length-append, refl, sym, ap, ap₂, arith}
+use Rattle.std.proofs.Common.{◌≡◌, ◌∙◌, ℕ, zero, suc, ◌+◌, ◌-◌, ◌<◌, ◌≤◌, Bool, true, false, cond, List, [], ◌∷◌, ◌++◌, map, length, length-append, refl, sym, ap, ap₂, subst, inl, inr, arith}
 use Rattle.std.specs.Prelude.{filter, slice_index}
 use Rattle.std.specs.List.{range_with_len}
+use Rattle.std.proofs.lemmas.Bool.{cases_lt}
+use Rattle.std.proofs.lemmas.List.{map-append}
 use Rattle.std.proofs.lemmas.List.Elements.{filter-append}
 use Rattle.vr_model.proofs.tables.Ranges.{all_left, none_left}
 use Rattle.vr_model.specs.tables.Numbers.{below, from_to, each}
@@ -121,3 +123,25 @@ each_same_from f g a (suc n) same =
 
 pub each_same : {A : Type 0} (f g : ℕ → List A) (n : ℕ) → ((k : ℕ) → k < n → f k ≡ g k) → each (below n) f ≡ each (below n) g
 each_same f g n same = each_same_from f g 0 n (λ k high. same k (omega (arith, high)))
+
+-- ---- the front of a range of which all numbers pass
+
+map_same_from : {A : Type 0} (f g : ℕ → A) (a n : ℕ) → ((k : ℕ) → f k ≡ g k) → map f (range_with_len a n) ≡ map g (range_with_len a n)
+map_same_from f g a zero same = refl
+map_same_from f g a (suc n) same = ap (λ x. x ∷ map f (range_with_len (a + 1) n)) (same a) ∙ ap (λ l. g a ∷ l) (map_same_from f g (a + 1) n same)
+
+pub run_in_front : {A : Type 0} (passes : ℕ → Bool) (f g : ℕ → A) (a m b : ℕ) → a ≤ m → m ≤ b → ((k : ℕ) → a ≤ k → k < m → passes k ≡ true) → ((k : ℕ) → g k ≡ f k)
+    → run_of passes f a b ≡ map g (from_to a m) ++ run_of passes f m b
+run_in_front passes f g a m b order within all same =
+    ap (λ l. map f (filter passes l)) (range_split a m b order within)
+    ∙ ap (map f) (filter-append passes (from_to a m) (from_to m b))
+    ∙ map-append f (filter passes (from_to a m)) (filter passes (from_to m b))
+    ∙ ap (λ l. map f l ++ run_of passes f m b) (filter_same passes (λ k. true) a m all ∙ filter_all (from_to a m))
+    ∙ ap (λ l. l ++ run_of passes f m b) (sym (map_same_from g f a (m - a) same))
+
+-- one number more that passes
+pub all_more : (p : ℕ → Bool) (a m : ℕ) → ((k : ℕ) → a ≤ k → k < m → p k ≡ true) → p m ≡ true → (k : ℕ) → a ≤ k → k < m + 1 → p k ≡ true
+all_more p a m all here k low high = elim (cases_lt k m) [
+  | inl less ↦ all k low less
+  | inr more ↦ (let same : m ≡ k = omega (arith, more, high) in subst (λ j. p j ≡ true) same here)
+]

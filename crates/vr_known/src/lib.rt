@@ -21,9 +21,11 @@ mod memory;
 pub mod nests;
 mod sieve;
 mod stamps;
+mod stretches;
 mod touched;
 
 pub use laws::{cost_is_local, moves_are_local, validity_is_local};
 pub use memory::Known;
 pub use sieve::Sieve;
+pub use stretches::Stretch;
 pub use touched::Touched;
