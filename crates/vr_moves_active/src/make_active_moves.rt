@@ -1,6 +1,6 @@
 //! Inactive visits that are put in.
 
-ghost use Rattle.std.specs.Prelude.{◌≡◌, ◌+◌, ⊤, ℕ, ◌≤◌, suc, true, length, slice_index, map};
+ghost use Rattle.std.specs.Prelude.{◌≡◌, ◌+◌, ◌++◌, ⊤, ℕ, ◌≤◌, suc, true, length, slice_index, map};
 ghost use Rattle.std.specs.Iterator.{YieldsFirst, item_count};
 ghost use Rattle.vr_known.specs.Passing.{ArePassed, Looked, Takes, tried};
 ghost use Rattle.vr_model.specs.tables.Numbers.{each};
@@ -12,8 +12,8 @@ ghost use Rattle.vr_model.specs.declared.neighbours.Move.TheVariants.{MakeActive
 ghost use Rattle.vr_model.specs.declared.neighbours.Neighbourhood.TheVariants.{MakeActive as MakeActiveKind};
 
 use std::marker::Model;
-use vr_known::Sieve;
 use vr_known::nests::{Each, Family, Listed, Numbered, Run, next_of};
+use vr_known::{Sieve, Stretch};
 use vr_model::{Move, Neighbourhood};
 use vr_routes::Routes;
 
@@ -155,6 +155,15 @@ impl<'a> MakeActiveMoves<'a> {
             judge.old passed.old judge.new (passed.new + tried result) }
     {
         self.left.step(sieve, judge, passed)
+    }
+
+    /// Takes those at the front that differ from the move that was taken last in their last number alone, where the
+    /// sieve could tell nothing of them.
+    #[inline(always)]
+    pub fn stretch(&mut self) -> Stretch
+        ensures { self.old ≡ result ++ self.new }
+    {
+        self.left.stretch()
     }
 }
 

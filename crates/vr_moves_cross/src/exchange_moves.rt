@@ -1,6 +1,6 @@
 //! Nodes that change places.
 
-ghost use Rattle.std.specs.Prelude.{◌≡◌, ◌+◌, ◌==◌, ⊤, ℕ, ◌<◌, ◌≤◌, suc, cond, true, length, map};
+ghost use Rattle.std.specs.Prelude.{◌≡◌, ◌+◌, ◌++◌, ◌==◌, ⊤, ℕ, ◌<◌, ◌≤◌, suc, cond, true, length, map};
 ghost use Rattle.std.specs.Iterator.{YieldsFirst, item_count};
 ghost use Rattle.vr_model.specs.tables.Numbers.{each, from_to};
 ghost use Rattle.vr_model.specs.routes.Routes.{route, vehicles};
@@ -11,8 +11,8 @@ ghost use Rattle.vr_model.specs.declared.neighbours.Move.TheVariants.{Exchange};
 ghost use Rattle.vr_model.specs.declared.neighbours.Neighbourhood.TheVariants.{Exchange as ExchangeKind};
 
 use std::marker::Model;
-use vr_known::Sieve;
 use vr_known::nests::{Each, Family, Listed, Numbered, Run, next_of};
+use vr_known::{Sieve, Stretch};
 use vr_model::{Move, Neighbourhood};
 use vr_routes::Routes;
 
@@ -207,6 +207,15 @@ impl<'a> ExchangeMoves<'a> {
             judge.old passed.old judge.new (passed.new + tried result) }
     {
         self.left.step(sieve, judge, passed)
+    }
+
+    /// Takes those at the front that differ from the move that was taken last in their last number alone, where the
+    /// sieve could tell nothing of them.
+    #[inline(always)]
+    pub fn stretch(&mut self) -> Stretch
+        ensures { self.old ≡ result ++ self.new }
+    {
+        self.left.stretch()
     }
 }
 

@@ -1,6 +1,6 @@
 //! Served pairs that are put elsewhere.
 
-ghost use Rattle.std.specs.Prelude.{◌≡◌, ◌+◌, ⊤, ℕ, ◌<◌, ◌≤◌, suc, true, length, map, filter};
+ghost use Rattle.std.specs.Prelude.{◌≡◌, ◌+◌, ◌++◌, ⊤, ℕ, ◌<◌, ◌≤◌, suc, true, length, map, filter};
 ghost use Rattle.std.specs.Iterator.{YieldsFirst, item_count};
 ghost use Rattle.vr_known.specs.Passing.{ArePassed, Looked, Takes, tried};
 ghost use Rattle.vr_model.specs.tables.Numbers.{each, from_to};
@@ -14,8 +14,8 @@ ghost use Rattle.vr_routes.specs.Pairs.{ArePlaces, is_elsewhere};
 ghost use Rattle.vr_moves_pair.specs.Putting.{puts_into};
 
 use std::marker::Model;
-use vr_known::Sieve;
 use vr_known::nests::{Each, Family, Listed, Numbered, Run, next_of};
+use vr_known::{Sieve, Stretch};
 use vr_model::{Model as RoutingModel, Move, Neighbourhood};
 use vr_routes::{PairPlaces, Routes, is_elsewhere, pair_served, rest_len};
 
@@ -225,6 +225,15 @@ impl<'a> RelocatePairMoves<'a> {
             judge.old passed.old judge.new (passed.new + tried result) }
     {
         self.left.step(sieve, judge, passed)
+    }
+
+    /// Takes those at the front that differ from the move that was taken last in their last number alone, where the
+    /// sieve could tell nothing of them.
+    #[inline(always)]
+    pub fn stretch(&mut self) -> Stretch
+        ensures { self.old ≡ result ++ self.new }
+    {
+        self.left.stretch()
     }
 }
 
