@@ -9,3 +9,5 @@ pub mod Turns
 pub mod Replaced
 pub mod Counted
 pub mod Tries
+pub mod RoutesIn
+pub mod Between

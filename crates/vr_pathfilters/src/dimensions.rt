@@ -13,16 +13,15 @@ ghost use Rattle.vr_routes.specs.Pieces.{ListAfter, changed, joined, part_at};
 ghost use Rattle.vr_routes.specs.Tours.{Tours};
 ghost use Rattle.vr_filter.specs.Filters.{IsSameRule, IsSameWeight};
 ghost use Rattle.vr_reach.specs.Lists.{is_feasible_list};
-ghost use Rattle.vr_reach.specs.Stops.{AreStops};
 ghost use Rattle.vr_reach.specs.Tries.{list_tries};
 ghost use Rattle.vr_pathfilters.specs.Lists.{holds_of_each};
-ghost use Rattle.vr_pathfilters.specs.TourLists.{AreTours};
+ghost use Rattle.vr_pathfilters.specs.RoutesIn.{AreRoutesIn};
 ghost use Rattle.vr_pathfilters.specs.Known.{AreKnown, StandsAt, IsReady, AreRowsOfPart, with_part};
 ghost use Rattle.vr_pathfilters.specs.Known.{KnowsLoads, KnowsRows};
 ghost use Rattle.vr_pathfilters.specs.Tries.{tries_in};
 
 use crate::loads::{all_carried, loads_of, put_list};
-use crate::rows::{most_stops, rows_unless, write_part};
+use crate::rows::{Room, RoutesIn, most_stops, rows_unless, write_part};
 use std::alloc::Global;
 use std::marker::Brand;
 use std::mem;
@@ -31,9 +30,8 @@ use vr_balance::strip;
 use vr_filter::PathFilter;
 use vr_loads::Loads;
 use vr_model::{Closed, Model, NoMemory, Steps};
-use vr_reach::{Rows, Stops, Walk, no_line, passes_along};
+use vr_reach::{KnownList, Rows, Splice, Stops, StopsFor, Walk, no_line, passes_along};
 use vr_routes::{Change, Routes, Row};
-use vr_steps::Line;
 
 /// Lets a change pass where the line of each used vehicle in one dimension has a schedule afterwards (the path cumul
 /// filter of a `RoutingDimension` in OR-Tools). Of a load it keeps sums of the committed lists, and judges a change by
@@ -50,9 +48,7 @@ pub struct DimensionFilter<'m> {
     loads: Option<Loads>,
     // else the rows of the list of each vehicle
     known: Vec<Rows>,
-    walk: Walk,
-    list: Row,
-    line: Line,
+    room: Room,
     // the rows of the changed lists, where a change was made ready
     first: Rows,
     second: Rows,
@@ -82,15 +78,15 @@ impl<'m> DimensionFilter<'m> {
     {
         routes.know_once();
         routes.know_entries();
-        let stops = Stops::build(alloc, model, d)?;
-        let (loads, known) = kept_of::<Brand>(
-            alloc,
-            Closed { model },
+        let closed = Closed { model };
+        let stops = Stops::build(alloc, closed, d)?;
+        let at = RoutesIn {
+            closed,
             d,
-            &stops,
+            stops: &stops,
             routes,
-            Blank::new(1),
-        )?;
+        };
+        let (loads, known) = kept_of::<Brand>(alloc, &at, Blank::new(1))?;
         let room = if loads.is_some() {
             0
         } else {
@@ -103,9 +99,11 @@ impl<'m> DimensionFilter<'m> {
             stops,
             loads,
             known,
-            walk: Walk::new(alloc),
-            list: Row::new(),
-            line: no_line(alloc),
+            room: Room {
+                walk: Walk::new(alloc),
+                list: Row::new(),
+                line: no_line(alloc),
+            },
             first: Rows::with_room(alloc, room)?,
             second: Rows::with_room(alloc, room)?,
             is_prepared: false,
@@ -141,18 +139,13 @@ impl<'m> DimensionFilter<'m> {
         match &self.loads {
             Some(loads) => Ok(all_carried(self.model, self.d, loads, routes, change)),
             None => {
-                let passed = all_pass(
-                    self.model,
-                    self.d,
-                    &self.stops,
-                    &self.known,
+                let at = RoutesIn {
+                    closed: Closed { model: self.model },
+                    d: self.d,
+                    stops: &self.stops,
                     routes,
-                    change,
-                    &mut self.list,
-                    &mut self.walk,
-                    steps,
-                    tries,
-                )?;
+                };
+                let passed = all_pass(&at, &self.known, change, &mut self.room, steps, tries)?;
                 Ok(passed)
             }
         }
@@ -214,32 +207,28 @@ impl<'m> PathFilter for DimensionFilter<'m> {
             self.is_prepared = true;
             return Ok(());
         }
-        let (alloc, model, d) = (self.alloc, self.model, self.d);
-        let (stops, list, line) = (&self.stops, &mut self.list, &mut self.line);
+        let alloc = self.alloc;
+        let at = RoutesIn {
+            closed: Closed { model: self.model },
+            d: self.d,
+            stops: &self.stops,
+            routes,
+        };
         write_part::<Brand>(
             alloc,
-            Closed { model },
-            d,
-            stops,
-            routes,
+            &at,
             change,
             0,
-            list,
-            line,
+            &mut self.room,
             &mut self.first,
             Blank::new(1),
         )?;
-        let (stops, list, line) = (&self.stops, &mut self.list, &mut self.line);
         write_part::<Brand>(
             alloc,
-            Closed { model },
-            d,
-            stops,
-            routes,
+            &at,
             change,
             1,
-            list,
-            line,
+            &mut self.room,
             &mut self.second,
             Blank::new(1),
         )?;
@@ -251,8 +240,24 @@ impl<'m> PathFilter for DimensionFilter<'m> {
         self.is_prepared = false;
         match &mut self.loads {
             Some(loads) => {
-                put_list(loads, self.model, self.d, routes, change, 0, &mut self.list);
-                put_list(loads, self.model, self.d, routes, change, 1, &mut self.list);
+                put_list(
+                    loads,
+                    self.model,
+                    self.d,
+                    routes,
+                    change,
+                    0,
+                    &mut self.room.list,
+                );
+                put_list(
+                    loads,
+                    self.model,
+                    self.d,
+                    routes,
+                    change,
+                    1,
+                    &mut self.room.list,
+                );
             }
             None => {
                 put_part(&mut self.known, change, 0, &mut self.first);
@@ -283,58 +288,46 @@ fn put_part(known: &mut Vec<Rows>, change: &Change, k: usize, rows: &mut Rows)
 // What is kept of the lists of all vehicles: loads where the dimension is one, else rows.
 fn kept_of<L: Ledger>(
     alloc: Global,
-    closed: Closed<'_>,
-    d: u32,
-    stops: &Stops,
-    routes: &Routes,
+    at: &RoutesIn,
     blank: Blank,
 ) -> Result<(Option<Loads>, Vec<Rows>), NoMemory>
     requires name { blank.name ≡ L.name }
     requires parts { blank.parts ≡ L.parts }
     requires some { 0 < blank.parts }
-    requires dimension { d < length closed.model.now.dimensions }
-    requires stops { AreStops closed.model.now d stops.now }
-    requires tours { AreTours closed.model.now routes.now }
-    ensures loads_known { IfOk result (λ kept. is_some kept.0 ≡ is_load closed.entry.model.now d) }
-    ensures loads { IfOk result (λ kept. WherePresent (KnowsLoads closed.entry.model.now d routes.now.lists) kept.0) }
+    requires at { AreRoutesIn at.now }
+    ensures loads_known { IfOk result (λ kept. is_some kept.0 ≡ is_load at.now.closed.model.now at.now.d) }
+    ensures loads { IfOk result (λ kept. WherePresent
+        (KnowsLoads at.now.closed.model.now at.now.d at.now.routes.now.lists) kept.0) }
     ensures known { IfOk result (λ kept. kept.0 ≡ None
-        → KnowsRows closed.entry.model.now d kept.1.items routes.now.lists) }
+        → KnowsRows at.now.closed.model.now at.now.d kept.1.items at.now.routes.now.lists) }
 {
-    let loads = loads_of(alloc, closed, d, routes)?;
+    let loads = loads_of(alloc, at.closed, at.d, at.routes)?;
     let mut line = no_line(alloc);
     let mut lists = Steps::<L>::new(blank);
-    let known = rows_unless(
-        &loads, alloc, closed, d, stops, routes, &mut line, &mut lists,
-    )?;
+    let known = rows_unless(&loads, alloc, at, &mut line, &mut lists)?;
     Ok((loads, known))
 }
 
 // Whether the lists of all parts of a change are empty or their lines feasible.
 fn all_pass<L: Ledger, M: Ledger>(
-    model: &Model,
-    d: u32,
-    stops: &Stops,
+    at: &RoutesIn,
     known: &[Rows],
-    routes: &Routes,
     change: &Change,
-    list: &mut Row,
-    walk: &mut Walk,
+    room: &mut Room,
     steps: &mut Steps<L>,
     tries: &mut Steps<M>,
 ) -> Result<bool, NoMemory>
-    requires stands { StandsAt model.now d stops.now None known.now routes.now }
-    requires made { IsMadeOn routes.now change.now }
-    ensures answer { IfOk result (λ passed. passed
-        ≡ holds_of_each (is_feasible_list model.now d) (changed routes.now.lists change.now)) }
-    ensures count { steps.new
-        ≤ steps.old + weight_in model.now d routes.now.lists (changed routes.now.lists change.now) }
-    ensures tries { tries.new
-        ≤ tries.old + tries_in model.now d routes.now.lists (changed routes.now.lists change.now) }
+    requires stands { StandsAt at.now.closed.model.now at.now.d at.now.stops.now None known.now at.now.routes.now }
+    requires made { IsMadeOn at.now.routes.now change.now }
+    ensures answer { IfOk result (λ passed. passed ≡ holds_of_each
+        (is_feasible_list at.now.closed.model.now at.now.d) (changed at.now.routes.now.lists change.now)) }
+    ensures count { steps.new ≤ steps.old + weight_in at.now.closed.model.now at.now.d
+        at.now.routes.now.lists (changed at.now.routes.now.lists change.now) }
+    ensures tries { tries.new ≤ tries.old + tries_in at.now.closed.model.now at.now.d
+        at.now.routes.now.lists (changed at.now.routes.now.lists change.now) }
 {
     for k in 0..change.parts() {
-        let passed = part_passes(
-            model, d, stops, known, routes, change, k, list, walk, steps, tries,
-        )?;
+        let passed = part_passes(at, known, change, k, room, steps, tries)?;
         if !passed {
             return Ok(false);
         }
@@ -344,46 +337,47 @@ fn all_pass<L: Ledger, M: Ledger>(
 
 // Whether the list of one part of a change is empty or its line feasible.
 fn part_passes<L: Ledger, M: Ledger>(
-    model: &Model,
-    d: u32,
-    stops: &Stops,
+    at: &RoutesIn,
     known: &[Rows],
-    routes: &Routes,
     change: &Change,
     k: usize,
-    list: &mut Row,
-    walk: &mut Walk,
+    room: &mut Room,
     steps: &mut Steps<L>,
     tries: &mut Steps<M>,
 ) -> Result<bool, NoMemory>
-    requires stands { StandsAt model.now d stops.now None known.now routes.now }
-    requires made { IsMadeOn routes.now change.now }
+    requires stands { StandsAt at.now.closed.model.now at.now.d at.now.stops.now None known.now at.now.routes.now }
+    requires made { IsMadeOn at.now.routes.now change.now }
     requires part { k < length change.now }
-    ensures answer { IfOk result (λ passed. passed ≡ is_feasible_list model.now d (part_at change.now k).vehicle
-        (joined routes.now.lists (part_at change.now k).pieces)) }
-    ensures count { steps.new ≤ steps.old + list_weight model.now d (part_at change.now k).vehicle
-        (route routes.now.lists (part_at change.now k).vehicle)
-        (joined routes.now.lists (part_at change.now k).pieces) }
-    ensures tries { tries.new ≤ tries.old + list_tries model.now d (part_at change.now k).vehicle
-        (route routes.now.lists (part_at change.now k).vehicle)
-        (joined routes.now.lists (part_at change.now k).pieces) }
+    ensures answer { IfOk result (λ passed. passed
+        ≡ is_feasible_list at.now.closed.model.now at.now.d (part_at change.now k).vehicle
+        (joined at.now.routes.now.lists (part_at change.now k).pieces)) }
+    ensures count { steps.new ≤ steps.old
+        + list_weight at.now.closed.model.now at.now.d (part_at change.now k).vehicle
+        (route at.now.routes.now.lists (part_at change.now k).vehicle)
+        (joined at.now.routes.now.lists (part_at change.now k).pieces) }
+    ensures tries { tries.new ≤ tries.old
+        + list_tries at.now.closed.model.now at.now.d (part_at change.now k).vehicle
+        (route at.now.routes.now.lists (part_at change.now k).vehicle)
+        (joined at.now.routes.now.lists (part_at change.now k).pieces) }
 {
     let v = change.vehicle(k);
-    let ends = strip(routes, v, change.pieces(k));
-    routes.join_into(ends.middle, list);
-    let passed = passes_along(
-        model,
-        d,
+    let ends = strip(at.routes, v, change.pieces(k));
+    at.routes.join_into(ends.middle, &mut room.list);
+    let stops = StopsFor {
+        closed: at.closed,
+        d: at.d,
         v,
-        stops,
-        &known[v as usize],
-        routes.list(v),
-        ends.front as usize,
-        ends.behind as usize,
-        list.as_slice(),
-        walk,
-        steps,
-        tries,
-    )?;
+        of_dimension: at.stops,
+    };
+    let before = KnownList {
+        list: at.routes.list(v),
+        rows: &known[v as usize],
+    };
+    let splice = Splice {
+        front: ends.front as usize,
+        behind: ends.behind as usize,
+        middle: room.list.as_slice(),
+    };
+    let passed = passes_along(&stops, &before, &splice, &mut room.walk, steps, tries)?;
     Ok(passed)
 }

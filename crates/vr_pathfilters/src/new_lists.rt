@@ -16,20 +16,20 @@ use vr_routes::Routes;
 /// The list of a vehicle after a change: what it keeps at both ends, with other nodes between. Contracts see the list.
 /// Where a node stands in it is looked up, however long it is.
 #[derive(Drop)]
-pub(crate) struct NewList<'a> {
-    pub(crate) routes: &'a Routes,
+pub(crate) struct NewList<'r, 'n> {
+    pub(crate) routes: &'r Routes,
     pub(crate) v: u32,
     // how many nodes are kept at the front
     pub(crate) front: u32,
     // the place from which on nodes are kept
     pub(crate) behind: u32,
     // the nodes between
-    pub(crate) middle: &'a [u32],
+    pub(crate) middle: &'n [u32],
     // the place of each of them there; the marks of others are of no account
-    pub(crate) marks: &'a [u32],
+    pub(crate) marks: &'n [u32],
 }
 
-impl<'a> Model for NewList<'a> {
+impl<'r, 'n> Model for NewList<'r, 'n> {
     ghost use Rattle.std.specs.Prelude.{ℕ, List};
     ghost use Rattle.vr_model.specs.routes.Routes.{route};
     ghost use Rattle.vr_reach.specs.Spliced.{spliced};
@@ -73,7 +73,7 @@ fn is_at(list: &[u32], place: u32, node: u32) -> bool
     (place as usize) < list.len() && list[place as usize] == node
 }
 
-impl<'a> NewList<'a> {
+impl<'r, 'n> NewList<'r, 'n> {
     // How many nodes the list has.
     #[inline]
     fn len(&self) -> u32

@@ -3,7 +3,6 @@
 ghost use Rattle.std.specs.Prelude.{◌≡◌, ◌+◌, ◌<◌, ◌≤◌, ℕ, All, Bool, true, false, List, length};
 ghost use Rattle.std.specs.Prelude.{IsOk, IsTrue, IfOk, OnOk, OnErr};
 ghost use Rattle.std.specs.List.{list_all};
-ghost use Rattle.vr_model.specs.routes.Routes.{is_distinct, route};
 ghost use Rattle.vr_model.specs.routes.Rules.{serves_pair};
 ghost use Rattle.vr_model.specs.tables.Tables.{vehicle_at, visits};
 ghost use Rattle.vr_model.specs.tables.WellFormed.{IsWellFormed};
@@ -12,12 +11,12 @@ ghost use Rattle.vr_routes.specs.Changes.{IsMadeOn, after};
 ghost use Rattle.vr_routes.specs.Pieces.{ListAfter, changed, joined, part_at};
 ghost use Rattle.vr_routes.specs.Tours.{Tours};
 ghost use Rattle.vr_reach.specs.Lists.{IsTour};
-ghost use Rattle.vr_reach.specs.Spliced.{AreSeams, spliced};
+ghost use Rattle.vr_pathfilters.specs.Between.{list_after, list_before, IsBetween};
 ghost use Rattle.vr_pathfilters.specs.Counted.{AreCounted};
 ghost use Rattle.vr_pathfilters.specs.Replaced.{takes_turns_between};
 ghost use Rattle.vr_pathfilters.specs.Lists.{holds_of_each};
 ghost use Rattle.vr_pathfilters.specs.ListFilters.{StandsBy};
-ghost use Rattle.vr_pathfilters.specs.Pairs.{AreAllCounted, AreMarked, IsListCounted, KnowsPairs, KnowsTours};
+ghost use Rattle.vr_pathfilters.specs.Pairs.{AreAllCounted, IsListCounted, KnowsPairs, KnowsTours};
 
 use crate::lists::{ListFilter, ListRule};
 use crate::new_lists::{NewList, mark};
@@ -41,80 +40,70 @@ pub struct PairRule<'m> {
     turns: Turns,
 }
 
+// What a change makes of the list of a vehicle: other nodes between the ends that it keeps.
+#[derive(Clone, Copy)]
+pub(crate) struct Between<'r, 'n> {
+    pub(crate) routes: &'r Routes,
+    pub(crate) v: u32,
+    // how many nodes are kept at the front
+    pub(crate) front: u32,
+    // the place from which on nodes are kept
+    pub(crate) behind: u32,
+    // the nodes between
+    pub(crate) middle: &'n [u32],
+    // the place of each of them there
+    pub(crate) marks: &'n [u32],
+}
+
 // Whether the list of a vehicle serves each pair, with other nodes between the ends that it keeps. It asks the pairs of
 // these nodes, and of those that stood there and do so no more.
-fn serves_between<'a>(
-    lookups: &NodeTables<'_>,
-    routes: &'a Routes,
-    v: u32,
-    front: u32,
-    behind: u32,
-    middle: &'a [u32],
-    marks: &'a [u32],
-) -> bool
-    requires vehicle { v < length routes.now.lists }
-    requires seams { AreSeams (length (route routes.now.lists v)) front behind }
-    requires marked { AreMarked middle.now marks.now }
-    requires few { length middle.now ≤ 1000 }
-    requires before { IsTrue (list_all (serves_pair (route routes.now.lists v)) lookups.now.pairs) }
-    requires distinct { IsTrue (is_distinct (spliced (route routes.now.lists v) front behind middle.now)) }
-    ensures { result ≡ list_all (serves_pair (spliced (route routes.now.lists v) front behind middle.now))
-        lookups.now.pairs }
+fn serves_between(lookups: &NodeTables<'_>, ends: &Between) -> bool
+    requires ends { IsBetween ends.now }
+    requires before { IsTrue (list_all (serves_pair (list_before ends.now)) lookups.now.pairs) }
+    ensures { result ≡ list_all (serves_pair (list_after ends.now)) lookups.now.pairs }
 {
     // what holds of the model is known
     let _model = lookups.model();
-    routes.know_once();
-    let old = routes.list(v);
+    ends.routes.know_once();
+    let old = ends.routes.list(ends.v);
     let new = NewList {
-        routes,
-        v,
-        front,
-        behind,
-        middle,
-        marks,
+        routes: ends.routes,
+        v: ends.v,
+        front: ends.front,
+        behind: ends.behind,
+        middle: ends.middle,
+        marks: ends.marks,
     };
-    new.serves_each(lookups, middle)
+    new.serves_each(lookups, ends.middle)
         && new.serves_unmarked(
             lookups,
-            &old[front as usize..behind as usize],
-            middle,
-            marks,
+            &old[ends.front as usize..ends.behind as usize],
+            ends.middle,
+            ends.marks,
         )
 }
 
 // Whether the pairs of the list of a vehicle come in turn, with other nodes between the ends that it keeps, where they
 // came in turn before.
-fn takes_turns<'a>(
-    lookups: &NodeTables<'_>,
-    turns: &Turns,
-    policy: Policy,
-    routes: &'a Routes,
-    v: u32,
-    front: u32,
-    behind: u32,
-    middle: &'a [u32],
-    marks: &'a [u32],
-) -> bool
-    requires vehicle { v < length routes.now.lists }
-    requires seams { AreSeams (length (route routes.now.lists v)) front behind }
-    requires marked { AreMarked middle.now marks.now }
-    requires few { length middle.now ≤ 1000 }
-    requires distinct { IsTrue (is_distinct (spliced (route routes.now.lists v) front behind middle.now)) }
-    requires listed { AreCounted lookups.now (route routes.now.lists v) turns.now.listed }
-    requires between { AreCounted lookups.now middle.now turns.now.between }
-    ensures { result ≡ takes_turns_between lookups.now policy (route routes.now.lists v) front behind middle.now }
+fn takes_turns(lookups: &NodeTables<'_>, turns: &Turns, policy: Policy, ends: &Between) -> bool
+    requires ends { IsBetween ends.now }
+    requires listed { AreCounted lookups.now (list_before ends.now) turns.now.listed }
+    requires between { AreCounted lookups.now ends.now.middle.now turns.now.between }
+    ensures { result ≡ takes_turns_between lookups.now policy (list_before ends.now) ends.now.front ends.now.behind
+        ends.now.middle.now }
 {
-    routes.know_once();
-    let counted = NewCounts::of(lookups, turns, routes.list(v), front, behind, middle);
+    ends.routes.know_once();
+    let old = ends.routes.list(ends.v);
+    let counted = NewCounts::of(lookups, turns, old, ends.front, ends.behind, ends.middle);
     let new = NewList {
-        routes,
-        v,
-        front,
-        behind,
-        middle,
-        marks,
+        routes: ends.routes,
+        v: ends.v,
+        front: ends.front,
+        behind: ends.behind,
+        middle: ends.middle,
+        marks: ends.marks,
     };
-    new.come_in_turn(lookups, policy, &counted, middle)
+    new.come_in_turn(lookups, policy, &counted, ends.middle)
 }
 
 // The policy of a vehicle.
@@ -174,33 +163,23 @@ impl<'m> ListRule for PairRule<'m> {
         let ends = strip(routes, v, change.pieces(k));
         routes.join_into(ends.middle, &mut self.list);
         mark(self.list.as_slice(), &mut self.marks);
-        if !serves_between(
-            &self.lookups,
+        let between = Between {
             routes,
             v,
-            ends.front,
-            ends.behind,
-            self.list.as_slice(),
-            &self.marks,
-        ) {
+            front: ends.front,
+            behind: ends.behind,
+            middle: self.list.as_slice(),
+            marks: &self.marks,
+        };
+        if !serves_between(&self.lookups, &between) {
             return false;
         }
         let policy = policy_of(&self.lookups, v);
         if !Turns::are_asked(policy) {
             return true;
         }
-        self.turns.put_between(&self.lookups, self.list.as_slice());
-        takes_turns(
-            &self.lookups,
-            &self.turns,
-            policy,
-            routes,
-            v,
-            ends.front,
-            ends.behind,
-            self.list.as_slice(),
-            &self.marks,
-        )
+        self.turns.put_between(&self.lookups, between.middle);
+        takes_turns(&self.lookups, &self.turns, policy, &between)
     }
 
     fn commit(&mut self, routes: &Routes, change: &Change) {

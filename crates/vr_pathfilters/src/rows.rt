@@ -2,44 +2,57 @@
 //! change that is made ready. Each list whose rows are written is counted, and the question about a change has no
 //! counter for them: it makes no rows.
 
-ghost use Rattle.std.specs.Prelude.{◌≡◌, ◌+◌, ◌<◌, length, IfOk, OnOk, None};
+ghost use Rattle.std.specs.Prelude.{◌≡◌, ◌+◌, ◌<◌, IfOk, OnOk, None};
 ghost use Rattle.vr_routes.specs.Changes.{IsMadeOn};
 ghost use Rattle.vr_reach.specs.KnownRows.{AreRowsIfUsed};
 ghost use Rattle.vr_reach.specs.Lists.{IsTour};
-ghost use Rattle.vr_reach.specs.Stops.{AreStops};
-ghost use Rattle.vr_pathfilters.specs.TourLists.{AreTours};
+ghost use Rattle.vr_reach.specs.VehicleStops.{AreStopsFor};
 ghost use Rattle.vr_pathfilters.specs.Known.{AreRowsOfPart, KnowsRows};
+ghost use Rattle.vr_pathfilters.specs.RoutesIn.{AreRoutesIn};
 
 use std::alloc::Global;
 use std::sync::ledger::{Blank, Ledger};
 use vr_loads::Loads;
 use vr_model::{Closed, Model, NoMemory, Steps};
-use vr_reach::{Rows, Stops, write_rows};
+use vr_reach::{Rows, Stops, StopsFor, Walk, write_rows};
 use vr_routes::{Change, Routes, Row};
 use vr_steps::Line;
 
-// Writes the rows of vehicle `v` with a list over others, where the list is not empty, and counts it. After `NoMemory`
+/// Routes, and the stops of one dimension of their model.
+#[derive(Clone, Copy)]
+pub(crate) struct RoutesIn<'m, 's, 'r> {
+    pub(crate) closed: Closed<'m>,
+    pub(crate) d: u32,
+    pub(crate) stops: &'s Stops,
+    pub(crate) routes: &'r Routes,
+}
+
+/// What is written over while changes are asked about and made ready. Nothing is said of it.
+#[derive(Drop)]
+pub(crate) struct Room {
+    pub(crate) walk: Walk,
+    pub(crate) list: Row,
+    pub(crate) line: Line,
+}
+
+// Writes the rows of a vehicle with a list over others, where the list is not empty, and counts it. After `NoMemory`
 // nothing is said of the rows.
 fn write_list<L: Ledger>(
     alloc: Global,
-    closed: Closed<'_>,
-    d: u32,
-    v: u32,
-    stops: &Stops,
+    stops: &StopsFor,
     list: &[u32],
     line: &mut Line,
     rows: &mut Rows,
     lists: &mut Steps<L>,
 ) -> Result<(), NoMemory>
-    requires dimension { d < length closed.model.now.dimensions }
-    requires vehicle { v < length closed.model.now.vehicles }
-    requires stops { AreStops closed.model.now d stops.now }
-    requires tour { IsTour closed.model.now list.now }
-    ensures rows { OnOk result (AreRowsIfUsed closed.entry.model.now d v list.now rows.new) }
+    requires stops { AreStopsFor stops.now }
+    requires tour { IsTour stops.now.closed.model.now list.now }
+    ensures rows { OnOk result
+        (AreRowsIfUsed stops.now.closed.model.now stops.now.d stops.now.v list.now rows.new) }
     ensures count { lists.new ≡ lists.old + 1 }
 {
     lists.tick();
-    write_rows(alloc, closed.model, d, v, stops, list, line, rows)?;
+    write_rows(alloc, stops, list, line, rows)?;
     Ok(())
 }
 
@@ -47,39 +60,37 @@ fn write_list<L: Ledger>(
 /// is said of them.
 pub(crate) fn write_part<L: Ledger>(
     alloc: Global,
-    closed: Closed<'_>,
-    d: u32,
-    stops: &Stops,
-    routes: &Routes,
+    at: &RoutesIn,
     change: &Change,
     k: usize,
-    list: &mut Row,
-    line: &mut Line,
+    room: &mut Room,
     rows: &mut Rows,
     blank: Blank,
 ) -> Result<(), NoMemory>
     requires name { blank.name ≡ L.name }
     requires parts { blank.parts ≡ L.parts }
     requires some { 0 < blank.parts }
-    requires dimension { d < length closed.model.now.dimensions }
-    requires stops { AreStops closed.model.now d stops.now }
-    requires tours { AreTours closed.model.now routes.now }
-    requires made { IsMadeOn routes.now change.now }
-    ensures { OnOk result (AreRowsOfPart closed.entry.model.now d routes.now.lists change.now k rows.new) }
+    requires at { AreRoutesIn at.now }
+    requires made { IsMadeOn at.now.routes.now change.now }
+    ensures { OnOk result (AreRowsOfPart at.now.closed.model.now at.now.d at.now.routes.now.lists
+        change.now k rows.new) }
 {
     if k >= change.parts() {
         return Ok(());
     }
     let mut lists = Steps::<L>::new(blank);
-    routes.write_after(change, k, list);
+    at.routes.write_after(change, k, &mut room.list);
+    let stops = StopsFor {
+        closed: at.closed,
+        d: at.d,
+        v: change.vehicle(k),
+        of_dimension: at.stops,
+    };
     write_list(
         alloc,
-        closed,
-        d,
-        change.vehicle(k),
-        stops,
-        list.as_slice(),
-        line,
+        &stops,
+        room.list.as_slice(),
+        &mut room.line,
         rows,
         &mut lists,
     )?;
@@ -90,23 +101,18 @@ pub(crate) fn write_part<L: Ledger>(
 pub(crate) fn rows_unless<L: Ledger>(
     loads: &Option<Loads>,
     alloc: Global,
-    closed: Closed<'_>,
-    d: u32,
-    stops: &Stops,
-    routes: &Routes,
+    at: &RoutesIn,
     line: &mut Line,
     lists: &mut Steps<L>,
 ) -> Result<Vec<Rows>, NoMemory>
-    requires dimension { d < length closed.model.now.dimensions }
-    requires stops { AreStops closed.model.now d stops.now }
-    requires tours { AreTours closed.model.now routes.now }
+    requires at { AreRoutesIn at.now }
     ensures { IfOk result (λ known. loads.now ≡ None
-        → KnowsRows closed.entry.model.now d known.items routes.now.lists) }
+        → KnowsRows at.now.closed.model.now at.now.d known.items at.now.routes.now.lists) }
 {
     if loads.is_some() {
         return Ok(Vec::new(alloc));
     }
-    let known = know_all(alloc, closed, d, stops, routes, line, lists)?;
+    let known = know_all(alloc, at, line, lists)?;
     Ok(known)
 }
 
@@ -118,32 +124,24 @@ pub(crate) fn most_stops(model: &Model) -> usize {
 // The rows of each vehicle with its list, with room for those of each other list.
 fn know_all<L: Ledger>(
     alloc: Global,
-    closed: Closed<'_>,
-    d: u32,
-    stops: &Stops,
-    routes: &Routes,
+    at: &RoutesIn,
     line: &mut Line,
     lists: &mut Steps<L>,
 ) -> Result<Vec<Rows>, NoMemory>
-    requires dimension { d < length closed.model.now.dimensions }
-    requires stops { AreStops closed.model.now d stops.now }
-    requires tours { AreTours closed.model.now routes.now }
-    ensures { IfOk result (λ known. KnowsRows closed.entry.model.now d known.items routes.now.lists) }
+    requires at { AreRoutesIn at.now }
+    ensures { IfOk result
+        (λ known. KnowsRows at.now.closed.model.now at.now.d known.items at.now.routes.now.lists) }
 {
-    let mut known = Vec::with_capacity(alloc, routes.vehicles() as usize)?;
-    for v in 0..routes.vehicles() {
-        let mut rows = Rows::with_room(alloc, most_stops(closed.model))?;
-        write_list(
-            alloc,
-            closed,
-            d,
+    let mut known = Vec::with_capacity(alloc, at.routes.vehicles() as usize)?;
+    for v in 0..at.routes.vehicles() {
+        let mut rows = Rows::with_room(alloc, most_stops(at.closed.model))?;
+        let stops = StopsFor {
+            closed: at.closed,
+            d: at.d,
             v,
-            stops,
-            routes.list(v),
-            line,
-            &mut rows,
-            lists,
-        )?;
+            of_dimension: at.stops,
+        };
+        write_list(alloc, &stops, at.routes.list(v), line, &mut rows, lists)?;
         known.push(rows)?;
     }
     Ok(known)

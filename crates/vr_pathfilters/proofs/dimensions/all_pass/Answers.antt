@@ -11,8 +11,8 @@ use Rattle.vr_pathfilters.proofs.dimensions.all_pass.Goals as goal
 
 pub returns-in_err-passed-clause-count : goal.returns-in_err-passed-clause-count
 returns-in_err-passed-clause-count g c =
-    let f = list_weight c.args.model.now c.args.d in
-    let lists = c.args.routes.now.lists in
+    let f = list_weight c.args.at.now.closed.model.now c.args.at.now.d in
+    let lists = c.args.at.now.routes.now.lists in
     let parts = c.args.change.now in
     let are = c.requires.made.makes.parts_are in
     let k = c.loop-k.k in
@@ -21,8 +21,8 @@ returns-in_err-passed-clause-count g c =
 
 pub returns-in_err-passed-clause-tries : goal.returns-in_err-passed-clause-tries
 returns-in_err-passed-clause-tries g c =
-    let f = list_tries c.args.model.now c.args.d in
-    let lists = c.args.routes.now.lists in
+    let f = list_tries c.args.at.now.closed.model.now c.args.at.now.d in
+    let lists = c.args.at.now.routes.now.lists in
     let parts = c.args.change.now in
     let are = c.requires.made.makes.parts_are in
     let k = c.loop-k.k in
@@ -31,15 +31,15 @@ returns-in_err-passed-clause-tries g c =
 
 pub returns-then-not-passed-clause-answer : goal.returns-then-not-passed-clause-answer
 returns-then-not-passed-clause-answer g c =
-    let m = c.args.model.now in
-    let lists = c.args.routes.now.lists in
+    let m = c.args.at.now.closed.model.now in
+    let lists = c.args.at.now.routes.now.lists in
     let parts = c.args.change.now in
-    sym (fails_after (is_feasible_list m c.args.d) lists parts c.requires.made.makes.parts_are c.loop-k.k (omega arith) (sym c.in_ok-passed.ensures.answer ∙ c.if-not-passed.true))
+    sym (fails_after (is_feasible_list m c.args.at.now.d) lists parts c.requires.made.makes.parts_are c.loop-k.k (omega arith) (sym c.in_ok-passed.ensures.answer ∙ c.if-not-passed.true))
 
 pub returns-then-not-passed-clause-count : goal.returns-then-not-passed-clause-count
 returns-then-not-passed-clause-count g c =
-    let f = list_weight c.args.model.now c.args.d in
-    let lists = c.args.routes.now.lists in
+    let f = list_weight c.args.at.now.closed.model.now c.args.at.now.d in
+    let lists = c.args.at.now.routes.now.lists in
     let parts = c.args.change.now in
     let are = c.requires.made.makes.parts_are in
     let k = c.loop-k.k in
@@ -48,8 +48,8 @@ returns-then-not-passed-clause-count g c =
 
 pub returns-then-not-passed-clause-tries : goal.returns-then-not-passed-clause-tries
 returns-then-not-passed-clause-tries g c =
-    let f = list_tries c.args.model.now c.args.d in
-    let lists = c.args.routes.now.lists in
+    let f = list_tries c.args.at.now.closed.model.now c.args.at.now.d in
+    let lists = c.args.at.now.routes.now.lists in
     let parts = c.args.change.now in
     let are = c.requires.made.makes.parts_are in
     let k = c.loop-k.k in
@@ -58,8 +58,8 @@ returns-then-not-passed-clause-tries g c =
 
 pub loop-k-preserved : goal.loop-k-preserved
 loop-k-preserved g c =
-    let m = c.args.model.now in
-    let lists = c.args.routes.now.lists in
+    let m = c.args.at.now.closed.model.now in
+    let lists = c.args.at.now.routes.now.lists in
     let parts = c.args.change.now in
     let are = c.requires.made.makes.parts_are in
     let k = c.loop-k.k in
@@ -68,21 +68,21 @@ loop-k-preserved g c =
       passed = λ j j_low. elim (cases_lt j k) [
         | inl before ↦ c.loop-k.invariant.passed j before
         | inr past ↦ (let e : k ≡ j = omega (arith, j_low, past) in
-            subst (λ i. IsTrue (is_feasible_list m c.args.d (part_at parts i).vehicle (joined lists (part_at parts i).pieces))) e (sym c.in_ok-passed.ensures.answer ∙ c.if-not-passed.false))
+            subst (λ i. IsTrue (is_feasible_list m c.args.at.now.d (part_at parts i).vehicle (joined lists (part_at parts i).pieces))) e (sym c.in_ok-passed.ensures.answer ∙ c.if-not-passed.false))
       ];
-      count = count_more (list_weight m c.args.d) lists parts are k low c.args.steps.now c.loop-k.invariant.count c.part_passes.ensures.count;
-      tries = count_more (list_tries m c.args.d) lists parts are k low c.args.tries.now c.loop-k.invariant.tries c.part_passes.ensures.tries;
+      count = count_more (list_weight m c.args.at.now.d) lists parts are k low c.args.steps.now c.loop-k.invariant.count c.part_passes.ensures.count;
+      tries = count_more (list_tries m c.args.at.now.d) lists parts are k low c.args.tries.now c.loop-k.invariant.tries c.part_passes.ensures.tries;
     }
 
 pub returns-clause-answer : goal.returns-clause-answer
 returns-clause-answer g c =
-    let m = c.args.model.now in
-    let lists = c.args.routes.now.lists in
+    let m = c.args.at.now.closed.model.now in
+    let lists = c.args.at.now.routes.now.lists in
     let parts = c.args.change.now in
-    sym (holds_after (is_feasible_list m c.args.d) lists parts c.requires.made.makes.parts_are c.requires.stands.rule (λ j j_low. c.loop-k.invariant.passed j (omega (arith, j_low))))
+    sym (holds_after (is_feasible_list m c.args.at.now.d) lists parts c.requires.made.makes.parts_are c.requires.stands.rule (λ j j_low. c.loop-k.invariant.passed j (omega (arith, j_low))))
 
 pub returns-clause-count : goal.returns-clause-count
-returns-clause-count g c = count_within (list_weight c.args.model.now c.args.d) c.args.routes.now.lists c.args.change.now c.requires.made.makes.parts_are c.loop-k.k c.args.steps.now c.loop-k.invariant.count
+returns-clause-count g c = count_within (list_weight c.args.at.now.closed.model.now c.args.at.now.d) c.args.at.now.routes.now.lists c.args.change.now c.requires.made.makes.parts_are c.loop-k.k c.args.steps.now c.loop-k.invariant.count
 
 pub returns-clause-tries : goal.returns-clause-tries
-returns-clause-tries g c = count_within (list_tries c.args.model.now c.args.d) c.args.routes.now.lists c.args.change.now c.requires.made.makes.parts_are c.loop-k.k c.args.tries.now c.loop-k.invariant.tries
+returns-clause-tries g c = count_within (list_tries c.args.at.now.closed.model.now c.args.at.now.d) c.args.at.now.routes.now.lists c.args.change.now c.requires.made.makes.parts_are c.loop-k.k c.args.tries.now c.loop-k.invariant.tries

@@ -9,7 +9,7 @@ use Rattle.vr_pathfilters.proofs.dimensions.all_pass.Given as goal
 -- the parts before place k pass
 abbrev pub invariant-loop-k : goal.invariant-loop-k
 invariant-loop-k g l = record {
-  passed : (j : ℕ) → j < l.k → IsTrue (is_feasible_list l.model l.d (part_at l.change j).vehicle (joined l.routes.lists (part_at l.change j).pieces));
-  count : l.steps ≤ l.fn.steps + sum_by (λ p. told_after (list_weight l.model l.d) l.routes.lists l.change p.vehicle) (take l.k l.change);
-  tries : l.tries ≤ l.fn.tries + sum_by (λ p. told_after (list_tries l.model l.d) l.routes.lists l.change p.vehicle) (take l.k l.change);
+  passed : (j : ℕ) → j < l.k → IsTrue (is_feasible_list l.at.closed.model.now l.at.d (part_at l.change j).vehicle (joined l.at.routes.now.lists (part_at l.change j).pieces));
+  count : l.steps ≤ l.fn.steps + sum_by (λ p. told_after (list_weight l.at.closed.model.now l.at.d) l.at.routes.now.lists l.change p.vehicle) (take l.k l.change);
+  tries : l.tries ≤ l.fn.tries + sum_by (λ p. told_after (list_tries l.at.closed.model.now l.at.d) l.at.routes.now.lists l.change p.vehicle) (take l.k l.change);
 }

@@ -1,4 +1,4 @@
-use Rattle.std.proofs.Common.{◌≡◌, ◌∙◌, true, false, List, ℕ, refl, ap, sym, subst}
+use Rattle.std.proofs.Common.{◌≡◌, ◌∙◌, true, false, List, ℕ, refl, rules, ap, sym, subst}
 use Rattle.std.specs.Prelude.{IsTrue}
 use Rattle.std.specs.List.{list_all}
 use Rattle.vr_model.specs.deciding.Testing.{and_left, and_right}
@@ -9,7 +9,6 @@ use Rattle.vr_lists.specs.Pairs.{keeps_pairs}
 use Rattle.vr_routes.specs.Pieces.{joined, part_at}
 use Rattle.vr_pathfilters.proofs.PartEnds.{part_between, part_vehicle, part_within}
 use Rattle.vr_pathfilters.proofs.PartTours.{rule_at, tour_of}
-use Rattle.vr_reach.specs.Spliced.{spliced}
 use Rattle.vr_pathfilters.specs.Counted.{AreCounted, asks_turns}
 use Rattle.vr_pathfilters.specs.Replaced.{takes_turns_between}
 use Rattle.vr_pathfilters.specs.Pairs.{asks_turns_of}
@@ -40,23 +39,37 @@ serves_between-requires-clause-before c =
     and_left (list_all (serves_pair (route lists v)) m.pairs) (keeps_policy m v (route lists v))
     (rule_at (keeps_pairs m) lists c.requires.before v (part_vehicle c.requires.made.makes.parts_are c.args.k c.requires.part c.vehicle-v.ensures))
 
-pub serves_between-requires-clause-distinct : goal.serves_between-requires-clause-distinct
-serves_between-requires-clause-distinct c =
-    (part_between c.requires.knows.knows_tours.well_formed c.requires.knows.knows_tours.tours_are c.requires.made c.args.k c.requires.part c.pieces.ensures.value c.strip-ends.ensures refl (c.as_slice-2.ensures.value ∙ c.join_into.ensures)).tour.distinct
+pub serves_between-requires-clause-ends : goal.serves_between-requires-clause-ends
+serves_between-requires-clause-ends c =
+    let between = part_between c.requires.knows.knows_tours.well_formed c.requires.knows.knows_tours.tours_are c.requires.made c.args.k c.requires.part c.pieces.ensures.value c.strip-ends.ensures refl (c.as_slice-2.ensures.value ∙ c.join_into.ensures) in
+    record {
+      vehicle = part_vehicle c.requires.made.makes.parts_are c.args.k c.requires.part c.vehicle-v.ensures;
+      seams = record { order = c.strip-ends.ensures.order; high = c.strip-ends.ensures.high };
+      marked = search rules;
+      few = search rules;
+      distinct = between.tour.distinct;
+    }
 
 pub put_between-requires-clause-nodes : goal.put_between-requires-clause-nodes
 put_between-requires-clause-nodes c =
-    (part_between c.requires.knows.knows_tours.well_formed c.requires.knows.knows_tours.tours_are c.requires.made c.args.k c.requires.part c.pieces.ensures.value c.strip-ends.ensures refl (c.as_slice-3.ensures.value ∙ c.join_into.ensures)).nodes
+    (part_between c.requires.knows.knows_tours.well_formed c.requires.knows.knows_tours.tours_are c.requires.made c.args.k c.requires.part c.pieces.ensures.value c.strip-ends.ensures refl (c.as_slice-2.ensures.value ∙ c.join_into.ensures)).nodes
 
 pub put_between-requires-clause-distinct : goal.put_between-requires-clause-distinct
 put_between-requires-clause-distinct c =
     let ends = c.strip-ends.result in
-    distinct_between (route c.args.routes.now.lists c.vehicle-v.result) c.as_slice-3.result.now ends.front ends.behind
-    (part_between c.requires.knows.knows_tours.well_formed c.requires.knows.knows_tours.tours_are c.requires.made c.args.k c.requires.part c.pieces.ensures.value c.strip-ends.ensures refl (c.as_slice-3.ensures.value ∙ c.join_into.ensures)).tour.distinct
+    distinct_between (route c.args.routes.now.lists c.vehicle-v.result) c.as_slice-2.result.now ends.front ends.behind
+    (part_between c.requires.knows.knows_tours.well_formed c.requires.knows.knows_tours.tours_are c.requires.made c.args.k c.requires.part c.pieces.ensures.value c.strip-ends.ensures refl (c.as_slice-2.ensures.value ∙ c.join_into.ensures)).tour.distinct
 
-pub takes_turns-requires-clause-distinct : goal.takes_turns-requires-clause-distinct
-takes_turns-requires-clause-distinct c =
-    (part_between c.requires.knows.knows_tours.well_formed c.requires.knows.knows_tours.tours_are c.requires.made c.args.k c.requires.part c.pieces.ensures.value c.strip-ends.ensures refl (c.as_slice-4.ensures.value ∙ c.join_into.ensures)).tour.distinct
+pub takes_turns-requires-clause-ends : goal.takes_turns-requires-clause-ends
+takes_turns-requires-clause-ends c =
+    let between = part_between c.requires.knows.knows_tours.well_formed c.requires.knows.knows_tours.tours_are c.requires.made c.args.k c.requires.part c.pieces.ensures.value c.strip-ends.ensures refl (c.as_slice-2.ensures.value ∙ c.join_into.ensures) in
+    record {
+      vehicle = part_vehicle c.requires.made.makes.parts_are c.args.k c.requires.part c.vehicle-v.ensures;
+      seams = record { order = c.strip-ends.ensures.order; high = c.strip-ends.ensures.high };
+      marked = search rules;
+      few = search rules;
+      distinct = between.tour.distinct;
+    }
 
 pub takes_turns-requires-clause-listed : goal.takes_turns-requires-clause-listed
 takes_turns-requires-clause-listed c =
@@ -85,12 +98,11 @@ returns-clause-answer c =
     let new : List ℕ = joined lists part.pieces in
     let ends = c.strip-ends.result in
     let old : List ℕ = route lists v in
-    let middle = c.as_slice-4.result.now in
+    let middle = c.as_slice-2.result.now in
     let low = part_vehicle c.requires.made.makes.parts_are c.args.k c.requires.part c.vehicle-v.ensures in
     let kept = rule_at (keeps_pairs m) lists c.requires.before v low in
-    let same_middle : c.as_slice-2.result.now ≡ middle = (c.as_slice-2.ensures.value ∙ c.join_into.ensures) ∙ sym (c.as_slice-4.ensures.value ∙ c.join_into.ensures) in
-    let between = part_between c.requires.knows.knows_tours.well_formed c.requires.knows.knows_tours.tours_are c.requires.made c.args.k c.requires.part c.pieces.ensures.value c.strip-ends.ensures refl (c.as_slice-4.ensures.value ∙ c.join_into.ensures) in
-    let served = subst (λ ns. list_all (serves_pair (spliced old ends.front ends.behind ns)) m.pairs ≡ true) same_middle (sym c.serves_between.ensures ∙ c.if-not-serves_between.false) in
+    let between = part_between c.requires.knows.knows_tours.well_formed c.requires.knows.knows_tours.tours_are c.requires.made c.args.k c.requires.part c.pieces.ensures.value c.strip-ends.ensures refl (c.as_slice-2.ensures.value ∙ c.join_into.ensures) in
+    let served = sym c.serves_between.ensures ∙ c.if-not-serves_between.false in
     c.takes_turns.ensures
     ∙ (ap (λ policy. takes_turns_between m policy old ends.front ends.behind middle) c.policy_of-policy.ensures
     ∙ (keeps_between m v old middle ends.front ends.behind c.requires.knows.knows_tours.well_formed (record { order = c.strip-ends.ensures.order; high = c.strip-ends.ensures.high })
