@@ -77,7 +77,7 @@ fn table_of(alloc: Global, closed: Closed<'_>, d: u32) -> Result<Table, NoMemory
     ensures { IfOk result (IsTable closed.entry.model.now d) }
 {
     Ok(Table {
-        stops: Stops::build(alloc, closed.model, d)?,
+        stops: Stops::build(alloc, closed, d)?,
         rows: row_places(alloc, closed, d)?,
         is_free: is_free(closed.model.dimensions.get(d as usize)),
         is_hard: is_hard(closed.model.dimensions.get(d as usize)),

@@ -23,7 +23,7 @@ use crate::tables::{Table, row_of};
 use arrayvec::ArrayVec;
 use std::alloc::Global;
 use vr_model::{Closed, Dimension, Model, NoMemory, ScheduleRule, Seq, StopRow};
-use vr_reach::{Cumuls, write_earliest, write_line};
+use vr_reach::{Cumuls, StopsFor, write_earliest, write_line};
 use vr_steps::{Breaks, Line};
 
 /// What the soft upper bounds of a list cost at its chosen schedule, and the cumuls of its start and end.
@@ -89,7 +89,13 @@ pub fn timing_of(
     if write_early(closed, table, d, v, list, &mut timer.early) {
         return Ok(timing_at(closed, table, d, v, list, timer.early.as_slice()));
     }
-    write_line(model, d, v, &table.stops, list, &mut timer.line)?;
+    let stops = StopsFor {
+        closed,
+        d,
+        v,
+        of_dimension: &table.stops,
+    };
+    write_line(&stops, list, &mut timer.line)?;
     let rule = model.vehicles.get(v as usize).schedule;
     if !timer.chooser.choose(timer.alloc, &timer.line, rule)? {
         return Ok(Timing {
@@ -123,8 +129,14 @@ fn write_early(
     ensures stops { IsTrue result → length cumuls.new.items ≡ suc (suc (length list.now)) }
     ensures range { IsTrue result → All (IsIn (pos 0) horizon) cumuls.new.items }
 {
+    let stops = StopsFor {
+        closed,
+        d,
+        v,
+        of_dimension: &table.stops,
+    };
     match closed.model.vehicles.get(v as usize).schedule {
-        ScheduleRule::Earliest => write_earliest(closed.model, d, v, &table.stops, list, cumuls),
+        ScheduleRule::Earliest => write_earliest(&stops, list, cumuls),
         ScheduleRule::Tight => false,
     }
 }
