@@ -8,13 +8,14 @@ ghost use Rattle.vr_model.specs.routes.Rules.{is_open as is_open_of, is_route_op
 ghost use Rattle.vr_model.specs.routes.Rules.{is_valid as is_valid_of};
 ghost use Rattle.vr_model.specs.tables.Tables.{is_visit};
 ghost use Rattle.vr_model.specs.tables.WellFormed.{IsWellFormed};
+ghost use Rattle.vr_rules.specs.Placing.{AreBuilt};
 ghost use Rattle.vr_rules.specs.Totals.{HasTotal};
 
 use crate::costs::total_cost;
 use crate::marks::write_marks;
 use crate::parts::parts_of;
 use crate::routes_open::{Driving, is_route_open};
-use crate::validity::{is_open, is_valid};
+use crate::validity::{is_open, is_open_beside, is_valid, is_valid_where_open};
 use std::alloc::Global;
 use std::marker::Model;
 use vr_lists::NodeTables;
@@ -126,6 +127,41 @@ impl<'m> Rules<'m> {
             &kept.marks,
             &mut kept.driving,
         )?;
+        Ok(answer)
+    }
+
+    /// The same, where other routes of the model are open. A list that is the same there is not asked again.
+    pub fn open_beside(&mut self, others: &Routes, routes: &Routes) -> Result<bool, NoMemory>
+        requires others { AreBuilt self.old others.now.lists }
+        requires lists { IsTrue (are_lists self.old routes.now.lists) }
+        ensures answer { IfOk result (λ answer. answer ≡ is_open_of self.old routes.now.lists) }
+        ensures model { self.new ≡ self.old }
+    {
+        let kept = &mut *self.kept;
+        write_marks(self.model, routes, &mut kept.marks)?;
+        let answer = is_open_beside(
+            Closed { model: self.model },
+            &self.tables,
+            &self.lookups,
+            others,
+            routes,
+            &kept.marks,
+            &mut kept.driving,
+        )?;
+        Ok(answer)
+    }
+
+    /// Whether routes of the model are valid, where they are open: each visit in no group is active, and each group
+    /// without a penalty has exactly as many active nodes as it may have.
+    pub fn valid_where_open(&mut self, routes: &Routes) -> Result<bool, NoMemory>
+        requires built { AreBuilt self.old routes.now.lists }
+        ensures answer { IfOk result (λ answer. answer ≡ is_valid_of self.old routes.now.lists) }
+        ensures model { self.new ≡ self.old }
+    {
+        let kept = &mut *self.kept;
+        write_marks(self.model, routes, &mut kept.marks)?;
+        let closed = Closed { model: self.model };
+        let answer = is_valid_where_open(closed, &self.lookups, routes, &kept.marks);
         Ok(answer)
     }
 

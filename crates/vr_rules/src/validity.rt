@@ -1,11 +1,13 @@
 //! Which routes are open, and which are valid.
 
-ghost use Rattle.std.specs.Prelude.{◌≡◌, ◌<◌, All, IfOk, IsTrue, count_by, length, nat_le};
+ghost use Rattle.std.specs.Prelude.{◌≡◌, ◌<◌, All, IfOk, IsTrue, count_by, length, nat_le, true};
 ghost use Rattle.std.specs.List.{list_all};
-ghost use Rattle.vr_model.specs.routes.Routes.{are_lists};
-ghost use Rattle.vr_model.specs.routes.Rules.{is_open as is_open_of, is_valid as is_valid_of};
-ghost use Rattle.vr_rules.specs.Placing.{fits_by, AreMarks};
+ghost use Rattle.vr_model.specs.tables.Tables.{is_visit};
+ghost use Rattle.vr_model.specs.routes.Routes.{are_lists, is_distinct};
+ghost use Rattle.vr_model.specs.routes.Rules.{is_open as is_open_of, is_route_open as is_route_open_of};
+ghost use Rattle.vr_model.specs.routes.Rules.{is_valid as is_valid_of};
 ghost use Rattle.vr_routes.specs.Tours.{are_routes_open as are_routes_open_of};
+ghost use Rattle.vr_rules.specs.Placing.{fits_by, AreBuilt, AreMarks};
 ghost use Rattle.vr_plan.specs.Tables.{AreTables};
 
 use crate::complete::{is_complete, marked};
@@ -30,6 +32,62 @@ fn are_routes_open(
 {
     for v in 0..routes.vehicles() {
         if !is_route_open(closed.model, tables, lookups, v, routes.list(v), driving)? {
+            return Ok(false);
+        }
+    }
+    Ok(true)
+}
+
+// Whether two lists have the same nodes in the same order.
+fn is_same(one: &[u32], other: &[u32]) -> bool
+    ensures { IsTrue result → one.now ≡ other.now }
+{
+    one == other
+}
+
+// Whether a vehicle may drive a list, where it may drive another one.
+fn stays_open(
+    closed: Closed<'_>,
+    tables: &[Table],
+    lookups: &NodeTables<'_>,
+    v: u32,
+    other: &[u32],
+    list: &[u32],
+    driving: &mut Driving,
+) -> Result<bool, NoMemory>
+    requires tables { AreTables closed.model.now tables.now }
+    requires lookups { lookups.now ≡ closed.model.now }
+    requires vehicle { v < length closed.model.now.vehicles }
+    requires visits { IsTrue (list_all (is_visit closed.model.now) list.now) }
+    requires distinct { IsTrue (is_distinct list.now) }
+    requires other { is_route_open_of closed.model.now v other.now ≡ true }
+    ensures { IfOk result (λ answer. answer ≡ is_route_open_of closed.entry.model.now v list.now) }
+{
+    if is_same(list, other) {
+        return Ok(true);
+    }
+    let open = is_route_open(closed.model, tables, lookups, v, list, driving)?;
+    Ok(open)
+}
+
+// Whether each vehicle may drive its list, where each may drive its list of others.
+fn are_routes_open_beside(
+    closed: Closed<'_>,
+    tables: &[Table],
+    lookups: &NodeTables<'_>,
+    others: &Routes,
+    routes: &Routes,
+    driving: &mut Driving,
+) -> Result<bool, NoMemory>
+    requires tables { AreTables closed.model.now tables.now }
+    requires lookups { lookups.now ≡ closed.model.now }
+    requires others { AreBuilt closed.model.now others.now.lists }
+    requires lists { IsTrue (are_lists closed.model.now routes.now.lists) }
+    ensures { IfOk result (λ all. all ≡ are_routes_open_of closed.entry.model.now routes.now.lists) }
+{
+    for v in 0..routes.vehicles() {
+        let (other, list) = (others.list(v), routes.list(v));
+        if !stays_open(closed, tables, lookups, v, other, list, driving)? {
             return Ok(false);
         }
     }
@@ -77,6 +135,47 @@ pub(crate) fn is_open(
     }
     let all = are_routes_open(closed, tables, lookups, routes, driving)?;
     Ok(all)
+}
+
+// The same, where others are open.
+pub(crate) fn is_open_beside(
+    closed: Closed<'_>,
+    tables: &[Table],
+    lookups: &NodeTables<'_>,
+    others: &Routes,
+    routes: &Routes,
+    marks: &[bool],
+    driving: &mut Driving,
+) -> Result<bool, NoMemory>
+    requires tables { AreTables closed.model.now tables.now }
+    requires lookups { lookups.now ≡ closed.model.now }
+    requires others { AreBuilt closed.model.now others.now.lists }
+    requires lists { IsTrue (are_lists closed.model.now routes.now.lists) }
+    requires marks { AreMarks closed.model.now.nodes routes.now.lists marks.now }
+    ensures { IfOk result (λ answer. answer ≡ is_open_of closed.entry.model.now routes.now.lists) }
+{
+    if !groups_fit(closed, marks) {
+        return Ok(false);
+    }
+    let all = are_routes_open_beside(closed, tables, lookups, others, routes, driving)?;
+    Ok(all)
+}
+
+// Whether open routes of the model are valid, by the marks of their active nodes.
+pub(crate) fn is_valid_where_open(
+    closed: Closed<'_>,
+    lookups: &NodeTables<'_>,
+    routes: &Routes,
+    marks: &[bool],
+) -> bool
+    requires lookups { lookups.now ≡ closed.model.now }
+    requires built { AreBuilt closed.model.now routes.now.lists }
+    requires marks { AreMarks closed.model.now.nodes routes.now.lists marks.now }
+    ensures { result ≡ is_valid_of closed.entry.model.now routes.now.lists }
+{
+    // the marks are those of the routes
+    let _marked = routes;
+    is_complete(closed.model, lookups, marks)
 }
 
 // Whether routes of the model are valid, by the marks of their active nodes.
