@@ -1,6 +1,6 @@
 -- What a list shares with one that has a visit or a pair put in.
 use Rattle.std.proofs.Common.{◌≡◌, ◌∙◌, ◌+◌, ◌-◌, ◌≤◌, ◌++◌, ℕ, zero, suc, List, [], ◌∷◌, refl, ap, sym, subst, arith, length, take, drop}
-use Rattle.std.specs.Prelude.{insert, slice_range}
+use Rattle.std.specs.Prelude.{insert}
 use Rattle.std.proofs.lemmas.List.Edits.{length-insert}
 use Rattle.vr_model.specs.moves.Moves.{with_pair}
 use Rattle.vr_model.specs.declared.records.Pair.{Pair}

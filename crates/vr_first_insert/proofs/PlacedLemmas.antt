@@ -99,10 +99,10 @@ apart p d h = or-false_left (p == d) false (fails_not ((p == d) || false) (and_l
 
 pub placed-visits : (model : Model) (list : List ℕ) (placing : Placing) → AreWithin list placing → MayHold model list (item_in placing) → list_all (is_visit model) (placed list placing) ≡ true
 placed-visits model list (One n t) within may =
-    one-all (is_visit model) (take t list) (drop t list) n (and_left (is_visit model n) true may.is_item.visits) (ap (list_all (is_visit model)) (take-append-drop t list) ∙ may.visits)
+    one-all (is_visit model) (take t list) (drop t list) n (and_left (is_visit model n) true may.nodes.visits) (ap (list_all (is_visit model)) (take-append-drop t list) ∙ may.visits)
 placed-visits model list (Two p d s t) within may =
     two-all (is_visit model) (take s list) (slice_range list s t) (drop t list) p d
-    (and_left (is_visit model p) _ may.is_item.visits) (and_left (is_visit model d) true (and_right (is_visit model p) _ may.is_item.visits))
+    (and_left (is_visit model p) _ may.nodes.visits) (and_left (is_visit model d) true (and_right (is_visit model p) _ may.nodes.visits))
     (ap (list_all (is_visit model)) (split-three list s t within.0) ∙ may.visits)
 
 pub placed-distinct : (model : Model) (list : List ℕ) (placing : Placing) → AreWithin list placing → MayHold model list (item_in placing) → is_distinct (placed list placing) ≡ true
@@ -112,14 +112,14 @@ placed-distinct model list (One n t) within may =
 placed-distinct model list (Two p d s t) within may =
     let whole = split-three list s t within.0 in
     two-distinct (take s list) (slice_range list s t) (drop t list) p d (ap is_distinct whole ∙ may.distinct)
-    (ap (λ l. holds l p) whole ∙ may.absent p (first-there p ((p == d) || false))) (ap (λ l. holds l d) whole ∙ may.absent d (second-there d p)) (apart p d may.is_item.distinct)
+    (ap (λ l. holds l p) whole ∙ may.absent p (first-there p ((p == d) || false))) (ap (λ l. holds l d) whole ∙ may.absent d (second-there d p)) (apart p d may.nodes.distinct)
 
 -- an item that stands in no list may be put into each
 pub MayHold-inactive : (model : Model) (lists : List (List ℕ)) (v : ℕ) (item : Item) → AreBuilt model lists → IsItem model item → is_active lists (first_node (nodes_of item)) ≡ false → MayHold model (route lists v) item
 MayHold-inactive model lists v item built valid first = record {
   visits = built-visits model lists v built;
   distinct = built-distinct model lists v built;
-  is_item = valid;
+  nodes = record { visits = valid.visits; distinct = valid.distinct };
   absent = λ node there. inactive-route lists node v (item-inactive model lists item valid built.are_open first node there);
 }
 

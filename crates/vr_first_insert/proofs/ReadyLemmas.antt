@@ -49,7 +49,7 @@ pub MayHold-pickup : (model : Model) (list : List ℕ) (p d : ℕ) → MayHold m
 MayHold-pickup model list p d may = record {
   visits = may.visits;
   distinct = may.distinct;
-  is_item = record { visits = and_both (is_visit model p) true (and_left (is_visit model p) _ may.is_item.visits) refl; distinct = refl; of_pairs = tt };
+  nodes = record { visits = and_both (is_visit model p) true (and_left (is_visit model p) _ may.nodes.visits) refl; distinct = refl };
   absent = λ node there. may.absent node (first-only _ _ there);
 }
 

@@ -16,6 +16,7 @@ use Rattle.vr_rules.specs.declared.items.Item.{Item}
 use Rattle.vr_rules.specs.declared.items.Item.TheVariants.{Visit, PickupAndDelivery}
 use Rattle.vr_rules.specs.declared.items.Candidate.{Candidate}
 use Rattle.vr_rules.specs.Placing.{nodes_of, has_room, is_marked, IsItem}
+use Rattle.vr_reach.specs.Lists.{IsTour}
 use Rattle.vr_first_insert.specs.declared.choice.Placing.{Placing}
 use Rattle.vr_first_insert.specs.declared.choice.Placing.TheVariants.{One, Two}
 use Rattle.vr_first_insert.specs.declared.choice.Choice.{Choice}
@@ -107,11 +108,11 @@ abbrev pub best_beside : Model → List (List ℕ) → List Bool → Candidate �
 best_beside model lists marks candidate best = cond (counts model marks candidate)
     (best_in_lists model lists candidate (length lists) best) best
 
--- a list of distinct visits that an item may be put into: none of its nodes stands there
+-- a list of distinct visits that an item may be put into: its nodes are distinct visits too, and none stands there
 pub record MayHold (model : Model) (list : List ℕ) (item : Item) : Type 0 where
   pub visits : IsTrue (list_all (is_visit model) list)
   pub distinct : IsTrue (is_distinct list)
-  pub is_item : IsItem model item
+  pub nodes : IsTour model (nodes_of item)
   pub absent : (node : ℕ) → holds (nodes_of item) node ≡ true → holds list node ≡ false
 
 -- an insertion that may be made: its item stands in no list, its places are there, and the lists stay open

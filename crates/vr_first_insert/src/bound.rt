@@ -1,24 +1,23 @@
 //! What no place of a list can do better than.
 
-ghost use Rattle.std.specs.Prelude.{◌≡◌, ℕ, ◌<◌, ◌≤◌, ◌^◌, All, OnOk, cond, int_lt, length, neg_ℤ, pos, ◌+ℤ◌, ◌≤ℤ◌};
+ghost use Rattle.std.specs.Prelude.{◌≡◌, ℕ, ◌<◌, ◌≤◌, ◌^◌, OnOk, cond, int_lt, length, neg_ℤ, pos, ◌+ℤ◌, ◌≤ℤ◌};
 ghost use Rattle.vr_first_insert.specs.Increases.{pair_increase as pair_increase_of};
 ghost use Rattle.vr_first_insert.specs.Placings.{AreLeastAhead, IsFirstLeast, IsLeast};
 
 use crate::increase::{pair_increase, visit_increase};
-use vr_model::{Closed, NoMemory, Seq};
+use crate::vehicle_list::VehicleList;
+use vr_model::{NoMemory, Seq};
 
-/// The least that a visit adds to the list of vehicle `v`.
-pub(crate) fn least_visit(closed: Closed<'_>, v: u32, list: &[u32], node: u32) -> i64
-    requires vehicle { v < length closed.model.now.vehicles }
-    requires nodes { All (λ node. node < closed.model.now.nodes) list.now }
-    requires visit { node < closed.model.now.nodes }
-    ensures least { IsLeast closed.entry.model.now v list.now node result }
+/// The least that a visit adds to a list.
+pub(crate) fn least_visit(list: &VehicleList<'_>, node: u32) -> i64
+    requires { node < list.now.closed.model.now.nodes }
+    ensures least { IsLeast list.now.closed.model.now list.now.vehicle list.now.nodes.now node result }
     ensures low { neg_ℤ (pos (2 ^ 40)) ≤ℤ result }
     ensures high { result ≤ℤ pos (2 ^ 41) }
 {
-    let mut least = visit_increase(closed, v, list, node, 0);
-    for t in 1..list.len() + 1 {
-        least = least.min(visit_increase(closed, v, list, node, t));
+    let mut least = visit_increase(list, node, 0);
+    for t in 1..list.nodes.len() + 1 {
+        least = least.min(visit_increase(list, node, t));
     }
     least
 }
@@ -44,41 +43,36 @@ fn cheaper(at: Cheapest, t: usize, next: i64) -> Cheapest
     }
 }
 
-/// The first of the places of the list of vehicle `v` before which a visit adds least.
-pub(crate) fn least_place(closed: Closed<'_>, v: u32, list: &[u32], node: u32) -> usize
-    requires vehicle { v < length closed.model.now.vehicles }
-    requires nodes { All (λ node. node < closed.model.now.nodes) list.now }
-    requires visit { node < closed.model.now.nodes }
-    ensures { IsFirstLeast closed.entry.model.now v list.now node result }
+/// The first of the places of a list before which a visit adds least.
+pub(crate) fn least_place(list: &VehicleList<'_>, node: u32) -> usize
+    requires { node < list.now.closed.model.now.nodes }
+    ensures { IsFirstLeast list.now.closed.model.now list.now.vehicle list.now.nodes.now node result }
 {
     let mut at = Cheapest {
         place: 0,
-        least: visit_increase(closed, v, list, node, 0),
+        least: visit_increase(list, node, 0),
     };
-    for t in 1..list.len() + 1 {
-        at = cheaper(at, t, visit_increase(closed, v, list, node, t));
+    for t in 1..list.nodes.len() + 1 {
+        at = cheaper(at, t, visit_increase(list, node, t));
     }
     at.place
 }
 
-/// Writes the least that a visit adds to the list of vehicle `v` before its last places: before the last one, before
+/// Writes the least that a visit adds to a list before its last places: before the last one, before
 /// the last two, and so on up to all.
 pub(crate) fn write_ahead(
-    closed: Closed<'_>,
-    v: u32,
-    list: &[u32],
+    list: &VehicleList<'_>,
     node: u32,
     ahead: &mut Seq<i64>,
 ) -> Result<(), NoMemory>
-    requires vehicle { v < length closed.model.now.vehicles }
-    requires nodes { All (λ node. node < closed.model.now.nodes) list.now }
-    requires visit { node < closed.model.now.nodes }
-    ensures { OnOk result (AreLeastAhead closed.entry.model.now v list.now node ahead.new) }
+    requires { node < list.now.closed.model.now.nodes }
+    ensures { OnOk result (AreLeastAhead list.now.closed.model.now list.now.vehicle list.now.nodes.now node
+        ahead.new) }
 {
     ahead.truncate(0);
-    let mut least = visit_increase(closed, v, list, node, list.len());
-    for k in 0..list.len() + 1 {
-        least = least.min(visit_increase(closed, v, list, node, list.len() - k));
+    let mut least = visit_increase(list, node, list.nodes.len());
+    for k in 0..list.nodes.len() + 1 {
+        least = least.min(visit_increase(list, node, list.nodes.len() - k));
         ahead.push(least)?;
     }
     Ok(())
@@ -99,76 +93,59 @@ pub(crate) fn least_apart(pickup: i64, least: i64) -> i64
 
 /// What a pair adds at least with its pickup before place `s`, where the delivery alone adds `least` at least.
 pub(crate) fn least_behind(
-    closed: Closed<'_>,
-    v: u32,
-    list: &[u32],
+    list: &VehicleList<'_>,
     pickup: u32,
     delivery: u32,
     s: usize,
     least: i64,
 ) -> i64
-    requires vehicle { v < length closed.model.now.vehicles }
-    requires nodes { All (λ node. node < closed.model.now.nodes) list.now }
-    requires pickup { pickup < closed.model.now.nodes }
-    requires delivery { delivery < closed.model.now.nodes }
-    requires within { s ≤ length list.now }
-    requires least { IsLeast closed.model.now v list.now delivery least }
+    requires pickup { pickup < list.now.closed.model.now.nodes }
+    requires delivery { delivery < list.now.closed.model.now.nodes }
+    requires within { s ≤ length list.now.nodes.now }
+    requires least { IsLeast list.now.closed.model.now list.now.vehicle list.now.nodes.now delivery least }
     requires low { neg_ℤ (pos (2 ^ 40)) ≤ℤ least }
     requires high { least ≤ℤ pos (2 ^ 41) }
-    ensures least { (t : ℕ) → t ≤ length list.now
-        → result ≤ℤ pair_increase_of closed.entry.model.now v list.now pickup delivery s t }
+    ensures least { (t : ℕ) → t ≤ length list.now.nodes.now
+        → result ≤ℤ pair_increase_of list.now.closed.model.now list.now.vehicle list.now.nodes.now
+        pickup delivery s t }
     ensures low { neg_ℤ (pos (2 ^ 41)) ≤ℤ result }
     ensures high { result ≤ℤ pos (2 ^ 42) }
 {
-    let together = pair_increase(closed, v, list, pickup, delivery, s, s);
-    let apart = visit_increase(closed, v, list, pickup, s) + least;
+    let together = pair_increase(list, pickup, delivery, s, s);
+    let apart = visit_increase(list, pickup, s) + least;
     together.min(apart)
 }
 
 /// What a pair adds at least with its pickup before place `s` and its delivery behind, where the delivery alone adds
 /// `least` at least.
-pub(crate) fn least_further(
-    closed: Closed<'_>,
-    v: u32,
-    list: &[u32],
-    pickup: u32,
-    s: usize,
-    least: i64,
-) -> i64
-    requires vehicle { v < length closed.model.now.vehicles }
-    requires nodes { All (λ node. node < closed.model.now.nodes) list.now }
-    requires pickup { pickup < closed.model.now.nodes }
-    requires within { s ≤ length list.now }
+pub(crate) fn least_further(list: &VehicleList<'_>, pickup: u32, s: usize, least: i64) -> i64
+    requires pickup { pickup < list.now.closed.model.now.nodes }
+    requires within { s ≤ length list.now.nodes.now }
     requires low { neg_ℤ (pos (2 ^ 40)) ≤ℤ least }
     requires high { least ≤ℤ pos (2 ^ 41) }
-    ensures least { (delivery t : ℕ) → IsLeast closed.entry.model.now v list.now delivery least → s < t
-        → t ≤ length list.now
-        → result ≤ℤ pair_increase_of closed.entry.model.now v list.now pickup delivery s t }
+    ensures least { (delivery t : ℕ)
+        → IsLeast list.now.closed.model.now list.now.vehicle list.now.nodes.now delivery least
+        → s < t → t ≤ length list.now.nodes.now
+        → result ≤ℤ pair_increase_of list.now.closed.model.now list.now.vehicle list.now.nodes.now
+        pickup delivery s t }
     ensures low { neg_ℤ (pos (2 ^ 41)) ≤ℤ result }
     ensures high { result ≤ℤ pos (2 ^ 42) }
 {
-    visit_increase(closed, v, list, pickup, s) + least
+    visit_increase(list, pickup, s) + least
 }
 
-/// The least that a pair adds to the list of vehicle `v`.
-pub(crate) fn least_pair(
-    closed: Closed<'_>,
-    v: u32,
-    list: &[u32],
-    pickup: u32,
-    delivery: u32,
-) -> i64
-    requires vehicle { v < length closed.model.now.vehicles }
-    requires nodes { All (λ node. node < closed.model.now.nodes) list.now }
-    requires pickup { pickup < closed.model.now.nodes }
-    requires delivery { delivery < closed.model.now.nodes }
-    ensures { (s t : ℕ) → s ≤ length list.now → t ≤ length list.now
-        → result ≤ℤ pair_increase_of closed.entry.model.now v list.now pickup delivery s t }
+/// The least that a pair adds to a list.
+pub(crate) fn least_pair(list: &VehicleList<'_>, pickup: u32, delivery: u32) -> i64
+    requires pickup { pickup < list.now.closed.model.now.nodes }
+    requires delivery { delivery < list.now.closed.model.now.nodes }
+    ensures { (s t : ℕ) → s ≤ length list.now.nodes.now → t ≤ length list.now.nodes.now
+        → result ≤ℤ pair_increase_of list.now.closed.model.now list.now.vehicle list.now.nodes.now
+        pickup delivery s t }
 {
-    let alone = least_visit(closed, v, list, delivery);
-    let mut least = least_behind(closed, v, list, pickup, delivery, 0, alone);
-    for s in 1..list.len() + 1 {
-        least = least.min(least_behind(closed, v, list, pickup, delivery, s, alone));
+    let alone = least_visit(list, delivery);
+    let mut least = least_behind(list, pickup, delivery, 0, alone);
+    for s in 1..list.nodes.len() + 1 {
+        least = least.min(least_behind(list, pickup, delivery, s, alone));
     }
     least
 }

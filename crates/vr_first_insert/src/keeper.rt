@@ -2,13 +2,13 @@
 
 ghost use Rattle.std.specs.Prelude.{◌≡◌, ◌<◌, List, IfOk, IsTrue, OnOk, length};
 ghost use Rattle.vr_model.specs.first.CheapestInsertion.{rebuilt};
-ghost use Rattle.vr_model.specs.first.Items.{items};
+ghost use Rattle.vr_model.specs.first.Items.{items as items_of};
 ghost use Rattle.vr_model.specs.moves.Moves.{with_route};
-ghost use Rattle.vr_model.specs.routes.Routes.{are_lists, route};
-ghost use Rattle.vr_model.specs.routes.Rules.{is_open};
+ghost use Rattle.vr_model.specs.routes.Routes.{route};
 ghost use Rattle.vr_reach.specs.Lists.{IsTour};
 ghost use Rattle.vr_rules.specs.declared.items.Candidate.{Candidate as AnyCandidate};
-ghost use Rattle.vr_rules.specs.Placing.{AreBuilt, AreCandidates, AreMarks};
+ghost use Rattle.vr_rules.specs.Placing.{AreBuilt, AreMarks};
+ghost use Rattle.vr_first_insert.specs.Asking.{AreItems};
 ghost use Rattle.vr_first_insert.specs.KeptRows.{AreKept};
 ghost use Rattle.vr_first_insert.specs.Keeping.{IsKeeper};
 ghost use Rattle.vr_first_insert.specs.Kept.{AreRows};
@@ -17,7 +17,7 @@ use crate::kept::{Kept, keep_each, learn};
 use crate::known::{Known, forget, rows_of};
 use crate::place::write_list;
 use crate::room::Room;
-use crate::search::insert_all;
+use crate::search::{Items, insert_all};
 use std::alloc::Global;
 use vr_lists::NodeTables;
 use vr_model::{Closed, NoMemory, Seq};
@@ -76,32 +76,29 @@ fn take_list(
 // Takes the lists of routes over, and inserts items into them as long as one may be inserted.
 fn insert_into(
     room: &mut Room,
-    closed: Closed<'_>,
-    lookups: &NodeTables<'_>,
-    keeps: &mut [Kept],
-    candidates: &[Candidate],
+    items: &Items<'_>,
     routes: &Routes,
+    keeps: &mut [Kept],
     lists: &mut [Seq<u32>],
     marks: &mut [bool],
     rows: &mut [Seq<Known>],
 ) -> Result<(), NoMemory>
-    requires lookups { lookups.now ≡ closed.model.now }
-    requires vehicles { length lists.old ≡ length closed.model.now.vehicles }
-    requires kept { AreKept closed.model.now lists.old keeps.old }
-    requires candidates { AreCandidates closed.model.now candidates.now }
-    requires rows { AreRows closed.model.now lists.old candidates.now rows.old }
-    requires built { AreBuilt closed.model.now routes.now.lists }
-    requires marks { AreMarks closed.model.now.nodes routes.now.lists marks.old }
+    requires items { AreItems items.now }
+    requires vehicles { length lists.old ≡ length items.now.closed.model.now.vehicles }
+    requires kept { AreKept items.now.closed.model.now lists.old keeps.old }
+    requires rows { AreRows items.now.closed.model.now lists.old items.now.candidates.now rows.old }
+    requires built { AreBuilt items.now.closed.model.now routes.now.lists }
+    requires marks { AreMarks items.now.closed.model.now.nodes routes.now.lists marks.old }
     ensures rebuilt { OnOk result (lists.new
-        ≡ rebuilt closed.entry.model.now (length (items closed.entry.model.now)) routes.now.lists) }
-    ensures built { OnOk result (AreBuilt closed.entry.model.now lists.new) }
-    ensures kept { OnOk result (AreKept closed.entry.model.now lists.new keeps.new) }
-    ensures rows { OnOk result (AreRows closed.entry.model.now lists.new candidates.now rows.new) }
+        ≡ rebuilt items.now.closed.model.now (length (items_of items.now.closed.model.now)) routes.now.lists) }
+    ensures built { OnOk result (AreBuilt items.now.closed.model.now lists.new) }
+    ensures kept { OnOk result (AreKept items.now.closed.model.now lists.new keeps.new) }
+    ensures rows { OnOk result (AreRows items.now.closed.model.now lists.new items.now.candidates.now rows.new) }
 {
     for v in 0..routes.vehicles() {
-        take_list(room, closed, keeps, v, routes.list(v), lists, rows)?;
+        take_list(room, items.closed, keeps, v, routes.list(v), lists, rows)?;
     }
-    insert_all(room, closed, lookups, keeps, candidates, lists, marks, rows)?;
+    insert_all(room, items, keeps, lists, marks, rows)?;
     Ok(())
 }
 
@@ -118,7 +115,7 @@ impl Keeper {
         let candidates = candidates(alloc, lookups)?;
         let lists = empty_lists(alloc, closed.model)?;
         let rows = rows_of(alloc, closed.model.vehicles.len(), candidates.len())?;
-        let keeps = keep_each(alloc, closed.model, &lists)?;
+        let keeps = keep_each(alloc, closed, &lists)?;
         Ok(Keeper {
             candidates,
             lists,
@@ -138,21 +135,23 @@ impl Keeper {
     ) -> Result<(), NoMemory>
         requires lookups { lookups.now ≡ closed.model.now }
         requires keeper { IsKeeper closed.model.now self.old }
-        requires lists { IsTrue (are_lists closed.model.now routes.now.lists) }
-        requires open_lists { IsTrue (is_open closed.model.now routes.now.lists) }
+        requires built { AreBuilt closed.model.now routes.now.lists }
         ensures keeper { OnOk result (IsKeeper closed.entry.model.now self.new) }
         ensures rebuilt { OnOk result (self.new.lists.items
-            ≡ rebuilt closed.entry.model.now (length (items closed.entry.model.now)) routes.now.lists) }
+            ≡ rebuilt closed.entry.model.now (length (items_of closed.entry.model.now)) routes.now.lists) }
         ensures built { OnOk result (AreBuilt closed.entry.model.now self.new.lists.items) }
     {
         let mut marks = active_marks(self.room.alloc, closed.model, routes)?;
-        insert_into(
-            &mut self.room,
+        let items = Items {
             closed,
             lookups,
-            &mut self.keeps,
-            &self.candidates,
+            candidates: &self.candidates,
+        };
+        insert_into(
+            &mut self.room,
+            &items,
             routes,
+            &mut self.keeps,
             &mut self.lists,
             &mut marks,
             &mut self.rows,

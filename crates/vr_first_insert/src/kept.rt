@@ -2,7 +2,6 @@
 
 ghost use Rattle.std.specs.Prelude.{◌≡◌, ◌+◌, ◌<◌, ◌≤◌, ℕ, List, length, IfOk, OnOk};
 ghost use Rattle.vr_model.specs.routes.Routes.{route};
-ghost use Rattle.vr_model.specs.tables.WellFormed.{IsWellFormed};
 ghost use Rattle.vr_reach.specs.Lists.{IsTour, IsUsed};
 ghost use Rattle.vr_reach.specs.Stops.{AreStops};
 ghost use Rattle.vr_reach.specs.Stretches.{SharesFront, SharesBack};
@@ -10,14 +9,15 @@ ghost use Rattle.vr_rules.specs.RoutesOpen.{is_feasible_in_each};
 ghost use Rattle.vr_first_insert.specs.KeptRows.{AreKept, AreKeptBut, AreKeptOf, AreRowsOfEach};
 ghost use Rattle.vr_first_insert.specs.KeptRows.{AreTours, IsKept, IsKeptBut};
 
+use crate::vehicle_list::VehicleList;
 use std::alloc::Global;
-use vr_model::{Closed, Model, NoMemory, Seq};
+use vr_model::{Closed, NoMemory, Seq};
 use vr_reach::{Rows, Stops, Walk, goes_between, no_line, write_rows};
 use vr_steps::Line;
 
 /// What is kept of lists in one dimension: what its stops ask, and the rows of the list of each vehicle.
 #[derive(Drop)]
-pub struct Kept {
+pub(crate) struct Kept {
     pub(crate) stops: Stops,
     pub(crate) rows: Vec<Rows>,
 }
@@ -109,16 +109,19 @@ fn rows_of_each(
 }
 
 /// What is kept of lists in each dimension. The only refusal is want of memory.
-pub fn keep_each(alloc: Global, model: &Model, lists: &[Seq<u32>]) -> Result<Vec<Kept>, NoMemory>
-    requires well_formed { IsWellFormed model.now }
-    requires vehicles { length lists.now ≡ length model.now.vehicles }
-    requires tours { AreTours model.now lists.now }
-    ensures { IfOk result (λ keeps. AreKept model.now lists.now keeps.items) }
+pub(crate) fn keep_each(
+    alloc: Global,
+    closed: Closed<'_>,
+    lists: &[Seq<u32>],
+) -> Result<Vec<Kept>, NoMemory>
+    requires vehicles { length lists.now ≡ length closed.model.now.vehicles }
+    requires tours { AreTours closed.model.now lists.now }
+    ensures { IfOk result (λ keeps. AreKept closed.entry.model.now lists.now keeps.items) }
 {
     let mut line = no_line(alloc);
-    let mut keeps = Vec::with_capacity(alloc, model.dimensions.len())?;
-    for d in 0..model.dimensions.len() {
-        keeps.push(Kept::build(alloc, Closed { model }, d as u32, lists, &mut line)?)?;
+    let mut keeps = Vec::with_capacity(alloc, closed.model.dimensions.len())?;
+    for d in 0..closed.model.dimensions.len() {
+        keeps.push(Kept::build(alloc, closed, d as u32, lists, &mut line)?)?;
     }
     Ok(keeps)
 }
@@ -127,7 +130,7 @@ pub fn keep_each(alloc: Global, model: &Model, lists: &[Seq<u32>]) -> Result<Vec
 /// is said of what is kept.
 ///
 /// It takes memory only where a list is longer than any before, or a set has more than four runs.
-pub fn learn(
+pub(crate) fn learn(
     alloc: Global,
     closed: Closed<'_>,
     keeps: &mut [Kept],
@@ -148,41 +151,38 @@ pub fn learn(
     Ok(())
 }
 
-/// Whether the line of a list of vehicle `v` is feasible in each dimension, found by walks through what differs from
-/// the list before, whose rows are kept: all but the first `front` and the last `back` nodes. Afterwards nothing is
-/// said of where the walk stands.
+/// Whether the line of a list is feasible in each dimension, found by walks through what differs from the list of the
+/// vehicle before, whose rows are kept: all but the first `front` and the last `back` nodes. Afterwards nothing is said
+/// of where the walk stands.
 ///
 /// `NoMemory` where there was no memory: it is taken only where a set has more than four runs, or a vehicle more breaks
 /// than any before.
-pub fn is_feasible_between(
-    model: &Model,
+pub(crate) fn is_feasible_between(
     keeps: &[Kept],
-    v: u32,
-    old: &[u32],
+    old: &VehicleList<'_>,
     new: &[u32],
     front: usize,
     back: usize,
     walk: &mut Walk,
 ) -> Result<bool, NoMemory>
-    requires well_formed { IsWellFormed model.now }
-    requires vehicle { v < length model.now.vehicles }
-    requires kept { AreKeptOf model.now v old.now keeps.now }
-    requires used { IsUsed model.now new.now }
-    requires front { SharesFront old.now new.now front }
-    requires back { SharesBack old.now new.now back }
+    requires kept { AreKeptOf old.now.closed.model.now old.now.vehicle old.now.nodes.now keeps.now }
+    requires used { IsUsed old.now.closed.model.now new.now }
+    requires front { SharesFront old.now.nodes.now new.now front }
+    requires back { SharesBack old.now.nodes.now new.now back }
     requires apart { front + back ≤ length new.now }
-    ensures { IfOk result (λ answer. answer ≡ is_feasible_in_each model.now v new.now) }
+    ensures { IfOk result (λ answer. answer ≡ is_feasible_in_each old.now.closed.model.now old.now.vehicle new.now) }
 {
+    let v = old.vehicle;
     for d in 0..keeps.len() {
         let kept = &keeps[d];
         let rows = &kept.rows[v as usize];
         if !goes_between(
-            model,
+            old.closed.model,
             d as u32,
             v,
             &kept.stops,
             rows,
-            old,
+            old.nodes,
             new,
             front,
             back,

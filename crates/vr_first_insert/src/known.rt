@@ -4,7 +4,7 @@ ghost use Rattle.std.specs.Prelude.{◌≡◌, ℕ, ◌<◌, IfOk, length, repli
 ghost use Rattle.vr_first_insert.specs.Kept.{best_of, better_choice, is_settled as is_settled_of};
 ghost use Rattle.vr_first_insert.specs.Kept.{AddsAtLeast, IsForgotten, IsKnown};
 ghost use Rattle.vr_first_insert.specs.Placings.{best_in, MayHold};
-ghost use Rattle.vr_first_insert.specs.Ready.{IsReady};
+ghost use Rattle.vr_first_insert.specs.VehicleLists.{IsReadyList};
 ghost use Rattle.vr_first_insert.specs.declared.known.Known.TheVariants.{Nothing};
 
 use crate::bound::{least_pair, least_visit};
@@ -12,9 +12,10 @@ use crate::choice::{Choice, improves, may_improve};
 use crate::kept::Kept;
 use crate::one_list::best_in_list;
 use crate::room::Room;
+use crate::vehicle_list::VehicleList;
 use std::alloc::Global;
 use vr_lists::NodeTables;
-use vr_model::{Closed, NoMemory, Seq};
+use vr_model::{NoMemory, Seq};
 use vr_rules::{Candidate, Item};
 
 /// What is known of an item in a list.
@@ -60,52 +61,45 @@ fn better(best: Option<Choice>, next: Choice) -> Option<Choice>
     }
 }
 
-// What an item adds at least to the list of vehicle `v`.
-fn least_in(closed: Closed<'_>, v: u32, list: &[u32], item: Item) -> i64
-    requires vehicle { v < length closed.model.now.vehicles }
-    requires may_hold { MayHold closed.model.now list.now item }
-    ensures { AddsAtLeast closed.entry.model.now v list.now item result }
+// What an item adds at least to a list.
+fn least_in(list: &VehicleList<'_>, item: Item) -> i64
+    requires { MayHold list.now.closed.model.now list.now.nodes.now item }
+    ensures { AddsAtLeast list.now.closed.model.now list.now.vehicle list.now.nodes.now item result }
 {
     match item {
-        Item::Visit(node) => least_visit(closed, v, list, node),
-        Item::PickupAndDelivery(pickup, delivery) => least_pair(closed, v, list, pickup, delivery),
+        Item::Visit(node) => least_visit(list, node),
+        Item::PickupAndDelivery(pickup, delivery) => least_pair(list, pickup, delivery),
     }
 }
 
-/// What is known of an item in the list of vehicle `v` once it was asked whether it is better than the best so far.
+/// What is known of an item in a list once it was asked whether it is better than the best so far.
 pub(crate) fn asked(
     room: &mut Room,
-    closed: Closed<'_>,
     lookups: &NodeTables<'_>,
     keeps: &[Kept],
-    v: u32,
-    list: &[u32],
+    list: &VehicleList<'_>,
     candidate: Candidate,
     known: Known,
     best: Option<Choice>,
 ) -> Result<Known, NoMemory>
-    requires lookups { lookups.now ≡ closed.model.now }
-    requires ready { IsReady closed.model.now v list.now keeps.now }
-    requires vehicle { v < length closed.model.now.vehicles }
-    requires may_hold { MayHold closed.model.now list.now candidate.item }
-    requires known { IsKnown closed.model.now v list.now candidate known }
-    ensures known { IfOk result (IsKnown closed.entry.model.now v list.now candidate) }
+    requires lookups { lookups.now ≡ list.now.closed.model.now }
+    requires ready { IsReadyList list.now keeps.now }
+    requires may_hold { MayHold list.now.closed.model.now list.now.nodes.now candidate.item }
+    requires known { IsKnown list.now.closed.model.now list.now.vehicle list.now.nodes.now candidate known }
+    ensures known { IfOk result (IsKnown list.now.closed.model.now list.now.vehicle list.now.nodes.now
+        candidate) }
     ensures better { IfOk result (λ known. best_of known best
-        ≡ best_in closed.entry.model.now v list.now candidate best) }
+        ≡ best_in list.now.closed.model.now list.now.vehicle list.now.nodes.now candidate best) }
 {
     match known {
         Known::Best(_) => Ok(known),
         Known::AtLeast(least) => {
-            let known = tried(
-                room, closed, lookups, keeps, v, list, candidate, least, best,
-            )?;
+            let known = tried(room, lookups, keeps, list, candidate, least, best)?;
             Ok(known)
         }
         Known::Nothing => {
-            let least = least_in(closed, v, list, candidate.item);
-            let known = tried(
-                room, closed, lookups, keeps, v, list, candidate, least, best,
-            )?;
+            let least = least_in(list, candidate.item);
+            let known = tried(room, lookups, keeps, list, candidate, least, best)?;
             Ok(known)
         }
     }
@@ -115,28 +109,26 @@ pub(crate) fn asked(
 // known.
 fn tried(
     room: &mut Room,
-    closed: Closed<'_>,
     lookups: &NodeTables<'_>,
     keeps: &[Kept],
-    v: u32,
-    list: &[u32],
+    list: &VehicleList<'_>,
     candidate: Candidate,
     least: i64,
     best: Option<Choice>,
 ) -> Result<Known, NoMemory>
-    requires lookups { lookups.now ≡ closed.model.now }
-    requires ready { IsReady closed.model.now v list.now keeps.now }
-    requires vehicle { v < length closed.model.now.vehicles }
-    requires may_hold { MayHold closed.model.now list.now candidate.item }
-    requires least { AddsAtLeast closed.model.now v list.now candidate.item least }
-    ensures known { IfOk result (IsKnown closed.entry.model.now v list.now candidate) }
+    requires lookups { lookups.now ≡ list.now.closed.model.now }
+    requires ready { IsReadyList list.now keeps.now }
+    requires may_hold { MayHold list.now.closed.model.now list.now.nodes.now candidate.item }
+    requires least { AddsAtLeast list.now.closed.model.now list.now.vehicle list.now.nodes.now candidate.item least }
+    ensures known { IfOk result (IsKnown list.now.closed.model.now list.now.vehicle list.now.nodes.now
+        candidate) }
     ensures better { IfOk result (λ known. best_of known best
-        ≡ best_in closed.entry.model.now v list.now candidate best) }
+        ≡ best_in list.now.closed.model.now list.now.vehicle list.now.nodes.now candidate best) }
 {
     if !may_improve(best, candidate.class, least) {
         return Ok(Known::AtLeast(least));
     }
-    let found = best_in_list(room, closed, lookups, keeps, v, list, candidate, None)?;
+    let found = best_in_list(room, lookups, keeps, list, candidate, None)?;
     Ok(Known::Best(found))
 }
 

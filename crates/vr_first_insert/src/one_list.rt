@@ -1,18 +1,17 @@
 //! The best places of an item in one list.
 
-ghost use Rattle.std.specs.Prelude.{◌≡◌, ℕ, suc, ◌+◌, ◌<◌, ◌≤◌, ◌^◌, fold, insert, map, IfOk, IsTrue, length};
+ghost use Rattle.std.specs.Prelude.{◌≡◌, suc, ◌+◌, ◌≤◌, ◌^◌, fold, insert, map, IfOk, IsTrue, length};
 ghost use Rattle.std.specs.Prelude.{neg_ℤ, pos, ◌≤ℤ◌, ◌&&◌};
 ghost use Rattle.std.specs.List.{list_all};
 ghost use Rattle.vr_model.specs.moves.Moves.{gaps};
 ghost use Rattle.vr_model.specs.routes.Rules.{allows_vehicle, is_route_open};
 ghost use Rattle.vr_model.specs.tables.Numbers.{each, from_to};
-ghost use Rattle.vr_rules.specs.declared.items.Item.TheVariants.{Visit, PickupAndDelivery};
 ghost use Rattle.vr_rules.specs.Placing.{improves as improves_by, nodes_of};
 ghost use Rattle.vr_first_insert.specs.Probes.{AreReachedAt};
-ghost use Rattle.vr_first_insert.specs.Placings.{best_in, key_of, pair_choice, visit_choice, weigh};
+ghost use Rattle.vr_first_insert.specs.Placings.{best_in, key_of};
 ghost use Rattle.vr_first_insert.specs.Placings.{placed, AreLeastAhead, IsLeast, MayHold};
 ghost use Rattle.vr_first_insert.specs.declared.choice.Placing.TheVariants.{One, Two};
-ghost use Rattle.vr_first_insert.specs.Ready.{IsReady};
+ghost use Rattle.vr_first_insert.specs.VehicleLists.{pair_before, visit_before, weigh_in, IsReadyList};
 
 use crate::bound::{least_apart, least_behind, least_further, least_place, write_ahead};
 use crate::choice::{Choice, Placing, improves, may_improve};
@@ -22,167 +21,131 @@ use crate::place::{move_on, write_placed};
 use crate::probes::Probes;
 use crate::room::Room;
 use crate::trying::{Trying, may_serve, may_visit};
+use crate::vehicle_list::{PairIn, VehicleList, VisitIn};
 use std::alloc::Global;
 use vr_lists::NodeTables;
-use vr_model::{Closed, NoMemory, Seq};
+use vr_model::{NoMemory, Seq};
 use vr_rules::{Candidate, Item, allows_item};
 
 // A visit before place `t`.
-fn visit_at(closed: Closed<'_>, v: u32, list: &[u32], class: u32, node: u32, t: usize) -> Choice
-    requires vehicle { v < length closed.model.now.vehicles }
-    requires may_hold { MayHold closed.model.now list.now (Visit node) }
-    requires within { t ≤ length list.now }
-    ensures { result ≡ visit_choice closed.entry.model.now v list.now class node t }
+fn visit_at(visit: &VisitIn<'_>, t: usize) -> Choice
+    requires { t ≤ length visit.now.list.nodes.now }
+    ensures { result ≡ visit_before visit.now t }
 {
     Choice {
-        placing: Placing::One(node, t as u32),
-        class,
-        vehicle: v,
-        increase: visit_increase(closed, v, list, node, t),
+        placing: Placing::One(visit.node, t as u32),
+        class: visit.class,
+        vehicle: visit.list.vehicle,
+        increase: visit_increase(&visit.list, visit.node, t),
     }
 }
 
 // The better of the best so far and a visit before place `t`, as it is written, which is tested only where it improves.
 fn weigh_visit(
     trying: &mut Trying,
-    closed: Closed<'_>,
     keeps: &[Kept],
-    v: u32,
-    list: &[u32],
-    class: u32,
-    node: u32,
+    visit: &VisitIn<'_>,
     t: usize,
     best: Option<Choice>,
 ) -> Result<Option<Choice>, NoMemory>
-    requires vehicle { v < length closed.model.now.vehicles }
-    requires ready { IsReady closed.model.now v list.now keeps.now }
-    requires may_hold { MayHold closed.model.now list.now (Visit node) }
-    requires allowed { IsTrue (list_all (allows_vehicle closed.model.now v) (nodes_of (Visit node))) }
-    requires within { t ≤ length list.now }
-    requires longer { trying.old.longer ≡ placed list.now (One node t) }
-    ensures best { IfOk result (λ chosen. chosen
-        ≡ weigh closed.entry.model.now list.now best (visit_choice closed.entry.model.now v list.now class node t)) }
+    requires ready { IsReadyList visit.now.list keeps.now }
+    requires within { t ≤ length visit.now.list.nodes.now }
+    requires longer { trying.old.longer ≡ placed visit.now.list.nodes.now (One visit.now.node t) }
+    ensures best { IfOk result (λ chosen. chosen ≡ weigh_in visit.now.list best (visit_before visit.now t)) }
     ensures longer { trying.new.longer ≡ trying.old.longer }
 {
-    let next = visit_at(closed, v, list, class, node, t);
+    let next = visit_at(visit, t);
     if !improves(best, next) {
         return Ok(best);
     }
-    if may_visit(trying, closed, keeps, v, list, node, t)? {
+    if may_visit(trying, keeps, visit, t)? {
         Ok(Some(next))
     } else {
         Ok(best)
     }
 }
 
-// Whether a visit before place `t` is better than the best so far, and vehicle `v` may drive its list with it.
+// Whether a visit before place `t` is better than the best so far, and its vehicle may drive the list with it.
 fn is_visit_taken(
     trying: &mut Trying,
-    closed: Closed<'_>,
     keeps: &[Kept],
-    v: u32,
-    list: &[u32],
-    class: u32,
-    node: u32,
+    visit: &VisitIn<'_>,
     t: usize,
     best: Option<Choice>,
 ) -> Result<bool, NoMemory>
-    requires vehicle { v < length closed.model.now.vehicles }
-    requires ready { IsReady closed.model.now v list.now keeps.now }
-    requires may_hold { MayHold closed.model.now list.now (Visit node) }
-    requires allowed { IsTrue (list_all (allows_vehicle closed.model.now v) (nodes_of (Visit node))) }
-    requires within { t ≤ length list.now }
-    requires longer { trying.old.longer ≡ placed list.now (One node t) }
-    ensures { IfOk result (λ taken. taken
-        ≡ (improves_by key_of best (visit_choice closed.entry.model.now v list.now class node t)
-        && is_route_open closed.entry.model.now v (placed list.now (One node t)))) }
+    requires ready { IsReadyList visit.now.list keeps.now }
+    requires within { t ≤ length visit.now.list.nodes.now }
+    requires longer { trying.old.longer ≡ placed visit.now.list.nodes.now (One visit.now.node t) }
+    ensures { IfOk result (λ taken. taken ≡ (improves_by key_of best (visit_before visit.now t)
+        && is_route_open visit.now.list.closed.model.now visit.now.list.vehicle
+        (placed visit.now.list.nodes.now (One visit.now.node t)))) }
 {
-    if !improves(best, visit_at(closed, v, list, class, node, t)) {
+    if !improves(best, visit_at(visit, t)) {
         return Ok(false);
     }
-    may_visit(trying, closed, keeps, v, list, node, t)
+    may_visit(trying, keeps, visit, t)
 }
 
-// The best beside a visit before each place of the list of vehicle `v`. The first place at which it adds least comes
-// first: where that is taken, no other is looked at.
+// The best beside a visit before each place of a list. The first place at which it adds least comes first: where that
+// is taken, no other is looked at.
 fn best_visit(
     room: &mut Room,
-    closed: Closed<'_>,
     keeps: &[Kept],
-    v: u32,
-    list: &[u32],
-    class: u32,
-    node: u32,
+    visit: &VisitIn<'_>,
     best: Option<Choice>,
 ) -> Result<Option<Choice>, NoMemory>
-    requires vehicle { v < length closed.model.now.vehicles }
-    requires ready { IsReady closed.model.now v list.now keeps.now }
-    requires may_hold { MayHold closed.model.now list.now (Visit node) }
-    requires allowed { IsTrue (list_all (allows_vehicle closed.model.now v) (nodes_of (Visit node))) }
-    ensures { IfOk result (λ chosen. chosen ≡ fold (weigh closed.entry.model.now list.now) best
-        (map (visit_choice closed.entry.model.now v list.now class node) (gaps list.now))) }
+    requires { IsReadyList visit.now.list keeps.now }
+    ensures { IfOk result (λ chosen. chosen ≡ fold (weigh_in visit.now.list) best
+        (map (visit_before visit.now) (gaps visit.now.list.nodes.now))) }
 {
-    let t = least_place(closed, v, list, node);
+    let t = least_place(&visit.list, visit.node);
     let trying = &mut room.trying;
-    write_placed(list, Placing::One(node, t as u32), &mut trying.longer)?;
-    if is_visit_taken(trying, closed, keeps, v, list, class, node, t, best)? {
-        return Ok(Some(visit_at(closed, v, list, class, node, t)));
+    write_placed(
+        visit.list.nodes,
+        Placing::One(visit.node, t as u32),
+        &mut trying.longer,
+    )?;
+    if is_visit_taken(trying, keeps, visit, t, best)? {
+        return Ok(Some(visit_at(visit, t)));
     }
-    let best = best_of_places(room, closed, keeps, v, list, class, node, best)?;
+    let best = best_of_places(room, keeps, visit, best)?;
     Ok(best)
 }
 
 // The same, by one place after another.
 fn best_of_places(
     room: &mut Room,
-    closed: Closed<'_>,
     keeps: &[Kept],
-    v: u32,
-    list: &[u32],
-    class: u32,
-    node: u32,
+    visit: &VisitIn<'_>,
     best: Option<Choice>,
 ) -> Result<Option<Choice>, NoMemory>
-    requires vehicle { v < length closed.model.now.vehicles }
-    requires ready { IsReady closed.model.now v list.now keeps.now }
-    requires may_hold { MayHold closed.model.now list.now (Visit node) }
-    requires allowed { IsTrue (list_all (allows_vehicle closed.model.now v) (nodes_of (Visit node))) }
-    ensures { IfOk result (λ chosen. chosen ≡ fold (weigh closed.entry.model.now list.now) best
-        (map (visit_choice closed.entry.model.now v list.now class node) (gaps list.now))) }
+    requires { IsReadyList visit.now.list keeps.now }
+    ensures { IfOk result (λ chosen. chosen ≡ fold (weigh_in visit.now.list) best
+        (map (visit_before visit.now) (gaps visit.now.list.nodes.now))) }
 {
     let trying = &mut room.trying;
-    write_placed(list, Placing::One(node, 0), &mut trying.longer)?;
-    let first = weigh_visit(trying, closed, keeps, v, list, class, node, 0, best)?;
+    let list = visit.list.nodes;
+    write_placed(list, Placing::One(visit.node, 0), &mut trying.longer)?;
+    let first = weigh_visit(trying, keeps, visit, 0, best)?;
     let mut best = first;
     for t in 0..list.len() {
         move_on(&mut trying.longer, t);
-        best = weigh_visit(trying, closed, keeps, v, list, class, node, t + 1, best)?;
+        best = weigh_visit(trying, keeps, visit, t + 1, best)?;
     }
     Ok(best)
 }
 
 // A pickup before place `s` and its delivery before place `t`.
-fn pair_at(
-    closed: Closed<'_>,
-    v: u32,
-    list: &[u32],
-    class: u32,
-    pickup: u32,
-    delivery: u32,
-    s: usize,
-    t: usize,
-) -> Choice
-    requires vehicle { v < length closed.model.now.vehicles }
-    requires may_hold { MayHold closed.model.now list.now (PickupAndDelivery pickup delivery) }
+fn pair_at(pair: &PairIn<'_>, s: usize, t: usize) -> Choice
     requires order { s ≤ t }
-    requires within { t ≤ length list.now }
-    ensures { result ≡ pair_choice closed.entry.model.now v list.now class pickup delivery s t }
+    requires within { t ≤ length pair.now.list.nodes.now }
+    ensures { result ≡ pair_before pair.now s t }
 {
     Choice {
-        placing: Placing::Two(pickup, delivery, s as u32, t as u32),
-        class,
-        vehicle: v,
-        increase: pair_increase(closed, v, list, pickup, delivery, s, t),
+        placing: Placing::Two(pair.pickup, pair.delivery, s as u32, t as u32),
+        class: pair.class,
+        vehicle: pair.list.vehicle,
+        increase: pair_increase(&pair.list, pair.pickup, pair.delivery, s, t),
     }
 }
 
@@ -191,159 +154,134 @@ fn pair_at(
 fn weigh_pair(
     trying: &mut Trying,
     probes: &Probes,
-    closed: Closed<'_>,
     keeps: &[Kept],
-    v: u32,
-    list: &[u32],
-    class: u32,
-    pickup: u32,
-    delivery: u32,
+    pair: &PairIn<'_>,
     s: usize,
     t: usize,
     best: Option<Choice>,
 ) -> Result<Option<Choice>, NoMemory>
-    requires vehicle { v < length closed.model.now.vehicles }
-    requires ready { IsReady closed.model.now v list.now keeps.now }
-    requires may_hold { MayHold closed.model.now list.now (PickupAndDelivery pickup delivery) }
-    requires allowed { IsTrue (list_all (allows_vehicle closed.model.now v)
-        (nodes_of (PickupAndDelivery pickup delivery))) }
+    requires ready { IsReadyList pair.now.list keeps.now }
     requires order { s ≤ t }
-    requires within { t ≤ length list.now }
-    requires here { AreReachedAt closed.model.now v (insert list.now s pickup) (t + 1) probes.now }
-    requires longer { trying.old.longer ≡ placed list.now (Two pickup delivery s t) }
-    ensures best { IfOk result (λ chosen. chosen
-        ≡ weigh closed.entry.model.now list.now best
-        (pair_choice closed.entry.model.now v list.now class pickup delivery s t)) }
+    requires within { t ≤ length pair.now.list.nodes.now }
+    requires here { AreReachedAt pair.now.list.closed.model.now pair.now.list.vehicle
+        (insert pair.now.list.nodes.now s pair.now.pickup) (t + 1) probes.now }
+    requires longer { trying.old.longer ≡ placed pair.now.list.nodes.now (Two pair.now.pickup pair.now.delivery s t) }
+    ensures best { IfOk result (λ chosen. chosen ≡ weigh_in pair.now.list best (pair_before pair.now s t)) }
     ensures longer { trying.new.longer ≡ trying.old.longer }
 {
-    let next = pair_at(closed, v, list, class, pickup, delivery, s, t);
+    let next = pair_at(pair, s, t);
     if !improves(best, next) {
         return Ok(best);
     }
-    if may_serve(
-        trying, probes, closed, keeps, v, list, pickup, delivery, s, t,
-    )? {
+    if may_serve(trying, probes, keeps, pair, s, t)? {
         Ok(Some(next))
     } else {
         Ok(best)
     }
 }
 
-// The best beside a pickup before place `s`, as it stands in `half`, and its delivery before each place behind, where
-// what `half` reaches at the next node is known. Once nothing is reached, no place further on is allowed; and none is
-// looked at where none from there on can be better.
+// A pickup before place `s`, and its delivery somewhere behind.
+#[derive(Clone, Copy)]
+struct Begun<'a> {
+    pair: PairIn<'a>,
+    s: usize,
+    // the list with the pickup
+    half: &'a [u32],
+    // the least that the delivery adds before the last places of the list
+    ahead: &'a Seq<i64>,
+    ghost within: { s ≤ length pair.list.nodes.now },
+    ghost picked_up: { half.now ≡ insert pair.list.nodes.now s pair.pickup },
+    ghost least_ahead: { AreLeastAhead pair.list.closed.model.now pair.list.vehicle pair.list.nodes.now pair.delivery
+        ahead.now },
+}
+
+// The best beside a pickup before a place and its delivery before each place behind, where what the list with the
+// pickup reaches at the next node is known. Once nothing is reached, no place further on is allowed; and none is looked
+// at where none from there on can be better.
 fn best_further(
     trying: &mut Trying,
     probes: &mut Probes,
-    half: &[u32],
-    ahead: &Seq<i64>,
-    closed: Closed<'_>,
     keeps: &[Kept],
-    v: u32,
-    list: &[u32],
-    class: u32,
-    pickup: u32,
-    delivery: u32,
-    s: usize,
+    begun: &Begun<'_>,
     best: Option<Choice>,
 ) -> Result<Option<Choice>, NoMemory>
-    requires vehicle { v < length closed.model.now.vehicles }
-    requires ready { IsReady closed.model.now v list.now keeps.now }
-    requires may_hold { MayHold closed.model.now list.now (PickupAndDelivery pickup delivery) }
-    requires allowed { IsTrue (list_all (allows_vehicle closed.model.now v)
-        (nodes_of (PickupAndDelivery pickup delivery))) }
-    requires within { s ≤ length list.now }
-    requires half { half.now ≡ insert list.now s pickup }
-    requires ahead { AreLeastAhead closed.model.now v list.now delivery ahead.now }
-    requires here { AreReachedAt closed.model.now v half.now (s + 2) probes.old }
-    requires longer { trying.old.longer ≡ insert half.now (s + 1) delivery }
-    ensures { IfOk result (λ chosen. chosen ≡ fold (weigh closed.entry.model.now list.now) best
-        (map (pair_choice closed.entry.model.now v list.now class pickup delivery s)
-        (from_to (s + 1) (suc (length list.now))))) }
+    requires ready { IsReadyList begun.now.pair.list keeps.now }
+    requires here { AreReachedAt begun.now.pair.list.closed.model.now begun.now.pair.list.vehicle begun.now.half.now
+        (begun.now.s + 2) probes.old }
+    requires longer { trying.old.longer ≡ insert begun.now.half.now (begun.now.s + 1) begun.now.pair.delivery }
+    ensures { IfOk result (λ chosen. chosen ≡ fold (weigh_in begun.now.pair.list) best
+        (map (pair_before begun.now.pair begun.now.s)
+        (from_to (begun.now.s + 1) (suc (length begun.now.pair.list.nodes.now))))) }
 {
-    let alone = visit_increase(closed, v, list, pickup, s);
+    let pair = &begun.pair;
+    let list = &pair.list;
+    let s = begun.s;
+    let alone = visit_increase(list, pair.pickup, s);
     let mut best = best;
-    for t in s + 1..list.len() + 1 {
-        let least = *ahead.get(list.len() - t);
-        if !may_improve(best, class, least_apart(alone, least)) {
+    for t in s + 1..list.nodes.len() + 1 {
+        let least = *begun.ahead.get(list.nodes.len() - t);
+        if !may_improve(best, pair.class, least_apart(alone, least)) {
             return Ok(best);
         }
-        if probes.is_stuck(closed.model) {
+        if probes.is_stuck(list.closed) {
             return Ok(best);
         }
         move_on(&mut trying.longer, t);
-        best = weigh_pair(
-            trying, probes, closed, keeps, v, list, class, pickup, delivery, s, t, best,
+        best = weigh_pair(trying, probes, keeps, pair, s, t, best)?;
+        probes.go_on(
+            list.closed,
+            keeps,
+            list.vehicle,
+            begun.half,
+            t + 1,
+            &mut trying.walk,
         )?;
-        probes.go_on(closed.model, keeps, v, half, t + 1, &mut trying.walk)?;
     }
     Ok(best)
 }
 
-// The best beside a pickup before place `s`, as it stands in `half`, and its delivery before each place from there on.
-// Once nothing is reached, no place further on is allowed; and none is looked at behind the first where none can be
-// better.
+// The best beside a pickup before a place and its delivery before each place from there on. Once nothing is reached, no
+// place further on is allowed; and none is looked at behind the first where none can be better.
 fn best_behind(
     alloc: Global,
     trying: &mut Trying,
     probes: &mut Probes,
-    half: &[u32],
-    ahead: &Seq<i64>,
-    closed: Closed<'_>,
     keeps: &[Kept],
-    v: u32,
-    list: &[u32],
-    class: u32,
-    pickup: u32,
-    delivery: u32,
-    s: usize,
+    begun: &Begun<'_>,
     least: i64,
     best: Option<Choice>,
 ) -> Result<Option<Choice>, NoMemory>
-    requires vehicle { v < length closed.model.now.vehicles }
-    requires ready { IsReady closed.model.now v list.now keeps.now }
-    requires may_hold { MayHold closed.model.now list.now (PickupAndDelivery pickup delivery) }
-    requires allowed { IsTrue (list_all (allows_vehicle closed.model.now v)
-        (nodes_of (PickupAndDelivery pickup delivery))) }
-    requires within { s ≤ length list.now }
-    requires half { half.now ≡ insert list.now s pickup }
-    requires ahead { AreLeastAhead closed.model.now v list.now delivery ahead.now }
-    requires least { IsLeast closed.model.now v list.now delivery least }
+    requires ready { IsReadyList begun.now.pair.list keeps.now }
+    requires least { IsLeast begun.now.pair.list.closed.model.now begun.now.pair.list.vehicle
+        begun.now.pair.list.nodes.now begun.now.pair.delivery least }
     requires low { neg_ℤ (pos (2 ^ 40)) ≤ℤ least }
     requires high { least ≤ℤ pos (2 ^ 41) }
-    ensures { IfOk result (λ chosen. chosen ≡ fold (weigh closed.entry.model.now list.now) best
-        (map (pair_choice closed.entry.model.now v list.now class pickup delivery s)
-        (from_to s (suc (length list.now))))) }
+    ensures { IfOk result (λ chosen. chosen ≡ fold (weigh_in begun.now.pair.list) best
+        (map (pair_before begun.now.pair begun.now.s)
+        (from_to begun.now.s (suc (length begun.now.pair.list.nodes.now))))) }
 {
-    probes.leave(
-        alloc,
-        closed.model,
-        keeps,
-        v,
-        list,
-        half,
-        s,
-        &mut trying.walk,
-    )?;
-    if probes.is_stuck(closed.model) {
+    let pair = &begun.pair;
+    let list = &pair.list;
+    let s = begun.s;
+    probes.leave(alloc, keeps, list, begun.half, s, &mut trying.walk)?;
+    if probes.is_stuck(list.closed) {
         return Ok(best);
     }
-    let placing = Placing::Two(pickup, delivery, s as u32, s as u32);
-    write_placed(list, placing, &mut trying.longer)?;
-    let near = weigh_pair(
-        trying, probes, closed, keeps, v, list, class, pickup, delivery, s, s, best,
-    )?;
-    if !may_improve(
-        near,
-        class,
-        least_further(closed, v, list, pickup, s, least),
-    ) {
+    let placing = Placing::Two(pair.pickup, pair.delivery, s as u32, s as u32);
+    write_placed(list.nodes, placing, &mut trying.longer)?;
+    let near = weigh_pair(trying, probes, keeps, pair, s, s, best)?;
+    if !may_improve(near, pair.class, least_further(list, pair.pickup, s, least)) {
         return Ok(near);
     }
-    probes.go_on(closed.model, keeps, v, half, s + 1, &mut trying.walk)?;
-    let best = best_further(
-        trying, probes, half, ahead, closed, keeps, v, list, class, pickup, delivery, s, near,
+    probes.go_on(
+        list.closed,
+        keeps,
+        list.vehicle,
+        begun.half,
+        s + 1,
+        &mut trying.walk,
     )?;
+    let best = best_further(trying, probes, keeps, begun, near)?;
     Ok(best)
 }
 
@@ -351,134 +289,122 @@ fn best_behind(
 // delivery adds is in the room: then no place is looked at where none can be better.
 fn best_delivery(
     room: &mut Room,
-    closed: Closed<'_>,
     keeps: &[Kept],
-    v: u32,
-    list: &[u32],
-    class: u32,
-    pickup: u32,
-    delivery: u32,
+    pair: &PairIn<'_>,
     s: usize,
     best: Option<Choice>,
 ) -> Result<Option<Choice>, NoMemory>
-    requires vehicle { v < length closed.model.now.vehicles }
-    requires ready { IsReady closed.model.now v list.now keeps.now }
-    requires may_hold { MayHold closed.model.now list.now (PickupAndDelivery pickup delivery) }
-    requires allowed { IsTrue (list_all (allows_vehicle closed.model.now v)
-        (nodes_of (PickupAndDelivery pickup delivery))) }
-    requires within { s ≤ length list.now }
-    requires ahead { AreLeastAhead closed.model.now v list.now delivery room.old.ahead }
-    ensures best { IfOk result (λ chosen. chosen ≡ fold (weigh closed.entry.model.now list.now) best
-        (map (pair_choice closed.entry.model.now v list.now class pickup delivery s)
-        (from_to s (suc (length list.now))))) }
+    requires ready { IsReadyList pair.now.list keeps.now }
+    requires within { s ≤ length pair.now.list.nodes.now }
+    requires ahead { AreLeastAhead pair.now.list.closed.model.now pair.now.list.vehicle pair.now.list.nodes.now
+        pair.now.delivery room.old.ahead }
+    ensures best { IfOk result (λ chosen. chosen ≡ fold (weigh_in pair.now.list) best
+        (map (pair_before pair.now s)
+        (from_to s (suc (length pair.now.list.nodes.now))))) }
     ensures ahead { room.new.ahead ≡ room.old.ahead }
 {
-    let least = *room.ahead.get(list.len());
+    let list = &pair.list;
+    let least = *room.ahead.get(list.nodes.len());
     if !may_improve(
         best,
-        class,
-        least_behind(closed, v, list, pickup, delivery, s, least),
+        pair.class,
+        least_behind(list, pair.pickup, pair.delivery, s, least),
     ) {
         return Ok(best);
     }
-    write_placed(list, Placing::One(pickup, s as u32), &mut room.half)?;
-    let best = best_behind(
-        room.alloc,
-        &mut room.trying,
-        &mut room.probes,
-        room.half.as_slice(),
-        &room.ahead,
-        closed,
-        keeps,
-        v,
-        list,
-        class,
-        pickup,
-        delivery,
-        s,
-        least,
-        best,
+    write_placed(
+        list.nodes,
+        Placing::One(pair.pickup, s as u32),
+        &mut room.half,
     )?;
+    let begun = Begun {
+        pair: *pair,
+        s,
+        half: room.half.as_slice(),
+        ahead: &room.ahead,
+    };
+    let trying = &mut room.trying;
+    let probes = &mut room.probes;
+    let best = best_behind(room.alloc, trying, probes, keeps, &begun, least, best)?;
     Ok(best)
 }
 
-// The best beside a pair before each two places of the list of vehicle `v`.
+// The best beside a pair before each two places of a list.
 fn best_pair(
     room: &mut Room,
-    closed: Closed<'_>,
     keeps: &[Kept],
-    v: u32,
-    list: &[u32],
-    class: u32,
-    pickup: u32,
-    delivery: u32,
+    pair: &PairIn<'_>,
     best: Option<Choice>,
 ) -> Result<Option<Choice>, NoMemory>
-    requires ready { IsReady closed.model.now v list.now keeps.now }
-    requires vehicle { v < length closed.model.now.vehicles }
-    requires may_hold { MayHold closed.model.now list.now (PickupAndDelivery pickup delivery) }
-    requires allowed { IsTrue (list_all (allows_vehicle closed.model.now v)
-        (nodes_of (PickupAndDelivery pickup delivery))) }
-    ensures { IfOk result (λ chosen. chosen ≡ fold (weigh closed.entry.model.now list.now) best
-        (each (gaps list.now) (λ s. map (pair_choice closed.entry.model.now v list.now class pickup delivery s)
-        (from_to s (suc (length list.now)))))) }
+    requires { IsReadyList pair.now.list keeps.now }
+    ensures { IfOk result (λ chosen. chosen ≡ fold (weigh_in pair.now.list) best
+        (each (gaps pair.now.list.nodes.now) (λ s. map (pair_before pair.now s)
+        (from_to s (suc (length pair.now.list.nodes.now)))))) }
 {
-    write_ahead(closed, v, list, delivery, &mut room.ahead)?;
+    write_ahead(&pair.list, pair.delivery, &mut room.ahead)?;
     let mut best = best;
-    for s in 0..list.len() + 1 {
-        best = best_delivery(
-            room, closed, keeps, v, list, class, pickup, delivery, s, best,
-        )?;
+    for s in 0..pair.list.nodes.len() + 1 {
+        best = best_delivery(room, keeps, pair, s, best)?;
     }
     Ok(best)
 }
 
-// The best beside an item in the list of vehicle `v`, which may visit its nodes.
+// The best beside an item in a list, whose vehicle may visit its nodes.
 fn best_where_allowed(
     room: &mut Room,
-    closed: Closed<'_>,
     keeps: &[Kept],
-    v: u32,
-    list: &[u32],
+    list: &VehicleList<'_>,
     candidate: Candidate,
     best: Option<Choice>,
 ) -> Result<Option<Choice>, NoMemory>
-    requires ready { IsReady closed.model.now v list.now keeps.now }
-    requires vehicle { v < length closed.model.now.vehicles }
-    requires may_hold { MayHold closed.model.now list.now candidate.item }
-    requires allowed { IsTrue (list_all (allows_vehicle closed.model.now v) (nodes_of candidate.item)) }
-    ensures { IfOk result (λ chosen. chosen ≡ best_in closed.entry.model.now v list.now candidate best) }
+    requires ready { IsReadyList list.now keeps.now }
+    requires may_hold { MayHold list.now.closed.model.now list.now.nodes.now candidate.item }
+    requires allowed { IsTrue (list_all (allows_vehicle list.now.closed.model.now list.now.vehicle)
+        (nodes_of candidate.item)) }
+    ensures { IfOk result (λ chosen. chosen
+        ≡ best_in list.now.closed.model.now list.now.vehicle list.now.nodes.now candidate best) }
 {
     let class = candidate.class;
     let best = match candidate.item {
-        Item::Visit(node) => best_visit(room, closed, keeps, v, list, class, node, best)?,
-        Item::PickupAndDelivery(pickup, delivery) => best_pair(
-            room, closed, keeps, v, list, class, pickup, delivery, best,
-        )?,
+        Item::Visit(node) => {
+            let visit = VisitIn {
+                list: *list,
+                class,
+                node,
+            };
+            best_visit(room, keeps, &visit, best)?
+        }
+        Item::PickupAndDelivery(pickup, delivery) => {
+            let pair = PairIn {
+                list: *list,
+                class,
+                pickup,
+                delivery,
+            };
+            best_pair(room, keeps, &pair, best)?
+        }
     };
     Ok(best)
 }
 
-/// The best beside an item in the list of vehicle `v`. Whether it may visit the nodes of the item is asked once.
+/// The best beside an item in a list. Whether its vehicle may visit the nodes of the item is asked once.
 pub(crate) fn best_in_list(
     room: &mut Room,
-    closed: Closed<'_>,
     lookups: &NodeTables<'_>,
     keeps: &[Kept],
-    v: u32,
-    list: &[u32],
+    list: &VehicleList<'_>,
     candidate: Candidate,
     best: Option<Choice>,
 ) -> Result<Option<Choice>, NoMemory>
-    requires lookups { lookups.now ≡ closed.model.now }
-    requires ready { IsReady closed.model.now v list.now keeps.now }
-    requires vehicle { v < length closed.model.now.vehicles }
-    requires may_hold { MayHold closed.model.now list.now candidate.item }
-    ensures { IfOk result (λ chosen. chosen ≡ best_in closed.entry.model.now v list.now candidate best) }
+    requires lookups { lookups.now ≡ list.now.closed.model.now }
+    requires ready { IsReadyList list.now keeps.now }
+    requires may_hold { MayHold list.now.closed.model.now list.now.nodes.now candidate.item }
+    ensures { IfOk result (λ chosen. chosen
+        ≡ best_in list.now.closed.model.now list.now.vehicle list.now.nodes.now candidate best) }
 {
-    if !allows_item(lookups, v, candidate.item) {
+    if !allows_item(lookups, list.vehicle, candidate.item) {
         return Ok(best);
     }
-    let best = best_where_allowed(room, closed, keeps, v, list, candidate, best)?;
+    let best = best_where_allowed(room, keeps, list, candidate, best)?;
     Ok(best)
 }

@@ -1,7 +1,6 @@
 //! What a list reaches at one stop in each dimension, moved from stop to stop.
 
 ghost use Rattle.std.specs.Prelude.{◌≡◌, ◌+◌, ◌<◌, ◌≤◌, IsTrue, length, IfOk, OnOk};
-ghost use Rattle.vr_model.specs.tables.WellFormed.{IsWellFormed};
 ghost use Rattle.vr_reach.specs.Lists.{IsUsed};
 ghost use Rattle.vr_reach.specs.Stretches.{SharesFront, SharesBack};
 ghost use Rattle.vr_rules.specs.RoutesOpen.{is_feasible_in_each};
@@ -9,61 +8,57 @@ ghost use Rattle.vr_first_insert.specs.KeptRows.{AreKeptOf, AreStopsOfEach};
 ghost use Rattle.vr_first_insert.specs.Probes.{AreReachedAt, ReachNoEnd};
 
 use crate::kept::Kept;
+use crate::vehicle_list::VehicleList;
 use std::alloc::Global;
-use vr_model::{Closed, Model, NoMemory};
+use vr_model::{Closed, NoMemory};
 use vr_reach::{Walk, go_on, goes_from, is_stuck, leave_rows};
 use vr_steps::Levels;
 
 /// What a list reaches at one stop in each dimension.
 #[derive(Drop)]
-pub struct Probes {
+pub(crate) struct Probes {
     // of the dimensions, and behind them some that are not used
     pub(crate) here: Vec<Levels>,
 }
 
 impl Probes {
     /// Those of no stop. It takes no memory.
-    pub fn new(alloc: Global) -> Probes {
+    pub(crate) fn new(alloc: Global) -> Probes {
         Probes {
             here: Vec::new(alloc),
         }
     }
 
-    /// Stands behind the first `front` nodes of a list of vehicle `v` and one arc more, where the list shares those
-    /// nodes with another, whose rows are kept. Afterwards nothing is said of where the walk stands.
+    /// Stands behind the first `front` nodes of a list and one arc more, where it shares those nodes with the list of
+    /// the vehicle before, whose rows are kept. Afterwards nothing is said of where the walk stands.
     ///
     /// `NoMemory` as of `is_feasible_between`, and where the model has more dimensions than any before.
-    pub fn leave(
+    pub(crate) fn leave(
         &mut self,
         alloc: Global,
-        model: &Model,
         keeps: &[Kept],
-        v: u32,
-        old: &[u32],
+        old: &VehicleList<'_>,
         new: &[u32],
         front: usize,
         walk: &mut Walk,
     ) -> Result<(), NoMemory>
-        requires well_formed { IsWellFormed model.now }
-        requires vehicle { v < length model.now.vehicles }
-        requires kept { AreKeptOf model.now v old.now keeps.now }
-        requires used { IsUsed model.now new.now }
-        requires front { SharesFront old.now new.now front }
-        ensures { OnOk result (AreReachedAt model.now v new.now (front + 1) self.new) }
+        requires kept { AreKeptOf old.now.closed.model.now old.now.vehicle old.now.nodes.now keeps.now }
+        requires used { IsUsed old.now.closed.model.now new.now }
+        requires front { SharesFront old.now.nodes.now new.now front }
+        ensures { OnOk result (AreReachedAt old.now.closed.model.now old.now.vehicle new.now (front + 1) self.new) }
     {
         fit(alloc, self, keeps.len())?;
-        leave_each(self, Closed { model }, keeps, v, old, new, front, walk)?;
+        leave_each(self, keeps, old, new, front, walk)?;
         Ok(())
     }
 
     /// Whether nothing is reached in some dimension: then no list that reaches this at a stop has a feasible line
     /// there. It takes no memory.
-    pub fn is_stuck(&self, model: &Model) -> bool
-        requires well_formed { IsWellFormed model.now }
-        requires enough { length model.now.dimensions ≤ length self.now.here.items }
-        ensures { IsTrue result → ReachNoEnd model.now self.now }
+    pub(crate) fn is_stuck(&self, closed: Closed<'_>) -> bool
+        requires { length closed.model.now.dimensions ≤ length self.now.here.items }
+        ensures { IsTrue result → ReachNoEnd closed.entry.model.now self.now }
     {
-        for d in 0..model.dimensions.len() {
+        for d in 0..closed.model.dimensions.len() {
             if is_stuck(&self.here[d]) {
                 return true;
             }
@@ -71,42 +66,40 @@ impl Probes {
         false
     }
 
-    /// Whether the line of a list of vehicle `v` is feasible in each dimension, found by walks from stop `k`, where
-    /// this is reached, to its last `back` nodes, which it shares with the list before, whose rows are kept. Afterwards
+    /// Whether the line of a list is feasible in each dimension, found by walks from stop `k`, where this is reached,
+    /// to its last `back` nodes, which it shares with the list of the vehicle before, whose rows are kept. Afterwards
     /// nothing is said of where the walk stands.
     ///
     /// `NoMemory` as of `is_feasible_between`.
-    pub fn goes_from(
+    pub(crate) fn goes_from(
         &self,
-        model: &Model,
         keeps: &[Kept],
-        v: u32,
-        old: &[u32],
+        old: &VehicleList<'_>,
         new: &[u32],
         k: usize,
         back: usize,
         walk: &mut Walk,
     ) -> Result<bool, NoMemory>
-        requires well_formed { IsWellFormed model.now }
-        requires vehicle { v < length model.now.vehicles }
-        requires kept { AreKeptOf model.now v old.now keeps.now }
-        requires used { IsUsed model.now new.now }
-        requires here { AreReachedAt model.now v new.now k self.now }
-        requires back { SharesBack old.now new.now back }
+        requires kept { AreKeptOf old.now.closed.model.now old.now.vehicle old.now.nodes.now keeps.now }
+        requires used { IsUsed old.now.closed.model.now new.now }
+        requires here { AreReachedAt old.now.closed.model.now old.now.vehicle new.now k self.now }
+        requires back { SharesBack old.now.nodes.now new.now back }
         requires apart { k + back ≤ length new.now }
-        ensures { IfOk result (λ answer. answer ≡ is_feasible_in_each model.now v new.now) }
+        ensures { IfOk result (λ answer. answer
+            ≡ is_feasible_in_each old.now.closed.model.now old.now.vehicle new.now) }
     {
+        let v = old.vehicle;
         for d in 0..keeps.len() {
             let kept = &keeps[d];
             let rows = &kept.rows[v as usize];
             let here = &self.here[d];
             if !goes_from(
-                model,
+                old.closed.model,
                 d as u32,
                 v,
                 &kept.stops,
                 rows,
-                old,
+                old.nodes,
                 new,
                 k,
                 here,
@@ -123,26 +116,34 @@ impl Probes {
     /// stands.
     ///
     /// `NoMemory` as of `is_feasible_between`.
-    pub fn go_on(
+    pub(crate) fn go_on(
         &mut self,
-        model: &Model,
+        closed: Closed<'_>,
         keeps: &[Kept],
         v: u32,
         list: &[u32],
         k: usize,
         walk: &mut Walk,
     ) -> Result<(), NoMemory>
-        requires well_formed { IsWellFormed model.now }
-        requires vehicle { v < length model.now.vehicles }
-        requires stops { AreStopsOfEach model.now keeps.now }
-        requires used { IsUsed model.now list.now }
+        requires vehicle { v < length closed.model.now.vehicles }
+        requires stops { AreStopsOfEach closed.model.now keeps.now }
+        requires used { IsUsed closed.model.now list.now }
         requires stop { k ≤ length list.now }
-        requires here { AreReachedAt model.now v list.now k self.old }
-        ensures { OnOk result (AreReachedAt model.now v list.now (k + 1) self.new) }
+        requires here { AreReachedAt closed.model.now v list.now k self.old }
+        ensures { OnOk result (AreReachedAt closed.entry.model.now v list.now (k + 1) self.new) }
     {
         for d in 0..keeps.len() {
             let stops = &keeps[d].stops;
-            go_on(model, d as u32, v, stops, list, k, walk, &mut self.here[d])?;
+            go_on(
+                closed.model,
+                d as u32,
+                v,
+                stops,
+                list,
+                k,
+                walk,
+                &mut self.here[d],
+            )?;
         }
         Ok(())
     }
@@ -158,34 +159,32 @@ fn fit(alloc: Global, probes: &mut Probes, wanted: usize) -> Result<(), NoMemory
     Ok(())
 }
 
-// Stands in each dimension behind the arc by which a list leaves another.
+// Stands in each dimension behind the arc by which a list leaves the list of the vehicle before.
 fn leave_each(
     probes: &mut Probes,
-    closed: Closed<'_>,
     keeps: &[Kept],
-    v: u32,
-    old: &[u32],
+    old: &VehicleList<'_>,
     new: &[u32],
     front: usize,
     walk: &mut Walk,
 ) -> Result<(), NoMemory>
-    requires vehicle { v < length closed.model.now.vehicles }
-    requires kept { AreKeptOf closed.model.now v old.now keeps.now }
-    requires used { IsUsed closed.model.now new.now }
-    requires front { SharesFront old.now new.now front }
+    requires kept { AreKeptOf old.now.closed.model.now old.now.vehicle old.now.nodes.now keeps.now }
+    requires used { IsUsed old.now.closed.model.now new.now }
+    requires front { SharesFront old.now.nodes.now new.now front }
     requires enough { length keeps.now ≤ length probes.old.here.items }
-    ensures { OnOk result (AreReachedAt closed.entry.model.now v new.now (front + 1) probes.new) }
+    ensures { OnOk result (AreReachedAt old.now.closed.model.now old.now.vehicle new.now (front + 1) probes.new) }
 {
+    let v = old.vehicle;
     for d in 0..keeps.len() {
         let kept = &keeps[d];
         let rows = &kept.rows[v as usize];
         leave_rows(
-            closed.model,
+            old.closed.model,
             d as u32,
             v,
             &kept.stops,
             rows,
-            old,
+            old.nodes,
             new,
             front,
             walk,

@@ -81,8 +81,7 @@ fn rebuild_in_place(
     requires lookups { lookups.now ≡ closed.model.now }
     requires keeper { IsKeeper closed.model.now keeper.old }
     requires of_model { routes.old.visits ≡ visits closed.model.now }
-    requires lists { IsTrue (are_lists closed.model.now routes.old.lists) }
-    requires open_lists { IsTrue (is_open closed.model.now routes.old.lists) }
+    requires built { AreBuilt closed.model.now routes.old.lists }
     ensures keeper { OnOk result (IsKeeper closed.entry.model.now keeper.new) }
     ensures lists { OnOk result (routes.new.lists
         ≡ rebuilt closed.entry.model.now (length (items closed.entry.model.now)) routes.old.lists) }
@@ -105,8 +104,7 @@ fn rebuilt_routes(
 ) -> Result<Routes, NoMemory>
     requires lookups { lookups.now ≡ closed.model.now }
     requires keeper { IsKeeper closed.model.now keeper.old }
-    requires lists { IsTrue (are_lists closed.model.now routes.now.lists) }
-    requires open_lists { IsTrue (is_open closed.model.now routes.now.lists) }
+    requires built { AreBuilt closed.model.now routes.now.lists }
     ensures keeper { OnOk result (IsKeeper closed.entry.model.now keeper.new) }
     ensures lists { IfOk result (λ after. after.lists
         ≡ rebuilt closed.entry.model.now (length (items closed.entry.model.now)) routes.now.lists) }
@@ -128,8 +126,7 @@ fn rebuilt_anew(
     routes: &Routes,
 ) -> Result<Routes, NoMemory>
     requires lookups { lookups.now ≡ closed.model.now }
-    requires lists { IsTrue (are_lists closed.model.now routes.now.lists) }
-    requires open_lists { IsTrue (is_open closed.model.now routes.now.lists) }
+    requires built { AreBuilt closed.model.now routes.now.lists }
     ensures lists { IfOk result (λ after. after.lists
         ≡ rebuilt closed.entry.model.now (length (items closed.entry.model.now)) routes.now.lists) }
     ensures visits { IfOk result (λ after. after.visits ≡ visits closed.entry.model.now) }

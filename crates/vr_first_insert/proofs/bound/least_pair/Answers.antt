@@ -11,7 +11,7 @@ loop-s-init c =
       least = λ s low t within.
           let zero : s ≡ 0 = omega (arith, low) in
           let here = first.least t within in
-          subst (λ s. to_z w64 (of_z w64 c.least_behind-least.result) ≤ℤ pair_increase c.args.closed.model.now c.args.v c.args.list.now c.args.pickup c.args.delivery s t) (sym zero)
+          subst (λ s. to_z w64 (of_z w64 c.least_behind-least.result) ≤ℤ pair_increase c.args.list.now.closed.model.now c.args.list.now.vehicle c.args.list.now.nodes.now c.args.pickup c.args.delivery s t) (sym zero)
           (omega (arith, ints, here, first.low, first.high));
       low = omega (arith, ints, first.low, first.high);
       high = omega (arith, ints, first.low, first.high);
@@ -19,13 +19,13 @@ loop-s-init c =
 
 pub loop-s-preserved : goal.loop-s-preserved
 loop-s-preserved c =
-    let model = c.args.closed.model.now in
-    let list = c.args.list.now in
+    let model = c.args.list.now.closed.model.now in
+    let list = c.args.list.now.nodes.now in
     let so_far = c.loop-s.invariant in
     let next = c.least_behind.ensures in
     let least = c.min-least.ensures in
     record {
-      least = below_more (λ s. (t : ℕ) → t ≤ length list → to_z w64 (of_z w64 c.min-least.result) ≤ℤ pair_increase model c.args.v list c.args.pickup c.args.delivery s t) c.loop-s.s
+      least = below_more (λ s. (t : ℕ) → t ≤ length list → to_z w64 (of_z w64 c.min-least.result) ≤ℤ pair_increase model c.args.list.now.vehicle list c.args.pickup c.args.delivery s t) c.loop-s.s
           (λ s low t within. let before = so_far.least s low t within in omega (arith, ints, before, so_far.low, so_far.high, next.low, next.high, least.value, least.self_bound, least.other_bound))
           (λ t within. let here = next.least t within in omega (arith, ints, here, so_far.low, so_far.high, next.low, next.high, least.value, least.self_bound, least.other_bound));
       low = omega (arith, ints, int_min_is, so_far.low, so_far.high, next.low, next.high, least.value, least.self_bound, least.other_bound);

@@ -8,9 +8,9 @@ use Rattle.vr_first_insert.proofs.bound.write_ahead.Goals as goal
 
 pub loop-k-preserved : goal.loop-k-preserved
 loop-k-preserved c =
-    let model = c.args.closed.model.now in
-    let list = c.args.list.now in
-    let v : ℕ = c.args.v in
+    let model = c.args.list.now.closed.model.now in
+    let list = c.args.list.now.nodes.now in
+    let v : ℕ = c.args.list.now.vehicle in
     let node : ℕ = c.args.node in
     let k : ℕ = c.loop-k.k in
     let so_far = c.loop-k.invariant in

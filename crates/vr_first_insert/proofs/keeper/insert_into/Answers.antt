@@ -10,25 +10,25 @@ use Rattle.vr_first_insert.proofs.keeper.insert_into.Goals as goal
 
 pub take_list-requires-clause-vehicle : goal.take_list-requires-clause-vehicle
 take_list-requires-clause-vehicle c =
-    let count = built-count c.args.closed.model.now c.args.routes.now.lists c.requires.built in
+    let count = built-count c.args.items.now.closed.model.now c.args.routes.now.lists c.requires.built in
     omega (arith, c.loop-v-test.true, c.vehicles-v-end.ensures.value, count)
 
 pub take_list-requires-clause-there : goal.take_list-requires-clause-there
 take_list-requires-clause-there c =
-    let count = built-count c.args.closed.model.now c.args.routes.now.lists c.requires.built in
+    let count = built-count c.args.items.now.closed.model.now c.args.routes.now.lists c.requires.built in
     let many = c.loop-v.invariant.vehicles in
     omega (arith, c.loop-v-test.true, c.vehicles-v-end.ensures.value, count, many)
 
 pub take_list-requires-clause-tour : goal.take_list-requires-clause-tour
 take_list-requires-clause-tour c =
-    let model = c.args.closed.model.now in
+    let model = c.args.items.now.closed.model.now in
     let lists = c.args.routes.now.lists in
     let v : ℕ = c.loop-v.v in
     subst (IsTour model) (sym c.list.ensures.value) (record { visits = built-visits model lists v c.requires.built; distinct = built-distinct model lists v c.requires.built })
 
 pub take_list-requires-clause-row : goal.take_list-requires-clause-row
 take_list-requires-clause-row c =
-    let count = built-count c.args.closed.model.now c.args.routes.now.lists c.requires.built in
+    let count = built-count c.args.items.now.closed.model.now c.args.routes.now.lists c.requires.built in
     let many = c.loop-v.invariant.vehicles in
     let rows = c.loop-v.invariant.rows.many in
     omega (arith, c.loop-v-test.true, c.vehicles-v-end.ensures.value, count, many, rows)
@@ -39,7 +39,7 @@ loop-v-preserved c =
     let v : ℕ = c.loop-v.v in
     let others = c.args.routes.now.lists in
     let list = c.list.result.now in
-    let count = built-count c.args.closed.model.now others c.requires.built in
+    let count = built-count c.args.items.now.closed.model.now others c.requires.built in
     let many = c.loop-v.invariant.vehicles in
     let there : v < length lists = omega (arith, c.loop-v-test.true, c.vehicles-v-end.ensures.value, count, many) in
     let is = c.in_ok-take_list.ensures.lists in
@@ -47,26 +47,26 @@ loop-v-preserved c =
       vehicles = ap length is ∙ length-set lists v list ∙ many;
       taken = λ w low. ap (λ lists. route lists w) is ∙ taken-more lists others v list there c.list.ensures.value c.loop-v.invariant.taken w low;
       kept = c.in_ok-take_list.ensures.kept;
-      rows = c.in_ok-take_list.ensures.rows c.args.candidates.now c.loop-v.invariant.rows;
+      rows = c.in_ok-take_list.ensures.rows c.args.items.now.candidates.now c.loop-v.invariant.rows;
     }
 
 pub insert_all-requires-clause-built : goal.insert_all-requires-clause-built
 insert_all-requires-clause-built c =
     let others = c.args.routes.now.lists in
-    let many = c.loop-v.invariant.vehicles ∙ sym (built-count c.args.closed.model.now others c.requires.built) in
+    let many = c.loop-v.invariant.vehicles ∙ sym (built-count c.args.items.now.closed.model.now others c.requires.built) in
     let same = all-taken c.loop-v.lists others c.loop-v.v many (omega (arith, c.loop-v-test.false, c.vehicles-v-end.ensures.value)) c.loop-v.invariant.taken in
-    subst (AreBuilt c.args.closed.model.now) (sym same) c.requires.built
+    subst (AreBuilt c.args.items.now.closed.model.now) (sym same) c.requires.built
 
 pub insert_all-requires-clause-marks : goal.insert_all-requires-clause-marks
 insert_all-requires-clause-marks c =
     let others = c.args.routes.now.lists in
-    let many = c.loop-v.invariant.vehicles ∙ sym (built-count c.args.closed.model.now others c.requires.built) in
+    let many = c.loop-v.invariant.vehicles ∙ sym (built-count c.args.items.now.closed.model.now others c.requires.built) in
     let same = all-taken c.loop-v.lists others c.loop-v.v many (omega (arith, c.loop-v-test.false, c.vehicles-v-end.ensures.value)) c.loop-v.invariant.taken in
-    subst (λ lists. AreMarks c.args.closed.model.now.nodes lists c.args.marks.now) (sym same) c.requires.marks
+    subst (λ lists. AreMarks c.args.items.now.closed.model.now.nodes lists c.args.marks.now) (sym same) c.requires.marks
 
 pub returns-clause-rebuilt : goal.returns-clause-rebuilt
 returns-clause-rebuilt c =
-    let model = c.args.closed.model.now in
+    let model = c.args.items.now.closed.model.now in
     let others = c.args.routes.now.lists in
     let many = c.loop-v.invariant.vehicles ∙ sym (built-count model others c.requires.built) in
     let same = all-taken c.loop-v.lists others c.loop-v.v many (omega (arith, c.loop-v-test.false, c.vehicles-v-end.ensures.value)) c.loop-v.invariant.taken in

@@ -1,4 +1,4 @@
-use Rattle.std.proofs.Common.{◌≡◌, ◌∙◌, ◌+◌, ◌<◌, ℕ, List, length, sym, subst, arith}
+use Rattle.std.proofs.Common.{◌≡◌, ◌∙◌, ◌<◌, ℕ, length, sym, subst, arith}
 use Rattle.std.proofs.lemmas.List.{length-set}
 use Rattle.vr_model.specs.routes.Routes.{route}
 use Rattle.vr_rules.proofs.FrontLemmas.{left_behind, moved_more}

@@ -12,7 +12,7 @@ use Rattle.vr_first_insert.proofs.RowLemmas.{stops_of}
 use Rattle.vr_first_insert.specs.declared.choice.Choice.{Choice}
 use Rattle.vr_first_insert.specs.declared.choice.Placing.TheVariants.{One}
 use Rattle.std.proofs.lemmas.Int.{ints, to_z-of_z}
-use Rattle.vr_lists.proofs.VisitLists.{visits-below, visits-few}
+use Rattle.vr_lists.proofs.VisitLists.{visits-few}
 use Rattle.vr_first_insert.proofs.BoundLemmas.{deliveries-passed_over}
 use Rattle.vr_first_insert.specs.Placings.{may_improve, pair_choice, weigh, IsLeast}
 use Rattle.vr_first_insert.proofs.ReadyLemmas.{deliveries-stuck, used-placed, MayHold-pickup}
@@ -20,80 +20,77 @@ use Rattle.vr_first_insert.proofs.one_list.best_behind.Goals as goal
 
 pub leave-requires-clause-used : goal.leave-requires-clause-used
 leave-requires-clause-used c =
-    subst (IsUsed c.args.closed.model.now) (sym c.requires.half) (used-placed c.args.closed.model.now c.args.list.now (One c.args.pickup c.args.s) c.requires.within (MayHold-pickup c.args.closed.model.now c.args.list.now c.args.pickup c.args.delivery c.requires.may_hold))
+    subst (IsUsed c.args.begun.now.pair.list.closed.model.now) (sym c.args.begun.now.picked_up) (used-placed c.args.begun.now.pair.list.closed.model.now c.args.begun.now.pair.list.nodes.now (One c.args.begun.now.pair.pickup c.args.begun.now.s) c.args.begun.now.within (MayHold-pickup c.args.begun.now.pair.list.closed.model.now c.args.begun.now.pair.list.nodes.now c.args.begun.now.pair.pickup c.args.begun.now.pair.delivery c.args.begun.now.pair.may_hold))
 
 pub leave-requires-clause-front : goal.leave-requires-clause-front
-leave-requires-clause-front c = subst (λ new. SharesFront c.args.list.now new c.args.s) (sym c.requires.half) (visit_front c.args.list.now c.args.s c.args.pickup c.requires.within)
+leave-requires-clause-front c = subst (λ new. SharesFront c.args.begun.now.pair.list.nodes.now new c.args.begun.now.s) (sym c.args.begun.now.picked_up) (visit_front c.args.begun.now.pair.list.nodes.now c.args.begun.now.s c.args.begun.now.pair.pickup c.args.begun.now.within)
 
 pub go_on-requires-clause-used : goal.go_on-requires-clause-used
 go_on-requires-clause-used c =
-    subst (IsUsed c.args.closed.model.now) (sym c.requires.half) (used-placed c.args.closed.model.now c.args.list.now (One c.args.pickup c.args.s) c.requires.within (MayHold-pickup c.args.closed.model.now c.args.list.now c.args.pickup c.args.delivery c.requires.may_hold))
+    subst (IsUsed c.args.begun.now.pair.list.closed.model.now) (sym c.args.begun.now.picked_up) (used-placed c.args.begun.now.pair.list.closed.model.now c.args.begun.now.pair.list.nodes.now (One c.args.begun.now.pair.pickup c.args.begun.now.s) c.args.begun.now.within (MayHold-pickup c.args.begun.now.pair.list.closed.model.now c.args.begun.now.pair.list.nodes.now c.args.begun.now.pair.pickup c.args.begun.now.pair.delivery c.args.begun.now.pair.may_hold))
 
 pub go_on-requires-clause-stops : goal.go_on-requires-clause-stops
-go_on-requires-clause-stops c = stops_of c.args.closed.model.now c.args.v c.args.list.now c.args.keeps.now c.requires.ready.kept
+go_on-requires-clause-stops c = stops_of c.args.begun.now.pair.list.closed.model.now c.args.begun.now.pair.list.vehicle c.args.begun.now.pair.list.nodes.now c.args.keeps.now c.requires.ready.kept
 
 pub go_on-requires-clause-stop : goal.go_on-requires-clause-stop
 go_on-requires-clause-stop c =
-    let long = ap length c.requires.half ∙ length-insert c.args.list.now c.args.s c.args.pickup c.requires.within in
-    omega (arith, long, c.requires.within)
+    let long = ap length c.args.begun.now.picked_up ∙ length-insert c.args.begun.now.pair.list.nodes.now c.args.begun.now.s c.args.begun.now.pair.pickup c.args.begun.now.within in
+    omega (arith, long, c.args.begun.now.within)
 
 pub go_on-requires-clause-here : goal.go_on-requires-clause-here
 go_on-requires-clause-here c = c.in_ok-leave.ensures
 
 pub weigh_pair-requires-clause-here : goal.weigh_pair-requires-clause-here
-weigh_pair-requires-clause-here c = subst (λ half. AreReachedAt c.args.closed.model.now c.args.v half (c.args.s + 1) c.leave.new.self) c.requires.half c.in_ok-leave.ensures
+weigh_pair-requires-clause-here c = subst (λ half. AreReachedAt c.args.begun.now.pair.list.closed.model.now c.args.begun.now.pair.list.vehicle half (c.args.begun.now.s + 1) c.leave.new.self) c.args.begun.now.picked_up c.in_ok-leave.ensures
 
 pub overflow_cast-placing : goal.overflow_cast-placing
-overflow_cast-placing c = omega (arith, visits-few c.args.closed.model.now c.args.list.now c.requires.may_hold.visits c.requires.may_hold.distinct, c.args.closed.well_formed.number_of_nodes.1)
+overflow_cast-placing c = omega (arith, visits-few c.args.begun.now.pair.list.closed.model.now c.args.begun.now.pair.list.nodes.now c.args.begun.now.pair.may_hold.visits c.args.begun.now.pair.may_hold.distinct, c.args.begun.now.pair.list.closed.well_formed.number_of_nodes.1)
 
 pub overflow_cast-placing-2 : goal.overflow_cast-placing-2
-overflow_cast-placing-2 c = omega (arith, visits-few c.args.closed.model.now c.args.list.now c.requires.may_hold.visits c.requires.may_hold.distinct, c.args.closed.well_formed.number_of_nodes.1)
+overflow_cast-placing-2 c = omega (arith, visits-few c.args.begun.now.pair.list.closed.model.now c.args.begun.now.pair.list.nodes.now c.args.begun.now.pair.may_hold.visits c.args.begun.now.pair.may_hold.distinct, c.args.begun.now.pair.list.closed.well_formed.number_of_nodes.1)
 
 pub write_placed-requires-clause-few : goal.write_placed-requires-clause-few
-write_placed-requires-clause-few c = omega (arith, visits-few c.args.closed.model.now c.args.list.now c.requires.may_hold.visits c.requires.may_hold.distinct, c.args.closed.well_formed.number_of_nodes.1)
+write_placed-requires-clause-few c = omega (arith, visits-few c.args.begun.now.pair.list.closed.model.now c.args.begun.now.pair.list.nodes.now c.args.begun.now.pair.may_hold.visits c.args.begun.now.pair.may_hold.distinct, c.args.begun.now.pair.list.closed.well_formed.number_of_nodes.1)
 
 pub best_further-requires-clause-longer : goal.best_further-requires-clause-longer
 best_further-requires-clause-longer c =
-    let list = c.args.list.now in
-    let s : ℕ = c.args.s in
-    let pair : Pair = record { pickup = c.args.pickup; delivery = c.args.delivery } in
+    let list = c.args.begun.now.pair.list.nodes.now in
+    let s : ℕ = c.args.begun.now.s in
+    let pair : Pair = record { pickup = c.args.begun.now.pair.pickup; delivery = c.args.begun.now.pair.delivery } in
     let next : suc s ≡ s + 1 = omega arith in
     c.in_ok-near.ensures.longer ∙ c.in_ok-write_placed.ensures
-    ∙ pair_is pair list s s (omega arith) c.requires.within ∙ ap (λ n. insert (insert list s c.args.pickup) n c.args.delivery) next
-    ∙ ap (λ l. insert l (s + 1) c.args.delivery) (sym c.requires.half)
+    ∙ pair_is pair list s s (omega arith) c.args.begun.now.within ∙ ap (λ n. insert (insert list s c.args.begun.now.pair.pickup) n c.args.begun.now.pair.delivery) next
+    ∙ ap (λ l. insert l (s + 1) c.args.begun.now.pair.delivery) (sym c.args.begun.now.picked_up)
 
 pub best_further-requires-clause-here : goal.best_further-requires-clause-here
 best_further-requires-clause-here c =
-    let next : c.args.s + 1 + 1 ≡ c.args.s + 2 = omega arith in
-    subst (λ k. AreReachedAt c.args.closed.model.now c.args.v c.args.half.now k c.go_on.new.self) next c.in_ok-go_on.ensures
+    let next : c.args.begun.now.s + 1 + 1 ≡ c.args.begun.now.s + 2 = omega arith in
+    subst (λ k. AreReachedAt c.args.begun.now.pair.list.closed.model.now c.args.begun.now.pair.list.vehicle c.args.begun.now.half.now k c.go_on.new.self) next c.in_ok-go_on.ensures
 
 pub returns-then-is_stuck : goal.returns-then-is_stuck
 returns-then-is_stuck c =
-    deliveries-stuck c.args.closed.model.now c.args.v c.args.list.now c.args.class c.args.pickup c.args.delivery c.args.s c.args.s c.args.best c.leave.new.self c.requires.vehicle c.requires.may_hold (omega arith) c.requires.within
-    (subst (λ half. AreReachedAt c.args.closed.model.now c.args.v half (c.args.s + 1) c.leave.new.self) c.requires.half c.in_ok-leave.ensures) (c.is_stuck.ensures c.if-is_stuck.true)
-
-pub least_further-requires-clause-nodes : goal.least_further-requires-clause-nodes
-least_further-requires-clause-nodes c = visits-below c.args.closed.model.now c.args.list.now c.requires.may_hold.visits
+    deliveries-stuck c.args.begun.now.pair.list.closed.model.now c.args.begun.now.pair.list.vehicle c.args.begun.now.pair.list.nodes.now c.args.begun.now.pair.class c.args.begun.now.pair.pickup c.args.begun.now.pair.delivery c.args.begun.now.s c.args.begun.now.s c.args.best c.leave.new.self c.args.begun.now.pair.list.there c.args.begun.now.pair.may_hold (omega arith) c.args.begun.now.within
+    (subst (λ half. AreReachedAt c.args.begun.now.pair.list.closed.model.now c.args.begun.now.pair.list.vehicle half (c.args.begun.now.s + 1) c.leave.new.self) c.args.begun.now.picked_up c.in_ok-leave.ensures) (c.is_stuck.ensures c.if-is_stuck.true)
 
 pub returns-then-not-may_improve : goal.returns-then-not-may_improve
 returns-then-not-may_improve c =
-    let model = c.args.closed.model.now in
-    let list = c.args.list.now in
-    let f : ℕ → Choice = pair_choice model c.args.v list c.args.class c.args.pickup c.args.delivery c.args.s in
+    let model = c.args.begun.now.pair.list.closed.model.now in
+    let list = c.args.begun.now.pair.list.nodes.now in
+    let f : ℕ → Choice = pair_choice model c.args.begun.now.pair.list.vehicle list c.args.begun.now.pair.class c.args.begun.now.pair.pickup c.args.begun.now.pair.delivery c.args.begun.now.s in
     let further = c.least_further.ensures in
-    let least = subst (λ x. IsLeast model c.args.v list c.args.delivery x) (sym (to_z-of_z w64 c.args.least c.ranges.least)) c.requires.least in
+    let least = subst (λ x. IsLeast model c.args.begun.now.pair.list.vehicle list c.args.begun.now.pair.delivery x) (sym (to_z-of_z w64 c.args.least c.ranges.least)) c.requires.least in
     let fits : to_z w64 (of_z w64 c.least_further.result) ≡ c.least_further.result = omega (arith, ints, further.low, further.high) in
-    deliveries-passed_over model c.args.v list c.args.class c.args.pickup c.args.delivery c.args.s (c.args.s + 1) c.in_ok-near.near c.least_further.result
-    (λ t from high. further.least c.args.delivery t least (omega (arith, from)) high)
-    (ap (may_improve c.in_ok-near.near c.args.class) (sym fits) ∙ sym c.may_improve.ensures ∙ c.if-not-may_improve.true)
-    ∙ ap (λ best. fold (weigh model list) best (map f (from_to (c.args.s + 1) (suc (length list))))) c.in_ok-near.ensures.best
-    ∙ sym (first_left c.args.s (suc (length list)) (omega (arith, c.requires.within)) (λ ks. fold (weigh model list) c.args.best (map f ks)))
+    deliveries-passed_over model c.args.begun.now.pair.list.vehicle list c.args.begun.now.pair.class c.args.begun.now.pair.pickup c.args.begun.now.pair.delivery c.args.begun.now.s (c.args.begun.now.s + 1) c.in_ok-near.near c.least_further.result
+    (λ t from high. further.least c.args.begun.now.pair.delivery t least (omega (arith, from)) high)
+    (ap (may_improve c.in_ok-near.near c.args.begun.now.pair.class) (sym fits) ∙ sym c.may_improve.ensures ∙ c.if-not-may_improve.true)
+    ∙ ap (λ best. fold (weigh model list) best (map f (from_to (c.args.begun.now.s + 1) (suc (length list))))) c.in_ok-near.ensures.best
+    ∙ sym (first_left c.args.begun.now.s (suc (length list)) (omega (arith, c.args.begun.now.within)) (λ ks. fold (weigh model list) c.args.best (map f ks)))
 
 pub returns : goal.returns
 returns c =
-    let model = c.args.closed.model.now in
-    let list = c.args.list.now in
-    let f : ℕ → Choice = pair_choice model c.args.v list c.args.class c.args.pickup c.args.delivery c.args.s in
+    let model = c.args.begun.now.pair.list.closed.model.now in
+    let list = c.args.begun.now.pair.list.nodes.now in
+    let f : ℕ → Choice = pair_choice model c.args.begun.now.pair.list.vehicle list c.args.begun.now.pair.class c.args.begun.now.pair.pickup c.args.begun.now.pair.delivery c.args.begun.now.s in
     c.in_ok-best.ensures
-    ∙ ap (λ best. fold (weigh model list) best (map f (from_to (c.args.s + 1) (suc (length list))))) c.in_ok-near.ensures.best
-    ∙ sym (first_left c.args.s (suc (length list)) (omega (arith, c.requires.within)) (λ ks. fold (weigh model list) c.args.best (map f ks)))
+    ∙ ap (λ best. fold (weigh model list) best (map f (from_to (c.args.begun.now.s + 1) (suc (length list))))) c.in_ok-near.ensures.best
+    ∙ sym (first_left c.args.begun.now.s (suc (length list)) (omega (arith, c.args.begun.now.within)) (λ ks. fold (weigh model list) c.args.best (map f ks)))

@@ -6,18 +6,18 @@ use Rattle.vr_first_insert.proofs.BoundLemmas.{ahead-read, deliveries-passed_ove
 use Rattle.vr_first_insert.proofs.one_list.best_delivery.Goals as goal
 
 pub overflow_cast-s : goal.overflow_cast-s
-overflow_cast-s c = omega (arith, visits-few c.args.closed.model.now c.args.list.now c.requires.may_hold.visits c.requires.may_hold.distinct, c.args.closed.well_formed.number_of_nodes.1)
+overflow_cast-s c = omega (arith, visits-few c.args.pair.now.list.closed.model.now c.args.pair.now.list.nodes.now c.args.pair.now.may_hold.visits c.args.pair.now.may_hold.distinct, c.args.pair.now.list.closed.well_formed.number_of_nodes.1)
 
 pub write_placed-requires-clause-few : goal.write_placed-requires-clause-few
-write_placed-requires-clause-few c = omega (arith, visits-few c.args.closed.model.now c.args.list.now c.requires.may_hold.visits c.requires.may_hold.distinct, c.args.closed.well_formed.number_of_nodes.1)
+write_placed-requires-clause-few c = omega (arith, visits-few c.args.pair.now.list.closed.model.now c.args.pair.now.list.nodes.now c.args.pair.now.may_hold.visits c.args.pair.now.may_hold.distinct, c.args.pair.now.list.closed.well_formed.number_of_nodes.1)
 
 pub returns-then-not-may_improve-clause-best : goal.returns-then-not-may_improve-clause-best
 returns-then-not-may_improve-clause-best c =
-    let model = c.args.closed.model.now in
-    let list = c.args.list.now in
+    let model = c.args.pair.now.list.closed.model.now in
+    let list = c.args.pair.now.list.nodes.now in
     let fits : to_z w64 (of_z w64 c.least_behind.result) ≡ c.least_behind.result = omega (arith, ints, c.least_behind.ensures.low, c.least_behind.ensures.high) in
-    deliveries-passed_over model c.args.v list c.args.class c.args.pickup c.args.delivery c.args.s c.args.s c.args.best c.least_behind.result (λ t from high. c.least_behind.ensures.least t high)
-    (ap (may_improve c.args.best c.args.class) (sym fits) ∙ sym c.may_improve.ensures ∙ c.if-not-may_improve.true)
+    deliveries-passed_over model c.args.pair.now.list.vehicle list c.args.pair.now.class c.args.pair.now.pickup c.args.pair.now.delivery c.args.s c.args.s c.args.best c.least_behind.result (λ t from high. c.least_behind.ensures.least t high)
+    (ap (may_improve c.args.best c.args.pair.now.class) (sym fits) ∙ sym c.may_improve.ensures ∙ c.if-not-may_improve.true)
 
 pub get-least-requires : goal.get-least-requires
 get-least-requires c =
@@ -25,19 +25,19 @@ get-least-requires c =
     omega (arith, long)
 
 pub least_behind-requires-clause-least : goal.least_behind-requires-clause-least
-least_behind-requires-clause-least c = λ t within. (ahead-read c.args.closed.model.now c.args.v c.args.list.now c.args.delivery (length c.args.list.now) c.args.room.now.ahead c.get-least.result.now c.requires.ahead (c.get-least.ensures.value (pos 0)) (omega arith)).behind t (omega arith) within
+least_behind-requires-clause-least c = λ t within. (ahead-read c.args.pair.now.list.closed.model.now c.args.pair.now.list.vehicle c.args.pair.now.list.nodes.now c.args.pair.now.delivery (length c.args.pair.now.list.nodes.now) c.args.room.now.ahead c.get-least.result.now c.requires.ahead (c.get-least.ensures.value (pos 0)) (omega arith)).behind t (omega arith) within
 
 pub least_behind-requires-clause-low : goal.least_behind-requires-clause-low
-least_behind-requires-clause-low c = (ahead-read c.args.closed.model.now c.args.v c.args.list.now c.args.delivery (length c.args.list.now) c.args.room.now.ahead c.get-least.result.now c.requires.ahead (c.get-least.ensures.value (pos 0)) (omega arith)).low
+least_behind-requires-clause-low c = (ahead-read c.args.pair.now.list.closed.model.now c.args.pair.now.list.vehicle c.args.pair.now.list.nodes.now c.args.pair.now.delivery (length c.args.pair.now.list.nodes.now) c.args.room.now.ahead c.get-least.result.now c.requires.ahead (c.get-least.ensures.value (pos 0)) (omega arith)).low
 
 pub least_behind-requires-clause-high : goal.least_behind-requires-clause-high
-least_behind-requires-clause-high c = (ahead-read c.args.closed.model.now c.args.v c.args.list.now c.args.delivery (length c.args.list.now) c.args.room.now.ahead c.get-least.result.now c.requires.ahead (c.get-least.ensures.value (pos 0)) (omega arith)).high
+least_behind-requires-clause-high c = (ahead-read c.args.pair.now.list.closed.model.now c.args.pair.now.list.vehicle c.args.pair.now.list.nodes.now c.args.pair.now.delivery (length c.args.pair.now.list.nodes.now) c.args.room.now.ahead c.get-least.result.now c.requires.ahead (c.get-least.ensures.value (pos 0)) (omega arith)).high
 
 pub best_behind-requires-clause-least : goal.best_behind-requires-clause-least
-best_behind-requires-clause-least c = λ t within. (ahead-read c.args.closed.model.now c.args.v c.args.list.now c.args.delivery (length c.args.list.now) c.args.room.now.ahead c.get-least.result.now c.requires.ahead (c.get-least.ensures.value (pos 0)) (omega arith)).behind t (omega arith) within
+best_behind-requires-clause-least c = λ t within. (ahead-read c.args.pair.now.list.closed.model.now c.args.pair.now.list.vehicle c.args.pair.now.list.nodes.now c.args.pair.now.delivery (length c.args.pair.now.list.nodes.now) c.args.room.now.ahead c.get-least.result.now c.requires.ahead (c.get-least.ensures.value (pos 0)) (omega arith)).behind t (omega arith) within
 
 pub best_behind-requires-clause-low : goal.best_behind-requires-clause-low
-best_behind-requires-clause-low c = (ahead-read c.args.closed.model.now c.args.v c.args.list.now c.args.delivery (length c.args.list.now) c.args.room.now.ahead c.get-least.result.now c.requires.ahead (c.get-least.ensures.value (pos 0)) (omega arith)).low
+best_behind-requires-clause-low c = (ahead-read c.args.pair.now.list.closed.model.now c.args.pair.now.list.vehicle c.args.pair.now.list.nodes.now c.args.pair.now.delivery (length c.args.pair.now.list.nodes.now) c.args.room.now.ahead c.get-least.result.now c.requires.ahead (c.get-least.ensures.value (pos 0)) (omega arith)).low
 
 pub best_behind-requires-clause-high : goal.best_behind-requires-clause-high
-best_behind-requires-clause-high c = (ahead-read c.args.closed.model.now c.args.v c.args.list.now c.args.delivery (length c.args.list.now) c.args.room.now.ahead c.get-least.result.now c.requires.ahead (c.get-least.ensures.value (pos 0)) (omega arith)).high
+best_behind-requires-clause-high c = (ahead-read c.args.pair.now.list.closed.model.now c.args.pair.now.list.vehicle c.args.pair.now.list.nodes.now c.args.pair.now.delivery (length c.args.pair.now.list.nodes.now) c.args.room.now.ahead c.get-least.result.now c.requires.ahead (c.get-least.ensures.value (pos 0)) (omega arith)).high

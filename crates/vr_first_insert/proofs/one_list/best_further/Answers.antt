@@ -1,7 +1,6 @@
 use Rattle.std.proofs.Common.{refl, ◌≡◌, ◌∙◌, ◌+◌, ◌-◌, ◌≤ℤ◌, ◌+ℤ◌, ℕ, ℤ, pos, suc, ap, sym, subst, arith, length, to_z, of_z, w64}
 use Rattle.std.specs.Prelude.{fold, insert, map}
 use Rattle.std.proofs.lemmas.Int.{ints}
-use Rattle.vr_lists.proofs.VisitLists.{visits-below}
 use Rattle.vr_first_insert.specs.Increases.{pair_increase, visit_increase}
 use Rattle.vr_first_insert.proofs.BoundLemmas.{ahead-read, deliveries-passed_over, least-apart-at}
 use Rattle.std.proofs.lemmas.List.Edits.{length-insert}
@@ -19,104 +18,101 @@ use Rattle.vr_first_insert.proofs.ReadyLemmas.{deliveries-stuck, used-placed, Ma
 use Rattle.vr_first_insert.proofs.one_list.best_further.Goals as goal
 
 pub weigh_pair-requires-clause-here : goal.weigh_pair-requires-clause-here
-weigh_pair-requires-clause-here c = subst (λ half. AreReachedAt c.args.closed.model.now c.args.v half (c.loop-t.t + 1) c.loop-t.probes) c.requires.half c.loop-t.invariant.reached
+weigh_pair-requires-clause-here c = subst (λ half. AreReachedAt c.args.begun.now.pair.list.closed.model.now c.args.begun.now.pair.list.vehicle half (c.loop-t.t + 1) c.loop-t.probes) c.args.begun.now.picked_up c.loop-t.invariant.reached
 
 pub move_on-requires : goal.move_on-requires
 move_on-requires c =
-    let half = c.args.half.now in
+    let half = c.args.begun.now.half.now in
     let t : ℕ = c.loop-t.t in
-    let long : length half ≡ length c.args.list.now + 1 = ap length c.requires.half ∙ length-insert c.args.list.now c.args.s c.args.pickup c.requires.within in
-    let longer = ap length c.loop-t.invariant.longer ∙ length-insert half t c.args.delivery (omega (arith, long, c.loop-t-test.true)) in
+    let long : length half ≡ length c.args.begun.now.pair.list.nodes.now + 1 = ap length c.args.begun.now.picked_up ∙ length-insert c.args.begun.now.pair.list.nodes.now c.args.begun.now.s c.args.begun.now.pair.pickup c.args.begun.now.within in
+    let longer = ap length c.loop-t.invariant.longer ∙ length-insert half t c.args.begun.now.pair.delivery (omega (arith, long, c.loop-t-test.true)) in
     omega (arith, long, longer, c.loop-t-test.true)
 
 pub weigh_pair-requires-clause-longer : goal.weigh_pair-requires-clause-longer
 weigh_pair-requires-clause-longer c =
-    let list = c.args.list.now in
-    let half = c.args.half.now in
+    let list = c.args.begun.now.pair.list.nodes.now in
+    let half = c.args.begun.now.half.now in
     let t : ℕ = c.loop-t.t in
-    let pair : Pair = record { pickup = c.args.pickup; delivery = c.args.delivery } in
-    let long : length half ≡ length list + 1 = ap length c.requires.half ∙ length-insert list c.args.s c.args.pickup c.requires.within in
+    let pair : Pair = record { pickup = c.args.begun.now.pair.pickup; delivery = c.args.begun.now.pair.delivery } in
+    let long : length half ≡ length list + 1 = ap length c.args.begun.now.picked_up ∙ length-insert list c.args.begun.now.s c.args.begun.now.pair.pickup c.args.begun.now.within in
     let next : suc t ≡ t + 1 = omega arith in
-    c.move_on.ensures half c.args.delivery (omega (arith, long, c.loop-t-test.true)) c.loop-t.invariant.longer
-    ∙ ap (λ l. insert l (t + 1) c.args.delivery) c.requires.half
-    ∙ sym (pair_is pair list c.args.s t (omega arith) (omega (arith, c.loop-t-test.true)) ∙ ap (λ n. insert (insert list c.args.s c.args.pickup) n c.args.delivery) next)
+    c.move_on.ensures half c.args.begun.now.pair.delivery (omega (arith, long, c.loop-t-test.true)) c.loop-t.invariant.longer
+    ∙ ap (λ l. insert l (t + 1) c.args.begun.now.pair.delivery) c.args.begun.now.picked_up
+    ∙ sym (pair_is pair list c.args.begun.now.s t (omega arith) (omega (arith, c.loop-t-test.true)) ∙ ap (λ n. insert (insert list c.args.begun.now.s c.args.begun.now.pair.pickup) n c.args.begun.now.pair.delivery) next)
 
 pub go_on-requires-clause-used : goal.go_on-requires-clause-used
 go_on-requires-clause-used c =
-    subst (IsUsed c.args.closed.model.now) (sym c.requires.half) (used-placed c.args.closed.model.now c.args.list.now (One c.args.pickup c.args.s) c.requires.within (MayHold-pickup c.args.closed.model.now c.args.list.now c.args.pickup c.args.delivery c.requires.may_hold))
+    subst (IsUsed c.args.begun.now.pair.list.closed.model.now) (sym c.args.begun.now.picked_up) (used-placed c.args.begun.now.pair.list.closed.model.now c.args.begun.now.pair.list.nodes.now (One c.args.begun.now.pair.pickup c.args.begun.now.s) c.args.begun.now.within (MayHold-pickup c.args.begun.now.pair.list.closed.model.now c.args.begun.now.pair.list.nodes.now c.args.begun.now.pair.pickup c.args.begun.now.pair.delivery c.args.begun.now.pair.may_hold))
 
 pub go_on-requires-clause-stops : goal.go_on-requires-clause-stops
-go_on-requires-clause-stops c = stops_of c.args.closed.model.now c.args.v c.args.list.now c.args.keeps.now c.requires.ready.kept
+go_on-requires-clause-stops c = stops_of c.args.begun.now.pair.list.closed.model.now c.args.begun.now.pair.list.vehicle c.args.begun.now.pair.list.nodes.now c.args.keeps.now c.requires.ready.kept
 
 pub go_on-requires-clause-stop : goal.go_on-requires-clause-stop
 go_on-requires-clause-stop c =
-    let long = ap length c.requires.half ∙ length-insert c.args.list.now c.args.s c.args.pickup c.requires.within in
+    let long = ap length c.args.begun.now.picked_up ∙ length-insert c.args.begun.now.pair.list.nodes.now c.args.begun.now.s c.args.begun.now.pair.pickup c.args.begun.now.within in
     omega (arith, long, c.loop-t-test.true)
 
 pub loop-t-preserved : goal.loop-t-preserved
 loop-t-preserved c =
-    let model = c.args.closed.model.now in
-    let list = c.args.list.now in
-    let f : ℕ → Choice = pair_choice model c.args.v list c.args.class c.args.pickup c.args.delivery c.args.s in
+    let model = c.args.begun.now.pair.list.closed.model.now in
+    let list = c.args.begun.now.pair.list.nodes.now in
+    let f : ℕ → Choice = pair_choice model c.args.begun.now.pair.list.vehicle list c.args.begun.now.pair.class c.args.begun.now.pair.pickup c.args.begun.now.pair.delivery c.args.begun.now.s in
     record {
       best = ap (λ best. fold (weigh model list) best (map f (from_to (c.loop-t.t + 1) (suc (length list))))) c.in_ok-best.ensures.best
           ∙ walk_opens (λ ks. fold (weigh model list) c.loop-t.best (map f ks)) (suc (length list)) c.loop-t.t c.loop-t.invariant.best (omega arith);
       reached = c.in_ok-go_on.ensures;
-      longer = c.in_ok-best.ensures.longer ∙ c.move_on.ensures c.args.half.now c.args.delivery (let long = ap length c.requires.half ∙ length-insert list c.args.s c.args.pickup c.requires.within in omega (arith, long, c.loop-t-test.true)) c.loop-t.invariant.longer;
+      longer = c.in_ok-best.ensures.longer ∙ c.move_on.ensures c.args.begun.now.half.now c.args.begun.now.pair.delivery (let long = ap length c.args.begun.now.picked_up ∙ length-insert list c.args.begun.now.s c.args.begun.now.pair.pickup c.args.begun.now.within in omega (arith, long, c.loop-t-test.true)) c.loop-t.invariant.longer;
     }
 
 pub returns-then-is_stuck : goal.returns-then-is_stuck
 returns-then-is_stuck c =
-    let model = c.args.closed.model.now in
-    let list = c.args.list.now in
-    deliveries-stuck model c.args.v list c.args.class c.args.pickup c.args.delivery c.args.s c.loop-t.t c.loop-t.best c.loop-t.probes c.requires.vehicle c.requires.may_hold (omega arith) (omega arith)
-    (subst (λ half. AreReachedAt model c.args.v half (c.loop-t.t + 1) c.loop-t.probes) c.requires.half c.loop-t.invariant.reached) (c.is_stuck.ensures c.if-is_stuck.true)
+    let model = c.args.begun.now.pair.list.closed.model.now in
+    let list = c.args.begun.now.pair.list.nodes.now in
+    deliveries-stuck model c.args.begun.now.pair.list.vehicle list c.args.begun.now.pair.class c.args.begun.now.pair.pickup c.args.begun.now.pair.delivery c.args.begun.now.s c.loop-t.t c.loop-t.best c.loop-t.probes c.args.begun.now.pair.list.there c.args.begun.now.pair.may_hold (omega arith) (omega arith)
+    (subst (λ half. AreReachedAt model c.args.begun.now.pair.list.vehicle half (c.loop-t.t + 1) c.loop-t.probes) c.args.begun.now.picked_up c.loop-t.invariant.reached) (c.is_stuck.ensures c.if-is_stuck.true)
     ∙ c.loop-t.invariant.best
 
 pub returns : goal.returns
 returns c =
-    let model = c.args.closed.model.now in
-    let list = c.args.list.now in
-    let f : ℕ → Choice = pair_choice model c.args.v list c.args.class c.args.pickup c.args.delivery c.args.s in
+    let model = c.args.begun.now.pair.list.closed.model.now in
+    let list = c.args.begun.now.pair.list.nodes.now in
+    let f : ℕ → Choice = pair_choice model c.args.begun.now.pair.list.vehicle list c.args.begun.now.pair.class c.args.begun.now.pair.pickup c.args.begun.now.pair.delivery c.args.begun.now.s in
     walk_ends (λ ks. fold (weigh model list) c.loop-t.best (map f ks)) (suc (length list)) c.loop-t.t c.loop-t.invariant.best (omega arith)
 
 pub loop-t-init : goal.loop-t-init
 loop-t-init c =
-    let next : c.args.s + 2 ≡ c.args.s + 1 + 1 = omega arith in
-    record { best = refl; longer = c.requires.longer; reached = subst (λ k. AreReachedAt c.args.closed.model.now c.args.v c.args.half.now k c.args.probes.now) next c.requires.here }
-
-pub visit_increase-alone-requires-clause-nodes : goal.visit_increase-alone-requires-clause-nodes
-visit_increase-alone-requires-clause-nodes c = visits-below c.args.closed.model.now c.args.list.now c.requires.may_hold.visits
+    let next : c.args.begun.now.s + 2 ≡ c.args.begun.now.s + 1 + 1 = omega arith in
+    record { best = refl; longer = c.requires.longer; reached = subst (λ k. AreReachedAt c.args.begun.now.pair.list.closed.model.now c.args.begun.now.pair.list.vehicle c.args.begun.now.half.now k c.args.probes.now) next c.requires.here }
 
 pub get-least-requires : goal.get-least-requires
 get-least-requires c =
-    let long = c.requires.ahead.one_of_each in
+    let long = c.args.begun.now.least_ahead.one_of_each in
     omega (arith, long)
 
 pub least_apart-requires-clause-low : goal.least_apart-requires-clause-low
 least_apart-requires-clause-low c =
-    let list = c.args.list.now in
-    (ahead-read c.args.closed.model.now c.args.v list c.args.delivery (length list - c.loop-t.t) c.args.ahead.now c.get-least.result.now c.requires.ahead (c.get-least.ensures.value (pos 0)) (omega arith)).low
+    let list = c.args.begun.now.pair.list.nodes.now in
+    (ahead-read c.args.begun.now.pair.list.closed.model.now c.args.begun.now.pair.list.vehicle list c.args.begun.now.pair.delivery (length list - c.loop-t.t) c.args.begun.now.ahead.now c.get-least.result.now c.args.begun.now.least_ahead (c.get-least.ensures.value (pos 0)) (omega arith)).low
 
 pub least_apart-requires-clause-high : goal.least_apart-requires-clause-high
 least_apart-requires-clause-high c =
-    let list = c.args.list.now in
-    (ahead-read c.args.closed.model.now c.args.v list c.args.delivery (length list - c.loop-t.t) c.args.ahead.now c.get-least.result.now c.requires.ahead (c.get-least.ensures.value (pos 0)) (omega arith)).high
+    let list = c.args.begun.now.pair.list.nodes.now in
+    (ahead-read c.args.begun.now.pair.list.closed.model.now c.args.begun.now.pair.list.vehicle list c.args.begun.now.pair.delivery (length list - c.loop-t.t) c.args.begun.now.ahead.now c.get-least.result.now c.args.begun.now.least_ahead (c.get-least.ensures.value (pos 0)) (omega arith)).high
 
 pub returns-then-not-may_improve : goal.returns-then-not-may_improve
 returns-then-not-may_improve c =
-    let model = c.args.closed.model.now in
-    let list = c.args.list.now in
-    let v : ℕ = c.args.v in
+    let model = c.args.begun.now.pair.list.closed.model.now in
+    let list = c.args.begun.now.pair.list.nodes.now in
+    let v : ℕ = c.args.begun.now.pair.list.vehicle in
     let t : ℕ = c.loop-t.t in
     let least : ℤ = to_z w64 (of_z w64 c.get-least.result.now) in
-    let is = ahead-read model v list c.args.delivery (length list - t) c.args.ahead.now c.get-least.result.now c.requires.ahead (c.get-least.ensures.value (pos 0)) (omega arith) in
+    let is = ahead-read model v list c.args.begun.now.pair.delivery (length list - t) c.args.begun.now.ahead.now c.get-least.result.now c.args.begun.now.least_ahead (c.get-least.ensures.value (pos 0)) (omega arith) in
     let apart = c.least_apart.ensures in
     let alone = c.visit_increase-alone.ensures in
     let fits : to_z w64 (of_z w64 c.least_apart.result) ≡ c.least_apart.result = omega (arith, ints, apart.low, apart.high) in
-    let sum : c.least_apart.result ≡ (visit_increase model v list c.args.pickup c.args.s +ℤ least) = omega (arith, ints, apart.value, alone.value, alone.low, alone.high) in
-    deliveries-passed_over model v list c.args.class c.args.pickup c.args.delivery c.args.s t c.loop-t.best c.least_apart.result
-    (λ u from high. subst (λ x. x ≤ℤ pair_increase model v list c.args.pickup c.args.delivery c.args.s u) (sym sum)
-    (least-apart-at model v list c.args.pickup c.args.delivery c.args.s u least (is.behind u (omega (arith, from)) high) (omega (arith, from))))
-    (ap (may_improve c.loop-t.best c.args.class) (sym fits) ∙ sym c.may_improve.ensures ∙ c.if-not-may_improve.true)
+    let sum : c.least_apart.result ≡ (visit_increase model v list c.args.begun.now.pair.pickup c.args.begun.now.s +ℤ least) = omega (arith, ints, apart.value, alone.value, alone.low, alone.high) in
+    deliveries-passed_over model v list c.args.begun.now.pair.class c.args.begun.now.pair.pickup c.args.begun.now.pair.delivery c.args.begun.now.s t c.loop-t.best c.least_apart.result
+    (λ u from high. subst (λ x. x ≤ℤ pair_increase model v list c.args.begun.now.pair.pickup c.args.begun.now.pair.delivery c.args.begun.now.s u) (sym sum)
+    (least-apart-at model v list c.args.begun.now.pair.pickup c.args.begun.now.pair.delivery c.args.begun.now.s u least (is.behind u (omega (arith, from)) high) (omega (arith, from))))
+    (ap (may_improve c.loop-t.best c.args.begun.now.pair.class) (sym fits) ∙ sym c.may_improve.ensures ∙ c.if-not-may_improve.true)
     ∙ c.loop-t.invariant.best

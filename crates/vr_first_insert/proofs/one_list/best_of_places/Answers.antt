@@ -10,35 +10,35 @@ use Rattle.vr_first_insert.proofs.InsertLemmas.{fold-one}
 use Rattle.vr_first_insert.proofs.one_list.best_of_places.Goals as goal
 
 pub write_placed-requires-clause-few : goal.write_placed-requires-clause-few
-write_placed-requires-clause-few c = omega (arith, visits-few c.args.closed.model.now c.args.list.now c.requires.may_hold.visits c.requires.may_hold.distinct, c.args.closed.well_formed.number_of_nodes.1)
+write_placed-requires-clause-few c = omega (arith, visits-few c.args.visit.now.list.closed.model.now c.args.visit.now.list.nodes.now c.args.visit.now.may_hold.visits c.args.visit.now.may_hold.distinct, c.args.visit.now.list.closed.well_formed.number_of_nodes.1)
 
 pub move_on-requires : goal.move_on-requires
 move_on-requires c =
-    let list = c.args.list.now in
+    let list = c.args.visit.now.list.nodes.now in
     let t : ℕ = c.loop-t.t in
-    let long = ap length c.loop-t.invariant.longer ∙ length-insert list t c.args.node (omega arith) in
+    let long = ap length c.loop-t.invariant.longer ∙ length-insert list t c.args.visit.now.node (omega arith) in
     omega (arith, long, c.loop-t-test.true)
 
 pub weigh_visit-requires-in-loop-t-clause-longer : goal.weigh_visit-requires-in-loop-t-clause-longer
-weigh_visit-requires-in-loop-t-clause-longer c = c.move_on.ensures c.args.list.now c.args.node c.loop-t-test.true c.loop-t.invariant.longer
+weigh_visit-requires-in-loop-t-clause-longer c = c.move_on.ensures c.args.visit.now.list.nodes.now c.args.visit.now.node c.loop-t-test.true c.loop-t.invariant.longer
 
 pub loop-t-preserved : goal.loop-t-preserved
 loop-t-preserved c =
-    let model = c.args.closed.model.now in
-    let list = c.args.list.now in
+    let model = c.args.visit.now.list.closed.model.now in
+    let list = c.args.visit.now.list.nodes.now in
     let t : ℕ = c.loop-t.t in
-    let f : ℕ → Choice = visit_choice model c.args.v list c.args.class c.args.node in
+    let f : ℕ → Choice = visit_choice model c.args.visit.now.list.vehicle list c.args.visit.now.class c.args.visit.now.node in
     record {
       best = c.in_ok-best.ensures.best
           ∙ ap (λ best. weigh model list best (f (t + 1))) c.loop-t.invariant.best
           ∙ sym (fold-one (weigh model list) c.args.best f (below (t + 1)) (t + 1)) ∙ sym (ap (λ ks. fold (weigh model list) c.args.best (map f ks)) (below-more (t + 1)));
-      longer = c.in_ok-best.ensures.longer ∙ c.move_on.ensures list c.args.node c.loop-t-test.true c.loop-t.invariant.longer;
+      longer = c.in_ok-best.ensures.longer ∙ c.move_on.ensures list c.args.visit.now.node c.loop-t-test.true c.loop-t.invariant.longer;
     }
 
 pub returns : goal.returns
 returns c =
-    let model = c.args.closed.model.now in
-    let list = c.args.list.now in
-    let f : ℕ → Choice = visit_choice model c.args.v list c.args.class c.args.node in
+    let model = c.args.visit.now.list.closed.model.now in
+    let list = c.args.visit.now.list.nodes.now in
+    let f : ℕ → Choice = visit_choice model c.args.visit.now.list.vehicle list c.args.visit.now.class c.args.visit.now.node in
     let end : c.loop-t.t + 1 ≡ suc (length list) = omega arith in
     c.loop-t.invariant.best ∙ ap (λ n. fold (weigh model list) c.args.best (map f (below n))) end

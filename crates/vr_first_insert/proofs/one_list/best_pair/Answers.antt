@@ -8,19 +8,19 @@ use Rattle.vr_first_insert.proofs.one_list.best_pair.Goals as goal
 
 pub loop-s-preserved : goal.loop-s-preserved
 loop-s-preserved c =
-    let model = c.args.closed.model.now in
-    let list = c.args.list.now in
-    let f = deliveries model c.args.v list c.args.class c.args.pickup c.args.delivery in
+    let model = c.args.pair.now.list.closed.model.now in
+    let list = c.args.pair.now.list.nodes.now in
+    let f = deliveries model c.args.pair.now.list.vehicle list c.args.pair.now.class c.args.pair.now.pickup c.args.pair.now.delivery in
     record {
       best = c.in_ok-best.ensures.best ∙ ap (λ best. fold (weigh model list) best (f c.loop-s.s)) c.loop-s.invariant.best
           ∙ sym (fold-each (weigh model list) c.args.best f (below c.loop-s.s) c.loop-s.s) ∙ sym (ap (λ ks. fold (weigh model list) c.args.best (each ks f)) (below-more c.loop-s.s));
-      ahead = subst (AreLeastAhead model c.args.v list c.args.delivery) (sym c.in_ok-best.ensures.ahead) c.loop-s.invariant.ahead;
+      ahead = subst (AreLeastAhead model c.args.pair.now.list.vehicle list c.args.pair.now.delivery) (sym c.in_ok-best.ensures.ahead) c.loop-s.invariant.ahead;
     }
 
 pub returns : goal.returns
 returns c =
-    let model = c.args.closed.model.now in
-    let list = c.args.list.now in
-    let f = deliveries model c.args.v list c.args.class c.args.pickup c.args.delivery in
+    let model = c.args.pair.now.list.closed.model.now in
+    let list = c.args.pair.now.list.nodes.now in
+    let f = deliveries model c.args.pair.now.list.vehicle list c.args.pair.now.class c.args.pair.now.pickup c.args.pair.now.delivery in
     let end : c.loop-s.s ≡ suc (length list) = omega arith in
     c.loop-s.invariant.best ∙ ap (λ n. fold (weigh model list) c.args.best (each (below n) f)) end

@@ -10,17 +10,17 @@ use Rattle.vr_first_insert.proofs.FirstPlace.{first-taken}
 use Rattle.vr_first_insert.proofs.one_list.best_visit.Goals as goal
 
 pub write_placed-requires-clause-few : goal.write_placed-requires-clause-few
-write_placed-requires-clause-few c = omega (arith, visits-few c.args.closed.model.now c.args.list.now c.requires.may_hold.visits c.requires.may_hold.distinct, c.args.closed.well_formed.number_of_nodes.1)
+write_placed-requires-clause-few c = omega (arith, visits-few c.args.visit.now.list.closed.model.now c.args.visit.now.list.nodes.now c.args.visit.now.may_hold.visits c.args.visit.now.may_hold.distinct, c.args.visit.now.list.closed.well_formed.number_of_nodes.1)
 
 pub overflow_cast-t : goal.overflow_cast-t
-overflow_cast-t c = omega (arith, visits-few c.args.closed.model.now c.args.list.now c.requires.may_hold.visits c.requires.may_hold.distinct, c.args.closed.well_formed.number_of_nodes.1, c.least_place-t.ensures.within)
+overflow_cast-t c = omega (arith, visits-few c.args.visit.now.list.closed.model.now c.args.visit.now.list.nodes.now c.args.visit.now.may_hold.visits c.args.visit.now.may_hold.distinct, c.args.visit.now.list.closed.well_formed.number_of_nodes.1, c.least_place-t.ensures.within)
 
 pub returns-then-branch : goal.returns-then-branch
 returns-then-branch c =
-    let model = c.args.closed.model.now in
-    let list = c.args.list.now in
+    let model = c.args.visit.now.list.closed.model.now in
+    let list = c.args.visit.now.list.nodes.now in
     let place : ℕ = c.least_place-t.result in
-    let better = improves key_of c.args.best (visit_choice model c.args.v list c.args.class c.args.node place) in
-    let opens = is_route_open model c.args.v (placed list (One c.args.node place)) in
+    let better = improves key_of c.args.best (visit_choice model c.args.visit.now.list.vehicle list c.args.visit.now.class c.args.visit.now.node place) in
+    let opens = is_route_open model c.args.visit.now.list.vehicle (placed list (One c.args.visit.now.node place)) in
     let taken : (better && opens) ≡ true = sym c.in_ok-is_visit_taken.ensures ∙ c.if-branch.true in
-    ap Some c.visit_at.ensures ∙ first-taken model c.args.v list c.args.class c.args.node place c.least_place-t.ensures c.args.best (and_left better opens taken) (and_right better opens taken)
+    ap Some c.visit_at.ensures ∙ first-taken model c.args.visit.now.list.vehicle list c.args.visit.now.class c.args.visit.now.node place c.least_place-t.ensures c.args.best (and_left better opens taken) (and_right better opens taken)

@@ -1,20 +1,17 @@
 use Rattle.std.proofs.Common.{◌≡◌, ◌∙◌, arith, to_z, of_z, w64}
 use Rattle.std.proofs.lemmas.Int.{ints}
-use Rattle.vr_lists.proofs.VisitLists.{visits-few, visits-below}
+use Rattle.vr_lists.proofs.VisitLists.{visits-few}
 use Rattle.vr_first_insert.specs.declared.choice.Placing.TheVariants.{Two}
 use Rattle.vr_first_insert.proofs.one_list.pair_at.Goals as goal
 
 pub overflow_cast-result : goal.overflow_cast-result
-overflow_cast-result c = omega (arith, visits-few c.args.closed.model.now c.args.list.now c.requires.may_hold.visits c.requires.may_hold.distinct, c.args.closed.well_formed.number_of_nodes.1)
+overflow_cast-result c = omega (arith, visits-few c.args.pair.now.list.closed.model.now c.args.pair.now.list.nodes.now c.args.pair.now.may_hold.visits c.args.pair.now.may_hold.distinct, c.args.pair.now.list.closed.well_formed.number_of_nodes.1)
 
 pub overflow_cast-result-2 : goal.overflow_cast-result-2
-overflow_cast-result-2 c = omega (arith, visits-few c.args.closed.model.now c.args.list.now c.requires.may_hold.visits c.requires.may_hold.distinct, c.args.closed.well_formed.number_of_nodes.1)
+overflow_cast-result-2 c = omega (arith, visits-few c.args.pair.now.list.closed.model.now c.args.pair.now.list.nodes.now c.args.pair.now.may_hold.visits c.args.pair.now.may_hold.distinct, c.args.pair.now.list.closed.well_formed.number_of_nodes.1)
 
 pub returns : goal.returns
 returns c =
     let fits : to_z w64 (of_z w64 c.pair_increase.result) ≡ c.pair_increase.result = omega (arith, ints, c.pair_increase.ensures.low, c.pair_increase.ensures.high) in
     let increase = fits ∙ c.pair_increase.ensures.value in
-    λ i. record { placing = Two c.args.pickup c.args.delivery c.args.s c.args.t; class = c.args.class; vehicle = c.args.v; increase = increase i }
-
-pub pair_increase-requires-clause-nodes : goal.pair_increase-requires-clause-nodes
-pair_increase-requires-clause-nodes c = visits-below c.args.closed.model.now c.args.list.now c.requires.may_hold.visits
+    λ i. record { placing = Two c.args.pair.now.pickup c.args.pair.now.delivery c.args.s c.args.t; class = c.args.pair.now.class; vehicle = c.args.pair.now.list.vehicle; increase = increase i }

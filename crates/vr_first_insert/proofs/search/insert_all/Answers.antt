@@ -23,22 +23,22 @@ use Rattle.vr_first_insert.proofs.search.insert_all.Goals as goal
 
 pub returns-in-None-clause-rebuilt : goal.returns-in-None-clause-rebuilt
 returns-in-None-clause-rebuilt c =
-    let model = c.args.closed.model.now in
-    sym (rebuilt-stops model (length c.args.candidates.now - c.loop-step._step) c.loop-step.lists (sym c.in_ok-choice.ensures.next ∙ ap (option_map insertion_of) c.in-None.is))
-    ∙ c.loop-step.invariant.rebuilds ∙ ap (λ n. rebuilt model n c.args.lists.now) (candidates-count model c.args.candidates.now c.requires.candidates)
+    let model = c.args.items.now.closed.model.now in
+    sym (rebuilt-stops model (length c.args.items.now.candidates.now - c.loop-step._step) c.loop-step.lists (sym c.in_ok-choice.ensures.next ∙ ap (option_map insertion_of) c.in-None.is))
+    ∙ c.loop-step.invariant.rebuilds ∙ ap (λ n. rebuilt model n c.args.lists.now) (candidates-count model c.args.items.now.candidates.now c.requires.items.candidates)
 
 pub place_in-requires-clause-few : goal.place_in-requires-clause-few
 place_in-requires-clause-few c =
-    let model = c.args.closed.model.now in
+    let model = c.args.items.now.closed.model.now in
     let lists : List (List ℕ) = c.loop-step.lists in
     let v : ℕ = c.in-Some.choice.vehicle in
-    omega (arith, visits-few model (route lists v) (built-visits model lists v c.loop-step.invariant.built) (built-distinct model lists v c.loop-step.invariant.built), c.args.closed.well_formed.number_of_nodes.1)
+    omega (arith, visits-few model (route lists v) (built-visits model lists v c.loop-step.invariant.built) (built-distinct model lists v c.loop-step.invariant.built), c.args.items.now.closed.well_formed.number_of_nodes.1)
 
 pub loop-step-preserved : goal.loop-step-preserved
 loop-step-preserved c =
-    let model = c.args.closed.model.now in
+    let model = c.args.items.now.closed.model.now in
     let lists : List (List ℕ) = c.loop-step.lists in
-    let n : ℕ = length c.args.candidates.now in
+    let n : ℕ = length c.args.items.now.candidates.now in
     let choice : Choice = c.in-Some.choice in
     let v : ℕ = choice.vehicle in
     let nodes : List ℕ = nodes_of (item_in choice.placing) in
@@ -55,14 +55,14 @@ loop-step-preserved c =
       marked = subst (λ lists. AreMarks model.nodes lists c.mark_item.new.marks) (sym is)
           (AreMarks-added model lists v list nodes c.loop-step.marks c.mark_item.new.marks c.loop-step.invariant.marked may.vehicle added.nodes_are c.mark_item.ensures.count
           (λ node d low. c.mark_item.ensures.each node d low ∙ ap (λ item. holds (nodes_of item) node || slice_index_or c.loop-step.marks node d) c.item.ensures));
-      rows = subst (λ lists. AreRows model lists c.args.candidates.now c.forget.new.rows) (sym is)
-          (rows-forgotten model lists c.args.candidates.now c.next_insertion.new.rows c.forget.new.rows v list may.vehicle c.in_ok-choice.ensures.rows c.forget.ensures);
+      rows = subst (λ lists. AreRows model lists c.args.items.now.candidates.now c.forget.new.rows) (sym is)
+          (rows-forgotten model lists c.args.items.now.candidates.now c.next_insertion.new.rows c.forget.new.rows v list may.vehicle c.in_ok-choice.ensures.rows c.forget.ensures);
       kept = c.in_ok-learn-in-Some.ensures;
     }
 
 pub forget-requires : goal.forget-requires
 forget-requires c =
-    let may : MayBeInserted c.args.closed.model.now c.loop-step.lists c.in-Some.choice = rw c.in-Some.is at c.in_ok-choice.ensures.may in
+    let may : MayBeInserted c.args.items.now.closed.model.now c.loop-step.lists c.in-Some.choice = rw c.in-Some.is at c.in_ok-choice.ensures.may in
     let there = may.vehicle in
     let many = c.in_ok-choice.ensures.rows.many in
     record { vehicle = omega (arith, there, many) }
@@ -71,21 +71,21 @@ pub learn-requires-clause-others : goal.learn-requires-clause-others
 learn-requires-clause-others c =
     let lists : List (List ℕ) = c.loop-step.lists in
     let choice : Choice = c.in-Some.choice in
-    subst (λ lists. AreKeptBut c.args.closed.model.now lists choice.vehicle c.loop-step.keeps) (sym c.in_ok-place_in-in-Some.ensures)
-    (kept_but c.args.closed.model.now lists c.loop-step.keeps choice.vehicle (placed (route lists choice.vehicle) choice.placing) c.loop-step.invariant.kept)
+    subst (λ lists. AreKeptBut c.args.items.now.closed.model.now lists choice.vehicle c.loop-step.keeps) (sym c.in_ok-place_in-in-Some.ensures)
+    (kept_but c.args.items.now.closed.model.now lists c.loop-step.keeps choice.vehicle (placed (route lists choice.vehicle) choice.placing) c.loop-step.invariant.kept)
 
 pub learn-requires-clause-there : goal.learn-requires-clause-there
 learn-requires-clause-there c =
     let lists : List (List ℕ) = c.loop-step.lists in
     let choice : Choice = c.in-Some.choice in
-    let may : MayBeInserted c.args.closed.model.now lists choice = rw c.in-Some.is at c.in_ok-choice.ensures.may in
+    let may : MayBeInserted c.args.items.now.closed.model.now lists choice = rw c.in-Some.is at c.in_ok-choice.ensures.may in
     let low = may.vehicle in
     let long = ap length c.in_ok-place_in-in-Some.ensures ∙ length-set lists choice.vehicle (placed (route lists choice.vehicle) choice.placing) in
     omega (arith, low, long)
 
 pub learn-requires-clause-tour : goal.learn-requires-clause-tour
 learn-requires-clause-tour c =
-    let model = c.args.closed.model.now in
+    let model = c.args.items.now.closed.model.now in
     let lists : List (List ℕ) = c.loop-step.lists in
     let choice : Choice = c.in-Some.choice in
     let v : ℕ = choice.vehicle in

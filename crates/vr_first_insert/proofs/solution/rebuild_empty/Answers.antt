@@ -1,16 +1,12 @@
-use Rattle.std.proofs.Common.{◌∙◌, ap, length}
-use Rattle.vr_model.specs.routes.Routes.{are_lists}
-use Rattle.vr_model.specs.routes.Rules.{is_open}
+use Rattle.std.proofs.Common.{◌∙◌, ap, sym, subst, length}
 use Rattle.vr_model.specs.first.Items.{items}
 use Rattle.vr_model.specs.first.CheapestInsertion.{rebuilt}
+use Rattle.vr_rules.specs.Placing.{AreBuilt}
 use Rattle.vr_rules.proofs.PlacingLemmas.{AreBuilt-empty}
 use Rattle.vr_first_insert.proofs.solution.rebuild_empty.Goals as goal
 
-pub rebuild-requires-clause-lists : goal.rebuild-requires-clause-lists
-rebuild-requires-clause-lists c = ap (are_lists c.args.closed.model.now) c.in_ok-empty.ensures.lists ∙ (AreBuilt-empty c.args.closed.model.now).are_lists
-
-pub rebuild-requires-clause-open_lists : goal.rebuild-requires-clause-open_lists
-rebuild-requires-clause-open_lists c = ap (is_open c.args.closed.model.now) c.in_ok-empty.ensures.lists ∙ (AreBuilt-empty c.args.closed.model.now).are_open
+pub rebuild-requires-clause-built : goal.rebuild-requires-clause-built
+rebuild-requires-clause-built c = subst (AreBuilt c.args.closed.model.now) (sym c.in_ok-empty.ensures.lists) (AreBuilt-empty c.args.closed.model.now)
 
 pub returns-clause-lists : goal.returns-clause-lists
 returns-clause-lists c =

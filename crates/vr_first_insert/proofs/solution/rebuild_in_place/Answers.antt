@@ -10,7 +10,7 @@ pub set_lists-requires-clause-many : goal.set_lists-requires-clause-many
 set_lists-requires-clause-many c =
     let model = c.args.closed.model.now in
     let built : AreBuilt model c.deref.result.now = subst (AreBuilt model) (sym c.deref.ensures.value) c.in_ok-rebuild.ensures.built in
-    many_of model c.args.routes.now.lists c.requires.lists ∙ sym (many_of model c.deref.result.now built.are_lists)
+    many_of model c.args.routes.now.lists c.requires.built.are_lists ∙ sym (many_of model c.deref.result.now built.are_lists)
 
 pub set_lists-requires-clause-visits : goal.set_lists-requires-clause-visits
 set_lists-requires-clause-visits c = λ node active.

@@ -18,41 +18,41 @@ use Rattle.vr_first_insert.proofs.trying.may_serve.Goals as goal
 
 pub keeps_pairs-requires-clause-visits : goal.keeps_pairs-requires-clause-visits
 keeps_pairs-requires-clause-visits c =
-    ap (list_all (is_visit c.args.closed.model.now)) (c.as_slice-longer.ensures ∙ c.requires.longer) ∙ placed-visits c.args.closed.model.now c.args.list.now (Two c.args.pickup c.args.delivery c.args.s c.args.t) (c.requires.order, c.requires.within) c.requires.may_hold
+    ap (list_all (is_visit c.args.pair.now.list.closed.model.now)) (c.as_slice-longer.ensures ∙ c.requires.longer) ∙ placed-visits c.args.pair.now.list.closed.model.now c.args.pair.now.list.nodes.now (Two c.args.pair.now.pickup c.args.pair.now.delivery c.args.s c.args.t) (c.requires.order, c.requires.within) c.args.pair.now.may_hold
 
 pub keeps_pairs-requires-clause-distinct : goal.keeps_pairs-requires-clause-distinct
 keeps_pairs-requires-clause-distinct c =
-    ap is_distinct (c.as_slice-longer.ensures ∙ c.requires.longer) ∙ placed-distinct c.args.closed.model.now c.args.list.now (Two c.args.pickup c.args.delivery c.args.s c.args.t) (c.requires.order, c.requires.within) c.requires.may_hold
+    ap is_distinct (c.as_slice-longer.ensures ∙ c.requires.longer) ∙ placed-distinct c.args.pair.now.list.closed.model.now c.args.pair.now.list.nodes.now (Two c.args.pair.now.pickup c.args.pair.now.delivery c.args.s c.args.t) (c.requires.order, c.requires.within) c.args.pair.now.may_hold
 
 pub goes_from-requires-clause-used : goal.goes_from-requires-clause-used
 goes_from-requires-clause-used c =
-    subst (IsUsed c.args.closed.model.now) (sym (c.as_slice-longer.ensures ∙ c.requires.longer)) (used-placed c.args.closed.model.now c.args.list.now (Two c.args.pickup c.args.delivery c.args.s c.args.t) (c.requires.order, c.requires.within) c.requires.may_hold)
+    subst (IsUsed c.args.pair.now.list.closed.model.now) (sym (c.as_slice-longer.ensures ∙ c.requires.longer)) (used-placed c.args.pair.now.list.closed.model.now c.args.pair.now.list.nodes.now (Two c.args.pair.now.pickup c.args.pair.now.delivery c.args.s c.args.t) (c.requires.order, c.requires.within) c.args.pair.now.may_hold)
 
 pub goes_from-requires-clause-here : goal.goes_from-requires-clause-here
 goes_from-requires-clause-here c =
-    subst (λ new. AreReachedAt c.args.closed.model.now c.args.v new (c.args.t + 1) c.args.probes.now) (sym (c.as_slice-longer.ensures ∙ c.requires.longer))
-    (reached_in_each c.args.closed.model.now c.args.v (insert c.args.list.now c.args.s c.args.pickup) (placed c.args.list.now (Two c.args.pickup c.args.delivery c.args.s c.args.t)) (c.args.t + 1) c.args.probes.now
-    (pair_front (record { pickup = c.args.pickup; delivery = c.args.delivery }) c.args.list.now c.args.s c.args.t c.args.t c.requires.order (omega arith) c.requires.within) c.requires.here)
+    subst (λ new. AreReachedAt c.args.pair.now.list.closed.model.now c.args.pair.now.list.vehicle new (c.args.t + 1) c.args.probes.now) (sym (c.as_slice-longer.ensures ∙ c.requires.longer))
+    (reached_in_each c.args.pair.now.list.closed.model.now c.args.pair.now.list.vehicle (insert c.args.pair.now.list.nodes.now c.args.s c.args.pair.now.pickup) (placed c.args.pair.now.list.nodes.now (Two c.args.pair.now.pickup c.args.pair.now.delivery c.args.s c.args.t)) (c.args.t + 1) c.args.probes.now
+    (pair_front (record { pickup = c.args.pair.now.pickup; delivery = c.args.pair.now.delivery }) c.args.pair.now.list.nodes.now c.args.s c.args.t c.args.t c.requires.order (omega arith) c.requires.within) c.requires.here)
 
 pub goes_from-requires-clause-back : goal.goes_from-requires-clause-back
 goes_from-requires-clause-back c =
-    subst (λ new. SharesBack c.args.list.now new (length c.args.list.now - c.args.t)) (sym (c.as_slice-longer.ensures ∙ c.requires.longer))
-    (pair_back (record { pickup = c.args.pickup; delivery = c.args.delivery }) c.args.list.now c.args.s c.args.t c.requires.order c.requires.within)
+    subst (λ new. SharesBack c.args.pair.now.list.nodes.now new (length c.args.pair.now.list.nodes.now - c.args.t)) (sym (c.as_slice-longer.ensures ∙ c.requires.longer))
+    (pair_back (record { pickup = c.args.pair.now.pickup; delivery = c.args.pair.now.delivery }) c.args.pair.now.list.nodes.now c.args.s c.args.t c.requires.order c.requires.within)
 
 pub goes_from-requires-clause-apart : goal.goes_from-requires-clause-apart
 goes_from-requires-clause-apart c =
-    let long = ap length (c.as_slice-longer.ensures ∙ c.requires.longer) ∙ pair_long (record { pickup = c.args.pickup; delivery = c.args.delivery }) c.args.list.now c.args.s c.args.t c.requires.order c.requires.within in
+    let long = ap length (c.as_slice-longer.ensures ∙ c.requires.longer) ∙ pair_long (record { pickup = c.args.pair.now.pickup; delivery = c.args.pair.now.delivery }) c.args.pair.now.list.nodes.now c.args.s c.args.t c.requires.order c.requires.within in
     omega (arith, long, c.requires.within)
 
 pub returns-then-not-branch-clause-open : goal.returns-then-not-branch-clause-open
 returns-then-not-branch-clause-open c =
-    let list = placed c.args.list.now (Two c.args.pickup c.args.delivery c.args.s c.args.t) in
-    sym (closed-by_lines c.args.closed.model.now c.args.v list (used-placed c.args.closed.model.now c.args.list.now (Two c.args.pickup c.args.delivery c.args.s c.args.t) (c.requires.order, c.requires.within) c.requires.may_hold).some
-    (ap (is_feasible_in_each c.args.closed.model.now c.args.v) (sym (c.as_slice-longer.ensures ∙ c.requires.longer)) ∙ sym c.in_ok-goes_from.ensures ∙ c.if-not-branch.true))
+    let list = placed c.args.pair.now.list.nodes.now (Two c.args.pair.now.pickup c.args.pair.now.delivery c.args.s c.args.t) in
+    sym (closed-by_lines c.args.pair.now.list.closed.model.now c.args.pair.now.list.vehicle list (used-placed c.args.pair.now.list.closed.model.now c.args.pair.now.list.nodes.now (Two c.args.pair.now.pickup c.args.pair.now.delivery c.args.s c.args.t) (c.requires.order, c.requires.within) c.args.pair.now.may_hold).some
+    (ap (is_feasible_in_each c.args.pair.now.list.closed.model.now c.args.pair.now.list.vehicle) (sym (c.as_slice-longer.ensures ∙ c.requires.longer)) ∙ sym c.in_ok-goes_from.ensures ∙ c.if-not-branch.true))
 
 pub returns-clause-open : goal.returns-clause-open
 returns-clause-open c =
     let is = c.as_slice-longer.ensures ∙ c.requires.longer in
-    c.keeps_pairs.ensures ∙ ap (keeps_pairs c.args.closed.model.now c.args.v) is
-    ∙ sym (open-by_pairs c.args.closed.model.now c.args.v c.args.list.now (Two c.args.pickup c.args.delivery c.args.s c.args.t) (c.requires.order, c.requires.within) c.requires.ready.stands c.requires.allowed
-    (ap (is_feasible_in_each c.args.closed.model.now c.args.v) (sym is) ∙ sym c.in_ok-goes_from.ensures ∙ c.if-not-branch.false))
+    c.keeps_pairs.ensures ∙ ap (keeps_pairs c.args.pair.now.list.closed.model.now c.args.pair.now.list.vehicle) is
+    ∙ sym (open-by_pairs c.args.pair.now.list.closed.model.now c.args.pair.now.list.vehicle c.args.pair.now.list.nodes.now (Two c.args.pair.now.pickup c.args.pair.now.delivery c.args.s c.args.t) (c.requires.order, c.requires.within) c.requires.ready.stands c.args.pair.now.allowed
+    (ap (is_feasible_in_each c.args.pair.now.list.closed.model.now c.args.pair.now.list.vehicle) (sym is) ∙ sym c.in_ok-goes_from.ensures ∙ c.if-not-branch.false))

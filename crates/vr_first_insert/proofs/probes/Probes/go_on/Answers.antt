@@ -7,7 +7,7 @@ use Rattle.vr_first_insert.proofs.probes.Probes.go_on.Goals as goal
 
 pub loop-d-preserved : goal.loop-d-preserved
 loop-d-preserved c =
-    let model = c.args.model.now in
+    let model = c.args.closed.model.now in
     let m = c.loop-d.invariant in
     let here = c.loop-d.self.here.items in
     let new = c.go_on.new.here in

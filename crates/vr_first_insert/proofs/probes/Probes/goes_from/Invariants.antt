@@ -6,4 +6,4 @@ use Rattle.vr_first_insert.proofs.probes.Probes.goes_from.Given as goal
 
 -- the line is feasible in the dimensions so far
 abbrev pub invariant-loop-d : goal.invariant-loop-d
-invariant-loop-d l = (d : ℕ) → d < l.d → IsTrue (is_feasible (line l.model d l.v l.new))
+invariant-loop-d l = (d : ℕ) → d < l.d → IsTrue (is_feasible (line l.old.closed.model.now d l.old.vehicle l.new))
