@@ -86,7 +86,7 @@ impl<'m> Guide<'m> {
             d,
             v,
             evaluator: model.dimensions.get(d as usize).evaluator_of(v),
-            slack: slack_of(model, d),
+            slack: slack_of(closed, d),
             start: runs.start,
             visits: runs.visits,
             finish: runs.finish,

@@ -36,7 +36,7 @@ impl Kept {
         requires tours { AreTours closed.model.now lists.now }
         ensures { IfOk result (IsKept closed.entry.model.now d lists.now) }
     {
-        let stops = Stops::build(alloc, closed.model, d)?;
+        let stops = Stops::build(alloc, closed, d)?;
         let rows = rows_of_each(alloc, closed, d, &stops, lists, line)?;
         Ok(Kept { stops, rows })
     }

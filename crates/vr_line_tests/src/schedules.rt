@@ -7,7 +7,7 @@ use std::alloc::Global;
 use std::test::Fail;
 use vr_model::{Closed, NoMemory, ScheduleRule};
 use vr_plan::{Chooser, Plan, chosen_cumuls, schedule, schedule_over};
-use vr_reach::{Cumuls, Rows, Stops, write_earliest};
+use vr_reach::{Cumuls, Rows, Stops, StopsFor, write_earliest};
 use vr_samples::read_model_text;
 use vr_steps::Line;
 
@@ -230,10 +230,16 @@ fn is_early(alloc: Global, closed: Closed<'_>, row: &Row) -> bool {
     if !closed.model.is_visit(1) {
         return false;
     }
-    match Stops::build(alloc, closed.model, 0) {
-        Ok(stops) => {
+    match Stops::build(alloc, closed, 0) {
+        Ok(of_dimension) => {
             let mut cumuls = Cumuls::new();
-            let found = write_earliest(closed.model, 0, 0, &stops, &[1], &mut cumuls);
+            let stops = StopsFor {
+                closed,
+                d: 0,
+                v: 0,
+                of_dimension: &of_dimension,
+            };
+            let found = write_earliest(&stops, &[1], &mut cumuls);
             found == row.early && (!found || cumuls.as_slice() == row.earliest.cumuls)
         }
         Err(_) => false,

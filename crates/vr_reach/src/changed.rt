@@ -31,8 +31,8 @@ pub fn write_rows(
     Ok(())
 }
 
-/// Writes the rows of a list over those of another, as `write_rows` does. What both lists reach at stops that they share
-/// at the front stays, and so does what their end is reached from at those that they share at the back.
+/// Writes the rows of a list over those of another, as `write_rows` does. What both lists reach at stops that they
+/// share at the front stays, and so does what their end is reached from at those that they share at the back.
 pub fn rewrite_rows(
     alloc: Global,
     stops: &StopsFor,

@@ -90,8 +90,10 @@ impl Rows {
     ) -> Result<(), NoMemory>
         requires stops { AreVehicleStops stops.now }
         requires used { IsUsed stops.now.closed.model.now list.now }
-        requires ahead { AreFirstRows stops.now.closed.model.now stops.now.d stops.now.v list.now ahead self.old.forward }
-        requires behind { AreLastRows stops.now.closed.model.now stops.now.d stops.now.v list.now behind self.old.backward }
+        requires ahead { AreFirstRows stops.now.closed.model.now stops.now.d stops.now.v list.now ahead
+            self.old.forward }
+        requires behind { AreLastRows stops.now.closed.model.now stops.now.d stops.now.v list.now behind
+            self.old.backward }
         ensures { OnOk result (AreRowsOf stops.now.closed.model.now stops.now.d stops.now.v list.now self.new) }
     {
         self.ahead.forward_along(alloc, stops, list, ahead)?;

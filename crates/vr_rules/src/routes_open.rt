@@ -13,7 +13,7 @@ use std::alloc::Global;
 use vr_lists::{NodeTables, PairPlaces, keeps_pairs};
 use vr_model::{Closed, Model, NoMemory};
 use vr_plan::Table;
-use vr_reach::{Walk, goes_through};
+use vr_reach::{StopsFor, Walk, goes_through};
 
 /// What is written over while routes are driven.
 #[derive(Drop)]
@@ -81,7 +81,13 @@ fn is_feasible_in_each(
     ensures { IfOk result (λ answer. answer ≡ is_feasible_in_each_of closed.entry.model.now v list.now) }
 {
     for d in 0..closed.model.dimensions.len() {
-        if !goes_through(closed.model, d as u32, v, &tables[d].stops, list, walk)? {
+        let stops = StopsFor {
+            closed,
+            d: d as u32,
+            v,
+            of_dimension: &tables[d].stops,
+        };
+        if !goes_through(&stops, list, walk)? {
             return Ok(false);
         }
     }
