@@ -2,7 +2,9 @@
 use Rattle.std.proofs.Common.{◌≡◌, ◌∙◌, ◌<◌, ℕ, List, [], ap, sym, subst, arith, length, get_or, set, inl, inr}
 use Rattle.std.proofs.lemmas.Bool.Decides.{eqb_tells}
 use Rattle.std.proofs.lemmas.List.{get_or-set_same, get_or-set_other, get_or_default, length-set}
+use Rattle.vr_model.specs.moves.Moves.{with_route}
 use Rattle.vr_model.specs.routes.Routes.{route}
+use Rattle.vr_model.proofs.routes.Lists.{route_set_same, route_set_other}
 use Rattle.vr_model.specs.declared.records.Model.{Model}
 use Rattle.vr_reach.specs.Rows.{BothWays}
 use Rattle.vr_reach.specs.KnownRows.{AreRowsIfUsed}
@@ -11,7 +13,7 @@ use Rattle.vr_reach.specs.Stretches.{SharesFront}
 use Rattle.vr_reach.proofs.StandingLemmas.{reached_in}
 use Rattle.vr_first_insert.specs.declared.kept.Kept.{Kept}
 use Rattle.vr_first_insert.specs.declared.probes.Probes.{Probes}
-use Rattle.vr_first_insert.specs.KeptRows.{AreKept, AreKeptBut, AreKeptOf, AreStopsOfEach, IsKept, IsKeptBut, IsKeptOf}
+use Rattle.vr_first_insert.specs.KeptRows.{AreKept, AreKeptOf, AreStopsOfEach, IsKept, IsKeptOf}
 use Rattle.vr_first_insert.specs.Probes.{AreReachedAt}
 
 -- the list that code reads at a place
@@ -39,32 +41,21 @@ kept_of model lists keeps are v low = record {
 pub stops_of : (model : Model) (v : ℕ) (list : List ℕ) (keeps : List Kept) → AreKeptOf model v list keeps → AreStopsOfEach model keeps
 stops_of model v list keeps are = record { one_of_each = are.one_of_each; each = λ d other low. (are.each d other low).stops_ask }
 
--- the rows of one list were written
+-- the rows of one list were written over those of another
 pub kept_again : (model : Model) (d : ℕ) (lists : List (List ℕ)) (v : ℕ) (list : List ℕ) (before after : Kept) (rows : BothWays) → after.stops ≡ before.stops → after.rows.items ≡ set before.rows.items v rows
-    → v < length before.rows.items → AreRowsIfUsed model d v list rows → route lists v ≡ list → IsKeptBut model d lists v before → IsKept model d lists after
-kept_again model d lists v list before after rows same_stops written there new here but = record {
-  stops_ask = subst (AreStops model d) (sym same_stops) but.stops_ask;
-  many = ap length written ∙ length-set before.rows.items v rows ∙ but.many;
+    → v < length lists → AreRowsIfUsed model d v list rows → IsKept model d lists before → IsKept model d (with_route lists v list) after
+kept_again model d lists v list before after rows same_stops written there new kept = record {
+  stops_ask = subst (AreStops model d) (sym same_stops) kept.stops_ask;
+  many = ap length written ∙ length-set before.rows.items v rows ∙ kept.many ∙ sym (length-set lists v list);
   rows_of_each = λ w other low.
-      subst (λ all. AreRowsIfUsed model d w (route lists w) (get_or all w other)) (sym written) (elim (eqb_tells w v) [
-        | inl at ↦ subst (λ u. AreRowsIfUsed model d u (route lists u) (get_or (set before.rows.items v rows) u other)) (sym at.1)
-            (subst (AreRowsIfUsed model d v (route lists v)) (sym (get_or-set_same before.rows.items v rows other there)) (subst (λ l. AreRowsIfUsed model d v l rows) (sym here) new))
-        | inr apart ↦ subst (AreRowsIfUsed model d w (route lists w)) (sym (get_or-set_other before.rows.items v w rows other apart.1))
-            (but.rows_of_others w other (let n = ap length written ∙ length-set before.rows.items v rows in omega (arith, low, n)) apart.1)
+      subst (λ all. AreRowsIfUsed model d w (route (with_route lists v list) w) (get_or all w other)) (sym written) (elim (eqb_tells w v) [
+        | inl at ↦ subst (λ u. AreRowsIfUsed model d u (route (with_route lists v list) u) (get_or (set before.rows.items v rows) u other)) (sym at.1)
+            (subst (AreRowsIfUsed model d v (route (with_route lists v list) v)) (sym (get_or-set_same before.rows.items v rows other (let m = kept.many in omega (arith, there, m))))
+            (subst (λ l. AreRowsIfUsed model d v l rows) (sym (route_set_same lists v list there)) new))
+        | inr apart ↦ subst (AreRowsIfUsed model d w (route (with_route lists v list) w)) (sym (get_or-set_other before.rows.items v w rows other apart.1))
+            (subst (λ l. AreRowsIfUsed model d w l (get_or before.rows.items w other)) (sym (route_set_other lists v w list apart.1))
+            (kept.rows_of_each w other (let n = ap length written ∙ length-set before.rows.items v rows in omega (arith, low, n))))
       ]);
-}
-
--- what is kept of lists, once one of them was changed
-pub kept_but : (model : Model) (lists : List (List ℕ)) (keeps : List Kept) (v : ℕ) (list : List ℕ) → AreKept model lists keeps → AreKeptBut model (set lists v list) v keeps
-kept_but model lists keeps v list are = record {
-  one_of_each = are.one_of_each;
-  each = λ d other d_low.
-      let kept = are.each d other d_low in
-      record {
-        stops_ask = kept.stops_ask;
-        many = kept.many ∙ sym (length-set lists v list);
-        rows_of_others = λ w rows low apart. subst (λ l. AreRowsIfUsed model d w l (get_or (get_or keeps d other).rows.items w rows)) (sym (get_or-set_other lists v w list [] apart)) (kept.rows_of_each w rows low);
-      };
 }
 
 -- a list that shares the nodes up to a stop reaches the same there, in each dimension

@@ -23,14 +23,7 @@ pub record IsKept (model : Model) (d : ℕ) (lists : List (List ℕ)) (kept : Ke
   pub many : length kept.rows.items ≡ length lists
   pub rows_of_each : AreRowsOfEach model d lists kept.rows.items
 
--- the same of all lists but that of vehicle v
-pub record IsKeptBut (model : Model) (d : ℕ) (lists : List (List ℕ)) (v : ℕ) (kept : Kept) : Type 0 where
-  pub stops_ask : AreStops model d kept.stops
-  pub many : length kept.rows.items ≡ length lists
-  pub rows_of_others : (w : ℕ) (other : BothWays) → w < length kept.rows.items → (w ≡ v → ⊥)
-      → AreRowsIfUsed model d w (route lists w) (slice_index_or kept.rows.items w other)
-
--- the same of the list of vehicle v alone
+-- what is kept in dimension d is that of the list of vehicle v alone
 pub record IsKeptOf (model : Model) (d v : ℕ) (list : List ℕ) (kept : Kept) : Type 0 where
   pub stops_ask : AreStops model d kept.stops
   pub there : v < length kept.rows.items
@@ -40,10 +33,6 @@ pub record IsKeptOf (model : Model) (d v : ℕ) (list : List ℕ) (kept : Kept) 
 pub record AreKept (model : Model) (lists : List (List ℕ)) (keeps : List Kept) : Type 0 where
   pub one_of_each : length keeps ≡ length model.dimensions
   pub each : (d : ℕ) (other : Kept) → d < length keeps → IsKept model d lists (slice_index_or keeps d other)
-
-pub record AreKeptBut (model : Model) (lists : List (List ℕ)) (v : ℕ) (keeps : List Kept) : Type 0 where
-  pub one_of_each : length keeps ≡ length model.dimensions
-  pub each : (d : ℕ) (other : Kept) → d < length keeps → IsKeptBut model d lists v (slice_index_or keeps d other)
 
 pub record AreKeptOf (model : Model) (v : ℕ) (list : List ℕ) (keeps : List Kept) : Type 0 where
   pub one_of_each : length keeps ≡ length model.dimensions

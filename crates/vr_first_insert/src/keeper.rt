@@ -13,9 +13,8 @@ ghost use Rattle.vr_first_insert.specs.KeptRows.{AreKept};
 ghost use Rattle.vr_first_insert.specs.Keeping.{IsKeeper};
 ghost use Rattle.vr_first_insert.specs.Kept.{AreRows};
 
-use crate::kept::{Kept, keep_each, learn};
+use crate::kept::{Kept, change_list, keep_each};
 use crate::known::{Known, forget, rows_of};
-use crate::place::write_list;
 use crate::room::Room;
 use crate::search::{Items, insert_all};
 use std::alloc::Global;
@@ -45,7 +44,7 @@ fn is_same(one: &[u32], other: &[u32]) -> bool
 // Takes a list over as that of vehicle `v`. Where it is another than before, its rows are written, and of items in it
 // nothing is known any more.
 fn take_list(
-    room: &mut Room,
+    alloc: Global,
     closed: Closed<'_>,
     keeps: &mut [Kept],
     v: u32,
@@ -67,8 +66,7 @@ fn take_list(
     if is_same(before, list) {
         return Ok(());
     }
-    write_list(list, &mut lists[v as usize])?;
-    learn(room.alloc, closed, keeps, v, lists, &mut room.line)?;
+    change_list(alloc, closed, keeps, v, list, lists)?;
     forget(rows, v);
     Ok(())
 }
@@ -96,7 +94,15 @@ fn insert_into(
     ensures rows { OnOk result (AreRows items.now.closed.model.now lists.new items.now.candidates.now rows.new) }
 {
     for v in 0..routes.vehicles() {
-        take_list(room, items.closed, keeps, v, routes.list(v), lists, rows)?;
+        take_list(
+            room.alloc,
+            items.closed,
+            keeps,
+            v,
+            routes.list(v),
+            lists,
+            rows,
+        )?;
     }
     insert_all(room, items, keeps, lists, marks, rows)?;
     Ok(())

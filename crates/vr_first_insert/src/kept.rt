@@ -1,19 +1,20 @@
 //! The rows of lists in each dimension.
 
-ghost use Rattle.std.specs.Prelude.{◌≡◌, ◌+◌, ◌<◌, ◌≤◌, ℕ, List, length, IfOk, OnOk};
-ghost use Rattle.vr_model.specs.routes.Routes.{route};
+ghost use Rattle.std.specs.Prelude.{◌≡◌, ◌+◌, ◌<◌, ◌≤◌, length, IfOk, OnOk};
+ghost use Rattle.vr_model.specs.moves.Moves.{with_route};
 ghost use Rattle.vr_reach.specs.Lists.{IsTour, IsUsed};
 ghost use Rattle.vr_reach.specs.Stops.{AreStops};
 ghost use Rattle.vr_reach.specs.Stretches.{SharesFront, SharesBack};
 ghost use Rattle.vr_rules.specs.RoutesOpen.{is_feasible_in_each};
-ghost use Rattle.vr_first_insert.specs.KeptRows.{AreKept, AreKeptBut, AreKeptOf, AreRowsOfEach};
-ghost use Rattle.vr_first_insert.specs.KeptRows.{AreTours, IsKept, IsKeptBut};
+ghost use Rattle.vr_first_insert.specs.KeptRows.{AreKept, AreKeptOf, AreRowsOfEach, AreTours, IsKept};
 
+use crate::place::write_list;
 use crate::vehicle_list::VehicleList;
 use std::alloc::Global;
 use vr_model::{Closed, NoMemory, Seq};
-use vr_reach::{Rows, Stops, Walk, goes_between, no_line, write_rows};
-use vr_steps::Line;
+use vr_reach::{
+    KnownList, Rows, Stops, StopsFor, Stretch, Walk, goes_between, rewrite_rows, write_rows,
+};
 
 /// What is kept of lists in one dimension: what its stops ask, and the rows of the list of each vehicle.
 #[derive(Drop)]
@@ -29,7 +30,6 @@ impl Kept {
         closed: Closed<'_>,
         d: u32,
         lists: &[Seq<u32>],
-        line: &mut Line,
     ) -> Result<Kept, NoMemory>
         requires dimension { d < length closed.model.now.dimensions }
         requires vehicles { length lists.now ≡ length closed.model.now.vehicles }
@@ -37,38 +37,35 @@ impl Kept {
         ensures { IfOk result (IsKept closed.entry.model.now d lists.now) }
     {
         let stops = Stops::build(alloc, closed, d)?;
-        let rows = rows_of_each(alloc, closed, d, &stops, lists, line)?;
+        let rows = rows_of_each(alloc, closed, d, &stops, lists)?;
         Ok(Kept { stops, rows })
     }
 
-    // Writes the rows of the list of vehicle `v` over those of another list.
+    // Writes the rows of a list of vehicle `v` over those of its list before.
     fn learn(
         &mut self,
         alloc: Global,
         closed: Closed<'_>,
         d: u32,
         v: u32,
+        lists: &[Seq<u32>],
         list: &[u32],
-        line: &mut Line,
     ) -> Result<(), NoMemory>
         requires dimension { d < length closed.model.now.dimensions }
         requires vehicle { v < length closed.model.now.vehicles }
+        requires there { v < length lists.now }
         requires tour { IsTour closed.model.now list.now }
-        requires stops { AreStops closed.model.now d self.old.stops }
-        requires there { v < length self.old.rows.items }
-        ensures { OnOk result ((lists : List (List ℕ)) → route lists v ≡ list.now
-            → IsKeptBut closed.entry.model.now d lists v self.old → IsKept closed.entry.model.now d lists self.new) }
+        requires kept { IsKept closed.model.now d lists.now self.old }
+        ensures { OnOk result (IsKept closed.entry.model.now d (with_route lists.now v list.now) self.new) }
     {
-        write_rows(
-            alloc,
-            closed.model,
+        let old = lists[v as usize].as_slice();
+        let stops = StopsFor {
+            closed,
             d,
             v,
-            &self.stops,
-            list,
-            line,
-            &mut self.rows[v as usize],
-        )?;
+            of_dimension: &self.stops,
+        };
+        rewrite_rows(alloc, &stops, old, list, &mut self.rows[v as usize])?;
         Ok(())
     }
 }
@@ -80,7 +77,6 @@ fn rows_of_each(
     d: u32,
     stops: &Stops,
     lists: &[Seq<u32>],
-    line: &mut Line,
 ) -> Result<Vec<Rows>, NoMemory>
     requires dimension { d < length closed.model.now.dimensions }
     requires stops { AreStops closed.model.now d stops.now }
@@ -93,16 +89,13 @@ fn rows_of_each(
     for v in 0..lists.len() {
         let mut rows = Rows::new(alloc);
         let list = lists[v].as_slice();
-        write_rows(
-            alloc,
-            closed.model,
+        let stops = StopsFor {
+            closed,
             d,
-            v as u32,
-            stops,
-            list,
-            line,
-            &mut rows,
-        )?;
+            v: v as u32,
+            of_dimension: stops,
+        };
+        write_rows(alloc, &stops, list, &mut rows)?;
         known.push(rows)?;
     }
     Ok(known)
@@ -118,15 +111,14 @@ pub(crate) fn keep_each(
     requires tours { AreTours closed.model.now lists.now }
     ensures { IfOk result (λ keeps. AreKept closed.entry.model.now lists.now keeps.items) }
 {
-    let mut line = no_line(alloc);
     let mut keeps = Vec::with_capacity(alloc, closed.model.dimensions.len())?;
     for d in 0..closed.model.dimensions.len() {
-        keeps.push(Kept::build(alloc, closed, d as u32, lists, &mut line)?)?;
+        keeps.push(Kept::build(alloc, closed, d as u32, lists)?)?;
     }
     Ok(keeps)
 }
 
-/// Writes the rows of the list of vehicle `v` over those of another list, in each dimension. After `NoMemory` nothing
+/// Writes the rows of a list of vehicle `v` over those of its list before, in each dimension. After `NoMemory` nothing
 /// is said of what is kept.
 ///
 /// It takes memory only where a list is longer than any before, or a set has more than four runs.
@@ -136,18 +128,39 @@ pub(crate) fn learn(
     keeps: &mut [Kept],
     v: u32,
     lists: &[Seq<u32>],
-    line: &mut Line,
+    list: &[u32],
 ) -> Result<(), NoMemory>
     requires vehicle { v < length closed.model.now.vehicles }
     requires there { v < length lists.now }
-    requires tour { IsTour closed.model.now (route lists.now v) }
-    requires others { AreKeptBut closed.model.now lists.now v keeps.old }
-    ensures { OnOk result (AreKept closed.entry.model.now lists.now keeps.new) }
+    requires tour { IsTour closed.model.now list.now }
+    requires kept { AreKept closed.model.now lists.now keeps.old }
+    ensures { OnOk result (AreKept closed.entry.model.now (with_route lists.now v list.now) keeps.new) }
 {
-    let list = lists[v as usize].as_slice();
     for d in 0..keeps.len() {
-        keeps[d].learn(alloc, closed, d as u32, v, list, line)?;
+        keeps[d].learn(alloc, closed, d as u32, v, lists, list)?;
     }
+    Ok(())
+}
+
+/// Makes a list that of vehicle `v`, with its rows written over those of its list before. After want of memory nothing
+/// is said of the lists.
+pub(crate) fn change_list(
+    alloc: Global,
+    closed: Closed<'_>,
+    keeps: &mut [Kept],
+    v: u32,
+    list: &[u32],
+    lists: &mut [Seq<u32>],
+) -> Result<(), NoMemory>
+    requires vehicle { v < length closed.model.now.vehicles }
+    requires there { v < length lists.old }
+    requires tour { IsTour closed.model.now list.now }
+    requires kept { AreKept closed.model.now lists.old keeps.old }
+    ensures lists { OnOk result (lists.new ≡ with_route lists.old v list.now) }
+    ensures kept { OnOk result (AreKept closed.entry.model.now lists.new keeps.new) }
+{
+    learn(alloc, closed, keeps, v, lists, list)?;
+    write_list(list, &mut lists[v as usize])?;
     Ok(())
 }
 
@@ -176,18 +189,17 @@ pub(crate) fn is_feasible_between(
     for d in 0..keeps.len() {
         let kept = &keeps[d];
         let rows = &kept.rows[v as usize];
-        if !goes_between(
-            old.closed.model,
-            d as u32,
+        let stops = StopsFor {
+            closed: old.closed,
+            d: d as u32,
             v,
-            &kept.stops,
+            of_dimension: &kept.stops,
+        };
+        let known = KnownList {
+            list: old.nodes,
             rows,
-            old.nodes,
-            new,
-            front,
-            back,
-            walk,
-        )? {
+        };
+        if !goes_between(&stops, &known, new, Stretch { front, back }, walk)? {
             return Ok(false);
         }
     }

@@ -3,10 +3,14 @@
 ghost use Rattle.std.specs.Prelude.{◌≡◌, ◌+◌, ◌<◌, ◌≤◌, ℕ, List, OnOk, insert, length};
 ghost use Rattle.vr_model.specs.moves.Moves.{with_route};
 ghost use Rattle.vr_model.specs.routes.Routes.{route};
+ghost use Rattle.vr_reach.specs.Lists.{IsTour};
+ghost use Rattle.vr_first_insert.specs.KeptRows.{AreKept};
 ghost use Rattle.vr_first_insert.specs.Placings.{placed as placed_of, AreWithin};
 
 use crate::choice::Placing;
-use vr_model::{NoMemory, Seq};
+use crate::kept::{Kept, change_list};
+use std::alloc::Global;
+use vr_model::{Closed, NoMemory, Seq};
 
 /// Writes the list with an item placed in it over another list.
 pub(crate) fn write_placed(
@@ -56,20 +60,27 @@ pub(crate) fn write_list(list: &[u32], out: &mut Seq<u32>) -> Result<(), NoMemor
     Ok(())
 }
 
-/// Places an item in a list among lists; the list is written over `longer` first. It takes memory only where either is
-/// longer than any before.
+/// Places an item in the list of vehicle `v`, with its rows written over those of its list before; the list is written
+/// over `longer` first. It takes memory only where a list is longer than any before, or a set has more than four runs.
 pub(crate) fn place_in(
     longer: &mut Seq<u32>,
+    alloc: Global,
+    closed: Closed<'_>,
+    keeps: &mut [Kept],
     lists: &mut [Seq<u32>],
     v: u32,
     placing: Placing,
 ) -> Result<(), NoMemory>
-    requires vehicle { v < length lists.now }
-    requires within { AreWithin (route lists.now v) placing }
-    requires few { length (route lists.now v) ≤ 1000 }
-    ensures { OnOk result (lists.new ≡ with_route lists.old v (placed_of (route lists.old v) placing)) }
+    requires vehicle { v < length closed.model.now.vehicles }
+    requires there { v < length lists.old }
+    requires within { AreWithin (route lists.old v) placing }
+    requires few { length (route lists.old v) ≤ 1000 }
+    requires tour { IsTour closed.model.now (placed_of (route lists.old v) placing) }
+    requires kept { AreKept closed.model.now lists.old keeps.old }
+    ensures lists { OnOk result (lists.new ≡ with_route lists.old v (placed_of (route lists.old v) placing)) }
+    ensures kept { OnOk result (AreKept closed.entry.model.now lists.new keeps.new) }
 {
     write_placed(lists[v as usize].as_slice(), placing, longer)?;
-    write_list(longer.as_slice(), &mut lists[v as usize])?;
+    change_list(alloc, closed, keeps, v, longer.as_slice(), lists)?;
     Ok(())
 }

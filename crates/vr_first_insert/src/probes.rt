@@ -11,7 +11,7 @@ use crate::kept::Kept;
 use crate::vehicle_list::VehicleList;
 use std::alloc::Global;
 use vr_model::{Closed, NoMemory};
-use vr_reach::{Walk, go_on, goes_from, is_stuck, leave_rows};
+use vr_reach::{KnownList, StopsFor, Walk, go_on, goes_from, is_stuck, leave_rows};
 use vr_steps::Levels;
 
 /// What a list reaches at one stop in each dimension.
@@ -93,19 +93,17 @@ impl Probes {
             let kept = &keeps[d];
             let rows = &kept.rows[v as usize];
             let here = &self.here[d];
-            if !goes_from(
-                old.closed.model,
-                d as u32,
+            let stops = StopsFor {
+                closed: old.closed,
+                d: d as u32,
                 v,
-                &kept.stops,
+                of_dimension: &kept.stops,
+            };
+            let known = KnownList {
+                list: old.nodes,
                 rows,
-                old.nodes,
-                new,
-                k,
-                here,
-                back,
-                walk,
-            )? {
+            };
+            if !goes_from(&stops, &known, new, k, here, back, walk)? {
                 return Ok(false);
             }
         }
@@ -133,17 +131,13 @@ impl Probes {
         ensures { OnOk result (AreReachedAt closed.entry.model.now v list.now (k + 1) self.new) }
     {
         for d in 0..keeps.len() {
-            let stops = &keeps[d].stops;
-            go_on(
-                closed.model,
-                d as u32,
+            let stops = StopsFor {
+                closed,
+                d: d as u32,
                 v,
-                stops,
-                list,
-                k,
-                walk,
-                &mut self.here[d],
-            )?;
+                of_dimension: &keeps[d].stops,
+            };
+            go_on(&stops, list, k, walk, &mut self.here[d])?;
         }
         Ok(())
     }
@@ -178,18 +172,17 @@ fn leave_each(
     for d in 0..keeps.len() {
         let kept = &keeps[d];
         let rows = &kept.rows[v as usize];
-        leave_rows(
-            old.closed.model,
-            d as u32,
+        let stops = StopsFor {
+            closed: old.closed,
+            d: d as u32,
             v,
-            &kept.stops,
+            of_dimension: &kept.stops,
+        };
+        let known = KnownList {
+            list: old.nodes,
             rows,
-            old.nodes,
-            new,
-            front,
-            walk,
-            &mut probes.here[d],
-        )?;
+        };
+        leave_rows(&stops, &known, new, front, walk, &mut probes.here[d])?;
     }
     Ok(())
 }

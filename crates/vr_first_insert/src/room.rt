@@ -4,15 +4,11 @@ use crate::probes::Probes;
 use crate::trying::Trying;
 use std::alloc::Global;
 use vr_model::Seq;
-use vr_reach::no_line;
-use vr_steps::Line;
 
 /// What is written over while places are tried.
 #[derive(Drop)]
 pub(crate) struct Room {
     pub(crate) alloc: Global,
-    /// The line of a list whose rows are written.
-    pub(crate) line: Line,
     /// The least that the delivery of a pair adds before the last places of a list, as `write_ahead` writes it.
     pub(crate) ahead: Seq<i64>,
     /// The list with the pickup of a pair in it.
@@ -27,7 +23,6 @@ impl Room {
     pub(crate) fn new(alloc: Global) -> Room {
         Room {
             alloc,
-            line: no_line(alloc),
             ahead: Seq::new(alloc),
             half: Seq::new(alloc),
             probes: Probes::new(alloc),

@@ -14,7 +14,7 @@ ghost use Rattle.vr_first_insert.specs.Placings.{counts as counts_of, insertion_
 ghost use Rattle.vr_first_insert.specs.Asking.{AreAsked, AreItems, MayBeHeld};
 
 use crate::choice::Choice;
-use crate::kept::{Kept, learn};
+use crate::kept::Kept;
 use crate::known::{Known, asked, better_of, forget, is_settled};
 use crate::place::place_in;
 use crate::room::Room;
@@ -215,8 +215,16 @@ pub(crate) fn insert_all(
         match next_insertion(room, items, keeps, marks, lists, rows)? {
             Some(choice) => {
                 let v = choice.vehicle;
-                place_in(&mut room.trying.longer, lists, v, choice.placing)?;
-                learn(room.alloc, items.closed, keeps, v, lists, &mut room.line)?;
+                let longer = &mut room.trying.longer;
+                place_in(
+                    longer,
+                    room.alloc,
+                    items.closed,
+                    keeps,
+                    lists,
+                    v,
+                    choice.placing,
+                )?;
                 mark_item(marks, choice.placing.item());
                 forget(rows, v);
             }

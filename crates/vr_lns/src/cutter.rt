@@ -2,7 +2,7 @@
 
 ghost use Rattle.std.specs.Prelude.{◌≡◌, ◌+◌, ◌<◌, ◌≤◌, IfOk, IsTrue, OnOk, Some, length};
 ghost use Rattle.vr_model.specs.routes.Costs.{cost};
-ghost use Rattle.vr_model.specs.routes.Routes.{are_lists, route};
+ghost use Rattle.vr_model.specs.routes.Routes.{route};
 ghost use Rattle.vr_model.specs.routes.Rules.{is_valid};
 ghost use Rattle.vr_model.specs.tables.Tables.{visits};
 ghost use Rattle.vr_rules.specs.Placing.{AreBuilt};
@@ -83,7 +83,7 @@ impl<'m> Cutter<'m> {
         after: &mut Routes,
     ) -> Result<bool, NoMemory>
         requires knows { R.knows rebuild.old self.old.model }
-        requires lists { IsTrue (are_lists self.old.model routes.now.lists) }
+        requires built { AreBuilt self.old.model routes.now.lists }
         requires vehicle { at.vehicle < length routes.now.lists }
         requires place { at.place < length (route routes.now.lists at.vehicle) }
         requires of_model { AreRoutesOf self.old.model after.old }
@@ -96,7 +96,7 @@ impl<'m> Cutter<'m> {
         ensures made { R.made rebuild.new ≤ R.made rebuild.old + 1 }
     {
         leave(self.alloc, routes, &self.lookups, at, self.most, after)?;
-        if !self.rules.open_routes(after)? {
+        if !self.rules.open_beside(routes, after)? {
             return Ok(false);
         }
         rebuild.rebuild_known(self.lookups.model(), &self.lookups, after)?;
@@ -120,7 +120,7 @@ impl<'m> Cutter<'m> {
         ensures holds { HoldValid self.old.model routes.new total.new }
         ensures cutter { self.new ≡ self.old }
     {
-        if !self.rules.valid(after)? {
+        if !self.rules.valid_where_open(after)? {
             return Ok(false);
         }
         let less = self.rules.total(after)?;

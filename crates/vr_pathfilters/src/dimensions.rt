@@ -30,7 +30,7 @@ use vr_balance::strip;
 use vr_filter::PathFilter;
 use vr_loads::Loads;
 use vr_model::{Closed, Model, NoMemory, Steps};
-use vr_reach::{KnownList, Rows, Splice, Stops, StopsFor, Walk, no_line, passes_along};
+use vr_reach::{KnownList, Rows, Splice, Stops, StopsFor, Walk, passes_along};
 use vr_routes::{Change, Routes, Row};
 
 /// Lets a change pass where the line of each used vehicle in one dimension has a schedule afterwards (the path cumul
@@ -102,7 +102,6 @@ impl<'m> DimensionFilter<'m> {
             room: Room {
                 walk: Walk::new(alloc),
                 list: Row::new(),
-                line: no_line(alloc),
             },
             first: Rows::with_room(alloc, room)?,
             second: Rows::with_room(alloc, room)?,
@@ -302,9 +301,8 @@ fn kept_of<L: Ledger>(
         → KnowsRows at.now.closed.model.now at.now.d kept.1.items at.now.routes.now.lists) }
 {
     let loads = loads_of(alloc, at.closed, at.d, at.routes)?;
-    let mut line = no_line(alloc);
     let mut lists = Steps::<L>::new(blank);
-    let known = rows_unless(&loads, alloc, at, &mut line, &mut lists)?;
+    let known = rows_unless(&loads, alloc, at, &mut lists)?;
     Ok((loads, known))
 }
 

@@ -16,7 +16,6 @@ use vr_loads::Loads;
 use vr_model::{Closed, Model, NoMemory, Steps};
 use vr_reach::{Rows, Stops, StopsFor, Walk, write_rows};
 use vr_routes::{Change, Routes, Row};
-use vr_steps::Line;
 
 /// Routes, and the stops of one dimension of their model.
 #[derive(Clone, Copy)]
@@ -32,7 +31,6 @@ pub(crate) struct RoutesIn<'m, 's, 'r> {
 pub(crate) struct Room {
     pub(crate) walk: Walk,
     pub(crate) list: Row,
-    pub(crate) line: Line,
 }
 
 // Writes the rows of a vehicle with a list over others, where the list is not empty, and counts it. After `NoMemory`
@@ -41,7 +39,6 @@ fn write_list<L: Ledger>(
     alloc: Global,
     stops: &StopsFor,
     list: &[u32],
-    line: &mut Line,
     rows: &mut Rows,
     lists: &mut Steps<L>,
 ) -> Result<(), NoMemory>
@@ -52,7 +49,7 @@ fn write_list<L: Ledger>(
     ensures count { lists.new ≡ lists.old + 1 }
 {
     lists.tick();
-    write_rows(alloc, stops, list, line, rows)?;
+    write_rows(alloc, stops, list, rows)?;
     Ok(())
 }
 
@@ -86,14 +83,7 @@ pub(crate) fn write_part<L: Ledger>(
         v: change.vehicle(k),
         of_dimension: at.stops,
     };
-    write_list(
-        alloc,
-        &stops,
-        room.list.as_slice(),
-        &mut room.line,
-        rows,
-        &mut lists,
-    )?;
+    write_list(alloc, &stops, room.list.as_slice(), rows, &mut lists)?;
     Ok(())
 }
 
@@ -102,7 +92,6 @@ pub(crate) fn rows_unless<L: Ledger>(
     loads: &Option<Loads>,
     alloc: Global,
     at: &RoutesIn,
-    line: &mut Line,
     lists: &mut Steps<L>,
 ) -> Result<Vec<Rows>, NoMemory>
     requires at { AreRoutesIn at.now }
@@ -112,7 +101,7 @@ pub(crate) fn rows_unless<L: Ledger>(
     if loads.is_some() {
         return Ok(Vec::new(alloc));
     }
-    let known = know_all(alloc, at, line, lists)?;
+    let known = know_all(alloc, at, lists)?;
     Ok(known)
 }
 
@@ -125,7 +114,6 @@ pub(crate) fn most_stops(model: &Model) -> usize {
 fn know_all<L: Ledger>(
     alloc: Global,
     at: &RoutesIn,
-    line: &mut Line,
     lists: &mut Steps<L>,
 ) -> Result<Vec<Rows>, NoMemory>
     requires at { AreRoutesIn at.now }
@@ -141,7 +129,7 @@ fn know_all<L: Ledger>(
             v,
             of_dimension: at.stops,
         };
-        write_list(alloc, &stops, at.routes.list(v), line, &mut rows, lists)?;
+        write_list(alloc, &stops, at.routes.list(v), &mut rows, lists)?;
         known.push(rows)?;
     }
     Ok(known)

@@ -14,11 +14,6 @@ use Rattle.vr_first_insert.proofs.PlacedLemmas.{IsAdded-placed}
 use Rattle.vr_first_insert.proofs.BestLemmas.{rebuilt-stops, rebuilt-next, candidates-count, inserted-choice}
 use Rattle.vr_first_insert.specs.Kept.{AreRows}
 use Rattle.vr_first_insert.proofs.KeptLemmas.{rows-forgotten}
-use Rattle.vr_reach.specs.Lists.{IsTour}
-use Rattle.vr_model.proofs.routes.Lists.{route_set_same}
-use Rattle.vr_first_insert.specs.KeptRows.{AreKeptBut}
-use Rattle.vr_first_insert.proofs.RowLemmas.{kept_but}
-use Rattle.std.proofs.lemmas.List.{length-set}
 use Rattle.vr_first_insert.proofs.search.insert_all.Goals as goal
 
 pub returns-in-None-clause-rebuilt : goal.returns-in-None-clause-rebuilt
@@ -46,7 +41,7 @@ loop-step-preserved c =
     let may : MayBeInserted model lists choice = rw c.in-Some.is at c.in_ok-choice.ensures.may in
     let added : IsAdded model lists v nodes list = IsAdded-placed model lists v choice.placing c.loop-step.invariant.built may.vehicle may.is_item may.inactive may.within in
     let next : next_inserted model lists ≡ Some (insertion_of choice) = sym c.in_ok-choice.ensures.next ∙ ap (option_map insertion_of) c.in-Some.is in
-    let is : c.place_in.new.lists ≡ with_route lists v list = c.in_ok-place_in-in-Some.ensures in
+    let is : c.place_in.new.lists ≡ with_route lists v list = c.in_ok-place_in-in-Some.ensures.lists in
     let passes : is_open model (with_route lists v list) ≡ true = ap (is_open model) (sym (inserted-choice lists choice)) ∙ may.stays_open in
     record {
       rebuilds = ap (rebuilt model (n - (c.loop-step._step + 1))) (is ∙ sym (inserted-choice lists choice))
@@ -57,7 +52,7 @@ loop-step-preserved c =
           (λ node d low. c.mark_item.ensures.each node d low ∙ ap (λ item. holds (nodes_of item) node || slice_index_or c.loop-step.marks node d) c.item.ensures));
       rows = subst (λ lists. AreRows model lists c.args.items.now.candidates.now c.forget.new.rows) (sym is)
           (rows-forgotten model lists c.args.items.now.candidates.now c.next_insertion.new.rows c.forget.new.rows v list may.vehicle c.in_ok-choice.ensures.rows c.forget.ensures);
-      kept = c.in_ok-learn-in-Some.ensures;
+      kept = c.in_ok-place_in-in-Some.ensures.kept;
     }
 
 pub forget-requires : goal.forget-requires
@@ -67,29 +62,11 @@ forget-requires c =
     let many = c.in_ok-choice.ensures.rows.many in
     record { vehicle = omega (arith, there, many) }
 
-pub learn-requires-clause-others : goal.learn-requires-clause-others
-learn-requires-clause-others c =
-    let lists : List (List ℕ) = c.loop-step.lists in
-    let choice : Choice = c.in-Some.choice in
-    subst (λ lists. AreKeptBut c.args.items.now.closed.model.now lists choice.vehicle c.loop-step.keeps) (sym c.in_ok-place_in-in-Some.ensures)
-    (kept_but c.args.items.now.closed.model.now lists c.loop-step.keeps choice.vehicle (placed (route lists choice.vehicle) choice.placing) c.loop-step.invariant.kept)
-
-pub learn-requires-clause-there : goal.learn-requires-clause-there
-learn-requires-clause-there c =
-    let lists : List (List ℕ) = c.loop-step.lists in
-    let choice : Choice = c.in-Some.choice in
-    let may : MayBeInserted c.args.items.now.closed.model.now lists choice = rw c.in-Some.is at c.in_ok-choice.ensures.may in
-    let low = may.vehicle in
-    let long = ap length c.in_ok-place_in-in-Some.ensures ∙ length-set lists choice.vehicle (placed (route lists choice.vehicle) choice.placing) in
-    omega (arith, low, long)
-
-pub learn-requires-clause-tour : goal.learn-requires-clause-tour
-learn-requires-clause-tour c =
+pub place_in-requires-clause-tour : goal.place_in-requires-clause-tour
+place_in-requires-clause-tour c =
     let model = c.args.items.now.closed.model.now in
     let lists : List (List ℕ) = c.loop-step.lists in
     let choice : Choice = c.in-Some.choice in
-    let v : ℕ = choice.vehicle in
     let may : MayBeInserted model lists choice = rw c.in-Some.is at c.in_ok-choice.ensures.may in
-    let added = IsAdded-placed model lists v choice.placing c.loop-step.invariant.built may.vehicle may.is_item may.inactive may.within in
-    subst (IsTour model) (sym (ap (λ lists. route lists v) c.in_ok-place_in-in-Some.ensures ∙ route_set_same lists v (placed (route lists v) choice.placing) may.vehicle))
-    (record { visits = added.visits; distinct = added.distinct })
+    let added = IsAdded-placed model lists choice.vehicle choice.placing c.loop-step.invariant.built may.vehicle may.is_item may.inactive may.within in
+    record { visits = added.visits; distinct = added.distinct }

@@ -1,10 +1,21 @@
-use Rattle.std.proofs.Common.{refl}
+use Rattle.std.proofs.Common.{◌≡◌, arith, refl, subst, sym}
 use Rattle.std.specs.Vec.{with_item}
-use Rattle.vr_first_insert.proofs.RowLemmas.{kept_again}
+use Rattle.vr_model.specs.routes.Routes.{route}
+use Rattle.vr_reach.specs.KnownRows.{AreRowsIfUsed}
+use Rattle.vr_first_insert.proofs.RowLemmas.{kept_again, list_at}
 use Rattle.vr_first_insert.proofs.kept.Kept.learn.Goals as goal
 
+pub rewrite_rows-requires-clause-rows : goal.rewrite_rows-requires-clause-rows
+rewrite_rows-requires-clause-rows c =
+    let lists = c.args.lists.now in
+    let model = c.args.closed.model.now in
+    let many = c.requires.kept.many in
+    let there = c.requires.there in
+    let old : c.as_slice-old.result.now ≡ route lists c.args.v = list_at lists c.args.v c.as_slice-old.result.now c.index-lists-v.result c.as_slice-old.ensures c.index-lists-v.is there in
+    subst (λ l. AreRowsIfUsed model c.args.d c.args.v l c.index_mut.result.now) (sym old) (subst (AreRowsIfUsed model c.args.d c.args.v (route lists c.args.v)) (sym c.index_mut.is) (c.requires.kept.rows_of_each c.args.v _ (omega (arith, there, many))))
+
 pub returns : goal.returns
-returns c = λ lists is but.
+returns c =
     let before = c.args.self.now in
-    let rows = c.write_rows.new.rows in
-    kept_again c.args.closed.model.now c.args.d lists c.args.v c.args.list.now before (record { stops = before.stops; rows = with_item before.rows c.args.v rows }) rows refl refl c.requires.there c.in_ok-write_rows.ensures is but
+    let rows = c.rewrite_rows.new.rows in
+    kept_again c.args.closed.model.now c.args.d c.args.lists.now c.args.v c.args.list.now before (record { stops = before.stops; rows = with_item before.rows c.args.v rows }) rows refl refl c.requires.there c.in_ok-rewrite_rows.ensures c.requires.kept

@@ -1,17 +1,18 @@
 use Rattle.std.proofs.Common.{◌≡◌, ◌∙◌, false, Some, None, ap, subst, sym}
 use Rattle.std.specs.Prelude.{IfOk, OnOk}
-use Rattle.vr_model.specs.routes.Routes.{are_lists}
 use Rattle.vr_model.proofs.routes.Lists.{are-lists}
+use Rattle.vr_rules.specs.Placing.{AreBuilt}
+use Rattle.vr_rules.proofs.PenaltyLemmas.{valid-open}
 use Rattle.vr_lns.specs.Cuts.{accepted_by, result_of, where_better}
 use Rattle.vr_lns.specs.Cutters.{result_in, Cutter}
 use Rattle.vr_lns.specs.Standing.{is_taken, lists_after}
 use Rattle.vr_lns.proofs.CutLemmas.{accepted_is}
 use Rattle.vr_lns.proofs.cutting.Cutting.try_cut.Goals as goal
 
-pub write_result-requires-clause-lists : goal.write_result-requires-clause-lists
-write_result-requires-clause-lists g c =
+pub write_result-requires-clause-built : goal.write_result-requires-clause-built
+write_result-requires-clause-built g c =
     let lists = c.args.routes.now.lists in
-    ap (λ (cutter : Cutter). are_lists cutter.model lists) c.self.view_is ∙ are-lists c.args.self.now.model lists c.requires.holds.valid
+    subst (λ (cutter : Cutter). AreBuilt cutter.model lists) (sym c.self.view_is) (record { are_lists = are-lists c.args.self.now.model lists c.requires.holds.valid; are_open = valid-open c.args.self.now.model lists c.requires.holds.valid })
 
 pub returns-then-not-there-clause-taken : goal.returns-then-not-there-clause-taken
 returns-then-not-there-clause-taken g c =
