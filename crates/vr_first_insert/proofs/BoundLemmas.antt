@@ -2,6 +2,7 @@
 use Rattle.std.proofs.Common.{◌≡◌, ◌∙◌, ◌<◌, ◌≤◌, ◌+◌, ◌-◌, ◌⊎◌, ℕ, suc, List, [], ◌∷◌, Bool, true, false, cond, Option, Some, None, ℤ, pos, ◌≤ℤ◌, ◌+ℤ◌, refl, ap, sym, subst, inl, inr, arith, length, to_z, of_z, w64}
 use Rattle.std.specs.Prelude.{◌&&◌, ◌||◌, ◌==◌, fold, map, int_lt, int_le, nat_lt, nat_le, slice_index_or}
 use Rattle.std.proofs.lemmas.Int.{ints}
+use Rattle.std.specs.Int.{int_min}
 use Rattle.std.proofs.lemmas.Bool.{cases_lt, eqb-true}
 use Rattle.vr_model.specs.declared.records.Model.{Model}
 use Rattle.vr_model.specs.tables.Numbers.{is_lex_less, from_to}
@@ -12,7 +13,7 @@ use Rattle.vr_rules.specs.Placing.{improves}
 use Rattle.vr_rules.proofs.LazyLeast.{untested}
 use Rattle.vr_first_insert.specs.declared.choice.Choice.{Choice}
 use Rattle.vr_first_insert.specs.Increases.{arc_at, detour, node_before, node_behind, visit_increase, pair_increase}
-use Rattle.vr_first_insert.specs.Placings.{key_of, tail_key, may_improve, pair_choice, placed, weigh, AreLeastAhead, IsLeast, IsLeastAhead}
+use Rattle.vr_first_insert.specs.Placings.{key_of, tail_key, may_improve, pair_choice, placed, weigh, AreLeastAhead, IsAddedAhead, IsLeast, IsLeastAhead}
 
 not-before : (n c : ℕ) (i l b : ℤ) (tail : Bool) → (nat_lt n c || (nat_le n c && int_le l b)) ≡ false → l ≤ℤ i
     → (int_lt (pos n) (pos c) || (int_le (pos n) (pos c) && (int_lt i b || (int_le i b && tail)))) ≡ false
@@ -88,6 +89,30 @@ ahead-more model v list node k least next x within low_one low_two is before t f
     by (inr at) =
         let here : length list - k ≡ t = omega (arith, from, at) in
         subst (λ t. x ≤ℤ visit_increase model v list node t) here (subst (λ y. x ≤ℤ y) is low_two)
+
+-- the lesser of two numbers is one of them
+min-one : (a b x : ℤ) → x ≡ int_min a b → (x ≡ a) ⊎ (x ≡ b)
+min-one a b x is = by (int_lt b a) is
+  where
+    by : (c : Bool) → x ≡ cond c b a → (x ≡ a) ⊎ (x ≡ b)
+    by true e = inr e
+    by false e = inl e
+
+-- the same of numbers as code reads them
+pub min-one-of : (a b x r c : ℤ) → x ≡ r → c ≡ b → r ≡ int_min a c → (x ≡ a) ⊎ (x ≡ b)
+min-one-of a b x r c fits fits_too is = by (min-one a c r is)
+  where
+    by : (r ≡ a) ⊎ (r ≡ c) → (x ≡ a) ⊎ (x ≡ b)
+    by (inl e) = inl (fits ∙ e)
+    by (inr e) = inr (fits ∙ (e ∙ fits_too))
+
+-- what was added before one of the last places is so with one place more
+pub added-more : (model : Model) (v : ℕ) (list : List ℕ) (node k : ℕ) (least next x : ℤ) → k ≤ length list → (x ≡ least) ⊎ (x ≡ next) → next ≡ visit_increase model v list node (length list - k) → IsAddedAhead model v list node k least → IsAddedAhead model v list node k x
+added-more model v list node k least next x within (inl old) is before = record { place = before.place; from = before.from; within = before.within; adds = old ∙ before.adds }
+added-more model v list node k least next x within (inr new) is before = record { place = length list - k; from = omega (arith, within); within = omega arith; adds = new ∙ is }
+
+pub added-on : (model : Model) (v : ℕ) (list : List ℕ) (node k : ℕ) (least : ℤ) → IsAddedAhead model v list node k least → IsAddedAhead model v list node (k + 1) least
+added-on model v list node k least before = let from = before.from in record { place = before.place; from = omega (arith, from); within = before.within; adds = before.adds }
 
 -- what code reads of the last places
 pub ahead-read : (model : Model) (v : ℕ) (list : List ℕ) (node k : ℕ) (ahead : List ℤ) (x : ℤ) → AreLeastAhead model v list node ahead → slice_index_or ahead k (pos 0) ≡ x → k ≤ length list

@@ -132,9 +132,17 @@ may_improve (Some best) class least = nat_lt class best.class || (nat_le class b
 abbrev pub IsLeast : Model → ℕ → List ℕ → ℕ → ℤ → Type 0
 IsLeast model v list node least = (t : ℕ) → t ≤ length list → least ≤ℤ visit_increase model v list node t
 
--- a visit adds at least so much before each of the last places of the list of vehicle v, from the k-th from its end on
+-- a visit adds just so much before one of the last places of the list of vehicle v, from the k-th from its end on
+pub record IsAddedAhead (model : Model) (v : ℕ) (list : List ℕ) (node k : ℕ) (least : ℤ) : Type 0 where
+  pub place : ℕ
+  pub from : length list ≤ place + k
+  pub within : place ≤ length list
+  pub adds : least ≡ visit_increase model v list node place
+
+-- it is the least that a visit adds before one of these
 pub record IsLeastAhead (model : Model) (v : ℕ) (list : List ℕ) (node k : ℕ) (least : ℤ) : Type 0 where
   pub behind : (t : ℕ) → length list ≤ t + k → t ≤ length list → least ≤ℤ visit_increase model v list node t
+  pub added : IsAddedAhead model v list node k least
   pub low : neg_ℤ (pos (2 ^ 40)) ≤ℤ least
   pub high : least ≤ℤ pos (2 ^ 41)
 

@@ -1,9 +1,9 @@
-use Rattle.std.proofs.Common.{◌∙◌, ◌+◌, ◌≤◌, ◌≤ℤ◌, ◌^◌, ◌∷◌, [], ℕ, ℤ, pos, ap, sym, subst, arith, length, length-append, to_z, of_z, w64}
+use Rattle.std.proofs.Common.{◌≡◌, ◌∙◌, ◌+◌, ◌≤◌, ◌≤ℤ◌, ◌^◌, ◌∷◌, [], ℕ, ℤ, pos, ap, sym, subst, arith, length, length-append, to_z, of_z, w64}
 use Rattle.std.proofs.lemmas.Int.{ints, int_min_is}
 use Rattle.std.specs.Prelude.{neg_ℤ}
 use Rattle.vr_reach.proofs.Tables.{each_push}
 use Rattle.vr_first_insert.specs.Placings.{IsLeastAhead}
-use Rattle.vr_first_insert.proofs.BoundLemmas.{ahead-more}
+use Rattle.vr_first_insert.proofs.BoundLemmas.{added-more, added-on, ahead-more, min-one-of}
 use Rattle.vr_first_insert.proofs.bound.write_ahead.Goals as goal
 
 pub loop-k-preserved : goal.loop-k-preserved
@@ -25,10 +25,15 @@ loop-k-preserved c =
     let low : neg_ℤ (pos (2 ^ 40)) ≤ℤ x = omega (arith, ints, int_min_is, so_far.low, so_far.high, next.low, next.high, least.value, least.self_bound, least.other_bound) in
     let high : x ≤ℤ pos (2 ^ 41) = omega (arith, ints, so_far.low, so_far.high, next.low, next.high, least.value, least.self_bound, least.other_bound) in
     let more = ahead-more model v list node k old here x within low_one low_two next.value so_far.least in
+    let fits : x ≡ c.min-least.result = omega (arith, ints, low, high, so_far.low, so_far.high, next.low, next.high, least.value, least.self_bound, least.other_bound) in
+    let fits_too : to_z w64 (of_z w64 here) ≡ here = omega (arith, ints, next.low, next.high) in
+    let one = min-one-of old here x c.min-least.result (to_z w64 (of_z w64 here)) fits fits_too least.value in
+    let added = added-more model v list node k old here x within one next.value so_far.added in
     let P = λ (k : ℕ) (y : ℤ). IsLeastAhead model v list node k y in
-    let is : P k x = record { behind = more; low = low; high = high } in
+    let is : P k x = record { behind = more; added = added; low = low; high = high } in
     record {
       least = λ t from within. more t (omega (arith, from)) within;
+      added = added-on model v list node k x added;
       low = low;
       high = high;
       long = ap length c.in_ok-push.ensures.ok ∙ length-append c.loop-k.ahead (x ∷ []) ∙ ap (λ n. n + 1) so_far.long;
