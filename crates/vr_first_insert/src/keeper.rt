@@ -14,8 +14,9 @@ ghost use Rattle.vr_first_insert.specs.Keeping.{IsKeeper};
 ghost use Rattle.vr_first_insert.specs.Kept.{AreRows};
 
 use crate::kept::{Kept, change_list, keep_each};
-use crate::known::{Known, forget, rows_of};
+use crate::known::{forget, rows_of};
 use crate::room::Room;
+use crate::row::Row;
 use crate::search::{Items, insert_all};
 use std::alloc::Global;
 use vr_lists::NodeTables;
@@ -30,7 +31,7 @@ pub(crate) struct Keeper {
     pub(crate) lists: Vec<Seq<u32>>,
     keeps: Vec<Kept>,
     // what is known of the candidates in each list
-    rows: Vec<Seq<Known>>,
+    rows: Vec<Row>,
     room: Room,
 }
 
@@ -50,7 +51,7 @@ fn take_list(
     v: u32,
     list: &[u32],
     lists: &mut [Seq<u32>],
-    rows: &mut [Seq<Known>],
+    rows: &mut [Row],
 ) -> Result<(), NoMemory>
     requires vehicle { v < length closed.model.now.vehicles }
     requires there { v < length lists.old }
@@ -79,7 +80,7 @@ fn insert_into(
     keeps: &mut [Kept],
     lists: &mut [Seq<u32>],
     marks: &mut [bool],
-    rows: &mut [Seq<Known>],
+    rows: &mut [Row],
 ) -> Result<(), NoMemory>
     requires items { AreItems items.now }
     requires vehicles { length lists.old ≡ length items.now.closed.model.now.vehicles }

@@ -1,6 +1,6 @@
 //! What is known of items in lists that have not changed since.
 
-ghost use Rattle.std.specs.Prelude.{◌≡◌, ℕ, ◌<◌, IfOk, length, replicate, slice_index_or};
+ghost use Rattle.std.specs.Prelude.{◌≡◌, ◌<◌, IfOk, length, replicate};
 ghost use Rattle.vr_first_insert.specs.Kept.{best_of, better_choice, is_settled as is_settled_of};
 ghost use Rattle.vr_first_insert.specs.Kept.{AddsAtLeast, IsForgotten, IsKnown};
 ghost use Rattle.vr_first_insert.specs.Placings.{best_in, MayHold};
@@ -12,10 +12,11 @@ use crate::choice::{Choice, improves, may_improve};
 use crate::kept::Kept;
 use crate::one_list::best_in_list;
 use crate::room::Room;
+use crate::row::Row;
 use crate::vehicle_list::VehicleList;
 use std::alloc::Global;
 use vr_lists::NodeTables;
-use vr_model::{NoMemory, Seq};
+use vr_model::NoMemory;
 use vr_rules::{Candidate, Item};
 
 /// What is known of an item in a list.
@@ -133,44 +134,20 @@ fn tried(
 }
 
 /// A row for each of `vehicles` lists, in which nothing is known of any of `count` items.
-pub(crate) fn rows_of(
-    alloc: Global,
-    vehicles: usize,
-    count: usize,
-) -> Result<Vec<Seq<Known>>, NoMemory>
+pub(crate) fn rows_of(alloc: Global, vehicles: usize, count: usize) -> Result<Vec<Row>, NoMemory>
     ensures { IfOk result (λ rows. rows.items ≡ replicate vehicles (replicate count Nothing)) }
 {
     let mut rows = Vec::with_capacity(alloc, vehicles)?;
     for _v in 0..vehicles {
-        rows.push(row_of(alloc, count)?)?;
+        rows.push(Row::with_none(alloc, count)?)?;
     }
     Ok(rows)
 }
 
-fn row_of(alloc: Global, count: usize) -> Result<Seq<Known>, NoMemory>
-    ensures { IfOk result (λ row. row ≡ replicate count Nothing) }
-{
-    let mut row = Seq::with_capacity(alloc, count)?;
-    for _i in 0..count {
-        row.push(Known::Nothing)?;
-    }
-    Ok(row)
-}
-
 /// Nothing is known of the list of vehicle `v` any more.
-pub(crate) fn forget(rows: &mut [Seq<Known>], v: u32)
+pub(crate) fn forget(rows: &mut [Row], v: u32)
     requires vehicle { v < length rows.old }
     ensures { IsForgotten v rows.old rows.new }
 {
-    forget_row(&mut rows[v as usize]);
-}
-
-// Nothing is known of any item of a row any more.
-fn forget_row(row: &mut Seq<Known>)
-    ensures many { length row.new ≡ length row.old }
-    ensures nothing { (i : ℕ) → slice_index_or row.new i Nothing ≡ Nothing }
-{
-    for i in 0..row.len() {
-        row.set(i, Known::Nothing);
-    }
+    rows[v as usize].forget();
 }

@@ -15,9 +15,10 @@ ghost use Rattle.vr_first_insert.specs.Asking.{AreAsked, AreItems, MayBeHeld};
 
 use crate::choice::Choice;
 use crate::kept::Kept;
-use crate::known::{Known, asked, better_of, forget, is_settled};
+use crate::known::{asked, better_of, forget, is_settled};
 use crate::place::place_in;
 use crate::room::Room;
+use crate::row::Row;
 use crate::vehicle_list::VehicleList;
 use vr_lists::NodeTables;
 use vr_model::{Closed, NoMemory, Seq};
@@ -46,7 +47,7 @@ fn settle(
     on: &Asked<'_>,
     v: usize,
     i: usize,
-    row: &mut Seq<Known>,
+    row: &mut Row,
     best: Option<Choice>,
 ) -> Result<Option<Choice>, NoMemory>
     requires asked { AreAsked on.now }
@@ -62,7 +63,7 @@ fn settle(
 {
     let candidates = on.items.candidates;
     let candidate = candidates[i];
-    let known = *row.get(i);
+    let known = row.get(i);
     if is_settled(&known, candidate.class, best) {
         return Ok(better_of(best, &known));
     }
@@ -91,7 +92,7 @@ fn best_in_lists(
     room: &mut Room,
     on: &Asked<'_>,
     i: usize,
-    rows: &mut [Seq<Known>],
+    rows: &mut [Row],
     best: Option<Choice>,
 ) -> Result<Option<Choice>, NoMemory>
     requires asked { AreAsked on.now }
@@ -132,7 +133,7 @@ fn beside(
     on: &Asked<'_>,
     marks: &[bool],
     i: usize,
-    rows: &mut [Seq<Known>],
+    rows: &mut [Row],
     best: &mut Option<Choice>,
 ) -> Result<(), NoMemory>
     requires asked { AreAsked on.now }
@@ -163,7 +164,7 @@ fn next_insertion(
     keeps: &[Kept],
     marks: &[bool],
     lists: &[Seq<u32>],
-    rows: &mut [Seq<Known>],
+    rows: &mut [Row],
 ) -> Result<Option<Choice>, NoMemory>
     requires items { AreItems items.now }
     requires kept { AreKept items.now.closed.model.now lists.now keeps.now }
@@ -197,7 +198,7 @@ pub(crate) fn insert_all(
     keeps: &mut [Kept],
     lists: &mut [Seq<u32>],
     marks: &mut [bool],
-    rows: &mut [Seq<Known>],
+    rows: &mut [Row],
 ) -> Result<(), NoMemory>
     requires items { AreItems items.now }
     requires kept { AreKept items.now.closed.model.now lists.now keeps.old }

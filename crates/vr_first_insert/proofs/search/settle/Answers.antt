@@ -21,8 +21,8 @@ asked-requires-clause-known c =
     let lists = c.args.on.now.lists.now in
     let v : ℕ = c.args.v in
     let list : c.as_slice-nodes.result.now ≡ route lists v = list_at lists v c.as_slice-nodes.result.now c.index-lists-v.result c.as_slice-nodes.ensures c.index-lists-v.is c.requires.there in
-    subst (λ list. IsKnown model v list (candidate_at c.args.on.now.items.candidates.now c.args.i) c.get.result.now) (sym list)
-    (subst (IsKnown model v (route lists v) (candidate_at c.args.on.now.items.candidates.now c.args.i)) (c.get.ensures.value Nothing) (c.requires.row.each c.args.i c.requires.candidate))
+    subst (λ list. IsKnown model v list (candidate_at c.args.on.now.items.candidates.now c.args.i) c.get-known.result) (sym list)
+    (subst (IsKnown model v (route lists v) (candidate_at c.args.on.now.items.candidates.now c.args.i)) (sym c.get-known.ensures) (c.requires.row.each c.args.i c.requires.candidate))
 
 pub asked-requires-clause-ready : goal.asked-requires-clause-ready
 asked-requires-clause-ready c =
@@ -35,8 +35,8 @@ pub returns-then-is_settled-clause-best : goal.returns-then-is_settled-clause-be
 returns-then-is_settled-clause-best c =
     let v : ℕ = c.args.v in
     let candidate = candidate_at c.args.on.now.items.candidates.now c.args.i in
-    let is : IsKnown c.args.on.now.items.closed.model.now v (route c.args.on.now.lists.now v) candidate c.get.result.now = subst (IsKnown c.args.on.now.items.closed.model.now v (route c.args.on.now.lists.now v) candidate) (c.get.ensures.value Nothing) (c.requires.row.each c.args.i c.requires.candidate) in
-    c.better_of.ensures ∙ settled-is c.args.on.now.items.closed.model.now v (route c.args.on.now.lists.now v) candidate c.get.result.now c.args.best (sym c.is_settled.ensures ∙ c.if-is_settled.true) is
+    let is : IsKnown c.args.on.now.items.closed.model.now v (route c.args.on.now.lists.now v) candidate c.get-known.result = subst (IsKnown c.args.on.now.items.closed.model.now v (route c.args.on.now.lists.now v) candidate) (sym c.get-known.ensures) (c.requires.row.each c.args.i c.requires.candidate) in
+    c.better_of.ensures ∙ settled-is c.args.on.now.items.closed.model.now v (route c.args.on.now.lists.now v) candidate c.get-known.result c.args.best (sym c.is_settled.ensures ∙ c.if-is_settled.true) is
 
 pub returns-clause-best : goal.returns-clause-best
 returns-clause-best c =
