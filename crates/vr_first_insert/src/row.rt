@@ -16,8 +16,8 @@ pub(crate) struct Found {
     pub(crate) since: u64,
 }
 
-/// What is known of items in a list. Contracts see it as a list, with nothing where what was found is of the list before
-/// its last change.
+/// What is known of items in a list. Contracts see it as a list, with nothing where what was found is of the list
+/// before its last change.
 #[derive(Drop)]
 pub(crate) struct Row {
     found: Seq<Found>,

@@ -12,7 +12,7 @@ rewrite_rows-requires-clause-rows c =
     let many = c.requires.kept.many in
     let there = c.requires.there in
     let old : c.as_slice-old.result.now ≡ route lists c.args.v = list_at lists c.args.v c.as_slice-old.result.now c.index-lists-v.result c.as_slice-old.ensures c.index-lists-v.is there in
-    subst (λ l. AreRowsIfUsed model c.args.d c.args.v l c.index_mut.result.now) (sym old) (subst (AreRowsIfUsed model c.args.d c.args.v (route lists c.args.v)) (sym c.index_mut.is) (c.requires.kept.rows_of_each c.args.v _ (omega (arith, there, many))))
+    subst (λ l. AreRowsIfUsed model c.args.d c.args.v l c.index_mut.result.now) (sym old) (subst (AreRowsIfUsed model c.args.d c.args.v (route lists c.args.v)) (sym c.index_mut.ensures.value) (c.requires.kept.rows_of_each c.args.v c.index_mut.result.now (omega (arith, there, many))))
 
 pub returns : goal.returns
 returns c =
