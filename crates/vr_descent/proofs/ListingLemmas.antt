@@ -1,5 +1,7 @@
 -- The moves of neighbourhoods, one neighbourhood after the other.
 use Rattle.std.proofs.Common.{◌≡◌, ◌∙◌, ℕ, suc, List, [], ◌∷◌, ◌++◌, length, refl, sym, ap, ap₂}
+use Rattle.std.specs.Prelude.{MatchOption, Option, Some, None}
+use Rattle.vr_known.specs.Passing.{IsFirst}
 use Rattle.vr_model.specs.moves.Moves.{moves_in, moves_over}
 use Rattle.vr_model.specs.declared.records.Model.{Model}
 use Rattle.vr_model.specs.declared.neighbours.Move.{Move}
@@ -27,3 +29,9 @@ module _ (model : Model) (lists : List (List ℕ)) where
     where
       no : suc (length ns) ≡ 0 → ⊥
       no e = Prim.cc
+
+-- the first move of a run is the first of the run and what stands behind it
+pub first_along : (run : List Move) (result : Option Move) (left behind : List Move) → IsFirst run result left
+    → MatchOption result (left ++ behind ≡ run ++ behind) (λ mv. run ++ behind ≡ mv ∷ (left ++ behind))
+first_along run None left behind h = ap (λ l. l ++ behind) (h.1 ∙ sym h.0)
+first_along run (Some mv) left behind h = ap (λ l. l ++ behind) h

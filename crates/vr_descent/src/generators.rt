@@ -1,13 +1,13 @@
 //! The moves of one neighbourhood, whichever it is.
 
-ghost use Rattle.std.specs.Prelude.{◌≡◌, ◌+◌};
+ghost use Rattle.std.specs.Prelude.{◌≡◌, ◌+◌, ◌++◌};
 ghost use Rattle.vr_descent.specs.Listing.{left_in};
 ghost use Rattle.vr_model.specs.moves.Moves.{moves_in};
 ghost use Rattle.vr_model.specs.tables.Tables.{visits};
 ghost use Rattle.vr_model.specs.tables.WellFormed.{IsWellFormed};
 ghost use Rattle.vr_known.specs.Passing.{Looked, Takes, tried};
 
-use vr_known::Sieve;
+use vr_known::{Sieve, Stretch};
 use vr_model::{Model, Move, Neighbourhood};
 use vr_moves_active::{
     MakeActiveMoves, MakeInactiveMoves, SwapActiveMoves, make_active, make_inactive, swap_active,
@@ -86,6 +86,27 @@ impl<'a> Generator<'a> {
             Generator::MakeActive(moves) => moves.step(sieve, judge, passed),
             Generator::MakeInactive(moves) => moves.step(sieve, judge, passed),
             Generator::SwapActive(moves) => moves.step(sieve, judge, passed),
+        }
+    }
+
+    /// Takes those at the front that differ from the move that was taken last in their last number alone, where the
+    /// sieve could tell nothing of them.
+    #[inline(always)]
+    pub fn stretch(&mut self) -> Stretch
+        ensures { left_in self.old ≡ result ++ left_in self.new }
+    {
+        match self {
+            Generator::TwoOpt(moves) => moves.stretch(),
+            Generator::OrOpt(moves) => moves.stretch(),
+            Generator::Relocate(moves) => moves.stretch(),
+            Generator::Exchange(moves) => moves.stretch(),
+            Generator::Cross(moves) => moves.stretch(),
+            Generator::RelocatePair(moves) => moves.stretch(),
+            Generator::PairActive(moves) => moves.stretch(),
+            Generator::PairInactive(_) => Stretch::none(),
+            Generator::MakeActive(moves) => moves.stretch(),
+            Generator::MakeInactive(_) => Stretch::none(),
+            Generator::SwapActive(_) => Stretch::none(),
         }
     }
 }

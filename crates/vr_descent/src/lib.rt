@@ -17,6 +17,7 @@
 
 mod accepting;
 mod descending;
+mod generating;
 mod generators;
 mod incumbent;
 mod laws;

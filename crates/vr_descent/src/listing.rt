@@ -1,41 +1,32 @@
-//! The moves of the neighbourhoods of a model, in order.
+//! The moves of lists that a search tries.
 
-ghost use Rattle.std.specs.Prelude.{◌≡◌, ◌+◌};
-ghost use Rattle.vr_descent.specs.Listing.{left_of};
+ghost use Rattle.std.specs.Prelude.{◌≡◌, ◌∷◌, ◌+◌, ◌++◌, MatchOption};
 ghost use Rattle.vr_known.specs.Passing.{Looked, Takes, tried};
-ghost use Rattle.vr_model.specs.moves.Moves.{moves, moves_in};
+ghost use Rattle.vr_model.specs.moves.Moves.{moves};
 ghost use Rattle.vr_model.specs.tables.Tables.{visits};
 ghost use Rattle.vr_model.specs.tables.WellFormed.{IsWellFormed};
 
-use crate::generators::Generator;
+use crate::generating::Generating;
 use std::marker::Model;
-use vr_known::{Known, Sieve};
-use vr_model::{Closed, Model as RoutingModel, Move, Neighbourhood};
+use vr_known::{Known, Sieve, Stretch};
+use vr_model::{Closed, Model as RoutingModel, Move};
 use vr_routes::Routes;
 
 /// The moves of lists that are left to try. Contracts see their list.
 #[derive(Drop)]
 pub struct MoveList<'a> {
-    model: &'a RoutingModel,
-    routes: &'a Routes,
-    // the neighbourhood in hand, and those behind it
-    current: Option<Generator<'a>>,
-    behind: &'a [Neighbourhood],
+    // the rest of a run of moves of which nothing could be told: each is one step of a number
+    run: Stretch,
+    behind: Generating<'a>,
 }
 
 impl<'a> Model for MoveList<'a> {
-    ghost use Rattle.std.specs.Prelude.{◌≡◌, ◌++◌, List};
-    ghost use Rattle.vr_descent.specs.Listing.{left_of};
-    ghost use Rattle.vr_model.specs.moves.Moves.{moves_over};
-    ghost use Rattle.vr_model.specs.tables.Tables.{visits};
-    ghost use Rattle.vr_model.specs.tables.WellFormed.{IsWellFormed};
+    ghost use Rattle.std.specs.Prelude.{◌++◌, List};
     ghost use Rattle.vr_model.specs.declared.neighbours.Move.{Move as Step};
 
     ghost Value = { List Step };
 
-    ghost view = { λ list. left_of list.current ++ moves_over list.model.now list.behind.now list.routes.now.lists };
-
-    ghost invariant = { λ list. IsWellFormed list.model.now × (list.routes.now.visits ≡ visits list.model.now) };
+    ghost view = { λ list. list.run ++ list.behind };
 }
 
 /// The moves of the neighbourhoods of a model, of the lists of routes: those of the first neighbourhood, then those of
@@ -46,17 +37,22 @@ pub fn moves<'a>(model: &'a RoutingModel, routes: &'a Routes) -> MoveList<'a>
     ensures { result ≡ moves model.now routes.now.lists }
 {
     MoveList {
-        model,
-        routes,
-        current: None,
-        behind: model.search.neighbourhoods.as_slice(),
+        run: Stretch::none(),
+        behind: Generating::open(Closed { model }, routes),
     }
 }
 
 impl<'a> MoveList<'a> {
+    /// Takes the first of the moves that are left, where it goes on a run of which nothing could be told.
+    #[inline(always)]
+    pub fn go_along(&mut self) -> Option<Move>
+        ensures { MatchOption result (self.new ≡ self.old) (λ mv. self.old ≡ mv ∷ self.new) }
+    {
+        self.run.take()
+    }
+
     /// Takes the first of the moves that are left, behind some that are passed over, which are counted. Takes no
     /// memory.
-    // Inlined, so that a move stays in registers.
     #[inline(always)]
     pub fn step<S: Sieve>(
         &mut self,
@@ -70,24 +66,12 @@ impl<'a> MoveList<'a> {
         ensures looked { Looked (S.can_ask sieve.now) S.judged S.looked (S.tries sieve.now)
             judge.old passed.old judge.new (passed.new + tried result) }
     {
+        // To read the count is to know that it fits.
         let _count = *passed;
-        loop {
-            if let Some(mv) = step_in(&mut self.current, sieve, judge, passed) {
-                return Some(mv);
-            }
-            match self.behind.split_first() {
-                Some((first, others)) => {
-                    open_in(
-                        &mut self.current,
-                        *first,
-                        Closed { model: self.model },
-                        self.routes,
-                    );
-                    self.behind = others;
-                }
-                None => return None,
-            }
+        if let Some(mv) = self.run.take() {
+            return Some(mv);
         }
+        go_on(&mut self.run, &mut self.behind, sieve, judge, passed)
     }
 }
 
@@ -107,37 +91,23 @@ impl<'a> Iterator for MoveList<'a> {
     }
 }
 
-// Takes the first of the moves that are left of a neighbourhood, where there is one in hand.
+// Takes the first of the moves behind a run that is at its end, and then the run that begins with it, where nothing
+// could be told of that.
 #[inline(always)]
-fn step_in<S: Sieve>(
-    current: &mut Option<Generator>,
+fn go_on<S: Sieve>(
+    run: &mut Stretch,
+    behind: &mut Generating,
     sieve: &S,
     judge: &mut S::Judge,
     passed: &mut u64,
 ) -> Option<Move>
     requires ready { S.is_ready sieve.now }
     requires can_ask { S.can_ask sieve.now judge.old }
-    ensures takes { Takes (S.covers sieve.now) (left_of current.old) passed.old result
-        (left_of current.new) passed.new }
+    ensures takes { Takes (S.covers sieve.now) behind.old passed.old result (run.new ++ behind.new) passed.new }
     ensures looked { Looked (S.can_ask sieve.now) S.judged S.looked (S.tries sieve.now)
         judge.old passed.old judge.new (passed.new + tried result) }
 {
-    let _count = *passed;
-    match current {
-        Some(current) => current.step(sieve, judge, passed),
-        None => None,
-    }
-}
-
-// Takes a neighbourhood in hand.
-fn open_in<'a>(
-    current: &mut Option<Generator<'a>>,
-    neighbourhood: Neighbourhood,
-    closed: Closed<'a>,
-    routes: &'a Routes,
-)
-    requires of_model { routes.now.visits ≡ visits closed.model.now }
-    ensures { left_of current.new ≡ moves_in closed.entry.model.now routes.now.lists neighbourhood }
-{
-    *current = Some(Generator::open(neighbourhood, closed.model, routes));
+    let found = behind.step(sieve, judge, passed);
+    *run = behind.stretch();
+    found
 }

@@ -179,6 +179,37 @@ fn next_open<J: Judge, A: Accept>(
     ensures looked { J.looked judge.new + within rest place.old
         ≤ J.looked judge.old + within rest (place.new + tried result) }
 {
+    // To read the count is to know that it fits.
+    let _count = *place;
+    if let Some(mv) = list.go_along() {
+        return Some(mv);
+    }
+    open_next(list, judge, routes, accept, known, rest, place)
+}
+
+// So it does where the judge and what is known are to be asked. It is not inlined: what a list holds is large, and
+// stays where it lies.
+#[inline(never)]
+fn open_next<J: Judge, A: Accept>(
+    list: &mut MoveList,
+    judge: &mut J,
+    routes: &Routes,
+    accept: &A,
+    known: &Known,
+    rest: u64,
+    place: &mut u64,
+) -> Option<Move>
+    requires ready { CanSift (A.model accept.now) (A.stands_at accept.now routes.now.lists) (A.takes accept.now)
+        routes.now known.now }
+    requires can_judge { CanJudge (A.model accept.now) routes.now (J.model judge.old) (J.committed judge.old) }
+    ensures takes { Takes (IsPassed (A.model accept.now) (A.takes accept.now) routes.now.lists rest)
+        list.old place.old result list.new place.new }
+    ensures model { J.model judge.new ≡ J.model judge.old }
+    ensures committed { J.committed judge.new ≡ J.committed judge.old }
+    ensures asked { J.asked judge.new ≡ J.asked judge.old }
+    ensures looked { J.looked judge.new + within rest place.old
+        ≤ J.looked judge.old + within rest (place.new + tried result) }
+{
     let refusals: Refusals<'_, J, A> = Refusals {
         routes,
         accept,

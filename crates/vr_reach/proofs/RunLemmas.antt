@@ -51,7 +51,7 @@ only_level (r ∷ []) run one is normal cumuls =
     let order = normal.1 in
     record {
       exact = of.exact;
-      cumuls = record { low = ends.lo.at_least; some = subst (λ (n : Run). n.lo ≤ℤ n.hi) same order; high = ends.hi.at_most };
+      cumuls = record { least = ends.lo.at_least; in_order = subst (λ (n : Run). n.lo ≤ℤ n.hi) same order; greatest = ends.hi.at_most };
     }
 only_level (r ∷ s ∷ rs) run one is normal cumuls = absurd (omega (arith, one))
 

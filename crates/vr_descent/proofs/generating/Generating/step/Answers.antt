@@ -4,7 +4,7 @@ use Rattle.vr_known.specs.Passing.{Takes}
 use Rattle.vr_known.proofs.LookedLemmas.{looked_further, looked_more, looked_none, within_rises}
 use Rattle.vr_known.proofs.PassingLemmas.{passes_as, passes_from, passes_in_front, passes_more, passes_none, passes_to_end, takes_in_front, takes_none, takes_some}
 use Rattle.vr_descent.proofs.ListingLemmas.{none_left, taken_in_hand}
-use Rattle.vr_descent.proofs.listing.MoveList.step.Goals as goal
+use Rattle.vr_descent.proofs.generating.Generating.step.Goals as goal
 
 pub loop-mv-init : goal.loop-mv-init
 loop-mv-init g c = record {

@@ -4,7 +4,7 @@ use Rattle.vr_model.specs.moves.Moves.{moves_over}
 use Rattle.vr_model.specs.tables.Tables.{visits}
 use Rattle.vr_model.specs.tables.WellFormed.{IsWellFormed}
 use Rattle.vr_known.specs.Passing.{Looked, Passes}
-use Rattle.vr_descent.proofs.listing.MoveList.step.Given as goal
+use Rattle.vr_descent.proofs.generating.Generating.step.Given as goal
 
 -- some known moves were passed
 abbrev pub invariant-loop-mv : goal.invariant-loop-mv
