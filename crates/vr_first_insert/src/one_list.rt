@@ -191,8 +191,6 @@ struct Begun<'a> {
     ahead: &'a Seq<i64>,
     ghost within: { s ≤ length pair.list.nodes.now },
     ghost picked_up: { half.now ≡ insert pair.list.nodes.now s pair.pickup },
-    ghost least_ahead: { AreLeastAhead pair.list.closed.model.now pair.list.vehicle pair.list.nodes.now pair.delivery
-        ahead.now },
 }
 
 // The best beside a pickup before a place and its delivery before each place behind, where what the list with the
@@ -206,6 +204,8 @@ fn best_further(
     best: Option<Choice>,
 ) -> Result<Option<Choice>, NoMemory>
     requires ready { IsReadyList begun.now.pair.list keeps.now }
+    requires ahead { AreLeastAhead begun.now.pair.list.closed.model.now begun.now.pair.list.vehicle
+        begun.now.pair.list.nodes.now begun.now.pair.delivery begun.now.ahead.now }
     requires here { AreReachedAt begun.now.pair.list.closed.model.now begun.now.pair.list.vehicle begun.now.half.now
         (begun.now.s + 2) probes.old }
     requires longer { trying.old.longer ≡ insert begun.now.half.now (begun.now.s + 1) begun.now.pair.delivery }
@@ -252,6 +252,8 @@ fn best_behind(
     best: Option<Choice>,
 ) -> Result<Option<Choice>, NoMemory>
     requires ready { IsReadyList begun.now.pair.list keeps.now }
+    requires ahead { AreLeastAhead begun.now.pair.list.closed.model.now begun.now.pair.list.vehicle
+        begun.now.pair.list.nodes.now begun.now.pair.delivery begun.now.ahead.now }
     requires least { IsLeast begun.now.pair.list.closed.model.now begun.now.pair.list.vehicle
         begun.now.pair.list.nodes.now begun.now.pair.delivery least }
     requires low { neg_ℤ (pos (2 ^ 40)) ≤ℤ least }

@@ -86,18 +86,18 @@ loop-t-init c =
 
 pub get-least-requires : goal.get-least-requires
 get-least-requires c =
-    let long = c.args.begun.now.least_ahead.one_of_each in
+    let long = c.requires.ahead.one_of_each in
     omega (arith, long)
 
 pub least_apart-requires-clause-low : goal.least_apart-requires-clause-low
 least_apart-requires-clause-low c =
     let list = c.args.begun.now.pair.list.nodes.now in
-    (ahead-read c.args.begun.now.pair.list.closed.model.now c.args.begun.now.pair.list.vehicle list c.args.begun.now.pair.delivery (length list - c.loop-t.t) c.args.begun.now.ahead.now c.get-least.result.now c.args.begun.now.least_ahead (c.get-least.ensures.value (pos 0)) (omega arith)).low
+    (ahead-read c.args.begun.now.pair.list.closed.model.now c.args.begun.now.pair.list.vehicle list c.args.begun.now.pair.delivery (length list - c.loop-t.t) c.args.begun.now.ahead.now c.get-least.result.now c.requires.ahead (c.get-least.ensures.value (pos 0)) (omega arith)).low
 
 pub least_apart-requires-clause-high : goal.least_apart-requires-clause-high
 least_apart-requires-clause-high c =
     let list = c.args.begun.now.pair.list.nodes.now in
-    (ahead-read c.args.begun.now.pair.list.closed.model.now c.args.begun.now.pair.list.vehicle list c.args.begun.now.pair.delivery (length list - c.loop-t.t) c.args.begun.now.ahead.now c.get-least.result.now c.args.begun.now.least_ahead (c.get-least.ensures.value (pos 0)) (omega arith)).high
+    (ahead-read c.args.begun.now.pair.list.closed.model.now c.args.begun.now.pair.list.vehicle list c.args.begun.now.pair.delivery (length list - c.loop-t.t) c.args.begun.now.ahead.now c.get-least.result.now c.requires.ahead (c.get-least.ensures.value (pos 0)) (omega arith)).high
 
 pub returns-then-not-may_improve : goal.returns-then-not-may_improve
 returns-then-not-may_improve c =
@@ -106,7 +106,7 @@ returns-then-not-may_improve c =
     let v : ℕ = c.args.begun.now.pair.list.vehicle in
     let t : ℕ = c.loop-t.t in
     let least : ℤ = to_z w64 (of_z w64 c.get-least.result.now) in
-    let is = ahead-read model v list c.args.begun.now.pair.delivery (length list - t) c.args.begun.now.ahead.now c.get-least.result.now c.args.begun.now.least_ahead (c.get-least.ensures.value (pos 0)) (omega arith) in
+    let is = ahead-read model v list c.args.begun.now.pair.delivery (length list - t) c.args.begun.now.ahead.now c.get-least.result.now c.requires.ahead (c.get-least.ensures.value (pos 0)) (omega arith) in
     let apart = c.least_apart.ensures in
     let alone = c.visit_increase-alone.ensures in
     let fits : to_z w64 (of_z w64 c.least_apart.result) ≡ c.least_apart.result = omega (arith, ints, apart.low, apart.high) in
