@@ -1,7 +1,6 @@
 -- What is asked of a list that comes in the place of another one.
-use Rattle.std.specs.Prelude.{ℕ, Bool, List}
+use Rattle.std.specs.Prelude.{ℕ, List}
 use Rattle.vr_model.specs.routes.Routes.{route}
-use Rattle.vr_model.specs.schedules.Choices.{is_feasible}
 use Rattle.vr_model.specs.schedules.Lines.{line, Line}
 use Rattle.vr_model.specs.schedules.Narrowed.{chosen_line}
 use Rattle.vr_plan.specs.Timings.{IsTiming}

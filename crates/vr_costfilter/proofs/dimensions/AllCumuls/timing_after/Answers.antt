@@ -4,7 +4,7 @@ use Rattle.std.proofs.lemmas.List.{get_or_default}
 use Rattle.vr_model.specs.routes.Routes.{route}
 use Rattle.vr_model.specs.schedules.Lines.{line}
 use Rattle.vr_model.specs.schedules.Schedules.{IsFeasible}
-use Rattle.vr_routes.specs.Pieces.{joined, no_part, part_at}
+use Rattle.vr_routes.specs.Pieces.{joined, part_at}
 use Rattle.vr_plan.specs.Timings.{IsTiming, IsTimingOf}
 use Rattle.vr_reach.specs.Lists.{IsUsed}
 use Rattle.vr_costfilter.specs.Kept.{IsKnown}

@@ -1,6 +1,5 @@
-use Rattle.std.proofs.Common.{◌≡◌, ◌∙◌, ◌<◌, length, Some, Option, ap, ap₂, sym, subst, arith, to_z, of_z, w64}
+use Rattle.std.proofs.Common.{◌∙◌, ◌<◌, length, Option, ap, ap₂, sym, subst, arith}
 use Rattle.std.specs.Prelude.{All, ℤ, pos, slice_index_or}
-use Rattle.std.specs.Option.{option_copied}
 use Rattle.std.proofs.lemmas.List.{get_or_default}
 use Rattle.vr_spans.specs.declared.runs.Run.{Run}
 use Rattle.vr_model.specs.declared.records.Dimension.{Dimension}
@@ -10,11 +9,9 @@ use Rattle.vr_model.specs.tables.Tables.{dimension_at, no_dimension, row_of, tra
 use Rattle.vr_model.specs.tables.WellFormed.{IsIn, IsStopRow}
 use Rattle.vr_model.proofs.routes.Lists.{visit_below}
 use Rattle.vr_plan.proofs.BoundLemmas.{read-cumul}
-use Rattle.vr_costfilter.specs.GuideRuns.{runs_of}
 use Rattle.vr_costfilter.specs.Runs.{no_run}
-use Rattle.vr_costfilter.specs.Stages.{go_on, to_visit}
+use Rattle.vr_costfilter.specs.Stages.{go_on}
 use Rattle.vr_costfilter.specs.declared.guides.Guide.{Guide}
-use Rattle.vr_costfilter.specs.declared.guides.Stage.{Stage}
 use Rattle.vr_costfilter.specs.declared.trails.Step.{Step}
 use Rattle.vr_costfilter.specs.Floors.{IsVisitStep}
 use Rattle.vr_costfilter.proofs.guides.Guide.to_visit.Goals as goal

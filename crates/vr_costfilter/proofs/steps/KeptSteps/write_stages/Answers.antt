@@ -1,4 +1,4 @@
-use Rattle.std.proofs.Common.{◌≡◌, ◌∙◌, ◌+◌, ◌-◌, ◌<◌, ◌++◌, suc, List, [], ◌∷◌, ℕ, Some, None, Option, length, length-append, reverse, take, refl, ap, sym, subst, arith}
+use Rattle.std.proofs.Common.{◌≡◌, ◌∙◌, ◌+◌, ◌-◌, ◌<◌, ◌++◌, suc, List, [], ◌∷◌, ℕ, Some, Option, length, length-append, reverse, refl, ap, sym, subst, arith}
 use Rattle.std.specs.Prelude.{option_map, pos, slice_index_or}
 use Rattle.std.specs.Option.{option_and_then}
 use Rattle.std.proofs.lemmas.List.{get_or_push, length-reverse, take_all}
