@@ -2,7 +2,7 @@
 use Rattle.std.proofs.Common.{◌≡◌, ◌∙◌, ◌≤◌, ℕ, zero, suc, false, List, refl, sym, ap, ap₂, subst, arith}
 use Rattle.std.specs.Prelude.{ℤ, pos, negsuc, neg_ℤ, ◌+ℤ◌, ◌-ℤ◌, ◌*ℤ◌, ◌≤ℤ◌, int_lt, unsigned_abs}
 use Rattle.std.proofs.lemmas.Int.{ints}
-use Rattle.std.proofs.Math.IntN.{zero-*ℤ, suc_ℤ-*ℤ, pred_ℤ-*ℤ}
+use Rattle.std.proofs.Math.IntN.{zero-*ℤ, suc_ℤ-*ℤ, pred_ℤ-*ℤ, *ℤ-zero}
 use Rattle.vr_model.specs.moves.Moves.{apply}
 use Rattle.vr_model.specs.routes.Costs.{cost}
 use Rattle.vr_model.specs.search.GuidedSearches.{Penalties, augmented, penalised}
@@ -77,6 +77,16 @@ none_saved lambda difference change saved some none low =
     let more : pos 0 ≤ℤ (change -ℤ (pos 0 -ℤ saved)) = omega (arith, ints, low) in
     let times : pos 0 ≤ℤ ((lambda.p *ℤ change) -ℤ (lambda.p *ℤ (pos 0 -ℤ saved))) = subst (λ z. pos 0 ≤ℤ z) (spread lambda.p change (pos 0 -ℤ saved)) (times_low lambda.p (change -ℤ (pos 0 -ℤ saved)) some more) in
     not_less_behind (lambda.q *ℤ difference) (lambda.p *ℤ change) (lambda.p *ℤ (pos 0 -ℤ saved)) times none
+
+-- a difference from 0 on is no gain where nothing is saved
+pub none_at_zero : (lambda : Lambda) (difference saved : ℤ) → pos 1 ≤ℤ lambda.q → pos 0 ≤ℤ difference → saved ≡ pos 0 → is_gain lambda difference (pos 0 -ℤ saved) ≡ false
+none_at_zero lambda difference saved some low nothing =
+    let times = times_low lambda.q difference some low in
+    ap (λ z. int_lt ((lambda.q *ℤ difference) +ℤ (lambda.p *ℤ (pos 0 -ℤ z))) (pos 0)) nothing
+    ∙ (ap (λ z. int_lt ((lambda.q *ℤ difference) +ℤ z) (pos 0)) (*ℤ-zero lambda.p) ∙ not_below (lambda.q *ℤ difference) times)
+  where
+    not_below : (x : ℤ) → pos 0 ≤ℤ x → int_lt (x +ℤ pos 0) (pos 0) ≡ false
+    not_below x low = Prim.grind (arith, ints, low)
 
 -- a bound on the absolute value from both sides
 pub at_least : (n : ℕ) (z : ℤ) → unsigned_abs z ≤ n → neg_ℤ (pos n) ≤ℤ z

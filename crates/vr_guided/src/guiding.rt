@@ -79,7 +79,7 @@ impl<'m> Accept for Guiding<'m> {
             self.route_sums,
             change,
         );
-        if !self.gains(least, -saved) {
+        if self.is_no_gain(least, saved) {
             return false;
         }
         self.gains(
@@ -121,6 +121,20 @@ impl<'m> Guiding<'m> {
             return None;
         }
         Some(difference)
+    }
+
+    // Whether a difference in cost is no gain where at most so much of the penalised arc costs is saved. Nothing is
+    // multiplied where nothing is saved, as long as no arc is penalised.
+    #[inline]
+    fn is_no_gain(&self, difference: i64, saved: i128) -> bool
+        requires low { pos 0 ≤ℤ saved }
+        requires high { saved ≤ℤ pos (2 ^ 90) }
+        ensures { IsTrue result → is_gain self.now.lambda difference (pos 0 -ℤ saved) ≡ false }
+    {
+        if saved == 0 {
+            return difference >= 0;
+        }
+        !self.gains(difference, -saved)
     }
 
     // What a move makes of the penalised arc costs, by the arcs that change. Takes no memory.

@@ -1,4 +1,4 @@
-use Rattle.std.proofs.Common.{◌≡◌, ◌∙◌, ◌^◌, ap, ap₂, sym, subst, arith, w64, to_z, of_z}
+use Rattle.std.proofs.Common.{◌≡◌, ◌∙◌, ◌^◌, ap, ap₂, sym, subst, arith, false, w64, to_z, of_z}
 use Rattle.std.specs.Int.{w128}
 use Rattle.std.specs.Prelude.{ℤ, pos, ◌+ℤ◌, ◌-ℤ◌, ◌≤ℤ◌, IsTrue}
 use Rattle.std.proofs.lemmas.Int.{ints}
@@ -28,8 +28,8 @@ change-requires-clause-after c =
     let lists = c.args.routes.now.lists in
     subst (λ ls. IsTrue (are_lists model ls)) (sym c.requires.change.lists_are) (moves_keep_lists model c.requires.well_formed lists c.args._mv (are-lists model lists c.requires.valid) c.requires.mv)
 
-pub returns-then-not-gains : goal.returns-then-not-gains
-returns-then-not-gains c = record {
+pub returns-then-is_no_gain : goal.returns-then-is_no_gain
+returns-then-is_no_gain c = record {
   passed = λ refused valid low. (
       let at = c.args.self.now in
       let p = counted at.penalties.now in
@@ -39,9 +39,10 @@ returns-then-not-gains c = record {
       let saved = c.saved_at_most-saved.result in
       let from = c.saved_at_most-saved.ensures.low in
       let to = c.saved_at_most-saved.ensures.high in
-      let as_read : to_z w128 (of_z w128 (pos 0 -ℤ to_z w128 (of_z w128 saved))) ≡ pos 0 -ℤ saved = omega (arith, ints, from, to) in
+      let as_read : to_z w128 (of_z w128 saved) ≡ saved = omega (arith, ints, from, to) in
       let most = subst (λ ls. (penalised at.model.now p lists -ℤ penalised at.model.now p ls) ≤ℤ saved) c.requires.change.lists_are c.saved_at_most-saved.ensures.most in
-      let none = sym (c.gains.ensures ∙ ap₂ (is_gain at.lambda) same as_read) ∙ c.if-not-gains.true in
+      let none = subst (λ d. is_gain at.lambda d (pos 0 -ℤ saved) ≡ false) same
+          (subst (λ z. is_gain at.lambda (to_z w64 (of_z w64 c.args.least)) (pos 0 -ℤ z) ≡ false) as_read (c.is_no_gain.ensures c.if-is_no_gain.true)) in
       let no_gain = none_saved at.lambda c.args.least (penalised_change at.model.now p lists c.args._mv) saved at.sound.p_from_one none (told (penalised at.model.now p lists) (penalised at.model.now p (apply at.model.now lists c.args._mv)) saved most) in
       passed_over at.model.now at.lambda p lists c.args._mv c.args.least at.sound.q_from_one no_gain low);
 }
@@ -59,6 +60,6 @@ returns c = record {
       let to = at_most (2 ^ 100) c.change.result change.bound in
       let as_read : to_z w128 (of_z w128 c.change.result) ≡ c.change.result = omega (arith, ints, from, to) in
       let value = change.value ∙ ap (λ ls. penalised at.model.now p ls -ℤ penalised at.model.now p lists) c.requires.change.lists_are in
-      let none = sym (c.gains-2.ensures ∙ ap₂ (is_gain at.lambda) same (as_read ∙ value)) ∙ refused in
+      let none = sym (c.gains.ensures ∙ ap₂ (is_gain at.lambda) same (as_read ∙ value)) ∙ refused in
       passed_over at.model.now at.lambda p lists c.args._mv c.args.least at.sound.q_from_one none low);
 }
