@@ -42,7 +42,7 @@ returns-then-is_no_gain c = record {
       let as_read : to_z w128 (of_z w128 saved) ≡ saved = omega (arith, ints, from, to) in
       let most = subst (λ ls. (penalised at.model.now p lists -ℤ penalised at.model.now p ls) ≤ℤ saved) c.requires.change.lists_are c.saved_at_most-saved.ensures.most in
       let none = subst (λ d. is_gain at.lambda d (pos 0 -ℤ saved) ≡ false) same
-          (subst (λ z. is_gain at.lambda (to_z w64 (of_z w64 c.args.least)) (pos 0 -ℤ z) ≡ false) as_read (c.is_no_gain.ensures c.if-is_no_gain.true)) in
+      (subst (λ z. is_gain at.lambda (to_z w64 (of_z w64 c.args.least)) (pos 0 -ℤ z) ≡ false) as_read (c.is_no_gain.ensures c.if-is_no_gain.true)) in
       let no_gain = none_saved at.lambda c.args.least (penalised_change at.model.now p lists c.args._mv) saved at.sound.p_from_one none (told (penalised at.model.now p lists) (penalised at.model.now p (apply at.model.now lists c.args._mv)) saved most) in
       passed_over at.model.now at.lambda p lists c.args._mv c.args.least at.sound.q_from_one no_gain low);
 }
