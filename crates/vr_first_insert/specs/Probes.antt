@@ -1,9 +1,11 @@
 -- What a list reaches at a stop in each dimension.
-use Rattle.std.specs.Prelude.{◌≡◌, ℕ, suc, ◌<◌, ◌≤◌, false, List, length, slice_index_or}
+use Rattle.std.specs.Prelude.{◌≡◌, ℕ, suc, ◌<◌, ◌≤◌, Bool, false, List, [], length, slice_index_or}
+use Rattle.std.specs.List.{list_any}
 use Rattle.vr_spans.specs.declared.runs.Run.{Run}
 use Rattle.vr_model.specs.declared.records.Model.{Model}
+use Rattle.vr_model.specs.tables.Numbers.{below}
 use Rattle.vr_reach.specs.Lists.{IsUsed}
-use Rattle.vr_reach.specs.Standing.{IsReachedAt}
+use Rattle.vr_reach.specs.Standing.{is_stuck, IsReachedAt}
 use Rattle.vr_rules.specs.RoutesOpen.{is_feasible_in_each}
 use Rattle.vr_first_insert.specs.declared.probes.Probes.{Probes}
 
@@ -17,3 +19,8 @@ pub record AreReachedAt (model : Model) (v : ℕ) (list : List ℕ) (k : ℕ) (p
 abbrev pub ReachNoEnd : Model → Probes → Type 0
 ReachNoEnd model probes = (v : ℕ) (list : List ℕ) (k : ℕ) → v < length model.vehicles → IsUsed model list
     → k ≤ suc (length list) → AreReachedAt model v list k probes → is_feasible_in_each model v list ≡ false
+
+-- nothing is reached in some dimension
+abbrev pub is_stuck_in_some : Model → Probes → Bool
+is_stuck_in_some model probes =
+    list_any (λ d. is_stuck (slice_index_or probes.here.items d [])) (below (length model.dimensions))

@@ -5,7 +5,7 @@ ghost use Rattle.vr_reach.specs.Lists.{IsUsed};
 ghost use Rattle.vr_reach.specs.Stretches.{SharesFront, SharesBack};
 ghost use Rattle.vr_rules.specs.RoutesOpen.{is_feasible_in_each};
 ghost use Rattle.vr_first_insert.specs.KeptRows.{AreKeptOf, AreStopsOfEach};
-ghost use Rattle.vr_first_insert.specs.Probes.{AreReachedAt, ReachNoEnd};
+ghost use Rattle.vr_first_insert.specs.Probes.{is_stuck_in_some, AreReachedAt, ReachNoEnd};
 
 use crate::kept::Kept;
 use crate::vehicle_list::VehicleList;
@@ -56,7 +56,8 @@ impl Probes {
     /// there. It takes no memory.
     pub(crate) fn is_stuck(&self, closed: Closed<'_>) -> bool
         requires { length closed.model.now.dimensions ≤ length self.now.here.items }
-        ensures { IsTrue result → ReachNoEnd closed.entry.model.now self.now }
+        ensures exact { result ≡ is_stuck_in_some closed.entry.model.now self.now }
+        ensures no_end { IsTrue result → ReachNoEnd closed.entry.model.now self.now }
     {
         for d in 0..closed.model.dimensions.len() {
             if is_stuck(&self.here[d]) {

@@ -70,7 +70,7 @@ best_further-requires-clause-here c =
 pub returns-then-is_stuck : goal.returns-then-is_stuck
 returns-then-is_stuck c =
     deliveries-stuck c.args.begun.now.pair.list.closed.model.now c.args.begun.now.pair.list.vehicle c.args.begun.now.pair.list.nodes.now c.args.begun.now.pair.class c.args.begun.now.pair.pickup c.args.begun.now.pair.delivery c.args.begun.now.s c.args.begun.now.s c.args.best c.leave.new.self c.args.begun.now.pair.list.there c.args.begun.now.pair.may_hold (omega arith) c.args.begun.now.within
-    (subst (λ half. AreReachedAt c.args.begun.now.pair.list.closed.model.now c.args.begun.now.pair.list.vehicle half (c.args.begun.now.s + 1) c.leave.new.self) c.args.begun.now.picked_up c.in_ok-leave.ensures) (c.is_stuck.ensures c.if-is_stuck.true)
+    (subst (λ half. AreReachedAt c.args.begun.now.pair.list.closed.model.now c.args.begun.now.pair.list.vehicle half (c.args.begun.now.s + 1) c.leave.new.self) c.args.begun.now.picked_up c.in_ok-leave.ensures) (c.is_stuck.ensures.no_end c.if-is_stuck.true)
 
 pub returns-then-not-may_improve : goal.returns-then-not-may_improve
 returns-then-not-may_improve c =

@@ -69,7 +69,7 @@ returns-then-is_stuck c =
     let model = c.args.begun.now.pair.list.closed.model.now in
     let list = c.args.begun.now.pair.list.nodes.now in
     deliveries-stuck model c.args.begun.now.pair.list.vehicle list c.args.begun.now.pair.class c.args.begun.now.pair.pickup c.args.begun.now.pair.delivery c.args.begun.now.s c.loop-t.t c.loop-t.best c.loop-t.probes c.args.begun.now.pair.list.there c.args.begun.now.pair.may_hold (omega arith) (omega arith)
-    (subst (λ half. AreReachedAt model c.args.begun.now.pair.list.vehicle half (c.loop-t.t + 1) c.loop-t.probes) c.args.begun.now.picked_up c.loop-t.invariant.reached) (c.is_stuck.ensures c.if-is_stuck.true)
+    (subst (λ half. AreReachedAt model c.args.begun.now.pair.list.vehicle half (c.loop-t.t + 1) c.loop-t.probes) c.args.begun.now.picked_up c.loop-t.invariant.reached) (c.is_stuck.ensures.no_end c.if-is_stuck.true)
     ∙ c.loop-t.invariant.best
 
 pub returns : goal.returns
