@@ -1,16 +1,20 @@
--- A move leaves the lists of vehicles that it does not name, and so their sums.
+-- A move leaves the lists of the other vehicles than its own, and so their sums.
 use Rattle.std.proofs.Common.{◌≡◌, ◌≢◌, ◌∙◌, inl, inr, ℕ, zero, ◌<◌, List, length, length-set, Option, Some, None, refl, sym, subst, arith}
-use Rattle.std.specs.Prelude.{slice_index_or, slice_set}
+use Rattle.std.specs.Prelude.{IsTrue, slice_index_or, slice_set}
 use Rattle.std.proofs.lemmas.Bool.Decides.{eqb_tells}
 use Rattle.std.proofs.lemmas.List.{get_or-set_other, get_or-set_same}
 use Rattle.vr_model.specs.moves.Moves.{apply, with_route}
-use Rattle.vr_model.specs.routes.Routes.{route}
+use Rattle.vr_model.specs.moves.MoveTests.{is_move}
+use Rattle.vr_model.specs.routes.Routes.{are_lists, route}
+use Rattle.vr_model.specs.tables.Tables.{pair_at}
 use Rattle.vr_model.specs.search.GuidedSearches.{Penalties}
 use Rattle.vr_model.specs.declared.neighbours.Move.{Move}
 use Rattle.vr_model.specs.declared.neighbours.Move.TheVariants.{TwoOpt, OrOpt, Relocate, Exchange, Cross, RelocatePair, PairActive, PairInactive, MakeActive, MakeInactive, SwapActive}
 use Rattle.vr_model.specs.declared.records.Model.{Model}
-use Rattle.vr_model.proofs.routes.Lists.{route_set_other}
-use Rattle.vr_guided.specs.Named.{vehicles_of}
+use Rattle.vr_model.proofs.moves.KeptLists.{few}
+use Rattle.vr_model.proofs.routes.Lists.{held_at, route_set_other}
+use Rattle.vr_known.proofs.Local.{others_stay}
+use Rattle.vr_guided.specs.Named.{vehicles_of, AreChanged}
 use Rattle.vr_guided.specs.RouteSums.{AreAllRouteSums, AreRouteSums, IsWritten, no_route_sums}
 use Rattle.vr_guided.specs.declared.route_sums.RouteSums.{RouteSums}
 use Rattle.vr_guided.specs.declared.two_vehicles.TwoVehicles.{TwoVehicles}
@@ -46,6 +50,14 @@ changed_only model lists (SwapActive v a u) = one_set lists v _
 -- a move leaves the lists of vehicles that it does not name
 pub unnamed_kept : (model : Model) (lists : List (List ℕ)) (mv : Move) (both : TwoVehicles) → vehicles_of mv ≡ Some both → SameBut both.v both.w lists (apply model lists mv)
 unnamed_kept model lists mv both e = subst (AreBut lists (apply model lists mv)) e (changed_only model lists mv)
+
+-- a move leaves the lists of vehicles that it does not change
+pub unchanged_kept : (model : Model) (lists : List (List ℕ)) → IsTrue (are_lists model lists) → (mv : Move) → IsTrue (is_move model lists mv) → (both : TwoVehicles) → AreChanged model lists mv (Some both)
+    → SameBut both.v both.w lists (apply model lists mv)
+unchanged_kept model lists are (RelocatePair p w s t) h both told = λ u apart too.
+    let picks = held_at (route lists both.v) (pair_at model p).pickup told.1 told.2.place told.2.found in
+    others_stay model lists (few model lists are) (RelocatePair p w s t) h both.v picks u apart (λ e. too (e ∙ sym told.0))
+unchanged_kept model lists are mv h both told = unnamed_kept model lists mv both (sym told)
 
 module _ (model : Model) (p : Penalties) (lists later : List (List ℕ)) (before : List RouteSums) (are : AreAllRouteSums model p lists before) (many : length later ≡ length model.vehicles) where
   abbrev AreOf : ℕ → RouteSums → Type 0

@@ -1,5 +1,5 @@
--- A move takes no more of the penalised arc costs than the arcs of the vehicles that it names add.
-use Rattle.std.proofs.Common.{◌≡◌, ◌≢◌, ◌∙◌, inl, inr, ℕ, zero, ◌<◌, Bool, true, false, cond, nat_lt, List, length, Option, Some, None, refl, sym, ap, subst, arith}
+-- A move takes no more of the penalised arc costs than the arcs of the vehicles whose lists it changes add.
+use Rattle.std.proofs.Common.{◌≡◌, ◌≢◌, ◌∙◌, inl, inr, ℕ, zero, ◌<◌, true, false, cond, nat_lt, List, length, Option, Some, None, sym, ap, subst, arith}
 use Rattle.std.specs.Prelude.{ℤ, pos, ◌+ℤ◌, ◌-ℤ◌, ◌≤ℤ◌, ◌==◌, IsTrue, IfSome}
 use Rattle.std.proofs.lemmas.Int.{ints}
 use Rattle.std.proofs.lemmas.Bool.Decides.{eqb_tells}
@@ -17,21 +17,21 @@ use Rattle.vr_model.specs.declared.search.Lambda.{Lambda}
 use Rattle.vr_model.proofs.moves.KeptLists.{moves_keep_lists}
 use Rattle.vr_model.proofs.routes.Lists.{are-lists, are_lists-count, route-below}
 use Rattle.vr_routes.specs.Runs.{with_last}
-use Rattle.vr_routes.proofs.FactLemmas.{of_cross, of_exchange, of_make_active, of_make_inactive, of_or_opt, of_pair_active, of_relocate, of_swap_active, of_two_opt}
+use Rattle.vr_routes.proofs.FactLemmas.{of_cross, of_exchange, of_make_active, of_make_inactive, of_or_opt, of_pair_active, of_relocate, of_relocate_pair, of_swap_active, of_two_opt}
 use Rattle.vr_descent.specs.Scanned.{IsEnough, IsPassedOver}
 use Rattle.vr_guided.specs.Counts.{AtMost}
 use Rattle.vr_guided.specs.Guides.{is_gain, makes_less, penalised_change}
-use Rattle.vr_guided.specs.Named.{vehicles_of}
+use Rattle.vr_guided.specs.Named.{vehicles_of, AreChanged}
 use Rattle.vr_guided.specs.Savings.{named_weight}
 use Rattle.vr_guided.specs.Walks.{route_weight}
 use Rattle.vr_guided.specs.declared.two_vehicles.TwoVehicles.{TwoVehicles}
 use Rattle.vr_guided.proofs.BoundLemmas.{route-up_to}
 use Rattle.vr_guided.proofs.GuideLemmas.{none_saved, passed_over}
-use Rattle.vr_guided.proofs.NamedLemmas.{SameBut, same_one, unnamed_kept}
+use Rattle.vr_guided.proofs.NamedLemmas.{SameBut, same_one, unchanged_kept}
 use Rattle.vr_guided.proofs.PartLemmas.{sums}
 use Rattle.vr_guided.proofs.TermLemmas.{term_none, term_there, two_terms}
 
--- ---- the vehicles that a move names
+-- ---- the vehicles whose lists a move changes
 
 -- two vehicles have lists, where there are two
 abbrev HaveLists : List (List ℕ) → Option TwoVehicles → Type 0
@@ -51,9 +51,15 @@ have_lists model lists (MakeActive u w t) h = let f = of_make_active model lists
 have_lists model lists (MakeInactive v a) h = let f = of_make_inactive model lists v a h in (f.vehicle, f.vehicle)
 have_lists model lists (SwapActive v a u) h = let f = of_swap_active model lists v a u h in (f.vehicle, f.vehicle)
 
-pub named_have_lists : (model : Model) (lists : List (List ℕ)) (mv : Move) → IsTrue (is_move model lists mv) → (named : TwoVehicles) → vehicles_of mv ≡ Some named
+named_have_lists : (model : Model) (lists : List (List ℕ)) (mv : Move) → IsTrue (is_move model lists mv) → (named : TwoVehicles) → vehicles_of mv ≡ Some named
     → (named.v < length lists) × (named.w < length lists)
 named_have_lists model lists mv h named e = subst (HaveLists lists) e (have_lists model lists mv h)
+
+pub changed_have_lists : (model : Model) (lists : List (List ℕ)) (mv : Move) → IsTrue (is_move model lists mv) → (both : TwoVehicles) → AreChanged model lists mv (Some both)
+    → (both.v < length lists) × (both.w < length lists)
+changed_have_lists model lists (RelocatePair p w s t) h both told =
+    (told.2.vehicle, subst (λ u. u < length lists) (sym told.0) (of_relocate_pair model lists p w s t h).vehicle)
+changed_have_lists model lists mv h both told = named_have_lists model lists mv h both (sym told)
 
 -- ---- what they add
 
@@ -130,44 +136,44 @@ module _ (model : Model) (well : IsWellFormed model) (p : Penalties) (few : AtMo
     ]
 
   -- a move takes no more than they add
-  pub saved_most : (lists : List (List ℕ)) → IsTrue (is_valid model lists) → (mv : Move) → IsTrue (is_move model lists mv) → (named : TwoVehicles) → vehicles_of mv ≡ Some named
-      → (penalised model p lists -ℤ penalised model p (apply model lists mv)) ≤ℤ named_weight model p lists named
-  saved_most lists valid mv h named e =
+  pub saved_most : (lists : List (List ℕ)) → IsTrue (is_valid model lists) → (mv : Move) → IsTrue (is_move model lists mv) → (both : TwoVehicles) → AreChanged model lists mv (Some both)
+      → (penalised model p lists -ℤ penalised model p (apply model lists mv)) ≤ℤ named_weight model p lists both
+  saved_most lists valid mv h both told =
       let are = are-lists model lists valid in
-      let low = named_have_lists model lists mv h named e in
-      named_most lists (apply model lists mv) are (moves_keep_lists model well lists mv are h) named low.0 low.1 (unnamed_kept model lists mv named e)
+      let low = changed_have_lists model lists mv h both told in
+      named_most lists (apply model lists mv) are (moves_keep_lists model well lists mv are h) both low.0 low.1 (unchanged_kept model lists are mv h both told)
 
   -- so it is not taken where so much is no gain with the least difference that it may make
   pub never_a_gain : (lambda : Lambda) → pos 1 ≤ℤ lambda.p → pos 1 ≤ℤ lambda.q → (lists : List (List ℕ)) → IsTrue (is_valid model lists) → (mv : Move) → IsTrue (is_move model lists mv)
-      → (named : TwoVehicles) → vehicles_of mv ≡ Some named → (saved : ℤ) → named_weight model p lists named ≤ℤ saved
+      → (both : TwoVehicles) → AreChanged model lists mv (Some both) → (saved : ℤ) → named_weight model p lists both ≤ℤ saved
       → (least : ℤ) → is_gain lambda least (pos 0 -ℤ saved) ≡ false → IsPassedOver model (makes_less model lambda p) lists mv least
-  never_a_gain lambda p_some q_some lists valid mv h named e saved most least none after low =
+  never_a_gain lambda p_some q_some lists valid mv h both told saved most least none after low =
       let change = penalised_change model p lists mv in
-      let within = saved_most lists valid mv h named e in
-      let told = no_less (penalised model p lists) (penalised model p (apply model lists mv)) (named_weight model p lists named) saved within most in
-      passed_over model lambda p lists mv least q_some (none_saved lambda least change saved p_some none told) low
+      let within = saved_most lists valid mv h both told in
+      let no_more = no_less (penalised model p lists) (penalised model p (apply model lists mv)) (named_weight model p lists both) saved within most in
+      passed_over model lambda p lists mv least q_some (none_saved lambda least change saved p_some none no_more) low
     where
       no_less : (before after weight saved : ℤ) → (before -ℤ after) ≤ℤ weight → weight ≤ℤ saved → pos 0 ≤ℤ ((after -ℤ before) +ℤ saved)
       no_less before after weight saved within most = omega (arith, ints, within, most)
 
--- moves that differ in their last number name the same vehicles
-same_named : (mv : Move) (k : ℕ) → vehicles_of (with_last mv k) ≡ vehicles_of mv
-same_named (TwoOpt v a b) k = refl
-same_named (OrOpt v a n t) k = refl
-same_named (Relocate v a w t) k = refl
-same_named (Exchange v a w b) k = refl
-same_named (Cross v a w b) k = refl
-same_named (RelocatePair p w s t) k = refl
-same_named (PairActive p w s t) k = refl
-same_named (PairInactive p) k = refl
-same_named (MakeActive u w t) k = refl
-same_named (MakeInactive v a) k = refl
-same_named (SwapActive v a u) k = refl
+-- moves that differ in their last number change the lists of the same vehicles
+same_changed : (model : Model) (lists : List (List ℕ)) (mv : Move) (k : ℕ) (both : TwoVehicles) → AreChanged model lists mv (Some both) → AreChanged model lists (with_last mv k) (Some both)
+same_changed model lists (TwoOpt v a b) k both told = told
+same_changed model lists (OrOpt v a n t) k both told = told
+same_changed model lists (Relocate v a w t) k both told = told
+same_changed model lists (Exchange v a w b) k both told = told
+same_changed model lists (Cross v a w b) k both told = told
+same_changed model lists (RelocatePair p w s t) k both told = told
+same_changed model lists (PairActive p w s t) k both told = told
+same_changed model lists (PairInactive p) k both told = told
+same_changed model lists (MakeActive u w t) k both told = told
+same_changed model lists (MakeInactive v a) k both told = told
+same_changed model lists (SwapActive v a u) k both told = told
 
--- what is no gain with all that the arcs of two vehicles add is enough for the moves that name them
+-- what is no gain with all that the arcs of two vehicles add is enough for the moves that change their lists
 pub enough_for_run : (model : Model) → IsWellFormed model → (p : Penalties) → AtMost 1000000000 p → (lambda : Lambda) → pos 1 ≤ℤ lambda.p → pos 1 ≤ℤ lambda.q
-    → (lists : List (List ℕ)) → IsTrue (is_valid model lists) → (mv : Move) (named : TwoVehicles) → vehicles_of mv ≡ Some named → (saved : ℤ) → named_weight model p lists named ≤ℤ saved
+    → (lists : List (List ℕ)) → IsTrue (is_valid model lists) → (mv : Move) (both : TwoVehicles) → AreChanged model lists mv (Some both) → (saved : ℤ) → named_weight model p lists both ≤ℤ saved
     → (enough : Option ℤ) → IfSome enough (λ e. is_gain lambda e (pos 0 -ℤ saved) ≡ false) → IfSome enough (IsEnough model (makes_less model lambda p) lists mv)
-enough_for_run model well p few lambda p_some q_some lists valid mv named e saved most None none = cc
-enough_for_run model well p few lambda p_some q_some lists valid mv named e saved most (Some enough) none = λ k one.
-    never_a_gain model well p few lambda p_some q_some lists valid (with_last mv k) one named (same_named mv k ∙ e) saved most enough none
+enough_for_run model well p few lambda p_some q_some lists valid mv both told saved most None none = cc
+enough_for_run model well p few lambda p_some q_some lists valid mv both told saved most (Some enough) none = λ k one.
+    never_a_gain model well p few lambda p_some q_some lists valid (with_last mv k) one both (same_changed model lists mv k both told) saved most enough none

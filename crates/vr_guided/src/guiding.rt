@@ -11,7 +11,7 @@ ghost use Rattle.vr_model.specs.tables.WellFormed.{IsWellFormed};
 
 use crate::penalties::Penalties;
 use crate::route_sums::AllRouteSums;
-use crate::two_vehicles::vehicles_of;
+use crate::two_vehicles::vehicles_changed;
 use vr_descent::Accept;
 use vr_model::{Closed, Lambda, Model, Move};
 use vr_routes::{Change, Routes};
@@ -39,35 +39,35 @@ impl<'m> Accept for Guiding<'m> {
 
     #[inline(always)]
     fn may_accept_by_numbers(&self, routes: &Routes, mv: Move, least: i64) -> bool {
-        let Some(named) = vehicles_of(mv) else {
+        let Some(changed) = vehicles_changed(self.model, routes, mv) else {
             return true;
         };
         let saved = self.penalties.saved_by_lists(
             Closed { model: self.model },
             routes,
             self.route_sums,
-            named,
+            changed,
         );
         self.gains(least, -saved)
     }
 
     #[inline]
     fn open_below(&self, routes: &Routes, mv: Move) -> Option<i64> {
-        let Some(named) = vehicles_of(mv) else {
+        let Some(changed) = vehicles_changed(self.model, routes, mv) else {
             return None;
         };
         let vehicles = routes.vehicles();
-        if named.v >= vehicles {
+        if changed.v >= vehicles {
             return None;
         }
-        if named.w >= vehicles {
+        if changed.w >= vehicles {
             return None;
         }
         let saved = self.penalties.saved_by_lists(
             Closed { model: self.model },
             routes,
             self.route_sums,
-            named,
+            changed,
         );
         self.enough_against(saved)
     }

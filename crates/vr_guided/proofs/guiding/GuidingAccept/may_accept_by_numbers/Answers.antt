@@ -1,17 +1,18 @@
-use Rattle.std.proofs.Common.{◌≡◌, ◌∙◌, ap₂, sym, arith, w64, to_z, of_z}
+use Rattle.std.proofs.Common.{◌≡◌, ◌∙◌, ap₂, sym, subst, arith, w64, to_z, of_z}
 use Rattle.std.specs.Int.{w128}
 use Rattle.std.specs.Prelude.{pos, ◌-ℤ◌}
 use Rattle.std.proofs.lemmas.Int.{ints}
 use Rattle.vr_guided.specs.Counts.{counted}
 use Rattle.vr_guided.specs.Guides.{is_gain}
-use Rattle.vr_guided.proofs.SavingLemmas.{named_have_lists, never_a_gain}
+use Rattle.vr_guided.specs.Named.{AreChanged}
+use Rattle.vr_guided.proofs.SavingLemmas.{changed_have_lists, never_a_gain}
 use Rattle.vr_guided.proofs.guiding.GuidingAccept.may_accept_by_numbers.Goals as goal
 
 pub saved_by_lists-saved-requires-clause-v : goal.saved_by_lists-saved-requires-clause-v
-saved_by_lists-saved-requires-clause-v c = (named_have_lists c.args.self.now.model.now c.args.routes.now.lists c.args.mv c.requires.mv c.in-Some.named (sym c.vehicles_of.ensures ∙ c.in-Some.is)).0
+saved_by_lists-saved-requires-clause-v c = (changed_have_lists c.args.self.now.model.now c.args.routes.now.lists c.args.mv c.requires.mv c.in-Some.changed (subst (AreChanged c.args.self.now.model.now c.args.routes.now.lists c.args.mv) c.in-Some.is c.vehicles_changed.ensures)).0
 
 pub saved_by_lists-saved-requires-clause-w : goal.saved_by_lists-saved-requires-clause-w
-saved_by_lists-saved-requires-clause-w c = (named_have_lists c.args.self.now.model.now c.args.routes.now.lists c.args.mv c.requires.mv c.in-Some.named (sym c.vehicles_of.ensures ∙ c.in-Some.is)).1
+saved_by_lists-saved-requires-clause-w c = (changed_have_lists c.args.self.now.model.now c.args.routes.now.lists c.args.mv c.requires.mv c.in-Some.changed (subst (AreChanged c.args.self.now.model.now c.args.routes.now.lists c.args.mv) c.in-Some.is c.vehicles_changed.ensures)).1
 
 pub returns : goal.returns
 returns c = record {
@@ -28,5 +29,5 @@ returns c = record {
       let as_read : to_z w128 (of_z w128 (pos 0 -ℤ to_z w128 (of_z w128 saved))) ≡ pos 0 -ℤ saved = omega (arith, ints, from, to) in
       let none = sym (c.gains.ensures ∙ ap₂ (is_gain at.lambda) same as_read) ∙ none_taken in
       never_a_gain at.model.now c.requires.well_formed p at.sound.few at.lambda at.sound.p_from_one at.sound.q_from_one lists c.requires.valid c.args.mv c.requires.mv
-      c.in-Some.named (sym c.vehicles_of.ensures ∙ c.in-Some.is) saved s.most c.args.least none);
+      c.in-Some.changed (subst (AreChanged c.args.self.now.model.now c.args.routes.now.lists c.args.mv) c.in-Some.is c.vehicles_changed.ensures) saved s.most c.args.least none);
 }
