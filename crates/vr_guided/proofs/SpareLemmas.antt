@@ -18,7 +18,7 @@ use Rattle.vr_model.specs.search.GuidedSearches.{Penalties}
 use Rattle.vr_model.specs.declared.records.Model.{Model}
 use Rattle.vr_model.specs.declared.search.Lambda.{Lambda}
 use Rattle.vr_model.specs.declared.neighbours.Move.{Move}
-use Rattle.vr_model.proofs.tables.Tests.{clash, fails, fails_not, lt_of_test, test_of_lt}
+use Rattle.vr_model.proofs.tables.Tests.{clash, fails, fails_not}
 use Rattle.vr_model.proofs.tables.Totals.{sum_same, total_by-less}
 use Rattle.vr_model.proofs.routes.Lists.{are-lists, are_lists-count, route-visits, route_set_other}
 use Rattle.vr_model.proofs.moves.KeptLists.{as_many, few, moves_keep_lists}
