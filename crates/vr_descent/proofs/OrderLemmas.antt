@@ -1,5 +1,5 @@
 -- Which moves stand in front of a move in the list of all moves.
-use Rattle.std.proofs.Common.{◌≡◌, ◌∙◌, ℕ, zero, suc, ◌+◌, ◌<◌, ◌≤◌, Bool, true, false, cond, List, [], ◌∷◌, ◌++◌, length, map, refl, sym, ap, subst, arith, inl, inr, ◌⊎◌, append_assoc}
+use Rattle.std.proofs.Common.{◌≡◌, ◌≢◌, ◌∙◌, ℕ, zero, suc, ◌+◌, ◌<◌, ◌≤◌, Bool, true, false, cond, List, [], ◌∷◌, ◌++◌, length, map, refl, sym, ap, subst, arith, inl, inr, ◌⊎◌, append_assoc}
 use Rattle.std.specs.Prelude.{IsTrue, ◌-◌, filter, ◌==◌, ◌&&◌, ◌||◌, nat_lt}
 use Rattle.std.specs.List.{range_with_len}
 use Rattle.std.proofs.lemmas.Bool.Decides.{eqb_tells}
@@ -67,15 +67,28 @@ each_filter p f (x ∷ xs) = by (p x) (each_filter p f xs)
     by true same = ap (λ l. f x ++ l) same
     by false same = same
 
--- all moves of a kind that changes activity are one row
-one_row : (mv : Move) → 5 < kind_of mv → first_of mv ≡ 0
-one_row (TwoOpt v a b) high = absurd (omega (arith, high))
-one_row (OrOpt v a k t) high = absurd (omega (arith, high))
-one_row (Relocate v a w t) high = absurd (omega (arith, high))
-one_row (Exchange v a w b) high = absurd (omega (arith, high))
-one_row (Cross v a w b) high = absurd (omega (arith, high))
-one_row (RelocatePair p w s t) high = absurd (omega (arith, high))
-one_row other high = refl
+-- one move for each that passes is those of each, joined
+map_filter : (p : ℕ → Bool) (f : ℕ → Move) (xs : List ℕ) → map f (filter p xs) ≡ each xs (λ v. cond (p v) (f v ∷ []) [])
+map_filter p f [] = refl
+map_filter p f (x ∷ xs) = by (p x) (map_filter p f xs)
+  where
+    by : (b : Bool) → map f (filter p xs) ≡ each xs (λ v. cond (p v) (f v ∷ []) []) → map f (cond b (x ∷ filter p xs) (filter p xs)) ≡ cond b (f x ∷ []) [] ++ each xs (λ v. cond (p v) (f v ∷ []) [])
+    by true same = ap (λ l. f x ∷ l) same
+    by false same = same
+
+-- all moves of a kind that changes activity are one row, but for pairs that are taken out
+one_row : (mv : Move) → 5 < kind_of mv → kind_of mv ≢ 7 → first_of mv ≡ 0
+one_row (TwoOpt v a b) high other = absurd (omega (arith, high))
+one_row (OrOpt v a k t) high other = absurd (omega (arith, high))
+one_row (Relocate v a w t) high other = absurd (omega (arith, high))
+one_row (Exchange v a w b) high other = absurd (omega (arith, high))
+one_row (Cross v a w b) high other = absurd (omega (arith, high))
+one_row (RelocatePair p w s t) high other = absurd (omega (arith, high))
+one_row (PairInactive p) high other = absurd (other refl)
+one_row (PairActive p w s t) high other = refl
+one_row (MakeActive u w t) high other = refl
+one_row (MakeInactive v a) high other = refl
+one_row (SwapActive v a u) high other = refl
 
 -- ---- kinds
 
@@ -232,6 +245,18 @@ module _ (model : Model) (lists : List (List ℕ)) where
       by true there = first_relocate_pair p mv there
       by false there = absurd there
 
+  -- the move that takes a pair out, and none where its nodes do not stand in one list
+  abbrev moves_where_together : ℕ → List Move
+  moves_where_together p = cond (is_pair_together model lists p) (PairInactive p ∷ []) []
+
+  first_together : (p : ℕ) (mv : Move) → In (moves_where_together p) mv → first_of mv ≡ p
+  first_together p mv h = by (is_pair_together model lists p) h
+    where
+      by : (b : Bool) → In (cond b (PairInactive p ∷ []) []) mv → first_of mv ≡ p
+      by true (inl is) = ap first_of is
+      by true (inr none) = absurd none
+      by false there = absurd there
+
   -- in a neighbourhood the moves of a row stand in front of those of the next
   before_kind : (n : Neighbourhood) (ys before : List Move) (mv : Move) (after : List Move) → kind_at n ≡ kind_of mv → moves_in model lists n ++ ys ≡ before ++ mv ∷ after
       → (m : Move) → In (moves_in model lists n) m → first_of m < first_of mv → In before m
@@ -243,11 +268,13 @@ module _ (model : Model) (lists : List (List ℕ)) where
   before_kind all.RelocatePair ys before mv after same e m h low =
       let as_rows = each_filter (is_pair_served model lists) moves_of_pair (pairs model) in
       before_rows moves_where_served first_where 0 (length model.pairs) ys before mv after (ap (λ l. l ++ ys) (sym as_rows) ∙ e) m (subst (λ l. In l m) as_rows h) low
-  before_kind all.PairActive ys before mv after same e m h low = let none = one_row mv (omega (arith, same)) in absurd (omega (arith, none, low))
-  before_kind all.PairInactive ys before mv after same e m h low = let none = one_row mv (omega (arith, same)) in absurd (omega (arith, none, low))
-  before_kind all.MakeActive ys before mv after same e m h low = let none = one_row mv (omega (arith, same)) in absurd (omega (arith, none, low))
-  before_kind all.MakeInactive ys before mv after same e m h low = let none = one_row mv (omega (arith, same)) in absurd (omega (arith, none, low))
-  before_kind all.SwapActive ys before mv after same e m h low = let none = one_row mv (omega (arith, same)) in absurd (omega (arith, none, low))
+  before_kind all.PairActive ys before mv after same e m h low = let none = one_row mv (omega (arith, same)) (λ is. omega (arith, same, is)) in absurd (omega (arith, none, low))
+  before_kind all.PairInactive ys before mv after same e m h low =
+      let as_rows = map_filter (is_pair_together model lists) PairInactive (pairs model) in
+      before_rows moves_where_together first_together 0 (length model.pairs) ys before mv after (ap (λ l. l ++ ys) (sym as_rows) ∙ e) m (subst (λ l. In l m) as_rows h) low
+  before_kind all.MakeActive ys before mv after same e m h low = let none = one_row mv (omega (arith, same)) (λ is. omega (arith, same, is)) in absurd (omega (arith, none, low))
+  before_kind all.MakeInactive ys before mv after same e m h low = let none = one_row mv (omega (arith, same)) (λ is. omega (arith, same, is)) in absurd (omega (arith, none, low))
+  before_kind all.SwapActive ys before mv after same e m h low = let none = one_row mv (omega (arith, same)) (λ is. omega (arith, same, is)) in absurd (omega (arith, none, low))
 
   over_more : (n : Neighbourhood) (ns : List Neighbourhood) → moves_over model (n ∷ ns) lists ≡ moves_in model lists n ++ moves_over model ns lists
   unfolding moves_over

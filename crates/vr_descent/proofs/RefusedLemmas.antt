@@ -3,9 +3,9 @@ use Rattle.std.proofs.Common.{◌≡◌, ◌≢◌, ◌∙◌, ℕ, suc, ◌+◌
 use Rattle.std.specs.Prelude.{All, IsTrue, ℤ, ◌≤ℤ◌, pos, int_lt, nat_lt}
 use Rattle.std.specs.List.{list_all}
 use Rattle.std.proofs.lemmas.List.Elements.{All-head}
-use Rattle.vr_model.specs.deciding.Testing.{and_both, and_left, and_right}
+use Rattle.vr_model.specs.deciding.Testing.{and_left, and_right}
 use Rattle.vr_model.specs.tables.WellFormed.{IsWellFormed}
-use Rattle.vr_model.proofs.tables.Tests.{clash, lt_of_test, test_of_lt}
+use Rattle.vr_model.proofs.tables.Tests.{clash}
 use Rattle.vr_model.specs.moves.Moves.{apply, moves, is_pair_served, without_pair}
 use Rattle.vr_model.specs.tables.Tables.{pair_at}
 use Rattle.vr_model.specs.routes.Routes.{route}
@@ -15,7 +15,6 @@ use Rattle.vr_model.specs.search.Scans.{scan, scan_from}
 use Rattle.vr_model.specs.search.Scans.Scan.{Accepted, Complete, Cut}
 use Rattle.vr_model.specs.declared.records.Model.{Model}
 use Rattle.vr_model.specs.declared.neighbours.Move.{Move}
-use Rattle.std.proofs.lemmas.Bool.{cases_lt}
 use Rattle.std.proofs.lemmas.Int.{ints}
 use Rattle.vr_model.proofs.routes.Lists.{are-lists, are_lists-count}
 use Rattle.vr_model.specs.declared.neighbours.Move.TheVariants.{TwoOpt, OrOpt, Relocate, Exchange, Cross, RelocatePair, PairActive, PairInactive, MakeActive, MakeInactive, SwapActive}
@@ -26,7 +25,7 @@ use Rattle.vr_descent.proofs.EndLemmas.{both}
 use Rattle.vr_routes.specs.Judging.{cost_change}
 use Rattle.vr_descent.specs.Scanned.{is_acceptable, scan_end, taken, takes_less}
 use Rattle.vr_descent.specs.declared.scanning.ScanEnd.TheVariants as ends
-use Rattle.vr_known.specs.Blocks.{Memory, is_known, covers, kind_of, first_of, second_of, is_behind, is_kind_of, is_remembered, rows_of, IsApart, Agree}
+use Rattle.vr_known.specs.Blocks.{Memory, is_known, covers, kind_of, first_of, second_of, is_behind, is_kind_of, rows_of, IsApart, Agree}
 use Rattle.vr_known.specs.Locality.{HasNoGlobalSpans}
 use Rattle.vr_known.proofs.Applied.{first_low}
 use Rattle.vr_known.proofs.Local.{activity_stays, moves_local}
@@ -45,7 +44,7 @@ less_stays model well none lists other mv both = λ i. validity_is_local model w
 
 -- nothing is remembered
 pub nothing_refused : (model : Model) (takes : List (List ℕ) → Move → ℤ → Bool) (lists : List (List ℕ)) (memory : Memory) → ((kind v w : ℕ) → is_known memory kind v w ≡ false) → AreRefused model takes lists memory
-nothing_refused model takes lists memory none mv one covered = absurd (clash (is_known memory (kind_of mv) (first_of mv) (second_of mv)) (and_right (is_remembered (kind_of mv)) _ covered) (none (kind_of mv) (first_of mv) (second_of mv)))
+nothing_refused model takes lists memory none mv one covered = absurd (clash (is_known memory (kind_of mv) (first_of mv) (second_of mv)) covered (none (kind_of mv) (first_of mv) (second_of mv)))
 
 module _ (model : Model) (takes : List (List ℕ) → Move → ℤ → Bool) (lists : List (List ℕ)) where
   -- ---- after a scan
@@ -63,7 +62,10 @@ module _ (model : Model) (takes : List (List ℕ) → Move → ℤ → Bool) (li
       let most : length model.pairs ≤ 500 = well.number_of_pairs in
       omega (arith, low, most)
   row_low well few (PairActive p w s t) one = omega arith
-  row_low well few (PairInactive p) one = omega arith
+  row_low well few (PairInactive p) one =
+      let low = pair_of_test model lists p (and_left (nat_lt p (length model.pairs)) _ one) in
+      let most : length model.pairs ≤ 500 = well.number_of_pairs in
+      omega (arith, low, most)
   row_low well few (MakeActive u w t) one = omega arith
   row_low well few (MakeInactive v a) one = omega arith
   row_low well few (SwapActive v a u) one = omega arith
@@ -73,10 +75,8 @@ module _ (model : Model) (takes : List (List ℕ) → Move → ℤ → Bool) (li
       → ((k u w : ℕ) → u < rows_of k → IsTrue (is_known new k u w) → IsTrue (is_known old k u w) ⊎ IsTrue (is_behind model.search.neighbourhoods k u mv))
       → AreRefused model takes lists old → AreRefused model takes lists new
   noted old new place rest mv well few scanned learned refused m one covered =
-      let kept = and_left (is_remembered (kind_of m)) _ covered in
-      let known = and_right (is_remembered (kind_of m)) _ covered in
-      elim (learned (kind_of m) (first_of m) (second_of m) (row_low well few m one) known) [
-        | inl before ↦ refused m one (and_both (is_remembered (kind_of m)) _ kept before)
+      elim (learned (kind_of m) (first_of m) (second_of m) (row_low well few m one) covered) [
+        | inl before ↦ refused m one before
         | inr behind ↦ (
             let front = in_front (is_acceptable model takes lists) rest 0 (moves model lists) place mv scanned in
             front.none m (stand_before model lists model.search.neighbourhoods front.before mv front.after front.split m one behind))
@@ -87,10 +87,8 @@ module _ (model : Model) (takes : List (List ℕ) → Move → ℤ → Bool) (li
       → ((k u w : ℕ) → u < rows_of k → IsTrue (is_known new k u w) → IsTrue (is_known old k u w) ⊎ IsTrue (is_kind_of model.search.neighbourhoods k))
       → AreRefused model takes lists old → AreRefused model takes lists new
   noted_all old new n rest well few scanned learned refused m one covered =
-      let kept = and_left (is_remembered (kind_of m)) _ covered in
-      let known = and_right (is_remembered (kind_of m)) _ covered in
-      elim (learned (kind_of m) (first_of m) (second_of m) (row_low well few m one) known) [
-        | inl before ↦ refused m one (and_both (is_remembered (kind_of m)) _ kept before)
+      elim (learned (kind_of m) (first_of m) (second_of m) (row_low well few m one) covered) [
+        | inl before ↦ refused m one before
         | inr listed ↦ none_taken (is_acceptable model takes lists) rest 0 (moves model lists) n scanned m (are_listed model lists model.search.neighbourhoods m one listed)
       ]
 
@@ -114,20 +112,18 @@ module _ (model : Model) (takes : List (List ℕ) → Move → ℤ → Bool) (li
         → AreRefused model takes lists old → AreRefused model takes (apply model lists mv) new
     changed old new valid valid_after local fewer apart refused m there covered =
         let after : List (List ℕ) = apply model lists mv in
-        let kept = and_left (is_remembered (kind_of m)) _ covered in
-        let known = and_right (is_remembered (kind_of m)) _ covered in
         let agree = agree_after m (apart m there covered) in
-        let here : IsTrue (is_move model lists m) = moves_local model after lists m there kept agree ∙ there in
-        local (kind_of m) (first_of m) (second_of m) known after lists m (record { valid = valid_after; other_valid = valid; is_one = there; kind = kept; agree = agree })
-        ∙ refused m here (and_both (is_remembered (kind_of m)) _ kept (fewer (kind_of m) (first_of m) (second_of m) known))
+        let here : IsTrue (is_move model lists m) = moves_local model after lists m there agree ∙ there in
+        local (kind_of m) (first_of m) (second_of m) covered after lists m (record { valid = valid_after; other_valid = valid; is_one = there; agree = agree })
+        ∙ refused m here (fewer (kind_of m) (first_of m) (second_of m) covered)
 
 -- ---- what a scan passes over
 
 -- the moves of a block that is remembered
-pub passes_known : (model : Model) (takes : List (List ℕ) → Move → ℤ → Bool) (lists : List (List ℕ)) (rest : ℕ) (memory : Memory) (kind v w : ℕ) → rest ≤ 1000000000 → IsTrue (is_remembered kind)
+pub passes_known : (model : Model) (takes : List (List ℕ) → Move → ℤ → Bool) (lists : List (List ℕ)) (rest : ℕ) (memory : Memory) (kind v w : ℕ) → rest ≤ 1000000000
     → AreRefused model takes lists memory → IsTrue (is_known memory kind v w) → CoversBlock (IsPassed model takes lists rest) kind v w
-passes_known model takes lists rest memory kind v w few kept refused known mv k f s =
-    record { few = few; refused = λ one. refused mv one (covers_known memory kind v w kept known mv k f s) }
+passes_known model takes lists rest memory kind v w few refused known mv k f s =
+    record { few = few; refused = λ one. refused mv one (covers_known memory kind v w known mv k f s) }
 
 -- a difference that is not below 0 makes the cost no less
 pub not_less : (d : ℤ) → pos 0 ≤ℤ d → int_lt d (pos 0) ≡ false

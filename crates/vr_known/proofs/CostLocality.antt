@@ -1,6 +1,6 @@
 -- What a move makes of the cost depends on the lists of its vehicles and on the active visits alone.
-use Rattle.std.proofs.Common.{◌⊎◌, ◌≡◌, ◌∙◌, ℕ, suc, ◌<◌, Bool, cond, List, [], length, sym, ap, inl, inr, arith}
-use Rattle.std.specs.Prelude.{IsTrue, ℤ, pos, ◌-ℤ◌, ◌*ℤ◌, slice_index_or, count_by}
+use Rattle.std.proofs.Common.{◌≡◌, ◌∙◌, ℕ, suc, ◌<◌, Bool, cond, List, [], length, sym, ap, inl, inr, arith}
+use Rattle.std.specs.Prelude.{ℤ, pos, ◌-ℤ◌, ◌*ℤ◌, slice_index_or, count_by}
 use Rattle.std.specs.List.{zip}
 use Rattle.std.proofs.lemmas.Int.{ints}
 use Rattle.std.proofs.lemmas.List.FromFn.{get_or-map-range_with_len}
@@ -9,7 +9,7 @@ use Rattle.vr_model.specs.tables.Tables.{vehicle_at, dimension_at}
 use Rattle.vr_model.specs.routes.Routes.{route, is_active, is_empty, route_cost}
 use Rattle.vr_model.specs.schedules.Lines.{stop_rows}
 use Rattle.vr_model.specs.schedules.Schedules.{Plan, cumul}
-use Rattle.vr_model.specs.routes.Costs.{no_plan, fixed_part, global_part, global_span, penalty_part, penalty_for, soft_part, span_part, row_cost, chosen_plans, assigned, parts_at, sum_of, cost, over_plans}
+use Rattle.vr_model.specs.routes.Costs.{no_plan, fixed_part, global_part, global_span, penalty_for, soft_part, span_part, row_cost, chosen_plans, assigned, parts_at, sum_of, cost, over_plans}
 use Rattle.vr_model.specs.moves.Moves.{apply}
 use Rattle.vr_model.specs.declared.records.Model.{Model}
 use Rattle.vr_model.specs.declared.records.Parts.{Parts}

@@ -1,15 +1,14 @@
 -- What a move does to the list of each vehicle and to the active visits is the same in lists that agree at the move.
-use Rattle.std.proofs.Common.{◌⊎◌, ◌≡◌, ◌≢◌, ◌∙◌, ℕ, suc, ◌<◌, ◌≤◌, Bool, true, false, not, List, [], length, map, refl, sym, ap, subst, inl, inr, arith}
-use Rattle.std.specs.Prelude.{IsTrue, ◌&&◌, ◌==◌, nat_lt, nat_le, insert, remove, slice_set}
-use Rattle.std.specs.List.{list_any}
+use Rattle.std.proofs.Common.{◌⊎◌, ◌≡◌, ◌≢◌, ◌∙◌, ℕ, ◌<◌, ◌≤◌, Bool, true, false, not, List, [], length, map, refl, sym, ap, subst, inl, inr, arith}
+use Rattle.std.specs.Prelude.{IsTrue, ◌&&◌, nat_lt, nat_le, insert, remove, slice_set}
 use Rattle.std.proofs.lemmas.List.{length-map}
 use Rattle.std.proofs.lemmas.List.Folds.{list_any_at}
 use Rattle.vr_model.specs.deciding.Testing.{and_left, and_right, and_both}
 use Rattle.vr_model.specs.tables.Tables.{is_visit, pair_at}
-use Rattle.vr_model.specs.routes.Routes.{route, holds, is_active, are_lists}
+use Rattle.vr_model.specs.routes.Routes.{route, holds, is_active}
 use Rattle.vr_model.specs.routes.Rules.{is_valid}
-use Rattle.vr_model.specs.moves.Moves.{apply, with_route, with_pair, without_pair, comes_before, is_pair_served, is_pair_together, changes_the_list}
-use Rattle.vr_model.specs.moves.MoveTests.{is_move, may_put_pair}
+use Rattle.vr_model.specs.moves.Moves.{apply, with_route, with_pair, without_pair, comes_before, is_pair_served, changes_the_list}
+use Rattle.vr_model.specs.moves.MoveTests.{is_move}
 use Rattle.vr_model.specs.declared.records.Model.{Model}
 use Rattle.vr_model.specs.declared.records.Pair.{Pair}
 use Rattle.vr_model.specs.declared.neighbours.Move.{Move}
@@ -19,11 +18,11 @@ use Rattle.vr_model.proofs.routes.Lists.{are-lists, route_set_same, route_set_ot
 use Rattle.vr_model.proofs.moves.Times.{times, times_in, times_set}
 use Rattle.vr_model.proofs.moves.Kept.{inactive_times}
 use Rattle.vr_model.proofs.moves.KeptLists.{few}
-use Rattle.vr_known.specs.Blocks.{kind_of, first_of, second_of, is_remembered, IsSource, Agree}
+use Rattle.vr_known.specs.Blocks.{kind_of, first_of, second_of, IsSource, Agree}
 use Rattle.vr_known.specs.Locality.{Alike}
-use Rattle.vr_known.proofs.Applied.{same_or_not, NamesSame, stays, alike, set_alike, first_low, named_move_local}
+use Rattle.vr_known.proofs.Applied.{same_or_not, NamesSame, stays, alike, set_alike, named_move_local}
 use Rattle.vr_known.proofs.Activity.{active_same, same_active}
-use Rattle.vr_known.proofs.Pairs.{one_of_lists, comes_held, active_some, route_map, off_the_list, Serves, serves, serves_together, delivers_too, served, target_low, same_active_pair}
+use Rattle.vr_known.proofs.Pairs.{one_of_lists, comes_held, active_some, route_map, off_the_list, Serves, serves, serves_together, delivers_too, served, target_low, same_active_pair, keeps, active_without}
 
 -- something is the same in both and comes to the same, or it stays in both
 abbrev pub ComesToSame : {A : Type 0} → A → A → A → A → Type 0
@@ -181,25 +180,66 @@ module _ (model : Model) (lists other : List (List ℕ)) (p w s t : ℕ) (h : Is
       active = inr (same_active_pair model lists p w s t h, same_active_pair model other p w s t pair_moves);
     }
 
+-- ---- a pair that is taken out
+
+module _ (model : Model) (lists other : List (List ℕ)) (p : ℕ) (h : IsTrue (is_move model lists (PairInactive p))) (agree : Agree model (PairInactive p) lists other) where
+  abbrev out : Pair
+  out = pair_at model p
+
+  out_serves : Serves out lists
+  out_serves = serves_together model lists p (and_right (nat_lt p (length model.pairs)) _ h)
+
+  out_seat : route lists out_serves.vehicle ≡ route other out_serves.vehicle
+  out_seat = agree.source out_serves.vehicle out_serves.picks
+
+  out_moves : is_move model other (PairInactive p) ≡ true
+  out_moves =
+      let low = out_serves.low in
+      let many = agree.many in
+      and_both (nat_lt p (length model.pairs)) _ (and_left (nat_lt p (length model.pairs)) _ h)
+      (list_any_at (λ list. holds list out.pickup && holds list out.delivery) other out_serves.vehicle [] (omega (arith, low, many))
+      (ap (λ list. holds list out.pickup && holds list out.delivery) (sym out_seat) ∙ and_both (holds (route lists out_serves.vehicle) out.pickup) _ out_serves.picks out_serves.delivers))
+
+  module _ (few_here : (x : ℕ) → times_in x lists ≤ 1) (few_there : (x : ℕ) → times_in x other ≤ 1) where
+    out_each : (u : ℕ) → ComesToSame (route lists u) (route other u) (route (map (without_pair out) lists) u) (route (map (without_pair out) other) u)
+    out_each u = elim (same_or_not u out_serves.vehicle) [
+      | inl here ↦ (
+          let same : route lists u ≡ route other u = ap (route lists) here ∙ out_seat ∙ ap (route other) (sym here) in
+          inl (same, route_map (without_pair out) refl lists u ∙ ap (without_pair out) same ∙ sym (route_map (without_pair out) refl other u)))
+      | inr apart ↦ (
+          let picks : IsTrue (holds (route other out_serves.vehicle) out.pickup) = ap (λ l. holds l out.pickup) (sym out_seat) ∙ out_serves.picks in
+          let delivers : IsTrue (holds (route other out_serves.vehicle) out.delivery) = ap (λ l. holds l out.delivery) (sym out_seat) ∙ out_serves.delivers in
+          inr (off_the_list out lists out_serves.vehicle u few_here out_serves.picks out_serves.delivers apart, off_the_list out other out_serves.vehicle u few_there picks delivers apart))
+    ]
+
+    out_local : IsLocal model (PairInactive p) lists other
+    out_local =
+        let same = agree.active (omega arith) in
+        record {
+          many = agree.many;
+          each = out_each;
+          active = inl (same, λ i x. (active_without out lists x ∙ ap (λ f. keeps out x && f x) same ∙ sym (active_without out other x)) i);
+        }
+
 -- ---- all kinds
 
 -- a move of the one is a move of the other
-pub moves_local : (model : Model) (lists other : List (List ℕ)) (mv : Move) → IsTrue (is_move model lists mv) → IsTrue (is_remembered (kind_of mv)) → Agree model mv lists other → is_move model other mv ≡ is_move model lists mv
-moves_local model lists other (RelocatePair p w s t) h kind agree = pair_moves model lists other p w s t h agree ∙ sym h
-moves_local model lists other (PairActive p w s t) h kind agree = let n = sym agree.many in let l = sym agree.second in let f = sym (agree.active (omega arith)) in
+pub moves_local : (model : Model) (lists other : List (List ℕ)) (mv : Move) → IsTrue (is_move model lists mv) → Agree model mv lists other → is_move model other mv ≡ is_move model lists mv
+moves_local model lists other (RelocatePair p w s t) h agree = pair_moves model lists other p w s t h agree ∙ sym h
+moves_local model lists other (PairActive p w s t) h agree = let n = sym agree.many in let l = sym agree.second in let f = sym (agree.active (omega arith)) in
     λ i. (not (f i (pair_at model p).pickup) && not (f i (pair_at model p).delivery)) && (nat_lt p (length model.pairs) && (nat_lt w (n i) && (nat_le s t && nat_le t (length (l i)))))
-moves_local model lists other (PairInactive p) h kind agree = absurd (clash false kind refl)
-moves_local model lists other (MakeActive u w t) h kind agree = let n = sym agree.many in let l = sym agree.second in let f = sym (agree.active (omega arith)) in
+moves_local model lists other (PairInactive p) h agree = out_moves model lists other p h agree ∙ sym h
+moves_local model lists other (MakeActive u w t) h agree = let n = sym agree.many in let l = sym agree.second in let f = sym (agree.active (omega arith)) in
     λ i. (is_visit model u && not (f i u)) && (nat_lt w (n i) && nat_le t (length (l i)))
-moves_local model lists other (MakeInactive v a) h kind agree = let n = sym agree.many in let l = sym agree.second in
+moves_local model lists other (MakeInactive v a) h agree = let n = sym agree.many in let l = sym agree.second in
     λ i. nat_lt v (n i) && nat_lt a (length (l i))
-moves_local model lists other (SwapActive v a u) h kind agree = let n = sym agree.many in let l = sym agree.second in let f = sym (agree.active (omega arith)) in
+moves_local model lists other (SwapActive v a u) h agree = let n = sym agree.many in let l = sym agree.second in let f = sym (agree.active (omega arith)) in
     λ i. nat_lt v (n i) && (nat_lt a (length (l i)) && (is_visit model u && not (f i u)))
-moves_local model lists other (TwoOpt v a b) h kind agree = named_move_local model lists other (TwoOpt v a b) (omega arith) (five_same model (TwoOpt v a b) lists other (omega arith) agree)
-moves_local model lists other (OrOpt v a k t) h kind agree = named_move_local model lists other (OrOpt v a k t) (omega arith) (five_same model (OrOpt v a k t) lists other (omega arith) agree)
-moves_local model lists other (Relocate v a w t) h kind agree = named_move_local model lists other (Relocate v a w t) (omega arith) (five_same model (Relocate v a w t) lists other (omega arith) agree)
-moves_local model lists other (Exchange v a w b) h kind agree = named_move_local model lists other (Exchange v a w b) (omega arith) (five_same model (Exchange v a w b) lists other (omega arith) agree)
-moves_local model lists other (Cross v a w b) h kind agree = named_move_local model lists other (Cross v a w b) (omega arith) (five_same model (Cross v a w b) lists other (omega arith) agree)
+moves_local model lists other (TwoOpt v a b) h agree = named_move_local model lists other (TwoOpt v a b) (omega arith) (five_same model (TwoOpt v a b) lists other (omega arith) agree)
+moves_local model lists other (OrOpt v a k t) h agree = named_move_local model lists other (OrOpt v a k t) (omega arith) (five_same model (OrOpt v a k t) lists other (omega arith) agree)
+moves_local model lists other (Relocate v a w t) h agree = named_move_local model lists other (Relocate v a w t) (omega arith) (five_same model (Relocate v a w t) lists other (omega arith) agree)
+moves_local model lists other (Exchange v a w b) h agree = named_move_local model lists other (Exchange v a w b) (omega arith) (five_same model (Exchange v a w b) lists other (omega arith) agree)
+moves_local model lists other (Cross v a w b) h agree = named_move_local model lists other (Cross v a w b) (omega arith) (five_same model (Cross v a w b) lists other (omega arith) agree)
 
 module _ (model : Model) (lists other : List (List ℕ)) (valid : IsTrue (is_valid model lists)) (other_valid : IsTrue (is_valid model other)) where
   few_in : (x : ℕ) → times_in x lists ≤ 1
@@ -220,25 +260,25 @@ module _ (model : Model) (lists other : List (List ℕ)) (valid : IsTrue (is_val
         active = inl (active, ap is_active made ∙ put_active lists other w list more agree.many low there same few_in few_in_other active ∙ ap is_active (sym made_too));
       }
 
-  local_of : (mv : Move) → IsTrue (is_move model lists mv) → IsTrue (is_remembered (kind_of mv)) → Agree model mv lists other → IsLocal model mv lists other
-  local_of (RelocatePair p w s t) h kind agree = pair_local model lists other p w s t h agree few_in few_in_other
-  local_of (PairActive p w s t) h kind agree =
+  local_of : (mv : Move) → IsTrue (is_move model lists mv) → Agree model mv lists other → IsLocal model mv lists other
+  local_of (RelocatePair p w s t) h agree = pair_local model lists other p w s t h agree few_in few_in_other
+  local_of (PairActive p w s t) h agree =
       one_list (PairActive p w s t) w _ _ refl refl refl (omega arith) (let low : w < length lists = Prim.grind arith in low) (ap (with_pair (pair_at model p) s t) agree.second) agree
-  local_of (PairInactive p) h kind agree = absurd (clash false kind refl)
-  local_of (MakeActive u w t) h kind agree =
+  local_of (PairInactive p) h agree = out_local model lists other p h agree few_in few_in_other
+  local_of (MakeActive u w t) h agree =
       one_list (MakeActive u w t) w _ _ refl refl refl (omega arith) (let low : w < length lists = Prim.grind arith in low) (ap (λ l. insert l t u) agree.second) agree
-  local_of (MakeInactive v a) h kind agree =
+  local_of (MakeInactive v a) h agree =
       one_list (MakeInactive v a) v _ _ refl refl refl (omega arith) (let low : v < length lists = Prim.grind arith in low) (ap (λ l. remove l a) agree.second) agree
-  local_of (SwapActive v a u) h kind agree =
+  local_of (SwapActive v a u) h agree =
       one_list (SwapActive v a u) v _ _ refl refl refl (omega arith) (let low : v < length lists = Prim.grind arith in low) (ap (λ l. slice_set l a u) agree.second) agree
-  local_of (TwoOpt v a b) h kind agree = five_local model (TwoOpt v a b) lists other h (omega arith) (five_same model (TwoOpt v a b) lists other (omega arith) agree)
-  local_of (OrOpt v a k t) h kind agree = five_local model (OrOpt v a k t) lists other h (omega arith) (five_same model (OrOpt v a k t) lists other (omega arith) agree)
-  local_of (Relocate v a w t) h kind agree = five_local model (Relocate v a w t) lists other h (omega arith) (five_same model (Relocate v a w t) lists other (omega arith) agree)
-  local_of (Exchange v a w b) h kind agree = five_local model (Exchange v a w b) lists other h (omega arith) (five_same model (Exchange v a w b) lists other (omega arith) agree)
-  local_of (Cross v a w b) h kind agree = five_local model (Cross v a w b) lists other h (omega arith) (five_same model (Cross v a w b) lists other (omega arith) agree)
+  local_of (TwoOpt v a b) h agree = five_local model (TwoOpt v a b) lists other h (omega arith) (five_same model (TwoOpt v a b) lists other (omega arith) agree)
+  local_of (OrOpt v a k t) h agree = five_local model (OrOpt v a k t) lists other h (omega arith) (five_same model (OrOpt v a k t) lists other (omega arith) agree)
+  local_of (Relocate v a w t) h agree = five_local model (Relocate v a w t) lists other h (omega arith) (five_same model (Relocate v a w t) lists other (omega arith) agree)
+  local_of (Exchange v a w b) h agree = five_local model (Exchange v a w b) lists other h (omega arith) (five_same model (Exchange v a w b) lists other (omega arith) agree)
+  local_of (Cross v a w b) h agree = five_local model (Cross v a w b) lists other h (omega arith) (five_same model (Cross v a w b) lists other (omega arith) agree)
 
 pub is_local : (model : Model) (lists other : List (List ℕ)) (mv : Move) → Alike model mv lists other → IsLocal model mv lists other
-is_local model lists other mv both = local_of model lists other both.valid both.other_valid mv both.is_one both.kind both.agree
+is_local model lists other mv both = local_of model lists other both.valid both.other_valid mv both.is_one both.agree
 
 -- ---- what a move leaves
 

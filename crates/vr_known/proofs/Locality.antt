@@ -1,11 +1,10 @@
 -- Whether a move leaves valid lists depends on the lists of its vehicles and on the active visits alone.
-use Rattle.std.proofs.Common.{◌≡◌, ◌∙◌, ℕ, zero, suc, ◌+◌, ◌<◌, Bool, true, false, List, length, refl, sym, ap, ap₂, inl, inr, arith}
+use Rattle.std.proofs.Common.{◌≡◌, ◌∙◌, ℕ, zero, suc, ◌+◌, ◌<◌, Bool, true, List, length, refl, sym, ap, ap₂, inl, inr, arith}
 use Rattle.std.specs.Prelude.{IsTrue, ◌&&◌, ◌||◌, nat_le, count_by}
 use Rattle.std.specs.List.{list_all, range_with_len}
 use Rattle.vr_model.specs.deciding.Testing.{and_left, and_right, list_all_range}
 use Rattle.vr_model.specs.tables.Numbers.{below}
 use Rattle.vr_model.specs.tables.Tables.{visits}
-use Rattle.vr_model.specs.tables.WellFormed.{IsWellFormed}
 use Rattle.vr_model.specs.routes.Routes.{route, are_lists, is_active}
 use Rattle.vr_model.specs.routes.Rules.{is_route_open, is_open, is_valid, is_grouped, has_enough}
 use Rattle.vr_model.specs.moves.Moves.{apply}
@@ -93,7 +92,7 @@ module _ (model : Model) (lists other : List (List ℕ)) (mv : Move) (both : Ali
 
 pub validity_is_local : ValidityIsLocal
 validity_is_local model well lists other mv both =
-    let h_other : IsTrue (is_move model other mv) = moves_local model lists other mv both.is_one both.kind both.agree ∙ both.is_one in
+    let h_other : IsTrue (is_move model other mv) = moves_local model lists other mv both.is_one both.agree ∙ both.is_one in
     let now : List (List ℕ) = apply model lists mv in
     let then : List (List ℕ) = apply model other mv in
     let here = keeps model lists both.valid in
@@ -108,4 +107,4 @@ validity_is_local model well lists other mv both =
     ∙ sym (valid_is model then)
 
 pub moves_are_local : MovesAreLocal
-moves_are_local model lists other mv h kind agree = moves_local model lists other mv h kind agree
+moves_are_local model lists other mv h agree = moves_local model lists other mv h agree

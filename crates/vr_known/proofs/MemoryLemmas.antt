@@ -5,7 +5,7 @@ use Rattle.std.proofs.Math.ListN.{replicate}
 use Rattle.std.proofs.lemmas.Bool.{cases_lt}
 use Rattle.std.proofs.lemmas.Bool.Decides.{eqb_tells}
 use Rattle.std.proofs.lemmas.List.{get_or-set_same, get_or-set_other, get_or_past}
-use Rattle.vr_model.specs.deciding.Testing.{and_left, and_right, and_both, or_left, or_right, test_of_eq}
+use Rattle.vr_model.specs.deciding.Testing.{and_left, and_right, and_both, eq_of_test, or_cases, or_left, or_right, test_of_eq}
 use Rattle.vr_model.specs.tables.Tables.{pair_at}
 use Rattle.vr_model.specs.routes.Routes.{route, holds, is_active}
 use Rattle.vr_model.specs.moves.Moves.{is_pair_served, without_pair}
@@ -21,7 +21,7 @@ use Rattle.vr_model.proofs.moves.Kept.{pair_of_test}
 use Rattle.vr_routes.specs.Seats.{IsSeat, IsOnce}
 use Rattle.vr_routes.proofs.OnceLemmas.{few_times}
 use Rattle.vr_model.specs.tables.WellFormed.{number_of as kind_at}
-use Rattle.vr_known.specs.Blocks.{Memory, AreSettled, IsApart, IsSource, common_change, covers, seen_at, changed_at, is_known, is_later, is_behind, is_kind_of, is_remembered, rows_of, stamp_of, kind_of, first_of, second_of}
+use Rattle.vr_known.specs.Blocks.{Memory, AreSettled, IsApart, IsSource, common_change, covers, seen_at, changed_at, is_known, is_later, is_behind, is_by_pair, is_kind_of, rows_of, stamp_of, kind_of, first_of, second_of}
 use Rattle.vr_known.proofs.Applied.{same_or_not}
 use Rattle.vr_known.proofs.Pairs.{nowhere_else, some_active}
 
@@ -45,16 +45,20 @@ fails_right false b e = refl
 
 -- ---- rows
 
--- the three ways in which stamps stand
+-- the four ways in which stamps stand
 abbrev Stands : ℕ → ℕ → ℕ → Type 0
-Stands k u s = ((k < 5) × (u < 100) × (s ≡ k * 100 + u)) ⊎ (((k ≡ 5) × (u < 500) × (s ≡ 500 + u)) ⊎ ((5 < k) × (u ≡ 0) × (s ≡ 1000 + k)))
+Stands k u s = ((k < 5) × (u < 100) × (s ≡ k * 100 + u))
+    ⊎ (((k ≡ 5) × (u < 500) × (s ≡ 500 + u)) ⊎ (((k ≡ 7) × (u < 500) × (s ≡ 1000 + u)) ⊎ ((5 < k) × (k ≢ 7) × (u ≡ 0) × (s ≡ 1500 + k))))
 
 stands : (k u : ℕ) → u < rows_of k → Stands k u (stamp_of k u)
 stands k u low = elim (cases_lt k 5) [
   | inl five ↦ inl (five, row_of_five five low, at_five five)
   | inr more ↦ elim (cases_lt k 6) [
     | inl pair ↦ (let is : k ≡ 5 = omega (arith, more, pair) in inr (inl (is, row_of_pair is low, at_pair is)))
-    | inr high ↦ inr (inr (omega (arith, high), row_of_kind high low, at_kind high))
+    | inr high ↦ elim (same_or_not k 7) [
+      | inl out ↦ inr (inr (inl (out, row_of_out out low, at_out out)))
+      | inr other ↦ inr (inr (inr (omega (arith, high), other, row_of_kind high other low, at_kind high other)))
+    ]
   ]
 ]
   where
@@ -70,33 +74,49 @@ stands k u low = elim (cases_lt k 5) [
     at_pair : k ≡ 5 → stamp_of k u ≡ 500 + u
     at_pair is = ap (λ n. stamp_of n u) is
 
-    row_of_kind : 6 ≤ k → u < rows_of k → u ≡ 0
-    row_of_kind high low = Prim.grind arith
+    row_of_out : k ≡ 7 → u < rows_of k → u < 500
+    row_of_out is low = subst (λ n. u < rows_of n) is low
 
-    at_kind : 6 ≤ k → stamp_of k u ≡ 1000 + k
-    at_kind high = Prim.grind arith
+    at_out : k ≡ 7 → stamp_of k u ≡ 1000 + u
+    at_out is = ap (λ n. stamp_of n u) is
+
+    row_of_kind : 6 ≤ k → k ≢ 7 → u < rows_of k → u ≡ 0
+    row_of_kind high other low = Prim.grind arith
+
+    at_kind : 6 ≤ k → k ≢ 7 → stamp_of k u ≡ 1500 + k
+    at_kind high other = Prim.grind arith
 
 -- each row has a stamp of its own
 pub one_stamp : (k u kind row : ℕ) → u < rows_of k → row < rows_of kind → stamp_of k u ≡ stamp_of kind row → (k ≡ kind) × (u ≡ row)
 one_stamp k u kind row low low_row same = by (stands k u low) (stands kind row low_row)
   where
     by : Stands k u (stamp_of k u) → Stands kind row (stamp_of kind row) → (k ≡ kind) × (u ≡ row)
-    by (inl a) (inl b) = let x = a.1 in let y = b.1 in let p = a.2 in let q = b.2 in (omega (arith, same, x, y, p, q), omega (arith, same, x, y, p, q))
-    by (inl a) (inr (inl b)) = let x = a.0 in let y = a.1 in let p = a.2 in let q = b.2 in absurd (omega (arith, same, x, y, p, q))
-    by (inl a) (inr (inr b)) = let x = a.0 in let y = a.1 in let p = a.2 in let q = b.2 in absurd (omega (arith, same, x, y, p, q))
-    by (inr (inl a)) (inl b) = let x = b.0 in let y = b.1 in let p = a.2 in let q = b.2 in absurd (omega (arith, same, x, y, p, q))
-    by (inr (inl a)) (inr (inl b)) = let x = a.0 in let y = b.0 in let p = a.2 in let q = b.2 in (omega (arith, x, y), omega (arith, same, p, q))
-    by (inr (inl a)) (inr (inr b)) = let x = a.1 in let p = a.2 in let q = b.2 in absurd (omega (arith, same, x, p, q))
-    by (inr (inr a)) (inl b) = let x = b.0 in let y = b.1 in let p = a.2 in let q = b.2 in absurd (omega (arith, same, x, y, p, q))
-    by (inr (inr a)) (inr (inl b)) = let x = b.1 in let p = a.2 in let q = b.2 in absurd (omega (arith, same, x, p, q))
-    by (inr (inr a)) (inr (inr b)) = let x = a.1 in let y = b.1 in let p = a.2 in let q = b.2 in (omega (arith, same, p, q), omega (arith, x, y))
+    by (inl a) (inl b) = let x = a.0 in let y = a.1 in let s = a.2 in let z = b.0 in let w = b.1 in let t = b.2 in (omega (arith, same, x, y, s, z, w, t), omega (arith, same, x, y, s, z, w, t))
+    by (inl a) (inr (inl b)) = let x = a.0 in let y = a.1 in let s = a.2 in let z = b.0 in let w = b.1 in let t = b.2 in absurd (omega (arith, same, x, y, s, z, w, t))
+    by (inl a) (inr (inr (inl b))) = let x = a.0 in let y = a.1 in let s = a.2 in let z = b.0 in let w = b.1 in let t = b.2 in absurd (omega (arith, same, x, y, s, z, w, t))
+    by (inl a) (inr (inr (inr b))) = let x = a.0 in let y = a.1 in let s = a.2 in let z = b.0 in let w = b.2 in let t = b.3 in absurd (omega (arith, same, x, y, s, z, w, t))
+    by (inr (inl a)) (inl b) = let x = a.0 in let y = a.1 in let s = a.2 in let z = b.0 in let w = b.1 in let t = b.2 in absurd (omega (arith, same, x, y, s, z, w, t))
+    by (inr (inl a)) (inr (inl b)) = let x = a.0 in let y = a.1 in let s = a.2 in let z = b.0 in let w = b.1 in let t = b.2 in (omega (arith, same, x, y, s, z, w, t), omega (arith, same, x, y, s, z, w, t))
+    by (inr (inl a)) (inr (inr (inl b))) = let x = a.0 in let y = a.1 in let s = a.2 in let z = b.0 in let w = b.1 in let t = b.2 in absurd (omega (arith, same, x, y, s, z, w, t))
+    by (inr (inl a)) (inr (inr (inr b))) = let x = a.0 in let y = a.1 in let s = a.2 in let z = b.0 in let w = b.2 in let t = b.3 in absurd (omega (arith, same, x, y, s, z, w, t))
+    by (inr (inr (inl a))) (inl b) = let x = a.0 in let y = a.1 in let s = a.2 in let z = b.0 in let w = b.1 in let t = b.2 in absurd (omega (arith, same, x, y, s, z, w, t))
+    by (inr (inr (inl a))) (inr (inl b)) = let x = a.0 in let y = a.1 in let s = a.2 in let z = b.0 in let w = b.1 in let t = b.2 in absurd (omega (arith, same, x, y, s, z, w, t))
+    by (inr (inr (inl a))) (inr (inr (inl b))) = let x = a.0 in let y = a.1 in let s = a.2 in let z = b.0 in let w = b.1 in let t = b.2 in (omega (arith, same, x, y, s, z, w, t), omega (arith, same, x, y, s, z, w, t))
+    by (inr (inr (inl a))) (inr (inr (inr b))) = let x = a.0 in let y = a.1 in let s = a.2 in let z = b.0 in let w = b.2 in let t = b.3 in absurd (omega (arith, same, x, y, s, z, w, t))
+    by (inr (inr (inr a))) (inl b) = let x = a.0 in let y = a.2 in let s = a.3 in let z = b.0 in let w = b.1 in let t = b.2 in absurd (omega (arith, same, x, y, s, z, w, t))
+    by (inr (inr (inr a))) (inr (inl b)) = let x = a.0 in let y = a.2 in let s = a.3 in let z = b.0 in let w = b.1 in let t = b.2 in absurd (omega (arith, same, x, y, s, z, w, t))
+    by (inr (inr (inr a))) (inr (inr (inl b))) = let x = a.0 in let y = a.2 in let s = a.3 in let z = b.0 in let w = b.1 in let t = b.2 in absurd (omega (arith, same, x, y, s, z, w, t))
+    by (inr (inr (inr a))) (inr (inr (inr b))) = let x = a.0 in let y = a.2 in let s = a.3 in let z = b.0 in let w = b.2 in let t = b.3 in (omega (arith, same, x, y, s, z, w, t), omega (arith, same, x, y, s, z, w, t))
 
-pub stamp_within : (kind row : ℕ) → kind < 11 → row < rows_of kind → stamp_of kind row < 1011
+pub stamp_within : (kind row : ℕ) → kind < 11 → row < rows_of kind → stamp_of kind row < 1511
 stamp_within kind row few low = elim (stands kind row low) [
   | inl a ↦ (let x = a.0 in let y = a.1 in let e = a.2 in omega (arith, x, y, e))
   | inr more ↦ elim more [
     | inl a ↦ (let x = a.1 in let e = a.2 in omega (arith, x, e))
-    | inr a ↦ (let e = a.2 in omega (arith, few, e))
+    | inr most ↦ elim most [
+      | inl a ↦ (let x = a.1 in let e = a.2 in omega (arith, x, e))
+      | inr a ↦ (let e = a.3 in omega (arith, few, e))
+    ]
   ]
 ]
 
@@ -322,7 +342,14 @@ module _ (lists : List (List ℕ)) where
 pub record SettledSoFar (model : Model) (lists : List (List ℕ)) (begin now : Memory) (n : ℕ) : Type 0 where
   pub fewer : (k u w : ℕ) → IsTrue (is_known now k u w) → IsTrue (is_known begin k u w)
   pub earlier : (k u w : ℕ) → IsTrue (is_later now k u w) → IsTrue (is_later begin k u w)
-  pub settled : (p w v : ℕ) → p < n → IsTrue (is_known now 5 p w) → IsTrue (holds (route lists v) (pair_at model p).pickup) → IsTrue (is_later now 5 p v)
+  pub settled : (kind p w v : ℕ) → IsTrue (is_by_pair kind) → p < n → IsTrue (is_known now kind p w) → IsTrue (holds (route lists v) (pair_at model p).pickup) → IsTrue (is_later now kind p v)
+
+-- the row of a pair and a kind is forgotten where the list of a vehicle has changed since
+pub record SettlesRow (now next : Memory) (kind n at : ℕ) : Type 0 where
+  pub fewer : (k u w : ℕ) → IsTrue (is_known next k u w) → IsTrue (is_known now k u w)
+  pub earlier : (k u w : ℕ) → IsTrue (is_later next k u w) → IsTrue (is_later now k u w)
+  pub keeps : (k u w v : ℕ) → IsTrue (is_known next k u w) → IsTrue (is_later now k u v) → IsTrue (is_later next k u v)
+  pub settled : (w : ℕ) → IsTrue (is_known next kind n w) → IsTrue (is_later next kind n at)
 
 module _ (model : Model) (lists : List (List ℕ)) (begin now : Memory) (n : ℕ) (so : SettledSoFar model lists begin now n) where
   -- a pair that no vehicle serves
@@ -330,29 +357,40 @@ module _ (model : Model) (lists : List (List ℕ)) (begin now : Memory) (n : ℕ
   settles_none none = record {
     fewer = so.fewer;
     earlier = so.earlier;
-    settled = λ p w v low known h. elim (cases_lt p n) [
-      | inl before ↦ so.settled p w v before known h
+    settled = λ kind p w v paired low known h. elim (cases_lt p n) [
+      | inl before ↦ so.settled kind p w v paired before known h
       | inr here ↦ absurd (nowhere_held lists (pair_at model n).pickup v none (subst (λ q. IsTrue (holds (route lists v) (pair_at model q).pickup)) (let e : p ≡ n = omega (arith, low, here) in e) h))
     ];
   }
 
-  pub settles_one : (next : Memory) (at k : ℕ) → IsOnce lists → IsSeat lists (pair_at model n).pickup at k
-      → ((k u w : ℕ) → IsTrue (is_known next k u w) → IsTrue (is_known now k u w))
-      → ((k u w : ℕ) → IsTrue (is_later next k u w) → IsTrue (is_later now k u w))
-      → ((k u w v : ℕ) → IsTrue (is_known next k u w) → IsTrue (is_later now k u v) → IsTrue (is_later next k u v))
-      → ((w : ℕ) → IsTrue (is_known next 5 n w) → IsTrue (is_later next 5 n at))
-      → SettledSoFar model lists begin next (n + 1)
-  settles_one next at k once seat fewer earlier keeps one = record {
-    fewer = λ k u w h. so.fewer k u w (fewer k u w h);
-    earlier = λ k u w h. so.earlier k u w (earlier k u w h);
-    settled = λ p w v low known h. elim (cases_lt p n) [
-      | inl before ↦ keeps 5 p w v known (so.settled p w v before (fewer 5 p w known) h)
+  -- a pair whose rows of both kinds are settled one after the other
+  pub settles_one : (mid next : Memory) (at k : ℕ) → IsOnce lists → IsSeat lists (pair_at model n).pickup at k
+      → SettlesRow now mid 5 n at → SettlesRow mid next 7 n at → SettledSoFar model lists begin next (n + 1)
+  settles_one mid next at k once seat five seven = record {
+    fewer = λ j u w h. so.fewer j u w (five.fewer j u w (seven.fewer j u w h));
+    earlier = λ j u w h. so.earlier j u w (five.earlier j u w (seven.earlier j u w h));
+    settled = λ kind p w v paired low known h. elim (cases_lt p n) [
+      | inl before ↦ (
+          let before_seven = seven.fewer kind p w known in
+          seven.keeps kind p w v known (five.keeps kind p w v before_seven (so.settled kind p w v paired before (five.fewer kind p w before_seven) h)))
       | inr here ↦ (
           let same : p ≡ n = omega (arith, low, here) in
           let is : v ≡ at = held_once lists once (pair_at model n).pickup at k v seat (subst (λ q. IsTrue (holds (route lists v) (pair_at model q).pickup)) same h) in
-          subst (λ q. IsTrue (is_later next 5 q v)) (sym same) (subst (λ x. IsTrue (is_later next 5 n x)) (sym is) (one w (subst (λ q. IsTrue (is_known next 5 q w)) same known))))
+          subst (λ q. IsTrue (is_later next kind q v)) (sym same)
+          (subst (λ x. IsTrue (is_later next kind n x)) (sym is) (here_settled kind w paired (subst (λ q. IsTrue (is_known next kind q w)) same known))))
     ];
   }
+    where
+      here_settled : (kind w : ℕ) → IsTrue (is_by_pair kind) → IsTrue (is_known next kind n w) → IsTrue (is_later next kind n at)
+      here_settled kind w paired known = elim (or_cases (kind == 5) _ paired) [
+        | inl is ↦ (
+            let e : kind ≡ 5 = eq_of_test kind 5 is in
+            let there : IsTrue (is_known next 5 n w) = subst (λ j. IsTrue (is_known next j n w)) e known in
+            subst (λ j. IsTrue (is_later next j n at)) (sym e) (seven.keeps 5 n w at there (five.settled w (seven.fewer 5 n w there))))
+        | inr is ↦ (
+            let e : kind ≡ 7 = eq_of_test kind 7 is in
+            subst (λ j. IsTrue (is_later next j n at)) (sym e) (seven.settled w (subst (λ j. IsTrue (is_known next j n w)) e known)))
+      ]
 
 -- ---- moves that are known still after another was made
 
@@ -367,24 +405,24 @@ module _ (model : Model) (lists : List (List ℕ)) (memory : Memory) (settled : 
   later_second : (k w : ℕ) → IsTrue (is_known memory k 0 w) → (v : ℕ) → v ≡ w → IsTrue (is_later memory k 0 v)
   later_second k w known v is = subst (λ x. IsTrue (is_later memory k 0 x)) (sym is) (later_known memory k 0 w known)
 
-  pub later_source : (m : Move) → IsTrue (is_move model lists m) → IsTrue (is_remembered (kind_of m)) → IsTrue (is_known memory (kind_of m) (first_of m) (second_of m))
+  pub later_source : (m : Move) → IsTrue (is_move model lists m) → IsTrue (is_known memory (kind_of m) (first_of m) (second_of m))
       → (v : ℕ) → IsSource model lists m v → IsTrue (is_later memory (kind_of m) (first_of m) v)
-  later_source (TwoOpt x a b) one kept known v is = later_first 0 x x (omega arith) known v is
-  later_source (OrOpt x a k t) one kept known v is = later_first 1 x x (omega arith) known v is
-  later_source (Relocate x a w t) one kept known v is = later_first 2 x w (omega arith) known v is
-  later_source (Exchange x a w b) one kept known v is = later_first 3 x w (omega arith) known v is
-  later_source (Cross x a w b) one kept known v is = later_first 4 x w (omega arith) known v is
-  later_source (RelocatePair p w s t) one kept known v is = settled p w v (pair_low one) known is
+  later_source (TwoOpt x a b) one known v is = later_first 0 x x (omega arith) known v is
+  later_source (OrOpt x a k t) one known v is = later_first 1 x x (omega arith) known v is
+  later_source (Relocate x a w t) one known v is = later_first 2 x w (omega arith) known v is
+  later_source (Exchange x a w b) one known v is = later_first 3 x w (omega arith) known v is
+  later_source (Cross x a w b) one known v is = later_first 4 x w (omega arith) known v is
+  later_source (RelocatePair p w s t) one known v is = settled 5 p w v refl (pair_low one) known is
     where
       pair_low : IsTrue (is_move model lists (RelocatePair p w s t)) → p < length model.pairs
       pair_low one =
           let others = and_right (is_pair_served model lists p) _ one in
           pair_of_test model lists p (and_left (nat_lt p (length model.pairs)) _ (and_left (may_put_pair model lists p w (length (without_pair (pair_at model p) (route lists w))) s t) _ others))
-  later_source (PairActive p w s t) one kept known v is = later_second 6 w known v is
-  later_source (PairInactive p) one kept known v is = absurd (clash false kept refl)
-  later_source (MakeActive u w t) one kept known v is = later_second 8 w known v is
-  later_source (MakeInactive x a) one kept known v is = later_second 9 x known v is
-  later_source (SwapActive x a u) one kept known v is = later_second 10 x known v is
+  later_source (PairActive p w s t) one known v is = later_second 6 w known v is
+  later_source (PairInactive p) one known v is = settled 7 p 0 v refl (pair_of_test model lists p (and_left (nat_lt p (length model.pairs)) _ one)) known is
+  later_source (MakeActive u w t) one known v is = later_second 8 w known v is
+  later_source (MakeInactive x a) one known v is = later_second 9 x known v is
+  later_source (SwapActive x a u) one known v is = later_second 10 x known v is
 
 module _ (model : Model) (lists : List (List ℕ)) (made : Move) (first second : ℕ) (mid memory : Memory)
     (no_first : (k u : ℕ) → is_later mid k u first ≡ false) (no_second : (k u : ℕ) → is_later mid k u second ≡ false)
@@ -400,19 +438,17 @@ module _ (model : Model) (lists : List (List ℕ)) (made : Move) (first second :
 
   pub are_apart : (m : Move) → IsTrue (is_move model lists m) → IsTrue (covers memory m) → IsApart model lists made first second m
   are_apart m one covered =
-      let kept = and_left (is_remembered (kind_of m)) _ covered in
-      let known = and_right (is_remembered (kind_of m)) _ covered in
       record {
-        source = λ v is. off (kind_of m) (first_of m) v (later_source model lists memory settled m one kept known v is);
-        target = off (kind_of m) (first_of m) (second_of m) (later_known memory (kind_of m) (first_of m) (second_of m) known);
-        active = λ high. activity (kind_of m) (first_of m) (second_of m) high (fewer (kind_of m) (first_of m) (second_of m) known);
+        source = λ v is. off (kind_of m) (first_of m) v (later_source model lists memory settled m one covered v is);
+        target = off (kind_of m) (first_of m) (second_of m) (later_known memory (kind_of m) (first_of m) (second_of m) covered);
+        active = λ high. activity (kind_of m) (first_of m) (second_of m) high (fewer (kind_of m) (first_of m) (second_of m) covered);
       }
 
 -- where nothing is known, that holds of all
 pub none_apart : (model : Model) (lists : List (List ℕ)) (made : Move) (first second : ℕ) (memory : Memory) → length memory.seen ≡ 0
     → (m : Move) → IsTrue (is_move model lists m) → IsTrue (covers memory m) → IsApart model lists made first second m
 none_apart model lists made first second memory e m one covered =
-    absurd (clash (is_known memory (kind_of m) (first_of m) (second_of m)) (and_right (is_remembered (kind_of m)) _ covered) (knows_none memory e (kind_of m) (first_of m) (second_of m)))
+    absurd (clash (is_known memory (kind_of m) (first_of m) (second_of m)) covered (knows_none memory e (kind_of m) (first_of m) (second_of m)))
 
 pub none_settled : (model : Model) (lists : List (List ℕ)) (memory : Memory) → length memory.seen ≡ 0 → AreSettled model lists memory
-none_settled model lists memory e p w v low known h = absurd (clash (is_known memory 5 p w) known (knows_none memory e 5 p w))
+none_settled model lists memory e kind p w v paired low known h = absurd (clash (is_known memory kind p w) known (knows_none memory e kind p w))

@@ -1,5 +1,5 @@
 -- A pair that is put elsewhere: the same visits are active, and lists that do not hold it stay.
-use Rattle.std.proofs.Common.{◌⊎◌, ◌≡◌, ◌≢◌, ◌∙◌, ℕ, zero, suc, ◌+◌, ◌<◌, ◌≤◌, Bool, true, false, not, cond, List, [], ◌∷◌, length, map, refl, sym, ap, subst, inl, inr, arith}
+use Rattle.std.proofs.Common.{◌≡◌, ◌≢◌, ◌∙◌, ℕ, zero, suc, ◌+◌, ◌<◌, ◌≤◌, Bool, true, false, not, cond, List, [], ◌∷◌, length, map, refl, sym, ap, ap₂, subst, inl, inr, arith}
 use Rattle.std.specs.Prelude.{IsTrue, ◌&&◌, ◌||◌, ◌==◌, nat_lt, nat_le, filter}
 use Rattle.std.specs.List.{list_any, concat}
 use Rattle.std.proofs.lemmas.Bool.{cases_lt}
@@ -9,7 +9,7 @@ use Rattle.std.proofs.lemmas.List.Folds.{list_any_at}
 use Rattle.vr_model.specs.deciding.Testing.{and_left, and_right, or_cases, or_left, or_right, eq_of_test, test_of_eq}
 use Rattle.vr_model.specs.tables.Tables.{pair_at}
 use Rattle.vr_model.specs.routes.Routes.{route, holds, is_active}
-use Rattle.vr_model.specs.moves.Moves.{apply, comes_before, with_pair, without_pair, is_pair_served, is_pair_together, changes_the_list}
+use Rattle.vr_model.specs.moves.Moves.{apply, comes_before, with_pair, without_pair, is_pair_served, is_pair_together}
 use Rattle.vr_model.specs.moves.MoveTests.{is_vehicle, may_put_pair, is_move}
 use Rattle.vr_model.specs.declared.records.Model.{Model}
 use Rattle.vr_model.specs.declared.records.Pair.{Pair}
@@ -62,7 +62,7 @@ route_map f none (l ∷ ls) zero = refl
 route_map f none (l ∷ ls) (suc u) = route_map f none ls u
 
 module _ (pair : Pair) where
-  abbrev keeps : ℕ → Bool
+  abbrev pub keeps : ℕ → Bool
   keeps node = not ((node == pair.pickup) || (node == pair.delivery))
 
   one_kept : (x : ℕ) (xs : List ℕ) → keeps x ≡ true → times x (without_pair pair xs) ≡ times x xs
@@ -85,6 +85,51 @@ module _ (pair : Pair) where
 
   some_hit : (x : ℕ) → keeps x ≡ false → 1 ≤ hit x pair.pickup + hit x pair.delivery
   some_hit x out = Prim.grind arith
+
+  -- what a list holds without the pair
+  holds_without : (xs : List ℕ) (x : ℕ) → holds (without_pair pair xs) x ≡ (keeps x && holds xs x)
+  holds_without [] x = sym (no_more (keeps x))
+    where
+      no_more : (b : Bool) → (b && false) ≡ false
+      no_more true = refl
+      no_more false = refl
+  holds_without (y ∷ ys) x = by (keeps y) refl (holds_without ys x)
+    where
+      kept_one : keeps y ≡ true → holds (filter keeps ys) x ≡ (keeps x && holds ys x) → ((x == y) || holds (filter keeps ys) x) ≡ (keeps x && ((x == y) || holds ys x))
+      kept_one kept rest = elim (eqb_tells x y) [
+        | inl same ↦ (
+            let is : (x == y) ≡ true = test_of_eq x y same.1 in
+            let here : keeps x ≡ true = ap keeps same.1 ∙ kept in
+            ap (λ b. b || holds (filter keeps ys) x) is ∙ sym (ap (λ b. b && ((x == y) || holds ys x)) here ∙ ap (λ b. b || holds ys x) is))
+        | inr apart ↦ ap (λ b. b || holds (filter keeps ys) x) apart.0 ∙ rest ∙ ap (λ b. keeps x && (b || holds ys x)) (sym apart.0)
+      ]
+
+      gone_one : keeps y ≡ false → holds (filter keeps ys) x ≡ (keeps x && holds ys x) → holds (filter keeps ys) x ≡ (keeps x && ((x == y) || holds ys x))
+      gone_one out rest = elim (eqb_tells x y) [
+        | inl same ↦ (
+            let gone : keeps x ≡ false = ap keeps same.1 ∙ out in
+            rest ∙ ap (λ b. b && holds ys x) gone ∙ sym (ap (λ b. b && ((x == y) || holds ys x)) gone))
+        | inr apart ↦ rest ∙ ap (λ b. keeps x && (b || holds ys x)) (sym apart.0)
+      ]
+
+      by : (t : Bool) → keeps y ≡ t → holds (filter keeps ys) x ≡ (keeps x && holds ys x)
+          → holds (cond t (y ∷ filter keeps ys) (filter keeps ys)) x ≡ (keeps x && ((x == y) || holds ys x))
+      by true e rest = kept_one e rest
+      by false e rest = gone_one e rest
+
+  -- which visits are active without the pair
+  pub active_without : (lists : List (List ℕ)) (x : ℕ) → is_active (map (without_pair pair) lists) x ≡ (keeps x && is_active lists x)
+  active_without [] x = sym (no_more (keeps x))
+    where
+      no_more : (b : Bool) → (b && false) ≡ false
+      no_more true = refl
+      no_more false = refl
+  active_without (l ∷ ls) x =
+      ap₂ (λ a b. a || b) (holds_without l x) (active_without ls x) ∙ both (keeps x) (holds l x) (is_active ls x)
+    where
+      both : (k a b : Bool) → ((k && a) || (k && b)) ≡ (k && (a || b))
+      both true a b = refl
+      both false a b = refl
 
   -- a list that does not hold the nodes of a pair, which stand in another
   pub off_the_list : (lists : List (List ℕ)) (v u : ℕ) → ((x : ℕ) → times_in x lists ≤ 1) → IsTrue (holds (route lists v) pair.pickup) → IsTrue (holds (route lists v) pair.delivery)

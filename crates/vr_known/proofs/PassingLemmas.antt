@@ -1,16 +1,14 @@
 -- Moves that are passed over one after the other.
-use Rattle.std.proofs.Common.{◌≡◌, ◌∙◌, ℕ, zero, suc, ◌+◌, ◌-◌, ◌<◌, ◌≤◌, ◌^◌, Bool, true, List, [], ◌∷◌, ◌++◌, length, map, refl, sym, ap, subst, false, arith, nat_lt, append_assoc, length-append, ◌&&◌, cond}
+use Rattle.std.proofs.Common.{◌≡◌, ◌∙◌, ℕ, zero, suc, ◌+◌, ◌-◌, ◌<◌, ◌≤◌, ◌^◌, Bool, true, List, [], ◌∷◌, ◌++◌, length, map, refl, sym, ap, subst, false, arith, append_assoc, length-append, cond}
 use Rattle.std.specs.Prelude.{min, Option, Some, None, IfSome, All, IsTrue, filter}
 use Rattle.std.specs.List.{range_with_len}
 use Rattle.std.proofs.lemmas.List.{append-nil, length-map, map-append}
 use Rattle.std.proofs.lemmas.List.Elements.{All-append, All-cons, All-head, All-nil, filter-append}
 use Rattle.vr_model.proofs.tables.Tests.{clash}
-use Rattle.vr_model.specs.deciding.Testing.{and_both, and_right}
-use Rattle.vr_model.proofs.tables.Tests.{test_of_lt}
 use Rattle.vr_model.specs.tables.Numbers.{from_to}
 use Rattle.vr_model.specs.declared.neighbours.Move.{Move}
 use Rattle.vr_known.proofs.NestLemmas.{range_split}
-use Rattle.vr_known.specs.Blocks.{Memory, covers, is_known, is_remembered, kind_of, first_of, second_of}
+use Rattle.vr_known.specs.Blocks.{Memory, covers, is_known, kind_of, first_of, second_of}
 use Rattle.vr_known.specs.Nests.{run_of}
 use Rattle.vr_known.specs.Passing.{capped, ArePassed, CoversBlock, Passes, IsFirst, Takes}
 
@@ -111,13 +109,12 @@ takes_unknown covers none old left count counted result t =
 
 -- nothing is covered where nothing is known
 pub covers_none : (memory : Memory) → ((kind v w : ℕ) → is_known memory kind v w ≡ false) → (mv : Move) → IsTrue (covers memory mv) → ⊥
-covers_none memory none mv covered = clash (is_known memory (kind_of mv) (first_of mv) (second_of mv)) (and_right (is_remembered (kind_of mv)) _ covered) (none (kind_of mv) (first_of mv) (second_of mv))
+covers_none memory none mv covered = clash (is_known memory (kind_of mv) (first_of mv) (second_of mv)) covered (none (kind_of mv) (first_of mv) (second_of mv))
 
 -- the moves of a block that is known are covered
-pub covers_known : (memory : Memory) (kind v w : ℕ) → IsTrue (is_remembered kind) → IsTrue (is_known memory kind v w) → CoversBlock (λ mv. IsTrue (covers memory mv)) kind v w
-covers_known memory kind v w kept known mv k f s =
-    and_both (is_remembered (kind_of mv)) _ (subst (λ n. IsTrue (is_remembered n)) (sym k) kept)
-    (subst (λ n. IsTrue (is_known memory n (first_of mv) (second_of mv))) (sym k) (subst (λ n. IsTrue (is_known memory kind n (second_of mv))) (sym f) (subst (λ n. IsTrue (is_known memory kind v n)) (sym s) known)))
+pub covers_known : (memory : Memory) (kind v w : ℕ) → IsTrue (is_known memory kind v w) → CoversBlock (λ mv. IsTrue (covers memory mv)) kind v w
+covers_known memory kind v w known mv k f s =
+    subst (λ n. IsTrue (is_known memory n (first_of mv) (second_of mv))) (sym k) (subst (λ n. IsTrue (is_known memory kind n (second_of mv))) (sym f) (subst (λ n. IsTrue (is_known memory kind v n)) (sym s) known))
 
 -- a property of all that f gives
 pub all_given : {A B : Type 0} (P : B → Type 0) (f : A → B) (xs : List A) → ((x : A) → P (f x)) → All P (map f xs)

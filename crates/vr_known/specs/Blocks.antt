@@ -1,5 +1,5 @@
 -- Blocks of moves: those of one kind that name the same vehicles. What is known of blocks.
-use Rattle.std.specs.Prelude.{◌≡◌, ◌≢◌, ℕ, ◌+◌, ◌*◌, ◌<◌, Bool, false, not, ◌&&◌, ◌||◌, ◌==◌, cond, nat_lt}
+use Rattle.std.specs.Prelude.{◌≡◌, ◌≢◌, ℕ, ◌+◌, ◌*◌, ◌<◌, Bool, false, ◌&&◌, ◌||◌, ◌==◌, cond, nat_lt}
 use Rattle.std.specs.Prelude.{List, [], ◌∷◌, slice_index_or, length, Option, Some, None, IsTrue}
 use Rattle.vr_model.specs.routes.Routes.{route, holds, is_active}
 use Rattle.vr_model.specs.tables.Tables.{pair_at}
@@ -26,8 +26,8 @@ kind_of (MakeActive u w t) = 8
 kind_of (MakeInactive v a) = 9
 kind_of (SwapActive v a u) = 10
 
--- the row of a move among those of its kind: of a kind below 5 the first vehicle that it names, of relocate_pair the
--- pair; all moves of any other kind are one row
+-- the row of a move among those of its kind: of a kind below 5 the first vehicle that it names, of relocate_pair and of
+-- pair_inactive the pair; all moves of any other kind are one row
 abbrev pub first_of : Move → ℕ
 first_of (TwoOpt v a b) = v
 first_of (OrOpt v a k t) = v
@@ -36,7 +36,7 @@ first_of (Exchange v a w b) = v
 first_of (Cross v a w b) = v
 first_of (RelocatePair p w s t) = p
 first_of (PairActive p w s t) = 0
-first_of (PairInactive p) = 0
+first_of (PairInactive p) = p
 first_of (MakeActive u w t) = 0
 first_of (MakeInactive v a) = 0
 first_of (SwapActive v a u) = 0
@@ -55,13 +55,13 @@ second_of (MakeActive u w t) = w
 second_of (MakeInactive v a) = v
 second_of (SwapActive v a u) = v
 
+-- the rows of a kind are pairs that are served: those of relocate_pair and of pair_inactive
+abbrev pub is_by_pair : ℕ → Bool
+is_by_pair kind = (kind == 5) || (kind == 7)
+
 -- how many rows a kind has at most
 abbrev pub rows_of : ℕ → ℕ
-rows_of kind = cond (nat_lt kind 5) 100 (cond (nat_lt kind 6) 500 1)
-
--- moves of a kind are remembered: all but those that take a pair out, of which there are as many as pairs at most
-abbrev pub is_remembered : ℕ → Bool
-is_remembered kind = not (kind == 7)
+rows_of kind = cond (nat_lt kind 5) 100 (cond (is_by_pair kind) 500 1)
 
 -- a vehicle whose list a move changes, and which is not its second one: the vehicle that serves the pair of
 -- relocate_pair and of pair_inactive, the first one of the others
@@ -101,7 +101,7 @@ memory_of (Some memory) = memory
 
 -- where the stamp of a row of a kind stands
 abbrev pub stamp_of : ℕ → ℕ → ℕ
-stamp_of kind row = cond (nat_lt kind 6) (kind * 100 + row) (1000 + kind)
+stamp_of kind row = cond (nat_lt kind 6) (kind * 100 + row) (cond (kind == 7) (1000 + row) (1500 + kind))
 
 -- when the moves of a row were last found not to be acceptable
 abbrev pub seen_at : Memory → ℕ → ℕ → ℕ
@@ -127,12 +127,13 @@ is_known memory kind row w =
 
 -- the block of a move is known
 abbrev pub covers : Memory → Move → Bool
-covers memory mv = is_remembered (kind_of mv) && is_known memory (kind_of mv) (first_of mv) (second_of mv)
+covers memory mv = is_known memory (kind_of mv) (first_of mv) (second_of mv)
 
 -- where the row of a pair is known, the list of the vehicle that serves it has not changed since
 abbrev pub AreSettled : Model → List (List ℕ) → Memory → Type 0
-AreSettled model lists memory = (p w v : ℕ) → p < length model.pairs → IsTrue (is_known memory 5 p w)
-    → IsTrue (holds (route lists v) (pair_at model p).pickup) → IsTrue (is_later memory 5 p v)
+AreSettled model lists memory = (kind p w v : ℕ) → IsTrue (is_by_pair kind) → p < length model.pairs
+    → IsTrue (is_known memory kind p w) → IsTrue (holds (route lists v) (pair_at model p).pickup)
+    → IsTrue (is_later memory kind p v)
 
 -- all moves of a row stand in front of a move in the list of some neighbourhoods
 abbrev pub is_behind : List Neighbourhood → ℕ → ℕ → Move → Bool

@@ -46,8 +46,8 @@ pub(crate) fn kind_of(mv: Move) -> u32
     }
 }
 
-/// The row of a move among those of its kind: of a kind below 5 the first vehicle that it names, of `RelocatePair` the
-/// pair. All moves of any other kind are row 0.
+/// The row of a move among those of its kind: of a kind below 5 the first vehicle that it names, of `RelocatePair` and
+/// `PairInactive` the pair. All moves of any other kind are row 0.
 pub(crate) fn first_of(mv: Move) -> u32
     ensures { result ≡ blocks.first_of mv }
 {
@@ -58,6 +58,7 @@ pub(crate) fn first_of(mv: Move) -> u32
         Move::Exchange { v, .. } => v,
         Move::Cross { v, .. } => v,
         Move::RelocatePair { p, .. } => p,
+        Move::PairInactive { p } => p,
         _ => 0,
     }
 }
@@ -70,7 +71,7 @@ pub(crate) fn rows_of(kind: u32) -> u32
     if kind < 5 {
         return 100;
     }
-    if kind < 6 { 500 } else { 1 }
+    if kind == 5 || kind == 7 { 500 } else { 1 }
 }
 
 /// Where the stamp of a row of a kind stands.
@@ -79,12 +80,14 @@ pub(crate) fn stamp_of(kind: u32, row: u32) -> usize
     requires kind { kind < 11 }
     requires row { row < blocks.rows_of kind }
     ensures value { result ≡ blocks.stamp_of kind row }
-    ensures within { result < 1011 }
+    ensures within { result < 1511 }
 {
     let place = if kind < 6 {
         kind * 100 + row
+    } else if kind == 7 {
+        1000 + row
     } else {
-        1000 + kind
+        1500 + kind
     };
     place as usize
 }

@@ -4,15 +4,15 @@
 //! active where it changes that: on no more does it depend what a move makes ([`validity_is_local`],
 //! [`cost_is_local`]). So [`Known`] keeps, for each row of a kind, when all its moves were last refused, for each
 //! vehicle when its list last changed, and when activity last did. A row is a first vehicle or a pair that is put
-//! elsewhere; the moves of each other kind are one row. The ranges of moves ([`nests`]) pass over those of which a
-//! sieve ([`Sieve`]) says so, and count them: what is known is one, and a search has another, which also goes over
-//! runs of moves by what they cost.
+//! elsewhere or taken out; the moves of each other kind are one row. The ranges of moves ([`nests`]) pass over those of
+//! which a sieve ([`Sieve`]) says so, and count them: what is known is one, and a search has another, which also goes
+//! over runs of moves by what they cost.
 //!
 //! No stamp is above the clock, so what changes now is later than all that was learned.
 //!
 //! `vr_moves_route`, `vr_moves_cross`, `vr_moves_active` and `vr_moves_pair` list their moves by these ranges and say
-//! how many a range has that is known, but for pairs that are taken out, of which none ever is. `vr_descent` learns at
-//! the end of each scan, and forgets where a move is made, by the vehicles that it touches ([`Touched`]).
+//! how many a range has that is known. `vr_descent` learns at the end of each scan, and forgets where a move is made,
+//! by the vehicles that it touches ([`Touched`]).
 #![tactic(auto)]
 
 mod blocks;

@@ -2,7 +2,7 @@
 
 ghost use Rattle.std.specs.Prelude.{◌≡◌, ℕ, ◌⊎◌, ◌<◌, false, IsTrue};
 ghost use Rattle.vr_known.specs.Blocks.{AreSettled, IsApart, Learns, covers, first_of, is_behind, is_kind_of};
-ghost use Rattle.vr_known.specs.Blocks.{is_known, is_later, is_remembered, kind_of, rows_of};
+ghost use Rattle.vr_known.specs.Blocks.{is_known, is_later, kind_of, rows_of};
 ghost use Rattle.vr_known.specs.Locality.{HasNoGlobalSpans};
 ghost use Rattle.vr_model.specs.moves.MoveTests.{is_move};
 ghost use Rattle.vr_model.specs.tables.WellFormed.{IsWellFormed, number_of as kind_at};
@@ -56,10 +56,9 @@ impl Known {
 
     /// Whether no move of a neighbourhood, of a row and of the vehicle that it names last is acceptable, as far as is
     /// known. The row is the first vehicle where moves change one list or two that they name and no activity, the pair
-    /// where it is put elsewhere, and else 0. Of the moves that take a pair out nothing is known.
+    /// where it is put elsewhere or taken out, and else 0. A move that names no vehicle counts as one that names 0.
     #[inline(always)]
     pub fn has(&self, neighbourhood: Neighbourhood, v: u32, w: u32) -> bool
-        requires kind { IsTrue (is_remembered (kind_at neighbourhood)) }
         requires first { v < rows_of (kind_at neighbourhood) }
         requires second { w < 100 }
         ensures { result ≡ is_known self.now (kind_at neighbourhood) v w }

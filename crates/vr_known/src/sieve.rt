@@ -4,7 +4,7 @@ ghost use Rattle.std.specs.Prelude.{◌≡◌, ℕ, ◌+◌, ◌<◌, ◌≤◌,
 ghost use Rattle.vr_model.specs.declared.neighbours.Move.{Move as Moved};
 ghost use Rattle.vr_routes.specs.Runs.{with_last};
 ghost use Rattle.vr_model.specs.tables.WellFormed.{number_of as kind_at};
-ghost use Rattle.vr_known.specs.Blocks.{covers, is_remembered, rows_of};
+ghost use Rattle.vr_known.specs.Blocks.{covers, rows_of};
 ghost use Rattle.vr_known.specs.Passing.{CoversBlock};
 
 use crate::Known;
@@ -41,7 +41,6 @@ pub trait Sieve {
     /// [`Known::has`] says of rows.
     fn has(&self, neighbourhood: Neighbourhood, v: u32, w: u32) -> bool
         requires ready { is_ready self.now }
-        requires kind { IsTrue (is_remembered (kind_at neighbourhood)) }
         requires first { v < rows_of (kind_at neighbourhood) }
         requires second { w < 100 }
         ensures { IsTrue result → CoversBlock (covers self.now) (kind_at neighbourhood) v w };

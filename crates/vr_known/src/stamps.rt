@@ -2,7 +2,7 @@
 
 ghost use Rattle.std.specs.Prelude.{◌≡◌, ℕ, ◌⊎◌, ◌<◌, ◌≤◌, false, IsTrue, length, slice_index_or};
 ghost use Rattle.vr_known.specs.Blocks.{AreSettled, IsApart, Learns, common_change, covers, first_of, is_behind};
-ghost use Rattle.vr_known.specs.Blocks.{is_kind_of, is_known, is_later, kind_of, rows_of};
+ghost use Rattle.vr_known.specs.Blocks.{is_by_pair, is_kind_of, is_known, is_later, kind_of, rows_of};
 ghost use Rattle.vr_model.specs.moves.MoveTests.{is_move};
 ghost use Rattle.vr_model.specs.declared.neighbours.Move.{Move as Moved};
 
@@ -16,7 +16,7 @@ use vr_routes::Routes;
 #[derive(Drop)]
 pub(crate) struct Stamps {
     // For each row of a kind, when its moves were last refused.
-    seen: [u64; 1011],
+    seen: [u64; 1511],
     // For each vehicle, when its list last changed.
     changed: [u64; 100],
     // When it last changed which visits are active.
@@ -188,7 +188,7 @@ impl Stamps {
         self.go_on();
     }
 
-    /// The row of each pair is forgotten whose vehicle has another list than when the row was refused.
+    /// The rows of each pair are forgotten whose vehicle has another list than when they were refused.
     pub(crate) fn settle(&mut self, closed: Closed<'_>, routes: &Routes)
         ensures fewer { (k u w : ℕ) → IsTrue (is_known self.new k u w) → IsTrue (is_known self.old k u w) }
         ensures earlier { (k u w : ℕ) → IsTrue (is_later self.new k u w) → IsTrue (is_later self.old k u w) }
@@ -199,23 +199,27 @@ impl Stamps {
         for p in 0..closed.model.pairs.len() {
             let pair = closed.model.pairs.get(p);
             match routes.vehicle_of(pair.pickup) {
-                Some(v) => self.settle_pair(p as u32, v),
+                Some(v) => {
+                    self.settle_row(5, p as u32, v);
+                    self.settle_row(7, p as u32, v);
+                }
                 None => {}
             }
         }
     }
 
-    // The row of a pair is forgotten where the list of a vehicle has changed since.
-    fn settle_pair(&mut self, p: u32, v: u32)
+    // The row of a pair and a kind is forgotten where the list of a vehicle has changed since.
+    fn settle_row(&mut self, kind: u32, p: u32, v: u32)
+        requires kind { IsTrue (is_by_pair kind) }
         requires pair { p < 500 }
         requires vehicle { v < 100 }
         ensures fewer { (k u w : ℕ) → IsTrue (is_known self.new k u w) → IsTrue (is_known self.old k u w) }
         ensures earlier { (k u w : ℕ) → IsTrue (is_later self.new k u w) → IsTrue (is_later self.old k u w) }
         ensures keeps { (k u w x : ℕ) → IsTrue (is_known self.new k u w) → IsTrue (is_later self.old k u x)
             → IsTrue (is_later self.new k u x) }
-        ensures settled { (w : ℕ) → IsTrue (is_known self.new 5 p w) → IsTrue (is_later self.new 5 p v) }
+        ensures settled { (w : ℕ) → IsTrue (is_known self.new kind p w) → IsTrue (is_later self.new kind p v) }
     {
-        let place = stamp_of(5, p);
+        let place = stamp_of(kind, p);
         if self.changed[v as usize] < self.seen[place] {
             return;
         }
@@ -224,8 +228,8 @@ impl Stamps {
 }
 
 // No stamps.
-fn unseen() -> [u64; 1011]
+fn unseen() -> [u64; 1511]
     ensures { (i : ℕ) → slice_index_or result i 0 ≡ 0 }
 {
-    [0; 1011]
+    [0; 1511]
 }

@@ -1,6 +1,6 @@
 //! Pairs that are taken out.
 
-ghost use Rattle.std.specs.Prelude.{◌≡◌, ◌+◌, ⊤, ℕ, length};
+ghost use Rattle.std.specs.Prelude.{◌≡◌, ◌+◌, ◌≤◌, ℕ, length};
 ghost use Rattle.std.specs.Iterator.{YieldsFirst, item_count};
 ghost use Rattle.vr_known.specs.Passing.{Looked, Takes, tried};
 ghost use Rattle.vr_model.specs.moves.Moves.{is_pair_together, moves_in};
@@ -11,7 +11,7 @@ ghost use Rattle.vr_model.specs.declared.neighbours.Neighbourhood.TheVariants.{P
 use std::marker::Model;
 use vr_known::Sieve;
 use vr_known::nests::{Listed, Numbered, Run, next_of};
-use vr_model::{Model as RoutingModel, Move};
+use vr_model::{Model as RoutingModel, Move, Neighbourhood};
 use vr_routes::{Routes, is_pair_together};
 
 // The pairs whose nodes stand in one list.
@@ -22,7 +22,7 @@ struct Pairs<'a> {
 }
 
 impl<'a> Numbered for Pairs<'a> {
-    ghost is_sound = { λ s. ⊤ };
+    ghost is_sound = { λ s. length s.model.now.pairs ≤ 500 };
 
     ghost count = { λ s. length s.model.now.pairs };
 
@@ -38,6 +38,23 @@ impl<'a> Numbered for Pairs<'a> {
     #[inline]
     fn make(&self, k: u32) -> Move {
         Move::PairInactive { p: k }
+    }
+
+    // Each pair is a row of its own.
+    #[inline]
+    fn first<S: Sieve>(
+        &self,
+        sieve: &S,
+        _judge: &mut S::Judge,
+        from: u32,
+        end: u32,
+    ) -> Option<u32> {
+        for k in from..end {
+            if !sieve.has(Neighbourhood::PairInactive, k, 0) {
+                return Some(k);
+            }
+        }
+        Some(end)
     }
 }
 

@@ -1,4 +1,4 @@
-use Rattle.std.proofs.Common.{◌≡◌, ◌∙◌, ℕ, ◌+◌, ◌≤◌, cond, length, sym, ap, arith}
+use Rattle.std.proofs.Common.{◌≡◌, ◌∙◌, ℕ, ◌+◌, cond, length, sym, ap, arith}
 use Rattle.std.specs.Prelude.{filter}
 use Rattle.vr_model.specs.tables.Numbers.{from_to}
 use Rattle.vr_known.proofs.NestLemmas.{count_more}

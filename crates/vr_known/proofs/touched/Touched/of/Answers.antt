@@ -3,7 +3,7 @@ use Rattle.std.specs.Prelude.{IsTrue}
 use Rattle.vr_model.specs.routes.Routes.{route}
 use Rattle.vr_model.specs.moves.Moves.{apply}
 use Rattle.vr_model.specs.moves.MoveTests.{is_move}
-use Rattle.vr_model.specs.declared.neighbours.Move.TheVariants.{PairInactive, RelocatePair}
+use Rattle.vr_model.specs.declared.neighbours.Move.TheVariants.{RelocatePair}
 use Rattle.vr_model.proofs.moves.Times.{times_in}
 use Rattle.vr_routes.proofs.OnceLemmas.{few_times}
 use Rattle.vr_known.proofs.Local.{others_stay, pair_out_stays}
