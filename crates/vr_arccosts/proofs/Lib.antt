@@ -4,6 +4,7 @@ pub mod PathLemmas
 pub mod LineLemmas
 pub mod MoveLemmas
 pub mod RunLemmas
+pub mod SwapLemmas
 pub mod PutLemmas
 pub mod RestLemmas
 pub mod CrossLemmas

@@ -102,6 +102,10 @@ arc-last model v list k at next same from to = record {
 pub arc-value : (model : Model) (v : ℕ) (list : List ℕ) (n at next : ℕ) → IsArc model v list n at next → (cost : ℕ → ℕ → ℤ) → cost at next ≡ cost (last_of (vehicle_at model v).start (take n (line_nodes model v list))) (slice_index_or (line_nodes model v list) n 0)
 arc-value model v list n at next arc cost = ap (λ x. cost x next) arc.from ∙ ap (cost (last_of (vehicle_at model v).start (take n (line_nodes model v list)))) arc.to
 
+-- what is told of a line by its numbers is told of the list of its vehicle
+pub line-told : {m model : Model} {n v : ℕ} {l list : List ℕ} (f : Model → ℕ → List ℕ → ℤ) → m ≡ model → n ≡ v → l ≡ list → f m n l ≡ f model v list
+line-told f of-model of-vehicle of-list = λ i. f (of-model i) (of-vehicle i) (of-list i)
+
 -- ---- the sums of one vehicle
 
 pub along-at : (model : Model) (lists : List (List ℕ)) (along : List Along) (v : ℕ) (one : Along) → AreAlong model lists along → length along ≡ length lists → v < length lists → one ≡ slice_index_or along v one

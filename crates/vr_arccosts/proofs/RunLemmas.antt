@@ -269,7 +269,7 @@ module _ (model : Model) (lists : List (List ℕ)) where
       own v a k t one same = Prim.grind arith
 
   -- two nodes that change places
-  swap-adds : (w b x : ℕ) → b < length (route lists w)
+  pub swap-adds : (w b x : ℕ) → b < length (route lists w)
       → swap_added model w (route lists w) b x ≡ costs_more model lists w (slice_set (route lists w) b x)
   swap-adds w b x low =
       let list : List ℕ = route lists w in

@@ -1,5 +1,5 @@
 -- Sums of arc costs along the lines of vehicles.
-use Rattle.std.specs.Prelude.{◌≡◌, IsTrue, ℕ, ◌<◌, true, cond, ℤ, pos, ◌+ℤ◌}
+use Rattle.std.specs.Prelude.{◌≡◌, All, IsTrue, ℕ, ◌<◌, true, cond, ℤ, pos, ◌+ℤ◌}
 use Rattle.std.specs.Prelude.{List, [], ◌++◌, drop, length, slice_index_or, take}
 use Rattle.vr_model.specs.tables.Tables.{arc_cost, vehicle_at, visits}
 use Rattle.vr_model.specs.routes.Rules.{is_valid}
@@ -45,10 +45,9 @@ abbrev pub AreAlong : Model → List (List ℕ) → List Along → Type 0
 AreAlong model lists along = (v : ℕ) → v < length lists
     → IsAlong model v (route lists v) (slice_index_or along v no_sums)
 
--- vehicle v is one of a well-formed model, and the sums are those of the lists of all its vehicles
+-- the sums are those of the lists of all vehicles of a model, and vehicle v has nodes of it
 pub record HaveAlong (model : Model) (v : ℕ) (lists : List (List ℕ)) (kept : List Along) : Type 0 where
-  pub well_formed : IsWellFormed model
-  pub vehicle : v < length model.vehicles
+  pub nodes : All (λ node. node < model.nodes) (route lists v)
   pub as_many : length lists ≡ length model.vehicles
   pub many : length kept ≡ length model.vehicles
   pub along : AreAlong model lists kept

@@ -2,7 +2,6 @@
 use Rattle.std.specs.Prelude.{ℕ, ◌+◌, ◌<◌, ◌≤◌, true, List, [], take, drop, length, slice_index_or, slice_range}
 use Rattle.std.specs.Prelude.{All, IsTrue, cond, nat_lt, ℤ, ◌+ℤ◌, ◌-ℤ◌, ◌≤ℤ◌}
 use Rattle.vr_model.specs.tables.Tables.{arc_cost, vehicle_at}
-use Rattle.vr_model.specs.tables.WellFormed.{IsWellFormed}
 use Rattle.vr_model.specs.moves.MoveTests.{is_move}
 use Rattle.vr_model.specs.moves.Moves.{with_pair}
 use Rattle.vr_model.specs.routes.Routes.{route_cost}
@@ -19,18 +18,14 @@ use Rattle.vr_arccosts.specs.declared.lines.Along.{Along}
 abbrev pub AddsNoLess : Model → List (List ℕ) → Move → ℤ → Type 0
 AddsNoLess model lists mv bound = IsTrue (is_move model lists mv) → bound ≤ℤ arcs_added model lists mv
 
--- a list of vehicle v of a well-formed model, and the sums along its line
+-- a list of vehicle v, and the sums along its line
 pub record IsLine (model : Model) (v : ℕ) (list : List ℕ) (along : Along) : Type 0 where
-  pub well_formed : IsWellFormed model
-  pub vehicle : v < length model.vehicles
   pub nodes : All (λ node. node < model.nodes) list
   pub few : length list ≤ 1000
   pub sums : IsAlong model v list along
 
--- a list of vehicle v of a well-formed model, and two places of it, of which lo comes first
-pub record IsRest (model : Model) (v : ℕ) (list : List ℕ) (lo hi : ℕ) : Type 0 where
-  pub well_formed : IsWellFormed model
-  pub vehicle : v < length model.vehicles
+-- a list of nodes of a model, and two places of it, of which lo comes first
+pub record IsRest (model : Model) (list : List ℕ) (lo hi : ℕ) : Type 0 where
   pub nodes : All (λ node. node < model.nodes) list
   pub few : length list ≤ 1000
   pub order : lo < hi

@@ -3,24 +3,23 @@
 ghost use Rattle.std.specs.Prelude.{◌≡◌, ◌<◌, ◌≤◌, ◌-ℤ◌, ℕ, All, IsTrue, IfOk, IsOk, OnOk, OnErr, length};
 ghost use Rattle.vr_model.specs.routes.Costs.{arcs_part};
 ghost use Rattle.vr_model.specs.routes.Routes.{route, route_cost};
-ghost use Rattle.vr_model.specs.tables.Tables.{arc_cost, visits};
+ghost use Rattle.vr_model.specs.tables.Tables.{arc_cost, pair_at, visits};
 ghost use Rattle.vr_model.specs.routes.Rules.{is_valid};
 ghost use Rattle.vr_model.specs.tables.WellFormed.{IsWellFormed};
 ghost use Rattle.vr_routes.specs.Pieces.{changed, joined, IsWithin};
 ghost use Rattle.vr_routes.specs.Changes.{IsMadeOn, NothingReady};
 ghost use Rattle.vr_arccosts.specs.Along.{StandsAlong};
 ghost use Rattle.vr_arccosts.specs.ArcMoves.{costs_more, with_between};
-ghost use Rattle.vr_arccosts.specs.Runs.{IsLine};
 ghost use Rattle.vr_parts.specs.Bounds.{IsAddedByChange, IsAddedByList};
 
 use crate::costs::ArcCosts;
 use crate::gaps::Line;
 use crate::lines::Along;
-use crate::walks::{Gap, cost_between, stop_at, stop_before};
+use crate::walks::{Driven, Gap};
 use std::alloc::Global;
 use std::marker::Model;
 use vr_balance::strip;
-use vr_model::{Model as RoutingModel, NoMemory};
+use vr_model::{Model as RoutingModel, NoMemory, Pair};
 use vr_parts::{CostPart, ListCost, added_by};
 use vr_routes::{Change, Piece, Routes, Row};
 
@@ -29,7 +28,7 @@ use vr_routes::{Change, Piece, Routes, Row};
 /// lists.
 #[derive(Drop)]
 pub struct ArcCost<'m> {
-    pub(crate) model: &'m RoutingModel,
+    model: &'m RoutingModel,
     along: Vec<Along>,
     // room for a list that a change makes
     row: Row,
@@ -103,16 +102,15 @@ impl<'m> ArcCost<'m> {
             (with_between (route routes.now.lists v) front behind (joined routes.now.lists pieces.now)) }
         ensures range { IsAddedByList result }
     {
-        let gap = Gap {
-            front,
-            behind,
-            from: stop_before(self.model, routes, v, front),
-            to: stop_at(self.model, routes, v, behind),
-        };
         let costs = self.costs_of(v);
         let before = self.along[v as usize].stretch(routes.len(v), front, behind);
-        let after = cost_between(&costs, &self.along, routes, gap, pieces);
-        after - before
+        let of = Driven {
+            costs: &costs,
+            along: &self.along,
+            routes,
+        };
+        let gap = Gap { of, front, behind };
+        gap.cost_along(pieces) - before
     }
 }
 
@@ -131,6 +129,26 @@ impl<'m> ArcCost<'m> {
             vehicle: v,
             entries: self.model.matrices.get(number as usize).entries.as_slice(),
         }
+    }
+
+    /// The model.
+    #[inline(always)]
+    pub(crate) fn model(&self) -> &'m RoutingModel
+        ensures { result.now ≡ self.now.model }
+    {
+        self.model
+    }
+
+    /// A pair of the model.
+    #[inline(always)]
+    pub(crate) fn pair(&self, p: u32) -> Pair
+        requires well_formed { IsWellFormed self.now.model }
+        requires pair { p < length self.now.model.pairs }
+        ensures value { result ≡ pair_at self.now.model p }
+        ensures pickup { result.pickup < self.now.model.nodes }
+        ensures delivery { result.delivery < self.now.model.nodes }
+    {
+        *self.model.pairs.get(p as usize)
     }
 
     /// Whether two vehicles have the same arc costs.
@@ -152,7 +170,6 @@ impl<'m> ArcCost<'m> {
         ensures model { result.costs.model.now ≡ self.now.model }
         ensures vehicle { result.costs.vehicle ≡ v }
         ensures list { result.list.now ≡ route routes.now.lists v }
-        ensures line { IsLine result.costs.model.now result.costs.vehicle result.list.now result.along.now }
     {
         Line {
             costs: self.costs_of(v),

@@ -3,6 +3,7 @@
 ghost use Rattle.std.specs.Prelude.{◌≡◌, ◌<◌, ◌≤ℤ◌, ◌^◌, length, pos};
 ghost use Rattle.vr_model.specs.tables.Tables.{arc_cost, matrix_at, vehicle_at};
 ghost use Rattle.vr_model.specs.tables.WellFormed.{IsWellFormed};
+ghost use Rattle.vr_model.specs.tables.WellFormedOnce.{IsWellFormed-prop};
 ghost use Rattle.vr_arccosts.specs.Chains.{turned};
 
 use vr_model::Model;
@@ -13,6 +14,8 @@ pub struct ArcCosts<'m> {
     pub model: &'m Model,
     pub vehicle: u32,
     pub entries: &'m [i64],
+    pub ghost well_formed: { IsWellFormed model.now } by { IsWellFormed-prop model.now },
+    pub ghost there: { vehicle < length model.now.vehicles },
     ghost of_vehicle: { entries.now ≡ (matrix_at model.now (vehicle_at model.now vehicle).costs).entries },
 }
 
@@ -20,8 +23,6 @@ impl<'m> ArcCosts<'m> {
     /// The cost of the arc from one node to another, in `0..=2^40` (`RoutingModel::GetArcCostForVehicle` in OR-Tools).
     #[inline(always)]
     pub fn cost(&self, i: u32, j: u32) -> i64
-        requires well_formed { IsWellFormed self.now.model.now }
-        requires vehicle { self.now.vehicle < length self.now.model.now.vehicles }
         requires origin { i < self.now.model.now.nodes }
         requires target { j < self.now.model.now.nodes }
         ensures value { result ≡ arc_cost self.now.model.now self.now.vehicle i j }
@@ -34,8 +35,6 @@ impl<'m> ArcCosts<'m> {
     /// The cost of the arc from one node to another, or of the arc back.
     #[inline]
     pub fn turned(&self, back: bool, i: u32, j: u32) -> i64
-        requires well_formed { IsWellFormed self.now.model.now }
-        requires vehicle { self.now.vehicle < length self.now.model.now.vehicles }
         requires origin { i < self.now.model.now.nodes }
         requires target { j < self.now.model.now.nodes }
         ensures value { result ≡ turned back (arc_cost self.now.model.now self.now.vehicle) i j }

@@ -1,27 +1,118 @@
-//! Fronts of lists that change vehicles with different costs: what the arcs cost more, by the place behind one of them.
+//! Fronts of lists that change vehicles: what the arcs cost more, by the place behind one of them.
 
+ghost use Rattle.std.proofs.Props.{props};
 ghost use Rattle.std.specs.Prelude.{◌≡◌, ℕ, ◌+◌, ◌<◌, ◌≤◌, ◌≤ℤ◌, length, take};
 ghost use Rattle.vr_model.specs.tables.Tables.{arc_cost, vehicle_at};
-ghost use Rattle.vr_balance.specs.Sums.{path_sum};
+ghost use Rattle.vr_balance.specs.Sums.{last_of, path_sum};
 ghost use Rattle.vr_arccosts.specs.Along.{between_cost};
 ghost use Rattle.vr_arccosts.specs.Bounds.{IsChainCost, IsGapCost, IsPathCost};
 ghost use Rattle.vr_arccosts.specs.Chains.{chain_sum};
-ghost use Rattle.vr_arccosts.specs.Runs.{fronts_added, IsLine};
-ghost use Rattle.vr_parts.specs.Bounds.{IsAddedByChange};
+ghost use Rattle.vr_arccosts.specs.Runs.{cross_base, front_added, fronts_added};
+ghost use Rattle.vr_parts.specs.Bounds.{IsAddedByChange, IsAddedByList};
 
-use crate::gaps::{Asked, Line, front_last, node_at, node_before};
+use crate::gaps::{Asked, Line, node_at, node_before};
 use crate::walks::costs_along;
+
+/// The front of a list, up to place `a`, that changes vehicles with one of another list, of vehicles of one model.
+#[derive(Clone, Copy)]
+pub struct Fronts<'l, 'k, 'a, 'm> {
+    pub line: &'l Line<'a, 'm>,
+    pub a: u32,
+    pub other: &'k Line<'a, 'm>,
+    pub ghost same: { other.now.costs.model.now ≡ line.now.costs.model.now } by { Prim.hlevel props },
+    pub ghost place: { a ≤ length line.now.list.now },
+}
+
+impl<'l, 'k, 'a, 'm> Fronts<'l, 'k, 'a, 'm> {
+    /// What the front adds where it changes vehicles with one of the other list, beside what the arcs in the gap behind
+    /// the latter add. Both vehicles have the same costs.
+    #[inline(always)]
+    pub fn base(&self) -> i64
+        requires costs { let line = self.now.line.now in (i j : ℕ)
+            → arc_cost line.costs.model.now self.now.other.now.costs.vehicle i j
+            ≡ arc_cost line.costs.model.now line.costs.vehicle i j }
+        requires some { 0 < length self.now.other.now.list.now }
+        ensures value { let line = self.now.line.now in
+            result ≡ cross_base line.costs.model.now line.costs.vehicle line.list.now
+            self.now.other.now.costs.vehicle self.now.other.now.list.now self.now.a }
+        ensures range { IsAddedByChange result }
+    {
+        let first = self.other.list[0];
+        let from = self.line.costs.cost(node_before(self.line, 0), first);
+        let left = self.other.costs.cost(node_before(self.other, 0), first);
+        let front = self.front_added();
+        from - left + front
+    }
+
+    // What the front costs the other vehicle up to its last node, less what the arcs cost there.
+    #[inline(always)]
+    fn front_added(&self) -> i64
+        requires costs { let line = self.now.line.now in (i j : ℕ)
+            → arc_cost line.costs.model.now self.now.other.now.costs.vehicle i j
+            ≡ arc_cost line.costs.model.now line.costs.vehicle i j }
+        ensures value { let line = self.now.line.now in
+            result ≡ front_added line.costs.model.now line.costs.vehicle line.list.now
+            self.now.other.now.costs.vehicle self.now.a }
+        ensures range { IsAddedByList result }
+    {
+        let line = self.line;
+        let old = line.along.stretch(line.list.len() as u32, 0, self.a);
+        if self.a == 0 {
+            return -old;
+        }
+        let to = self
+            .other
+            .costs
+            .cost(node_before(self.other, 0), line.list[0]);
+        let chain = line.along.chain(false, 0, self.a);
+        to + chain - old
+    }
+
+    /// The last node of the front in the other list: where it is empty, that of the start there.
+    #[inline(always)]
+    pub fn last(&self) -> u32
+        ensures value { let line = self.now.line.now in
+            result ≡ last_of (vehicle_at line.costs.model.now self.now.other.now.costs.vehicle).start
+            (take self.now.a line.list.now) }
+        ensures known { result < self.now.line.now.costs.model.now.nodes }
+    {
+        if self.a == 0 {
+            return node_before(self.other, 0);
+        }
+        node_before(self.line, self.a)
+    }
+
+    // What the arcs of the other vehicle cost along the front.
+    #[inline(always)]
+    fn cost(&self) -> i64
+        ensures value { let line = self.now.line.now in
+            result ≡ path_sum (arc_cost line.costs.model.now self.now.other.now.costs.vehicle)
+            (vehicle_at line.costs.model.now self.now.other.now.costs.vehicle).start
+            (take self.now.a line.list.now) }
+        ensures range { IsPathCost result }
+    {
+        if self.a == 0 {
+            return 0;
+        }
+        let list = self.line.list;
+        let costs = &self.other.costs;
+        let to = costs.cost(node_before(self.other, 0), list[0]);
+        to + costs_along(costs, false, &list[..self.a as usize])
+    }
+}
 
 /// The first place behind a front of another list with which the arcs cost less than the bound more, where it and the
 /// front of this list, up to place `a`, change vehicles; `end` where there is none.
 #[inline(never)]
-pub fn first_front(line: &Line, a: u32, other: &Line, asked: Asked) -> u32
-    requires line { IsLine line.now.costs.model.now line.now.costs.vehicle line.now.list.now line.now.along.now }
-    requires other { IsLine other.now.costs.model.now other.now.costs.vehicle other.now.list.now other.now.along.now }
+pub fn first_front<'l, 'k, 'a, 'm>(
+    line: &'l Line<'a, 'm>,
+    a: u32,
+    other: &'k Line<'a, 'm>,
+    asked: Asked,
+) -> u32
     requires same { other.now.costs.model.now ≡ line.now.costs.model.now }
     requires place { a ≤ length line.now.list.now }
     requires some { 1 ≤ asked.from }
-    requires asked { asked.from ≤ asked.end }
     requires places { asked.end ≤ length other.now.list.now + 1 }
     ensures from { asked.from ≤ result }
     ensures within { result ≤ asked.end }
@@ -32,128 +123,106 @@ pub fn first_front(line: &Line, a: u32, other: &Line, asked: Asked) -> u32
     if asked.from == asked.end {
         return asked.end;
     }
-    let front = front_cost(line, a, other);
+    let fronts = Fronts { line, a, other };
+    let front = fronts.cost();
     let mut inner = costs_along(&line.costs, false, &other.list[..asked.from as usize]);
     for b in asked.from..asked.end {
-        if added(line, a, other, front, inner, b) < asked.bound {
+        let both = BothFronts {
+            fronts,
+            b,
+            front,
+            inner,
+        };
+        if both.added() < asked.bound {
             return b;
         }
-        inner = inner_behind(line, other, inner, b);
+        inner = both.inner_behind();
     }
     asked.end
 }
 
-// What the arcs cost more where both fronts change vehicles.
-#[inline(always)]
-fn added(line: &Line, a: u32, other: &Line, front: i64, inner: i64, b: u32) -> i64
-    requires line { IsLine line.now.costs.model.now line.now.costs.vehicle line.now.list.now line.now.along.now }
-    requires other { IsLine other.now.costs.model.now other.now.costs.vehicle other.now.list.now other.now.along.now }
-    requires same { other.now.costs.model.now ≡ line.now.costs.model.now }
-    requires place { a ≤ length line.now.list.now }
-    requires some { 1 ≤ b }
-    requires other_place { b ≤ length other.now.list.now }
-    requires front { front ≡ path_sum (arc_cost line.now.costs.model.now other.now.costs.vehicle)
-        (vehicle_at line.now.costs.model.now other.now.costs.vehicle).start (take a line.now.list.now) }
-    requires front_range { IsPathCost front }
-    requires inner { inner ≡ chain_sum (arc_cost line.now.costs.model.now line.now.costs.vehicle)
-        (take b other.now.list.now) }
-    requires inner_range { IsChainCost inner }
-    ensures value { result ≡ fronts_added line.now.costs.model.now line.now.costs.vehicle line.now.list.now
-        other.now.costs.vehicle other.now.list.now a b }
-    ensures range { IsAddedByChange result }
-{
-    let got = with_front(line, a, other, inner, b);
-    let old = line.along.stretch(line.list.len() as u32, 0, a);
-    let left = with_other(line, a, other, front, b);
-    let other_old = other.along.stretch(other.list.len() as u32, 0, b);
-    got - old + (left - other_old)
+// Both fronts, of which that of the other list goes up to place `b`, and what the arcs of the vehicle that gets it cost
+// along each: along `front` from its start on, along `inner` from its first node on.
+#[derive(Clone, Copy)]
+struct BothFronts<'l, 'k, 'a, 'm> {
+    fronts: Fronts<'l, 'k, 'a, 'm>,
+    b: u32,
+    front: i64,
+    inner: i64,
+    pub ghost some: { 1 ≤ b },
+    pub ghost within: { b ≤ length fronts.other.now.list.now },
+    pub ghost front_is: { front ≡ path_sum (arc_cost fronts.line.now.costs.model.now fronts.other.now.costs.vehicle)
+        (vehicle_at fronts.line.now.costs.model.now fronts.other.now.costs.vehicle).start
+        (take fronts.a fronts.line.now.list.now) },
+    pub ghost front_range: { IsPathCost front },
+    pub ghost inner_is: { inner ≡ chain_sum (arc_cost fronts.line.now.costs.model.now fronts.line.now.costs.vehicle)
+        (take b fronts.other.now.list.now) },
+    pub ghost inner_range: { IsChainCost inner },
 }
 
-// What the arcs of this vehicle cost up to place `a` with the front of the other list.
-#[inline(always)]
-fn with_front(line: &Line, a: u32, other: &Line, inner: i64, b: u32) -> i64
-    requires line { IsLine line.now.costs.model.now line.now.costs.vehicle line.now.list.now line.now.along.now }
-    requires other { IsLine other.now.costs.model.now other.now.costs.vehicle other.now.list.now other.now.along.now }
-    requires same { other.now.costs.model.now ≡ line.now.costs.model.now }
-    requires place { a ≤ length line.now.list.now }
-    requires some { 1 ≤ b }
-    requires other_place { b ≤ length other.now.list.now }
-    requires inner { inner ≡ chain_sum (arc_cost line.now.costs.model.now line.now.costs.vehicle)
-        (take b other.now.list.now) }
-    requires inner_range { IsChainCost inner }
-    ensures value { result ≡ between_cost line.now.costs.model.now line.now.costs.vehicle line.now.list.now 0 a
-        (take b other.now.list.now) }
-    ensures range { IsGapCost result }
-{
-    let to = line.costs.cost(node_before(line, 0), other.list[0]);
-    let on = line
-        .costs
-        .cost(other.list[(b - 1) as usize], node_at(line, a));
-    to + inner + on
-}
-
-// What the arcs of the other vehicle cost up to place `b` with the front of this list.
-#[inline(always)]
-fn with_other(line: &Line, a: u32, other: &Line, front: i64, b: u32) -> i64
-    requires line { IsLine line.now.costs.model.now line.now.costs.vehicle line.now.list.now line.now.along.now }
-    requires other { IsLine other.now.costs.model.now other.now.costs.vehicle other.now.list.now other.now.along.now }
-    requires same { other.now.costs.model.now ≡ line.now.costs.model.now }
-    requires place { a ≤ length line.now.list.now }
-    requires other_place { b ≤ length other.now.list.now }
-    requires front { front ≡ path_sum (arc_cost line.now.costs.model.now other.now.costs.vehicle)
-        (vehicle_at line.now.costs.model.now other.now.costs.vehicle).start (take a line.now.list.now) }
-    requires front_range { IsPathCost front }
-    ensures value { result ≡ between_cost line.now.costs.model.now other.now.costs.vehicle other.now.list.now 0 b
-        (take a line.now.list.now) }
-    ensures range { IsGapCost result }
-{
-    if a == 0 && b as usize == other.list.len() {
-        return 0;
+impl<'l, 'k, 'a, 'm> BothFronts<'l, 'k, 'a, 'm> {
+    // What the arcs cost more where both fronts change vehicles.
+    #[inline(always)]
+    fn added(&self) -> i64
+        ensures value { let line = self.now.fronts.line.now in
+            result ≡ fronts_added line.costs.model.now line.costs.vehicle line.list.now
+            self.now.fronts.other.now.costs.vehicle self.now.fronts.other.now.list.now self.now.fronts.a self.now.b }
+        ensures range { IsAddedByChange result }
+    {
+        let line = self.fronts.line;
+        let other = self.fronts.other;
+        let got = self.with_front();
+        let old = line.along.stretch(line.list.len() as u32, 0, self.fronts.a);
+        let left = self.with_other();
+        let other_old = other.along.stretch(other.list.len() as u32, 0, self.b);
+        got - old + (left - other_old)
     }
-    let on = other
-        .costs
-        .cost(front_last(line, a, other), node_at(other, b));
-    front + on
-}
 
-// What the arcs of the other vehicle cost along the front of this list.
-#[inline(always)]
-fn front_cost(line: &Line, a: u32, other: &Line) -> i64
-    requires line { IsLine line.now.costs.model.now line.now.costs.vehicle line.now.list.now line.now.along.now }
-    requires other { IsLine other.now.costs.model.now other.now.costs.vehicle other.now.list.now other.now.along.now }
-    requires same { other.now.costs.model.now ≡ line.now.costs.model.now }
-    requires place { a ≤ length line.now.list.now }
-    ensures value { result ≡ path_sum (arc_cost line.now.costs.model.now other.now.costs.vehicle)
-        (vehicle_at line.now.costs.model.now other.now.costs.vehicle).start (take a line.now.list.now) }
-    ensures range { IsPathCost result }
-{
-    if a == 0 {
-        return 0;
+    // What the arcs of this vehicle cost up to place `a` with the front of the other list.
+    #[inline(always)]
+    fn with_front(&self) -> i64
+        ensures value { let line = self.now.fronts.line.now in
+            result ≡ between_cost line.costs.model.now line.costs.vehicle line.list.now 0 self.now.fronts.a
+            (take self.now.b self.now.fronts.other.now.list.now) }
+        ensures range { IsGapCost result }
+    {
+        let line = self.fronts.line;
+        let list = self.fronts.other.list;
+        let to = line.costs.cost(node_before(line, 0), list[0]);
+        let last = list[(self.b - 1) as usize];
+        let on = line.costs.cost(last, node_at(line, self.fronts.a));
+        to + self.inner + on
     }
-    let to = other.costs.cost(node_before(other, 0), line.list[0]);
-    to + costs_along(&other.costs, false, &line.list[..a as usize])
-}
 
-// What the arcs of this vehicle cost along one visit more of the other list, where it has one.
-#[inline(always)]
-fn inner_behind(line: &Line, other: &Line, inner: i64, b: u32) -> i64
-    requires line { IsLine line.now.costs.model.now line.now.costs.vehicle line.now.list.now line.now.along.now }
-    requires other { IsLine other.now.costs.model.now other.now.costs.vehicle other.now.list.now other.now.along.now }
-    requires same { other.now.costs.model.now ≡ line.now.costs.model.now }
-    requires some { 1 ≤ b }
-    requires place { b ≤ length other.now.list.now }
-    requires inner { inner ≡ chain_sum (arc_cost line.now.costs.model.now line.now.costs.vehicle)
-        (take b other.now.list.now) }
-    requires range { IsChainCost inner }
-    ensures value { result ≡ chain_sum (arc_cost line.now.costs.model.now line.now.costs.vehicle)
-        (take (b + 1) other.now.list.now) }
-    ensures range { IsChainCost result }
-{
-    if b as usize == other.list.len() {
-        return inner;
+    // What the arcs of the other vehicle cost up to place `b` with the front of this list.
+    #[inline(always)]
+    fn with_other(&self) -> i64
+        ensures value { let other = self.now.fronts.other.now in
+            result ≡ between_cost self.now.fronts.line.now.costs.model.now other.costs.vehicle other.list.now 0
+            self.now.b (take self.now.fronts.a self.now.fronts.line.now.list.now) }
+        ensures range { IsGapCost result }
+    {
+        let other = self.fronts.other;
+        if self.fronts.a == 0 && self.b as usize == other.list.len() {
+            return 0;
+        }
+        let on = other.costs.cost(self.fronts.last(), node_at(other, self.b));
+        self.front + on
     }
-    inner
-        + line
-            .costs
-            .cost(other.list[(b - 1) as usize], other.list[b as usize])
+
+    // What the arcs of this vehicle cost along one visit more of the other list, where it has one.
+    #[inline(always)]
+    fn inner_behind(&self) -> i64
+        ensures value { let line = self.now.fronts.line.now in
+            result ≡ chain_sum (arc_cost line.costs.model.now line.costs.vehicle)
+            (take (self.now.b + 1) self.now.fronts.other.now.list.now) }
+        ensures range { IsChainCost result }
+    {
+        let list = self.fronts.other.list;
+        if self.b as usize == list.len() {
+            return self.inner;
+        }
+        let last = list[(self.b - 1) as usize];
+        self.inner + self.fronts.line.costs.cost(last, list[self.b as usize])
+    }
 }

@@ -1,12 +1,13 @@
 //! Places of a list at which its arcs cost less than a bound more: of parts that are reversed, by their last place, and
 //! of gaps into which a chain is put. Each search is one loop along the list.
 
+ghost use Rattle.std.proofs.Props.{props};
 ghost use Rattle.std.specs.Prelude.{◌≡◌, ℕ, ◌+◌, ◌<◌, ◌≤◌, ◌+ℤ◌, ◌≤ℤ◌, length, slice_index, take, All};
 ghost use Rattle.vr_model.specs.tables.Tables.{arc_cost, vehicle_at};
 ghost use Rattle.vr_model.specs.tables.WellFormed.{IsWellFormed};
 ghost use Rattle.vr_parts.specs.Bounds.{IsAddedByChange, IsAddedByList};
 ghost use Rattle.vr_balance.specs.Sums.{last_of};
-ghost use Rattle.vr_arccosts.specs.Runs.{at_place, before_place, cross_base, front_added, gap_added};
+ghost use Rattle.vr_arccosts.specs.Runs.{at_place, before_place, gap_added};
 ghost use Rattle.vr_arccosts.specs.Runs.{pair_added, swap_added, turn_added, IsLine};
 
 use crate::costs::ArcCosts;
@@ -20,12 +21,14 @@ pub struct Asked {
     pub from: u32,
     pub end: u32,
     pub bound: i64,
+    pub ghost order: { from ≤ end },
 }
 
 impl Asked {
     /// The numbers from another first one on.
     #[inline(always)]
     pub fn starting(self, from: u32) -> Asked
+        requires order { from ≤ self.end }
         ensures from { result.from ≡ from }
         ensures end { result.end ≡ self.end }
         ensures bound { result.bound ≡ self.bound }
@@ -40,6 +43,7 @@ impl Asked {
     /// The numbers below another end.
     #[inline(always)]
     pub fn ending(self, end: u32) -> Asked
+        requires order { self.from ≤ end }
         ensures from { result.from ≡ self.from }
         ensures end { result.end ≡ end }
         ensures bound { result.bound ≡ self.bound }
@@ -58,6 +62,7 @@ pub struct Line<'a, 'm> {
     pub costs: ArcCosts<'m>,
     pub along: &'a Along,
     pub list: &'a [u32],
+    pub ghost sound: { IsLine costs.model.now costs.vehicle list.now along.now } by { Prim.hlevel props },
 }
 
 /// The first and the last node of a chain.
@@ -71,9 +76,7 @@ pub struct Ends {
 /// more; `end` where there is none.
 #[inline(always)]
 pub fn first_turn(line: &Line, a: u32, asked: Asked) -> u32
-    requires line { IsLine line.now.costs.model.now line.now.costs.vehicle line.now.list.now line.now.along.now }
     requires order { a < asked.from }
-    requires asked { asked.from ≤ asked.end }
     requires places { asked.end ≤ length line.now.list.now }
     ensures from { asked.from ≤ result }
     ensures within { result ≤ asked.end }
@@ -91,7 +94,6 @@ pub fn first_turn(line: &Line, a: u32, asked: Asked) -> u32
 // How much more the arcs cost where places `a` to `b` are reversed.
 #[inline(always)]
 fn turned(line: &Line, a: u32, b: u32) -> i64
-    requires line { IsLine line.now.costs.model.now line.now.costs.vehicle line.now.list.now line.now.along.now }
     requires order { a < b }
     requires place { b < length line.now.list.now }
     ensures value { result ≡ turn_added line.now.costs.model.now line.now.costs.vehicle line.now.list.now a b }
@@ -108,11 +110,9 @@ fn turned(line: &Line, a: u32, b: u32) -> i64
 /// bound more; `end` where there is none.
 #[inline(never)]
 pub fn first_gap(line: &Line, ends: Ends, base: i64, asked: Asked) -> u32
-    requires line { IsLine line.now.costs.model.now line.now.costs.vehicle line.now.list.now line.now.along.now }
     requires first { ends.first < line.now.costs.model.now.nodes }
     requires last { ends.last < line.now.costs.model.now.nodes }
     requires base { IsAddedByChange base }
-    requires asked { asked.from ≤ asked.end }
     requires places { asked.end ≤ length line.now.list.now + 1 }
     ensures from { asked.from ≤ result }
     ensures within { result ≤ asked.end }
@@ -128,16 +128,44 @@ pub fn first_gap(line: &Line, ends: Ends, base: i64, asked: Asked) -> u32
     asked.end
 }
 
-/// The first place in front of place `a`, as [`first_gap`], where the first number is not behind it: `a` at most.
+/// The first number at which a chain of `k` nodes that leaves place `a` can be put, as [`first_gap`]: in front of its
+/// place, or behind it, where each number stands for the place that is `k` places behind it.
 #[inline(always)]
-pub fn first_in_front(line: &Line, ends: Ends, base: i64, a: u32, asked: Asked) -> u32
-    requires line { IsLine line.now.costs.model.now line.now.costs.vehicle line.now.list.now line.now.along.now }
+pub fn first_around(line: &Line, ends: Ends, base: i64, a: u32, k: u32, asked: Asked) -> u32
     requires first { ends.first < line.now.costs.model.now.nodes }
     requires last { ends.last < line.now.costs.model.now.nodes }
     requires base { IsAddedByChange base }
-    requires asked { asked.from ≤ asked.end }
+    requires places { asked.end + k ≤ length line.now.list.now + 1 }
+    ensures from { asked.from ≤ result }
+    ensures within { result ≤ asked.end }
+    ensures in_front { (t : ℕ) → asked.from ≤ t → t < result → t < a → asked.bound
+        ≤ℤ (base +ℤ gap_added line.now.costs.model.now line.now.costs.vehicle line.now.list.now
+        ends.first ends.last t) }
+    ensures behind { (t : ℕ) → asked.from ≤ t → t < result → a < t → asked.bound
+        ≤ℤ (base +ℤ gap_added line.now.costs.model.now line.now.costs.vehicle line.now.list.now
+        ends.first ends.last (t + k)) }
+{
+    if asked.from > a {
+        return first_behind(line, ends, base, k, asked.from, asked);
+    }
+    let t = first_in_front(line, ends, base, a, asked);
+    if t < a {
+        return t;
+    }
+    if asked.end <= a + 1 {
+        return asked.end;
+    }
+    first_behind(line, ends, base, k, a + 1, asked)
+}
+
+// The first place in front of place `a`, as `first_gap`, where the first number is not behind it: `a` at most.
+#[inline(always)]
+fn first_in_front(line: &Line, ends: Ends, base: i64, a: u32, asked: Asked) -> u32
+    requires first { ends.first < line.now.costs.model.now.nodes }
+    requires last { ends.last < line.now.costs.model.now.nodes }
+    requires base { IsAddedByChange base }
     requires order { asked.from ≤ a }
-    requires place { a ≤ length line.now.list.now }
+    requires places { asked.end ≤ length line.now.list.now + 1 }
     ensures from { asked.from ≤ result }
     ensures within { result ≤ asked.end }
     ensures no_less { (t : ℕ) → asked.from ≤ t → t < result → asked.bound
@@ -155,11 +183,10 @@ pub fn first_in_front(line: &Line, ends: Ends, base: i64, a: u32, asked: Asked) 
     first_gap(line, ends, base, front)
 }
 
-/// The first number from another first one on, as [`first_gap`], where each number stands for the place that is `k`
-/// places behind it.
+// The first number from another first one on, as `first_gap`, where each number stands for the place that is `k`
+// places behind it.
 #[inline(always)]
-pub fn first_behind(line: &Line, ends: Ends, base: i64, k: u32, from: u32, asked: Asked) -> u32
-    requires line { IsLine line.now.costs.model.now line.now.costs.vehicle line.now.list.now line.now.along.now }
+fn first_behind(line: &Line, ends: Ends, base: i64, k: u32, from: u32, asked: Asked) -> u32
     requires first { ends.first < line.now.costs.model.now.nodes }
     requires last { ends.last < line.now.costs.model.now.nodes }
     requires base { IsAddedByChange base }
@@ -184,12 +211,10 @@ pub fn first_behind(line: &Line, ends: Ends, base: i64, k: u32, from: u32, asked
 /// there is none.
 #[inline(never)]
 pub fn first_delivery(line: &Line, pair: Pair, s: u32, base: i64, asked: Asked) -> u32
-    requires line { IsLine line.now.costs.model.now line.now.costs.vehicle line.now.list.now line.now.along.now }
     requires pickup { pair.pickup < line.now.costs.model.now.nodes }
     requires delivery { pair.delivery < line.now.costs.model.now.nodes }
     requires base { IsAddedByList base }
     requires order { s ≤ asked.from }
-    requires asked { asked.from ≤ asked.end }
     requires places { asked.end ≤ length line.now.list.now + 1 }
     ensures from { asked.from ≤ result }
     ensures within { result ≤ asked.end }
@@ -212,12 +237,10 @@ pub fn first_delivery(line: &Line, pair: Pair, s: u32, base: i64, asked: Asked) 
 // The first place for the delivery, as `first_delivery`, where a node stands between both.
 #[inline(always)]
 fn first_apart(line: &Line, pair: Pair, s: u32, base: i64, asked: Asked) -> u32
-    requires line { IsLine line.now.costs.model.now line.now.costs.vehicle line.now.list.now line.now.along.now }
     requires pickup { pair.pickup < line.now.costs.model.now.nodes }
     requires delivery { pair.delivery < line.now.costs.model.now.nodes }
     requires base { IsAddedByList base }
     requires order { s < asked.from }
-    requires asked { asked.from ≤ asked.end }
     requires places { asked.end ≤ length line.now.list.now + 1 }
     ensures from { asked.from ≤ result }
     ensures within { result ≤ asked.end }
@@ -239,7 +262,6 @@ fn first_apart(line: &Line, pair: Pair, s: u32, base: i64, asked: Asked) -> u32
 // How much more the arcs cost where a pair is put before a place, side by side.
 #[inline(always)]
 fn put_pair(line: &Line, pair: Pair, s: u32) -> i64
-    requires line { IsLine line.now.costs.model.now line.now.costs.vehicle line.now.list.now line.now.along.now }
     requires pickup { pair.pickup < line.now.costs.model.now.nodes }
     requires delivery { pair.delivery < line.now.costs.model.now.nodes }
     requires place { s ≤ length line.now.list.now }
@@ -258,7 +280,6 @@ fn put_pair(line: &Line, pair: Pair, s: u32) -> i64
 // How much more the arcs to and from a chain cost than what stands between the stops beside a place.
 #[inline(always)]
 fn put(line: &Line, ends: Ends, t: u32) -> i64
-    requires line { IsLine line.now.costs.model.now line.now.costs.vehicle line.now.list.now line.now.along.now }
     requires first { ends.first < line.now.costs.model.now.nodes }
     requires last { ends.last < line.now.costs.model.now.nodes }
     requires place { t ≤ length line.now.list.now }
@@ -276,11 +297,8 @@ fn put(line: &Line, ends: Ends, t: u32) -> i64
 /// place `a` of this one stand in each other's place; `end` where there is none.
 #[inline(never)]
 pub fn first_swap(line: &Line, a: u32, other: &Line, asked: Asked) -> u32
-    requires line { IsLine line.now.costs.model.now line.now.costs.vehicle line.now.list.now line.now.along.now }
-    requires other { IsLine other.now.costs.model.now other.now.costs.vehicle other.now.list.now other.now.along.now }
     requires same { other.now.costs.model.now ≡ line.now.costs.model.now }
     requires place { a < length line.now.list.now }
-    requires asked { asked.from ≤ asked.end }
     requires places { asked.end ≤ length other.now.list.now }
     ensures from { asked.from ≤ result }
     ensures within { result ≤ asked.end }
@@ -299,10 +317,9 @@ pub fn first_swap(line: &Line, a: u32, other: &Line, asked: Asked) -> u32
     asked.end
 }
 
-// How much more the arcs cost where another node stands at a place.
+/// How much more the arcs cost where another node stands at a place.
 #[inline(always)]
-fn swapped(line: &Line, place: u32, node: u32) -> i64
-    requires line { IsLine line.now.costs.model.now line.now.costs.vehicle line.now.list.now line.now.along.now }
+pub fn swapped(line: &Line, place: u32, node: u32) -> i64
     requires node { node < line.now.costs.model.now.nodes }
     requires place { place < length line.now.list.now }
     ensures value { result
@@ -315,73 +332,9 @@ fn swapped(line: &Line, place: u32, node: u32) -> i64
     to + on - old
 }
 
-/// What the front of a list, up to place `a`, adds where it changes vehicles with one of another list, beside what the
-/// arcs in the gap behind the latter add. Both vehicles have the same costs.
-#[inline(always)]
-pub fn cross_base(line: &Line, a: u32, other: &Line) -> i64
-    requires line { IsLine line.now.costs.model.now line.now.costs.vehicle line.now.list.now line.now.along.now }
-    requires other { IsLine other.now.costs.model.now other.now.costs.vehicle other.now.list.now other.now.along.now }
-    requires same { other.now.costs.model.now ≡ line.now.costs.model.now }
-    requires costs { (i j : ℕ) → arc_cost line.now.costs.model.now other.now.costs.vehicle i j
-        ≡ arc_cost line.now.costs.model.now line.now.costs.vehicle i j }
-    requires place { a ≤ length line.now.list.now }
-    requires some { 0 < length other.now.list.now }
-    ensures value { result ≡ cross_base line.now.costs.model.now line.now.costs.vehicle line.now.list.now
-        other.now.costs.vehicle other.now.list.now a }
-    ensures range { IsAddedByChange result }
-{
-    let first = other.list[0];
-    let from = line.costs.cost(node_before(line, 0), first);
-    let left = other.costs.cost(node_before(other, 0), first);
-    let front = front_added(line, a, other);
-    from - left + front
-}
-
-// What the front of a list, up to place `a`, costs another vehicle up to its last node, less what the arcs cost there.
-#[inline(always)]
-fn front_added(line: &Line, a: u32, other: &Line) -> i64
-    requires line { IsLine line.now.costs.model.now line.now.costs.vehicle line.now.list.now line.now.along.now }
-    requires other { IsLine other.now.costs.model.now other.now.costs.vehicle other.now.list.now other.now.along.now }
-    requires same { other.now.costs.model.now ≡ line.now.costs.model.now }
-    requires costs { (i j : ℕ) → arc_cost line.now.costs.model.now other.now.costs.vehicle i j
-        ≡ arc_cost line.now.costs.model.now line.now.costs.vehicle i j }
-    requires place { a ≤ length line.now.list.now }
-    ensures value { result ≡ front_added line.now.costs.model.now line.now.costs.vehicle line.now.list.now
-        other.now.costs.vehicle a }
-    ensures range { IsAddedByList result }
-{
-    let old = line.along.stretch(line.list.len() as u32, 0, a);
-    if a == 0 {
-        return -old;
-    }
-    let to = other.costs.cost(node_before(other, 0), line.list[0]);
-    let chain = line.along.chain(false, 0, a);
-    to + chain - old
-}
-
-/// The last node of the front of a list, up to place `a`, in another list: where it is empty, that of the start there.
-#[inline(always)]
-pub fn front_last(line: &Line, a: u32, other: &Line) -> u32
-    requires line { IsLine line.now.costs.model.now line.now.costs.vehicle line.now.list.now line.now.along.now }
-    requires other { IsLine other.now.costs.model.now other.now.costs.vehicle other.now.list.now other.now.along.now }
-    requires same { other.now.costs.model.now ≡ line.now.costs.model.now }
-    requires place { a ≤ length line.now.list.now }
-    ensures value { result
-        ≡ last_of (vehicle_at line.now.costs.model.now other.now.costs.vehicle).start (take a line.now.list.now) }
-    ensures known { result < line.now.costs.model.now.nodes }
-{
-    if a == 0 {
-        return node_before(other, 0);
-    }
-    node_before(line, a)
-}
-
 /// The node of the stop before a place of the list of a vehicle.
 #[inline(always)]
 pub fn node_before(line: &Line, place: u32) -> u32
-    requires well_formed { IsWellFormed line.now.costs.model.now }
-    requires vehicle { line.now.costs.vehicle < length line.now.costs.model.now.vehicles }
-    requires nodes { All (λ node. node < line.now.costs.model.now.nodes) line.now.list.now }
     requires place { place ≤ length line.now.list.now }
     ensures value { result ≡ before_place line.now.costs.model.now line.now.costs.vehicle line.now.list.now place }
     ensures known { result < line.now.costs.model.now.nodes }
@@ -400,9 +353,6 @@ pub fn node_before(line: &Line, place: u32) -> u32
 /// The node of the stop at a place of the list of a vehicle.
 #[inline(always)]
 pub fn node_at(line: &Line, place: u32) -> u32
-    requires well_formed { IsWellFormed line.now.costs.model.now }
-    requires vehicle { line.now.costs.vehicle < length line.now.costs.model.now.vehicles }
-    requires nodes { All (λ node. node < line.now.costs.model.now.nodes) line.now.list.now }
     requires place { place ≤ length line.now.list.now }
     ensures value { result ≡ at_place line.now.costs.model.now line.now.costs.vehicle line.now.list.now place }
     ensures known { result < line.now.costs.model.now.nodes }

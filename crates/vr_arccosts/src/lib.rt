@@ -10,7 +10,9 @@
 #![tactic(auto)]
 
 mod arcs;
+mod committed;
 mod costs;
+mod crosses;
 mod fronts;
 mod gaps;
 mod lines;
@@ -18,6 +20,7 @@ mod moves;
 mod puts;
 mod rests;
 mod runs;
+mod swaps;
 mod walks;
 
 pub use arcs::ArcCost;

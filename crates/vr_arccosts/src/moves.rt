@@ -13,6 +13,7 @@ ghost use Rattle.vr_arccosts.specs.ArcMoves.{arcs_added, is_of_pair};
 ghost use Rattle.vr_parts.specs.Bounds.{IsAddedByChange, IsAddedByList};
 
 use crate::ArcCost;
+use crate::committed::Committed;
 use vr_model::Move;
 use vr_routes::{Change, Piece, Routes};
 
@@ -44,25 +45,27 @@ impl<'m> ArcCost<'m> {
             (λ added. added ≡ arcs_added self.now.model routes.now.lists mv) }
         ensures range { IfSome result IsAddedByChange }
     {
+        let lists = Committed { kept: self, routes };
         match mv {
-            Move::TwoOpt { v, a, b } => Some(self.turned(routes, v, a, b)),
-            Move::OrOpt { v, a, k, t } => Some(self.shifted(routes, v, a, k, t)),
-            Move::Relocate { v, a, w, t } => Some(self.relocated(routes, v, a, w, t)),
-            Move::Exchange { v, a, w, b } => Some(self.exchanged(routes, v, a, w, b)),
-            Move::Cross { v, a, w, b } => Some(self.crossed(routes, v, a, w, b)),
-            Move::MakeActive { u, w, t } => Some(self.made_active(routes, u, w, t)),
-            Move::MakeInactive { v, a } => Some(self.made_inactive(routes, v, a)),
-            Move::SwapActive { v, a, u } => Some(self.swapped(routes, v, a, u)),
+            Move::TwoOpt { v, a, b } => Some(lists.turned(v, a, b)),
+            Move::OrOpt { v, a, k, t } => Some(lists.shifted(v, a, k, t)),
+            Move::Relocate { v, a, w, t } => Some(lists.relocated(v, a, w, t)),
+            Move::Exchange { v, a, w, b } => Some(lists.exchanged(v, a, w, b)),
+            Move::Cross { v, a, w, b } => Some(lists.crossed(v, a, w, b)),
+            Move::MakeActive { u, w, t } => Some(lists.made_active(u, w, t)),
+            Move::MakeInactive { v, a } => Some(lists.made_inactive(v, a)),
+            Move::SwapActive { v, a, u } => Some(lists.swapped(v, a, u)),
             Move::RelocatePair { .. } | Move::PairActive { .. } | Move::PairInactive { .. } => None,
         }
     }
+}
 
+impl<'a, 'm> Committed<'a, 'm> {
     // What a stretch of a list that is turned adds.
     #[inline(always)]
-    fn turned(&self, routes: &Routes, v: u32, a: u32, b: u32) -> i64
-        requires stands { StandsAlong self.now routes.now }
-        requires is_one { is_move self.now.model routes.now.lists (TwoOpt v a b) ≡ true }
-        ensures exact { result ≡ arcs_added self.now.model routes.now.lists (TwoOpt v a b) }
+    fn turned(self, v: u32, a: u32, b: u32) -> i64
+        requires is_one { is_move self.kept.now.model self.routes.now.lists (TwoOpt v a b) ≡ true }
+        ensures exact { result ≡ arcs_added self.entry.kept.now.model self.entry.routes.now.lists (TwoOpt v a b) }
         ensures range { IsAddedByList result }
     {
         let stretch = Piece::Chain {
@@ -71,108 +74,105 @@ impl<'m> ArcCost<'m> {
             to: b + 1,
             reversed: true,
         };
-        self.between_adds(routes, v, a, b + 1, &[stretch])
+        self.kept.between_adds(self.routes, v, a, b + 1, &[stretch])
     }
 
     // What a chain adds that is put before another place of its list.
     #[inline(always)]
-    fn shifted(&self, routes: &Routes, v: u32, a: u32, k: u32, t: u32) -> i64
-        requires stands { StandsAlong self.now routes.now }
-        requires is_one { is_move self.now.model routes.now.lists (OrOpt v a k t) ≡ true }
-        ensures exact { result ≡ arcs_added self.now.model routes.now.lists (OrOpt v a k t) }
+    fn shifted(self, v: u32, a: u32, k: u32, t: u32) -> i64
+        requires is_one { is_move self.kept.now.model self.routes.now.lists (OrOpt v a k t) ≡ true }
+        ensures exact { result ≡ arcs_added self.entry.kept.now.model self.entry.routes.now.lists (OrOpt v a k t) }
         ensures range { IsAddedByList result }
     {
         let chain = on(v, a, a + k);
         if t < a {
-            self.between_adds(routes, v, t, a + k, &[chain, on(v, t, a)])
+            self.kept
+                .between_adds(self.routes, v, t, a + k, &[chain, on(v, t, a)])
         } else {
-            self.between_adds(routes, v, a, t + k, &[on(v, a + k, t + k), chain])
+            self.kept
+                .between_adds(self.routes, v, a, t + k, &[on(v, a + k, t + k), chain])
         }
     }
 
     // What a visit adds that is put into the list of another vehicle.
     #[inline(always)]
-    fn relocated(&self, routes: &Routes, v: u32, a: u32, w: u32, t: u32) -> i64
-        requires stands { StandsAlong self.now routes.now }
-        requires is_one { is_move self.now.model routes.now.lists (Relocate v a w t) ≡ true }
-        ensures exact { result ≡ arcs_added self.now.model routes.now.lists (Relocate v a w t) }
+    fn relocated(self, v: u32, a: u32, w: u32, t: u32) -> i64
+        requires is_one { is_move self.kept.now.model self.routes.now.lists (Relocate v a w t) ≡ true }
+        ensures exact { result ≡ arcs_added self.entry.kept.now.model self.entry.routes.now.lists (Relocate v a w t) }
         ensures range { IsAddedByChange result }
     {
         let visit = Piece::Node {
-            node: routes.node_at(v, a),
+            node: self.routes.node_at(v, a),
         };
-        let without = self.between_adds(routes, v, a, a + 1, &[]);
-        let with = self.between_adds(routes, w, t, t, &[visit]);
+        let without = self.kept.between_adds(self.routes, v, a, a + 1, &[]);
+        let with = self.kept.between_adds(self.routes, w, t, t, &[visit]);
         without + with
     }
 
     // What two visits add that take each other's place.
     #[inline(always)]
-    pub(crate) fn exchanged(&self, routes: &Routes, v: u32, a: u32, w: u32, b: u32) -> i64
-        requires stands { StandsAlong self.now routes.now }
-        requires is_one { is_move self.now.model routes.now.lists (Exchange v a w b) ≡ true }
-        ensures exact { result ≡ arcs_added self.now.model routes.now.lists (Exchange v a w b) }
+    pub(crate) fn exchanged(self, v: u32, a: u32, w: u32, b: u32) -> i64
+        requires is_one { is_move self.kept.now.model self.routes.now.lists (Exchange v a w b) ≡ true }
+        ensures exact { result ≡ arcs_added self.entry.kept.now.model self.entry.routes.now.lists (Exchange v a w b) }
         ensures range { IsAddedByChange result }
     {
         let first = Piece::Node {
-            node: routes.node_at(v, a),
+            node: self.routes.node_at(v, a),
         };
         let second = Piece::Node {
-            node: routes.node_at(w, b),
+            node: self.routes.node_at(w, b),
         };
         if v == w {
             let pieces = [second, on(v, a + 1, b), first];
-            return self.between_adds(routes, v, a, b + 1, &pieces);
+            return self.kept.between_adds(self.routes, v, a, b + 1, &pieces);
         }
-        let one = self.between_adds(routes, v, a, a + 1, &[second]);
-        let other = self.between_adds(routes, w, b, b + 1, &[first]);
+        let one = self.kept.between_adds(self.routes, v, a, a + 1, &[second]);
+        let other = self.kept.between_adds(self.routes, w, b, b + 1, &[first]);
         one + other
     }
 
     // What the fronts of two lists add that change vehicles.
     #[inline(always)]
-    pub(crate) fn crossed(&self, routes: &Routes, v: u32, a: u32, w: u32, b: u32) -> i64
-        requires stands { StandsAlong self.now routes.now }
-        requires is_one { is_move self.now.model routes.now.lists (Cross v a w b) ≡ true }
-        ensures exact { result ≡ arcs_added self.now.model routes.now.lists (Cross v a w b) }
+    pub(crate) fn crossed(self, v: u32, a: u32, w: u32, b: u32) -> i64
+        requires is_one { is_move self.kept.now.model self.routes.now.lists (Cross v a w b) ≡ true }
+        ensures exact { result ≡ arcs_added self.entry.kept.now.model self.entry.routes.now.lists (Cross v a w b) }
         ensures range { IsAddedByChange result }
     {
-        let one = self.between_adds(routes, v, 0, a, &[on(w, 0, b)]);
-        let other = self.between_adds(routes, w, 0, b, &[on(v, 0, a)]);
+        let one = self.kept.between_adds(self.routes, v, 0, a, &[on(w, 0, b)]);
+        let other = self.kept.between_adds(self.routes, w, 0, b, &[on(v, 0, a)]);
         one + other
     }
 
     // What a visit adds that is put into a list.
     #[inline(always)]
-    fn made_active(&self, routes: &Routes, u: u32, w: u32, t: u32) -> i64
-        requires stands { StandsAlong self.now routes.now }
-        requires is_one { is_move self.now.model routes.now.lists (MakeActive u w t) ≡ true }
-        ensures exact { result ≡ arcs_added self.now.model routes.now.lists (MakeActive u w t) }
+    fn made_active(self, u: u32, w: u32, t: u32) -> i64
+        requires is_one { is_move self.kept.now.model self.routes.now.lists (MakeActive u w t) ≡ true }
+        ensures exact { result ≡ arcs_added self.entry.kept.now.model self.entry.routes.now.lists (MakeActive u w t) }
         ensures range { IsAddedByList result }
     {
-        self.between_adds(routes, w, t, t, &[Piece::Node { node: u }])
+        self.kept
+            .between_adds(self.routes, w, t, t, &[Piece::Node { node: u }])
     }
 
     // What a visit adds that is left out of its list.
     #[inline(always)]
-    fn made_inactive(&self, routes: &Routes, v: u32, a: u32) -> i64
-        requires stands { StandsAlong self.now routes.now }
-        requires is_one { is_move self.now.model routes.now.lists (MakeInactive v a) ≡ true }
-        ensures exact { result ≡ arcs_added self.now.model routes.now.lists (MakeInactive v a) }
+    fn made_inactive(self, v: u32, a: u32) -> i64
+        requires is_one { is_move self.kept.now.model self.routes.now.lists (MakeInactive v a) ≡ true }
+        ensures exact { result ≡ arcs_added self.entry.kept.now.model self.entry.routes.now.lists (MakeInactive v a) }
         ensures range { IsAddedByList result }
     {
-        self.between_adds(routes, v, a, a + 1, &[])
+        self.kept.between_adds(self.routes, v, a, a + 1, &[])
     }
 
     // What a visit adds that takes the place of another one.
     #[inline(always)]
-    fn swapped(&self, routes: &Routes, v: u32, a: u32, u: u32) -> i64
-        requires stands { StandsAlong self.now routes.now }
-        requires is_one { is_move self.now.model routes.now.lists (SwapActive v a u) ≡ true }
-        ensures exact { result ≡ arcs_added self.now.model routes.now.lists (SwapActive v a u) }
+    fn swapped(self, v: u32, a: u32, u: u32) -> i64
+        requires is_one { is_move self.kept.now.model self.routes.now.lists (SwapActive v a u) ≡ true }
+        ensures exact { result ≡ arcs_added self.entry.kept.now.model self.entry.routes.now.lists (SwapActive v a u) }
         ensures range { IsAddedByList result }
     {
-        self.between_adds(routes, v, a, a + 1, &[Piece::Node { node: u }])
+        self.kept
+            .between_adds(self.routes, v, a, a + 1, &[Piece::Node { node: u }])
     }
 }
 

@@ -1,5 +1,6 @@
 //! The list of a vehicle without a pair: what the pair adds where it is put into it.
 
+ghost use Rattle.std.proofs.Props.{props};
 ghost use Rattle.std.specs.Prelude.{◌≡◌, ℕ, ◌+◌, ◌<◌, ◌≤◌, ◌+ℤ◌, ◌≤ℤ◌, length};
 ghost use Rattle.vr_parts.specs.Bounds.{IsAddedByChange, IsAddedByList};
 ghost use Rattle.vr_routes.specs.Pairs.{without_two};
@@ -16,6 +17,7 @@ pub struct Rest<'a, 'm> {
     pub list: &'a [u32],
     pub lo: u32,
     pub hi: u32,
+    pub ghost sound: { IsRest costs.model.now list.now lo hi } by { Prim.hlevel props },
 }
 
 /// The first place of a rest before which the delivery of a pair can be put so that, with the pickup before place `s`,
@@ -23,12 +25,10 @@ pub struct Rest<'a, 'm> {
 /// `end` where there is none.
 #[inline(never)]
 pub fn first_in_rest(rest: &Rest, pair: Pair, s: u32, base: i64, asked: Asked) -> u32
-    requires rest { IsRest rest.now.costs.model.now rest.now.costs.vehicle rest.now.list.now rest.now.lo rest.now.hi }
     requires pickup { pair.pickup < rest.now.costs.model.now.nodes }
     requires delivery { pair.delivery < rest.now.costs.model.now.nodes }
     requires base { IsAddedByList base }
     requires order { s ≤ asked.from }
-    requires asked { asked.from ≤ asked.end }
     requires places { asked.end + 1 ≤ length rest.now.list.now }
     ensures from { asked.from ≤ result }
     ensures within { result ≤ asked.end }
@@ -55,7 +55,6 @@ pub fn first_in_rest(rest: &Rest, pair: Pair, s: u32, base: i64, asked: Asked) -
 // How much more the arcs of a rest cost where a pair is put into it, by what they cost with the pickup alone.
 #[inline(always)]
 fn put_pair(rest: &Rest, pair: Pair, s: u32, with_pickup: i64, t: u32) -> i64
-    requires rest { IsRest rest.now.costs.model.now rest.now.costs.vehicle rest.now.list.now rest.now.lo rest.now.hi }
     requires pickup { pair.pickup < rest.now.costs.model.now.nodes }
     requires delivery { pair.delivery < rest.now.costs.model.now.nodes }
     requires with_pickup { with_pickup ≡ gap_added rest.now.costs.model.now rest.now.costs.vehicle
@@ -85,7 +84,6 @@ fn put_pair(rest: &Rest, pair: Pair, s: u32, with_pickup: i64, t: u32) -> i64
 // How much more the arcs to and from a chain cost than the arc between the stops beside a place of a rest.
 #[inline(always)]
 fn put(rest: &Rest, ends: Ends, t: u32) -> i64
-    requires rest { IsRest rest.now.costs.model.now rest.now.costs.vehicle rest.now.list.now rest.now.lo rest.now.hi }
     requires first { ends.first < rest.now.costs.model.now.nodes }
     requires last { ends.last < rest.now.costs.model.now.nodes }
     requires place { t + 2 ≤ length rest.now.list.now }
@@ -107,7 +105,6 @@ fn put(rest: &Rest, ends: Ends, t: u32) -> i64
 // The node of the stop before a place of a rest.
 #[inline(always)]
 fn node_before(rest: &Rest, place: u32) -> u32
-    requires rest { IsRest rest.now.costs.model.now rest.now.costs.vehicle rest.now.list.now rest.now.lo rest.now.hi }
     requires place { place + 2 ≤ length rest.now.list.now }
     ensures value { result ≡ before_place rest.now.costs.model.now rest.now.costs.vehicle
         (without_two rest.now.list.now rest.now.lo rest.now.hi) place }
@@ -127,7 +124,6 @@ fn node_before(rest: &Rest, place: u32) -> u32
 // The node of the stop at a place of a rest.
 #[inline(always)]
 fn node_at(rest: &Rest, place: u32) -> u32
-    requires rest { IsRest rest.now.costs.model.now rest.now.costs.vehicle rest.now.list.now rest.now.lo rest.now.hi }
     requires place { place + 2 ≤ length rest.now.list.now }
     ensures value { result ≡ at_place rest.now.costs.model.now rest.now.costs.vehicle
         (without_two rest.now.list.now rest.now.lo rest.now.hi) place }

@@ -47,6 +47,49 @@ impl<'a> Numbered for Newcomers<'a> {
             u: self.nodes[k as usize],
         }
     }
+
+    // The sieve is asked about all numbers from the first of these nodes to the last, active nodes among them: what it
+    // says of those is not used.
+    #[inline]
+    fn first<S: Sieve>(&self, sieve: &S, judge: &mut S::Judge, from: u32, end: u32) -> Option<u32> {
+        if from >= end {
+            return None;
+        }
+        let lowest = self.nodes[from as usize];
+        let highest = self.nodes[end as usize - 1];
+        if lowest > highest {
+            return None;
+        }
+        let mv = self.make(from);
+        match sieve.first(judge, mv, lowest, highest.saturating_add(1)) {
+            Some(first) => Some(end_within(self.nodes, from, end, lowest, first)),
+            None => None,
+        }
+    }
+
+    #[inline]
+    fn many(&self, from: u32, to: u32) -> u32 {
+        to - from
+    }
+}
+
+// Up to which place, from one on and below another, all nodes are numbers from `lowest` on, below `first`.
+#[inline]
+fn end_within(nodes: &[u32], from: u32, end: u32, lowest: u32, first: u32) -> u32
+    requires order { from ≤ end }
+    requires within { end ≤ length nodes.now }
+    ensures from { from ≤ result }
+    ensures within { result ≤ end }
+    ensures low { (k : ℕ) → from ≤ k → k < result → lowest ≤ slice_index nodes.now k }
+    ensures high { (k : ℕ) → from ≤ k → k < result → slice_index nodes.now k < first }
+{
+    for k in from..end {
+        let node = nodes[k as usize];
+        if node < lowest || node >= first {
+            return k;
+        }
+    }
+    end
 }
 
 // The places of `v`.

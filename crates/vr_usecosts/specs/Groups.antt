@@ -1,6 +1,6 @@
 -- The penalties of groups.
 use Rattle.std.specs.Prelude.{◌≡◌, ℕ, ◌<◌, Bool, nat_lt, IsTrue, cond, List, [], ◌∷◌, length, Option, Some, None}
-use Rattle.std.specs.Prelude.{ℤ, pos, negsuc, ◌-ℤ◌}
+use Rattle.std.specs.Prelude.{ℤ, pos, negsuc, ◌-ℤ◌, ◌≤ℤ◌}
 use Rattle.std.specs.List.{list_any}
 use Rattle.vr_model.specs.tables.Numbers.{number_at, total_by}
 use Rattle.vr_model.specs.tables.Tables.{visits}
@@ -43,10 +43,17 @@ Saves model lists mv saved =
     IsTrue (is_move model lists mv) → IsTrue (is_valid model (apply model lists mv))
     → penalty_part model lists -ℤ penalty_part model (apply model lists mv) ≡ saved
 
+-- the same, lower by so much at most
+abbrev pub SavesAtMost : Model → List (List ℕ) → Move → ℤ → Type 0
+SavesAtMost model lists mv saved =
+    IsTrue (is_move model lists mv) → IsTrue (is_valid model (apply model lists mv))
+    → (penalty_part model lists -ℤ penalty_part model (apply model lists mv)) ≤ℤ saved
+
 -- what contracts see of the penalties
 pub record KeptGroups : Type 0 where
   pub model : Model
   pub saved : List ℤ
+  pub most : ℤ
   pub pays : Bool
   pub total : ℤ
 
@@ -54,6 +61,11 @@ pub record KeptGroups : Type 0 where
 pub record AreSaved (model : Model) (saved : List ℤ) : Type 0 where
   pub long : length saved ≡ model.nodes
   pub each : (node : ℕ) → node < model.nodes → number_at saved node ≡ pos (saved_by model.groups node)
+
+-- no node saves more than `most`, which is the penalty of one group at most
+pub record IsMost (saved : List ℤ) (most : ℤ) : Type 0 where
+  pub each : (node : ℕ) → node < length saved → number_at saved node ≤ℤ most
+  pub range : IsUpTo 1 most
 
 -- each is the penalty of one group at most
 abbrev pub AreFew : List ℤ → Type 0
@@ -71,12 +83,13 @@ IsForPieces = IsUpTo 18000
 abbrev pub saved_in : List ℤ → List (List ℕ) → List Piece → ℤ
 saved_in saved lists pieces = total_by (λ piece. total_by (number_at saved) (nodes_of lists piece)) pieces
 
--- these are valid lists of the model, each node has what it saves, it is said whether some group has a penalty, and the
--- total is what the groups cost
+-- these are valid lists of the model, each node has what it saves, it is said what a node saves at most and whether
+-- some group has a penalty, and the total is what the groups cost
 pub record StandsGroups (kept : KeptGroups) (tours : Tours) : Type 0 where
   pub well_formed : IsWellFormed kept.model
   pub of_model : tours.visits ≡ visits kept.model
   pub valid : IsTrue (is_valid kept.model tours.lists)
   pub saved_are : AreSaved kept.model kept.saved
+  pub most_is : IsMost kept.saved kept.most
   pub pays_is : kept.pays ≡ is_some_paid kept.model
   pub total_is : kept.total ≡ penalty_part kept.model tours.lists

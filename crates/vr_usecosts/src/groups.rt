@@ -9,7 +9,7 @@ ghost use Rattle.vr_model.specs.tables.WellFormed.{IsIn, IsWellFormed, WherePres
 ghost use Rattle.vr_model.specs.routes.Routes.{holds};
 ghost use Rattle.vr_model.specs.routes.Costs.{penalty_for, penalty_part};
 ghost use Rattle.vr_model.specs.routes.Rules.{active_in as active_in_of, fits_group, is_valid};
-ghost use Rattle.vr_model.specs.declared.neighbours.Move.TheVariants.{MakeActive, PairActive};
+ghost use Rattle.vr_model.specs.declared.neighbours.Move.TheVariants.{MakeActive, PairActive, SwapActive};
 ghost use Rattle.vr_routes.specs.Changes.{IsMadeOn, NothingReady};
 ghost use Rattle.vr_routes.specs.Pieces.{changed, nodes_of, IsWithin};
 ghost use Rattle.vr_routes.specs.Runs.{with_last};
@@ -18,7 +18,7 @@ ghost use Rattle.vr_parts.specs.Parts.{CostAlike};
 ghost use Rattle.vr_balance.specs.Sums.{IsUpTo};
 ghost use Rattle.vr_usecosts.specs.Groups as penalties_of;
 ghost use Rattle.vr_usecosts.specs.Groups.{pay, saved_by, saved_in as saved_in_of, AreSaved, AreFew};
-ghost use Rattle.vr_usecosts.specs.Groups.{IsForNodes, IsForPieces, Saves, StandsGroups};
+ghost use Rattle.vr_usecosts.specs.Groups.{IsForNodes, IsForPieces, IsMost, Saves, SavesAtMost, StandsGroups};
 
 use std::alloc::Global;
 use std::marker::Model;
@@ -34,6 +34,8 @@ pub struct GroupCost<'m> {
     model: &'m RoutingModel,
     // for each node what it saves where it is active: the penalty of its group
     saved: Seq<i64>,
+    // none of these is more
+    most: i64,
     // whether some group has a penalty that is not 0
     pays: bool,
     // the penalties at the committed lists
@@ -49,6 +51,7 @@ impl<'m> Model for GroupCost<'m> {
     ghost view = { λ part. record {
       model = part.model.now;
       saved = part.saved;
+      most = part.most;
       pays = part.pays;
       total = part.total;
     } };
@@ -130,6 +133,21 @@ fn saved_at(saved: &Seq<i64>, node: u32) -> i64
         return *saved.get(node as usize);
     }
     0
+}
+
+// What a node saves at most.
+fn most_saved(saved: &Seq<i64>) -> i64
+    requires few { AreFew saved.now }
+    ensures { IsMost saved.now result }
+{
+    let mut most = 0;
+    for k in 0..saved.len() {
+        let next = *saved.get(k);
+        if next > most {
+            most = next;
+        }
+    }
+    most
 }
 
 // What some nodes save.
@@ -231,11 +249,13 @@ impl<'m> GroupCost<'m> {
     {
         let closed = Closed { model };
         let saved = savings(alloc, closed)?;
+        let most = most_saved(&saved);
         let pays = is_some_paid(model);
         let total = penalties(closed, routes);
         Ok(GroupCost {
             model,
             saved,
+            most,
             pays,
             total,
             balance: Balance::new(),
@@ -314,6 +334,38 @@ impl<'m> GroupCost<'m> {
             Move::PairActive { p, .. } => self.saved_by_pair(routes, p),
             _ => None,
         }
+    }
+
+    /// What each move of a run saves of the penalties at most, where the lists after it are valid: what a visit or a
+    /// pair saves that is put into a list, and, where a visit takes the place of a node, the most that a visit saves
+    /// less what the node does. The moves of a run differ in their last number. `None` of moves of other kinds.
+    #[inline]
+    pub fn saved_at_most_by_run(&self, routes: &Routes, mv: Move) -> Option<i64>
+        requires stands { StandsGroups self.now routes.now }
+        ensures at_most { IfSome result (λ saved. (k : ℕ)
+            → SavesAtMost self.now.model routes.now.lists (with_last mv k) saved) }
+        ensures range { IfSome result IsAddedByChange }
+    {
+        match mv {
+            Move::SwapActive { v, a, .. } => self.saved_by_newcomer(routes, v, a),
+            _ => self.saved_by_run(routes, mv),
+        }
+    }
+
+    // What a visit saves at most that takes the place of a node; `None` where there is no such place.
+    #[inline]
+    fn saved_by_newcomer(&self, routes: &Routes, v: u32, a: u32) -> Option<i64>
+        requires stands { StandsGroups self.now routes.now }
+        ensures at_most { IfSome result (λ saved. (u : ℕ)
+            → SavesAtMost self.now.model routes.now.lists (SwapActive v a u) saved) }
+        ensures range { IfSome result IsAddedByChange }
+    {
+        if v >= routes.vehicles() || a >= routes.len(v) {
+            return None;
+        }
+        let node = routes.node_at(v, a);
+        let paid = saved_at(&self.saved, node);
+        Some(self.most - paid)
     }
 
     // What a visit saves that is put into a list.

@@ -6,7 +6,7 @@ use Rattle.vr_arccosts.proofs.gaps.put.Goals as goal
 
 pub returns-clause-value : goal.returns-clause-value
 returns-clause-value c =
-    let line = c.requires.line in
+    let line = c.args.line.now.sound in
     let model = c.args.line.now.costs.model.now in
     let v = c.args.line.now.costs.vehicle in
     let list : List ℕ = c.args.line.now.list.now in

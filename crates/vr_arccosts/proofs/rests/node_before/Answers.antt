@@ -9,7 +9,7 @@ use Rattle.vr_arccosts.proofs.rests.node_before.Goals as goal
 
 pub returns-clause-value : goal.returns-clause-value
 returns-clause-value c =
-    let r = c.requires.rest in
+    let r = c.args.rest.now.sound in
     let list : List ℕ = c.args.rest.now.list.now in
     let lo = c.args.rest.now.lo in
     let hi = c.args.rest.now.hi in

@@ -10,7 +10,7 @@ use Rattle.vr_arccosts.proofs.rests.put.Goals as goal
 
 pub returns-then-rest-eq2-clause-value : goal.returns-then-rest-eq2-clause-value
 returns-then-rest-eq2-clause-value c =
-    let r = c.requires.rest in
+    let r = c.args.rest.now.sound in
     let model = c.args.rest.now.costs.model.now in
     let v = c.args.rest.now.costs.vehicle in
     let list : List ℕ = c.args.rest.now.list.now in
@@ -26,7 +26,7 @@ returns-then-rest-eq2-clause-value c =
 
 pub returns-clause-value : goal.returns-clause-value
 returns-clause-value c =
-    let r = c.requires.rest in
+    let r = c.args.rest.now.sound in
     let model = c.args.rest.now.costs.model.now in
     let v = c.args.rest.now.costs.vehicle in
     let list : List ℕ = c.args.rest.now.list.now in

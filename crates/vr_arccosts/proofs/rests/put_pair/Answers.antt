@@ -8,7 +8,7 @@ use Rattle.vr_arccosts.proofs.rests.put_pair.Goals as goal
 
 pub returns-then-s-t-clause-value : goal.returns-then-s-t-clause-value
 returns-then-s-t-clause-value c =
-    let r = c.requires.rest in
+    let r = c.args.rest.now.sound in
     let model = c.args.rest.now.costs.model.now in
     let v = c.args.rest.now.costs.vehicle in
     let list : List ℕ = c.args.rest.now.list.now in
@@ -24,7 +24,7 @@ returns-then-s-t-clause-value c =
 
 pub returns-clause-value : goal.returns-clause-value
 returns-clause-value c =
-    let r = c.requires.rest in
+    let r = c.args.rest.now.sound in
     let model = c.args.rest.now.costs.model.now in
     let v = c.args.rest.now.costs.vehicle in
     let list : List ℕ = c.args.rest.now.list.now in

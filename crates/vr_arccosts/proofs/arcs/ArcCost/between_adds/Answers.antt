@@ -1,27 +1,42 @@
-use Rattle.std.proofs.Common.{◌≡◌, ◌∙◌, ◌<◌, ℕ, List, ap, sym, subst, arith}
+use Rattle.std.proofs.Common.{◌≡◌, ◌∙◌, ◌<◌, ◌≤◌, ℕ, List, length, ap, sym, subst, arith}
 use Rattle.std.proofs.lemmas.Int.{ints}
 use Rattle.std.specs.Prelude.{slice_range, All}
 use Rattle.vr_model.specs.routes.Routes.{route}
 use Rattle.vr_model.specs.declared.records.Model.{Model}
 use Rattle.vr_routes.specs.Pieces.{joined}
-use Rattle.vr_arccosts.specs.Along.{between_cost, StandsAlong}
+use Rattle.vr_arccosts.specs.Along.{between_cost, AreAlong, HaveAlong, StandsAlong}
+use Rattle.vr_arccosts.specs.declared.lines.Along.{Along}
 use Rattle.vr_arccosts.proofs.LineLemmas.{along-at}
 use Rattle.vr_parts.proofs.PartLemmas.{small}
 use Rattle.vr_arccosts.proofs.PathLemmas.{cost-between}
 use Rattle.vr_arccosts.proofs.arcs.ArcCost.between_adds.Goals as goal
 
-pub stop_before-requires-clause-nodes : goal.stop_before-requires-clause-nodes
-stop_before-requires-clause-nodes c =
+pub invariant_of-of : goal.invariant_of-of
+invariant_of-of c =
     let s = subst (λ k. StandsAlong k c.args.routes.now) (sym c.self.view_is) c.requires.stands in
-    (small c.self.inside.model.now s.well_formed c.args.routes.now.lists s.valid).below c.args.v
+    let model = c.self.inside.model.now in
+    let lists : List (List ℕ) = c.args.routes.now.lists in
+    let kept : List Along = c.deref.result.now in
+    let have : HaveAlong model c.args.v lists kept = record {
+      nodes = (small model s.well_formed lists s.valid).below c.args.v;
+      as_many = s.as_many;
+      many = ap length c.deref.ensures.value ∙ s.many;
+      along = subst (AreAlong model lists) (sym c.deref.ensures.value) s.along;
+    } in
+    let costs = c.costs_of-costs.ensures in
+    record {
+      have = subst (λ (m : Model). HaveAlong m c.costs_of-costs.result.vehicle lists kept) (ap (λ k. k.model) c.self.view_is ∙ sym costs.model)
+          (subst (λ u. HaveAlong model u lists kept) (sym costs.vehicle) have);
+    }
 
-pub stop_at-requires-clause-nodes : goal.stop_at-requires-clause-nodes
-stop_at-requires-clause-nodes c =
-    let s = subst (λ k. StandsAlong k c.args.routes.now) (sym c.self.view_is) c.requires.stands in
-    (small c.self.inside.model.now s.well_formed c.args.routes.now.lists s.valid).below c.args.v
+pub invariant_of-gap : goal.invariant_of-gap
+invariant_of-gap c = record {
+  order = c.requires.order;
+  place = subst (λ u. c.args.behind ≤ length (route c.args.routes.now.lists u)) (sym c.costs_of-costs.ensures.vehicle) c.requires.place;
+}
 
-pub cost_between-after-requires-clause-nodes : goal.cost_between-after-requires-clause-nodes
-cost_between-after-requires-clause-nodes c =
+pub cost_along-requires-clause-nodes : goal.cost_along-requires-clause-nodes
+cost_along-requires-clause-nodes c =
     subst (λ (m : Model). All (λ node. node < m.nodes) (joined c.args.routes.now.lists c.args.pieces.now)) (sym c.costs_of-costs.ensures.model) c.requires.nodes
 
 pub returns-clause-value : goal.returns-clause-value
@@ -37,7 +52,7 @@ returns-clause-value c =
     let many = s.many in
     let as_many = s.as_many in
     let kept = along-at c.self.inside.model.now lists c.self.inside.along.items v c.index.result.now s.along (omega (arith, many, as_many)) c.requires.vehicle c.index.ensures in
-    let a = c.cost_between-after.ensures in
+    let a = c.cost_along.ensures in
     let b = c.stretch-before.ensures in
     let costs = c.costs_of-costs.ensures in
     let u = c.costs_of-costs.result.vehicle in

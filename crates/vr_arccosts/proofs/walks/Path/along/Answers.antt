@@ -1,5 +1,6 @@
 use Rattle.std.proofs.Common.{◌≡◌, ◌<◌, ℕ, List, length, ap, subst, arith}
 use Rattle.std.proofs.lemmas.Int.{ints}
+use Rattle.std.specs.Prelude.{All}
 use Rattle.vr_model.specs.tables.Tables.{arc_cost}
 use Rattle.vr_model.specs.routes.Routes.{route}
 use Rattle.vr_routes.specs.declared.pieces.Piece.TheVariants.{Chain}
@@ -9,10 +10,15 @@ use Rattle.vr_arccosts.proofs.ChainLemmas.{path-first}
 use Rattle.vr_arccosts.proofs.PieceLemmas.{chain-length}
 use Rattle.vr_arccosts.proofs.walks.Path.along.Goals as goal
 
+pub through-requires-clause-first : goal.through-requires-clause-first
+through-requires-clause-first c =
+    let Below : ℕ → Type 0 = λ node. node < c.args.of.now.costs.now.model.now.nodes in
+    subst (λ p. All Below (nodes_of c.args.of.now.routes.now.lists p)) c.in-Node.is c.requires.nodes 0 0 (omega arith)
+
 pub returns-else-from-to-clause-cost : goal.returns-else-from-to-clause-cost
 returns-else-from-to-clause-cost c =
-    let lists : List (List ℕ) = c.args.routes.now.lists in
-    let cost = arc_cost c.args.costs.now.model.now c.args.costs.now.vehicle in
+    let lists : List (List ℕ) = c.args.of.now.routes.now.lists in
+    let cost = arc_cost c.args.of.now.costs.now.model.now c.args.of.now.costs.now.vehicle in
     let at = c.args.self.at in
     let p = c.in-Chain in
     let w = subst (IsWithin lists) p.is c.requires.within in

@@ -40,6 +40,7 @@ returns-clause-stands c =
       of_model = s.of_model;
       valid = valid;
       saved_are = s.saved_are;
+      most_is = s.most_is;
       pays_is = s.pays_is;
       total_is = omega (arith, ints, now.at_least, now.at_most, later.at_least, later.at_most, is, exact, a.range.low, a.range.high);
     }

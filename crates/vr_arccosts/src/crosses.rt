@@ -1,0 +1,111 @@
+//! Runs of fronts that change vehicles: the first of them that may add less than a bound to arc costs.
+
+ghost use Rattle.std.specs.Prelude.{◌≡◌, ℕ, ◌+◌, ◌<◌, ◌≤◌, length};
+ghost use Rattle.vr_model.specs.routes.Routes.{route};
+ghost use Rattle.vr_model.specs.tables.Tables.{arc_cost};
+ghost use Rattle.vr_model.specs.declared.neighbours.Move.TheVariants.{Cross};
+ghost use Rattle.vr_arccosts.specs.Runs.{AddsNoLess};
+
+use crate::committed::Committed;
+use crate::fronts::{Fronts, first_front};
+use crate::gaps::{Asked, Ends, first_gap, node_at};
+
+/// The run of the front of the list of vehicle `v`, up to place `a`, that changes vehicles with those of vehicle `w`.
+#[derive(Clone, Copy)]
+pub(crate) struct CrossRun<'a, 'm> {
+    pub(crate) lists: Committed<'a, 'm>,
+    pub(crate) v: u32,
+    pub(crate) a: u32,
+    pub(crate) w: u32,
+    pub ghost vehicles: { v < w },
+    pub ghost other: { w < length lists.routes.now.lists },
+    pub ghost gap: { a ≤ length (route lists.routes.now.lists v) },
+}
+
+impl<'a, 'm> CrossRun<'a, 'm> {
+    /// Its first move that may add less than the bound, by the place behind the other front, which has a visit.
+    #[inline(always)]
+    pub(crate) fn first(&self, asked: Asked) -> u32
+        requires some { 1 ≤ asked.from }
+        requires places { asked.end ≤ length (route self.now.lists.routes.now.lists self.now.w) + 1 }
+        ensures from { asked.from ≤ result }
+        ensures within { result ≤ asked.end }
+        ensures no_less { let run = self.now in (b : ℕ) → asked.from ≤ b → b < result → AddsNoLess
+            run.lists.kept.now.model run.lists.routes.now.lists (Cross run.v run.a run.w b) asked.bound }
+    {
+        if self.lists.kept.have_same_costs(self.v, self.w) {
+            return self.first_fronts(asked);
+        }
+        self.first_unlike(asked)
+    }
+
+    // The same run, where the vehicles need not have the same costs.
+    #[inline(always)]
+    fn first_unlike(&self, asked: Asked) -> u32
+        requires some { 1 ≤ asked.from }
+        requires places { asked.end ≤ length (route self.now.lists.routes.now.lists self.now.w) + 1 }
+        ensures from { asked.from ≤ result }
+        ensures within { result ≤ asked.end }
+        ensures no_less { let run = self.now in (b : ℕ) → asked.from ≤ b → b < result → AddsNoLess
+            run.lists.kept.now.model run.lists.routes.now.lists (Cross run.v run.a run.w b) asked.bound }
+    {
+        let line = self.lists.kept.line_of(self.lists.routes, self.v);
+        let other = self.lists.kept.line_of(self.lists.routes, self.w);
+        first_front(&line, self.a, &other, asked)
+    }
+
+    // The same run, where both vehicles have the same costs: fronts that leave one list empty are told alone.
+    #[inline(always)]
+    fn first_fronts(&self, asked: Asked) -> u32
+        requires some { 1 ≤ asked.from }
+        requires places { asked.end ≤ length (route self.now.lists.routes.now.lists self.now.w) + 1 }
+        requires costs { let run = self.now in (i j : ℕ) → arc_cost run.lists.kept.now.model run.w i j
+            ≡ arc_cost run.lists.kept.now.model run.v i j }
+        ensures from { asked.from ≤ result }
+        ensures within { result ≤ asked.end }
+        ensures no_less { let run = self.now in (b : ℕ) → asked.from ≤ b → b < result → AddsNoLess
+            run.lists.kept.now.model run.lists.routes.now.lists (Cross run.v run.a run.w b) asked.bound }
+    {
+        let n = self.lists.routes.len(self.w);
+        if self.a > 0 || asked.end <= n || asked.from == asked.end {
+            return self.first_left(asked);
+        }
+        let b = self.first_left(asked.ending(n));
+        if b < n || self.lists.crossed(self.v, 0, self.w, n) < asked.bound {
+            return b;
+        }
+        asked.end
+    }
+
+    // The same run, where neither list is left empty.
+    #[inline(always)]
+    fn first_left(&self, asked: Asked) -> u32
+        requires some { 1 ≤ asked.from }
+        requires places { asked.end ≤ length (route self.now.lists.routes.now.lists self.now.w) + 1 }
+        requires costs { let run = self.now in (i j : ℕ) → arc_cost run.lists.kept.now.model run.w i j
+            ≡ arc_cost run.lists.kept.now.model run.v i j }
+        requires left { self.now.a ≡ 0 → asked.from < asked.end
+            → asked.end ≤ length (route self.now.lists.routes.now.lists self.now.w) }
+        ensures from { asked.from ≤ result }
+        ensures within { result ≤ asked.end }
+        ensures no_less { let run = self.now in (b : ℕ) → asked.from ≤ b → b < result → AddsNoLess
+            run.lists.kept.now.model run.lists.routes.now.lists (Cross run.v run.a run.w b) asked.bound }
+    {
+        if asked.from == asked.end {
+            return asked.end;
+        }
+        let line = self.lists.kept.line_of(self.lists.routes, self.v);
+        let other = self.lists.kept.line_of(self.lists.routes, self.w);
+        let fronts = Fronts {
+            line: &line,
+            a: self.a,
+            other: &other,
+        };
+        let base = fronts.base();
+        let ends = Ends {
+            first: node_at(&line, self.a),
+            last: fronts.last(),
+        };
+        first_gap(&other, ends, base, asked)
+    }
+}
