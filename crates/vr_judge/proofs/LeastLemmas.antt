@@ -1,8 +1,8 @@
 -- What moves add at least, where arcs and groups alone are paid.
-use Rattle.std.proofs.Common.{◌≡◌, ℕ, ◌<◌, Bool, List, refl, sym, ap, subst, arith}
-use Rattle.std.specs.Prelude.{ℤ, pos, ◌+ℤ◌, ◌-ℤ◌, ◌≤ℤ◌, IsTrue, Option, Some, None, MatchOption, IfSome, count_by}
+use Rattle.std.proofs.Common.{◌≡◌, ◌∙◌, ℕ, ◌<◌, Bool, true, false, List, refl, sym, ap, subst, arith}
+use Rattle.std.specs.Prelude.{ℤ, pos, ◌+ℤ◌, ◌-ℤ◌, ◌≤ℤ◌, not, ◌&&◌, ◌||◌, nat_lt, IsTrue, Option, Some, None, MatchOption, IfSome, count_by}
 use Rattle.std.proofs.lemmas.Int.{ints}
-use Rattle.vr_model.specs.tables.Numbers.{total_by}
+use Rattle.vr_model.specs.tables.Numbers.{is_same_number, total_by}
 use Rattle.vr_model.specs.tables.WellFormed.{IsWellFormed}
 use Rattle.vr_model.specs.moves.Moves.{apply}
 use Rattle.vr_model.specs.routes.Costs.{arcs_part, cost, penalty_for, penalty_part}
@@ -14,11 +14,11 @@ use Rattle.vr_model.proofs.routes.CostBounds.{penalties-up_to}
 use Rattle.vr_routes.specs.Judging.{IsLeast}
 use Rattle.vr_routes.specs.Runs.{with_last}
 use Rattle.vr_known.specs.Blocks.{kind_of}
-use Rattle.vr_usecosts.specs.Groups.{Saves}
+use Rattle.vr_usecosts.specs.Groups.{SavesAtMost}
 use Rattle.vr_judge.proofs.PairLemmas.{stay_active}
-use Rattle.vr_arccosts.specs.ArcMoves.{arcs_added}
+use Rattle.vr_arccosts.specs.ArcMoves.{arcs_added, is_of_pair}
 use Rattle.vr_arccosts.specs.Runs.{AddsNoLess}
-use Rattle.vr_judge.specs.Costs.{AddArcsAtLeast, AddArcsBut, PaysArcsAndGroups}
+use Rattle.vr_judge.specs.Costs.{AddArcsAtLeast, AddArcsBut, IsToldByNumbers, PaysArcsAndGroups, is_least_by_arcs, pays_arcs_and_groups}
 
 -- penalties, by which visits are active
 abbrev penalties : Model → (ℕ → Bool) → ℤ
@@ -60,15 +60,15 @@ module _ (model : Model) (pays : PaysArcsAndGroups model) (lists : List (List �
       let stay : penalty_part model (apply model lists mv) ≡ penalty_part model lists = ap (penalties model) (stay_active model lists mv one (subst (λ k. k < 6) (sym same) low)) in
       omega (arith, ints, stay)
 
-  -- the moves of a run save so much of the penalties
-  groups_save : (mv : Move) (saved : ℤ) → ((k : ℕ) → Saves model lists (with_last mv k) saved) → AddArcsBut model lists mv saved
+  -- the moves of a run save so much of the penalties at most
+  groups_save : (mv : Move) (saved : ℤ) → ((k : ℕ) → SavesAtMost model lists (with_last mv k) saved) → AddArcsBut model lists mv saved
   groups_save mv saved save k one after =
       let later : List (List ℕ) = apply model lists (with_last mv k) in
       let differ : cost model later -ℤ cost model lists ≡ (arcs_part model later -ℤ arcs_part model lists) +ℤ (penalty_part model later -ℤ penalty_part model lists) = pays lists later valid after in
       let less = save k one after in
       omega (arith, ints, differ, less)
 
-  pub all_save : (mv : Move) (told : Option ℤ) → IfSome told (λ saved. (k : ℕ) → Saves model lists (with_last mv k) saved) → IfSome told (AddArcsBut model lists mv)
+  pub all_save : (mv : Move) (told : Option ℤ) → IfSome told (λ saved. (k : ℕ) → SavesAtMost model lists (with_last mv k) saved) → IfSome told (AddArcsBut model lists mv)
   all_save mv None save = cc
   all_save mv (Some saved) save = groups_save mv saved save
 
@@ -77,6 +77,22 @@ pub none_saved : (model : Model) (lists : List (List ℕ)) (mv : Move) → AddAr
 none_saved model lists mv least k one after =
     let low = least (with_last mv k) (same_kind mv k) one after in
     omega (arith, ints, low)
+
+-- where more than arcs and groups is paid, or where it is not but penalties may fall, a kind adds less than to arcs
+pub unpaid : (model : Model) (lists : List (List ℕ)) (kind : ℕ) → pays_arcs_and_groups model ≡ false → false ≡ is_least_by_arcs model lists kind
+unpaid model lists kind pays = sym (ap (λ b. b && (is_same_number (penalty_part model lists) (pos 0) || nat_lt kind 6)) pays)
+
+-- where arcs and groups alone are paid, it depends on the penalties that are to pay, and on the kind
+pub by_penalties : (model : Model) (lists : List (List ℕ)) (kind : ℕ) (none : Bool) → pays_arcs_and_groups model ≡ true → is_same_number (penalty_part model lists) (pos 0) ≡ none
+    → (none || nat_lt kind 6) ≡ is_least_by_arcs model lists kind
+by_penalties model lists kind none pays is =
+    sym (ap (λ b. b && (is_same_number (penalty_part model lists) (pos 0) || nat_lt kind 6)) pays ∙ ap (λ b. b || nat_lt kind 6) is)
+
+-- what is told of the arcs is told by the numbers of a move
+pub numbers_tell : (model : Model) (lists : List (List ℕ)) (mv : Move) (known : Option ℤ) → is_least_by_arcs model lists (kind_of mv) ≡ true
+    → MatchOption known (is_of_pair mv ≡ true) (λ added. added ≡ arcs_added model lists mv) → IsToldByNumbers model lists mv known
+numbers_tell model lists mv None least pair = ap (λ b. b && not (is_of_pair mv)) least ∙ ap not pair
+numbers_tell model lists mv (Some added) least is = is
 
 -- what is known is the least
 pub known_least : (model : Model) (lists : List (List ℕ)) (mv : Move) (known : Option ℤ) (P : Type 0) → MatchOption known P (λ added. added ≡ arcs_added model lists mv)

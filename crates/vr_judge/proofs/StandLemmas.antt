@@ -26,5 +26,6 @@ stands-like kept tours h arcs fixed groups plans spans arcs_like fixed_like grou
   plans = plans_stand;
   spans = spans_stand;
   earliest = h.earliest;
+  arcs_and_groups_is = h.arcs_and_groups_is;
   arcs_and_groups = h.arcs_and_groups;
 }

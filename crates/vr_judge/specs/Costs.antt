@@ -1,5 +1,7 @@
 -- Where the parts of the cost stand.
-use Rattle.std.specs.Prelude.{◌≡◌, ℕ, ℤ, Bool, IsTrue, List, ◌+ℤ◌, ◌-ℤ◌}
+use Rattle.std.specs.Prelude.{◌≡◌, ℕ, ℤ, Bool, false, not, ◌&&◌, ◌||◌, nat_lt, IsTrue, List, Option, MatchOption}
+use Rattle.std.specs.Prelude.{pos, ◌+ℤ◌, ◌-ℤ◌}
+use Rattle.vr_model.specs.tables.Numbers.{is_same_number}
 use Rattle.vr_model.specs.routes.Costs.{arcs_part, cost, penalty_part}
 use Rattle.vr_model.specs.moves.MoveTests.{is_move}
 use Rattle.vr_model.specs.routes.Rules.{is_valid}
@@ -10,11 +12,11 @@ use Rattle.vr_routes.specs.Runs.{with_last}
 use Rattle.vr_routes.specs.Tours.{Tours}
 use Rattle.vr_known.specs.Blocks.{kind_of}
 use Rattle.vr_arccosts.specs.Along.{KeptAlong, StandsAlong}
-use Rattle.vr_arccosts.specs.ArcMoves.{arcs_added}
-use Rattle.vr_usecosts.specs.Fixed.{KeptFixed, StandsFixed}
-use Rattle.vr_costfilter.specs.GlobalCosts.{KeptSpans, StandsSpans}
+use Rattle.vr_arccosts.specs.ArcMoves.{arcs_added, is_of_pair}
+use Rattle.vr_usecosts.specs.Fixed.{is_some_fixed, KeptFixed, StandsFixed}
+use Rattle.vr_costfilter.specs.GlobalCosts.{is_some_spanned, KeptSpans, StandsSpans}
 use Rattle.vr_usecosts.specs.Groups.{KeptGroups, StandsGroups}
-use Rattle.vr_costfilter.specs.PlanCosts.{KeptPlans, StandsPlans}
+use Rattle.vr_costfilter.specs.PlanCosts.{pays_no_plan, KeptPlans, StandsPlans}
 use Rattle.vr_earliest.specs.Kept.{KeptEarly, StandsEarliest}
 
 -- what valid lists of the model differ by in cost is what their arcs and the penalties of their groups differ by
@@ -23,6 +25,25 @@ PaysArcsAndGroups model =
     (lists later : List (List ℕ)) → IsTrue (is_valid model lists) → IsTrue (is_valid model later)
     → cost model later -ℤ cost model lists
     ≡ (arcs_part model later -ℤ arcs_part model lists) +ℤ (penalty_part model later -ℤ penalty_part model lists)
+
+-- no vehicle has a fixed cost, no span a coefficient, no stop a soft upper bound and no global span a coefficient, so
+-- that arcs and groups alone are paid
+abbrev pub pays_arcs_and_groups : Model → Bool
+pays_arcs_and_groups model = (not (is_some_fixed model) && pays_no_plan model) && not (is_some_spanned model)
+
+-- arcs and groups alone are paid, and either the lists have no penalty to pay or moves of the kind change no activity
+abbrev pub is_least_by_arcs : Model → List (List ℕ) → ℕ → Bool
+is_least_by_arcs model lists kind =
+    pays_arcs_and_groups model && (is_same_number (penalty_part model lists) (pos 0) || nat_lt kind 6)
+
+-- the numbers of a move tell what it adds at least: it adds no less than to the cost of arcs, and is no move of a pair
+abbrev pub is_told_by_numbers : Model → List (List ℕ) → Move → Bool
+is_told_by_numbers model lists mv = is_least_by_arcs model lists (kind_of mv) && not (is_of_pair mv)
+
+-- what a move adds to the cost of arcs is told, and nothing only where its numbers do not tell what it adds at least
+abbrev pub IsToldByNumbers : Model → List (List ℕ) → Move → Option ℤ → Type 0
+IsToldByNumbers model lists mv least =
+    MatchOption least (is_told_by_numbers model lists mv ≡ false) (λ added. added ≡ arcs_added model lists mv)
 
 -- each move of a kind adds no less to the cost of lists than it adds to the cost of their arcs
 abbrev pub AddArcsAtLeast : Model → List (List ℕ) → ℕ → Type 0
@@ -37,7 +58,7 @@ AddArcsBut model lists mv saved =
     (k : ℕ) → IsTrue (is_move model lists (with_last mv k))
     → IsLeast model lists (with_last mv k) (arcs_added model lists (with_last mv k) -ℤ saved)
 
--- what contracts see of the parts of the cost, and whether it is said that arcs and groups alone are paid
+-- what contracts see of the parts of the cost, and whether arcs and groups alone are paid
 pub record KeptCosts : Type 0 where
   pub model : Model
   pub arcs : KeptAlong
@@ -48,8 +69,8 @@ pub record KeptCosts : Type 0 where
   pub earliest : KeptEarly
   pub arcs_and_groups : Bool
 
--- each part and what is kept of early ends is of the model, and has committed these lists; where it is said that arcs
--- and groups alone are paid, they are
+-- each part and what is kept of early ends is of the model, and has committed these lists; it is said whether arcs and
+-- groups alone are paid, and where it is said so, valid lists differ by them alone
 pub record StandsCosts (kept : KeptCosts) (tours : Tours) : Type 0 where
   pub arcs_model : kept.arcs.model ≡ kept.model
   pub fixed_model : kept.fixed.model ≡ kept.model
@@ -63,4 +84,5 @@ pub record StandsCosts (kept : KeptCosts) (tours : Tours) : Type 0 where
   pub plans : StandsPlans kept.plans tours
   pub spans : StandsSpans kept.spans tours
   pub earliest : StandsEarliest kept.earliest tours.lists
+  pub arcs_and_groups_is : kept.arcs_and_groups ≡ pays_arcs_and_groups kept.model
   pub arcs_and_groups : IsTrue kept.arcs_and_groups → PaysArcsAndGroups kept.model

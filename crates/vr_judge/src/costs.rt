@@ -11,10 +11,10 @@ ghost use Rattle.vr_routes.specs.Pieces.{changed};
 ghost use Rattle.vr_routes.specs.Judging.{IsLeast, IsNoLess};
 ghost use Rattle.vr_routes.specs.Runs.{with_last};
 ghost use Rattle.vr_known.specs.Blocks.{kind_of};
-ghost use Rattle.vr_arccosts.specs.ArcMoves.{arcs_added};
 ghost use Rattle.vr_usecosts.specs.Fixed.{StandsFixed};
 ghost use Rattle.vr_parts.specs.Bounds.{IsAddedByChange};
 ghost use Rattle.vr_judge.specs.Costs.{AddArcsAtLeast, AddArcsBut, PaysArcsAndGroups, StandsCosts};
+ghost use Rattle.vr_judge.specs.Costs.{is_least_by_arcs, pays_arcs_and_groups, IsToldByNumbers};
 
 use crate::both::both;
 use std::alloc::Global;
@@ -63,7 +63,8 @@ fn are_idle(routes: &Routes, fixed: &FixedCost, plans: &PlanCost, spans: &Global
     requires fixed { StandsFixed fixed.now routes.now }
     requires plans_model { plans.now.model ≡ fixed.now.model }
     requires spans_model { spans.now.model ≡ fixed.now.model }
-    ensures { IsTrue result → PaysArcsAndGroups fixed.now.model }
+    ensures idle { result ≡ pays_arcs_and_groups fixed.now.model }
+    ensures alike { IsTrue result → PaysArcsAndGroups fixed.now.model }
 {
     fixed.is_idle(routes) && plans.is_idle() && spans.is_idle()
 }
@@ -129,11 +130,12 @@ impl<'m> Costs<'m> {
     }
 
     // Whether no move of the kind of this one adds less to the cost than to the cost of arcs: arcs and groups alone are
-    // paid, and no penalty is to pay, or moves of the kind leave the penalties as they are.
+    // paid, and either no penalty is to pay or moves of the kind leave the penalties as they are.
     #[inline(always)]
     fn adds_arcs_at_least(&self, _routes: &Routes, mv: Move) -> bool
         requires stands { StandsCosts self.now _routes.now }
-        ensures { IsTrue result → AddArcsAtLeast self.now.model _routes.now.lists (kind_of mv) }
+        ensures told { result ≡ is_least_by_arcs self.now.model _routes.now.lists (kind_of mv) }
+        ensures least { IsTrue result → AddArcsAtLeast self.now.model _routes.now.lists (kind_of mv) }
     {
         if !self.arcs_and_groups {
             return false;
@@ -145,13 +147,13 @@ impl<'m> Costs<'m> {
     }
 
     /// What a move of the committed lists adds to the cost of arcs, told by the numbers of the move alone; where the
-    /// lists after it are valid, it adds no less to their cost. `None` where more may be paid than arcs, but for
-    /// penalties that do not fall, and for a move of a pair.
+    /// lists after it are valid, it adds no less to their cost. `None` only where a fixed cost, a soft bound or a span
+    /// may be paid, where a penalty is paid and moves of the kind change activity, and for a move of a pair.
     #[inline(always)]
     pub fn least_by_numbers(&self, routes: &Routes, mv: Move) -> Option<i64>
         requires stands { StandsCosts self.now routes.now }
         requires is_one { is_move self.now.model routes.now.lists mv ≡ true }
-        ensures exact { IfSome result (λ least. least ≡ arcs_added self.now.model routes.now.lists mv) }
+        ensures told { IsToldByNumbers self.now.model routes.now.lists mv result }
         ensures least { IfSome result (IsLeast self.now.model routes.now.lists mv) }
     {
         if !self.adds_arcs_at_least(routes, mv) {
@@ -161,7 +163,8 @@ impl<'m> Costs<'m> {
     }
 
     // What each move of a run saves at most beside what it adds to the cost of arcs: the penalties of what it puts into
-    // a list. The moves of a run differ in their last number. `None` where it cannot be told of all at once.
+    // a list, less those of what it takes out. The moves of a run differ in their last number. `None` where it cannot
+    // be told of all at once.
     #[inline(always)]
     fn saved_by_run(&self, routes: &Routes, mv: Move) -> Option<i64>
         requires stands { StandsCosts self.now routes.now }
@@ -174,13 +177,13 @@ impl<'m> Costs<'m> {
         if !self.arcs_and_groups {
             return None;
         }
-        self.groups.saved_by_run(routes, mv)
+        self.groups.saved_at_most_by_run(routes, mv)
     }
 
     /// Goes over a run of moves of the committed lists, which differ in their last number: those of the numbers from
     /// `from` on, below `end`. Says from which number on some may make a difference below a bound, told by the cost of
-    /// arcs, less the penalties that are saved where all moves save the same. `None` where more may be paid than these,
-    /// and of a kind of which no run is gone over.
+    /// arcs, less the most of the penalties that any of them saves. `None` where more may be paid than these, and of a
+    /// kind of which no run is gone over.
     #[inline(always)]
     pub fn first_below(
         &self,

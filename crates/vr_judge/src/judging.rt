@@ -1,13 +1,13 @@
 //! Judging a move by a filter of what it changes, and by the parts of the cost.
 
-ghost use Rattle.std.specs.Prelude.{◌≡◌, ◌+◌, ◌≤◌, ℕ, List, IfOk, IsTrue, OnOk, OnErr, length};
+ghost use Rattle.std.specs.Prelude.{◌≡◌, ◌+◌, ◌≤◌, ℕ, List, IfOk, IfSome, IsTrue, OnOk, OnErr, length};
 ghost use Rattle.vr_model.specs.moves.Moves.{apply};
 ghost use Rattle.vr_model.specs.moves.MoveTests.{is_move};
 ghost use Rattle.vr_model.specs.routes.Rules.{is_valid};
 ghost use Rattle.vr_model.specs.tables.Tables.{visits};
 ghost use Rattle.vr_model.specs.tables.WellFormed.{IsWellFormed};
-ghost use Rattle.vr_judge.specs.Costs.{StandsCosts};
-ghost use Rattle.vr_routes.specs.Judging.{HoldSame, moved, verdict_of};
+ghost use Rattle.vr_judge.specs.Costs.{IsToldByNumbers, StandsCosts};
+ghost use Rattle.vr_routes.specs.Judging.{HoldSame, IsLeast, moved, verdict_of};
 ghost use Rattle.vr_judge.specs.Rules.{keeps_rules, total_weight};
 
 use crate::costs::Costs;
@@ -103,8 +103,18 @@ impl<'m, F: PathFilter + Drop> Judge for Judging<'m, F> {
         self.costs.least(routes, mv, change)
     }
 
+    // The clauses of the trait, of which the judge counts no questions, and when there is an answer.
     #[inline(always)]
-    fn least_by_numbers(&mut self, routes: &Routes, mv: Move) -> Option<i64> {
+    fn least_by_numbers(&mut self, routes: &Routes, mv: Move) -> Option<i64>
+        requires well_formed { IsWellFormed self.old.model }
+        requires holds { HoldSame self.old.model self.old.lists routes.now }
+        requires mv { IsTrue (is_move self.old.model routes.now.lists mv) }
+        ensures told { IsToldByNumbers self.old.model routes.now.lists mv result }
+        ensures least { IfSome result (IsLeast self.old.model routes.now.lists mv) }
+        ensures model { self.new.model ≡ self.old.model }
+        ensures committed { self.new.lists ≡ self.old.lists }
+        ensures looked { 0 ≤ 0 + 1 }
+    {
         self.costs.least_by_numbers(routes, mv)
     }
 

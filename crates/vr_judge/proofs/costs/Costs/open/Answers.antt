@@ -1,4 +1,4 @@
-use Rattle.std.proofs.Common.{◌≡◌, Ok, subst}
+use Rattle.std.proofs.Common.{◌≡◌, ◌∙◌, Ok, ap, subst}
 use Rattle.vr_model.specs.declared.records.Model.{Model}
 use Rattle.vr_judge.proofs.BothLemmas.{of_value}
 use Rattle.vr_arccosts.specs.Along.{StandsAlong}
@@ -7,7 +7,7 @@ use Rattle.vr_costfilter.specs.GlobalCosts.{StandsSpans}
 use Rattle.vr_usecosts.specs.Groups.{StandsGroups}
 use Rattle.vr_costfilter.specs.PlanCosts.{StandsPlans}
 use Rattle.vr_earliest.specs.Kept.{StandsEarliest}
-use Rattle.vr_judge.specs.Costs.{PaysArcsAndGroups}
+use Rattle.vr_judge.specs.Costs.{PaysArcsAndGroups, pays_arcs_and_groups}
 use Rattle.vr_judge.proofs.costs.Costs.open.Goals as goal
 
 pub returns-clause-stands : goal.returns-clause-stands
@@ -36,5 +36,6 @@ returns-clause-stands c =
       plans = of_value (λ k. StandsPlans k tours) _ _ plans c.open-plans.ensures.stands;
       spans = of_value (λ k. StandsSpans k tours) _ _ spans c.open-spans.ensures.stands;
       earliest = of_value (λ k. StandsEarliest k tours.lists) _ _ earliest c.open-earliest.ensures.stands;
-      arcs_and_groups = λ idle. subst PaysArcsAndGroups (of_value (λ k. k.model ≡ model) _ _ fixed c.open-fixed.ensures.model) (c.are_idle-arcs_and_groups.ensures idle);
+      arcs_and_groups_is = c.are_idle-arcs_and_groups.ensures.idle ∙ ap pays_arcs_and_groups (of_value (λ k. k.model ≡ model) _ _ fixed c.open-fixed.ensures.model);
+      arcs_and_groups = λ idle. subst PaysArcsAndGroups (of_value (λ k. k.model ≡ model) _ _ fixed c.open-fixed.ensures.model) (c.are_idle-arcs_and_groups.ensures.alike idle);
     }
