@@ -1,6 +1,6 @@
 -- Along a line that is feasible a vehicle comes to its end: a schedule is nowhere before floors, and nowhere before the
 -- vehicle.
-use Rattle.std.proofs.Common.{◌≡◌, ◌∙◌, ℕ, zero, suc, ◌+◌, ◌-◌, ◌<◌, ◌≤◌, List, [], length, take, drop, add-one, refl, sym, ap, subst, arith, Option, Some, None}
+use Rattle.std.proofs.Common.{◌≡◌, ◌∙◌, ℕ, zero, suc, ◌+◌, ◌-◌, ◌<◌, ◌≤◌, List, length, take, drop, add-one, refl, sym, ap, subst, arith, Option, Some, None}
 use Rattle.std.specs.Prelude.{Bool, true, false, ℤ, pos, ◌+ℤ◌, ◌-ℤ◌, ◌≤ℤ◌, IsTrue, option_map, slice_index_or}
 use Rattle.std.specs.Int.{int_max}
 use Rattle.std.specs.Option.{option_and_then}

@@ -27,7 +27,8 @@ use Rattle.vr_costfilter.specs.Orders.{beside, extent_but, IsInRange, IsReach, I
 use Rattle.vr_costfilter.specs.Order.{names}
 use Rattle.vr_costfilter.specs.declared.orders.Orders.{Orders}
 use Rattle.vr_costfilter.proofs.ReachLemmas.{is-not, extent-but-is, reach-all, reach-more, reach-same}
-use Rattle.vr_costfilter.specs.GlobalCosts.{extent_after, global_cost_of, has_global_span, is_some_spanned, orders_at, span_cost_after, spans_cost_after, told_in, vehicles_of, AreAllOrders, IsRow, AreLike, AreRanged, AreRows, IsGlobalCost, KeptSpans, Pays, StandsSpans}
+use Rattle.vr_costfilter.specs.GlobalCosts.{extent_after, global_cost_of, has_global_span, is_some_spanned, orders_at, span_cost_after, spans_cost_after, told_in, vehicles_of, AreAllOrders, IsRow, AreLike, AreNextRows, AreRanged, AreRows, IsGlobalCost, KeptSpans, Pays, StandsSpans}
+use Rattle.vr_costfilter.specs.Known.{IsValidChange}
 use Rattle.vr_parts.proofs.SumLemmas.{part-list, route-kept}
 
 -- ---- tests of vehicles
@@ -191,3 +192,10 @@ ranged-same m n os os' rows rows' model_is orders_are rows_are h =
 pub cost-same : (m n : Model) (os os' : List Orders) (us us' : List ℕ) (rows rows' : List (List (Option Timing))) → n ≡ m → os' ≡ os → us' ≡ us → rows' ≡ rows → spans_cost_after n os' us' rows' ≡ spans_cost_after m os us rows
 cost-same m n os os' us us' rows rows' model_is orders_are vehicles_are rows_are =
     ap (λ x. spans_cost_after x os' us' rows') model_is ∙ ap (λ x. spans_cost_after m x us' rows') orders_are ∙ ap (λ x. spans_cost_after m os x rows') vehicles_are ∙ ap (λ x. spans_cost_after m os us x) rows_are
+
+-- its rows of the lists after a change are of these orders, where it is like one that stands at the lists before
+pub rows-like : (before later : KeptSpans) (tours : Tours) (parts : List ListAfter) → IsValidChange (StandsSpans before) before.model tours parts → AreLike before later → AreRows later.model tours.lists parts later.next
+    → AreNextRows later.model tours.lists parts later.orders later.next
+rows-like before later tours parts h like rows =
+    let stands = stands-like before later tours h.stands like in
+    record { orders_are = stands.orders; as_many = stands.as_many; parts_are = h.made.makes.parts_are; rows = rows }

@@ -3,7 +3,7 @@ use Rattle.std.proofs.Common.{◌≡◌, ◌∙◌, inl, inr, ℕ, zero, suc, �
 use Rattle.std.specs.Prelude.{All, IsTrue, ℤ, pos, option_map, slice_index_or, slice_set}
 use Rattle.std.specs.List.{list_all}
 use Rattle.std.proofs.lemmas.Bool.{and_parts, cases_lt}
-use Rattle.std.proofs.lemmas.List.{take-append-drop, get_or-set_same, get_or_append_left, get_or_push, length-map, length-reverse, take_all}
+use Rattle.std.proofs.lemmas.List.{take-append-drop, get_or-set_same, get_or_append_left, get_or_push, length-reverse, take_all}
 use Rattle.std.proofs.lemmas.List.Elements.{All-take}
 use Rattle.std.proofs.lemmas.List.Sums.{fold_more}
 use Rattle.std.specs.Option.{option_and_then}
@@ -14,12 +14,12 @@ use Rattle.vr_model.proofs.routes.Lists.{route_set_other}
 use Rattle.vr_model.specs.declared.records.ScheduleRule.{ScheduleRule}
 use Rattle.vr_model.specs.declared.records.ScheduleRule.TheVariants.{Earliest, Tight}
 use Rattle.vr_parts.proofs.RowLemmas.{set-at}
-use Rattle.vr_costfilter.specs.Floors.{end_step, first_of, floor_of, nodes_in, AreAimed, IsVisitStep}
+use Rattle.vr_costfilter.specs.Floors.{end_step, first_of, floor_of, AreAimed, IsVisitStep}
 use Rattle.vr_costfilter.specs.Runs.{between_runs, Runs, AreRuns}
 use Rattle.vr_costfilter.specs.Stages.{along, setting_out, standing, to_end, to_visit, visit_more, whole, IsStageOf}
 use Rattle.vr_costfilter.specs.KeptWays.{AreKeptWays, HaveKeptWays}
 use Rattle.vr_costfilter.specs.Kept.{AreAsMany, AreKept, HasRoom, IsKept}
-use Rattle.vr_costfilter.specs.Steps.{steps_of, AreAllStages, AreStages, AreStagesOf, AreSteps, HasStages}
+use Rattle.vr_costfilter.specs.Steps.{steps_of, AreAllStages, AreStages, AreSteps, HasStages}
 use Rattle.vr_costfilter.specs.declared.kept_ways.KeptWays.{KeptWays}
 use Rattle.vr_costfilter.specs.declared.guides.Stage.{Stage}
 use Rattle.vr_costfilter.specs.declared.kept.KeptList.{KeptList}
@@ -106,16 +106,6 @@ module _ (model : Model) (d v : ℕ) (runs : Runs) (list : List ℕ) (steps : Li
   -- the stage at the start that is kept
   pub kept-out : (stages : List Stage) → AreAllStages model d v runs list steps stages → (other : Stage) → setting_out model d v runs (first_of steps (end_step model v runs)) ≡ Some (slice_index_or stages 0 other)
   kept-out stages are other = are.stages_are.each 0 other (omega arith)
-
--- the nodes of steps are as many
-pub few-nodes : (steps : List Step) → length steps ≤ 1000 → length (nodes_in steps) ≤ 1000
-few-nodes steps few = let m = length-map steps (λ (s : Step). s.node) in omega (arith, m, few)
-
--- what is kept of a list, by the nodes of its steps
-pub stages-of : (model : Model) (d v : ℕ) (runs : Runs) (list : List ℕ) (kept : KeptSteps) → AreAllStages model d v runs list (steps_of kept) kept.stages.items → length kept.stages.items ≡ length list + 2 → AreStagesOf model d v runs kept
-stages-of model d v runs list kept are many =
-    let n = many-steps model d v runs list (steps_of kept) are.steps_are in
-    record { stages = subst (λ l. AreAllStages model d v runs l (steps_of kept) kept.stages.items) (sym are.steps_are.nodes_are) are; many = omega (arith, n, many) }
 
 -- as many steps are kept as there are visits
 pub items-many : (model : Model) (d v : ℕ) (runs : Runs) (list : List ℕ) (items : List Step) → AreSteps model d v runs list (reverse items) → length items ≡ length list

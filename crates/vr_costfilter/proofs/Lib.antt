@@ -30,4 +30,6 @@ pub mod FeasibleLemmas
 pub mod AfterLemmas
 pub mod AlongLemmas
 pub mod GuideLemmas
+pub mod LedLemmas
+pub mod KnownLemmas
 pub mod CostLemmas

@@ -6,6 +6,8 @@ use Rattle.vr_model.specs.schedules.Narrowed.{chosen_line}
 use Rattle.vr_plan.specs.Timings.{IsTiming}
 use Rattle.vr_plan.specs.declared.timings.Timing.{Timing}
 use Rattle.vr_routes.specs.Pieces.{joined}
+use Rattle.vr_model.specs.declared.records.ScheduleRule.{ScheduleRule}
+use Rattle.vr_costfilter.specs.GuideRuns.{IsGuideBy}
 use Rattle.vr_costfilter.specs.Kept.{IsKept}
 use Rattle.vr_costfilter.specs.Runs.{Runs, AllowsRuns}
 use Rattle.vr_costfilter.specs.declared.asked.Asked.{Asked}
@@ -36,6 +38,7 @@ ChoiceAllows asked runs = AllowsRuns asked.guide.now.model.now asked.guide.now.d
 abbrev pub IsNewTiming : Asked → Timing → Type 0
 IsNewTiming asked = IsTiming asked.guide.now.model.now asked.guide.now.d asked.guide.now.v (new_list asked)
 
--- what is kept is of the list that the vehicle has
-abbrev pub IsKeptOfOld : Asked → KeptList → Type 0
-IsKeptOfOld asked = IsKept asked.guide.now.model.now asked.guide.now.d asked.guide.now.v (old_list asked)
+-- schedules of the vehicle are chosen by this rule, and what is kept is of the list that it has
+pub record IsKeptBy (rule : ScheduleRule) (asked : Asked) (kept : KeptList) : Type 0 where
+  pub by : IsGuideBy rule asked.guide.now
+  pub of_old : IsKept asked.guide.now.model.now asked.guide.now.d asked.guide.now.v (old_list asked) kept

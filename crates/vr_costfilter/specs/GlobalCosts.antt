@@ -1,5 +1,5 @@
 -- What the global spans cost, by the orders of the used vehicles and what is told of the lists after a change.
-use Rattle.std.specs.Prelude.{◌≡◌, ◌<◌, ◌*◌, Bool, IsTrue, IfSome, ℕ, not, true, fold}
+use Rattle.std.specs.Prelude.{◌≡◌, ◌<◌, ◌≤◌, ◌*◌, Bool, IsTrue, IfSome, ℕ, not, true, fold}
 use Rattle.std.specs.Prelude.{List, [], length, map, slice_index_or, ℤ, pos, ◌*ℤ◌, Option, None}
 use Rattle.std.specs.List.{list_any}
 use Rattle.vr_model.specs.tables.Numbers.{below, is_same_number, total_by}
@@ -17,6 +17,7 @@ use Rattle.vr_plan.specs.declared.tables.Table.{Table}
 use Rattle.vr_plan.specs.declared.timings.Timing.{Timing}
 use Rattle.vr_costfilter.specs.Kept.{AreAllKept}
 use Rattle.vr_costfilter.specs.declared.kept.KeptList.{KeptList}
+use Rattle.vr_routes.specs.Changes.{AreParts}
 use Rattle.vr_routes.specs.Tours.{Tours}
 use Rattle.vr_routes.specs.Pieces.{ListAfter, changed, joined, part_at}
 use Rattle.vr_costfilter.specs.Orders.{beside, extent_but, AreInRange, AreOrders, IsInRange, IsTold}
@@ -91,6 +92,12 @@ pub record AreRanged (model : Model) (orders : List Orders) (next : List (List (
   pub in_orders : (d : ℕ) → d < length model.dimensions → Pays model d → AreInRange (orders_at orders d)
   pub in_rows : (d : ℕ) → d < length model.dimensions → Pays model d → AreTold d next
 
+-- the same of one of its first four dimensions
+pub record AreRangedIn (d : ℕ) (orders : Orders) (next : List (List (Option Timing))) : Type 0 where
+  pub dimension : d < 4
+  pub in_orders : AreInRange orders
+  pub in_rows : AreTold d next
+
 -- there are orders for each dimension, and no vehicle stands in them
 pub record AreBlank (model : Model) (orders : List Orders) : Type 0 where
   pub many : length orders ≡ length model.dimensions
@@ -146,6 +153,29 @@ pub record AreRows (model : Model) (lists : List (List ℕ)) (parts : List ListA
 abbrev pub AreToldOf : Model → ℕ → List (List ℕ) → List ListAfter → List (List (Option Timing)) → Type 0
 AreToldOf model d lists parts next = (k : ℕ) → k < length parts → IsTold model d (part_at parts k).vehicle
     (joined lists (part_at parts k).pieces) (told_in d (slice_index_or next k []))
+
+-- a change gives vehicles of a model lists; these are the orders of the lists before, and the rows of those after it
+pub record AreNextRows (model : Model) (lists : List (List ℕ)) (parts : List ListAfter) (orders : List Orders)
+    (next : List (List (Option Timing))) : Type 0 where
+  pub orders_are : AreAllOrders model lists orders
+  pub as_many : length lists ≡ length model.vehicles
+  pub parts_are : AreParts lists parts
+  pub rows : AreRows model lists parts next
+
+-- the same in one of its first four dimensions
+pub record AreNextRowsIn (model : Model) (d : ℕ) (lists : List (List ℕ)) (parts : List ListAfter) (orders : Orders)
+    (next : List (List (Option Timing))) : Type 0 where
+  pub dimension : d < 4
+  pub orders_are : AreOrders model d lists orders
+  pub few : length lists ≤ 100
+  pub parts_are : AreParts lists parts
+  pub many : length next ≡ length parts
+  pub told : AreToldOf model d lists parts next
+
+-- the global span of a dimension of a model has a coefficient
+pub record IsPaidIn (model : Model) (d : ℕ) : Type 0 where
+  pub dimension : d < length model.dimensions
+  pub pays : Pays model d
 
 -- the model is the same, and what is kept of the lists too
 pub record AreLike (before later : KeptSpans) : Type 0 where

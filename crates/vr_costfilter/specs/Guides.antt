@@ -13,6 +13,11 @@ use Rattle.vr_reach.specs.VisitRuns.{AreVisitRuns, HasCumulEnds}
 use Rattle.vr_reach.specs.declared.single.Ahead.{Ahead}
 use Rattle.vr_spans.specs.declared.runs.Run.{Run}
 
+-- a node of a model allows a run of cumuls
+pub record IsStopAt (model : Model) (node : ℕ) (allowed : Run) : Type 0 where
+  pub known : node < model.nodes
+  pub ends : HasCumulEnds allowed
+
 -- these are, of dimension d of a well formed model, where the rows of visits stand, whether no stop has a soft upper
 -- bound, and the greatest slack; and of vehicle v there the evaluator, the runs of visits, a run of cumuls for its
 -- start, and its end with one

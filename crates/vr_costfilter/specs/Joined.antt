@@ -3,6 +3,8 @@ use Rattle.std.specs.Prelude.{◌<◌, ◌≤◌, ℕ, All, List, length}
 use Rattle.std.proofs.Props.{props}
 use mathlib.Core.HLevel.{Unit-prop}
 use Rattle.vr_model.specs.routes.Routes.{route}
+use Rattle.vr_model.specs.schedules.Lines.{line}
+use Rattle.vr_model.specs.schedules.Schedules.{IsFeasible}
 use Rattle.vr_model.specs.declared.records.Model.{Model}
 use Rattle.vr_reach.specs.Lists.{IsUsed}
 use Rattle.vr_routes.specs.Pieces.{joined, IsWithin}
@@ -16,6 +18,12 @@ pub record AreJoined (model : Model) (v : ℕ) (lists : List (List ℕ)) (pieces
   pub within : All (IsWithin lists) pieces
   pub used : IsUsed model (joined lists pieces)
   pub few : length (joined lists pieces) ≤ 1000
+
+-- the same of a vehicle of the model, whose line with that list is feasible in dimension d
+pub record AreJoinedFeasibly (model : Model) (d v : ℕ) (lists : List (List ℕ)) (pieces : List Piece) : Type 0 where
+  pub vehicle : v < length model.vehicles
+  pub are : AreJoined model v lists pieces
+  pub feasible : IsFeasible (line model d v (joined lists pieces))
 
 -- a piece lies within its list in one way at most
 pub IsWithin-prop : (lists : List (List ℕ)) (piece : Piece) → IsProp (IsWithin lists piece)

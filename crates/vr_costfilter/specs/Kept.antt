@@ -11,7 +11,7 @@ use Rattle.vr_model.specs.declared.records.ScheduleRule.TheVariants.{Earliest, T
 use Rattle.vr_plan.specs.declared.tables.Table.{Table}
 use Rattle.vr_reach.specs.Lists.{IsTour}
 use Rattle.vr_reach.specs.VisitRuns.{have_stops_one_run}
-use Rattle.vr_costfilter.specs.KeptWays.{HasCumuls, HaveKeptWays}
+use Rattle.vr_costfilter.specs.KeptWays.{HasCumuls, HasWays, HaveKeptWays}
 use Rattle.vr_costfilter.specs.Runs.{between_runs, Runs, AreRuns}
 use Rattle.vr_costfilter.specs.Steps.{HasStages}
 use Rattle.vr_costfilter.specs.declared.dimensions.Paid.{Paid}
@@ -55,6 +55,13 @@ pub record IsKept (model : Model) (d v : ℕ) (list : List ℕ) (kept : KeptList
   pub ends : HaveKeptWays model d v list kept.ends.items
   pub whole : IsTour model list → IsTrue (have_stops_one_run model d v) → IsFeasible (line model d v list)
       → HasRoom (vehicle_at model v).schedule kept → HasAllAsked (vehicle_at model v).schedule list kept
+
+-- of a list of vehicle v the ways to its ends are kept by these runs, and no stage between them yet
+pub record HasWaysAlone (model : Model) (d v : ℕ) (runs : Runs) (list : List ℕ) (kept : KeptList) : Type 0 where
+  pub ends : 0 < length kept.ends.items
+  pub ways : (other : KeptWays) → HasWays model d v runs list (slice_index_or kept.ends.items 0 other)
+  pub none : length kept.steps.stages.items ≡ 0
+  pub between : HasCumuls kept.between
 
 -- what is kept tells what changes make of a list of vehicle v: something is kept of it, the vehicle has no breaks, each
 -- stop allows it one run of cumuls, and all is kept that its rule asks

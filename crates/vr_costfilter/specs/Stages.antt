@@ -1,5 +1,5 @@
 -- How far a vehicle comes along its stops, at each the least cumul that the one before it and its floor leave.
-use Rattle.std.specs.Prelude.{◌<◌, ◌*◌, ◌&&◌, ℕ, Bool, List, cond, fold, int_le, option_map, slice_index_or}
+use Rattle.std.specs.Prelude.{◌≡◌, ◌<◌, ◌*◌, ◌&&◌, ℕ, Bool, List, cond, fold, int_le, option_map, slice_index_or}
 use Rattle.std.specs.Prelude.{Option, Some, None, ℤ, pos, ◌+ℤ◌, ◌-ℤ◌, ◌≤ℤ◌}
 use Rattle.std.specs.Int.{int_max}
 use Rattle.std.specs.Option.{option_and_then}
@@ -86,3 +86,8 @@ pub record IsStageOf (model : Model) (n : ℕ) (stage : Stage) : Type 0 where
   pub cumul : IsIn (pos 0) horizon stage.cumul
   pub not_negative : pos 0 ≤ℤ stage.soft
   pub bound : stage.soft ≤ℤ pos (cumul_cost * n)
+
+-- vehicle v stands at its start
+pub record IsAtStart (model : Model) (d v : ℕ) (stage : Stage) : Type 0 where
+  pub stands : stage ≡ standing model d v stage.cumul
+  pub range : IsStageOf model 1 stage

@@ -2,6 +2,7 @@
 use Rattle.std.specs.Prelude.{◌≡◌, ◌<◌, ◌≤◌, ◌++◌, ◌+◌, ◌*◌, ℕ, suc, pos, neg_ℤ, All, List, Some, length, reverse, take}
 use Rattle.std.specs.Prelude.{slice_index_or}
 use Rattle.vr_spans.specs.declared.runs.Run.{Run}
+use Rattle.vr_model.specs.tables.Numbers.{horizon}
 use Rattle.vr_model.specs.tables.WellFormed.{IsIn}
 use Rattle.vr_model.specs.declared.records.Model.{Model}
 use Rattle.vr_plan.specs.Bounds.{cumul_cost}
@@ -18,6 +19,14 @@ use Rattle.vr_costfilter.specs.declared.trails.Step.{Step}
 pub record AreSteps (model : Model) (d v : ℕ) (runs : Runs) (list : List ℕ) (steps : List Step) : Type 0 where
   pub nodes_are : nodes_in steps ≡ list
   pub aimed : AreAimed model d v runs steps (end_step model v runs)
+
+-- the same, to visits, where this is the first step
+pub record AreStepsFrom (model : Model) (d v : ℕ) (runs : Runs) (list : List ℕ) (steps : List Step) (first : Step) :
+    Type 0 where
+  pub steps_are : AreSteps model d v runs list steps
+  pub known : All (IsVisitStep model) steps
+  pub first_is : first ≡ first_of steps (end_step model v runs)
+  pub range : IsStep model first
 
 -- the stages of vehicle v at its start and at the first n visits of these steps
 pub record AreStages (model : Model) (d v : ℕ) (runs : Runs) (steps : List Step) (n : ℕ) (stages : List Stage) :
@@ -45,10 +54,11 @@ pub record AreAllStages (model : Model) (d v : ℕ) (runs : Runs) (list : List �
 abbrev pub steps_of : KeptSteps → List Step
 steps_of kept = reverse kept.trail.steps.items
 
--- the kept stages are those of the stops of the kept steps, and of the start and the end
-pub record AreStagesOf (model : Model) (d v : ℕ) (runs : Runs) (kept : KeptSteps) : Type 0 where
-  pub stages : AreAllStages model d v runs (nodes_in (steps_of kept)) (steps_of kept) kept.stages.items
-  pub many : length kept.stages.items ≡ length (steps_of kept) + 2
+-- what is kept are the steps to at most 1000 visits, and the stages at each of them, at the start and at the end
+pub record AreKnownSteps (model : Model) (d v : ℕ) (runs : Runs) (list : List ℕ) (kept : KeptSteps) : Type 0 where
+  pub stages : AreAllStages model d v runs list (steps_of kept) kept.stages.items
+  pub many : length kept.stages.items ≡ length list + 2
+  pub few : length list ≤ 1000
 
 -- where there are as many as stops, these are the stages of a list, and the steps are those to its visits
 pub record HasStages (model : Model) (d v : ℕ) (runs : Runs) (list : List ℕ) (kept : KeptSteps) : Type 0 where
@@ -58,6 +68,13 @@ pub record HasStages (model : Model) (d v : ℕ) (runs : Runs) (list : List ℕ)
 -- where some of the first steps are kept, the first of all is the first of these
 abbrev pub IsKeptLead : List Step → Lead → Type 0
 IsKeptLead steps lead = 0 < lead.place → (other : Step) → lead.first ≡ slice_index_or steps 0 other
+
+-- a lead takes n of the kept steps at most, and its first step, of which the numbers are in range, is the first of
+-- these where it takes any
+pub record IsLead (model : Model) (steps : List Step) (n : ℕ) (lead : Lead) : Type 0 where
+  pub place : lead.place ≤ n
+  pub first : IsStep model lead.first
+  pub kept : IsKeptLead steps lead
 
 -- the first step of all
 abbrev pub first_led : Lead → Step
@@ -79,6 +96,14 @@ pub record HasLed (model : Model) (d v : ℕ) (runs : Runs) (kept : List Step) (
 -- the stage where new steps begin, with all that was paid up to there
 abbrev pub reached : Outset → Stage
 reached met = paid_more met.more met.stage
+
+-- the kept end, a kept stage, and the stage that a vehicle comes to where it meets that one: what was paid up to each
+-- is in range
+pub record AreMet (end kept gone : Stage) : Type 0 where
+  pub end_paid : IsIn (pos 0) (pos (cumul_cost * 1002)) end.soft
+  pub end_cumul : IsIn (pos 0) horizon end.cumul
+  pub kept_paid : IsIn (pos 0) (pos (cumul_cost * 1002)) kept.soft
+  pub gone_paid : IsIn (pos 0) (pos (cumul_cost * 4000)) gone.soft
 
 -- along these steps a stage comes to another one, where more was paid on the way
 pub record HasPaced (model : Model) (d v : ℕ) (runs : Runs) (steps : List Step) (out : Stage) (met : Outset) :

@@ -10,6 +10,7 @@ ghost use Rattle.vr_costfilter.specs.Joined.{AreJoined, IsWithin-prop};
 
 use crate::guides::Guide;
 use crate::kept_ways::KeptWays;
+use crate::led::LedPieces;
 use crate::tight::TightEnds;
 use crate::trails::Trail;
 use vr_balance::strip;
@@ -61,9 +62,12 @@ impl<'a, 'm> Asked<'a, 'm> {
     {
         trail.steps.clear();
         let next = self.guide.end_step();
-        let first = self
-            .guide
-            .back_along_pieces(self.routes, self.pieces, next, trail)?;
+        let led = LedPieces {
+            guide: self.guide,
+            routes: self.routes,
+            pieces: self.pieces,
+        };
+        let first = led.back_along(next, trail)?;
         let floor = self.guide.start_floor(first)?;
         let stage = self.guide.standing(floor);
         let gone = self.guide.along_trail(trail, stage)?;
@@ -87,7 +91,12 @@ impl<'a, 'm> Asked<'a, 'm> {
         let ends = strip(self.routes, self.guide.v, self.pieces);
         let front = kept.way(ends.front);
         let left = kept.rest(ends.behind);
-        let way = self.guide.way_along_pieces(self.routes, ends.middle, front);
+        let led = LedPieces {
+            guide: self.guide,
+            routes: self.routes,
+            pieces: ends.middle,
+        };
+        let way = led.way_along(front);
         let whole = self.guide.way_through(way, left);
         self.guide.ends_by(whole)
     }

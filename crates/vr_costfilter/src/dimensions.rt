@@ -12,11 +12,13 @@ ghost use Rattle.vr_routes.specs.Pieces.{changed};
 ghost use Rattle.vr_plan.specs.Tables.{AreTables, IsTable};
 ghost use Rattle.vr_plan.specs.Timings.{IsTiming, IsTimingOf};
 ghost use Rattle.vr_costfilter.specs.Kept.{AreAllKept, AreAsMany, AreKept, AreOfEach, IsPaid, IsKnown};
+ghost use Rattle.vr_costfilter.specs.LookedUp.{IsLookedUp};
 ghost use Rattle.vr_costfilter.specs.PartsAfter.{list_after, vehicle_after};
 ghost use Rattle.vr_costfilter.specs.declared.kept.KeptList.{KeptList as KeptOf};
 
 use crate::kept::KeptCumuls;
 use crate::parts_after::PartAfter;
+use crate::tours::Tour;
 use crate::trails::Trail;
 use std::alloc::Global;
 use std::marker::Model;
@@ -118,13 +120,12 @@ impl AllCumuls {
     {
         for k in 0..change.parts() {
             routes.join_into(change.pieces(k), &mut self.row);
-            write_list(
+            let tour = Tour {
                 closed,
-                tables,
-                &mut self.dimensions,
-                change.vehicle(k),
-                self.row.as_slice(),
-            );
+                v: change.vehicle(k),
+                list: self.row.as_slice(),
+            };
+            write_list(&tour, tables, &mut self.dimensions);
         }
     }
 }
@@ -150,8 +151,7 @@ fn kept_in(
     routes: &Routes,
 ) -> Result<KeptCumuls, NoMemory>
     requires valid { IsTrue (is_valid closed.model.now routes.now.lists) }
-    requires dimension { d < length closed.model.now.dimensions }
-    requires table { IsTable closed.model.now d table.now }
+    requires known { IsLookedUp closed.model.now d table.now }
     ensures kept { IfOk result (AreKept closed.entry.model.now d routes.now.lists) }
     ensures each { IfOk result (λ kept. IsPaid paid table.now (dimension_at closed.entry.model.now d)
         → length kept ≡ length routes.now.lists) }
@@ -164,17 +164,15 @@ fn kept_in(
 }
 
 // Vehicle `v` gets another list, in all dimensions.
-fn write_list(closed: Closed<'_>, tables: &[Table], kept: &mut [KeptCumuls], v: u32, list: &[u32])
-    requires tables { AreTables closed.model.now tables.now }
-    requires many { length kept.old ≡ length closed.model.now.dimensions }
-    requires vehicle { v < length closed.model.now.vehicles }
-    requires few { length list.now ≤ 1000 }
-    requires visits { IsTrue (list_all (is_visit closed.model.now) list.now) }
-    ensures kept { (lists : List (List ℕ)) → AreAllKept closed.entry.model.now lists kept.old → v < length lists
-        → AreAllKept closed.entry.model.now (with_route lists v list.now) kept.new }
+fn write_list(tour: &Tour, tables: &[Table], kept: &mut [KeptCumuls])
+    requires tables { AreTables tour.now.closed.model.now tables.now }
+    requires many { length kept.old ≡ length tour.now.closed.model.now.dimensions }
+    ensures kept { (lists : List (List ℕ)) → AreAllKept tour.now.closed.model.now lists kept.old
+        → tour.now.v < length lists
+        → AreAllKept tour.now.closed.model.now (with_route lists tour.now.v tour.now.list.now) kept.new }
     ensures many { AreAsMany kept.old kept.new }
 {
     for d in 0..kept.len() {
-        kept[d].write(closed, &tables[d], d as u32, v, list);
+        kept[d].write(tour, &tables[d], d as u32);
     }
 }

@@ -5,6 +5,7 @@ ghost use Rattle.std.specs.Prelude.{◌≡◌, ◌<◌, length};
 ghost use Rattle.vr_routes.specs.Pieces.{part_at};
 ghost use Rattle.vr_model.specs.tables.WellFormedOnce.{IsWellFormed-prop};
 ghost use Rattle.vr_costfilter.specs.EarlyParts.{AreEarlyParts};
+ghost use Rattle.vr_costfilter.specs.GlobalCosts.{IsPaidIn};
 ghost use Rattle.vr_costfilter.specs.Joined.{IsWithin-prop};
 
 use vr_earliest::Earlies;
@@ -21,6 +22,14 @@ pub struct EarlyChange<'a> {
     /// That is what they come to at least, of a well formed model.
     pub ghost sound: { AreEarlyParts model.now routes.now.lists change.now earlies.now } by { Prim.hlevel
         (props, IsWellFormed-prop, IsWithin-prop) },
+}
+
+/// The same in a dimension whose global span has a coefficient.
+#[derive(Drop)]
+pub struct EarlyIn<'a, 'c> {
+    pub early: &'a EarlyChange<'c>,
+    pub d: u32,
+    pub ghost sound: { IsPaidIn early.now.model.now d },
 }
 
 impl<'a> EarlyChange<'a> {

@@ -9,7 +9,9 @@ ghost use Rattle.vr_routes.specs.Pieces.{changed, joined, part_at};
 ghost use Rattle.vr_routes.specs.Changes.{IsMadeOn, NothingReady};
 ghost use Rattle.vr_plan.specs.Bounds.{cumul_cost, IsAround};
 ghost use Rattle.vr_earliest.specs.Earlies.{AreEarlies};
-ghost use Rattle.vr_costfilter.specs.GlobalCosts.{global_cost_of, is_some_spanned, IsRow, AreLike, AreRows};
+ghost use Rattle.vr_costfilter.specs.GlobalCosts.{global_cost_of, is_some_spanned, IsRow, AreLike, AreNextRows};
+ghost use Rattle.vr_costfilter.specs.GlobalCosts.{AreRows};
+ghost use Rattle.vr_costfilter.specs.Known.{IsValidChange};
 ghost use Rattle.vr_costfilter.specs.GlobalCosts.{AreSpansReady, IsGlobalCost, StandsSpans};
 ghost use Rattle.vr_parts.specs.Parts.{CostAlike};
 ghost use Rattle.vr_costfilter.specs.Spreads.{global_least};
@@ -132,9 +134,7 @@ impl<'m> GlobalSpan<'m> {
         change: &Change,
         k: usize,
     ) -> Result<ListTimings, NoMemory>
-        requires stands { StandsSpans self.old routes.now }
-        requires made { IsMadeOn routes.now change.now }
-        requires valid { IsTrue (is_valid self.old.model (changed routes.now.lists change.now)) }
+        requires change { IsValidChange (StandsSpans self.old) self.old.model routes.now change.now }
         requires part { k < length change.now }
         ensures kept { IfOk result (IsRow self.old.model (part_at change.now k).vehicle
             (joined routes.now.lists (part_at change.now k).pieces)) }
@@ -151,9 +151,7 @@ impl<'m> GlobalSpan<'m> {
 
     // Writes the rows of the lists after a change, and makes none ready.
     fn write_next(&mut self, routes: &Routes, change: &Change) -> Result<(), NoMemory>
-        requires stands { StandsSpans self.old routes.now }
-        requires made { IsMadeOn routes.now change.now }
-        requires valid { IsTrue (is_valid self.old.model (changed routes.now.lists change.now)) }
+        requires change { IsValidChange (StandsSpans self.old) self.old.model routes.now change.now }
         ensures next { OnOk result (AreRows self.new.model routes.now.lists change.now self.new.next) }
         ensures unprepared { self.new.is_prepared ≡ false }
         ensures like { AreLike self.old self.new }
@@ -169,9 +167,7 @@ impl<'m> GlobalSpan<'m> {
 
     // What the global spans cost after a change whose rows are written.
     fn cost_after(&self, routes: &Routes, change: &Change) -> i64
-        requires stands { StandsSpans self.now routes.now }
-        requires made { IsMadeOn routes.now change.now }
-        requires rows { AreRows self.now.model routes.now.lists change.now self.now.next }
+        requires { AreNextRows self.now.model routes.now.lists change.now self.now.orders self.now.next }
         ensures value { result ≡ global_cost_of self.now.model (changed routes.now.lists change.now) }
         ensures range { IsGlobalCost result }
     {
@@ -183,9 +179,7 @@ impl<'m> GlobalSpan<'m> {
 
     // Makes what is kept of the lists after a change ready.
     fn make_ready(&mut self, routes: &Routes, change: &Change) -> Result<(), NoMemory>
-        requires stands { StandsSpans self.old routes.now }
-        requires made { IsMadeOn routes.now change.now }
-        requires valid { IsTrue (is_valid self.old.model (changed routes.now.lists change.now)) }
+        requires change { IsValidChange (StandsSpans self.old) self.old.model routes.now change.now }
         ensures ready { OnOk result (AreSpansReady self.new routes.now change.now) }
         ensures unready { OnErr result (NothingReady (AreSpansReady self.new)) }
         ensures like { AreLike self.old self.new }

@@ -13,14 +13,12 @@ ghost use Rattle.vr_model.specs.tables.Numbers.{horizon};
 ghost use Rattle.vr_model.specs.tables.Tables.{dimension_at, is_visit, row_of as row_of_key, transit, vehicle_at};
 ghost use Rattle.vr_model.specs.tables.WellFormed.{IsIn, IsStopRow, WherePresent};
 ghost use Rattle.vr_model.specs.tables.WellFormedOnce.{IsWellFormed-prop};
-ghost use Rattle.vr_routes.specs.Pieces.{joined, nodes_of, IsWithin};
 ghost use Rattle.vr_plan.specs.Bounds.{cumul_cost};
-ghost use Rattle.vr_plan.specs.Tables.{IsTable};
 ghost use Rattle.vr_reach.specs.VisitRuns.{have_stops_one_run, HasCumulEnds};
 ghost use Rattle.vr_costfilter.specs.Floors.{before as before_by, end_step as end_step_by, floor_of as floor_by};
-ghost use Rattle.vr_costfilter.specs.Floors.{first_step};
 ghost use Rattle.vr_costfilter.specs.Floors.{IsStep, IsVisitStep, WentBack};
-ghost use Rattle.vr_costfilter.specs.Guides.{IsGuide};
+ghost use Rattle.vr_costfilter.specs.Guides.{IsGuide, IsStopAt};
+ghost use Rattle.vr_costfilter.specs.LookedUp.{IsLookedUp};
 ghost use Rattle.vr_costfilter.specs.Stages.{along, go_on as go_on_by, standing as standing_by};
 ghost use Rattle.vr_costfilter.specs.Stages.{to_end as to_end_by, to_visit as to_visit_by, IsStageOf};
 
@@ -28,7 +26,6 @@ use crate::trails::{Step, Trail};
 use vr_model::{Closed, Evaluator, Model, StopRow};
 use vr_plan::{Table, row_cost, row_of};
 use vr_reach::{Ahead, earliest_behind, single_runs, slack_of};
-use vr_routes::{Piece, Routes};
 use vr_spans::Run;
 
 /// How far a vehicle has come: the node of the stop where it is, its cumul there, and what the soft upper bounds of the
@@ -69,9 +66,8 @@ impl<'m> Guide<'m> {
     /// What is looked up once, nothing exactly where the vehicle has breaks, or a stop allows several runs of cumuls.
     #[inline]
     pub fn of(closed: Closed<'m>, table: &'m Table, d: u32, v: u32) -> Option<Guide<'m>>
-        requires dimension { d < length closed.model.now.dimensions }
+        requires known { IsLookedUp closed.model.now d table.now }
         requires vehicle { v < length closed.model.now.vehicles }
-        requires table { IsTable closed.model.now d table.now }
         ensures runs { IfSome result HasItsRuns }
         ensures model { IfSome result (λ guide. guide.model.now ≡ closed.entry.model.now) }
         ensures dimension { IfSome result (λ guide. guide.d ≡ d) }
@@ -105,103 +101,9 @@ impl<'m> Guide<'m> {
         }
     }
 
-    /// Back along the nodes of pieces, which come before the next step: puts the steps to them on the trail, the last
-    /// one first, and gives the first one, or the next step where there is none. Nothing exactly where some stop allows
-    /// no cumul from its floor on.
+    /// Back to a visit, which comes before the next step: puts the step to it on the trail, and gives it.
     #[inline]
-    pub fn back_along_pieces(
-        &self,
-        routes: &Routes,
-        pieces: &[Piece],
-        next: Step,
-        trail: &mut Trail,
-    ) -> Option<Step>
-        requires within { All (IsWithin routes.now.lists) pieces.now }
-        requires visits { All (λ node. IsTrue (is_visit self.now.model.now node)) (joined routes.now.lists pieces.now) }
-        requires next { IsStep self.now.model.now next }
-        requires room { length trail.old.steps.items + length (joined routes.now.lists pieces.now) ≤ 1000 }
-        ensures value { result ≡ first_step self.now.model.now self.now.d self.now.v (runs_of self.now)
-            (joined routes.now.lists pieces.now) next }
-        ensures back { IfSome result (WentBack self.now.model.now self.now.d self.now.v (runs_of self.now)
-            (joined routes.now.lists pieces.now) next trail.old.steps.items trail.new.steps.items) }
-        ensures range { IfSome result (IsStep self.now.model.now) }
-    {
-        let mut first = next;
-        for k in 0..pieces.len() {
-            match self.back_along_piece(routes, pieces[pieces.len() - 1 - k], first, trail) {
-                Some(step) => first = step,
-                None => return None,
-            }
-        }
-        Some(first)
-    }
-
-    // Back along the nodes of a piece.
-    #[inline]
-    fn back_along_piece(
-        &self,
-        routes: &Routes,
-        piece: Piece,
-        next: Step,
-        trail: &mut Trail,
-    ) -> Option<Step>
-        requires within { IsWithin routes.now.lists piece }
-        requires visits { All (λ node. IsTrue (is_visit self.now.model.now node)) (nodes_of routes.now.lists piece) }
-        requires next { IsStep self.now.model.now next }
-        requires room { length trail.old.steps.items + length (nodes_of routes.now.lists piece) ≤ 1000 }
-        ensures value { result ≡ first_step self.now.model.now self.now.d self.now.v (runs_of self.now)
-            (nodes_of routes.now.lists piece) next }
-        ensures back { IfSome result (WentBack self.now.model.now self.now.d self.now.v (runs_of self.now)
-            (nodes_of routes.now.lists piece) next trail.old.steps.items trail.new.steps.items) }
-        ensures range { IfSome result (IsStep self.now.model.now) }
-    {
-        match piece {
-            Piece::Node { node } => self.step_back(node, next, trail),
-            Piece::Chain {
-                vehicle,
-                from,
-                to,
-                reversed,
-            } => {
-                let list = routes.list(vehicle);
-                self.back_along_chain(&list[from as usize..to as usize], reversed, next, trail)
-            }
-        }
-    }
-
-    /// Back along a chain, or along the chain backwards: from its last node to its first, or the other way round.
-    #[inline]
-    pub fn back_along_chain(
-        &self,
-        chain: &[u32],
-        reversed: bool,
-        next: Step,
-        trail: &mut Trail,
-    ) -> Option<Step>
-        requires visits { All (λ node. IsTrue (is_visit self.now.model.now node))
-            (cond reversed (reverse chain.now) chain.now) }
-        requires next { IsStep self.now.model.now next }
-        requires room { length trail.old.steps.items + length (cond reversed (reverse chain.now) chain.now) ≤ 1000 }
-        ensures value { result ≡ first_step self.now.model.now self.now.d self.now.v (runs_of self.now)
-            (cond reversed (reverse chain.now) chain.now) next }
-        ensures back { IfSome result (WentBack self.now.model.now self.now.d self.now.v (runs_of self.now)
-            (cond reversed (reverse chain.now) chain.now) next trail.old.steps.items trail.new.steps.items) }
-        ensures range { IfSome result (IsStep self.now.model.now) }
-    {
-        let mut first = next;
-        for k in 0..chain.len() {
-            let node = node_in(chain, reversed, chain.len() - 1 - k);
-            match self.step_back(node, first, trail) {
-                Some(step) => first = step,
-                None => return None,
-            }
-        }
-        Some(first)
-    }
-
-    // Back to a visit.
-    #[inline]
-    fn step_back(&self, node: u32, next: Step, trail: &mut Trail) -> Option<Step>
+    pub fn step_back(&self, node: u32, next: Step, trail: &mut Trail) -> Option<Step>
         requires node { IsTrue (is_visit self.now.model.now node) }
         requires next { IsStep self.now.model.now next }
         requires room { length trail.old.steps.items < 1000 }
@@ -255,8 +157,7 @@ impl<'m> Guide<'m> {
     // The floor of a stop at a node, before the next step.
     #[inline]
     fn floor_of(&self, node: u32, allowed: Run, next: Step) -> Option<i64>
-        requires node { node < self.now.model.now.nodes }
-        requires allowed { HasCumulEnds allowed }
+        requires stop { IsStopAt self.now.model.now node allowed }
         requires next { IsStep self.now.model.now next }
         ensures value { result ≡ floor_by self.now.model.now self.now.d self.now.v node allowed next }
         ensures range { IfSome result (IsIn (pos 0) horizon) }
@@ -342,8 +243,7 @@ impl<'m> Guide<'m> {
     #[inline]
     fn go_on(&self, stage: Stage, node: u32, allowed: Run, row: Option<&StopRow>) -> Option<Stage>
         requires stage { IsStageOf self.now.model.now 4000 stage }
-        requires node { node < self.now.model.now.nodes }
-        requires allowed { HasCumulEnds allowed }
+        requires stop { IsStopAt self.now.model.now node allowed }
         requires row { WherePresent IsStopRow (option_copied row) }
         ensures value { result ≡ go_on_by (transit self.now.model.now self.now.d self.now.v stage.at node)
             (dimension_at self.now.model.now self.now.d).slack_max node allowed (option_copied row.entry) stage }
@@ -361,18 +261,5 @@ impl<'m> Guide<'m> {
             cumul,
             soft: stage.soft + cost,
         })
-    }
-}
-
-/// Node `k` of a chain, or of the chain backwards.
-#[inline(always)]
-pub fn node_in(chain: &[u32], reversed: bool, k: usize) -> u32
-    requires { k < length chain.now }
-    ensures { result ≡ slice_index_or (cond reversed (reverse chain.now) chain.now) k 0 }
-{
-    if reversed {
-        chain[chain.len() - 1 - k]
-    } else {
-        chain[k]
     }
 }

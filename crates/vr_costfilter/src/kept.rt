@@ -1,37 +1,38 @@
 //! What is kept of committed lists, and what a change makes of them.
 
-ghost use Rattle.std.specs.Prelude.{◌≡◌, ◌<◌, ◌≤◌, ◌+◌, All, ℕ, List, IfOk, IfSome, IsTrue, false, length, pos};
-ghost use Rattle.std.specs.Prelude.{◌↔◌, is_some, slice_index_or};
-ghost use Rattle.std.specs.List.{list_all};
+ghost use Rattle.std.specs.Prelude.{◌≡◌, ◌<◌, ◌+◌, ℕ, List, IfOk, IfSome, IsTrue, false, length, pos};
+ghost use Rattle.std.specs.Prelude.{◌↔◌, is_some};
 ghost use Rattle.vr_model.specs.moves.Moves.{with_route};
 ghost use Rattle.vr_model.specs.routes.Routes.{route};
 ghost use Rattle.vr_model.specs.routes.Rules.{is_valid};
 ghost use Rattle.vr_model.specs.schedules.Choices.{is_feasible};
 ghost use Rattle.vr_model.specs.schedules.Lines.{line, Line};
 ghost use Rattle.vr_model.specs.schedules.Schedules.{IsFeasible};
-ghost use Rattle.vr_model.specs.tables.Tables.{is_visit};
 ghost use Rattle.vr_model.specs.tables.Numbers.{horizon};
 ghost use Rattle.vr_model.specs.tables.WellFormed.{IsIn};
 ghost use Rattle.vr_model.specs.declared.records.Model.{Model as Defined};
 ghost use Rattle.vr_model.specs.declared.records.ScheduleRule.TheVariants.{Earliest, Tight};
 ghost use Rattle.vr_routes.specs.Pieces.{joined};
-ghost use Rattle.vr_plan.specs.Tables.{IsKnownDimension, IsTable};
+ghost use Rattle.vr_plan.specs.Tables.{IsKnownDimension};
 ghost use Rattle.vr_plan.specs.Timings.{IsTiming, IsTimingOf};
-ghost use Rattle.vr_costfilter.specs.Joined.{AreJoined};
-ghost use Rattle.vr_costfilter.specs.KeptWays.{AreEndsOf, HasCumuls, HasWays, HaveKeptWays};
+ghost use Rattle.vr_costfilter.specs.Joined.{AreJoinedFeasibly};
+ghost use Rattle.vr_costfilter.specs.KeptWays.{AreEndsOf, HasCumuls, HaveKeptWays};
 ghost use Rattle.vr_costfilter.specs.Asked.{new_choice, new_line, new_list, old_list};
-ghost use Rattle.vr_costfilter.specs.Asked.{ChoiceAllows, IsKeptOfOld, IsNewTiming};
-ghost use Rattle.vr_costfilter.specs.GuideRuns.{rule_of, runs_of, HasItsRuns};
+ghost use Rattle.vr_costfilter.specs.Asked.{ChoiceAllows, IsKeptBy, IsNewTiming};
+ghost use Rattle.vr_costfilter.specs.GuideRuns.{runs_of, IsGuideBy};
 ghost use Rattle.vr_costfilter.specs.Kept.{is_tight, AreKept, HasRoom, IsKept, IsKnown, HasAllStages, HasAllWays};
+ghost use Rattle.vr_costfilter.specs.Kept.{HasWaysAlone};
+ghost use Rattle.vr_costfilter.specs.LookedUp.{IsLookedUp};
 ghost use Rattle.vr_costfilter.specs.Runs.{between_runs, AllowsRuns};
 ghost use Rattle.vr_costfilter.specs.Steps.{HasStages};
-ghost use Rattle.vr_costfilter.specs.declared.kept_ways.KeptWays.{KeptWays as EndsOf};
 
 use crate::asked::Asked;
 use crate::guides::Guide;
 use crate::kept_ways::KeptWays;
+use crate::led::LedList;
 use crate::steps::KeptSteps;
 use crate::tight::TightEnds;
+use crate::tours::Tour;
 use crate::trails::Trail;
 use std::alloc::Global;
 use std::marker::Model;
@@ -83,67 +84,63 @@ impl KeptList {
     }
 
     // Writes what is kept of a list of a vehicle that chooses its earliest schedule.
-    fn write_earliest(&mut self, guide: &Guide, list: &[u32])
-        requires runs { HasItsRuns guide.now }
-        requires rule { rule_of guide.now ≡ Earliest }
-        requires few { length list.now ≤ 1000 }
-        requires visits { All (λ node. IsTrue (is_visit guide.now.model.now node)) list.now }
-        ensures kept { IsKept guide.now.model.now guide.now.d guide.now.v list.now self.new }
+    fn write_earliest(&mut self, led: &LedList)
+        requires { IsGuideBy Earliest led.now.guide.now }
+        ensures kept { IsKept led.now.guide.now.model.now led.now.guide.now.d led.now.guide.now.v led.now.list.now
+            self.new }
         ensures room { length self.new.ends.items ≡ length self.old.ends.items }
     {
         self.forget();
-        self.steps.write(guide, list);
+        self.steps.write(led);
     }
 
     // Writes what is kept of a list of a vehicle that chooses its tight schedule.
-    fn write_tight(&mut self, guide: &Guide, list: &[u32])
-        requires runs { HasItsRuns guide.now }
-        requires rule { rule_of guide.now ≡ Tight }
-        requires few { length list.now ≤ 1000 }
-        requires visits { All (λ node. IsTrue (is_visit guide.now.model.now node)) list.now }
-        ensures kept { IsKept guide.now.model.now guide.now.d guide.now.v list.now self.new }
+    fn write_tight(&mut self, led: &LedList)
+        requires { IsGuideBy Tight led.now.guide.now }
+        ensures kept { IsKept led.now.guide.now.model.now led.now.guide.now.d led.now.guide.now.v led.now.list.now
+            self.new }
         ensures room { length self.new.ends.items ≡ length self.old.ends.items }
     {
         self.forget();
         if self.ends.is_empty() {
             return;
         }
-        self.ends[0].write(guide, list);
-        self.write_between(guide, list);
+        self.ends[0].write(led);
+        self.write_between(led);
     }
 
     // Writes the steps and the stages of a list between its two ends, where soft upper bounds may cost anything.
-    fn write_between(&mut self, guide: &Guide, list: &[u32])
-        requires few { length list.now ≤ 1000 }
-        requires visits { All (λ node. IsTrue (is_visit guide.now.model.now node)) list.now }
-        requires ends { 0 < length self.old.ends.items }
-        requires ways { (other : EndsOf) → HasWays guide.now.model.now guide.now.d guide.now.v (runs_of guide.now)
-            list.now (slice_index_or self.old.ends.items 0 other) }
-        requires none { length self.old.steps.stages.items ≡ 0 }
-        requires between { HasCumuls self.old.between }
-        ensures stages { HasStages guide.now.model.now guide.now.d guide.now.v
-            (between_runs (runs_of guide.now) self.new.between.start self.new.between.last) list.now self.new.steps }
+    fn write_between(&mut self, led: &LedList)
+        requires { HasWaysAlone led.now.guide.now.model.now led.now.guide.now.d led.now.guide.now.v
+            (runs_of led.now.guide.now)
+            led.now.list.now self.old }
+        ensures stages { HasStages led.now.guide.now.model.now led.now.guide.now.d led.now.guide.now.v
+            (between_runs (runs_of led.now.guide.now) self.new.between.start self.new.between.last) led.now.list.now
+            self.new.steps }
         ensures between { HasCumuls self.new.between }
-        ensures told { guide.now.table.now.is_hard ≡ false → AreEndsOf guide.now.model.now guide.now.d guide.now.v
-            (runs_of guide.now) list.now self.new.between }
-        ensures all { guide.now.table.now.is_hard ≡ false → (line : Line) → AllowsRuns guide.now.model.now guide.now.d
-            guide.now.v (between_runs (runs_of guide.now) self.new.between.start self.new.between.last) list.now line
-            → IsFeasible line → length self.new.steps.stages.items ≡ length list.now + 2 }
+        ensures told { led.now.guide.now.table.now.is_hard ≡ false → AreEndsOf led.now.guide.now.model.now
+            led.now.guide.now.d led.now.guide.now.v (runs_of led.now.guide.now) led.now.list.now self.new.between }
+        ensures all { led.now.guide.now.table.now.is_hard ≡ false → (line : Line)
+            → AllowsRuns led.now.guide.now.model.now led.now.guide.now.d led.now.guide.now.v
+            (between_runs (runs_of led.now.guide.now) self.new.between.start self.new.between.last) led.now.list.now
+            line → IsFeasible line → length self.new.steps.stages.items ≡ length led.now.list.now + 2 }
         ensures ends { self.new.ends.items ≡ self.old.ends.items }
     {
-        if guide.table.is_hard {
+        if led.guide.table.is_hard {
             return;
         }
-        let ends = self.ends[0].ends(guide, list);
+        let ends = self.ends[0].ends(led);
         self.between = ends;
-        self.steps.write(&guide.between(ends), list);
+        let between = led.guide.between(ends);
+        self.steps.write(&LedList {
+            guide: &between,
+            list: led.list,
+        });
     }
 
     // What the tight schedule of the list comes to that is asked of; nothing exactly where what is kept does not tell.
     fn tight_after(&self, asked: &Asked, trail: &mut Trail) -> Option<Timing>
-        requires runs { HasItsRuns asked.now.guide.now }
-        requires rule { rule_of asked.now.guide.now ≡ Tight }
-        requires kept { IsKeptOfOld asked.now self.now }
+        requires kept { IsKeptBy Tight asked.now self.now }
         requires feasible { IsFeasible (new_line asked.now) }
         ensures known { IsTrue (is_some result) ↔ HasAllWays (old_list asked.now) self.now }
         ensures timing { IfSome result (IsNewTiming asked.now) }
@@ -173,9 +170,7 @@ impl KeptList {
     fn timing_between(&self, asked: &Asked, ends: TightEnds, trail: &mut Trail) -> Option<Timing>
         requires allows { ChoiceAllows asked.now
             (between_runs (runs_of asked.now.guide.now) ends.start ends.last) }
-        requires runs { HasItsRuns asked.now.guide.now }
-        requires rule { rule_of asked.now.guide.now ≡ Tight }
-        requires kept { IsKeptOfOld asked.now self.now }
+        requires kept { IsKeptBy Tight asked.now self.now }
         requires ends { HasCumuls ends }
         ensures known { is_some result ≡ is_feasible (new_choice asked.now) }
         ensures timing { IfSome result (IsNewTiming asked.now) }
@@ -194,9 +189,7 @@ impl KeptList {
     fn timing_from(&self, asked: &Asked, start: i64, trail: &mut Trail) -> Option<Timing>
         requires allows { ChoiceAllows asked.now
             (between_runs (runs_of asked.now.guide.now) start self.now.between.last) }
-        requires runs { HasItsRuns asked.now.guide.now }
-        requires rule { rule_of asked.now.guide.now ≡ Tight }
-        requires kept { IsKeptOfOld asked.now self.now }
+        requires kept { IsKeptBy Tight asked.now self.now }
         requires start { IsIn (pos 0) horizon start }
         requires many { length self.now.steps.stages.items ≡ length (old_list asked.now) + 2 }
         ensures known { is_some result ≡ is_feasible (new_choice asked.now) }
@@ -215,9 +208,7 @@ impl KeptList {
     // What the earliest schedule of the list comes to that is asked of; nothing exactly where what is kept does not
     // tell.
     fn earliest_after(&self, asked: &Asked, trail: &mut Trail) -> Option<Timing>
-        requires runs { HasItsRuns asked.now.guide.now }
-        requires rule { rule_of asked.now.guide.now ≡ Earliest }
-        requires kept { IsKeptOfOld asked.now self.now }
+        requires { IsKeptBy Earliest asked.now self.now }
         ensures known { IsFeasible (new_line asked.now)
             → IsTrue (is_some result) ↔ HasAllStages (old_list asked.now) self.now }
         ensures timing { IfSome result (IsNewTiming asked.now) }
@@ -276,33 +267,35 @@ impl KeptCumuls {
         routes: &Routes,
     ) -> Result<KeptCumuls, NoMemory>
         requires valid { IsTrue (is_valid closed.model.now routes.now.lists) }
-        requires dimension { d < length closed.model.now.dimensions }
-        requires table { IsTable closed.model.now d table.now }
+        requires known { IsLookedUp closed.model.now d table.now }
         ensures kept { IfOk result (AreKept closed.entry.model.now d routes.now.lists) }
         ensures each { IfOk result (λ kept. length kept ≡ length routes.now.lists) }
     {
         let mut lists = Vec::new(alloc);
         for v in 0..routes.vehicles() {
             let mut kept = KeptList::new(alloc, closed.model.vehicles.get(v as usize).schedule)?;
-            write_list(closed, table, d, v, routes.list(v), &mut kept);
+            let tour = Tour {
+                closed,
+                v,
+                list: routes.list(v),
+            };
+            write_list(&tour, table, d, &mut kept);
             lists.push(kept)?;
         }
         Ok(KeptCumuls { lists })
     }
 
-    /// Vehicle `v` gets another list. It takes no memory.
-    pub fn write(&mut self, closed: Closed<'_>, table: &Table, d: u32, v: u32, list: &[u32])
-        requires dimension { d < length closed.model.now.dimensions }
-        requires vehicle { v < length closed.model.now.vehicles }
-        requires table { IsTable closed.model.now d table.now }
-        requires few { length list.now ≤ 1000 }
-        requires visits { IsTrue (list_all (is_visit closed.model.now) list.now) }
-        ensures kept { (lists : List (List ℕ)) → AreKept closed.entry.model.now d lists self.old → v < length lists
-            → AreKept closed.entry.model.now d (with_route lists v list.now) self.new }
+    /// A vehicle gets another list. It takes no memory.
+    pub fn write(&mut self, tour: &Tour, table: &Table, d: u32)
+        requires known { IsLookedUp tour.now.closed.model.now d table.now }
+        ensures kept { (lists : List (List ℕ)) → AreKept tour.now.closed.model.now d lists self.old
+            → tour.now.v < length lists
+            → AreKept tour.now.closed.model.now d (with_route lists tour.now.v tour.now.list.now) self.new }
         ensures many { length self.new ≡ length self.old }
     {
-        if (v as usize) < self.lists.len() {
-            write_list(closed, table, d, v, list, &mut self.lists[v as usize]);
+        let v = tour.v as usize;
+        if v < self.lists.len() {
+            write_list(tour, table, d, &mut self.lists[v]);
         }
     }
 
@@ -321,10 +314,8 @@ impl KeptCumuls {
         trail: &mut Trail,
     ) -> Option<Timing>
         requires at { IsKnownDimension at.now }
-        requires vehicle { v < length at.now.model.now.vehicles }
         requires kept { AreKept at.now.model.now at.now.d routes.now.lists self.now }
-        requires joined { AreJoined at.now.model.now v routes.now.lists pieces.now }
-        requires feasible { IsFeasible (line at.now.model.now at.now.d v (joined routes.now.lists pieces.now)) }
+        requires joined { AreJoinedFeasibly at.now.model.now at.now.d v routes.now.lists pieces.now }
         ensures known { IsTrue (is_some result)
             ↔ IsKnown at.now.model.now at.now.d v (route routes.now.lists v) self.now }
         ensures timing { IfSome result (IsTiming at.now.model.now at.now.d v (joined routes.now.lists pieces.now)) }
@@ -348,21 +339,23 @@ impl KeptCumuls {
     }
 }
 
-// Writes what is kept of a list of vehicle `v` in dimension `d`.
-fn write_list(closed: Closed<'_>, table: &Table, d: u32, v: u32, list: &[u32], kept: &mut KeptList)
-    requires dimension { d < length closed.model.now.dimensions }
-    requires vehicle { v < length closed.model.now.vehicles }
-    requires table { IsTable closed.model.now d table.now }
-    requires few { length list.now ≤ 1000 }
-    requires visits { IsTrue (list_all (is_visit closed.model.now) list.now) }
-    ensures kept { IsKept closed.entry.model.now d v list.now kept.new }
+// Writes what is kept of the list of a vehicle in dimension `d`.
+fn write_list(tour: &Tour, table: &Table, d: u32, kept: &mut KeptList)
+    requires known { IsLookedUp tour.now.closed.model.now d table.now }
+    ensures kept { IsKept tour.now.closed.model.now d tour.now.v tour.now.list.now kept.new }
     ensures room { length kept.new.ends.items ≡ length kept.old.ends.items }
 {
-    match Guide::of(closed, table, d, v) {
-        Some(guide) => match closed.model.vehicles.get(v as usize).schedule {
-            ScheduleRule::Earliest => kept.write_earliest(&guide, list),
-            ScheduleRule::Tight => kept.write_tight(&guide, list),
-        },
+    match Guide::of(tour.closed, table, d, tour.v) {
+        Some(guide) => {
+            let led = LedList {
+                guide: &guide,
+                list: tour.list,
+            };
+            match tour.closed.model.vehicles.get(tour.v as usize).schedule {
+                ScheduleRule::Earliest => kept.write_earliest(&led),
+                ScheduleRule::Tight => kept.write_tight(&led),
+            }
+        }
         None => kept.forget(),
     }
 }

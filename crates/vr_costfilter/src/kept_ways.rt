@@ -1,9 +1,8 @@
 //! What is kept of committed lists of vehicles that choose their tight schedules, so that the two ends of a changed
 //! list are known by a walk along what the change puts into it alone.
 
-ghost use Rattle.std.specs.Prelude.{◌≡◌, ◌↔◌, ◌<◌, ◌≤◌, ◌+◌, ◌-◌, All, IsTrue, pos, length, slice_index_or};
+ghost use Rattle.std.specs.Prelude.{◌≡◌, ◌↔◌, ◌<◌, ◌≤◌, ◌+◌, ◌-◌, IsTrue, pos, length, slice_index_or};
 ghost use Rattle.vr_model.specs.tables.Numbers.{horizon};
-ghost use Rattle.vr_model.specs.tables.Tables.{is_visit};
 ghost use Rattle.vr_model.specs.tables.WellFormed.{IsIn};
 ghost use Rattle.vr_costfilter.specs.KeptWays.{AreEndsOf, AreRestsTo, AreWaysTo, HasCumuls, HasWays};
 ghost use Rattle.vr_costfilter.specs.GuideRuns.{runs_of, HasItsRuns};
@@ -11,7 +10,7 @@ ghost use Rattle.vr_costfilter.specs.Ways.{nearest_cumul};
 ghost use Rattle.vr_costfilter.specs.declared.rests.Rest.{Rest as RestOf};
 ghost use Rattle.vr_costfilter.specs.declared.tight.Way.{Way as WayOf};
 
-use crate::guides::Guide;
+use crate::led::LedList;
 use crate::rests::Rest;
 use crate::tight::{TightEnds, Way};
 use arrayvec::ArrayVec;
@@ -76,17 +75,17 @@ impl KeptWays {
 
     /// The ends of the tight schedule of a list whose ways are kept: those that its whole way tells, brought within the
     /// horizon, also where it has none.
-    pub fn ends(&self, guide: &Guide, list: &[u32]) -> TightEnds
-        requires few { length list.now ≤ 1000 }
-        requires visits { All (λ node. IsTrue (is_visit guide.now.model.now node)) list.now }
-        requires ways { HasWays guide.now.model.now guide.now.d guide.now.v (runs_of guide.now) list.now self.now }
-        ensures ends { AreEndsOf guide.now.model.now guide.now.d guide.now.v (runs_of guide.now) list.now result }
+    pub fn ends(&self, led: &LedList) -> TightEnds
+        requires { HasWays led.now.guide.now.model.now led.now.guide.now.d led.now.guide.now.v
+            (runs_of led.now.guide.now) led.now.list.now self.now }
+        ensures ends { AreEndsOf led.now.guide.now.model.now led.now.guide.now.d led.now.guide.now.v
+            (runs_of led.now.guide.now) led.now.list.now result }
         ensures range { HasCumuls result }
     {
-        let way = self.ways[list.len()];
+        let way = self.ways[led.list.len()];
         let rest = self.rests[0];
-        let whole = guide.way_through(way, rest);
-        let ends = guide.ends_by(whole);
+        let whole = led.guide.way_through(way, rest);
+        let ends = led.guide.ends_by(whole);
         TightEnds {
             start: within_horizon(ends.start),
             last: within_horizon(ends.last),
@@ -94,23 +93,23 @@ impl KeptWays {
     }
 
     /// Writes what is kept of a list.
-    pub fn write(&mut self, guide: &Guide, list: &[u32])
-        requires runs { HasItsRuns guide.now }
-        requires few { length list.now ≤ 1000 }
-        requires visits { All (λ node. IsTrue (is_visit guide.now.model.now node)) list.now }
-        ensures { HasWays guide.now.model.now guide.now.d guide.now.v (runs_of guide.now) list.now self.new }
+    pub fn write(&mut self, led: &LedList)
+        requires { HasItsRuns led.now.guide.now }
+        ensures { HasWays led.now.guide.now.model.now led.now.guide.now.d led.now.guide.now.v
+            (runs_of led.now.guide.now) led.now.list.now self.new }
     {
-        self.write_ways(guide, list);
-        self.write_rests(guide, list);
+        self.write_ways(led);
+        self.write_rests(led);
     }
 
     // Writes the ways along a list.
-    fn write_ways(&mut self, guide: &Guide, list: &[u32])
-        requires few { length list.now ≤ 1000 }
-        requires visits { All (λ node. IsTrue (is_visit guide.now.model.now node)) list.now }
-        ensures { AreWaysTo guide.now.model.now guide.now.d guide.now.v (runs_of guide.now) list.now
-            (length list.now) self.new.ways.items }
+    fn write_ways(&mut self, led: &LedList)
+        ensures { AreWaysTo led.now.guide.now.model.now led.now.guide.now.d led.now.guide.now.v
+            (runs_of led.now.guide.now) led.now.list.now
+            (length led.now.list.now) self.new.ways.items }
     {
+        let guide = led.guide;
+        let list = led.list;
         let mut way = guide.way_out();
         self.ways.clear();
         self.ways.push(way);
@@ -121,13 +120,14 @@ impl KeptWays {
     }
 
     // Writes what is left from each stop of a list on.
-    fn write_rests(&mut self, guide: &Guide, list: &[u32])
-        requires few { length list.now ≤ 1000 }
-        requires visits { All (λ node. IsTrue (is_visit guide.now.model.now node)) list.now }
-        ensures rests { AreRestsTo guide.now.model.now guide.now.d guide.now.v (runs_of guide.now) list.now
-            (length list.now) self.new.rests.items }
+    fn write_rests(&mut self, led: &LedList)
+        ensures rests { AreRestsTo led.now.guide.now.model.now led.now.guide.now.d led.now.guide.now.v
+            (runs_of led.now.guide.now) led.now.list.now
+            (length led.now.list.now) self.new.rests.items }
         ensures ways { self.new.ways ≡ self.old.ways }
     {
+        let guide = led.guide;
+        let list = led.list;
         let mut rest = guide.rest_at_end();
         self.rests.clear();
         self.rests.push(rest);

@@ -26,6 +26,7 @@ mod global_span;
 mod guides;
 mod kept;
 mod kept_ways;
+mod led;
 mod order;
 mod orders;
 mod parts_after;
@@ -37,6 +38,7 @@ mod scratch;
 mod spreads;
 mod steps;
 mod tight;
+mod tours;
 mod trails;
 
 pub use dimensions::{AllCumuls, Paid};

@@ -9,6 +9,7 @@ ghost use Rattle.vr_routes.specs.Changes.{IsMadeOn, NothingReady};
 ghost use Rattle.vr_earliest.specs.Earlies.{AreEarlies};
 ghost use Rattle.vr_parts.specs.Parts.{CostAlike};
 ghost use Rattle.vr_costfilter.specs.PlanCosts.{cost_after, pays_no_plan, soft_and_span, AreNextCosts, ArePlansReady};
+ghost use Rattle.vr_costfilter.specs.Known.{IsValidChange};
 ghost use Rattle.vr_costfilter.specs.PlanCosts.{plans_least, IsPlanChange, IsPlanCost, StandsPlans};
 
 use crate::dimensions::AllCumuls;
@@ -116,9 +117,7 @@ impl<'m> PlanCost<'m> {
 
     // What the list costs that part `k` of a change gives its vehicle.
     fn cost_after(&mut self, routes: &Routes, change: &Change, k: usize) -> Result<i64, NoMemory>
-        requires stands { StandsPlans self.old routes.now }
-        requires made { IsMadeOn routes.now change.now }
-        requires valid { IsTrue (is_valid self.old.model (changed routes.now.lists change.now)) }
+        requires change { IsValidChange (StandsPlans self.old) self.old.model routes.now change.now }
         requires part { k < length change.now }
         ensures value { IfOk result (λ cost. cost
             ≡ cost_after self.old.model routes.now.lists (part_at change.now k)) }
@@ -136,9 +135,7 @@ impl<'m> PlanCost<'m> {
 
     // Writes the costs of the lists after a change, and makes none ready.
     fn write_next(&mut self, routes: &Routes, change: &Change) -> Result<(), NoMemory>
-        requires stands { StandsPlans self.old routes.now }
-        requires made { IsMadeOn routes.now change.now }
-        requires valid { IsTrue (is_valid self.old.model (changed routes.now.lists change.now)) }
+        requires change { IsValidChange (StandsPlans self.old) self.old.model routes.now change.now }
         ensures next { OnOk result (AreNextCosts self.new routes.now change.now) }
         ensures unprepared { self.new.is_prepared ≡ false }
         ensures model { self.new.model ≡ self.old.model }
@@ -156,9 +153,7 @@ impl<'m> PlanCost<'m> {
 
     // Makes the costs of the lists after a change ready.
     fn make_ready(&mut self, routes: &Routes, change: &Change) -> Result<(), NoMemory>
-        requires stands { StandsPlans self.old routes.now }
-        requires made { IsMadeOn routes.now change.now }
-        requires valid { IsTrue (is_valid self.old.model (changed routes.now.lists change.now)) }
+        requires change { IsValidChange (StandsPlans self.old) self.old.model routes.now change.now }
         ensures ready { OnOk result (ArePlansReady self.new routes.now change.now) }
         ensures unready { OnErr result (NothingReady (ArePlansReady self.new)) }
         ensures model { self.new.model ≡ self.old.model }

@@ -1,22 +1,22 @@
 //! From where to where the chosen schedules of lists reach, and what that costs.
 
 ghost use Rattle.std.specs.Prelude.{◌≡◌, ◌<◌, ◌≤◌, ◌+◌, ◌*ℤ◌, IsTrue, IfOk, IfSome, length, not, take};
-ghost use Rattle.std.specs.List.{list_all};
-ghost use Rattle.vr_model.specs.tables.Tables.{dimension_at, is_visit};
-ghost use Rattle.vr_model.specs.routes.Routes.{is_distinct, route};
+ghost use Rattle.vr_model.specs.tables.Tables.{dimension_at};
+ghost use Rattle.vr_model.specs.routes.Routes.{route};
 ghost use Rattle.vr_model.specs.routes.Rules.{is_valid};
-ghost use Rattle.vr_routes.specs.Changes.{AreParts, IsMadeOn};
 ghost use Rattle.vr_routes.specs.Pieces.{changed, joined, part_at};
 ghost use Rattle.vr_plan.specs.Bounds.{cumul_cost, IsAround};
 ghost use Rattle.vr_plan.specs.Extents.{length_of, IsExtentInRange};
-ghost use Rattle.vr_plan.specs.Tables.{AreTables, IsTable};
-ghost use Rattle.vr_earliest.specs.Earlies.{AreEarlies};
+ghost use Rattle.vr_plan.specs.Tables.{AreTables};
+ghost use Rattle.vr_costfilter.specs.EarlyParts.{AreEarlyParts};
+ghost use Rattle.vr_costfilter.specs.LookedUp.{IsLookedUp};
+ghost use Rattle.vr_costfilter.specs.Known.{AreCumulsAt, IsValidChange};
 ghost use Rattle.vr_costfilter.specs.Kept.{AreAllKept};
-ghost use Rattle.vr_costfilter.specs.Orders.{AreInRange, AreOrders};
+ghost use Rattle.vr_costfilter.specs.Orders.{AreOrders};
 ghost use Rattle.vr_costfilter.specs.GlobalCosts as reaches;
 ghost use Rattle.vr_costfilter.specs.GlobalCosts.{extent_after, spans_cost_after, AreAllOrders, AreBlank, IsRow};
-ghost use Rattle.vr_costfilter.specs.GlobalCosts.{AreRanged, AreRows, AreTold, AreToldOf, IsGlobalCost, IsToldIfPaid};
-ghost use Rattle.vr_costfilter.specs.GlobalCosts.{is_some_spanned, Pays};
+ghost use Rattle.vr_costfilter.specs.GlobalCosts.{AreNextRows, AreNextRowsIn, AreRanged, AreRangedIn, IsGlobalCost};
+ghost use Rattle.vr_costfilter.specs.GlobalCosts.{is_some_spanned, IsToldIfPaid, Pays};
 ghost use Rattle.vr_costfilter.specs.Spreads.{global_least};
 ghost use Rattle.vr_costfilter.specs.PartsAfter.{list_after, vehicle_after};
 
@@ -26,6 +26,7 @@ use crate::orders::{Orders, beside};
 use crate::parts_after::PartAfter;
 use crate::scratch::Scratch;
 use crate::spreads::least_of_global_spans;
+use crate::tours::Tour;
 use arrayvec::ArrayVec;
 use std::alloc::Global;
 use std::marker::Model;
@@ -124,26 +125,23 @@ impl<'m> SpanRules<'m> {
         requires valid { IsTrue (is_valid self.now routes.now.lists) }
         ensures { IfOk result (λ orders. AreAllOrders self.now routes.now.lists orders.items) }
     {
+        let closed = Closed { model: self.model };
         let mut orders = self.no_orders(alloc)?;
         for v in 0..routes.vehicles() {
-            let row = row_of_list(
-                Closed { model: self.model },
-                &self.tables,
+            let tour = Tour {
+                closed,
                 v,
-                routes.list(v),
-                timer,
-            )?;
-            set_list(self.model, &mut orders, routes, v, &row);
+                list: routes.list(v),
+            };
+            let row = row_of_list(&tour, &self.tables, timer)?;
+            set_list(closed, &mut orders, routes, v, &row);
         }
         Ok(orders)
     }
 
     /// What is kept becomes that of the lists after a change.
     pub fn commit(&self, cumuls: &mut AllCumuls, routes: &Routes, change: &Change)
-        requires kept { AreAllKept self.now routes.now.lists cumuls.old }
-        requires before { IsTrue (is_valid self.now routes.now.lists) }
-        requires made { IsMadeOn routes.now change.now }
-        requires valid { IsTrue (is_valid self.now (changed routes.now.lists change.now)) }
+        requires { IsValidChange (AreCumulsAt self.now cumuls.old) self.now routes.now change.now }
         ensures { AreAllKept self.now (changed routes.now.lists change.now) cumuls.new }
     {
         cumuls.commit(Closed { model: self.model }, &self.tables, routes, change);
@@ -159,10 +157,7 @@ impl<'m> SpanRules<'m> {
         k: usize,
         scratch: &mut Scratch,
     ) -> Result<ListTimings, NoMemory>
-        requires kept { AreAllKept self.now routes.now.lists cumuls.now }
-        requires before { IsTrue (is_valid self.now routes.now.lists) }
-        requires made { IsMadeOn routes.now change.now }
-        requires valid { IsTrue (is_valid self.now (changed routes.now.lists change.now)) }
+        requires change { IsValidChange (AreCumulsAt self.now cumuls.now) self.now routes.now change.now }
         requires part { k < length change.now }
         ensures { IfOk result (IsRow self.now (part_at change.now k).vehicle
             (joined routes.now.lists (part_at change.now k).pieces)) }
@@ -195,10 +190,7 @@ impl<'m> SpanRules<'m> {
         next: &[ListTimings],
         out: &mut [Orders],
     )
-        requires orders { AreAllOrders self.now routes.now.lists orders.now }
-        requires as_many { length routes.now.lists ≡ length self.now.vehicles }
-        requires parts { AreParts routes.now.lists change.now }
-        requires rows { AreRows self.now routes.now.lists change.now next.now }
+        requires rows { AreNextRows self.now routes.now.lists change.now orders.now next.now }
         requires room { length out.old ≡ length self.now.dimensions }
         ensures { AreAllOrders self.now (changed routes.now.lists change.now) out.new }
     {
@@ -220,10 +212,8 @@ impl<'m> SpanRules<'m> {
         routes: &Routes,
         change: &Change,
     ) -> i64
-        requires earlies { AreEarlies self.now routes.now.lists change.now earlies.now }
-        requires as_many { length routes.now.lists ≡ length self.now.vehicles }
+        requires earlies { AreEarlyParts self.now routes.now.lists change.now earlies.now }
         requires orders { AreAllOrders self.now routes.now.lists orders.now }
-        requires parts { AreParts routes.now.lists change.now }
         ensures value { result ≡ global_least self.now routes.now.lists change.now }
         ensures range { IsGlobalCost result }
     {
@@ -260,51 +250,35 @@ fn is_some_spanned(model: &RoutingModel) -> bool
 }
 
 // What the chosen schedules of a list come to.
-fn row_of_list(
-    closed: Closed<'_>,
-    tables: &[Table],
-    v: u32,
-    list: &[u32],
-    timer: &mut Timer,
-) -> Result<ListTimings, NoMemory>
-    requires tables { AreTables closed.model.now tables.now }
-    requires vehicle { v < length closed.model.now.vehicles }
-    requires visits { IsTrue (list_all (is_visit closed.model.now) list.now) }
-    requires distinct { IsTrue (is_distinct list.now) }
-    requires few { length list.now ≤ 1000 }
-    ensures { IfOk result (IsRow closed.entry.model.now v list.now) }
+fn row_of_list(tour: &Tour, tables: &[Table], timer: &mut Timer) -> Result<ListTimings, NoMemory>
+    requires tables { AreTables tour.now.closed.model.now tables.now }
+    ensures { IfOk result (IsRow tour.now.closed.model.now tour.now.v tour.now.list.now) }
 {
     let mut row: ListTimings = [None; 4];
     for d in 0..tables.len() {
-        row[d] = kept_in(closed, &tables[d], d as u32, v, list, timer)?;
+        row[d] = kept_in(tour, &tables[d], d as u32, timer)?;
     }
     Ok(row)
 }
 
 // What is kept of a list in one dimension.
 fn kept_in(
-    closed: Closed<'_>,
+    tour: &Tour,
     table: &Table,
     d: u32,
-    v: u32,
-    list: &[u32],
     timer: &mut Timer,
 ) -> Result<Option<Timing>, NoMemory>
-    requires dimension { d < length closed.model.now.dimensions }
-    requires vehicle { v < length closed.model.now.vehicles }
-    requires visits { IsTrue (list_all (is_visit closed.model.now) list.now) }
-    requires distinct { IsTrue (is_distinct list.now) }
-    requires few { length list.now ≤ 1000 }
-    requires table { IsTable closed.model.now d table.now }
-    ensures { IfOk result (IsToldIfPaid closed.entry.model.now d v list.now) }
+    requires known { IsLookedUp tour.now.closed.model.now d table.now }
+    ensures { IfOk result (IsToldIfPaid tour.now.closed.model.now d tour.now.v tour.now.list.now) }
 {
-    if list.is_empty() {
+    if tour.list.is_empty() {
         return Ok(None);
     }
-    if closed.model.dimensions.get(d as usize).global_span_cost == 0 {
+    let model = tour.closed.model;
+    if model.dimensions.get(d as usize).global_span_cost == 0 {
         return Ok(None);
     }
-    let timing = timing_of(closed.model, table, d, v, list, timer)?;
+    let timing = timing_of(model, table, d, tour.v, tour.list, timer)?;
     Ok(Some(timing))
 }
 
@@ -334,8 +308,7 @@ fn kept_after(
     cumuls: &AllCumuls,
     scratch: &mut Scratch,
 ) -> Result<Option<Timing>, NoMemory>
-    requires dimension { d < length part.now.model.now.dimensions }
-    requires table { IsTable part.now.model.now d table.now }
+    requires known { IsLookedUp part.now.model.now d table.now }
     requires kept { AreAllKept part.now.model.now part.now.routes.now.lists cumuls.now }
     ensures { IfOk result (IsToldIfPaid part.now.model.now d (vehicle_after part.now) (list_after part.now)) }
 {
@@ -350,14 +323,13 @@ fn kept_after(
         return Ok(Some(timing));
     }
     part.write(&mut scratch.row);
-    let timing = kept_in(
-        Closed { model: part.model },
-        table,
-        d,
-        part.vehicle(),
-        scratch.row.as_slice(),
-        &mut scratch.timer,
-    )?;
+    let closed = Closed { model: part.model };
+    let tour = Tour {
+        closed,
+        v: part.vehicle(),
+        list: scratch.row.as_slice(),
+    };
+    let timing = kept_in(&tour, table, d, &mut scratch.timer)?;
     Ok(timing)
 }
 
@@ -388,8 +360,7 @@ fn cost_of_span(
     d: u32,
 ) -> i64
     requires dimension { d < length closed.model.now.dimensions }
-    requires orders { Pays closed.model.now d → AreInRange orders.now }
-    requires next { Pays closed.model.now d → AreTold d next.now }
+    requires ranged { Pays closed.model.now d → AreRangedIn d orders.now next.now }
     ensures value { result ≡ ((dimension_at closed.entry.model.now d).global_span_cost
         *ℤ length_of (extent_after d vehicles.now next.now orders.now)) }
     ensures range { IsAround cumul_cost result }
@@ -403,9 +374,7 @@ fn cost_of_span(
 
 // From where to where all lists reach in dimension `d`, `None` where none is used.
 fn reach(orders: &Orders, vehicles: &[u32], next: &[ListTimings], d: u32) -> Option<Extent>
-    requires dimension { d < 4 }
-    requires orders { AreInRange orders.now }
-    requires next { AreTold d next.now }
+    requires { AreRangedIn d orders.now next.now }
     ensures value { result ≡ extent_after d vehicles.now next.now orders.now }
     ensures range { IfSome result IsExtentInRange }
 {
@@ -417,22 +386,15 @@ fn reach(orders: &Orders, vehicles: &[u32], next: &[ListTimings], d: u32) -> Opt
 }
 
 // Vehicle `v` gets its list, where those before it have theirs, in the dimensions that pay.
-fn set_list(
-    model: &RoutingModel,
-    orders: &mut [Orders],
-    _routes: &Routes,
-    v: u32,
-    row: &ListTimings,
-)
-    requires before { AreAllOrders model.now (take v _routes.now.lists) orders.old }
+fn set_list(closed: Closed<'_>, orders: &mut [Orders], _routes: &Routes, v: u32, row: &ListTimings)
+    requires before { AreAllOrders closed.model.now (take v _routes.now.lists) orders.old }
     requires few { length _routes.now.lists ≤ 100 }
-    requires dimensions { length model.now.dimensions ≤ 4 }
     requires vehicle { v < length _routes.now.lists }
-    requires row { IsRow model.now v (route _routes.now.lists v) row.now }
-    ensures { AreAllOrders model.now (take (v + 1) _routes.now.lists) orders.new }
+    requires row { IsRow closed.model.now v (route _routes.now.lists v) row.now }
+    ensures { AreAllOrders closed.entry.model.now (take (v + 1) _routes.now.lists) orders.new }
 {
     for d in 0..orders.len() {
-        if model.dimensions.get(d).global_span_cost != 0 {
+        if closed.model.dimensions.get(d).global_span_cost != 0 {
             orders[d].set(v, row[d]);
         }
     }
@@ -447,10 +409,7 @@ fn write_all(
     next: &[ListTimings],
     out: &mut [Orders],
 )
-    requires orders { AreAllOrders closed.model.now routes.now.lists orders.now }
-    requires as_many { length routes.now.lists ≡ length closed.model.now.vehicles }
-    requires parts { AreParts routes.now.lists change.now }
-    requires rows { AreRows closed.model.now routes.now.lists change.now next.now }
+    requires rows { AreNextRows closed.model.now routes.now.lists change.now orders.now next.now }
     requires room { length out.old ≡ length closed.model.now.dimensions }
     ensures { AreAllOrders closed.entry.model.now (changed routes.now.lists change.now) out.new }
 {
@@ -479,12 +438,7 @@ fn write_in(
     d: u32,
     out: &mut Orders,
 )
-    requires orders { AreOrders _model.now d _routes.now.lists orders.now }
-    requires few { length _routes.now.lists ≤ 100 }
-    requires parts { AreParts _routes.now.lists change.now }
-    requires dimension { d < 4 }
-    requires many { length next.now ≡ length change.now }
-    requires told { AreToldOf _model.now d _routes.now.lists change.now next.now }
+    requires { AreNextRowsIn _model.now d _routes.now.lists change.now orders.now next.now }
     ensures { AreOrders _model.now d (changed _routes.now.lists change.now) out.new }
 {
     out.copy_from(orders);

@@ -1,9 +1,9 @@
 //! What is left of the line of a vehicle behind a stop.
 
-ghost use Rattle.std.specs.Prelude.{◌≡◌, ◌<◌, IsTrue};
+ghost use Rattle.std.specs.Prelude.{◌≡◌, IsTrue};
 ghost use Rattle.vr_model.specs.tables.Tables.{is_visit, transit as transit_of};
-ghost use Rattle.vr_reach.specs.VisitRuns.{HasCumulEnds};
 ghost use Rattle.vr_costfilter.specs.GuideRuns.{runs_of};
+ghost use Rattle.vr_costfilter.specs.Guides.{IsStopAt};
 ghost use Rattle.vr_costfilter.specs.Rests.{rest_at_end as at_end_of, rest_before as before_by};
 ghost use Rattle.vr_costfilter.specs.Rests.{rest_by, way_through as through_rest, IsRestOf};
 ghost use Rattle.vr_costfilter.specs.Ways.{IsWayOf};
@@ -51,8 +51,7 @@ impl<'m> Guide<'m> {
     // What is left from a node on that allows a run of cumuls.
     #[inline]
     fn rest_on(&self, node: u32, allowed: Run, rest: Rest) -> Rest
-        requires node { node < self.now.model.now.nodes }
-        requires allowed { HasCumulEnds allowed }
+        requires stop { IsStopAt self.now.model.now node allowed }
         requires rest { IsRestOf self.now.model.now 1000 rest }
         ensures { result ≡ rest_by (transit_of self.now.model.now self.now.d self.now.v node rest.at) node allowed
             rest }

@@ -1,19 +1,21 @@
 //! What a list costs by soft upper bounds and spans, at its chosen schedules.
 
-ghost use Rattle.std.specs.Prelude.{◌≡◌, ◌<◌, ◌≤◌, ◌*◌, ◌+ℤ◌, ◌-ℤ◌, ◌*ℤ◌, IsTrue, IfOk, false, length};
+ghost use Rattle.std.specs.Prelude.{◌≡◌, ◌<◌, ◌*◌, ◌+ℤ◌, ◌-ℤ◌, ◌*ℤ◌, IsTrue, IfOk, length};
 ghost use Rattle.std.specs.List.{list_all};
 ghost use Rattle.vr_model.specs.tables.Numbers.{below, number_at, total_by};
 ghost use Rattle.vr_model.specs.tables.Tables.{dimension_at, is_visit};
 ghost use Rattle.vr_model.specs.declared.records.Model.{Model as Defined};
 ghost use Rattle.vr_model.specs.routes.Routes.{is_distinct, is_empty};
 ghost use Rattle.vr_model.specs.routes.Rules.{is_valid};
-ghost use Rattle.vr_plan.specs.Tables.{AreTables, IsTable};
+ghost use Rattle.vr_plan.specs.Tables.{AreTables};
 ghost use Rattle.vr_plan.specs.Timings.{soft_with, span_with, IsTimingOf};
 ghost use Rattle.vr_plan.specs.Bounds.{cumul_cost, IsAround};
 ghost use Rattle.vr_routes.specs.Changes.{AreParts, IsMadeOn};
 ghost use Rattle.vr_routes.specs.Pieces.{changed, joined, part_at};
 ghost use Rattle.vr_costfilter.specs.Kept.{AreAllKept};
-ghost use Rattle.vr_earliest.specs.Earlies.{AreEarlies};
+ghost use Rattle.vr_costfilter.specs.EarlyParts.{AreEarlyParts};
+ghost use Rattle.vr_costfilter.specs.LookedUp.{IsLookedUp};
+ghost use Rattle.vr_costfilter.specs.Known.{AreCumulsAt, IsUsedPart, IsValidChange};
 ghost use Rattle.vr_earliest.specs.Ways.{least_span};
 ghost use Rattle.vr_costfilter.specs.PlanCosts.{cost_after, pays_no_plan, plans_cost, spans_least, AreCosts};
 ghost use Rattle.vr_costfilter.specs.PlanCosts.{IsPlanCost, IsPlanCostIn};
@@ -23,6 +25,7 @@ use crate::dimensions::{AllCumuls, Paid};
 use crate::early_change::EarlyChange;
 use crate::parts_after::PartAfter;
 use crate::scratch::Scratch;
+use crate::tours::Tour;
 use std::alloc::Global;
 use std::marker::Model;
 use vr_earliest::Earlies;
@@ -102,15 +105,15 @@ impl<'m> PlanRules<'m> {
         ensures { IfOk result (λ costs.
             AreCosts self.now routes.now.lists (length routes.now.lists) costs.items) }
     {
+        let closed = Closed { model: self.model };
         let mut costs = Vec::new(alloc);
         for v in 0..routes.vehicles() {
-            let cost = cost_of_plans(
-                Closed { model: self.model },
-                &self.tables,
+            let tour = Tour {
+                closed,
                 v,
-                routes.list(v),
-                timer,
-            )?;
+                list: routes.list(v),
+            };
+            let cost = cost_of_plans(&tour, &self.tables, timer)?;
             costs.push(cost)?;
         }
         Ok(costs)
@@ -118,10 +121,7 @@ impl<'m> PlanRules<'m> {
 
     /// What is kept becomes that of the lists after a change.
     pub fn commit(&self, cumuls: &mut AllCumuls, routes: &Routes, change: &Change)
-        requires kept { AreAllKept self.now routes.now.lists cumuls.old }
-        requires before { IsTrue (is_valid self.now routes.now.lists) }
-        requires made { IsMadeOn routes.now change.now }
-        requires valid { IsTrue (is_valid self.now (changed routes.now.lists change.now)) }
+        requires { IsValidChange (AreCumulsAt self.now cumuls.old) self.now routes.now change.now }
         ensures { AreAllKept self.now (changed routes.now.lists change.now) cumuls.new }
     {
         cumuls.commit(Closed { model: self.model }, &self.tables, routes, change);
@@ -137,10 +137,7 @@ impl<'m> PlanRules<'m> {
         k: usize,
         scratch: &mut Scratch,
     ) -> Result<i64, NoMemory>
-        requires kept { AreAllKept self.now routes.now.lists cumuls.now }
-        requires before { IsTrue (is_valid self.now routes.now.lists) }
-        requires made { IsMadeOn routes.now change.now }
-        requires valid { IsTrue (is_valid self.now (changed routes.now.lists change.now)) }
+        requires change { IsValidChange (AreCumulsAt self.now cumuls.now) self.now routes.now change.now }
         requires part { k < length change.now }
         ensures value { IfOk result (λ cost. cost ≡ cost_after self.now routes.now.lists (part_at change.now k)) }
         ensures range { IfOk result IsPlanCost }
@@ -160,9 +157,7 @@ impl<'m> PlanRules<'m> {
 
     /// What the spans of the list cost at least that part `k` of a change gives its vehicle. No schedule is built.
     pub fn least(&self, earlies: &Earlies, routes: &Routes, change: &Change, k: usize) -> i64
-        requires earlies { AreEarlies self.now routes.now.lists change.now earlies.now }
-        requires as_many { length routes.now.lists ≡ length self.now.vehicles }
-        requires parts { AreParts routes.now.lists change.now }
+        requires earlies { AreEarlyParts self.now routes.now.lists change.now earlies.now }
         requires part { k < length change.now }
         ensures value { result ≡ spans_least self.now (part_at change.now k).vehicle
             (joined routes.now.lists (part_at change.now k).pieces) }
@@ -182,27 +177,18 @@ impl<'m> PlanRules<'m> {
 }
 
 // What the list of a vehicle costs by the soft upper bounds of its stops and by its spans, in all dimensions.
-fn cost_of_plans(
-    closed: Closed<'_>,
-    tables: &[Table],
-    v: u32,
-    list: &[u32],
-    timer: &mut Timer,
-) -> Result<i64, NoMemory>
-    requires tables { AreTables closed.model.now tables.now }
-    requires vehicle { v < length closed.model.now.vehicles }
-    requires visits { IsTrue (list_all (is_visit closed.model.now) list.now) }
-    requires distinct { IsTrue (is_distinct list.now) }
-    requires few { length list.now ≤ 1000 }
-    ensures value { IfOk result (λ cost. cost ≡ plans_cost closed.entry.model.now v list.now) }
+fn cost_of_plans(tour: &Tour, tables: &[Table], timer: &mut Timer) -> Result<i64, NoMemory>
+    requires tables { AreTables tour.now.closed.model.now tables.now }
+    ensures value { IfOk result (λ cost. cost
+        ≡ plans_cost tour.now.closed.model.now tour.now.v tour.now.list.now) }
     ensures range { IfOk result IsPlanCost }
 {
-    if list.is_empty() {
+    if tour.list.is_empty() {
         return Ok(0);
     }
     let mut cost = 0;
     for d in 0..tables.len() {
-        cost += cost_of_plan(closed, &tables[d], d as u32, v, list, timer)?;
+        cost += cost_of_plan(tour, &tables[d], d as u32, timer)?;
     }
     Ok(cost)
 }
@@ -215,8 +201,7 @@ fn cost_of_part(
     scratch: &mut Scratch,
 ) -> Result<i64, NoMemory>
     requires tables { AreTables part.now.model.now tables.now }
-    requires kept { AreAllKept part.now.model.now part.now.routes.now.lists cumuls.now }
-    requires some { is_empty (list_after part.now) ≡ false }
+    requires used { IsUsedPart part.now cumuls.now }
     ensures value { IfOk result (λ cost. cost
         ≡ cost_after part.now.model.now part.now.routes.now.lists (part_at part.now.change.now part.now.k)) }
     ensures range { IfOk result IsPlanCost }
@@ -236,10 +221,8 @@ fn cost_of_plan_after(
     cumuls: &AllCumuls,
     scratch: &mut Scratch,
 ) -> Result<i64, NoMemory>
-    requires dimension { d < length part.now.model.now.dimensions }
-    requires table { IsTable part.now.model.now d table.now }
-    requires kept { AreAllKept part.now.model.now part.now.routes.now.lists cumuls.now }
-    requires some { is_empty (list_after part.now) ≡ false }
+    requires known { IsLookedUp part.now.model.now d table.now }
+    requires used { IsUsedPart part.now cumuls.now }
     ensures value { IfOk result (λ cost. cost
         ≡ soft_with part.now.model.now d (vehicle_after part.now) (list_after part.now)
         +ℤ span_with part.now.model.now d (vehicle_after part.now) (list_after part.now)) }
@@ -248,20 +231,19 @@ fn cost_of_plan_after(
     if table.is_free {
         return Ok(0);
     }
+    let closed = Closed { model: part.model };
     let v = part.vehicle();
     let told = cumuls.timing_after(part, table, d, &mut scratch.trail);
     if let Some(timing) = told {
-        return Ok(cost_of_timing(Closed { model: part.model }, d, v, timing));
+        return Ok(cost_of_timing(closed, d, v, timing));
     }
     part.write(&mut scratch.row);
-    let cost = cost_of_plan(
-        Closed { model: part.model },
-        table,
-        d,
+    let tour = Tour {
+        closed,
         v,
-        scratch.row.as_slice(),
-        &mut scratch.timer,
-    )?;
+        list: scratch.row.as_slice(),
+    };
+    let cost = cost_of_plan(&tour, table, d, &mut scratch.timer)?;
     Ok(cost)
 }
 
@@ -306,30 +288,20 @@ fn least_of_span(early: &EarlyChange, k: usize, d: u32) -> i64
 }
 
 // What the list of a vehicle costs by soft upper bounds and by its span in one dimension.
-fn cost_of_plan(
-    closed: Closed<'_>,
-    table: &Table,
-    d: u32,
-    v: u32,
-    list: &[u32],
-    timer: &mut Timer,
-) -> Result<i64, NoMemory>
-    requires dimension { d < length closed.model.now.dimensions }
-    requires vehicle { v < length closed.model.now.vehicles }
-    requires some { 0 < length list.now }
-    requires visits { IsTrue (list_all (is_visit closed.model.now) list.now) }
-    requires distinct { IsTrue (is_distinct list.now) }
-    requires few { length list.now ≤ 1000 }
-    requires table { IsTable closed.model.now d table.now }
+fn cost_of_plan(tour: &Tour, table: &Table, d: u32, timer: &mut Timer) -> Result<i64, NoMemory>
+    requires known { IsLookedUp tour.now.closed.model.now d table.now }
+    requires some { 0 < length tour.now.list.now }
     ensures value { IfOk result (λ cost. cost
-        ≡ soft_with closed.entry.model.now d v list.now +ℤ span_with closed.entry.model.now d v list.now) }
+        ≡ soft_with tour.now.closed.model.now d tour.now.v tour.now.list.now
+        +ℤ span_with tour.now.closed.model.now d tour.now.v tour.now.list.now) }
     ensures range { IfOk result IsPlanCostIn }
 {
-    if !may_pay_alone(closed.model, table, d, v, list) {
+    let model = tour.closed.model;
+    if !may_pay_alone(model, table, d, tour.v, tour.list) {
         return Ok(0);
     }
-    let timing = timing_of(closed.model, table, d, v, list, timer)?;
-    Ok(cost_of_timing(closed, d, v, timing))
+    let timing = timing_of(model, table, d, tour.v, tour.list, timer)?;
+    Ok(cost_of_timing(tour.closed, d, tour.v, timing))
 }
 
 // What a schedule of a list of vehicle `v` costs by soft upper bounds and by its span.

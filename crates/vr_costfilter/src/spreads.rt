@@ -8,7 +8,7 @@ ghost use Rattle.vr_costfilter.specs.GlobalCosts.{AreAllOrders, IsGlobalCost, Pa
 ghost use Rattle.vr_costfilter.specs.Spreads as spreads;
 ghost use Rattle.vr_costfilter.specs.Spreads.{global_least, global_least_in, spread_of, IsSpreadInRange};
 
-use crate::early_change::EarlyChange;
+use crate::early_change::{EarlyChange, EarlyIn};
 use crate::orders::Orders;
 use crate::reaches::vehicles_of;
 use vr_model::limits::HORIZON;
@@ -52,23 +52,23 @@ fn least_of_global_span(early: &EarlyChange, orders: &Orders, d: u32) -> i64
     if coefficient == 0 {
         return 0;
     }
-    let spread = spread_after(early, orders, d);
+    let paid = EarlyIn { early, d };
+    let spread = spread_after(&paid, orders);
     times(coefficient, (spread.last - spread.start).max(spread.span))
 }
 
 // How far the lists after a change reach at least.
-fn spread_after(early: &EarlyChange, orders: &Orders, d: u32) -> Spread
-    requires dimension { d < length early.now.model.now.dimensions }
-    requires pays { Pays early.now.model.now d }
-    requires orders { AreOrders early.now.model.now d early.now.routes.now.lists orders.now }
-    ensures value { result
-        ≡ spreads.spread_after early.now.model.now early.now.routes.now.lists early.now.change.now d }
+fn spread_after(paid: &EarlyIn, orders: &Orders) -> Spread
+    requires { AreOrders paid.now.early.now.model.now paid.now.d paid.now.early.now.routes.now.lists orders.now }
+    ensures value { result ≡ spreads.spread_after paid.now.early.now.model.now paid.now.early.now.routes.now.lists
+        paid.now.early.now.change.now paid.now.d }
     ensures range { IsSpreadInRange result }
 {
-    let vehicles = vehicles_of(early.change);
+    let change = paid.early.change;
+    let vehicles = vehicles_of(change);
     let mut spread = spread_but(orders, &vehicles);
-    for k in 0..early.change.parts() {
-        spread = with_changed(early, d, k, spread);
+    for k in 0..change.parts() {
+        spread = with_changed(paid, k, spread);
     }
     spread
 }
@@ -95,20 +95,18 @@ fn spread_but(orders: &Orders, vehicles: &[u32]) -> Spread
 
 // It reaches over the list too that part `k` of the change gives its vehicle.
 #[inline]
-fn with_changed(early: &EarlyChange, d: u32, k: usize, spread: Spread) -> Spread
-    requires dimension { d < length early.now.model.now.dimensions }
-    requires part { k < length early.now.change.now }
-    requires pays { Pays early.now.model.now d }
+fn with_changed(paid: &EarlyIn, k: usize, spread: Spread) -> Spread
+    requires part { k < length paid.now.early.now.change.now }
     requires range { IsSpreadInRange spread }
-    ensures value { result
-        ≡ spreads.with_changed early.now.model.now early.now.routes.now.lists d spread
-        (part_at early.now.change.now k) }
+    ensures value { result ≡ spreads.with_changed paid.now.early.now.model.now paid.now.early.now.routes.now.lists
+        paid.now.d spread (part_at paid.now.early.now.change.now k) }
     ensures range { IsSpreadInRange result }
 {
+    let early = paid.early;
     if Piece::nodes_in(early.routes, early.change.pieces(k)) == 0 {
         return spread;
     }
-    let told = early.earlies.at(d, k);
+    let told = early.earlies.at(paid.d, k);
     Spread {
         last: spread.last.max(told.last),
         start: spread.start,

@@ -10,18 +10,19 @@ ghost use Rattle.vr_model.specs.schedules.Schedules.{IsFeasible};
 ghost use Rattle.vr_model.specs.tables.Tables.{is_visit};
 ghost use Rattle.vr_model.specs.tables.Numbers.{horizon};
 ghost use Rattle.vr_model.specs.tables.WellFormed.{IsIn, WherePresent};
-ghost use Rattle.vr_plan.specs.Bounds.{cumul_cost};
 ghost use Rattle.vr_plan.specs.Timings.{IsTimingOf};
 ghost use Rattle.vr_costfilter.specs.Asked.{new_choice, new_list, old_list, ChoiceAllows, IsNewTiming};
 ghost use Rattle.vr_costfilter.specs.GuideRuns.{runs_of};
 ghost use Rattle.vr_costfilter.specs.Floors.{end_step, first_of, first_step, IsStep, IsVisitStep};
 ghost use Rattle.vr_costfilter.specs.Runs.{only as only_of, start_run, starting, AllowsRuns};
-ghost use Rattle.vr_costfilter.specs.Steps.{steps_of, AreAllStages, AreSteps, HasLed, HasPaced, HasSetOut, HasStages};
-ghost use Rattle.vr_costfilter.specs.Steps.{first_led, reached, AreStagesOf, IsKeptLead};
-ghost use Rattle.vr_costfilter.specs.Stages.{along, paid_more, setting_out, standing, whole, IsStageOf};
+ghost use Rattle.vr_costfilter.specs.Steps.{steps_of, AreAllStages, AreKnownSteps, AreStepsFrom};
+ghost use Rattle.vr_costfilter.specs.Steps.{AreMet};
+ghost use Rattle.vr_costfilter.specs.Steps.{first_led, reached, HasLed, HasPaced, HasSetOut, HasStages, IsLead};
+ghost use Rattle.vr_costfilter.specs.Stages.{along, paid_more, setting_out, standing, whole, IsAtStart, IsStageOf};
 
 use crate::asked::Asked;
 use crate::guides::{Guide, Stage};
+use crate::led::{LedChain, LedList, LedPieces};
 use crate::tight::only;
 use crate::trails::{Step, Trail};
 use arrayvec::ArrayVec;
@@ -53,6 +54,16 @@ pub struct Outset {
     more: i64,
 }
 
+/// The steps and the stages that are kept of a list, with a stage for each of its stops.
+#[derive(Drop)]
+pub struct KnownSteps<'a, 'm> {
+    guide: &'a Guide<'m>,
+    list: &'a [u32],
+    kept: &'a KeptSteps,
+    // they are those along it
+    ghost sound: { AreKnownSteps guide.now.model.now guide.now.d guide.now.v (runs_of guide.now) list.now kept.now },
+}
+
 impl KeptSteps {
     /// Of no list. It takes no memory.
     pub fn new() -> KeptSteps
@@ -81,38 +92,40 @@ impl KeptSteps {
     }
 
     /// Writes the steps and the stages of a list, as far as there are any: all of them where it is feasible.
-    pub fn write(&mut self, guide: &Guide, list: &[u32])
-        requires few { length list.now ≤ 1000 }
-        requires visits { All (λ node. IsTrue (is_visit guide.now.model.now node)) list.now }
-        ensures stages { HasStages guide.now.model.now guide.now.d guide.now.v (runs_of guide.now) list.now self.new }
-        ensures all { (line : Line)
-            → AllowsRuns guide.now.model.now guide.now.d guide.now.v (runs_of guide.now) list.now line → IsFeasible line
-            → length self.new.stages.items ≡ length list.now + 2 }
+    pub fn write(&mut self, led: &LedList)
+        ensures stages { HasStages led.now.guide.now.model.now led.now.guide.now.d led.now.guide.now.v
+            (runs_of led.now.guide.now) led.now.list.now self.new }
+        ensures all { (line : Line) → AllowsRuns led.now.guide.now.model.now led.now.guide.now.d led.now.guide.now.v
+            (runs_of led.now.guide.now) led.now.list.now line → IsFeasible line
+            → length self.new.stages.items ≡ length led.now.list.now + 2 }
     {
         self.stages.clear();
         self.trail.steps.clear();
-        let end = guide.end_step();
-        match guide.back_along_chain(list, false, end, &mut self.trail) {
-            Some(first) => self.write_stages(guide, list, first),
+        let end = led.guide.end_step();
+        let chain = LedChain {
+            guide: led.guide,
+            nodes: led.list,
+            reversed: false,
+        };
+        match chain.back_along(end, &mut self.trail) {
+            Some(first) => self.write_stages(led, first),
             None => {}
         }
     }
 
     // Writes the stages along the steps, of which `first` is the first one.
-    fn write_stages(&mut self, guide: &Guide, list: &[u32], first: Step)
-        requires few { length list.now ≤ 1000 }
+    fn write_stages(&mut self, led: &LedList, first: Step)
         requires none { length self.old.stages.items ≡ 0 }
-        requires steps { AreSteps guide.now.model.now guide.now.d guide.now.v (runs_of guide.now) list.now
-            (steps_of self.old) }
-        requires known { All (IsVisitStep guide.now.model.now) (steps_of self.old) }
-        requires first { first ≡ first_of (steps_of self.old) (end_step guide.now.model.now guide.now.v
-            (runs_of guide.now)) }
-        requires range { IsStep guide.now.model.now first }
-        ensures stages { HasStages guide.now.model.now guide.now.d guide.now.v (runs_of guide.now) list.now self.new }
-        ensures all { (line : Line)
-            → AllowsRuns guide.now.model.now guide.now.d guide.now.v (runs_of guide.now) list.now line → IsFeasible line
-            → length self.new.stages.items ≡ length list.now + 2 }
+        requires steps { AreStepsFrom led.now.guide.now.model.now led.now.guide.now.d led.now.guide.now.v
+            (runs_of led.now.guide.now) led.now.list.now (steps_of self.old) first }
+        ensures stages { HasStages led.now.guide.now.model.now led.now.guide.now.d led.now.guide.now.v
+            (runs_of led.now.guide.now) led.now.list.now self.new }
+        ensures all { (line : Line) → AllowsRuns led.now.guide.now.model.now led.now.guide.now.d led.now.guide.now.v
+            (runs_of led.now.guide.now) led.now.list.now line → IsFeasible line
+            → length self.new.stages.items ≡ length led.now.list.now + 2 }
     {
+        let guide = led.guide;
+        let list = led.list;
         let Some(floor) = guide.start_floor(first) else {
             return;
         };
@@ -136,107 +149,109 @@ impl KeptSteps {
         requires allows { ChoiceAllows asked.now (starting (runs_of asked.now.guide.now)
             (start_run (runs_of asked.now.guide.now) start)) }
         requires start { WherePresent (IsIn (pos 0) horizon) start }
-        requires stages { AreAllStages asked.now.guide.now.model.now asked.now.guide.now.d asked.now.guide.now.v
-            (runs_of asked.now.guide.now) (old_list asked.now) (steps_of self.now) self.now.stages.items }
-        requires many { length self.now.stages.items ≡ length (old_list asked.now) + 2 }
+        requires known { AreKnownSteps asked.now.guide.now.model.now asked.now.guide.now.d asked.now.guide.now.v
+            (runs_of asked.now.guide.now) (old_list asked.now) self.now }
         ensures known { is_some result ≡ is_feasible (new_choice asked.now) }
         ensures timing { IfSome result (IsNewTiming asked.now) }
         ensures range { IfSome result (IsTimingOf (length (new_list asked.now) + 2)) }
     {
         let guide = asked.guide;
         let list = asked.routes.list(guide.v);
+        let known = KnownSteps {
+            guide,
+            list,
+            kept: self,
+        };
         let ends = strip(asked.routes, guide.v, asked.pieces);
         let front = ends.front as usize;
         let behind = ends.behind as usize;
         trail.steps.clear();
-        let next = self.step_behind(guide, list.len(), behind);
-        let first = guide.back_along_pieces(asked.routes, ends.middle, next, trail)?;
-        let lead = self.lead(guide, list, front, first, trail)?;
-        let met = self.set_out(guide, list, start, lead)?;
+        let next = known.step_behind(behind);
+        let led = LedPieces {
+            guide,
+            routes: asked.routes,
+            pieces: ends.middle,
+        };
+        let first = led.back_along(next, trail)?;
+        let lead = known.lead(front, first, trail)?;
+        let met = known.set_out(start, lead)?;
         let gone = guide.along_trail(trail, met.stage)?;
-        let end = self.end_behind(guide, list, behind, gone)?;
+        let end = known.end_behind(behind, gone)?;
         Some(Timing {
             soft: end.soft + met.more,
             start: met.start,
             last: end.cumul,
         })
     }
+}
 
+impl<'a, 'm> KnownSteps<'a, 'm> {
     // Where new steps begin, nothing exactly where the vehicle does not come there.
-    fn set_out(&self, guide: &Guide, list: &[u32], start: Option<i64>, lead: Lead) -> Option<Outset>
-        requires stages { AreAllStages guide.now.model.now guide.now.d guide.now.v (runs_of guide.now) list.now
-            (steps_of self.now) self.now.stages.items }
-        requires many { length self.now.stages.items ≡ length list.now + 2 }
-        requires few { length list.now ≤ 1000 }
+    fn set_out(&self, start: Option<i64>, lead: Lead) -> Option<Outset>
         requires start { WherePresent (IsIn (pos 0) horizon) start }
-        requires place { lead.place ≤ length list.now }
-        requires first { IsStep guide.now.model.now lead.first }
-        requires kept { IsKeptLead (steps_of self.now) lead }
+        requires lead { IsLead self.now.guide.now.model.now (steps_of self.now.kept.now)
+            (length self.now.list.now) lead }
         ensures value { option_map reached result
-            ≡ along guide.now.model.now guide.now.d guide.now.v (runs_of guide.now)
-            (setting_out guide.now.model.now guide.now.d guide.now.v
-            (starting (runs_of guide.now) (start_run (runs_of guide.now) start)) lead.first)
-            (take lead.place (steps_of self.now)) }
-        ensures met { IfSome result (HasSetOut guide.now.model.now guide.now.d guide.now.v (runs_of guide.now)
-            (start_run (runs_of guide.now) start) (steps_of self.now) lead) }
+            ≡ along self.now.guide.now.model.now self.now.guide.now.d self.now.guide.now.v (runs_of self.now.guide.now)
+            (setting_out self.now.guide.now.model.now self.now.guide.now.d self.now.guide.now.v
+            (starting (runs_of self.now.guide.now) (start_run (runs_of self.now.guide.now) start)) lead.first)
+            (take lead.place (steps_of self.now.kept.now)) }
+        ensures met { IfSome result (HasSetOut self.now.guide.now.model.now self.now.guide.now.d self.now.guide.now.v
+            (runs_of self.now.guide.now)
+            (start_run (runs_of self.now.guide.now) start) (steps_of self.now.kept.now) lead) }
     {
         match start {
-            Some(cumul) => self.meet_from(guide, list, cumul, lead),
-            None => self.meet(guide, lead),
+            Some(cumul) => self.meet_from(cumul, lead),
+            None => self.meet(lead),
         }
     }
 
-    // The kept step to the stop behind the first `k` visits of a list of `n`.
+    // The kept step to the stop behind the first `k` visits.
     #[inline]
-    fn step_behind(&self, guide: &Guide, n: usize, k: usize) -> Step
-        requires many { length self.now.trail.steps.items ≡ n }
-        requires known { All (IsVisitStep guide.now.model.now) (steps_of self.now) }
-        requires place { k ≤ n }
-        ensures range { IsStep guide.now.model.now result }
-        ensures value { result ≡ slice_index_or (steps_of self.now) k (end_step guide.now.model.now guide.now.v
-            (runs_of guide.now)) }
+    fn step_behind(&self, k: usize) -> Step
+        requires { k ≤ length self.now.list.now }
+        ensures range { IsStep self.now.guide.now.model.now result }
+        ensures value { result ≡ slice_index_or (steps_of self.now.kept.now) k
+            (end_step self.now.guide.now.model.now self.now.guide.now.v
+            (runs_of self.now.guide.now)) }
     {
+        let n = self.list.len();
         if k < n {
-            self.trail.steps[n - 1 - k]
+            self.kept.trail.steps[n - 1 - k]
         } else {
-            guide.end_step()
+            self.guide.end_step()
         }
     }
 
     // Back along the first `front` visits of the list, which come before the next step, until a floor is as kept.
     // Nothing exactly where some stop allows no cumul from its floor on.
-    fn lead(
-        &self,
-        guide: &Guide,
-        list: &[u32],
-        front: usize,
-        next: Step,
-        trail: &mut Trail,
-    ) -> Option<Lead>
-        requires stages { AreAllStages guide.now.model.now guide.now.d guide.now.v (runs_of guide.now) list.now
-            (steps_of self.now) self.now.stages.items }
-        requires few { length list.now ≤ 1000 }
-        requires place { front ≤ length list.now }
-        requires next { IsStep guide.now.model.now next }
+    fn lead(&self, front: usize, next: Step, trail: &mut Trail) -> Option<Lead>
+        requires place { front ≤ length self.now.list.now }
+        requires next { IsStep self.now.guide.now.model.now next }
         requires room { length trail.old.steps.items + front ≤ 1000 }
         ensures first { option_map first_led result
-            ≡ first_step guide.now.model.now guide.now.d guide.now.v (runs_of guide.now)
-            (take front list.now) next }
-        ensures led { IfSome result (HasLed guide.now.model.now guide.now.d guide.now.v (runs_of guide.now)
-            (steps_of self.now) (take front list.now) next trail.old.steps.items trail.new.steps.items) }
+            ≡ first_step self.now.guide.now.model.now self.now.guide.now.d self.now.guide.now.v
+            (runs_of self.now.guide.now)
+            (take front self.now.list.now) next }
+        ensures led { IfSome result (HasLed self.now.guide.now.model.now self.now.guide.now.d self.now.guide.now.v
+            (runs_of self.now.guide.now)
+            (steps_of self.now.kept.now) (take front self.now.list.now) next trail.old.steps.items
+            trail.new.steps.items) }
     {
+        let list = self.list;
+        let all = self.kept;
         let mut first = next;
         for k in 0..front {
             let place = front - 1 - k;
-            let kept = self.trail.steps[list.len() - 1 - place];
-            let step = match guide.before(kept.node, first) {
+            let kept = all.trail.steps[list.len() - 1 - place];
+            let step = match self.guide.before(kept.node, first) {
                 Some(step) => step,
                 None => return None,
             };
             if step.floor == kept.floor {
                 return Some(Lead {
                     place: place + 1,
-                    first: self.trail.steps[list.len() - 1],
+                    first: all.trail.steps[list.len() - 1],
                 });
             }
             trail.steps.push(step);
@@ -247,113 +262,110 @@ impl KeptSteps {
 
     // The stage where new steps begin: the kept one where a floor in front of them is as kept, and else that at the
     // start. Nothing exactly where the start allows no cumul from its floor on.
-    fn meet(&self, guide: &Guide, lead: Lead) -> Option<Outset>
-        requires stages { AreStagesOf guide.now.model.now guide.now.d guide.now.v (runs_of guide.now) self.now }
-        requires few { length (steps_of self.now) ≤ 1000 }
-        requires place { lead.place ≤ length (steps_of self.now) }
-        requires first { IsStep guide.now.model.now lead.first }
-        requires kept { IsKeptLead (steps_of self.now) lead }
+    fn meet(&self, lead: Lead) -> Option<Outset>
+        requires lead { IsLead self.now.guide.now.model.now (steps_of self.now.kept.now)
+            (length self.now.list.now) lead }
         ensures value { option_map reached result
-            ≡ along guide.now.model.now guide.now.d guide.now.v (runs_of guide.now)
-            (setting_out guide.now.model.now guide.now.d guide.now.v (runs_of guide.now) lead.first)
-            (take lead.place (steps_of self.now)) }
-        ensures met { IfSome result (HasSetOut guide.now.model.now guide.now.d guide.now.v (runs_of guide.now)
-            (runs_of guide.now).start (steps_of self.now) lead) }
+            ≡ along self.now.guide.now.model.now self.now.guide.now.d self.now.guide.now.v (runs_of self.now.guide.now)
+            (setting_out self.now.guide.now.model.now self.now.guide.now.d self.now.guide.now.v
+            (runs_of self.now.guide.now) lead.first)
+            (take lead.place (steps_of self.now.kept.now)) }
+        ensures met { IfSome result (HasSetOut self.now.guide.now.model.now self.now.guide.now.d self.now.guide.now.v
+            (runs_of self.now.guide.now)
+            (runs_of self.now.guide.now).start (steps_of self.now.kept.now) lead) }
     {
         if lead.place == 0 {
-            return self.at_floor(guide, lead.first);
+            return self.at_floor(lead.first);
         }
         Some(Outset {
-            stage: self.stages[lead.place],
-            start: self.stages[0].cumul,
+            stage: self.kept.stages[lead.place],
+            start: self.kept.stages[0].cumul,
             more: 0,
         })
     }
 
     // The stage at the start before another step, nothing exactly where the start allows no cumul from its floor on.
-    fn at_floor(&self, guide: &Guide, next: Step) -> Option<Outset>
-        requires stages { AreStagesOf guide.now.model.now guide.now.d guide.now.v (runs_of guide.now) self.now }
-        requires few { length (steps_of self.now) ≤ 1000 }
-        requires next { IsStep guide.now.model.now next }
+    fn at_floor(&self, next: Step) -> Option<Outset>
+        requires next { IsStep self.now.guide.now.model.now next }
         ensures value { option_map reached result
-            ≡ setting_out guide.now.model.now guide.now.d guide.now.v (runs_of guide.now) next }
-        ensures out { IfSome result (λ met. setting_out guide.now.model.now guide.now.d guide.now.v
-            (runs_of guide.now) next ≡ Some met.stage) }
+            ≡ setting_out self.now.guide.now.model.now self.now.guide.now.d self.now.guide.now.v
+            (runs_of self.now.guide.now) next }
+        ensures out { IfSome result (λ met. setting_out self.now.guide.now.model.now self.now.guide.now.d
+            self.now.guide.now.v
+            (runs_of self.now.guide.now) next ≡ Some met.stage) }
         ensures start { IfSome result (λ met. met.start ≡ met.stage.cumul) }
         ensures more { IfSome result (λ met. met.more ≡ pos 0) }
-        ensures range { IfSome result (λ met. IsStageOf guide.now.model.now 1002 met.stage) }
+        ensures range { IfSome result (λ met. IsStageOf self.now.guide.now.model.now 1002 met.stage) }
     {
-        let floor = guide.start_floor(next)?;
+        let floor = self.guide.start_floor(next)?;
         Some(Outset {
-            stage: self.start_stage(guide, floor),
+            stage: self.start_stage(floor),
             start: floor,
             more: 0,
         })
     }
 
     // The stage at the start at a cumul, the kept one where it is the same.
-    fn start_stage(&self, guide: &Guide, cumul: i64) -> Stage
-        requires stages { AreStagesOf guide.now.model.now guide.now.d guide.now.v (runs_of guide.now) self.now }
-        requires few { length (steps_of self.now) ≤ 1000 }
+    fn start_stage(&self, cumul: i64) -> Stage
         requires cumul { IsIn (pos 0) horizon cumul }
-        ensures value { result ≡ standing guide.now.model.now guide.now.d guide.now.v cumul }
-        ensures range { IsStageOf guide.now.model.now 1002 result }
+        ensures value { result ≡ standing self.now.guide.now.model.now self.now.guide.now.d self.now.guide.now.v cumul }
+        ensures range { IsStageOf self.now.guide.now.model.now 1002 result }
     {
-        let kept = self.stages[0];
+        let kept = self.kept.stages[0];
         if kept.cumul == cumul {
             return kept;
         }
-        guide.standing(cumul)
+        self.guide.standing(cumul)
     }
 
     // The same, where the vehicle starts at another cumul than the kept one.
-    fn meet_from(&self, guide: &Guide, list: &[u32], start: i64, lead: Lead) -> Option<Outset>
-        requires stages { AreAllStages guide.now.model.now guide.now.d guide.now.v (runs_of guide.now) list.now
-            (steps_of self.now) self.now.stages.items }
-        requires many { length self.now.stages.items ≡ length list.now + 2 }
-        requires few { length list.now ≤ 1000 }
+    fn meet_from(&self, start: i64, lead: Lead) -> Option<Outset>
         requires start { IsIn (pos 0) horizon start }
-        requires place { lead.place ≤ length list.now }
-        requires first { IsStep guide.now.model.now lead.first }
+        requires lead { IsLead self.now.guide.now.model.now (steps_of self.now.kept.now)
+            (length self.now.list.now) lead }
         ensures value { option_map reached result
-            ≡ along guide.now.model.now guide.now.d guide.now.v (runs_of guide.now)
-            (setting_out guide.now.model.now guide.now.d guide.now.v (starting (runs_of guide.now) (only_of start))
-            lead.first) (take lead.place (steps_of self.now)) }
-        ensures met { IfSome result (HasSetOut guide.now.model.now guide.now.d guide.now.v (runs_of guide.now)
-            (only_of start) (steps_of self.now) lead) }
+            ≡ along self.now.guide.now.model.now self.now.guide.now.d self.now.guide.now.v (runs_of self.now.guide.now)
+            (setting_out self.now.guide.now.model.now self.now.guide.now.d self.now.guide.now.v (starting
+            (runs_of self.now.guide.now) (only_of start))
+            lead.first) (take lead.place (steps_of self.now.kept.now)) }
+        ensures met { IfSome result (HasSetOut self.now.guide.now.model.now self.now.guide.now.d self.now.guide.now.v
+            (runs_of self.now.guide.now)
+            (only_of start) (steps_of self.now.kept.now) lead) }
     {
-        let floor = guide.floor_from(only(start), lead.first)?;
-        let out = guide.standing(floor);
-        self.pace(guide, list, lead.place, out)
+        let floor = self.guide.floor_from(only(start), lead.first)?;
+        let out = self.guide.standing(floor);
+        self.pace(lead.place, out)
     }
 
     // A vehicle goes on from a stage at the start along the first `place` visits of the list: to the kept stage there,
     // once it comes to a cumul that is kept. Nothing exactly where it cannot.
-    fn pace(&self, guide: &Guide, list: &[u32], place: usize, out: Stage) -> Option<Outset>
-        requires stages { AreAllStages guide.now.model.now guide.now.d guide.now.v (runs_of guide.now) list.now
-            (steps_of self.now) self.now.stages.items }
-        requires many { length self.now.stages.items ≡ length list.now + 2 }
-        requires few { length list.now ≤ 1000 }
-        requires place { place ≤ length list.now }
-        requires out { out ≡ standing guide.now.model.now guide.now.d guide.now.v out.cumul }
-        requires range { IsStageOf guide.now.model.now 1 out }
+    fn pace(&self, place: usize, out: Stage) -> Option<Outset>
+        requires place { place ≤ length self.now.list.now }
+        requires out { IsAtStart self.now.guide.now.model.now self.now.guide.now.d self.now.guide.now.v out }
         ensures value { option_map reached result
-            ≡ along guide.now.model.now guide.now.d guide.now.v (runs_of guide.now) (Some out)
-            (take place (steps_of self.now)) }
-        ensures paced { IfSome result (HasPaced guide.now.model.now guide.now.d guide.now.v (runs_of guide.now)
-            (take place (steps_of self.now)) out) }
+            ≡ along self.now.guide.now.model.now self.now.guide.now.d self.now.guide.now.v
+            (runs_of self.now.guide.now) (Some out)
+            (take place (steps_of self.now.kept.now)) }
+        ensures paced { IfSome result (HasPaced self.now.guide.now.model.now self.now.guide.now.d self.now.guide.now.v
+            (runs_of self.now.guide.now)
+            (take place (steps_of self.now.kept.now)) out) }
     {
+        let list = self.list;
+        let all = self.kept;
         let mut gone = out;
         for k in 0..place {
-            let kept = self.stages[k];
+            let kept = all.stages[k];
             if gone.cumul == kept.cumul {
                 return Some(Outset {
-                    stage: self.stages[place],
+                    stage: all.stages[place],
                     start: out.cumul,
                     more: gone.soft - kept.soft,
                 });
             }
-            match guide.to_visit(gone, self.trail.steps[list.len() - 1 - k]) {
+            match self
+                .guide
+                .to_visit(gone, all.trail.steps[list.len() - 1 - k])
+            {
                 Some(next) => gone = next,
                 None => return None,
             }
@@ -367,25 +379,25 @@ impl KeptSteps {
 
     // The stage at the end of a vehicle that goes on along the list from place `behind` on, nothing exactly where it
     // cannot. Once it comes to a cumul that is kept, all that follows is as kept.
-    fn end_behind(&self, guide: &Guide, list: &[u32], behind: usize, stage: Stage) -> Option<Stage>
-        requires stages { AreAllStages guide.now.model.now guide.now.d guide.now.v (runs_of guide.now) list.now
-            (steps_of self.now) self.now.stages.items }
-        requires many { length self.now.stages.items ≡ length list.now + 2 }
-        requires few { length list.now ≤ 1000 }
-        requires place { behind ≤ length list.now }
-        requires stage { IsStageOf guide.now.model.now 2002 stage }
-        ensures { result ≡ whole guide.now.model.now guide.now.d guide.now.v (runs_of guide.now) (Some stage)
-            (drop behind (steps_of self.now)) }
+    fn end_behind(&self, behind: usize, stage: Stage) -> Option<Stage>
+        requires place { behind ≤ length self.now.list.now }
+        requires stage { IsStageOf self.now.guide.now.model.now 2002 stage }
+        ensures { result ≡ whole self.now.guide.now.model.now self.now.guide.now.d self.now.guide.now.v
+            (runs_of self.now.guide.now) (Some stage)
+            (drop behind (steps_of self.now.kept.now)) }
     {
+        let guide = self.guide;
+        let list = self.list;
+        let all = self.kept;
         let mut gone = stage;
         for k in behind..list.len() {
-            match guide.to_visit(gone, self.trail.steps[list.len() - 1 - k]) {
+            match guide.to_visit(gone, all.trail.steps[list.len() - 1 - k]) {
                 Some(next) => gone = next,
                 None => return None,
             }
-            let kept = self.stages[k + 1];
+            let kept = all.stages[k + 1];
             if gone.cumul == kept.cumul {
-                return Some(resumed(self.stages[list.len() + 1], kept, gone));
+                return Some(resumed(all.stages[list.len() + 1], kept, gone));
             }
         }
         guide.to_end(gone)
@@ -395,10 +407,7 @@ impl KeptSteps {
 // The stage at the end, where a vehicle comes to a cumul that is kept and has paid another cost before.
 #[inline]
 fn resumed(end: Stage, kept: Stage, gone: Stage) -> Stage
-    requires end { IsIn (pos 0) (pos (cumul_cost * 1002)) end.soft }
-    requires cumul { IsIn (pos 0) horizon end.cumul }
-    requires kept { IsIn (pos 0) (pos (cumul_cost * 1002)) kept.soft }
-    requires gone { IsIn (pos 0) (pos (cumul_cost * 4000)) gone.soft }
+    requires { AreMet end kept gone }
     ensures { result ≡ paid_more (gone.soft -ℤ kept.soft) end }
 {
     Stage {

@@ -3,22 +3,21 @@
 //! cumuls the tight schedule is the earliest one, and is found as that is: by floors from the end backwards, and along
 //! them.
 
-ghost use Rattle.std.specs.Prelude.{◌≡◌, ◌<◌, ◌≤◌, All, IsTrue, cond, length, pos, reverse};
+ghost use Rattle.std.specs.Prelude.{◌≡◌, IsTrue, pos};
 ghost use Rattle.vr_model.specs.tables.Numbers.{horizon};
 ghost use Rattle.vr_model.specs.tables.Tables.{is_visit};
 ghost use Rattle.vr_model.specs.tables.WellFormed.{IsIn};
-ghost use Rattle.vr_routes.specs.Pieces.{joined, nodes_of, IsWithin};
 ghost use Rattle.vr_reach.specs.VisitRuns.{HasCumulEnds};
 ghost use Rattle.vr_costfilter.specs.KeptWays.{HasCumuls};
+ghost use Rattle.vr_costfilter.specs.Guides.{IsStopAt};
 ghost use Rattle.vr_costfilter.specs.GuideRuns.{runs_of};
 ghost use Rattle.vr_costfilter.specs.Runs.{between_runs, only as only_of};
-ghost use Rattle.vr_costfilter.specs.Ways.{last_by, start_by, way_along as along_by, way_on as way_on_by};
+ghost use Rattle.vr_costfilter.specs.Ways.{last_by, start_by, way_on as way_on_by};
 ghost use Rattle.vr_costfilter.specs.Ways.{way_out as way_out_by};
 ghost use Rattle.vr_costfilter.specs.Ways.{way_to_visit as way_to_visit_by, IsWayOf};
 
-use crate::guides::{Guide, node_in};
+use crate::guides::Guide;
 use vr_reach::Ahead;
-use vr_routes::{Piece, Routes};
 use vr_spans::Run;
 
 /// How far a vehicle has come that waits for the begins of runs alone: the node of the stop where it is, its cumul
@@ -93,66 +92,7 @@ impl<'m> Guide<'m> {
         }
     }
 
-    /// A way goes on along the nodes of pieces.
-    #[inline(always)]
-    pub fn way_along_pieces(&self, routes: &Routes, pieces: &[Piece], way: Way) -> Way
-        requires within { All (IsWithin routes.now.lists) pieces.now }
-        requires visits { All (λ node. IsTrue (is_visit self.now.model.now node)) (joined routes.now.lists pieces.now) }
-        requires few { length (joined routes.now.lists pieces.now) ≤ 1000 }
-        requires way { IsWayOf self.now.model.now 1000 way }
-        ensures value { result ≡ along_by self.now.model.now self.now.d self.now.v (runs_of self.now) way
-            (joined routes.now.lists pieces.now) }
-        ensures range { IsWayOf self.now.model.now 2000 result }
-    {
-        let mut gone = way;
-        for k in 0..pieces.len() {
-            gone = self.way_along_piece(routes, pieces[k], gone);
-        }
-        gone
-    }
-
-    // It goes on along the nodes of a piece.
-    #[inline(always)]
-    fn way_along_piece(&self, routes: &Routes, piece: Piece, way: Way) -> Way
-        requires within { IsWithin routes.now.lists piece }
-        requires visits { All (λ node. IsTrue (is_visit self.now.model.now node)) (nodes_of routes.now.lists piece) }
-        requires few { length (nodes_of routes.now.lists piece) ≤ 1000 }
-        requires way { IsWayOf self.now.model.now 2000 way }
-        ensures { result ≡ along_by self.now.model.now self.now.d self.now.v (runs_of self.now) way
-            (nodes_of routes.now.lists piece) }
-    {
-        match piece {
-            Piece::Node { node } => self.way_to_visit(way, node),
-            Piece::Chain {
-                vehicle,
-                from,
-                to,
-                reversed,
-            } => {
-                let list = routes.list(vehicle);
-                self.way_along_chain(&list[from as usize..to as usize], reversed, way)
-            }
-        }
-    }
-
-    // It goes on along a chain, or along the chain backwards.
-    #[inline(always)]
-    fn way_along_chain(&self, chain: &[u32], reversed: bool, way: Way) -> Way
-        requires visits { All (λ node. IsTrue (is_visit self.now.model.now node))
-            (cond reversed (reverse chain.now) chain.now) }
-        requires few { length (cond reversed (reverse chain.now) chain.now) ≤ 1000 }
-        requires way { IsWayOf self.now.model.now 2000 way }
-        ensures { result ≡ along_by self.now.model.now self.now.d self.now.v (runs_of self.now) way
-            (cond reversed (reverse chain.now) chain.now) }
-    {
-        let mut gone = way;
-        for k in 0..chain.len() {
-            gone = self.way_to_visit(gone, node_in(chain, reversed, k));
-        }
-        gone
-    }
-
-    /// It goes on to a visit.
+    /// A way goes on to a visit.
     #[inline(always)]
     pub fn way_to_visit(&self, way: Way, node: u32) -> Way
         requires node { IsTrue (is_visit self.now.model.now node) }
@@ -166,8 +106,7 @@ impl<'m> Guide<'m> {
     // It goes on to a node that allows a run of cumuls.
     #[inline(always)]
     fn way_on(&self, way: Way, node: u32, allowed: Run) -> Way
-        requires node { node < self.now.model.now.nodes }
-        requires allowed { HasCumulEnds allowed }
+        requires stop { IsStopAt self.now.model.now node allowed }
         requires way { IsWayOf self.now.model.now 3000 way }
         ensures { result ≡ way_on_by self.now.model.now self.now.d self.now.v way node allowed }
     {

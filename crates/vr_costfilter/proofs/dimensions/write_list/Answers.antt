@@ -2,29 +2,29 @@ use Rattle.std.proofs.Common.{◌≡◌, ◌∙◌, inl, inr, ◌<◌, ℕ, List
 use Rattle.std.specs.Prelude.{slice_index_or, slice_set}
 use Rattle.std.proofs.lemmas.Bool.{cases_lt}
 use Rattle.std.proofs.lemmas.List.{get_or_default, get_or-set_same, get_or-set_other}
-use Rattle.vr_plan.proofs.TableLemmas.{table_at}
+use Rattle.vr_costfilter.proofs.KnownLemmas.{known-at}
 use Rattle.vr_model.specs.moves.Moves.{with_route}
 use Rattle.vr_costfilter.specs.declared.kept.KeptList.{KeptList}
 use Rattle.vr_costfilter.specs.Kept.{AreKept}
 use Rattle.vr_costfilter.proofs.dimensions.write_list.Goals as goal
 
-pub write-requires-clause-table : goal.write-requires-clause-table
-write-requires-clause-table c =
+pub write-requires : goal.write-requires
+write-requires c =
     let n = c.requires.tables.one_of_each in
     let low = c.loop-d-test.true in
     let many = c.loop-d.invariant.many in
     let ends = c.requires.many in
-    table_at c.args.closed.model.now c.args.tables.now c.requires.tables c.loop-d.d c.index-tables-d.result c.index-tables-d.is (omega (arith, low, many, ends))
+    record { known = known-at c.args.tour.now.closed.model.now c.args.tables.now c.requires.tables c.loop-d.d c.index-tables-d.result c.index-tables-d.is (omega (arith, n, low, many, ends)) }
 
 pub loop-d-preserved : goal.loop-d-preserved
 loop-d-preserved c =
     let i = c.loop-d.invariant in
-    let m = c.args.closed.model.now in
+    let m = c.args.tour.now.closed.model.now in
     let kept : List (List KeptList) = c.loop-d.kept in
     let at = c.loop-d.d in
     let new : List KeptList = c.write.new.self in
-    let v = c.args.v in
-    let list : List ℕ = c.args.list.now in
+    let v = c.args.tour.now.v in
+    let list : List ℕ = c.args.tour.now.list.now in
     let many = length-set kept at new in
     let all_many = i.many in
     let ends = c.requires.many in

@@ -7,10 +7,10 @@ use Rattle.vr_costfilter.proofs.dimensions.write_list.Given as goal
 
 abbrev pub invariant-loop-d : goal.invariant-loop-d
 invariant-loop-d l = record {
-  many : length l.kept ≡ length l.closed.model.now.dimensions;
-  done : (lists : List (List ℕ)) → AreAllKept l.closed.model.now lists l.fn.kept → l.v < length lists
-      → (d : ℕ) (other : List KeptList) → d < l.d → AreKept l.closed.model.now d (with_route lists l.v l.list) (slice_index_or l.kept d other);
-  left : (lists : List (List ℕ)) → AreAllKept l.closed.model.now lists l.fn.kept
-      → (d : ℕ) (other : List KeptList) → l.d ≤ d → d < length l.kept → AreKept l.closed.model.now d lists (slice_index_or l.kept d other);
+  many : length l.kept ≡ length l.tour.closed.model.now.dimensions;
+  done : (lists : List (List ℕ)) → AreAllKept l.tour.closed.model.now lists l.fn.kept → l.tour.v < length lists
+      → (d : ℕ) (other : List KeptList) → d < l.d → AreKept l.tour.closed.model.now d (with_route lists l.tour.v l.tour.list.now) (slice_index_or l.kept d other);
+  left : (lists : List (List ℕ)) → AreAllKept l.tour.closed.model.now lists l.fn.kept
+      → (d : ℕ) (other : List KeptList) → l.d ≤ d → d < length l.kept → AreKept l.tour.closed.model.now d lists (slice_index_or l.kept d other);
   as_many : (d : ℕ) (other : List KeptList) → d < length l.kept → length (slice_index_or l.kept d other) ≡ length (slice_index_or l.fn.kept d other);
 }

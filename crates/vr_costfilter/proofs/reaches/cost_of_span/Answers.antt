@@ -15,23 +15,11 @@ global_cost-requires-clause-coefficient c =
     subst (λ x. IsIn (pos 0) (pos 10000) x.global_span_cost) (c.get-dimension.ensures.value no_dimension)
     (c.args.closed.well_formed.each_dimension c.args.d no_dimension c.requires.dimension).global_span_cost_in_range
 
-pub reach-requires-clause-dimension : goal.reach-requires-clause-dimension
-reach-requires-clause-dimension c =
-    let few = c.args.closed.well_formed.number_of_dimensions in
-    let low = c.requires.dimension in
-    omega (arith, few, low)
-
-pub reach-requires-clause-orders : goal.reach-requires-clause-orders
-reach-requires-clause-orders c =
+pub reach-requires : goal.reach-requires
+reach-requires c =
     let some = c.if-dimension-eq0.false in
     let same = ap (λ x. x.global_span_cost) (c.get-dimension.ensures.value no_dimension) in
-    c.requires.orders (λ none. absurd (omega (arith, ints, some, same, none)))
-
-pub reach-requires-clause-next : goal.reach-requires-clause-next
-reach-requires-clause-next c =
-    let some = c.if-dimension-eq0.false in
-    let same = ap (λ x. x.global_span_cost) (c.get-dimension.ensures.value no_dimension) in
-    c.requires.next (λ none. absurd (omega (arith, ints, some, same, none)))
+    c.requires.ranged (λ none. absurd (omega (arith, ints, some, same, none)))
 
 pub returns-clause-value : goal.returns-clause-value
 returns-clause-value c =

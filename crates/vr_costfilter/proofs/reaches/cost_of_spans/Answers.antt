@@ -1,4 +1,4 @@
-use Rattle.std.proofs.Common.{◌≡◌, ◌∙◌, ap, arith}
+use Rattle.std.proofs.Common.{◌≡◌, ◌∙◌, ◌<◌, length, ap, sym, subst, arith}
 use Rattle.std.proofs.lemmas.Int.{ints}
 use Rattle.std.proofs.lemmas.List.{get_or_default}
 use Rattle.std.specs.Prelude.{◌*ℤ◌}
@@ -6,8 +6,23 @@ use Rattle.vr_model.specs.tables.Tables.{dimension_at}
 use Rattle.vr_model.proofs.tables.Totals.{total_by-more}
 use Rattle.vr_plan.specs.Extents.{length_of}
 use Rattle.vr_costfilter.specs.declared.orders.Orders.{Orders}
+use Rattle.vr_costfilter.specs.Orders.{AreInRange}
 use Rattle.vr_costfilter.specs.GlobalCosts.{extent_after, no_orders, span_cost_after}
 use Rattle.vr_costfilter.proofs.reaches.cost_of_spans.Goals as goal
+
+pub cost_of_span-cost-requires-clause-ranged : goal.cost_of_span-cost-requires-clause-ranged
+cost_of_span-cost-requires-clause-ranged c pays =
+    let d = c.loop-d.d in
+    let h = c.requires.ranged in
+    let many = h.many in
+    let few = c.args.closed.well_formed.number_of_dimensions in
+    let low = c.loop-d-test.true in
+    let known : d < length c.args.closed.model.now.dimensions = omega (arith, many, low) in
+    record {
+      dimension = omega (arith, few, known);
+      in_orders = subst AreInRange (sym (c.index-orders-d.is ∙ get_or_default c.args.orders.now d c.index-orders-d.result no_orders low)) (h.in_orders d known pays);
+      in_rows = h.in_rows d known pays;
+    }
 
 pub loop-d-preserved : goal.loop-d-preserved
 loop-d-preserved c =

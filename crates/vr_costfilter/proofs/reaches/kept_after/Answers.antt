@@ -1,11 +1,11 @@
 use Rattle.std.proofs.Common.{◌∙◌, ap, sym, subst, refl, arith}
 use Rattle.std.proofs.lemmas.Int.{ints}
-use Rattle.std.specs.Prelude.{IsTrue}
-use Rattle.std.specs.List.{list_all}
-use Rattle.vr_model.specs.tables.Tables.{is_visit, no_dimension}
-use Rattle.vr_model.specs.routes.Routes.{is_distinct}
+use Rattle.vr_model.specs.tables.Tables.{no_dimension}
 use Rattle.vr_routes.specs.Pieces.{joined, part_at}
 use Rattle.vr_costfilter.specs.GlobalCosts.{IsToldIfPaid}
+use Rattle.vr_costfilter.proofs.KnownLemmas.{tour-of}
+use Rattle.vr_costfilter.proofs.PartLemmas.{list-of-part}
+use Rattle.vr_costfilter.specs.PartsAfter.{list_after}
 use Rattle.vr_costfilter.proofs.reaches.kept_after.Goals as goal
 
 pub returns-then-is_empty : goal.returns-then-is_empty
@@ -33,11 +33,10 @@ returns-in-Some c = record {
   untold = λ zero. absurd (let none = ap (λ x. x.global_span_cost) (sym (c.get.ensures.value no_dimension)) ∙ zero in omega (arith, ints, none, c.if-get-eq0.false));
 }
 
-pub kept_in-requires-clause-visits : goal.kept_in-requires-clause-visits
-kept_in-requires-clause-visits c = subst (λ l. IsTrue (list_all (is_visit c.args.part.now.model.now) l)) (sym c.as_slice.ensures.value) c.write.ensures.visits
-
-pub kept_in-requires-clause-distinct : goal.kept_in-requires-clause-distinct
-kept_in-requires-clause-distinct c = subst (λ l. IsTrue (is_distinct l)) (sym c.as_slice.ensures.value) c.write.ensures.distinct
+pub invariant_of-tour : goal.invariant_of-tour
+invariant_of-tour c =
+    let part = c.args.part.now in
+    record { sound = tour-of part.model.now c.vehicle.result (list_after part) c.vehicle.ensures.known (list-of-part part) c.as_slice.result.now (c.as_slice.ensures.value ∙ c.write.ensures.list) }
 
 pub returns : goal.returns
 returns c =

@@ -7,7 +7,7 @@ use Rattle.vr_costfilter.proofs.reaches.kept_in.Goals as goal
 
 pub returns-then-is_empty : goal.returns-then-is_empty
 returns-then-is_empty c = record {
-  told = λ pays. empty_where c.args.list.now (none_from_test _ _ c.if-is_empty.true c.is_empty.ensures);
+  told = λ pays. empty_where c.args.tour.now.list.now (none_from_test _ _ c.if-is_empty.true c.is_empty.ensures);
   untold = λ zero. refl;
 }
 
@@ -20,7 +20,7 @@ returns-then-get-eq0 c = record {
 pub returns : goal.returns
 returns c = record {
   told = λ pays. record {
-    used = not_empty c.args.list.now (some_from_test _ _ c.if-is_empty.false c.is_empty.ensures);
+    used = not_empty c.args.tour.now.list.now (some_from_test _ _ c.if-is_empty.false c.is_empty.ensures);
     is_timing = c.in_ok-timing.ensures.timing;
     range = (let r = c.in_ok-timing.ensures.range in record { start = r.start_in_range; last = r.last_in_range });
   };

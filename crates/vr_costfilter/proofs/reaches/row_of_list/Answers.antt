@@ -3,15 +3,12 @@ use Rattle.std.proofs.lemmas.Bool.{cases_lt}
 use Rattle.std.proofs.lemmas.List.{get_or-set_other, get_or-set_same, length-set}
 use Rattle.std.specs.Prelude.{slice_index_or, slice_set}
 use Rattle.vr_plan.specs.declared.timings.Timing.{Timing}
-use Rattle.vr_plan.proofs.TableLemmas.{table_at}
+use Rattle.vr_costfilter.proofs.KnownLemmas.{known-at}
 use Rattle.vr_costfilter.specs.GlobalCosts.{IsToldIfPaid}
 use Rattle.vr_costfilter.proofs.reaches.row_of_list.Goals as goal
 
-pub kept_in-requires-clause-table : goal.kept_in-requires-clause-table
-kept_in-requires-clause-table c =
-    let n = c.requires.tables.one_of_each in
-    let low = c.loop-d-test.true in
-    table_at c.args.closed.model.now c.args.tables.now c.requires.tables c.loop-d.d c.index-tables-d.result c.index-tables-d.is (omega (arith, n, low))
+pub kept_in-requires : goal.kept_in-requires
+kept_in-requires c = record { known = known-at c.args.tour.now.closed.model.now c.args.tables.now c.requires.tables c.loop-d.d c.index-tables-d.result c.index-tables-d.is c.loop-d-test.true }
 
 pub loop-d-preserved : goal.loop-d-preserved
 loop-d-preserved c =
@@ -20,17 +17,17 @@ loop-d-preserved c =
     let row : List (Option Timing) = c.loop-d.row in
     let new : Option Timing = c.in_ok-row.field-0 in
     let n = c.requires.tables.one_of_each in
-    let few = c.args.closed.well_formed.number_of_dimensions in
+    let few = c.args.tour.now.closed.well_formed.number_of_dimensions in
     let low = c.loop-d-test.true in
     let many = i.many in
     record {
       many = length-set row d new ∙ i.many;
       each = λ e under. elim (cases_lt e d) [
-        | inl before ↦ subst (IsToldIfPaid c.args.closed.model.now e c.args.v c.args.list.now) (sym (get_or-set_other row d e new None (omega (arith, before)))) (i.each e before)
+        | inl before ↦ subst (IsToldIfPaid c.args.tour.now.closed.model.now e c.args.tour.now.v c.args.tour.now.list.now) (sym (get_or-set_other row d e new None (omega (arith, before)))) (i.each e before)
         | inr past ↦ (
             let here : d ≡ e = omega (arith, under, past) in
-            subst (λ k. IsToldIfPaid c.args.closed.model.now k c.args.v c.args.list.now (slice_index_or (slice_set row d new) k None)) here
-            (subst (IsToldIfPaid c.args.closed.model.now d c.args.v c.args.list.now) (sym (get_or-set_same row d new None (omega (arith, n, few, low, many)))) c.in_ok-row.ensures))
+            subst (λ k. IsToldIfPaid c.args.tour.now.closed.model.now k c.args.tour.now.v c.args.tour.now.list.now (slice_index_or (slice_set row d new) k None)) here
+            (subst (IsToldIfPaid c.args.tour.now.closed.model.now d c.args.tour.now.v c.args.tour.now.list.now) (sym (get_or-set_same row d new None (omega (arith, n, few, low, many)))) c.in_ok-row.ensures))
       ];
     }
 

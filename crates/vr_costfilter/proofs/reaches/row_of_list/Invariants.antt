@@ -7,5 +7,5 @@ use Rattle.vr_costfilter.proofs.reaches.row_of_list.Given as goal
 abbrev pub invariant-loop-d : goal.invariant-loop-d
 invariant-loop-d l = record {
   many : length l.row ≡ 4;
-  each : (d : ℕ) → d < l.d → IsToldIfPaid l.closed.model.now d l.v l.list (slice_index_or l.row d None);
+  each : (d : ℕ) → d < l.d → IsToldIfPaid l.tour.closed.model.now d l.tour.v l.tour.list.now (slice_index_or l.row d None);
 }

@@ -4,15 +4,12 @@ use Rattle.std.proofs.lemmas.List.{get_or-set_other, get_or-set_same, length-set
 use Rattle.std.specs.Prelude.{slice_index_or, slice_set}
 use Rattle.vr_routes.specs.Pieces.{joined, part_at}
 use Rattle.vr_plan.specs.declared.timings.Timing.{Timing}
-use Rattle.vr_plan.proofs.TableLemmas.{table_at}
+use Rattle.vr_costfilter.proofs.KnownLemmas.{known-at}
 use Rattle.vr_costfilter.specs.GlobalCosts.{IsToldIfPaid}
 use Rattle.vr_costfilter.proofs.reaches.row_of_part.Goals as goal
 
-pub kept_after-requires-clause-table : goal.kept_after-requires-clause-table
-kept_after-requires-clause-table c =
-    let n = c.requires.tables.one_of_each in
-    let low = c.loop-d-test.true in
-    table_at c.args.part.now.model.now c.args.tables.now c.requires.tables c.loop-d.d c.index-tables-d.result c.index-tables-d.is (omega (arith, n, low))
+pub kept_after-requires-clause-known : goal.kept_after-requires-clause-known
+kept_after-requires-clause-known c = known-at c.args.part.now.model.now c.args.tables.now c.requires.tables c.loop-d.d c.index-tables-d.result c.index-tables-d.is c.loop-d-test.true
 
 pub loop-d-preserved : goal.loop-d-preserved
 loop-d-preserved c =

@@ -15,7 +15,7 @@ use Rattle.vr_costfilter.proofs.reaches.set_list.Goals.{then-get-ne0, else-get-n
 
 pub set-requires-clause-room : goal.set-requires-clause-room
 set-requires-clause-room c =
-    let m = c.args.model.now in
+    let m = c.args.closed.model.now in
     let d = c.loop-d.d in
     let os : List Orders = c.loop-d.orders in
     let i = c.loop-d.invariant in
@@ -37,7 +37,7 @@ pub loop-d-preserved : goal.loop-d-preserved
 loop-d-preserved c =
     let v = c.args.v in
     let all : List (List ℕ) = c.args._routes.now.lists in
-    let m = c.args.model.now in
+    let m = c.args.closed.model.now in
     let d = c.loop-d.d in
     let os : List Orders = c.loop-d.orders in
     let i = c.loop-d.invariant in

@@ -11,16 +11,29 @@ use Rattle.vr_costfilter.proofs.AllOrdersLemmas.{written-at}
 use Rattle.vr_costfilter.proofs.reaches.write_all.Goals as goal
 use Rattle.vr_costfilter.proofs.reaches.write_all.Goals.{then-get-ne0, else-get-ne0}
 
-pub write_in-requires-clause-orders : goal.write_in-requires-clause-orders
-write_in-requires-clause-orders c =
+pub write_in-requires : goal.write_in-requires
+write_in-requires c =
     let m = c.args.closed.model.now in
+    let lists : List (List ℕ) = c.args.routes.now.lists in
+    let h = c.requires.rows in
     let d = c.loop-d.d in
     let less = c.loop-d-test.true in
-    let many = c.requires.orders.many in
+    let many = h.orders_are.many in
+    let low : d < length m.dimensions = omega (arith, less, many) in
     let some = c.if-get-ne0.true in
     let same = ap (λ x. x.global_span_cost) (c.get.ensures.value no_dimension) in
     let pays : Pays m d = λ none. absurd (omega (arith, ints, some, same, none)) in
-    subst (AreOrders m d c.args.routes.now.lists) (sym (c.index-orders-d.is ∙ get_or_default c.args.orders.now d c.index-orders-d.result no_orders less)) (c.requires.orders.each d (omega (arith, less, many)) pays)
+    let dimensions = c.args.closed.well_formed.number_of_dimensions in
+    let vehicles = c.args.closed.well_formed.number_of_vehicles.at_most in
+    let as_many = h.as_many in
+    record {
+      dimension = omega (arith, dimensions, low);
+      orders_are = subst (AreOrders m d lists) (sym (c.index-orders-d.is ∙ get_or_default c.args.orders.now d c.index-orders-d.result no_orders less)) (h.orders_are.each d low pays);
+      few = omega (arith, vehicles, as_many);
+      parts_are = h.parts_are;
+      many = h.rows.many;
+      told = λ k under. ((h.rows.rows k under).each d low).told pays;
+    }
 
 pub loop-d-preserved : goal.loop-d-preserved
 loop-d-preserved c =
@@ -30,7 +43,7 @@ loop-d-preserved c =
     let os : List Orders = c.loop-d.out in
     let i = c.loop-d.invariant in
     let less = c.loop-d-test.true in
-    let all = c.requires.orders.many in
+    let all = c.requires.rows.orders_are.many in
     let many = i.many in
     let inside : d < length os = omega (arith, less, all, many) in
     let same = ap (λ x. x.global_span_cost) (c.get.ensures.value no_dimension) in

@@ -22,7 +22,7 @@ set-requires-clause-room c =
     let many = c.parts-k-end.ensures.value in
     let low : k < length parts = omega (arith, less, many) in
     let vehicle = c.vehicle.ensures in
-    let known : (part_at parts k).vehicle < length lists = c.requires.parts.each_vehicle k no_part low in
+    let known : (part_at parts k).vehicle < length lists = c.requires.parts_are.each_vehicle k no_part low in
     let all = upto-many lists parts k in
     let few = c.requires.few in
     orders-room m d base c.loop-k.out c.loop-k.invariant c.vehicle.result (length base) (λ u used. used-known base u used) (omega (arith, vehicle, known, all)) (omega (arith, few, all))
@@ -39,7 +39,7 @@ loop-k-preserved c =
     let many = c.parts-k-end.ensures.value in
     let low : k < length parts = omega (arith, less, many) in
     let vehicle = c.vehicle.ensures in
-    let known : (part_at parts k).vehicle < length lists = c.requires.parts.each_vehicle k no_part low in
+    let known : (part_at parts k).vehicle < length lists = c.requires.parts_are.each_vehicle k no_part low in
     let all = upto-many lists parts k in
     let v = c.vehicle.result in
     let list : List ℕ = joined lists (part_at parts k).pieces in

@@ -4,15 +4,12 @@ use Rattle.std.specs.Prelude.{ℤ, ◌+ℤ◌, cond, pos}
 use Rattle.vr_model.specs.tables.Numbers.{total_by, below}
 use Rattle.vr_model.proofs.tables.Totals.{total_by-more}
 use Rattle.vr_plan.specs.Timings.{soft_with, span_with}
-use Rattle.vr_plan.proofs.TableLemmas.{table_at}
+use Rattle.vr_costfilter.proofs.KnownLemmas.{known-at}
 use Rattle.vr_routes.specs.Pieces.{joined, part_at}
 use Rattle.vr_costfilter.proofs.schedule_costs.cost_of_part.Goals as goal
 
-pub cost_of_plan_after-requires-clause-table : goal.cost_of_plan_after-requires-clause-table
-cost_of_plan_after-requires-clause-table c =
-    let n = c.requires.tables.one_of_each in
-    let low = c.loop-d-test.true in
-    table_at c.args.part.now.model.now c.args.tables.now c.requires.tables c.loop-d.d c.index-tables-d.result c.index-tables-d.is (omega (arith, n, low))
+pub cost_of_plan_after-requires-clause-known : goal.cost_of_plan_after-requires-clause-known
+cost_of_plan_after-requires-clause-known c = known-at c.args.part.now.model.now c.args.tables.now c.requires.tables c.loop-d.d c.index-tables-d.result c.index-tables-d.is c.loop-d-test.true
 
 pub loop-d-preserved : goal.loop-d-preserved
 loop-d-preserved c =
@@ -43,4 +40,4 @@ returns-clause-value c =
     let high = c.loop-d-test.false in
     let end = c.loop-d.auto.d-end in
     let all : c.loop-d.d ≡ length model.dimensions = omega (arith, many, high, end) in
-    c.loop-d.invariant.sum ∙ ap (λ n. total_by f (below n)) all ∙ sym (ap (λ b. cond b (pos 0) (total_by f (below (length model.dimensions)))) c.requires.some)
+    c.loop-d.invariant.sum ∙ ap (λ n. total_by f (below n)) all ∙ sym (ap (λ b. cond b (pos 0) (total_by f (below (length model.dimensions)))) c.requires.used.some)

@@ -1,16 +1,15 @@
-use Rattle.std.proofs.Common.{◌≡◌, ◌∙◌, ◌+◌, ℕ, List, length, ap, sym, subst, arith, to_z, of_z, w64}
+use Rattle.std.proofs.Common.{◌≡◌, ◌∙◌, ◌+◌, ℕ, List, length, ap, arith, to_z, of_z, w64}
 use Rattle.std.proofs.lemmas.Int.{ints}
-use Rattle.std.specs.Prelude.{IsTrue, ◌+ℤ◌, ◌-ℤ◌, ◌*ℤ◌}
-use Rattle.std.specs.List.{list_all}
+use Rattle.std.specs.Prelude.{◌+ℤ◌, ◌-ℤ◌, ◌*ℤ◌}
 use Rattle.vr_model.specs.tables.Numbers.{number_at}
-use Rattle.vr_model.specs.tables.Tables.{dimension_at, is_visit}
-use Rattle.vr_model.specs.routes.Routes.{is_distinct}
+use Rattle.vr_model.specs.tables.Tables.{dimension_at}
 use Rattle.vr_routes.specs.Pieces.{joined, part_at}
 use Rattle.vr_plan.specs.Timings.{last_with, plan_of, soft_with, span_with, start_with}
 use Rattle.vr_plan.proofs.ExtentLemmas.{times-none}
 use Rattle.vr_costfilter.specs.PartsAfter.{list_after}
 use Rattle.vr_costfilter.proofs.PartLemmas.{list-of-part}
 use Rattle.vr_costfilter.proofs.ScheduleLemmas.{timed-cost, timing-more}
+use Rattle.vr_costfilter.proofs.KnownLemmas.{tour-of}
 use Rattle.vr_costfilter.proofs.schedule_costs.cost_of_plan_after.Goals as goal
 
 pub returns-then-table-clause-value : goal.returns-then-table-clause-value
@@ -20,7 +19,7 @@ returns-then-table-clause-value c =
     let part = part_at c.args.part.now.change.now c.args.part.now.k in
     let v = part.vehicle in
     let list : List ℕ = joined c.args.part.now.routes.now.lists part.pieces in
-    let nothing = c.requires.table.free c.if-table.true v list in
+    let nothing = c.requires.known.told.free c.if-table.true v list in
     let soft = nothing.soft (plan_of model d v list).cumuls in
     let span = times-none (number_at (dimension_at model d).span_costs v) (last_with model d v list -ℤ start_with model d v list) nothing.span in
     omega (arith, ints, soft, span)
@@ -31,11 +30,10 @@ cost_of_timing-requires-clause-timing c =
     let few = (list-of-part part).few in
     timing-more c.in-Some.timing (length (list_after part) + 2) 1002 (omega (arith, few)) c.in-Some.ensures.range
 
-pub cost_of_plan-requires-clause-visits : goal.cost_of_plan-requires-clause-visits
-cost_of_plan-requires-clause-visits c = subst (λ l. IsTrue (list_all (is_visit c.args.part.now.model.now) l)) (sym c.as_slice.ensures.value) c.write.ensures.visits
-
-pub cost_of_plan-requires-clause-distinct : goal.cost_of_plan-requires-clause-distinct
-cost_of_plan-requires-clause-distinct c = subst (λ l. IsTrue (is_distinct l)) (sym c.as_slice.ensures.value) c.write.ensures.distinct
+pub invariant_of-tour : goal.invariant_of-tour
+invariant_of-tour c =
+    let part = c.args.part.now in
+    record { sound = tour-of part.model.now c.vehicle-v.result (list_after part) c.vehicle-v.ensures.known (list-of-part part) c.as_slice.result.now (c.as_slice.ensures.value ∙ c.write.ensures.list) }
 
 pub returns-in-Some-clause-value : goal.returns-in-Some-clause-value
 returns-in-Some-clause-value c =

@@ -4,21 +4,18 @@ use Rattle.std.specs.Prelude.{ℤ, ◌+ℤ◌, cond, pos}
 use Rattle.vr_model.specs.tables.Numbers.{total_by, below}
 use Rattle.vr_model.proofs.tables.Totals.{total_by-more}
 use Rattle.vr_plan.specs.Timings.{soft_with, span_with}
-use Rattle.vr_plan.proofs.TableLemmas.{table_at}
+use Rattle.vr_costfilter.proofs.KnownLemmas.{known-at}
 use Rattle.vr_parts.proofs.EmptyLemmas.{some-by-test}
 use Rattle.vr_costfilter.proofs.schedule_costs.cost_of_plans.Goals as goal
 
-pub cost_of_plan-requires-clause-table : goal.cost_of_plan-requires-clause-table
-cost_of_plan-requires-clause-table c =
-    let n = c.requires.tables.one_of_each in
-    let low = c.loop-d-test.true in
-    table_at c.args.closed.model.now c.args.tables.now c.requires.tables c.loop-d.d c.index-tables-d.result c.index-tables-d.is (omega (arith, n, low))
+pub cost_of_plan-requires-clause-known : goal.cost_of_plan-requires-clause-known
+cost_of_plan-requires-clause-known c = known-at c.args.tour.now.closed.model.now c.args.tables.now c.requires.tables c.loop-d.d c.index-tables-d.result c.index-tables-d.is c.loop-d-test.true
 
 pub loop-d-preserved : goal.loop-d-preserved
 loop-d-preserved c =
-    let model = c.args.closed.model.now in
-    let v = c.args.v in
-    let list : List ℕ = c.args.list.now in
+    let model = c.args.tour.now.closed.model.now in
+    let v = c.args.tour.now.v in
+    let list : List ℕ = c.args.tour.now.list.now in
     let f : ℕ → ℤ = λ d. soft_with model d v list +ℤ span_with model d v list in
     let next = total_by-more f c.loop-d.d in
     let i = c.loop-d.invariant in
@@ -27,7 +24,7 @@ loop-d-preserved c =
     let value : c.in_ok-cost.field-0 ≡ f c.loop-d.d = e.value in
     let low = c.loop-d-test.true in
     let n = c.requires.tables.one_of_each in
-    let few = c.args.closed.well_formed.number_of_dimensions in
+    let few = c.args.tour.now.closed.well_formed.number_of_dimensions in
     record {
       sum = omega (arith, ints, next, i.sum, is, value, e.range.low, e.range.high, i.range.low, i.range.high, low, few, n);
       range = record { low = omega (arith, ints, is, e.range.low, e.range.high, i.range.low, i.range.high, low, few, n); high = omega (arith, ints, is, e.range.low, e.range.high, i.range.low, i.range.high, low, few, n) };
@@ -35,9 +32,9 @@ loop-d-preserved c =
 
 pub returns-clause-value : goal.returns-clause-value
 returns-clause-value c =
-    let model = c.args.closed.model.now in
-    let v = c.args.v in
-    let list : List ℕ = c.args.list.now in
+    let model = c.args.tour.now.closed.model.now in
+    let v = c.args.tour.now.v in
+    let list : List ℕ = c.args.tour.now.list.now in
     let f : ℕ → ℤ = λ d. soft_with model d v list +ℤ span_with model d v list in
     let many = c.requires.tables.one_of_each in
     let high = c.loop-d-test.false in

@@ -9,6 +9,6 @@ use Rattle.vr_costfilter.proofs.schedule_costs.cost_of_plans.Given as goal
 -- what the list costs in the dimensions so far
 abbrev pub invariant-loop-d : goal.invariant-loop-d
 invariant-loop-d l = record {
-  sum : l.cost ≡ total_by (λ d. soft_with l.closed.model.now d l.v l.list +ℤ span_with l.closed.model.now d l.v l.list) (below l.d);
+  sum : l.cost ≡ total_by (λ d. soft_with l.tour.closed.model.now d l.tour.v l.tour.list.now +ℤ span_with l.tour.closed.model.now d l.tour.v l.tour.list.now) (below l.d);
   range : IsFrom (plan_saved * l.d) (plan_paid * l.d) l.cost;
 }

@@ -62,3 +62,15 @@ returns-clause-value c =
     let coefficient : to_z w64 (of_z w64 c.get.result.now.global_span_cost) ≡ (dimension_at model d).global_span_cost = omega (arith, ints, same, low, high) in
     read-around c.times.result cumul_cost c.times.ensures.range (omega arith) ∙ c.times.ensures.value
     ∙ ap₂ (λ x y. x *ℤ y) coefficient (max ∙ is ∙ ap (λ (t : Spread). int_max (t.last -ℤ t.start) t.span) e.value)
+
+pub invariant_of-paid : goal.invariant_of-paid
+invariant_of-paid c =
+    let is = ap (λ x. x.global_span_cost) (c.get.ensures.value no_dimension) in
+    let some = c.if-coefficient-eq0.false in
+    record { sound = record { dimension = c.requires.dimension; pays = λ none. absurd (omega (arith, ints, is, some, none)) } }
+
+pub spread_after-spread-requires : goal.spread_after-spread-requires
+spread_after-spread-requires c =
+    let is = ap (λ x. x.global_span_cost) (c.get.ensures.value no_dimension) in
+    let some = c.if-coefficient-eq0.false in
+    c.requires.orders (λ none. absurd (omega (arith, ints, is, some, none)))

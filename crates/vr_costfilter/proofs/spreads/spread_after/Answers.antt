@@ -12,36 +12,36 @@ use Rattle.vr_costfilter.proofs.spreads.spread_after.Goals as goal
 
 pub loop-k-init : goal.loop-k-init
 loop-k-init c =
-    let model = c.args.early.now.model.now in
-    let d = c.args.d in
-    let lists : List (List ℕ) = c.args.early.now.routes.now.lists in
-    let parts = c.args.early.now.change.now in
+    let model = c.args.paid.now.early.now.model.now in
+    let d = c.args.paid.now.d in
+    let lists : List (List ℕ) = c.args.paid.now.early.now.routes.now.lists in
+    let parts = c.args.paid.now.early.now.change.now in
     let e = c.spread_but-spread.ensures in
     let vehicles = c.deref.ensures.0 ∙ c.vehicles_of-vehicles.ensures in
     let extent = extent_but (vehicles_of parts) c.args.orders.now in
     let value : c.spread_but-spread.result ≡ spread_of extent = e.value ∙ ap (λ us. spread_of (extent_but us c.args.orders.now)) vehicles in
     record {
-      value = value ∙ spread-told model lists parts d extent (extent-but-is model d lists c.args.orders.now c.requires.orders (vehicles_of parts)) (subst IsSpreadInRange value e.range);
+      value = value ∙ spread-told model lists parts d extent (extent-but-is model d lists c.args.orders.now c.requires (vehicles_of parts)) (subst IsSpreadInRange value e.range);
       range = e.range;
     }
 
 pub loop-k-preserved : goal.loop-k-preserved
 loop-k-preserved c =
-    let model = c.args.early.now.model.now in
-    let lists : List (List ℕ) = c.args.early.now.routes.now.lists in
-    let parts = c.args.early.now.change.now in
+    let model = c.args.paid.now.early.now.model.now in
+    let lists : List (List ℕ) = c.args.paid.now.early.now.routes.now.lists in
+    let parts = c.args.paid.now.early.now.change.now in
     let e = c.with_changed-spread.ensures in
     let low = subst (λ n. c.loop-k.k < n) c.parts-k-end.ensures.value c.loop-k-test.true in
     record {
-      value = e.value ∙ ap (λ s. with_changed model lists c.args.d s (part_at parts c.loop-k.k)) c.loop-k.invariant.value
-          ∙ sym (fold_more (with_changed model lists c.args.d) (spread_of_kept model lists parts c.args.d (length lists)) parts c.loop-k.k no_part low);
+      value = e.value ∙ ap (λ s. with_changed model lists c.args.paid.now.d s (part_at parts c.loop-k.k)) c.loop-k.invariant.value
+          ∙ sym (fold_more (with_changed model lists c.args.paid.now.d) (spread_of_kept model lists parts c.args.paid.now.d (length lists)) parts c.loop-k.k no_part low);
       range = e.range;
     }
 
 pub returns-clause-value : goal.returns-clause-value
 returns-clause-value c =
-    let lists : List (List ℕ) = c.args.early.now.routes.now.lists in
+    let lists : List (List ℕ) = c.args.paid.now.early.now.routes.now.lists in
     let many = c.parts-k-end.ensures.value in
     let end = c.loop-k-test.false in
     c.loop-k.invariant.value
-    ∙ ap (fold (with_changed c.args.early.now.model.now lists c.args.d) (spread_of_kept c.args.early.now.model.now lists c.args.early.now.change.now c.args.d (length lists))) (take_all c.loop-k.k c.args.early.now.change.now (omega (arith, many, end)))
+    ∙ ap (fold (with_changed c.args.paid.now.early.now.model.now lists c.args.paid.now.d) (spread_of_kept c.args.paid.now.early.now.model.now lists c.args.paid.now.early.now.change.now c.args.paid.now.d (length lists))) (take_all c.loop-k.k c.args.paid.now.early.now.change.now (omega (arith, many, end)))

@@ -6,6 +6,6 @@ use Rattle.vr_costfilter.proofs.spreads.spread_after.Given as goal
 -- the lists so far are told
 abbrev pub invariant-loop-k : goal.invariant-loop-k
 invariant-loop-k l = record {
-  value : l.spread ≡ fold (with_changed l.early.model.now l.early.routes.now.lists l.d) (spread_of_kept l.early.model.now l.early.routes.now.lists l.early.change.now l.d (length l.early.routes.now.lists)) (take l.k l.early.change.now);
+  value : l.spread ≡ fold (with_changed l.paid.early.now.model.now l.paid.early.now.routes.now.lists l.paid.d) (spread_of_kept l.paid.early.now.model.now l.paid.early.now.routes.now.lists l.paid.early.now.change.now l.paid.d (length l.paid.early.now.routes.now.lists)) (take l.k l.paid.early.now.change.now);
   range : IsSpreadInRange l.spread;
 }

@@ -10,34 +10,34 @@ use Rattle.vr_costfilter.proofs.spreads.with_changed.Goals as goal
 
 pub at-told-requires-clause-dimension : goal.at-told-requires-clause-dimension
 at-told-requires-clause-dimension c =
-    let few = c.args.early.now.sound.well_formed.number_of_dimensions in
-    let low = c.requires.dimension in
+    let few = c.args.paid.now.early.now.sound.well_formed.number_of_dimensions in
+    let low = c.args.paid.now.sound.dimension in
     omega (arith, few, low)
 
 pub at-told-requires-clause-part : goal.at-told-requires-clause-part
 at-told-requires-clause-part c =
-    let few = c.args.early.now.sound.earlies.few in
+    let few = c.args.paid.now.early.now.sound.earlies.few in
     let low = c.requires.part in
     omega (arith, few, low)
 
 pub returns-then-nodes_in-eq0-clause-value : goal.returns-then-nodes_in-eq0-clause-value
 returns-then-nodes_in-eq0-clause-value c =
-    let lists : List (List ℕ) = c.args.early.now.routes.now.lists in
-    let part = part_at c.args.early.now.change.now c.args.k in
+    let lists : List (List ℕ) = c.args.paid.now.early.now.routes.now.lists in
+    let part = part_at c.args.paid.now.early.now.change.now c.args.k in
     let is : joined lists c.pieces.result.now ≡ joined lists part.pieces = ap (joined lists) c.pieces.ensures.value in
     let none = c.nodes_in.ensures ∙ ap length is in
-    sym (ap (λ b. cond b c.args.spread (reached-early c.args.early.now.model.now c.args.d part.vehicle (joined lists part.pieces) c.args.spread)) (empty_where (joined lists part.pieces) (omega (arith, none, c.if-nodes_in-eq0.true))))
+    sym (ap (λ b. cond b c.args.spread (reached-early c.args.paid.now.early.now.model.now c.args.paid.now.d part.vehicle (joined lists part.pieces) c.args.spread)) (empty_where (joined lists part.pieces) (omega (arith, none, c.if-nodes_in-eq0.true))))
 
 pub returns-clause-value : goal.returns-clause-value
 returns-clause-value c =
-    let lists : List (List ℕ) = c.args.early.now.routes.now.lists in
-    let model = c.args.early.now.model.now in
-    let d = c.args.d in
-    let part = part_at c.args.early.now.change.now c.args.k in
+    let lists : List (List ℕ) = c.args.paid.now.early.now.routes.now.lists in
+    let model = c.args.paid.now.early.now.model.now in
+    let d = c.args.paid.now.d in
+    let part = part_at c.args.paid.now.early.now.change.now c.args.k in
     let list : List ℕ = joined lists part.pieces in
     let early = c.at-told.result in
     let e : IsEarly model d part.vehicle list early = subst (IsEarly model d part.vehicle list) (sym c.at-told.ensures)
-    (c.args.early.now.sound.earlies.each d c.requires.dimension (λ unpaid. c.requires.pays unpaid.global) c.args.k c.requires.part) in
+    (c.args.paid.now.early.now.sound.earlies.each d c.args.paid.now.sound.dimension (λ unpaid. c.args.paid.now.sound.pays unpaid.global) c.args.k c.requires.part) in
     let r = c.requires.range in
     let s = c.args.spread in
     let is : joined lists c.pieces.result.now ≡ list = ap (joined lists) c.pieces.ensures.value in
@@ -54,13 +54,13 @@ returns-clause-value c =
 
 pub returns-clause-range : goal.returns-clause-range
 returns-clause-range c =
-    let model = c.args.early.now.model.now in
-    let d = c.args.d in
-    let part = part_at c.args.early.now.change.now c.args.k in
-    let list : List ℕ = joined c.args.early.now.routes.now.lists part.pieces in
+    let model = c.args.paid.now.early.now.model.now in
+    let d = c.args.paid.now.d in
+    let part = part_at c.args.paid.now.early.now.change.now c.args.k in
+    let list : List ℕ = joined c.args.paid.now.early.now.routes.now.lists part.pieces in
     let early = c.at-told.result in
     let e : IsEarly model d part.vehicle list early = subst (IsEarly model d part.vehicle list) (sym c.at-told.ensures)
-    (c.args.early.now.sound.earlies.each d c.requires.dimension (λ unpaid. c.requires.pays unpaid.global) c.args.k c.requires.part) in
+    (c.args.paid.now.early.now.sound.earlies.each d c.args.paid.now.sound.dimension (λ unpaid. c.args.paid.now.sound.pays unpaid.global) c.args.k c.requires.part) in
     let r = c.requires.range in
     let fits = c.max.type_inv in
     let fits_span = c.max-2.type_inv in

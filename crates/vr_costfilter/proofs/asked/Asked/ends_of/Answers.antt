@@ -24,22 +24,24 @@ rest-left-requires c =
     let high = c.strip-ends.ensures.high in
     omega (arith, many, high)
 
-pub way_along_pieces-way-requires-clause-visits : goal.way_along_pieces-way-requires-clause-visits
-way_along_pieces-way-requires-clause-visits c =
+pub invariant_of-led : goal.invariant_of-led
+invariant_of-led c =
     let g = c.args.self.now.guide.now in
     let lists : List (List ℕ) = c.args.self.now.routes.now.lists in
+    let h = c.args.self.now.sound in
     let ends = c.strip-ends.result in
-    middle-visits g c.requires.runs (route lists g.v) (joined lists c.args.self.now.pieces.now) ends.front ends.behind (joined lists ends.middle.now) c.strip-ends.ensures.joins c.args.self.now.sound.used.tour c.args.self.now.sound.few c.requires.feasible c.args.kept.now c.requires.kept
+    record {
+      sound = record {
+        within = c.strip-ends.ensures.within;
+        nodes = record {
+          few = middle-few g c.requires.runs (route lists g.v) (joined lists c.args.self.now.pieces.now) ends.front ends.behind (joined lists ends.middle.now) c.strip-ends.ensures.joins h.used.tour h.few c.requires.feasible c.args.kept.now c.requires.kept;
+          visits = middle-visits g c.requires.runs (route lists g.v) (joined lists c.args.self.now.pieces.now) ends.front ends.behind (joined lists ends.middle.now) c.strip-ends.ensures.joins h.used.tour h.few c.requires.feasible c.args.kept.now c.requires.kept;
+        };
+      };
+    }
 
-pub way_along_pieces-way-requires-clause-few : goal.way_along_pieces-way-requires-clause-few
-way_along_pieces-way-requires-clause-few c =
-    let g = c.args.self.now.guide.now in
-    let lists : List (List ℕ) = c.args.self.now.routes.now.lists in
-    let ends = c.strip-ends.result in
-    middle-few g c.requires.runs (route lists g.v) (joined lists c.args.self.now.pieces.now) ends.front ends.behind (joined lists ends.middle.now) c.strip-ends.ensures.joins c.args.self.now.sound.used.tour c.args.self.now.sound.few c.requires.feasible c.args.kept.now c.requires.kept
-
-pub way_along_pieces-way-requires-clause-way : goal.way_along_pieces-way-requires-clause-way
-way_along_pieces-way-requires-clause-way c =
+pub way_along-way-requires : goal.way_along-way-requires
+way_along-way-requires c =
     let g = c.args.self.now.guide.now in
     let lists : List (List ℕ) = c.args.self.now.routes.now.lists in
     let ends = c.strip-ends.result in
@@ -62,7 +64,7 @@ ends_by-requires c =
     let lists : List (List ℕ) = c.args.self.now.routes.now.lists in
     let ends = c.strip-ends.result in
     whole-small g c.requires.runs (route lists g.v) (joined lists c.args.self.now.pieces.now) ends.front ends.behind (joined lists ends.middle.now) c.strip-ends.ensures.joins c.args.self.now.sound.used.tour c.args.self.now.sound.few c.requires.feasible c.args.kept.now c.requires.kept
-    c.way_along_pieces-way.result c.way_through-whole.result c.rest-left.result c.strip-ends.ensures.high c.way_along_pieces-way.ensures.range c.rest-left.ensures c.way_through-whole.ensures
+    c.way_along-way.result c.way_through-whole.result c.rest-left.result c.strip-ends.ensures.high c.way_along-way.ensures.range c.rest-left.ensures c.way_through-whole.ensures
 
 pub returns-clause-last : goal.returns-clause-last
 returns-clause-last c =
@@ -74,7 +76,7 @@ returns-clause-last c =
     let high = c.strip-ends.ensures.high in
     let whole = c.way_through-whole.result in
     let is = whole-known g c.requires.runs (route lists g.v) list ends.front ends.behind (joined lists ends.middle.now) c.strip-ends.ensures.joins c.args.self.now.sound.used.tour c.args.self.now.sound.few c.requires.feasible c.args.kept.now c.requires.kept
-    c.way-front.result c.way_along_pieces-way.result whole c.rest-left.result (omega (arith, order, high)) high c.way-front.ensures c.rest-left.ensures c.way_along_pieces-way.ensures.value c.way_through-whole.ensures in
+    c.way-front.result c.way_along-way.result whole c.rest-left.result (omega (arith, order, high)) high c.way-front.ensures c.rest-left.ensures c.way_along-way.ensures.value c.way_through-whole.ensures in
     let by = line-allows g.model.now g.d g.v (runs_of g) c.requires.runs list c.args.self.now.sound.used.tour in
     subst (IsLeastEnd (line g.model.now g.d g.v list)) (sym c.ends_by.ensures.last) (least-end g.model.now g.d g.v (runs_of g) list (line g.model.now g.d g.v list) by c.requires.feasible whole is)
 
@@ -88,7 +90,7 @@ returns-clause-start c =
     let high = c.strip-ends.ensures.high in
     let whole = c.way_through-whole.result in
     let is = whole-known g c.requires.runs (route lists g.v) list ends.front ends.behind (joined lists ends.middle.now) c.strip-ends.ensures.joins c.args.self.now.sound.used.tour c.args.self.now.sound.few c.requires.feasible c.args.kept.now c.requires.kept
-    c.way-front.result c.way_along_pieces-way.result whole c.rest-left.result (omega (arith, order, high)) high c.way-front.ensures c.rest-left.ensures c.way_along_pieces-way.ensures.value c.way_through-whole.ensures in
+    c.way-front.result c.way_along-way.result whole c.rest-left.result (omega (arith, order, high)) high c.way-front.ensures c.rest-left.ensures c.way_along-way.ensures.value c.way_through-whole.ensures in
     let by = line-allows g.model.now g.d g.v (runs_of g) c.requires.runs list c.args.self.now.sound.used.tour in
     let start = latest-start g.model.now g.d g.v (runs_of g) list (line g.model.now g.d g.v list) by c.requires.feasible whole is in
     subst (λ s. IsLatestStart (line g.model.now g.d g.v list) c.ends_by.result.last s) (sym c.ends_by.ensures.start)

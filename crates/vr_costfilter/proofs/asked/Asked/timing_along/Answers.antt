@@ -14,8 +14,11 @@ use Rattle.vr_costfilter.proofs.KeptCumulLemmas.{all-visits}
 use Rattle.vr_costfilter.proofs.StageLemmas.{stage-more}
 use Rattle.vr_costfilter.proofs.asked.Asked.timing_along.Goals as goal
 
-pub back_along_pieces-requires-clause-visits : goal.back_along_pieces-requires-clause-visits
-back_along_pieces-requires-clause-visits c = all-visits c.args.self.now.guide.now.model.now (joined c.args.self.now.routes.now.lists c.args.self.now.pieces.now) c.args.self.now.sound.used.tour.visits
+pub invariant_of-led : goal.invariant_of-led
+invariant_of-led c =
+    let asked = c.args.self.now in
+    let h = asked.sound in
+    record { sound = record { within = h.within; nodes = record { few = h.few; visits = all-visits asked.guide.now.model.now (joined asked.routes.now.lists asked.pieces.now) h.used.tour.visits } } }
 
 pub along_trail-requires-clause-steps : goal.along_trail-requires-clause-steps
 along_trail-requires-clause-steps c =
@@ -23,7 +26,7 @@ along_trail-requires-clause-steps c =
     let list : List ℕ = joined c.args.self.now.routes.now.lists c.args.self.now.pieces.now in
     let next = c.end_step-next.result in
     let first = c.in_ok-first.first in
-    let trail = c.back_along_pieces.new.trail.steps.items in
+    let trail = c.back_along.new.trail.steps.items in
     let back = subst (λ l. WentBack g.model.now g.d g.v (runs_of g) list next l trail first) c.clear.ensures c.in_ok-first.ensures.back in
     along-known g.model.now g.d g.v (runs_of g) list next first trail c.end_step-next.ensures.value back
 
@@ -40,7 +43,7 @@ returns c =
     let list : List ℕ = joined c.args.self.now.routes.now.lists c.args.self.now.pieces.now in
     let next = c.end_step-next.result in
     let first = c.in_ok-first.first in
-    let trail = c.back_along_pieces.new.trail.steps.items in
+    let trail = c.back_along.new.trail.steps.items in
     let back = subst (λ l. WentBack g.model.now g.d g.v (runs_of g) list next l trail first) c.clear.ensures c.in_ok-first.ensures.back in
     let floor = c.in_ok-floor.floor in
     let stage = c.standing-stage.ensures.value ∙ ap (standing g.model.now g.d g.v) (read-cumul floor c.in_ok-floor.ensures.range) in
@@ -69,7 +72,7 @@ returns-in_err-floor-clause-known c =
     let list : List ℕ = joined c.args.self.now.routes.now.lists c.args.self.now.pieces.now in
     let next = c.end_step-next.result in
     let first = c.in_ok-first.first in
-    let trail = c.back_along_pieces.new.trail.steps.items in
+    let trail = c.back_along.new.trail.steps.items in
     let back = subst (λ l. WentBack g.model.now g.d g.v (runs_of g) list next l trail first) c.clear.ensures c.in_ok-first.ensures.back in
     ap is_some c.from_residual-in_err-floor.ensures ∙ sym (floor-unmet g.model.now g.d g.v (runs_of g) list next first trail c.end_step-next.ensures.value back c.requires (sym c.in_err-floor.ensures.value))
 
@@ -79,7 +82,7 @@ returns-in_err-gone-clause-known c =
     let list : List ℕ = joined c.args.self.now.routes.now.lists c.args.self.now.pieces.now in
     let next = c.end_step-next.result in
     let first = c.in_ok-first.first in
-    let trail = c.back_along_pieces.new.trail.steps.items in
+    let trail = c.back_along.new.trail.steps.items in
     let back = subst (λ l. WentBack g.model.now g.d g.v (runs_of g) list next l trail first) c.clear.ensures c.in_ok-first.ensures.back in
     let floor = c.in_ok-floor.floor in
     let stage = c.standing-stage.ensures.value ∙ ap (standing g.model.now g.d g.v) (read-cumul floor c.in_ok-floor.ensures.range) in
@@ -92,7 +95,7 @@ returns-in_err-end-clause-known c =
     let list : List ℕ = joined c.args.self.now.routes.now.lists c.args.self.now.pieces.now in
     let next = c.end_step-next.result in
     let first = c.in_ok-first.first in
-    let trail = c.back_along_pieces.new.trail.steps.items in
+    let trail = c.back_along.new.trail.steps.items in
     let back = subst (λ l. WentBack g.model.now g.d g.v (runs_of g) list next l trail first) c.clear.ensures c.in_ok-first.ensures.back in
     let floor = c.in_ok-floor.floor in
     let stage = c.standing-stage.ensures.value ∙ ap (standing g.model.now g.d g.v) (read-cumul floor c.in_ok-floor.ensures.range) in

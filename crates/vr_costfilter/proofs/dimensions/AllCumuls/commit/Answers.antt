@@ -1,8 +1,5 @@
 use Rattle.std.proofs.Common.{◌≡◌, ◌∙◌, ◌<◌, ◌≤◌, ◌+◌, ℕ, List, length, add-one, ap, sym, subst, arith}
-use Rattle.std.specs.Prelude.{IsTrue}
-use Rattle.std.specs.List.{list_all}
 use Rattle.vr_model.specs.moves.Moves.{with_route}
-use Rattle.vr_model.specs.tables.Tables.{is_visit}
 use Rattle.vr_routes.specs.Pieces.{joined, no_part, part_at}
 use Rattle.vr_parts.proofs.PartLemmas.{small}
 use Rattle.vr_parts.proofs.SumLemmas.{upto, upto-many, upto-next}
@@ -11,6 +8,7 @@ use Rattle.vr_costfilter.specs.declared.kept.KeptList.{KeptList}
 use Rattle.vr_costfilter.specs.Kept.{AreAllKept, AreAsMany}
 use Rattle.vr_costfilter.proofs.KeptCumulLemmas.{as-many-same, as-many-then}
 use Rattle.vr_costfilter.proofs.PartLemmas.{list-after}
+use Rattle.vr_costfilter.proofs.KnownLemmas.{tour-of}
 use Rattle.vr_costfilter.proofs.dimensions.AllCumuls.commit.Goals as goal
 
 pub join_into-requires-clause-room : goal.join_into-requires-clause-room
@@ -19,21 +17,18 @@ join_into-requires-clause-room c =
     let part = list-after c.args.closed.model.now c.args.closed.well_formed c.args.routes.now.lists c.args.change.now c.requires.made.makes.parts_are c.requires.valid c.loop-k.k low in
     subst (λ l. length (joined c.args.routes.now.lists l) ≤ 1000) (sym c.pieces.ensures.value) part.few
 
-pub write_list-requires-clause-vehicle : goal.write_list-requires-clause-vehicle
-write_list-requires-clause-vehicle c =
-    let low = subst (λ n. c.loop-k.k < n) c.parts-k-end.ensures.value c.loop-k-test.true in
-    let many = (small c.args.closed.model.now c.args.closed.well_formed c.args.routes.now.lists c.requires.before).many in
-    let known = c.requires.made.makes.parts_are.each_vehicle c.loop-k.k no_part low in
-    let e = c.vehicle.ensures in
-    omega (arith, e, known, many)
-
-pub write_list-requires-clause-visits : goal.write_list-requires-clause-visits
-write_list-requires-clause-visits c =
+pub invariant_of-tour : goal.invariant_of-tour
+invariant_of-tour c =
+    let m = c.args.closed.model.now in
     let lists : List (List ℕ) = c.args.routes.now.lists in
-    let low = subst (λ n. c.loop-k.k < n) c.parts-k-end.ensures.value c.loop-k-test.true in
-    let part = list-after c.args.closed.model.now c.args.closed.well_formed lists c.args.change.now c.requires.made.makes.parts_are c.requires.valid c.loop-k.k low in
-    let list = c.as_slice.ensures.value ∙ c.join_into.ensures ∙ ap (joined lists) c.pieces.ensures.value in
-    subst (λ l. IsTrue (list_all (is_visit c.args.closed.model.now) l)) (sym list) part.tour.visits
+    let parts = c.args.change.now in
+    let k = c.loop-k.k in
+    let low = subst (λ n. k < n) c.parts-k-end.ensures.value c.loop-k-test.true in
+    let part = list-after m c.args.closed.well_formed lists parts c.requires.made.makes.parts_are c.requires.valid k low in
+    let many = (small m c.args.closed.well_formed lists c.requires.before).many in
+    let known = c.requires.made.makes.parts_are.each_vehicle k no_part low in
+    let e = c.vehicle.ensures in
+    record { sound = tour-of m c.vehicle.result (joined lists (part_at parts k).pieces) (omega (arith, e, known, many)) part c.as_slice.result.now (c.as_slice.ensures.value ∙ c.join_into.ensures ∙ ap (joined lists) c.pieces.ensures.value) }
 
 pub loop-k-preserved : goal.loop-k-preserved
 loop-k-preserved c =

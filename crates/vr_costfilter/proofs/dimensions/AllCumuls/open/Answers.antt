@@ -1,19 +1,16 @@
-use Rattle.std.proofs.Common.{◌≡◌, ◌∙◌, ℕ, ◌+◌, List, length, length-append, ap, subst, sym, arith}
+use Rattle.std.proofs.Common.{◌≡◌, ◌∙◌, ℕ, ◌+◌, List, length, length-append, ap, subst, sym}
 use Rattle.std.specs.Prelude.{slice_index_or}
 use Rattle.std.proofs.lemmas.List.{get_or_default}
 use Rattle.vr_model.specs.tables.Tables.{dimension_at}
 use Rattle.vr_plan.specs.declared.tables.Table.{Table}
-use Rattle.vr_plan.proofs.TableLemmas.{table_at}
+use Rattle.vr_costfilter.proofs.KnownLemmas.{known-at}
 use Rattle.vr_parts.proofs.RowLemmas.{each-push}
 use Rattle.vr_costfilter.specs.declared.kept.KeptList.{KeptList}
 use Rattle.vr_costfilter.specs.Kept.{AreKept, IsPaid}
 use Rattle.vr_costfilter.proofs.dimensions.AllCumuls.open.Goals as goal
 
-pub kept_in-requires-clause-table : goal.kept_in-requires-clause-table
-kept_in-requires-clause-table c =
-    let n = c.requires.tables.one_of_each in
-    let low = c.loop-d-test.true in
-    table_at c.args.closed.model.now c.args.tables.now c.requires.tables c.loop-d.d c.index-tables-d.result c.index-tables-d.is (omega (arith, n, low))
+pub kept_in-requires-clause-known : goal.kept_in-requires-clause-known
+kept_in-requires-clause-known c = known-at c.args.closed.model.now c.args.tables.now c.requires.tables c.loop-d.d c.index-tables-d.result c.index-tables-d.is c.loop-d-test.true
 
 pub loop-d-preserved : goal.loop-d-preserved
 loop-d-preserved c =

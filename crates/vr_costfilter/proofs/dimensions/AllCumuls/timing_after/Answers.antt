@@ -23,22 +23,19 @@ timing_after-requires-clause-joined c =
     let many = (small m part.sound.well_formed lists part.sound.before).many in
     let v = c.vehicle.ensures.known in
     let joined_is = sym c.pieces.ensures.value in
+    let feasible = feasible-after m lists parts part.sound.parts_are part.sound.valid part.k part.sound.part c.args.d c.requires.dimension c.requires.some in
     record {
-      known = omega (arith, many, v);
-      short = (list-of m part.sound.well_formed lists part.sound.before c.vehicle.result).few;
-      within = c.pieces.ensures.within;
-      used = subst (λ ps. IsUsed m (joined lists ps)) joined_is (used-after m (joined lists (part_at parts part.k).pieces) is c.requires.some);
-      few = subst (λ ps. length (joined lists ps) ≤ 1000) joined_is is.few;
+      vehicle = v;
+      are = record {
+        known = omega (arith, many, v);
+        short = (list-of m part.sound.well_formed lists part.sound.before c.vehicle.result).few;
+        within = c.pieces.ensures.within;
+        used = subst (λ ps. IsUsed m (joined lists ps)) joined_is (used-after m (joined lists (part_at parts part.k).pieces) is c.requires.some);
+        few = subst (λ ps. length (joined lists ps) ≤ 1000) joined_is is.few;
+      };
+      feasible = subst (λ ps. IsFeasible (line m c.args.d c.vehicle.result (joined lists ps))) joined_is
+          (subst (λ v. IsFeasible (line m c.args.d v (joined lists (part_at parts part.k).pieces))) (sym c.vehicle.ensures.value) feasible);
     }
-
-pub timing_after-requires-clause-feasible : goal.timing_after-requires-clause-feasible
-timing_after-requires-clause-feasible c =
-    let m = c.args.part.now.model.now in
-    let lists : List (List ℕ) = c.args.part.now.routes.now.lists in
-    let parts = c.args.part.now.change.now in
-    let a = feasible-after m lists parts c.args.part.now.sound.parts_are c.args.part.now.sound.valid c.args.part.now.k c.args.part.now.sound.part c.args.d c.requires.dimension c.requires.some in
-    let b = subst (λ v. IsFeasible (line m c.args.d v (joined lists (part_at parts c.args.part.now.k).pieces))) (sym c.vehicle.ensures.value) a in
-    subst (λ ps. IsFeasible (line m c.args.d c.vehicle.result (joined lists ps))) (sym c.pieces.ensures.value) b
 
 pub returns-clause-timing : goal.returns-clause-timing
 returns-clause-timing c =

@@ -12,7 +12,7 @@ cost-requires c =
     record {
       ranged = ranged-same s.model c.self.inside.rules s.orders c.deref.result.now s.next c.deref-3.result.now
           (ap (λ s. s.model) c.self.view_is) (c.deref.ensures.value ∙ ap (λ s. s.orders) c.self.view_is) (c.deref-3.ensures.0 ∙ ap (λ s. s.next) c.self.view_is)
-          (ranged-after s.model lists s.orders c.requires.stands.orders c.args.change.now s.next c.requires.rows);
+          (ranged-after s.model lists s.orders c.requires.orders_are c.args.change.now s.next c.requires.rows);
     }
 
 pub returns-clause-value : goal.returns-clause-value
@@ -23,4 +23,4 @@ returns-clause-value c =
     read-around c.cost.result (cumul_cost * 4) c.cost.ensures.range (omega arith) ∙ c.cost.ensures.value
     ∙ cost-same s.model c.self.inside.rules s.orders c.deref.result.now (vehicles_of parts) c.deref-2.result.now s.next c.deref-3.result.now
     (ap (λ s. s.model) c.self.view_is) (c.deref.ensures.value ∙ ap (λ s. s.orders) c.self.view_is) (c.deref-2.ensures.0 ∙ c.vehicles_of-vehicles.ensures) (c.deref-3.ensures.0 ∙ ap (λ s. s.next) c.self.view_is)
-    ∙ cost-after s.model lists s.orders c.requires.stands.orders parts c.requires.made.makes.parts_are s.next c.requires.rows
+    ∙ cost-after s.model lists s.orders c.requires.orders_are parts c.requires.parts_are s.next c.requires.rows

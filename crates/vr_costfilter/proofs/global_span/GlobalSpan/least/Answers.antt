@@ -1,8 +1,8 @@
-use Rattle.std.proofs.Common.{◌∙◌, ℕ, List, length, ap, sym, subst, arith}
+use Rattle.std.proofs.Common.{◌∙◌, ℕ, List, ap, sym, subst, arith}
 use Rattle.std.proofs.lemmas.Int.{ints}
 use Rattle.vr_model.specs.declared.records.Model.{Model}
 use Rattle.vr_routes.specs.Pieces.{changed}
-use Rattle.vr_earliest.specs.Earlies.{AreEarlies}
+use Rattle.vr_costfilter.specs.EarlyParts.{AreEarlyParts}
 use Rattle.vr_costfilter.specs.declared.orders.Orders.{Orders}
 use Rattle.vr_costfilter.specs.GlobalCosts.{AreAllOrders}
 use Rattle.vr_costfilter.specs.Spreads.{global_least}
@@ -21,10 +21,9 @@ returns-then-is_idle-clause-least c valid =
 
 pub least-requires-clause-earlies : goal.least-requires-clause-earlies
 least-requires-clause-earlies c =
-    subst (λ (m : Model). AreEarlies m c.args.routes.now.lists c.args.change.now c.args.earlies.now) (sym (ap (λ s. s.model) c.self.view_is)) c.requires.earlies
-
-pub least-requires-clause-as_many : goal.least-requires-clause-as_many
-least-requires-clause-as_many c = c.requires.stands.as_many ∙ ap (λ (m : Model). length m.vehicles) (sym (ap (λ s. s.model) c.self.view_is))
+    let h = c.requires.stands in
+    subst (λ (m : Model). AreEarlyParts m c.args.routes.now.lists c.args.change.now c.args.earlies.now) (sym (ap (λ s. s.model) c.self.view_is))
+    (record { well_formed = h.well_formed; as_many = h.as_many; parts_are = c.requires.made.makes.parts_are; earlies = c.requires.earlies })
 
 pub least-requires-clause-orders : goal.least-requires-clause-orders
 least-requires-clause-orders c =

@@ -1,17 +1,23 @@
 use Rattle.std.proofs.Common.{◌≡◌, ◌∙◌, ◌+◌, ◌∷◌, [], ◌<◌, ℕ, List, Option, length, length-append, ap, sym, subst}
-use Rattle.std.specs.Prelude.{slice_index_or}
+use Rattle.std.specs.Prelude.{IsTrue, slice_index_or}
 use Rattle.vr_model.specs.declared.records.Model.{Model}
 use Rattle.vr_plan.specs.declared.timings.Timing.{Timing}
-use Rattle.vr_routes.specs.Pieces.{joined, part_at}
+use Rattle.vr_routes.specs.Pieces.{changed, joined, part_at}
 use Rattle.vr_costfilter.specs.GlobalCosts.{IsRow}
 use Rattle.vr_costfilter.proofs.GlobalLemmas.{stands-like}
 use Rattle.vr_parts.proofs.RowLemmas.{rows-push}
+use Rattle.vr_model.specs.routes.Rules.{is_valid}
 use Rattle.vr_costfilter.proofs.global_span.GlobalSpan.write_next.Goals as goal
 
-pub row_after-requires-clause-stands : goal.row_after-requires-clause-stands
-row_after-requires-clause-stands c =
+pub row_after-requires-clause-change : goal.row_after-requires-clause-change
+row_after-requires-clause-change c =
     let i = c.loop-k.invariant in
-    stands-like c.args.self.now c.loop-k.self c.args.routes.now c.requires.stands (record { model = i.model; orders = i.orders; room = i.room; cost = i.cost; cumuls = i.cumuls })
+    let h = c.requires.change in
+    record {
+      stands = stands-like c.args.self.now c.loop-k.self c.args.routes.now h.stands (record { model = i.model; orders = i.orders; room = i.room; cost = i.cost; cumuls = i.cumuls });
+      made = h.made;
+      valid = subst (λ m. IsTrue (is_valid m (changed c.args.routes.now.lists c.args.change.now))) (sym i.model) h.valid;
+    }
 
 pub loop-k-preserved : goal.loop-k-preserved
 loop-k-preserved c =
@@ -25,7 +31,6 @@ loop-k-preserved c =
     let old : List (List (Option Timing)) = c.self-in-loop-k.inside.next.items in
     let same = c.self-in-loop-k.view_is ∙ e.stays in
     let next : old ≡ c.loop-k.self.next = ap (λ s. s.next) same in
-    let low = subst (λ n. k < n) c.parts-k-end.ensures.value c.loop-k-test.true in
     let new = c.push.ensures.items in
     let many : length old ≡ k = ap length next ∙ i.many in
     record {

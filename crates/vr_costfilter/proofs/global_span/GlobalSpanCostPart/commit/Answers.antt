@@ -10,6 +10,8 @@ use Rattle.vr_routes.specs.Pieces.{changed}
 use Rattle.vr_routes.proofs.CommitLemmas.{as_many_lists}
 use Rattle.vr_costfilter.specs.declared.orders.Orders.{Orders}
 use Rattle.vr_costfilter.specs.GlobalCosts.{global_cost_of, AreAllOrders, IsGlobalCost, KeptSpans}
+use Rattle.vr_costfilter.specs.Known.{AreCumulsAt, IsValidChange}
+use Rattle.vr_costfilter.proofs.KnownLemmas.{spans-cumuls}
 use Rattle.vr_costfilter.proofs.global_span.GlobalSpanCostPart.commit.Goals as goal
 
 pub returns-clause-stands : goal.returns-clause-stands
@@ -36,3 +38,6 @@ returns-clause-stands c =
       range = subst IsGlobalCost (sym read) range;
       cumuls = c.commit.ensures;
     }
+
+pub commit-requires : goal.commit-requires
+commit-requires c = subst (λ (s : KeptSpans). IsValidChange (AreCumulsAt s.model s.cumuls) s.model c.args.routes.now c.args.change.now) (sym c.self.view_is) (spans-cumuls c.args.self.now c.args.routes.now c.args.change.now (record { stands = c.requires.stands; made = c.requires.made; valid = c.requires.valid }))

@@ -3,7 +3,7 @@ use Rattle.std.proofs.lemmas.Int.{ints}
 use Rattle.vr_routes.specs.Pieces.{changed}
 use Rattle.vr_model.specs.declared.records.Model.{Model}
 use Rattle.vr_costfilter.specs.GlobalCosts.{global_cost_of, IsGlobalCost}
-use Rattle.vr_costfilter.proofs.GlobalLemmas.{none-costs, none-pays, stands-like, NonePays}
+use Rattle.vr_costfilter.proofs.GlobalLemmas.{none-costs, none-pays, rows-like, stands-like, NonePays}
 use Rattle.vr_costfilter.proofs.global_span.GlobalSpanCostPart.difference.Goals as goal
 
 pub returns-then-is_idle-clause-exact : goal.returns-then-is_idle-clause-exact
@@ -18,8 +18,9 @@ returns-then-is_idle-clause-exact c =
 pub returns-in_err-write_next-clause-stands : goal.returns-in_err-write_next-clause-stands
 returns-in_err-write_next-clause-stands c = stands-like c.args.self.now c.write_next.new.self c.args.routes.now c.requires.stands c.write_next.ensures.like
 
-pub cost_after-requires-clause-stands : goal.cost_after-requires-clause-stands
-cost_after-requires-clause-stands c = stands-like c.args.self.now c.write_next.new.self c.args.routes.now c.requires.stands c.in_ok-write_next.ensures.like
+pub cost_after-requires : goal.cost_after-requires
+cost_after-requires c =
+    rows-like c.args.self.now c.write_next.new.self c.args.routes.now c.args.change.now (record { stands = c.requires.stands; made = c.requires.made; valid = c.requires.valid }) c.in_ok-write_next.ensures.like c.in_ok-write_next.ensures.next
 
 pub returns-clause-exact : goal.returns-clause-exact
 returns-clause-exact c =
@@ -43,3 +44,6 @@ returns-clause-range c =
     let a = c.cost_after.ensures.range in
     let b = subst IsGlobalCost (sym (ap (λ s. s.cost) view ∙ like.cost)) c.requires.stands.range in
     record { low = omega (arith, ints, a.low, a.high, b.low, b.high); high = omega (arith, ints, a.low, a.high, b.low, b.high) }
+
+pub write_next-requires : goal.write_next-requires
+write_next-requires c = record { change = record { stands = c.requires.stands; made = c.requires.made; valid = c.requires.valid } }

@@ -48,7 +48,6 @@ returns-in_err-cumul-clause-value c =
 pub returns-clause-range : goal.returns-clause-range
 returns-clause-range c n h =
     let x = c.in_ok-cumul.cumul in
-    let stage = c.args.stage in
     let costs = c.row_cost-cost.ensures in
     let low = costs.low in
     let high = costs.range.high in
@@ -56,7 +55,7 @@ returns-clause-range c n h =
     let limit = c.requires.stage.bound in
     let bound = h.bound in
     record {
-      at = c.requires.node;
+      at = c.requires.stop.known;
       cumul = subst (IsIn (pos 0) horizon) (sym (read-cumul x c.in_ok-cumul.ensures.range)) c.in_ok-cumul.ensures.range;
       not_negative = omega (arith, ints, low, high, before, limit);
       bound = omega (arith, ints, low, high, before, limit, bound);

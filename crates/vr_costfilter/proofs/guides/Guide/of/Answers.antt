@@ -9,12 +9,12 @@ use Rattle.vr_costfilter.proofs.guides.Guide.of.Goals as goal
 
 pub evaluator_of-requires-clause-vehicle : goal.evaluator_of-requires-clause-vehicle
 evaluator_of-requires-clause-vehicle c =
-    let is = c.args.closed.well_formed.each_dimension c.args.d no_dimension c.requires.dimension in
+    let is = c.args.closed.well_formed.each_dimension c.args.d no_dimension c.requires.known.dimension in
     subst (λ (x : Dimension). c.args.v < length x.vehicle_evaluators) (c.get.ensures.value no_dimension) (let n = is.evaluator_of_each_vehicle in let low = c.requires.vehicle in omega (arith, n, low))
 
 pub evaluator_of-requires-clause-numbers : goal.evaluator_of-requires-clause-numbers
 evaluator_of-requires-clause-numbers c =
-    let is = c.args.closed.well_formed.each_dimension c.args.d no_dimension c.requires.dimension in
+    let is = c.args.closed.well_formed.each_dimension c.args.d no_dimension c.requires.known.dimension in
     subst (λ (x : Dimension). All (λ k. k < length x.evaluators) x.vehicle_evaluators) (c.get.ensures.value no_dimension) is.vehicle_evaluators_in_range
 
 pub invariant_of-result : goal.invariant_of-result
@@ -24,10 +24,10 @@ invariant_of-result c =
     record {
       sound = record {
         well_formed = c.args.closed.well_formed;
-        dimension = c.requires.dimension;
+        dimension = c.requires.known.dimension;
         vehicle = c.requires.vehicle;
-        places = c.requires.table.places;
-        hard = c.requires.table.hard;
+        places = c.requires.known.told.places;
+        hard = c.requires.known.told.hard;
         evaluator_is = c.evaluator_of.ensures ∙ ap (λ x. evaluator_of x c.args.v) (sym (c.get.ensures.value no_dimension));
         slack_is = slack ∙ c.slack_of.ensures.value;
         slack_range = subst (IsIn (pos 0) horizon) (sym slack) c.slack_of.ensures.range;

@@ -27,13 +27,16 @@ known guide step is = let low = visit_below guide.model.now step.node is.visit i
 last : (guide : Guide) (step : Step) → IsVisitStep guide.model.now step → IsIn (pos 0) horizon (slice_index_or guide.visits.now step.node first_run).hi
 last guide step is = (guide.sound.visits.each step.node first_run (known guide step is) is.visit).ends.hi
 
-pub go_on-requires-clause-allowed : goal.go_on-requires-clause-allowed
-go_on-requires-clause-allowed c =
+pub go_on-requires-clause-stop : goal.go_on-requires-clause-stop
+go_on-requires-clause-stop c =
     let floor = c.requires.step.floor in
     let hi = last c.args.self.now c.args.step c.requires.step in
     record {
-      lo = subst (IsIn (pos 0) horizon) (sym (read-cumul c.args.step.floor floor)) floor;
-      hi = subst (IsIn (pos 0) horizon) (sym (read-cumul (slice_index_or c.args.self.now.visits.now c.args.step.node first_run).hi hi)) hi;
+      known = visit_below c.args.self.now.model.now c.args.step.node c.requires.step.visit;
+      ends = record {
+        lo = subst (IsIn (pos 0) horizon) (sym (read-cumul c.args.step.floor floor)) floor;
+        hi = subst (IsIn (pos 0) horizon) (sym (read-cumul (slice_index_or c.args.self.now.visits.now c.args.step.node first_run).hi hi)) hi;
+      };
     }
 
 pub go_on-requires-clause-row : goal.go_on-requires-clause-row

@@ -1,13 +1,13 @@
 use Rattle.std.proofs.Common.{◌∙◌, ◌+◌, ℕ, List, length-append, ap, sym, subst, arith}
-use Rattle.std.specs.Prelude.{IsTrue}
-use Rattle.vr_model.proofs.routes.Lists.{are-lists, are_lists-count, route-visits}
-use Rattle.std.specs.List.{list_all}
-use Rattle.vr_model.specs.tables.Tables.{is_visit, no_vehicle, vehicle_at}
+use Rattle.vr_model.proofs.routes.Lists.{are-lists, are_lists-count}
+use Rattle.vr_model.specs.tables.Tables.{no_vehicle, vehicle_at}
 use Rattle.vr_model.specs.declared.records.Vehicle.{Vehicle}
 use Rattle.vr_model.specs.routes.Routes.{route}
 use Rattle.vr_costfilter.specs.Kept.{HasRoom, IsKept}
 use Rattle.vr_costfilter.specs.declared.kept.KeptList.{KeptList}
 use Rattle.vr_parts.proofs.RowLemmas.{each-push}
+use Rattle.vr_costfilter.proofs.KnownLemmas.{tour-of}
+use Rattle.vr_costfilter.proofs.PartLemmas.{list-of}
 use Rattle.vr_costfilter.proofs.kept.KeptCumuls.open.Goals as goal
 
 pub get-requires : goal.get-requires
@@ -17,16 +17,14 @@ get-requires c =
     let low = c.loop-v-test.true in
     omega (arith, many, end, low)
 
-pub write_list-requires-clause-vehicle : goal.write_list-requires-clause-vehicle
-write_list-requires-clause-vehicle c =
-    let many = are_lists-count c.args.closed.model.now c.args.routes.now.lists (are-lists c.args.closed.model.now c.args.routes.now.lists c.requires.valid) in
+pub invariant_of-tour : goal.invariant_of-tour
+invariant_of-tour c =
+    let m = c.args.closed.model.now in
+    let lists : List (List ℕ) = c.args.routes.now.lists in
+    let many = are_lists-count m lists (are-lists m lists c.requires.valid) in
     let end = c.vehicles-v-end.ensures.value in
     let low = c.loop-v-test.true in
-    omega (arith, many, end, low)
-
-pub write_list-requires-clause-visits : goal.write_list-requires-clause-visits
-write_list-requires-clause-visits c =
-    subst (λ l. IsTrue (list_all (is_visit c.args.closed.model.now) l)) (sym c.list.ensures.value) (route-visits c.args.closed.model.now c.args.routes.now.lists c.loop-v.v (are-lists c.args.closed.model.now c.args.routes.now.lists c.requires.valid))
+    record { sound = tour-of m c.loop-v.v (route lists c.loop-v.v) (omega (arith, many, end, low)) (list-of m c.args.closed.well_formed lists c.requires.valid c.loop-v.v) c.list.result.now c.list.ensures.value }
 
 pub loop-v-preserved : goal.loop-v-preserved
 loop-v-preserved c =

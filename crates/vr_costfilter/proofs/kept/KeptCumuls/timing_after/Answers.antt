@@ -1,4 +1,4 @@
-use Rattle.std.proofs.Common.{◌≡◌, ◌∙◌, ◌<◌, ℕ, List, Bool, length, ap, sym, subst, arith}
+use Rattle.std.proofs.Common.{◌≡◌, ◌∙◌, ◌<◌, ℕ, List, Bool, length, refl, ap, sym, subst, arith}
 use Rattle.std.specs.Prelude.{◌↔◌, IsTrue, is_some, slice_index_or}
 use Rattle.std.proofs.lemmas.Bool.{false≢true}
 use Rattle.std.proofs.lemmas.List.{get_or_default}
@@ -12,9 +12,11 @@ use Rattle.vr_model.specs.declared.records.ScheduleRule.{ScheduleRule}
 use Rattle.vr_model.specs.declared.records.ScheduleRule.TheVariants.{Earliest, Tight}
 use Rattle.vr_model.specs.declared.records.Vehicle.{Vehicle}
 use Rattle.vr_reach.specs.VisitRuns.{have_stops_one_run}
-use Rattle.vr_costfilter.specs.Kept.{IsKnown, HasAllAsked, HasAllStages, HasAllWays}
+use Rattle.vr_costfilter.specs.Kept.{AreKept, IsKept, IsKnown, HasAllAsked, HasAllStages, HasAllWays}
 use Rattle.vr_costfilter.specs.declared.kept.KeptList.{KeptList}
 use Rattle.vr_costfilter.specs.Joined.{AreJoined}
+use Rattle.vr_costfilter.specs.GuideRuns.{runs_of}
+use Rattle.vr_costfilter.proofs.GuideLemmas.{of-guide}
 use Rattle.vr_costfilter.proofs.kept.KeptCumuls.timing_after.Goals as goal
 
 -- what is kept of its list decides
@@ -25,11 +27,15 @@ told-so model d v list inside seen view kept low is one some to from = subst (λ
   λ told. from (subst (HasAllAsked (vehicle_at model v).schedule list) (sym is) (told.tells kept)),
 )
 
+-- what is kept of its list
+read-kept : (model : Model) (d v : ℕ) (lists : List (List ℕ)) (inside seen : List KeptList) → inside ≡ seen → AreKept model d lists seen → (kept : KeptList) → v < length inside → kept ≡ slice_index_or inside v kept → IsKept model d v (route lists v) kept
+read-kept model d v lists inside seen view are kept low is = subst (IsKept model d v (route lists v)) (sym is) ((subst (AreKept model d lists) (sym view) are).each v kept low)
+
 pub invariant_of-asked : goal.invariant_of-asked
 invariant_of-asked c =
     let e = c.in_ok-guide.ensures in
     let lists : List (List ℕ) = c.args.routes.now.lists in
-    record { sound = subst (λ m. AreJoined m c.in_ok-guide.guide.v lists c.args.pieces.now) (sym e.model) (subst (λ v. AreJoined c.args.at.now.model.now v lists c.args.pieces.now) (sym e.vehicle) c.requires.joined) }
+    record { sound = subst (λ m. AreJoined m c.in_ok-guide.guide.v lists c.args.pieces.now) (sym e.model) (subst (λ v. AreJoined c.args.at.now.model.now v lists c.args.pieces.now) (sym e.vehicle) c.requires.joined.are) }
 
 pub returns-then-v-len-clause-known : goal.returns-then-v-len-clause-known
 returns-then-v-len-clause-known c =
@@ -57,7 +63,7 @@ returns-in-Earliest-clause-known c =
     let model = c.in_ok-guide.ensures.model in
     let new : List ℕ = joined c.args.routes.now.lists c.args.pieces.now in
     let guide = c.in_ok-guide.guide in
-    let f1 = subst (λ u. IsFeasible (line m d u new)) (sym same) c.requires.feasible in
+    let f1 = subst (λ u. IsFeasible (line m d u new)) (sym same) c.requires.joined.feasible in
     let f2 = subst (λ e. IsFeasible (line m e guide.v new)) (sym c.in_ok-guide.ensures.dimension) f1 in
     let f3 = subst (λ w. IsFeasible (line w guide.d guide.v new)) (sym model) f2 in
     let known = c.earliest_after.ensures.known f3 in
@@ -81,3 +87,39 @@ returns-in-Tight-clause-known c =
     told-so m d v list c.self.inside.lists.items c.args.self.now c.self.view_is kept low c.index-kept.ensures (sym c.in_ok-guide.ensures.known) (is_some c.tight_after.result)
     (λ some. subst (λ (r : ScheduleRule). HasAllAsked r list kept) (sym rule) (subst (λ u. HasAllWays (route c.args.routes.now.lists u) kept) same (known.0 some)))
     (λ told. known.1 (subst (λ u. HasAllWays (route c.args.routes.now.lists u) kept) (sym same) (subst (λ (r : ScheduleRule). HasAllAsked r list kept) rule told)))
+
+pub earliest_after-requires : goal.earliest_after-requires
+earliest_after-requires c =
+    let m = c.args.at.now.model.now in
+    let d = c.args.at.now.d in
+    let v = c.args.v in
+    let g = c.in_ok-guide.guide in
+    let e = c.in_ok-guide.ensures in
+    let lists : List (List ℕ) = c.args.routes.now.lists in
+    let kept : KeptList = c.index-kept.result.now in
+    let len = c.len.ensures in
+    let under = c.if-v-len.false in
+    let is = read-kept m d v lists c.self.inside.lists.items c.args.self.now c.self.view_is c.requires.kept kept (omega (arith, len, under)) c.index-kept.ensures in
+    let rule : (vehicle_at m v).schedule ≡ Earliest = ap (λ (w : Vehicle). w.schedule) (c.get-vehicle.ensures.value no_vehicle) ∙ c.in-Earliest.is in
+    record {
+      by = record { runs = e.runs; rule_is = of-guide g m d v (runs_of g) e.model e.dimension e.vehicle refl (λ m d v runs. (vehicle_at m v).schedule ≡ Earliest) rule };
+      of_old = of-guide g m d v (runs_of g) e.model e.dimension e.vehicle refl (λ m d v runs. IsKept m d v (route lists v) kept) is;
+    }
+
+pub tight_after-requires-clause-kept : goal.tight_after-requires-clause-kept
+tight_after-requires-clause-kept c =
+    let m = c.args.at.now.model.now in
+    let d = c.args.at.now.d in
+    let v = c.args.v in
+    let g = c.in_ok-guide.guide in
+    let e = c.in_ok-guide.ensures in
+    let lists : List (List ℕ) = c.args.routes.now.lists in
+    let kept : KeptList = c.index-kept.result.now in
+    let len = c.len.ensures in
+    let under = c.if-v-len.false in
+    let is = read-kept m d v lists c.self.inside.lists.items c.args.self.now c.self.view_is c.requires.kept kept (omega (arith, len, under)) c.index-kept.ensures in
+    let rule : (vehicle_at m v).schedule ≡ Tight = ap (λ (w : Vehicle). w.schedule) (c.get-vehicle.ensures.value no_vehicle) ∙ c.in-Tight.is in
+    record {
+      by = record { runs = e.runs; rule_is = of-guide g m d v (runs_of g) e.model e.dimension e.vehicle refl (λ m d v runs. (vehicle_at m v).schedule ≡ Tight) rule };
+      of_old = of-guide g m d v (runs_of g) e.model e.dimension e.vehicle refl (λ m d v runs. IsKept m d v (route lists v) kept) is;
+    }

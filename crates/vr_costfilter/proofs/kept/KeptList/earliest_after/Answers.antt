@@ -13,21 +13,15 @@ pub after-requires-clause-allows : goal.after-requires-clause-allows
 after-requires-clause-allows c =
     let g = c.args.asked.now.guide.now in
     let new : List ℕ = joined c.args.asked.now.routes.now.lists c.args.asked.now.pieces.now in
-    let by = line-allows g.model.now g.d g.v (runs_of g) c.requires.runs new c.args.asked.now.sound.used.tour in
-    subst (λ (l : Line). AllowsRuns g.model.now g.d g.v (runs_of g) new l) (sym (ap (λ rule. narrowed rule (line g.model.now g.d g.v new)) c.requires.rule)) by
+    let by = line-allows g.model.now g.d g.v (runs_of g) c.requires.by.runs new c.args.asked.now.sound.used.tour in
+    subst (λ (l : Line). AllowsRuns g.model.now g.d g.v (runs_of g) new l) (sym (ap (λ rule. narrowed rule (line g.model.now g.d g.v new)) c.requires.by.rule_is)) by
 
-pub after-requires-clause-stages : goal.after-requires-clause-stages
-after-requires-clause-stages c =
+pub after-requires-clause-known : goal.after-requires-clause-known
+after-requires-clause-known c =
     let g = c.args.asked.now.guide.now in
     let many = c.are_of.ensures.0 c.if-not-are_of.false in
     let list = ap length c.list-list.ensures.value in
-    (c.requires.kept.earliest c.requires.rule (runs_of g) c.requires.runs).told (omega (arith, many, list))
-
-pub after-requires-clause-many : goal.after-requires-clause-many
-after-requires-clause-many c =
-    let many = c.are_of.ensures.0 c.if-not-are_of.false in
-    let list = ap length c.list-list.ensures.value in
-    omega (arith, many, list)
+    record { stages = (c.requires.of_old.earliest c.requires.by.rule_is (runs_of g) c.requires.by.runs).told (omega (arith, many, list)); many = omega (arith, many, list); few = c.args.asked.now.sound.short }
 
 pub returns-clause-known : goal.returns-clause-known
 returns-clause-known c feasible =

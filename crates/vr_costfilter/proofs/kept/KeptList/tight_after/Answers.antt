@@ -28,7 +28,7 @@ ends_of-ends-requires-clause-kept c =
     let many = c.has_ways.ensures.0 c.if-not-has_ways.false in
     let list = ap length c.list-list.ensures.value in
     let some : 0 < length c.args.self.now.ends.items = (let some = some_from_test _ _ c.if-is_empty.false c.is_empty.ensures in omega (arith, some)) in
-    let is = subst (AreKeptWays g.model.now g.d g.v (route c.args.asked.now.routes.now.lists g.v)) (sym c.index-kept.ensures) (c.requires.kept.ends.first c.index-kept.result.now some) in
+    let is = subst (AreKeptWays g.model.now g.d g.v (route c.args.asked.now.routes.now.lists g.v)) (sym c.index-kept.ensures) (c.requires.kept.of_old.ends.first c.index-kept.result.now some) in
     is.ways (omega (arith, many, list))
 
 pub timing_between-requires-clause-allows : goal.timing_between-requires-clause-allows
@@ -37,11 +37,11 @@ timing_between-requires-clause-allows c =
     let m = g.model.now in
     let list : List ℕ = joined c.args.asked.now.routes.now.lists c.args.asked.now.pieces.now in
     let L : Line = line m g.d g.v list in
-    let by = line-allows m g.d g.v (runs_of g) c.requires.runs list c.args.asked.now.sound.used.tour in
+    let by = line-allows m g.d g.v (runs_of g) c.requires.kept.by.runs list c.args.asked.now.sound.used.tour in
     let ends = c.ends_of-ends.result in
     let told = c.ends_of-ends.ensures in
     let is : chosen_line m g.d g.v list ≡ between L ends.start ends.last =
-    ap (λ rule. narrowed rule L) c.requires.rule ∙ narrowed_to_ends L by.has.stops ends.start ends.last told.last told.start in
+    ap (λ rule. narrowed rule L) c.requires.kept.by.rule_is ∙ narrowed_to_ends L by.has.stops ends.start ends.last told.last told.start in
     let a = between-allows m g.d g.v (runs_of g) list L by ends.start ends.last told.start in
     subst (λ (l : Line). AllowsRuns m g.d g.v (between_runs (runs_of g) ends.start ends.last) list l) (sym is) a
 
@@ -50,7 +50,7 @@ timing_between-requires-clause-ends c =
     let g = c.args.asked.now.guide.now in
     let list : List ℕ = joined c.args.asked.now.routes.now.lists c.args.asked.now.pieces.now in
     let L : Line = line g.model.now g.d g.v list in
-    let by = line-allows g.model.now g.d g.v (runs_of g) c.requires.runs list c.args.asked.now.sound.used.tour in
+    let by = line-allows g.model.now g.d g.v (runs_of g) c.requires.kept.by.runs list c.args.asked.now.sound.used.tour in
     let ends = c.ends_of-ends.result in
     let start = c.ends_of-ends.ensures.start in
     record { start = start-in g.model.now g.d g.v (runs_of g) list L by ends.start ends.last start; last = end-in g.model.now g.d g.v (runs_of g) list L by ends.start ends.last start }
@@ -62,13 +62,13 @@ returns-then-asked c =
     let m = g.model.now in
     let list : List ℕ = joined c.args.asked.now.routes.now.lists c.args.asked.now.pieces.now in
     let L : Line = line m g.d g.v list in
-    let by = line-allows m g.d g.v (runs_of g) c.requires.runs list c.args.asked.now.sound.used.tour in
+    let by = line-allows m g.d g.v (runs_of g) c.requires.kept.by.runs list c.args.asked.now.sound.used.tour in
     let some : 0 < length c.args.self.now.ends.items = (let some = some_from_test _ _ c.if-is_empty.false c.is_empty.ensures in omega (arith, some)) in
     let ends = c.ends_of-ends.result in
     let told = c.ends_of-ends.ensures in
     let start = start-in m g.d g.v (runs_of g) list L by ends.start ends.last told.start in
     let last = end-in m g.d g.v (runs_of g) list L by ends.start ends.last told.start in
-    let timed = ends-timed m g.d g.v list c.requires.rule c.requires.feasible ends.start ends.last told.last told.start (c.args.asked.now.guide.now.sound.hard c.if-asked.true) start last
+    let timed = ends-timed m g.d g.v list c.requires.kept.by.rule_is c.requires.feasible ends.start ends.last told.last told.start (c.args.asked.now.guide.now.sound.hard c.if-asked.true) start last
     (to_z w64 (of_z w64 ends.start)) (to_z w64 (of_z w64 ends.last)) (read-cumul ends.start start) (read-cumul ends.last last) in
     let many = c.has_ways.ensures.0 c.if-not-has_ways.false in
     let length_is = ap length c.list-list.ensures.value in

@@ -1,4 +1,4 @@
-use Rattle.std.proofs.Common.{◌≡◌, ◌+◌, ℕ, List, length, subst, sym, arith, to_z, of_z, w64}
+use Rattle.std.proofs.Common.{◌≡◌, ℕ, List, subst, sym, arith, to_z, of_z, w64}
 use Rattle.std.specs.Prelude.{IfSome, is_some, ℤ}
 use Rattle.vr_model.specs.routes.Routes.{route}
 use Rattle.vr_model.specs.schedules.Choices.{is_feasible}
@@ -9,7 +9,7 @@ use Rattle.vr_costfilter.specs.Asked.{new_list}
 use Rattle.vr_costfilter.specs.GuideRuns.{runs_of}
 use Rattle.vr_costfilter.specs.Joined.{AreJoined}
 use Rattle.vr_costfilter.specs.Runs.{between_runs, only, starting, AllowsRuns}
-use Rattle.vr_costfilter.specs.Steps.{steps_of, AreAllStages}
+use Rattle.vr_costfilter.specs.Steps.{AreKnownSteps}
 use Rattle.vr_costfilter.proofs.GuideLemmas.{by-guide, of-guide}
 use Rattle.vr_costfilter.proofs.kept.KeptList.timing_from.Goals as goal
 
@@ -35,19 +35,18 @@ after-requires-clause-allows c =
     (λ model d v runs. AllowsRuns model d v (starting runs (only (to_z w64 (of_z w64 s)))) list (chosen_line model d v list))
     (subst (λ (x : ℤ). AllowsRuns g.model.now g.d g.v (between_runs (runs_of g) x ends.last) list (chosen_line g.model.now g.d g.v list)) (sym (read-cumul s c.requires.start)) c.requires.allows)
 
-pub after-requires-clause-stages : goal.after-requires-clause-stages
-after-requires-clause-stages c =
-    let g = c.args.asked.now.guide.now in
+pub after-requires-clause-known : goal.after-requires-clause-known
+after-requires-clause-known c =
+    let asked = c.args.asked.now in
+    let g = asked.guide.now in
     let ends = c.args.self.now.between in
     let e = c.between-kept.ensures in
     let kept = c.args.self.now.steps in
-    let lists : List (List ℕ) = c.args.asked.now.routes.now.lists in
+    let lists : List (List ℕ) = asked.routes.now.lists in
+    let by = c.requires.kept.by in
     of-guide c.between-kept.result g.model.now g.d g.v (between_runs (runs_of g) ends.start ends.last) e.model e.dimension e.vehicle e.runs
-    (λ model d v runs. AreAllStages model d v runs (route lists v) (steps_of kept) kept.stages.items)
-    ((c.requires.kept.tight c.requires.rule (runs_of g) c.requires.runs).told (let n = c.requires.many in omega (arith, n)))
-
-pub after-requires-clause-many : goal.after-requires-clause-many
-after-requires-clause-many c = subst (λ v. length c.args.self.now.steps.stages.items ≡ length (route c.args.asked.now.routes.now.lists v) + 2) (sym c.between-kept.ensures.vehicle) c.requires.many
+    (λ model d v runs. AreKnownSteps model d v runs (route lists v) kept)
+    (record { stages = (c.requires.kept.of_old.tight by.rule_is (runs_of g) by.runs).told (let n = c.requires.many in omega (arith, n)); many = c.requires.many; few = asked.sound.short })
 
 pub returns-clause-known : goal.returns-clause-known
 returns-clause-known c =

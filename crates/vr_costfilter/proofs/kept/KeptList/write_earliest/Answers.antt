@@ -12,14 +12,14 @@ use Rattle.vr_costfilter.proofs.kept.KeptList.write_earliest.Goals as goal
 
 pub returns-clause-kept : goal.returns-clause-kept
 returns-clause-kept c =
-    let g = c.args.guide.now in
-    let list = c.args.list.now in
+    let g = c.args.led.now.guide.now in
+    let list = c.args.led.now.list.now in
     record {
       earliest = λ rule runs are. stages-so g.model.now g.d g.v (runs_of g) runs c.requires.runs are list _ c.write.ensures.stages;
-      tight = λ rule runs are. absurd (other-rule (sym c.requires.rule ∙ rule));
+      tight = λ rule runs are. absurd (other-rule (sym c.requires.rule_is ∙ rule));
       between = c.forget.ensures.between;
       ends = c.forget.ensures.ends g.model.now g.d g.v list;
-      whole = λ tour one feasible room. told-by (vehicle_at g.model.now g.v).schedule list _ c.requires.rule
+      whole = λ tour one feasible room. told-by (vehicle_at g.model.now g.v).schedule list _ c.requires.rule_is
           (c.write.ensures.all (line g.model.now g.d g.v list) (line-allows g.model.now g.d g.v (runs_of g) c.requires.runs list tour) feasible);
     }
   where

@@ -13,28 +13,28 @@ use Rattle.vr_costfilter.specs.declared.kept.KeptList.{KeptList}
 use Rattle.vr_costfilter.proofs.KeptCumulLemmas.{ends-set, other-rule, stages-between, stages-none}
 use Rattle.vr_costfilter.proofs.kept.KeptList.write_tight.Goals as goal
 
-pub write_between-requires-clause-ends : goal.write_between-requires-clause-ends
-write_between-requires-clause-ends c =
+pub write_between-requires : goal.write_between-requires
+write_between-requires c =
+    let g = c.args.led.now.guide.now in
     let items : List KeptWays = c.forget.new.self.ends.items in
     let many = length-set items 0 c.write.new.self in
     let some = some_from_test _ _ c.if-is_empty.false c.is_empty.ensures in
-    omega (arith, many, some)
-
-pub write_between-requires-clause-ways : goal.write_between-requires-clause-ways
-write_between-requires-clause-ways c other =
-    let g = c.args.guide.now in
-    let items : List KeptWays = c.forget.new.self.ends.items in
-    subst (HasWays g.model.now g.d g.v (runs_of g) c.args.list.now) (sym (get_or-set_same items 0 c.write.new.self other (let some = some_from_test _ _ c.if-is_empty.false c.is_empty.ensures in omega (arith, some)))) c.write.ensures
+    record {
+      ends = omega (arith, many, some);
+      ways = λ other. subst (HasWays g.model.now g.d g.v (runs_of g) c.args.led.now.list.now) (sym (get_or-set_same items 0 c.write.new.self other (omega (arith, some)))) c.write.ensures;
+      none = c.forget.ensures.none;
+      between = c.forget.ensures.between;
+    }
 
 pub returns-then-is_empty-clause-kept : goal.returns-then-is_empty-clause-kept
 returns-then-is_empty-clause-kept c =
-    let g = c.args.guide.now in
+    let g = c.args.led.now.guide.now in
     record {
-      earliest = λ rule runs are. absurd (other-rule (sym rule ∙ c.requires.rule));
-      tight = λ rule runs are. stages-none g.model.now g.d g.v _ c.args.list.now _ (let n = c.forget.ensures.none in omega (arith, n));
+      earliest = λ rule runs are. absurd (other-rule (sym rule ∙ c.requires.rule_is));
+      tight = λ rule runs are. stages-none g.model.now g.d g.v _ c.args.led.now.list.now _ (let n = c.forget.ensures.none in omega (arith, n));
       between = c.forget.ensures.between;
-      ends = c.forget.ensures.ends g.model.now g.d g.v c.args.list.now;
-      whole = λ tour one feasible room. absurd (no-room (vehicle_at g.model.now g.v).schedule (length c.forget.new.self.ends.items) c.requires.rule room (let none = none_from_test _ _ c.if-is_empty.true c.is_empty.ensures in omega (arith, none)));
+      ends = c.forget.ensures.ends g.model.now g.d g.v c.args.led.now.list.now;
+      whole = λ tour one feasible room. absurd (no-room (vehicle_at g.model.now g.v).schedule (length c.forget.new.self.ends.items) c.requires.rule_is room (let none = none_from_test _ _ c.if-is_empty.true c.is_empty.ensures in omega (arith, none)));
     }
   where
     no-room : (rule : ScheduleRule) (n : ℕ) → rule ≡ Tight → n ≡ cond (is_tight rule) 1 0 → n ≡ 0 → ⊥
@@ -42,17 +42,17 @@ returns-then-is_empty-clause-kept c =
 
 pub returns-clause-kept : goal.returns-clause-kept
 returns-clause-kept c =
-    let g = c.args.guide.now in
-    let list = c.args.list.now in
+    let g = c.args.led.now.guide.now in
+    let list = c.args.led.now.list.now in
     let items : List KeptWays = c.forget.new.self.ends.items in
     let new : KeptWays = c.write.new.self in
     let is : AreKeptWays g.model.now g.d g.v list new = record { ways = λ _. record { runs = runs_of g; has = c.write.ensures } } in
     record {
-      earliest = λ rule runs are. absurd (other-rule (sym rule ∙ c.requires.rule));
+      earliest = λ rule runs are. absurd (other-rule (sym rule ∙ c.requires.rule_is));
       tight = λ rule runs are. stages-between g.model.now g.d g.v (runs_of g) runs c.requires.runs are _ _ list _ c.write_between.ensures.stages;
       between = c.write_between.ensures.between;
       ends = subst (HaveKeptWays g.model.now g.d g.v list) (sym c.write_between.ensures.ends) (ends-set g.model.now g.d g.v list items new is);
-      whole = λ tour one feasible room. told-by (vehicle_at g.model.now g.v).schedule list _ c.requires.rule (record {
+      whole = λ tour one feasible room. told-by (vehicle_at g.model.now g.v).schedule list _ c.requires.rule_is (record {
         room = (let many = length-set items 0 new in let same = ap length c.write_between.ensures.ends in let some = some_from_test _ _ c.if-is_empty.false c.is_empty.ensures in omega (arith, many, same, some));
         ways = λ other. subst (λ (l : List KeptWays). length (slice_index_or l 0 other).ways.items ≡ length list + 1) (sym c.write_between.ensures.ends)
             (subst (λ (k : KeptWays). length k.ways.items ≡ length list + 1) (sym (get_or-set_same items 0 new other (let some = some_from_test _ _ c.if-is_empty.false c.is_empty.ensures in omega (arith, some))))

@@ -35,17 +35,17 @@ rest-read : (g : Guide) (list : List ℕ) → length list ≤ 1000 → All (λ n
 rest-read g list few visits kept has rests same = subst (λ (l : List Rest). IsRestOf g.model.now 1000 (slice_index_or l 0 no_rest)) (sym same) (kept-rest g list few visits kept has 0 no_rest (omega arith))
 
 pub way_through-whole-requires-clause-way : goal.way_through-whole-requires-clause-way
-way_through-whole-requires-clause-way c = way-read c.args.guide.now c.args.list.now c.requires.few c.requires.visits c.args.self.now c.requires.ways c.deref.result.now c.deref.ensures.0
+way_through-whole-requires-clause-way c = way-read c.args.led.now.guide.now c.args.led.now.list.now c.args.led.now.sound.few c.args.led.now.sound.visits c.args.self.now c.requires c.deref.result.now c.deref.ensures.0
 
 pub way_through-whole-requires-clause-rest : goal.way_through-whole-requires-clause-rest
-way_through-whole-requires-clause-rest c = rest-read c.args.guide.now c.args.list.now c.requires.few c.requires.visits c.args.self.now c.requires.ways c.deref-2.result.now c.deref-2.ensures.0
+way_through-whole-requires-clause-rest c = rest-read c.args.led.now.guide.now c.args.led.now.list.now c.args.led.now.sound.few c.args.led.now.sound.visits c.args.self.now c.requires c.deref-2.result.now c.deref-2.ensures.0
 
 pub ends_by-ends-requires : goal.ends_by-ends-requires
 ends_by-ends-requires c =
-    let g = c.args.guide.now in
+    let g = c.args.led.now.guide.now in
     let h = g.sound in
-    let way = way-read g c.args.list.now c.requires.few c.requires.visits c.args.self.now c.requires.ways c.deref.result.now c.deref.ensures.0 in
-    let rest = rest-read g c.args.list.now c.requires.few c.requires.visits c.args.self.now c.requires.ways c.deref-2.result.now c.deref-2.ensures.0 in
+    let way = way-read g c.args.led.now.list.now c.args.led.now.sound.few c.args.led.now.sound.visits c.args.self.now c.requires c.deref.result.now c.deref.ensures.0 in
+    let rest = rest-read g c.args.led.now.list.now c.args.led.now.sound.few c.args.led.now.sound.visits c.args.self.now c.requires c.deref-2.result.now c.deref-2.ensures.0 in
     subst (IsWayOf g.model.now 3001) (sym c.way_through-whole.ensures) (end-way g.model.now h.well_formed g.d g.v h.dimension h.vehicle 2000 1000 _ _ way rest)
 
 -- the whole way along a list, by what is kept of it
@@ -60,14 +60,14 @@ whole-kept g list kept has ways rests ways_are rests_are =
 
 pub returns : goal.returns
 returns c =
-    let g = c.args.guide.now in
-    let h = c.args.guide.now.sound in
-    let list = c.args.list.now in
+    let g = c.args.led.now.guide.now in
+    let h = c.args.led.now.guide.now.sound in
+    let list = c.args.led.now.list.now in
     let whole = c.way_through-whole.result in
-    let way = way-read g list c.requires.few c.requires.visits c.args.self.now c.requires.ways c.deref.result.now c.deref.ensures.0 in
-    let rest = rest-read g list c.requires.few c.requires.visits c.args.self.now c.requires.ways c.deref-2.result.now c.deref-2.ensures.0 in
+    let way = way-read g list c.args.led.now.sound.few c.args.led.now.sound.visits c.args.self.now c.requires c.deref.result.now c.deref.ensures.0 in
+    let rest = rest-read g list c.args.led.now.sound.few c.args.led.now.sound.visits c.args.self.now c.requires c.deref-2.result.now c.deref-2.ensures.0 in
     let small = subst (IsWayOf g.model.now 3001) (sym c.way_through-whole.ensures) (end-way g.model.now h.well_formed g.d g.v h.dimension h.vehicle 2000 1000 _ _ way rest) in
-    let is = c.way_through-whole.ensures ∙ whole-kept g list c.args.self.now c.requires.ways c.deref.result.now c.deref-2.result.now c.deref.ensures.0 c.deref-2.ensures.0 in
+    let is = c.way_through-whole.ensures ∙ whole-kept g list c.args.self.now c.requires c.deref.result.now c.deref-2.result.now c.deref.ensures.0 c.deref-2.ensures.0 in
     let start = c.ends_by-ends.ensures.start in
     let last = c.ends_by-ends.ensures.last in
     let start_read = start-small g.model.now whole small c.ends_by-ends.result.start start ∙ start ∙ ap start_by is in

@@ -12,20 +12,20 @@ use Rattle.vr_costfilter.proofs.kept_ways.KeptWays.write_ways.Goals as goal
 
 pub way_to_visit-way-requires-clause-way : goal.way_to_visit-way-requires-clause-way
 way_to_visit-way-requires-clause-way c =
-    let few = c.requires.few in
+    let few = c.args.led.now.sound.few in
     let low = c.loop-k-test.true in
-    way-more c.args.guide.now.model.now c.loop-k.k 3000 c.loop-k.way (omega (arith, few, low)) c.loop-k.invariant.range
+    way-more c.args.led.now.guide.now.model.now c.loop-k.k 3000 c.loop-k.way (omega (arith, few, low)) c.loop-k.invariant.range
 
 pub loop-k-preserved : goal.loop-k-preserved
 loop-k-preserved c =
-    let g = c.args.guide.now in
-    let h = c.args.guide.now.sound in
-    let list = c.args.list.now in
+    let g = c.args.led.now.guide.now in
+    let h = c.args.led.now.guide.now.sound in
+    let list = c.args.led.now.list.now in
     let k = c.loop-k.k in
     let i = c.loop-k.invariant in
     let low = c.loop-k-test.true in
     let node = slice_index_or list k 0 in
-    let known = c.requires.visits k 0 low in
+    let known = c.args.led.now.sound.visits k 0 low in
     let next = c.way_to_visit-way.ensures ∙ ap (λ (way : Way). way_to_visit g.model.now g.d g.v (runs_of g) way node) i.way ∙ sym (fold_more (way_to_visit g.model.now g.d g.v (runs_of g)) (way_out g.model.now g.v (runs_of g)) list k 0 low) in
     record {
       ways = ways-more g.model.now g.d g.v (runs_of g) list k c.loop-k.self.ways.items c.push-in-loop-k.new.self.items c.way_to_visit-way.result i.ways c.push-in-loop-k.ensures.items next;

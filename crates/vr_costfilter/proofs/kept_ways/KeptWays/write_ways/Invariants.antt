@@ -6,7 +6,7 @@ use Rattle.vr_costfilter.proofs.kept_ways.KeptWays.write_ways.Given as goal
 
 abbrev pub invariant-loop-k : goal.invariant-loop-k
 invariant-loop-k l = record {
-  ways : AreWaysTo l.guide.model.now l.guide.d l.guide.v (runs_of l.guide) l.list l.k l.self.ways.items;
-  way : l.way ≡ way_along l.guide.model.now l.guide.d l.guide.v (runs_of l.guide) (way_out l.guide.model.now l.guide.v (runs_of l.guide)) (take l.k l.list);
-  range : IsWayOf l.guide.model.now l.k l.way;
+  ways : AreWaysTo l.led.guide.now.model.now l.led.guide.now.d l.led.guide.now.v (runs_of l.led.guide.now) l.led.list.now l.k l.self.ways.items;
+  way : l.way ≡ way_along l.led.guide.now.model.now l.led.guide.now.d l.led.guide.now.v (runs_of l.led.guide.now) (way_out l.led.guide.now.model.now l.led.guide.now.v (runs_of l.led.guide.now)) (take l.k l.led.list.now);
+  range : IsWayOf l.led.guide.now.model.now l.k l.way;
 }

@@ -1,4 +1,4 @@
-use Rattle.std.proofs.Common.{◌≡◌, ◌∙◌, ◌<◌, ℕ, List, length, ap, sym, subst, arith}
+use Rattle.std.proofs.Common.{◌∙◌, ◌<◌, ℕ, List, length, ap, sym, subst, arith}
 use Rattle.std.proofs.lemmas.Int.{ints}
 use Rattle.std.proofs.lemmas.List.{take_all}
 use Rattle.std.specs.Prelude.{◌-ℤ◌, ◌≤ℤ◌}
@@ -6,7 +6,7 @@ use Rattle.vr_model.specs.tables.Numbers.{total_by}
 use Rattle.vr_model.specs.routes.Routes.{route}
 use Rattle.vr_model.specs.declared.records.Model.{Model}
 use Rattle.vr_routes.specs.Pieces.{changed, joined, no_part, part_at}
-use Rattle.vr_earliest.specs.Earlies.{AreEarlies}
+use Rattle.vr_costfilter.specs.EarlyParts.{AreEarlyParts}
 use Rattle.vr_costfilter.specs.PlanCosts.{plans_cost, soft_and_span, spans_least}
 use Rattle.vr_costfilter.proofs.CostLemmas.{kept-cost}
 use Rattle.vr_costfilter.proofs.PlanLemmas.{idle-where, IsIdle}
@@ -16,11 +16,9 @@ use Rattle.vr_costfilter.proofs.plan_cost.PlanCost.least.Goals as goal
 
 pub least-requires-clause-earlies : goal.least-requires-clause-earlies
 least-requires-clause-earlies c =
-    subst (λ (m : Model). AreEarlies m c.args.routes.now.lists c.args.change.now c.args.earlies.now) (sym (ap (λ s. s.model) c.self.view_is)) c.requires.earlies
-
-pub least-requires-clause-as_many : goal.least-requires-clause-as_many
-least-requires-clause-as_many c =
-    subst (λ (m : Model). length c.args.routes.now.lists ≡ length m.vehicles) (sym (ap (λ s. s.model) c.self.view_is)) c.requires.stands.as_many
+    let h = c.requires.stands in
+    subst (λ (m : Model). AreEarlyParts m c.args.routes.now.lists c.args.change.now c.args.earlies.now) (sym (ap (λ s. s.model) c.self.view_is))
+    (record { well_formed = h.well_formed; as_many = h.as_many; parts_are = c.requires.made.makes.parts_are; earlies = c.requires.earlies })
 
 pub overflow_sub-least : goal.overflow_sub-least
 overflow_sub-least c =

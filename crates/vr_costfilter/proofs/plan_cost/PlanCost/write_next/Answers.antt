@@ -1,14 +1,22 @@
 use Rattle.std.proofs.Common.{◌≡◌, ◌∙◌, ◌+◌, ◌++◌, ◌∷◌, [], ℕ, List, length, length-append, ap, sym, subst}
-use Rattle.std.specs.Prelude.{ℤ, pos}
+use Rattle.std.specs.Prelude.{IsTrue, ℤ, pos}
 use Rattle.vr_model.specs.tables.Numbers.{number_at}
-use Rattle.vr_routes.specs.Pieces.{part_at}
+use Rattle.vr_routes.specs.Pieces.{changed, part_at}
 use Rattle.vr_costfilter.specs.PlanCosts.{cost_after, IsPlanCost}
 use Rattle.vr_costfilter.proofs.PlanLemmas.{plans-like, read-cost}
 use Rattle.vr_parts.proofs.RowLemmas.{rows-push}
+use Rattle.vr_model.specs.routes.Rules.{is_valid}
 use Rattle.vr_costfilter.proofs.plan_cost.PlanCost.write_next.Goals as goal
 
-pub cost_after-requires-clause-stands : goal.cost_after-requires-clause-stands
-cost_after-requires-clause-stands c = let i = c.loop-k.invariant in plans-like c.args.self.now c.loop-k.self c.args.routes.now c.requires.stands i.model i.costs i.cumuls
+pub cost_after-requires-clause-change : goal.cost_after-requires-clause-change
+cost_after-requires-clause-change c =
+    let i = c.loop-k.invariant in
+    let h = c.requires.change in
+    record {
+      stands = plans-like c.args.self.now c.loop-k.self c.args.routes.now h.stands i.model i.costs i.cumuls;
+      made = h.made;
+      valid = subst (λ m. IsTrue (is_valid m (changed c.args.routes.now.lists c.args.change.now))) (sym i.model) h.valid;
+    }
 
 pub loop-k-preserved : goal.loop-k-preserved
 loop-k-preserved c =

@@ -8,6 +8,9 @@ use Rattle.vr_costfilter.specs.PlanCosts.{plans_cost, IsPlanCost}
 use Rattle.vr_costfilter.proofs.PlanLemmas.{read-cost}
 use Rattle.vr_parts.proofs.RowLemmas.{rows-set}
 use Rattle.vr_parts.proofs.SumLemmas.{upto, upto-next}
+use Rattle.vr_costfilter.specs.Known.{AreCumulsAt, IsValidChange}
+use Rattle.vr_costfilter.proofs.KnownLemmas.{plans-cumuls}
+use Rattle.vr_costfilter.specs.PlanCosts.{KeptPlans}
 use Rattle.vr_costfilter.proofs.plan_cost.PlanCostCostPart.commit.Goals as goal
 
 pub loop-k-preserved : goal.loop-k-preserved
@@ -43,3 +46,6 @@ loop-k-preserved c =
       costs = subst (λ x. (u : ℕ) → u < length (upto lists parts (k + 1)) → (number_at (slice_set rows v x) u ≡ plans_cost model u (route (upto lists parts (k + 1)) u)) × IsPlanCost (number_at (slice_set rows v x) u)) (sym stored)
           (subst (λ l. (u : ℕ) → u < length l → (number_at (slice_set rows v cost) u ≡ plans_cost model u (route l u)) × IsPlanCost (number_at (slice_set rows v cost) u)) (sym next) set);
     }
+
+pub commit-requires : goal.commit-requires
+commit-requires c = subst (λ (s : KeptPlans). IsValidChange (AreCumulsAt s.model s.cumuls) s.model c.args.routes.now c.args.change.now) (sym c.self.view_is) (plans-cumuls c.args.self.now c.args.routes.now c.args.change.now (record { stands = c.requires.stands; made = c.requires.made; valid = c.requires.valid }))

@@ -105,3 +105,6 @@ returns-in_err-make_ready-clause-stands c = let e = c.make_ready.ensures in plan
 
 pub returns-clause-stands : goal.returns-clause-stands
 returns-clause-stands c = let e = c.make_ready.ensures in plans-like c.args.self.now c.make_ready.new.self c.args.routes.now c.requires.stands e.model e.costs e.cumuls
+
+pub make_ready-requires : goal.make_ready-requires
+make_ready-requires c = record { change = record { stands = c.requires.stands; made = c.requires.made; valid = c.requires.valid } }

@@ -1,36 +1,26 @@
 use Rattle.std.proofs.Common.{◌≡◌, ◌∙◌, ◌+◌, ◌++◌, ◌∷◌, [], ℕ, List, length, length-append, ap, sym, subst, arith}
 use Rattle.std.specs.Prelude.{IsTrue, ℤ, pos}
-use Rattle.std.specs.List.{list_all}
-use Rattle.vr_model.specs.tables.Tables.{is_visit}
-use Rattle.vr_model.specs.routes.Routes.{route, is_distinct}
+use Rattle.vr_model.specs.routes.Routes.{route}
 use Rattle.vr_model.specs.routes.Rules.{is_valid}
 use Rattle.vr_model.specs.declared.records.Model.{Model}
 use Rattle.vr_costfilter.specs.PlanCosts.{plans_cost, AreCosts, IsPlanCost}
 use Rattle.vr_costfilter.proofs.PlanLemmas.{read-cost}
 use Rattle.vr_parts.proofs.RowLemmas.{rows-push}
 use Rattle.vr_parts.proofs.PartLemmas.{small}
+use Rattle.vr_costfilter.proofs.KnownLemmas.{tour-of}
+use Rattle.vr_costfilter.proofs.PartLemmas.{list-of}
 use Rattle.vr_costfilter.proofs.schedule_costs.PlanRules.costs.Goals as goal
 
-pub cost_of_plans-requires-clause-vehicle : goal.cost_of_plans-requires-clause-vehicle
-cost_of_plans-requires-clause-vehicle c =
+pub invariant_of-tour : goal.invariant_of-tour
+invariant_of-tour c =
+    let m = c.self.inside.model.now in
+    let well = c.self.invariant.well_formed in
     let lists : List (List ℕ) = c.args.routes.now.lists in
-    let s = small c.self.inside.model.now c.self.invariant.well_formed lists (subst (λ m. IsTrue (is_valid m lists)) (sym c.self.view_is) c.requires) in
-    let many = s.many in
+    let valid = subst (λ m. IsTrue (is_valid m lists)) (sym c.self.view_is) c.requires in
+    let many = (small m well lists valid).many in
     let end = c.vehicles-v-end.ensures.value in
     let low = c.loop-v-test.true in
-    omega (arith, many, end, low)
-
-pub cost_of_plans-requires-clause-visits : goal.cost_of_plans-requires-clause-visits
-cost_of_plans-requires-clause-visits c =
-    let lists : List (List ℕ) = c.args.routes.now.lists in
-    let s = small c.self.inside.model.now c.self.invariant.well_formed lists (subst (λ m. IsTrue (is_valid m lists)) (sym c.self.view_is) c.requires) in
-    subst (λ l. IsTrue (list_all (is_visit c.self.inside.model.now) l)) (sym c.list.ensures.value) (s.visits c.loop-v.v)
-
-pub cost_of_plans-requires-clause-distinct : goal.cost_of_plans-requires-clause-distinct
-cost_of_plans-requires-clause-distinct c =
-    let lists : List (List ℕ) = c.args.routes.now.lists in
-    let s = small c.self.inside.model.now c.self.invariant.well_formed lists (subst (λ m. IsTrue (is_valid m lists)) (sym c.self.view_is) c.requires) in
-    subst (λ l. IsTrue (is_distinct l)) (sym c.list.ensures.value) (s.distinct c.loop-v.v)
+    record { sound = tour-of m c.loop-v.v (route lists c.loop-v.v) (omega (arith, many, end, low)) (list-of m well lists valid c.loop-v.v) c.list.result.now c.list.ensures.value }
 
 pub loop-v-preserved : goal.loop-v-preserved
 loop-v-preserved c =

@@ -1,0 +1,58 @@
+use Rattle.std.proofs.Common.{◌≡◌, ◌∙◌, List, refl, Some, None, take, ap, sym, subst}
+use Rattle.std.specs.Prelude.{option_map}
+use Rattle.vr_spans.specs.declared.runs.Run.{Run}
+use Rattle.vr_model.specs.tables.Tables.{vehicle_at}
+use Rattle.vr_plan.proofs.BoundLemmas.{read-cumul}
+use Rattle.vr_costfilter.specs.Floors.{floor_of}
+use Rattle.vr_costfilter.specs.GuideRuns.{runs_of}
+use Rattle.vr_costfilter.specs.Runs.{only, starting}
+use Rattle.vr_costfilter.specs.Stages.{along, setting_out, standing}
+use Rattle.vr_costfilter.specs.Steps.{reached, steps_of, HasPaced, HasSetOut}
+use Rattle.vr_costfilter.specs.declared.guides.Stage.{Stage}
+use Rattle.vr_costfilter.specs.declared.trails.Step.{Step}
+use Rattle.vr_costfilter.proofs.FloorLemmas.{some-map}
+use Rattle.vr_costfilter.proofs.StuckLemmas.{along-none}
+use Rattle.vr_costfilter.proofs.steps.KnownSteps.meet_from.Goals as goal
+
+pub pace-requires-clause-out : goal.pace-requires-clause-out
+pace-requires-clause-out c =
+    let g = c.args.self.now.guide.now in
+    record { stands = subst (λ (s : Stage). s ≡ standing g.model.now g.d g.v s.cumul) (sym c.standing-out.ensures.value) refl; range = c.standing-out.ensures.range }
+
+-- the stage from which it goes on
+pub returns-clause-met : goal.returns-clause-met
+returns-clause-met c =
+    let g = c.args.self.now.guide.now in
+    let start = (vehicle_at g.model.now g.v).start in
+    let floor = c.in_ok-floor.floor in
+    let allowed = c.only.ensures.value ∙ ap only (read-cumul c.args.start c.requires.start) in
+    let value : floor_of g.model.now g.d g.v start (only c.args.start) c.args.lead.first ≡ Some floor =
+    ap (λ (r : Run). floor_of g.model.now g.d g.v start r c.args.lead.first) (sym allowed) ∙ sym c.in_ok-floor.ensures.value in
+    let is = c.standing-out.ensures.value ∙ ap (standing g.model.now g.d g.v) (read-cumul floor c.in_ok-floor.ensures.range) in
+    let out : setting_out g.model.now g.d g.v (starting (runs_of g) (only c.args.start)) c.args.lead.first ≡ Some c.standing-out.result =
+    ap (option_map (standing g.model.now g.d g.v)) value ∙ ap (λ (s : Stage). Some s) (sym is) in
+    some-map (HasPaced g.model.now g.d g.v (runs_of g) (take c.args.lead.place (steps_of c.args.self.now.kept.now)) c.standing-out.result) (HasSetOut g.model.now g.d g.v (runs_of g) (only c.args.start) (steps_of c.args.self.now.kept.now) c.args.lead)
+    c.pace.result (λ met paced. record { first = c.standing-out.result; out = out; paced = paced }) c.pace.ensures.paced
+
+pub returns-clause-value : goal.returns-clause-value
+returns-clause-value c =
+    let g = c.args.self.now.guide.now in
+    let start = (vehicle_at g.model.now g.v).start in
+    let floor = c.in_ok-floor.floor in
+    let allowed = c.only.ensures.value ∙ ap only (read-cumul c.args.start c.requires.start) in
+    let value : floor_of g.model.now g.d g.v start (only c.args.start) c.args.lead.first ≡ Some floor =
+    ap (λ (r : Run). floor_of g.model.now g.d g.v start r c.args.lead.first) (sym allowed) ∙ sym c.in_ok-floor.ensures.value in
+    let is = c.standing-out.ensures.value ∙ ap (standing g.model.now g.d g.v) (read-cumul floor c.in_ok-floor.ensures.range) in
+    let out : setting_out g.model.now g.d g.v (starting (runs_of g) (only c.args.start)) c.args.lead.first ≡ Some c.standing-out.result =
+    ap (option_map (standing g.model.now g.d g.v)) value ∙ ap (λ (s : Stage). Some s) (sym is) in
+    c.pace.ensures.value ∙ ap (λ o. along g.model.now g.d g.v (runs_of g) o (take c.args.lead.place (steps_of c.args.self.now.kept.now))) (sym out)
+
+pub returns-in_err-floor-clause-value : goal.returns-in_err-floor-clause-value
+returns-in_err-floor-clause-value c =
+    let g = c.args.self.now.guide.now in
+    let start = (vehicle_at g.model.now g.v).start in
+    let front : List Step = take c.args.lead.place (steps_of c.args.self.now.kept.now) in
+    let allowed = c.only.ensures.value ∙ ap only (read-cumul c.args.start c.requires.start) in
+    let none : floor_of g.model.now g.d g.v start (only c.args.start) c.args.lead.first ≡ None =
+    ap (λ (r : Run). floor_of g.model.now g.d g.v start r c.args.lead.first) (sym allowed) ∙ sym c.in_err-floor.ensures.value in
+    ap (option_map reached) c.from_residual.ensures ∙ sym (ap (λ o. along g.model.now g.d g.v (runs_of g) (option_map (standing g.model.now g.d g.v) o) front) none ∙ along-none g.model.now g.d g.v (runs_of g) front)

@@ -1,0 +1,225 @@
+//! Visits along which guides lead.
+
+ghost use Rattle.std.proofs.Props.{props};
+ghost use Rattle.std.specs.Prelude.{◌≡◌, ◌<◌, ◌≤◌, ◌+◌, IfSome, length, slice_index_or};
+ghost use Rattle.vr_routes.specs.Pieces.{joined, nodes_of};
+ghost use Rattle.vr_costfilter.specs.Floors.{first_step, IsStep, WentBack};
+ghost use Rattle.vr_costfilter.specs.GuideRuns.{runs_of};
+ghost use Rattle.vr_costfilter.specs.Joined.{IsWithin-prop};
+ghost use Rattle.vr_costfilter.specs.Led.{in_order, AreFewVisits, ArePiecesOf, IsPieceOf};
+ghost use Rattle.vr_costfilter.specs.Ways.{way_along as along_by, IsWayOf};
+
+use crate::guides::Guide;
+use crate::tight::Way;
+use crate::trails::{Step, Trail};
+use vr_routes::{Piece, Routes};
+
+/// A list of the vehicle of a guide.
+#[derive(Drop)]
+pub struct LedList<'a, 'm> {
+    pub guide: &'a Guide<'m>,
+    pub list: &'a [u32],
+    /// It has at most 1000 visits.
+    pub ghost sound: { AreFewVisits guide.now.model.now list.now },
+}
+
+/// The nodes of a chain, or of the chain backwards, that the vehicle of a guide gets.
+#[derive(Drop)]
+pub struct LedChain<'a, 'm> {
+    pub guide: &'a Guide<'m>,
+    pub nodes: &'a [u32],
+    pub reversed: bool,
+    /// They are at most 1000 visits.
+    pub ghost sound: { AreFewVisits guide.now.model.now (in_order reversed nodes.now) },
+}
+
+/// A piece that the vehicle of a guide gets.
+#[derive(Drop)]
+pub struct LedPiece<'a, 'm> {
+    pub guide: &'a Guide<'m>,
+    pub routes: &'a Routes,
+    pub piece: Piece,
+    /// Its nodes are at most 1000 visits.
+    pub ghost sound: { IsPieceOf guide.now.model.now routes.now.lists piece } by { Prim.hlevel (props, IsWithin-prop) },
+}
+
+/// Pieces that the vehicle of a guide gets.
+#[derive(Drop)]
+pub struct LedPieces<'a, 'm> {
+    pub guide: &'a Guide<'m>,
+    pub routes: &'a Routes,
+    pub pieces: &'a [Piece],
+    /// Their nodes are at most 1000 visits.
+    pub ghost sound: { ArePiecesOf guide.now.model.now routes.now.lists pieces.now } by { Prim.hlevel
+        (props, IsWithin-prop) },
+}
+
+impl<'a, 'm> LedChain<'a, 'm> {
+    /// Back along them, which come before the next step: puts the steps to them on the trail, the last one first, and
+    /// gives the first one, or the next step where there is none. Nothing exactly where some stop allows no cumul from
+    /// its floor on.
+    #[inline]
+    pub fn back_along(&self, next: Step, trail: &mut Trail) -> Option<Step>
+        requires next { IsStep self.now.guide.now.model.now next }
+        requires room { length trail.old.steps.items + length (in_order self.now.reversed self.now.nodes.now) ≤ 1000 }
+        ensures value { result ≡ first_step self.now.guide.now.model.now self.now.guide.now.d self.now.guide.now.v
+            (runs_of self.now.guide.now) (in_order self.now.reversed self.now.nodes.now) next }
+        ensures back { IfSome result (WentBack self.now.guide.now.model.now self.now.guide.now.d self.now.guide.now.v
+            (runs_of self.now.guide.now) (in_order self.now.reversed self.now.nodes.now) next
+            trail.old.steps.items trail.new.steps.items) }
+        ensures range { IfSome result (IsStep self.now.guide.now.model.now) }
+    {
+        let mut first = next;
+        for k in 0..self.nodes.len() {
+            let node = node_in(self.nodes, self.reversed, self.nodes.len() - 1 - k);
+            match self.guide.step_back(node, first, trail) {
+                Some(step) => first = step,
+                None => return None,
+            }
+        }
+        Some(first)
+    }
+
+    /// A way goes on along them.
+    #[inline(always)]
+    pub fn way_along(&self, way: Way) -> Way
+        requires { IsWayOf self.now.guide.now.model.now 2000 way }
+        ensures { result ≡ along_by self.now.guide.now.model.now self.now.guide.now.d self.now.guide.now.v
+            (runs_of self.now.guide.now) way (in_order self.now.reversed self.now.nodes.now) }
+    {
+        let mut gone = way;
+        for k in 0..self.nodes.len() {
+            gone = self
+                .guide
+                .way_to_visit(gone, node_in(self.nodes, self.reversed, k));
+        }
+        gone
+    }
+}
+
+impl<'a, 'm> LedPiece<'a, 'm> {
+    /// Back along its nodes, which come before the next step: puts the steps to them on the trail, the last one first,
+    /// and gives the first one, or the next step where there is none. Nothing exactly where some stop allows no cumul
+    /// from its floor on.
+    #[inline]
+    pub fn back_along(&self, next: Step, trail: &mut Trail) -> Option<Step>
+        requires next { IsStep self.now.guide.now.model.now next }
+        requires room { length trail.old.steps.items + length (nodes_of self.now.routes.now.lists self.now.piece) ≤
+            1000 }
+        ensures value { result ≡ first_step self.now.guide.now.model.now self.now.guide.now.d self.now.guide.now.v
+            (runs_of self.now.guide.now) (nodes_of self.now.routes.now.lists self.now.piece) next }
+        ensures back { IfSome result (WentBack self.now.guide.now.model.now self.now.guide.now.d self.now.guide.now.v
+            (runs_of self.now.guide.now) (nodes_of self.now.routes.now.lists self.now.piece) next
+            trail.old.steps.items trail.new.steps.items) }
+        ensures range { IfSome result (IsStep self.now.guide.now.model.now) }
+    {
+        match self.piece {
+            Piece::Node { node } => self.guide.step_back(node, next, trail),
+            Piece::Chain {
+                vehicle,
+                from,
+                to,
+                reversed,
+            } => {
+                let list = self.routes.list(vehicle);
+                let chain = LedChain {
+                    guide: self.guide,
+                    nodes: &list[from as usize..to as usize],
+                    reversed,
+                };
+                chain.back_along(next, trail)
+            }
+        }
+    }
+
+    /// A way goes on along its nodes.
+    #[inline(always)]
+    pub fn way_along(&self, way: Way) -> Way
+        requires { IsWayOf self.now.guide.now.model.now 2000 way }
+        ensures { result ≡ along_by self.now.guide.now.model.now self.now.guide.now.d self.now.guide.now.v
+            (runs_of self.now.guide.now) way (nodes_of self.now.routes.now.lists self.now.piece) }
+    {
+        match self.piece {
+            Piece::Node { node } => self.guide.way_to_visit(way, node),
+            Piece::Chain {
+                vehicle,
+                from,
+                to,
+                reversed,
+            } => {
+                let list = self.routes.list(vehicle);
+                let chain = LedChain {
+                    guide: self.guide,
+                    nodes: &list[from as usize..to as usize],
+                    reversed,
+                };
+                chain.way_along(way)
+            }
+        }
+    }
+}
+
+impl<'a, 'm> LedPieces<'a, 'm> {
+    /// Back along them, which come before the next step: puts the steps to them on the trail, the last one first, and
+    /// gives the first one, or the next step where there is none. Nothing exactly where some stop allows no cumul from
+    /// its floor on.
+    #[inline]
+    pub fn back_along(&self, next: Step, trail: &mut Trail) -> Option<Step>
+        requires next { IsStep self.now.guide.now.model.now next }
+        requires room { length trail.old.steps.items + length (joined self.now.routes.now.lists self.now.pieces.now) ≤
+            1000 }
+        ensures value { result ≡ first_step self.now.guide.now.model.now self.now.guide.now.d self.now.guide.now.v
+            (runs_of self.now.guide.now) (joined self.now.routes.now.lists self.now.pieces.now) next }
+        ensures back { IfSome result (WentBack self.now.guide.now.model.now self.now.guide.now.d self.now.guide.now.v
+            (runs_of self.now.guide.now) (joined self.now.routes.now.lists self.now.pieces.now) next
+            trail.old.steps.items trail.new.steps.items) }
+        ensures range { IfSome result (IsStep self.now.guide.now.model.now) }
+    {
+        let mut first = next;
+        for k in 0..self.pieces.len() {
+            let one = LedPiece {
+                guide: self.guide,
+                routes: self.routes,
+                piece: self.pieces[self.pieces.len() - 1 - k],
+            };
+            match one.back_along(first, trail) {
+                Some(step) => first = step,
+                None => return None,
+            }
+        }
+        Some(first)
+    }
+
+    /// A way goes on along them.
+    #[inline(always)]
+    pub fn way_along(&self, way: Way) -> Way
+        requires { IsWayOf self.now.guide.now.model.now 1000 way }
+        ensures value { result ≡ along_by self.now.guide.now.model.now self.now.guide.now.d self.now.guide.now.v
+            (runs_of self.now.guide.now) way (joined self.now.routes.now.lists self.now.pieces.now) }
+        ensures range { IsWayOf self.now.guide.now.model.now 2000 result }
+    {
+        let mut gone = way;
+        for k in 0..self.pieces.len() {
+            let one = LedPiece {
+                guide: self.guide,
+                routes: self.routes,
+                piece: self.pieces[k],
+            };
+            gone = one.way_along(gone);
+        }
+        gone
+    }
+}
+
+// Node `k` of a chain, or of the chain backwards.
+#[inline(always)]
+fn node_in(chain: &[u32], reversed: bool, k: usize) -> u32
+    requires { k < length chain.now }
+    ensures { result ≡ slice_index_or (in_order reversed chain.now) k 0 }
+{
+    if reversed {
+        chain[chain.len() - 1 - k]
+    } else {
+        chain[k]
+    }
+}
