@@ -1,13 +1,15 @@
 -- Chains and stretches of the list of a vehicle, by its sums.
-use Rattle.std.proofs.Common.{◌≡◌, ℕ, suc, ◌+◌, ◌-◌, ◌*◌, ◌^◌, ◌<◌, ◌≤◌, true, false, List, [], ◌∷◌, ◌++◌, length, take, drop, reverse, get_or, sym, subst, to_z, of_z, arith}
+use Rattle.std.proofs.Common.{◌≡◌, ℕ, suc, ◌+◌, ◌-◌, ◌*◌, ◌^◌, ◌<◌, ◌≤◌, true, false, List, [], ◌∷◌, ◌++◌, length, take, drop, reverse, get_or, refl, sym, subst, to_z, of_z, arith}
 use Rattle.std.specs.Int.{w128}
-use Rattle.std.specs.Prelude.{ℤ, pos, All, slice_index_or, slice_range}
+use Rattle.std.specs.Prelude.{ℤ, pos, All, IsTrue, slice_index_or, slice_range}
 use Rattle.std.proofs.lemmas.Int.{ints}
 use Rattle.std.proofs.lemmas.List.{length-append}
+use Rattle.std.proofs.lemmas.List.Elements.{All-take, All-drop}
 use Rattle.vr_model.specs.tables.Numbers.{total_by}
 use Rattle.vr_model.specs.tables.Tables.{vehicle_at}
 use Rattle.vr_model.specs.tables.WellFormed.{IsIn, IsWellFormed}
 use Rattle.vr_model.specs.routes.Routes.{UsedArc, arcs_from, route}
+use Rattle.vr_model.specs.routes.Rules.{is_valid}
 use Rattle.vr_model.specs.search.GuidedSearches.{Penalties}
 use Rattle.vr_model.specs.declared.records.Model.{Model}
 use Rattle.vr_guided.specs.Counts.{AtMost}
@@ -17,6 +19,7 @@ use Rattle.vr_guided.specs.Walks.{stretch_weight}
 use Rattle.vr_balance.specs.Sums.{last_of, line_nodes}
 use Rattle.vr_guided.specs.declared.route_sums.RouteSums.{RouteSums}
 use Rattle.vr_guided.proofs.ChainLemmas.{AreJump, all-reversed, jump-first, jump-last, jump-range, kept-back, kept-on, total-read}
+use Rattle.vr_guided.proofs.ListLemmas.{list_below, list_short}
 use Rattle.vr_guided.proofs.StretchLemmas.{stretch-range, stretch-value}
 
 -- a walk goes through nodes of a model at one go, and what their arcs add is read as it is
@@ -73,27 +76,34 @@ module _ {model : Model} {p : Penalties} {lists : List (List ℕ)} {route_sums :
   back_long = long both.back here.back.many
 
   -- a stretch of the list
-  pub kept_stretch : IsWellFormed model → AtMost 1000000000 p → All (λ node. node < model.nodes) (route lists v) → length (route lists v) ≤ 1000
-      → (front behind : ℕ) → front ≤ behind → behind ≤ length (route lists v)
+  pub kept_stretch : IsWellFormed model → AtMost 1000000000 p → IsTrue (is_valid model lists) → (front behind : ℕ) → front ≤ behind → behind ≤ length (route lists v)
       → {total : ℤ} → IsBetween (weight_by model p false) v start (line_nodes model v (route lists v)) front (behind + 1) both.on total
       → IsStretch model p v (route lists v) front behind total
-  kept_stretch well few below short front behind order high {total} sum = record {
+  kept_stretch well few valid front behind order high {total} sum = record {
     range = range;
     read = (let low = range.at_least in let most = range.at_most in omega (arith, ints, low, most));
     value = stretch-value model well p few v owner (route lists v) below short front behind order high total (sum here.on);
   }
     where
+      below : All (λ node. node < model.nodes) (route lists v)
+      below = list_below model lists valid v refl
+
+      short : length (route lists v) ≤ 1000
+      short = list_short model lists valid well v refl
+
       range : IsIn (pos 0) (pos (1001 * 2 ^ 70)) total
       range = stretch-range model well p few v owner (route lists v) below short front behind order high total (sum here.on)
 
-  module _ (well : IsWellFormed model) (few : AtMost 1000000000 p) (w : ℕ) (known : w < length model.vehicles) (same : (vehicle_at model v).costs ≡ (vehicle_at model w).costs)
-      {list : List ℕ} (is : list ≡ route lists v) (short : length list ≤ 1000) (from to : ℕ) (order : from < to) (place : to ≤ length (route lists v))
-      (below : All (λ node. node < model.nodes) (slice_range (route lists v) from to)) where
+  module _ (well : IsWellFormed model) (few : AtMost 1000000000 p) (valid : IsTrue (is_valid model lists)) (w : ℕ) (known : w < length model.vehicles)
+      (same : (vehicle_at model v).costs ≡ (vehicle_at model w).costs) {list : List ℕ} (is : list ≡ route lists v) (from to : ℕ) (order : from < to) (place : to ≤ length (route lists v)) where
+    short : length list ≤ 1000
+    short = list_short model lists valid well v is
+
     high : to ≤ length list
     high = subst (λ l. to ≤ length l) (sym is) place
 
     chain : All (λ node. node < model.nodes) (slice_range list from to)
-    chain = subst (λ l. All (λ node. node < model.nodes) (slice_range l from to)) (sym is) below
+    chain = All-take (λ node. node < model.nodes) (to - from) (drop from list) (All-drop (λ node. node < model.nodes) from list (list_below model lists valid v is))
 
     -- a chain of the list that is taken on
     pub kept_on : {total : ℤ} → IsBetween (weight_by model p false) v start (list ++ end ∷ []) (from + 1) to both.on total

@@ -24,7 +24,7 @@ use Rattle.vr_model.proofs.routes.Lists.{are-lists, are_lists-count, route-visit
 use Rattle.vr_model.proofs.moves.KeptLists.{as_many, few, moves_keep_lists}
 use Rattle.vr_model.proofs.moves.Times.{held_times, joined_times, times, times_in, times_of_distinct, times_set}
 use Rattle.vr_routes.specs.Judging.{cost_change}
-use Rattle.vr_known.specs.Blocks.{AreSettled, Memory, first_of, is_known, is_later, is_remembered, kind_of, second_of}
+use Rattle.vr_known.specs.Blocks.{AreSettled, Memory, first_of, is_known, is_later, kind_of, second_of}
 use Rattle.vr_known.proofs.Applied.{same_or_not}
 use Rattle.vr_known.proofs.Local.{has_source, others_stay}
 use Rattle.vr_known.proofs.MemoryLemmas.{later_known, later_source}
@@ -257,10 +257,8 @@ pub still_refused : (model : Model) → IsWellFormed model → (lambda : Lambda)
     → ((k u w : ℕ) → IsTrue (is_known new k u w) → IsTrue (is_known old k u w)) → SparesKnown lists p q new → AreSettled model lists new
     → AreRefused model (makes_less model lambda p) lists old → AreRefused model (makes_less model lambda q) lists new
 still_refused model well lambda p q lists valid old new fewer spares settled refused m one covered =
-    let kept = and_left (is_remembered (kind_of m)) _ covered in
-    let known = and_right (is_remembered (kind_of m)) _ covered in
     let once = few model lists (are-lists model lists valid) in
     let at = has_source model lists once m one in
-    let spared = spares (kind_of m) (first_of m) at.0 (second_of m) (later_source model lists new settled m one kept known at.0 at.1) (later_known new (kind_of m) (first_of m) (second_of m) known) in
+    let spared = spares (kind_of m) (first_of m) at.0 (second_of m) (later_source model lists new settled m one covered at.0 at.1) (later_known new (kind_of m) (first_of m) (second_of m) covered) in
     ap (λ b. is_valid model (apply model lists m) && b) (less_same model well lists valid m one at.0 (others_stay model lists once m one at.0 at.1) p q spared lambda)
-    ∙ refused m one (and_both (is_remembered (kind_of m)) _ kept (fewer (kind_of m) (first_of m) (second_of m) known))
+    ∙ refused m one (fewer (kind_of m) (first_of m) (second_of m) covered)

@@ -1,7 +1,5 @@
 -- How often each arc was penalised, row by row.
-use Rattle.std.specs.Prelude.{◌≡◌, ℕ, ◌+◌, ◌*◌, ◌≤◌, Bool, false, ◌&&◌, cond, nat_lt, List, length, slice_index_or, pos}
-use Rattle.std.specs.Prelude.{◌≤ℤ◌}
-use Rattle.vr_model.specs.declared.search.Lambda.{Lambda}
+use Rattle.std.specs.Prelude.{◌≡◌, ℕ, ◌+◌, ◌*◌, ◌≤◌, Bool, false, ◌&&◌, cond, nat_lt, List, length, slice_index_or}
 use Rattle.vr_model.specs.search.GuidedSearches.{Penalties, no_penalties}
 
 -- the counts of n nodes
@@ -19,15 +17,11 @@ pub record AreCounts (n : ℕ) (counts : List ℕ) (any : Bool) : Type 0 where
   pub square : length counts ≡ n * n
   pub none : any ≡ false → counted (record { nodes = n; counts = counts }) ≡ no_penalties
 
--- no arc was penalised more often
+-- no arc was penalised more often than so
 pub record AtMost (most : ℕ) (p : Penalties) : Type 0 where
   pub each : (origin target : ℕ) → p origin target ≤ most
 
--- a count for each arc between so many nodes, few enough penalties, and both parts of lambda in 1..=1000
-pub record IsSoundGuide (nodes : ℕ) (lambda : Lambda) (c : Counts) : Type 0 where
+-- a count for each arc between so many nodes, and no arc was penalised more often than `most`
+pub record AreUpTo (nodes most : ℕ) (c : Counts) : Type 0 where
   pub covers : c.nodes ≡ nodes
-  pub few : AtMost 1000000000 (counted c)
-  pub p_from_one : pos 1 ≤ℤ lambda.p
-  pub p_to_1000 : lambda.p ≤ℤ pos 1000
-  pub q_from_one : pos 1 ≤ℤ lambda.q
-  pub q_to_1000 : lambda.q ≤ℤ pos 1000
+  pub few : AtMost most (counted c)

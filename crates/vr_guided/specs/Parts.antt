@@ -1,8 +1,11 @@
 -- The list of a vehicle, before a change and after it.
 use Rattle.std.specs.Prelude.{ℕ, ◌<◌, ◌≤◌, List, length, All}
+use Rattle.std.proofs.Props.{props}
+use mathlib.Core.HLevel.{Unit-prop}
 use Rattle.vr_model.specs.routes.Routes.{route}
 use Rattle.vr_model.specs.declared.records.Model.{Model}
 use Rattle.vr_routes.specs.declared.pieces.Piece.{Piece}
+use Rattle.vr_routes.specs.declared.pieces.Piece.TheVariants.{Chain, Node}
 use Rattle.vr_routes.specs.Pieces.{IsWithin, joined}
 
 -- a vehicle of a model, whose list and whose pieces are nodes of it, 1000 of each at most
@@ -14,3 +17,13 @@ pub record IsPart (model : Model) (lists : List (List ℕ)) (v : ℕ) (pieces : 
   pub within : All (IsWithin lists) pieces
   pub nodes : All (λ node. node < model.nodes) (joined lists pieces)
   pub short : length (joined lists pieces) ≤ 1000
+
+-- pieces lie within their lists, and are joined to nodes below a number
+pub record AreBelow (n : ℕ) (lists : List (List ℕ)) (pieces : List Piece) : Type 0 where
+  pub within : All (IsWithin lists) pieces
+  pub nodes : All (λ node. node < n) (joined lists pieces)
+
+-- a piece lies within its list in one way at most
+pub IsWithin-prop : (lists : List (List ℕ)) (piece : Piece) → IsProp (IsWithin lists piece)
+IsWithin-prop lists (Chain v from to reversed) = Prim.hlevel props
+IsWithin-prop lists (Node node) = Unit-prop

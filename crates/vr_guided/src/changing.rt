@@ -1,28 +1,30 @@
 //! What a change makes of the penalised arc costs, by the stretches that it changes.
 
+ghost use Rattle.std.proofs.Props.{props};
 ghost use Rattle.std.specs.Prelude.{◌≡◌, ◌<◌, ◌≤◌, ◌-ℤ◌, ◌≤ℤ◌, ◌^◌, negsuc, ◌∷◌, ◌++◌, [], IsTrue, ◌*◌};
-ghost use Rattle.std.specs.Prelude.{All, List, ℕ, drop, false, length, pos, slice_range, take, unsigned_abs};
-ghost use Rattle.vr_guided.specs.Counts.{AtMost, counted};
+ghost use Rattle.std.specs.Prelude.{All, ℕ, drop, length, pos, take, unsigned_abs};
+ghost use Rattle.vr_guided.specs.Counts.{counted};
 ghost use Rattle.vr_guided.specs.Nexts.{IsNext};
-ghost use Rattle.vr_guided.specs.Parts.{IsPart};
+ghost use Rattle.vr_guided.specs.Parts.{IsPart, IsWithin-prop};
 ghost use Rattle.vr_guided.specs.RouteSums.{AreAllRouteSums};
+ghost use Rattle.vr_guided.specs.Guides.{penalised_change};
 ghost use Rattle.vr_guided.specs.Savings.{named_weight};
-ghost use Rattle.vr_guided.specs.Walks.{route_weight, stretch_weight, unused_weight};
+ghost use Rattle.vr_guided.specs.Walks.{route_weight};
+ghost use Rattle.vr_model.specs.moves.MoveTests.{is_move};
 ghost use Rattle.vr_model.specs.search.GuidedSearches.{penalised};
 ghost use Rattle.vr_model.specs.routes.Routes.{are_lists, route};
 ghost use Rattle.vr_model.specs.routes.Rules.{is_valid};
-ghost use Rattle.vr_model.specs.tables.Tables.{vehicle_at};
-ghost use Rattle.vr_model.specs.tables.WellFormed.{IsWellFormed};
+ghost use Rattle.vr_model.specs.tables.Tables.{visits};
 ghost use Rattle.vr_routes.specs.Changes.{AreParts};
-ghost use Rattle.vr_routes.specs.Pieces.{IsWithin, changed, joined};
+ghost use Rattle.vr_routes.specs.Pieces.{changed, joined};
 ghost use Rattle.vr_balance.specs.Sums.{last_of};
 
-use crate::penalties::Penalties;
 use crate::route_sums::AllRouteSums;
+use crate::stretches::Stretches;
 use crate::two_vehicles::TwoVehicles;
-use crate::walks::Walk;
+use crate::weights::{VehicleWeights, Weights};
 use vr_balance::strip;
-use vr_model::{Closed, Model};
+use vr_model::Move;
 use vr_routes::{Change, Piece, Routes};
 
 // The node before a place of a list, `start` before the first.
@@ -51,307 +53,184 @@ fn node_from(list: &[u32], place: u32, end: u32) -> u32
     list[place as usize]
 }
 
-// Where a vehicle starts.
-#[inline]
-fn start_of(closed: Closed<'_>, v: u32) -> u32
-    requires vehicle { v < length closed.model.now.vehicles }
-    ensures value { result ≡ (vehicle_at closed.entry.model.now v).start }
-    ensures below { result < closed.entry.model.now.nodes }
-{
-    closed.model.vehicles.get(v as usize).start
+/// Valid routes with the sums of their lists.
+#[derive(Clone, Copy)]
+pub struct WeighedRoutes<'m, 'p, 's, 'r> {
+    pub on: Weights<'m, 'p>,
+    pub routes: &'r Routes,
+    pub route_sums: &'s AllRouteSums,
+    /// The lists are valid.
+    pub ghost valid: { IsTrue (is_valid on.closed.model.now routes.now.lists) },
+    /// The sums are those of these lists.
+    pub ghost sums: { AreAllRouteSums on.closed.model.now (counted on.penalties.now) routes.now.lists route_sums.now },
 }
 
-// Where a vehicle ends.
-#[inline]
-fn end_of(closed: Closed<'_>, v: u32) -> u32
-    requires vehicle { v < length closed.model.now.vehicles }
-    ensures value { result ≡ (vehicle_at closed.entry.model.now v).end }
-    ensures below { result < closed.entry.model.now.nodes }
-{
-    closed.model.vehicles.get(v as usize).end
+/// A change of such routes.
+#[derive(Clone, Copy)]
+pub struct WeighedChange<'m, 'p, 's, 'r, 'c> {
+    pub of: WeighedRoutes<'m, 'p, 's, 'r>,
+    pub change: &'c Change,
+    /// Its parts are parts of the lists.
+    pub ghost parts: { AreParts of.routes.now.lists change.now } by { Prim.hlevel (props, IsWithin-prop) },
+    /// After it the lists are those of the model.
+    pub ghost after: { IsTrue (are_lists of.on.closed.model.now (changed of.routes.now.lists change.now)) },
 }
 
-impl Penalties {
-    /// What a change makes of the penalised arc costs, by the stretches that it changes. Takes no memory.
-    pub fn change(
-        &self,
-        closed: Closed<'_>,
-        routes: &Routes,
-        route_sums: &AllRouteSums,
-        change: &Change,
-    ) -> i128
-        requires valid { IsTrue (is_valid closed.model.now routes.now.lists) }
-        requires parts { AreParts routes.now.lists change.now }
-        requires after { IsTrue (are_lists closed.model.now (changed routes.now.lists change.now)) }
-        requires covers { self.now.nodes ≡ closed.model.now.nodes }
-        requires few { AtMost 1000000000 (counted self.now) }
-        requires route_sums { AreAllRouteSums closed.model.now (counted self.now) routes.now.lists route_sums.now }
+impl<'m, 'p, 's, 'r, 'c> WeighedChange<'m, 'p, 's, 'r, 'c> {
+    /// What the change makes of the penalised arc costs, by the stretches that it changes. Takes no memory.
+    pub fn difference(self) -> i128
         ensures bound { unsigned_abs result ≤ 2 ^ 100 }
-        ensures value { result ≡ penalised closed.entry.model.now (counted self.now)
-            (changed routes.now.lists change.now)
-            -ℤ penalised closed.entry.model.now (counted self.now) routes.now.lists }
+        ensures value { result
+            ≡ penalised self.entry.of.on.closed.model.now (counted self.entry.of.on.penalties.now)
+            (changed self.entry.of.routes.now.lists self.entry.change.now)
+            -ℤ penalised self.entry.of.on.closed.model.now (counted self.entry.of.on.penalties.now)
+            self.entry.of.routes.now.lists }
     {
-        if !self.is_any() {
+        if !self.of.on.penalties.is_any() {
             return 0;
         }
+        let change = self.change;
         let parts = change.parts();
-        let first = self.change_of_part(
-            closed,
-            routes,
-            route_sums,
-            change.vehicle(0),
-            change.pieces(0),
-        );
+        let first = self.of.change_of_part(change.vehicle(0), change.pieces(0));
         if parts == 1 {
             return first;
         }
-        first
-            + self.change_of_part(
-                closed,
-                routes,
-                route_sums,
-                change.vehicle(1),
-                change.pieces(1),
-            )
+        first + self.of.change_of_part(change.vehicle(1), change.pieces(1))
     }
 
-    /// What a change takes of the penalised arc costs at most: what the arcs of the stretches that it changes add now.
-    /// Takes no memory.
-    pub fn saved_at_most(
-        &self,
-        closed: Closed<'_>,
-        routes: &Routes,
-        route_sums: &AllRouteSums,
-        change: &Change,
-    ) -> i128
-        requires valid { IsTrue (is_valid closed.model.now routes.now.lists) }
-        requires parts { AreParts routes.now.lists change.now }
-        requires after { IsTrue (are_lists closed.model.now (changed routes.now.lists change.now)) }
-        requires covers { self.now.nodes ≡ closed.model.now.nodes }
-        requires few { AtMost 1000000000 (counted self.now) }
-        requires route_sums { AreAllRouteSums closed.model.now (counted self.now) routes.now.lists route_sums.now }
+    /// What the change takes of the penalised arc costs at most: what the arcs of the stretches that it changes add
+    /// now. Takes no memory.
+    pub fn saved_at_most(&self) -> i128
         ensures low { pos 0 ≤ℤ result }
         ensures high { result ≤ℤ pos (2 ^ 90) }
-        ensures most { (penalised closed.entry.model.now (counted self.now) routes.now.lists
-            -ℤ penalised closed.entry.model.now (counted self.now) (changed routes.now.lists change.now)) ≤ℤ result }
+        ensures most { (penalised self.now.of.on.closed.model.now (counted self.now.of.on.penalties.now)
+            self.now.of.routes.now.lists
+            -ℤ penalised self.now.of.on.closed.model.now (counted self.now.of.on.penalties.now)
+            (changed self.now.of.routes.now.lists self.now.change.now)) ≤ℤ result }
     {
-        if !self.is_any() {
+        if !self.of.on.penalties.is_any() {
             return 0;
         }
+        let change = self.change;
         let parts = change.parts();
-        let first = self.saved_by_part(
-            closed,
-            routes,
-            route_sums,
-            change.vehicle(0),
-            change.pieces(0),
-        );
+        let first = self.of.saved_by_part(change.vehicle(0), change.pieces(0));
         if parts == 1 {
             return first;
         }
-        first
-            + self.saved_by_part(
-                closed,
-                routes,
-                route_sums,
-                change.vehicle(1),
-                change.pieces(1),
-            )
+        first + self.of.saved_by_part(change.vehicle(1), change.pieces(1))
+    }
+}
+
+impl<'m, 'p, 's, 'r> WeighedRoutes<'m, 'p, 's, 'r> {
+    /// What a move makes of the penalised arc costs, by the arcs that change. Takes no memory.
+    pub fn penalised_change(&self, mv: Move) -> i128
+        requires of_model { self.now.routes.now.visits ≡ visits self.now.on.closed.model.now }
+        requires mv { IsTrue (is_move self.now.on.closed.model.now self.now.routes.now.lists mv) }
+        ensures bound { unsigned_abs result ≤ 2 ^ 100 }
+        ensures value { result ≡ penalised_change self.now.on.closed.model.now (counted self.now.on.penalties.now)
+            self.now.routes.now.lists mv }
+    {
+        let mut change = Change::blank();
+        Change::write(self.on.closed.model, self.routes, mv, &mut change);
+        let weighed = WeighedChange {
+            of: *self,
+            change: &change,
+        };
+        weighed.difference()
     }
 
     /// What new lists of these vehicles take of the penalised arc costs at most: what the arcs of their lists add now.
     /// Takes no memory.
     #[inline]
-    pub fn saved_by_lists(
-        &self,
-        closed: Closed<'_>,
-        routes: &Routes,
-        route_sums: &AllRouteSums,
-        named: TwoVehicles,
-    ) -> i128
-        requires valid { IsTrue (is_valid closed.model.now routes.now.lists) }
-        requires v { named.v < length routes.now.lists }
-        requires w { named.w < length routes.now.lists }
-        requires few { AtMost 1000000000 (counted self.now) }
-        requires route_sums { AreAllRouteSums closed.model.now (counted self.now) routes.now.lists route_sums.now }
+    pub fn saved_by_lists(&self, named: TwoVehicles) -> i128
+        requires v { named.v < length self.now.routes.now.lists }
+        requires w { named.w < length self.now.routes.now.lists }
         ensures low { pos 0 ≤ℤ result }
         ensures high { result ≤ℤ pos (2 ^ 90) }
-        ensures most { named_weight closed.entry.model.now (counted self.now) routes.now.lists named ≤ℤ result }
+        ensures most { named_weight self.now.on.closed.model.now (counted self.now.on.penalties.now)
+            self.now.routes.now.lists named ≤ℤ result }
     {
-        if !self.is_any() {
+        if !self.on.penalties.is_any() {
             return 0;
         }
-        let first = self.saved_by_list(closed, routes, route_sums, named.v);
+        let first = self.saved_by_list(named.v);
         if named.w == named.v {
             return first;
         }
-        first + self.saved_by_list(closed, routes, route_sums, named.w)
+        first + self.saved_by_list(named.w)
     }
 
     // What the arcs of the list of a vehicle add at most.
     #[inline]
-    fn saved_by_list(
-        &self,
-        closed: Closed<'_>,
-        routes: &Routes,
-        route_sums: &AllRouteSums,
-        v: u32,
-    ) -> i128
-        requires valid { IsTrue (is_valid closed.model.now routes.now.lists) }
-        requires vehicle { v < length routes.now.lists }
-        requires few { AtMost 1000000000 (counted self.now) }
-        requires route_sums { AreAllRouteSums closed.model.now (counted self.now) routes.now.lists route_sums.now }
+    fn saved_by_list(&self, v: u32) -> i128
+        requires { v < length self.now.routes.now.lists }
         ensures low { pos 0 ≤ℤ result }
         ensures high { result ≤ℤ pos (1001 * 2 ^ 70) }
-        ensures most { route_weight closed.entry.model.now (counted self.now) v (route routes.now.lists v) ≤ℤ result }
+        ensures most { route_weight self.now.on.closed.model.now (counted self.now.on.penalties.now) v
+            (route self.now.routes.now.lists v) ≤ℤ result }
     {
-        self.old_stretch(closed.model, routes, route_sums, v, 0, routes.len(v))
+        let stretches = Stretches {
+            arcs: VehicleWeights {
+                on: self.on,
+                vehicle: v,
+            },
+            routes: self.routes,
+            route_sums: self.route_sums,
+        };
+        stretches.old_stretch(0, self.routes.len(v))
     }
 
     // What other pieces take of the penalised arc costs of a vehicle at most.
     #[inline]
-    fn saved_by_part(
-        &self,
-        closed: Closed<'_>,
-        routes: &Routes,
-        route_sums: &AllRouteSums,
-        v: u32,
-        pieces: &[Piece],
-    ) -> i128
-        requires part { IsPart closed.model.now routes.now.lists v pieces.now }
-        requires few { AtMost 1000000000 (counted self.now) }
-        requires route_sums { AreAllRouteSums closed.model.now (counted self.now) routes.now.lists route_sums.now }
+    fn saved_by_part(&self, v: u32, pieces: &[Piece]) -> i128
+        requires { IsPart self.now.on.closed.model.now self.now.routes.now.lists v pieces.now }
         ensures low { pos 0 ≤ℤ result }
         ensures high { result ≤ℤ pos (1001 * 2 ^ 70) }
-        ensures most { (route_weight closed.entry.model.now (counted self.now) v (route routes.now.lists v)
-            -ℤ route_weight closed.entry.model.now (counted self.now) v (joined routes.now.lists pieces.now)) ≤ℤ
-            result }
+        ensures most { (route_weight self.now.on.closed.model.now (counted self.now.on.penalties.now) v
+            (route self.now.routes.now.lists v)
+            -ℤ route_weight self.now.on.closed.model.now (counted self.now.on.penalties.now) v
+            (joined self.now.routes.now.lists pieces.now)) ≤ℤ result }
     {
-        let ends = strip(routes, v, pieces);
-        self.old_stretch(closed.model, routes, route_sums, v, ends.front, ends.behind)
+        let ends = strip(self.routes, v, pieces);
+        let stretches = Stretches {
+            arcs: VehicleWeights {
+                on: self.on,
+                vehicle: v,
+            },
+            routes: self.routes,
+            route_sums: self.route_sums,
+        };
+        stretches.old_stretch(ends.front, ends.behind)
     }
 
     // What other pieces make of the penalised arc costs of a vehicle.
-    fn change_of_part(
-        &self,
-        closed: Closed<'_>,
-        routes: &Routes,
-        route_sums: &AllRouteSums,
-        v: u32,
-        pieces: &[Piece],
-    ) -> i128
-        requires part { IsPart closed.model.now routes.now.lists v pieces.now }
-        requires covers { self.now.nodes ≡ closed.model.now.nodes }
-        requires few { AtMost 1000000000 (counted self.now) }
-        requires route_sums { AreAllRouteSums closed.model.now (counted self.now) routes.now.lists route_sums.now }
+    fn change_of_part(&self, v: u32, pieces: &[Piece]) -> i128
+        requires { IsPart self.now.on.closed.model.now self.now.routes.now.lists v pieces.now }
         ensures low { negsuc (2 ^ 90) ≤ℤ result }
         ensures high { result ≤ℤ pos (2 ^ 90) }
-        ensures value { result ≡ route_weight closed.entry.model.now (counted self.now) v
-            (joined routes.now.lists pieces.now)
-            -ℤ route_weight closed.entry.model.now (counted self.now) v (route routes.now.lists v) }
+        ensures value { result ≡ route_weight self.now.on.closed.model.now (counted self.now.on.penalties.now) v
+            (joined self.now.routes.now.lists pieces.now)
+            -ℤ route_weight self.now.on.closed.model.now (counted self.now.on.penalties.now) v
+            (route self.now.routes.now.lists v) }
     {
-        let list = routes.list(v);
-        let ends = strip(routes, v, pieces);
-        let start = node_before(list, ends.front, start_of(closed, v));
-        let next = node_from(list, ends.behind, end_of(closed, v));
-        let new = self.new_stretch(closed, routes, route_sums, v, start, ends.middle, next);
-        let old = self.old_stretch(closed.model, routes, route_sums, v, ends.front, ends.behind);
+        let arcs = VehicleWeights {
+            on: self.on,
+            vehicle: v,
+        };
+        let stretches = Stretches {
+            arcs,
+            routes: self.routes,
+            route_sums: self.route_sums,
+        };
+        let list = self.routes.list(v);
+        let ends = strip(self.routes, v, pieces);
+        let start = node_before(list, ends.front, arcs.start());
+        let next = node_from(list, ends.behind, arcs.end());
+        let new = stretches.new_stretch(start, ends.middle, next);
+        let old = stretches.old_stretch(ends.front, ends.behind);
         let len = ends.front + new.nodes + (list.len() as u32 - ends.behind);
-        let before = old - self.unused(closed, v, list.len() as u32);
-        let after = new.total - self.unused(closed, v, len);
+        let before = old - arcs.unused(list.len() as u32);
+        let after = new.total - arcs.unused(len);
         after - before
     }
-
-    // What the arcs of a vehicle add now, from the node before a place of its list up to the one at another place: its
-    // start stands before the first node, and its end behind the last.
-    #[inline]
-    fn old_stretch(
-        &self,
-        _model: &Model,
-        _routes: &Routes,
-        route_sums: &AllRouteSums,
-        v: u32,
-        front: u32,
-        behind: u32,
-    ) -> i128
-        requires well_formed { IsWellFormed _model.now }
-        requires vehicle { v < length _model.now.vehicles }
-        requires nodes { All (λ node. node < _model.now.nodes) (route _routes.now.lists v) }
-        requires short { length (route _routes.now.lists v) ≤ 1000 }
-        requires order { front ≤ behind }
-        requires place { behind ≤ length (route _routes.now.lists v) }
-        requires few { AtMost 1000000000 (counted self.now) }
-        requires route_sums { AreAllRouteSums _model.now (counted self.now) _routes.now.lists route_sums.now }
-        ensures low { pos 0 ≤ℤ result }
-        ensures high { result ≤ℤ pos (1001 * 2 ^ 70) }
-        ensures total { (next : ℕ) (others : List ℕ)
-            → drop behind (route _routes.now.lists v) ++ (vehicle_at _model.now v).end ∷ [] ≡ next ∷ others
-            → result ≡ stretch_weight _model.now (counted self.now) v
-            (last_of (vehicle_at _model.now v).start (take front (route _routes.now.lists v)))
-            (slice_range (route _routes.now.lists v) front behind) next }
-    {
-        let sums = route_sums.of(v);
-        sums.on.between(front as usize, behind as usize + 1)
-    }
-
-    // What the arcs of a vehicle add from a node through the nodes of pieces to a last one.
-    fn new_stretch(
-        &self,
-        closed: Closed<'_>,
-        routes: &Routes,
-        route_sums: &AllRouteSums,
-        v: u32,
-        start: u32,
-        pieces: &[Piece],
-        next: u32,
-    ) -> Stretch
-        requires vehicle { v < length closed.model.now.vehicles }
-        requires start { start < closed.model.now.nodes }
-        requires next { next < closed.model.now.nodes }
-        requires within { All (IsWithin routes.now.lists) pieces.now }
-        requires nodes { All (λ node. node < closed.model.now.nodes) (joined routes.now.lists pieces.now) }
-        requires short { length (joined routes.now.lists pieces.now) ≤ 1000 }
-        requires covers { self.now.nodes ≡ closed.model.now.nodes }
-        requires few { AtMost 1000000000 (counted self.now) }
-        requires route_sums { AreAllRouteSums closed.model.now (counted self.now) routes.now.lists route_sums.now }
-        ensures low { pos 0 ≤ℤ result.total }
-        ensures high { result.total ≤ℤ pos (1001 * 2 ^ 70) }
-        ensures nodes { result.nodes ≡ length (joined routes.now.lists pieces.now) }
-        ensures total { result.total
-            ≡ stretch_weight closed.entry.model.now (counted self.now) v start
-            (joined routes.now.lists pieces.now) next }
-    {
-        let mut walk = Walk::begin(start);
-        self.along_pieces(closed, routes, route_sums, v, &mut walk, pieces);
-        let nodes = walk.arcs;
-        self.step(closed, v, &mut walk, next);
-        Stretch {
-            nodes,
-            total: walk.total,
-        }
-    }
-
-    // What the arc from the start of a vehicle to its end adds where it has `len = 0` visits: it takes no arc then.
-    #[inline]
-    fn unused(&self, closed: Closed<'_>, v: u32, len: u32) -> i128
-        requires vehicle { v < length closed.model.now.vehicles }
-        requires covers { self.now.nodes ≡ closed.model.now.nodes }
-        requires few { AtMost 1000000000 (counted self.now) }
-        ensures low { pos 0 ≤ℤ result }
-        ensures high { result ≤ℤ pos (2 ^ 70) }
-        ensures value { result ≡ unused_weight closed.entry.model.now (counted self.now) v len }
-    {
-        if len > 0 {
-            return 0;
-        }
-        let vehicle = closed.model.vehicles.get(v as usize);
-        self.weight(closed, v, vehicle.start, vehicle.end)
-    }
-}
-
-// How many nodes a stretch has, and what its arcs add.
-#[derive(Clone, Copy)]
-struct Stretch {
-    nodes: u32,
-    total: i128,
 }

@@ -1,33 +1,35 @@
 //! Whether there is an arc that a penalty can make dearer.
 
-ghost use Rattle.std.specs.Prelude.{◌≡◌, ◌<◌, IsTrue, All, length};
+ghost use Rattle.std.specs.Prelude.{◌≡◌, IsTrue};
 ghost use Rattle.std.specs.List.{list_any};
 ghost use Rattle.vr_guided.specs.Guides.{is_costly};
 ghost use Rattle.vr_model.specs.search.GuidedSearches.{has_costly_arc};
 ghost use Rattle.vr_model.specs.routes.Routes.{arcs_of};
 ghost use Rattle.vr_model.specs.routes.Rules.{is_valid};
 
+use crate::vehicle_list::VehicleList;
 use vr_model::Closed;
 use vr_routes::Routes;
 
 // Whether some arc of a vehicle with a list has a cost above 0.
-fn is_route_costly(closed: Closed<'_>, vehicle: u32, list: &[u32]) -> bool
-    requires vehicle { vehicle < length closed.model.now.vehicles }
-    requires nodes { All (λ node. node < closed.model.now.nodes) list.now }
-    ensures { result ≡ list_any (is_costly closed.entry.model.now) (arcs_of closed.entry.model.now vehicle list.now) }
+fn is_route_costly(list: &VehicleList<'_, '_>) -> bool
+    ensures { result ≡ list_any (is_costly list.now.closed.model.now)
+        (arcs_of list.now.closed.model.now list.now.vehicle list.now.nodes.now) }
 {
-    if list.is_empty() {
+    let nodes = list.nodes;
+    if nodes.is_empty() {
         return false;
     }
-    let ends = closed.model.vehicles.get(vehicle as usize);
+    let model = list.closed.model;
+    let ends = model.vehicles.get(list.vehicle as usize);
     let mut at = ends.start;
-    for &node in list {
-        if closed.model.arc_cost(vehicle, at, node) > 0 {
+    for &node in nodes {
+        if model.arc_cost(list.vehicle, at, node) > 0 {
             return true;
         }
         at = node;
     }
-    closed.model.arc_cost(vehicle, at, ends.end) > 0
+    model.arc_cost(list.vehicle, at, ends.end) > 0
 }
 
 /// Whether some used arc has a cost above 0. Takes no memory.
@@ -36,7 +38,12 @@ pub fn has_costly_arc(closed: Closed<'_>, routes: &Routes) -> bool
     ensures { result ≡ has_costly_arc closed.entry.model.now routes.now.lists }
 {
     for vehicle in 0..closed.model.vehicles.len() as u32 {
-        if is_route_costly(closed, vehicle, routes.list(vehicle)) {
+        let list = VehicleList {
+            closed,
+            vehicle,
+            nodes: routes.list(vehicle),
+        };
+        if is_route_costly(&list) {
             return true;
         }
     }

@@ -2,8 +2,8 @@
 //!
 //! [`guide`] scans as a descent does, by the cost with penalties: at each local optimum a penalty rises on those used
 //! arcs whose cost is greatest beside what they were penalised already, which leads the search away. What a move makes
-//! of the penalised arc costs is told by the stretches that its change touches (`changing`), with sums along the lists
-//! of vehicles (`route_sums`).
+//! of the penalised arc costs is told by the stretches that its change touches (`changing`, `stretches`), with sums
+//! along the lists of vehicles (`route_sums`).
 //!
 //! A move that a scan refused is known to be refused until a commit changes the list of one of its vehicles (or
 //! activity, if it changes that), or a round penalises an arc of such a list: what it makes of the penalised arc costs
@@ -23,9 +23,12 @@ mod penalties;
 mod raising;
 mod route_sums;
 mod searching;
+mod stretches;
 mod sums;
 mod two_vehicles;
+mod vehicle_list;
 mod walks;
+mod weights;
 mod worths;
 
 pub use laws::{augmented_costs_are_bounded, guided_is_sound};

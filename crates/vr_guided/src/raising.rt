@@ -1,7 +1,7 @@
 //! A round: one more on each used arc of the greatest worth.
 
-ghost use Rattle.std.specs.Prelude.{◌≡◌, ◌<◌, ◌≤◌, ◌+◌, ◌*◌, ℕ, false, IsTrue, All, List, length};
-ghost use Rattle.vr_guided.specs.Counts.{AtMost, counted};
+ghost use Rattle.std.specs.Prelude.{◌≡◌, ◌<◌, ◌+◌, ◌*◌, ℕ, false, IsTrue, List};
+ghost use Rattle.vr_guided.specs.Counts.{AreUpTo, AtMost, counted};
 ghost use Rattle.vr_guided.specs.Sparing.{SparesKnown};
 ghost use Rattle.vr_guided.specs.Worths.{greatest, raised_in_turn, raised_once, worth_of, worthless};
 ghost use Rattle.vr_known.specs.Blocks.{AreSettled, Learns, is_known};
@@ -10,6 +10,7 @@ ghost use Rattle.vr_model.specs.routes.Routes.{arcs_of, route, used_arcs};
 ghost use Rattle.vr_model.specs.routes.Rules.{is_valid};
 
 use crate::penalties::Penalties;
+use crate::vehicle_list::VehicleList;
 use crate::worths::Worth;
 use vr_known::Known;
 use vr_model::Closed;
@@ -21,8 +22,7 @@ impl Penalties {
     pub fn raise(&mut self, closed: Closed<'_>, routes: &Routes, known: &mut Known)
         requires valid { IsTrue (is_valid closed.model.now routes.now.lists) }
         requires costly { IsTrue (has_costly_arc closed.model.now routes.now.lists) }
-        requires covers { self.old.nodes ≡ closed.model.now.nodes }
-        requires few { AtMost 1000000000 (counted self.old) }
+        requires counts { AreUpTo closed.model.now.nodes 1000000000 self.old }
         ensures nodes { self.new.nodes ≡ self.old.nodes }
         ensures raised { counted self.new ≡ raised closed.entry.model.now (counted self.old) routes.now.lists }
         ensures fewer { (k u w : ℕ) → IsTrue (is_known known.new k u w) → IsTrue (is_known known.old k u w) }
@@ -32,39 +32,33 @@ impl Penalties {
     {
         let greatest = self.greatest(closed, routes);
         for vehicle in 0..closed.model.vehicles.len() as u32 {
-            self.raise_vehicle(closed, vehicle, routes.list(vehicle), &greatest, known);
+            let list = VehicleList {
+                closed,
+                vehicle,
+                nodes: routes.list(vehicle),
+            };
+            self.raise_vehicle(&list, &greatest, known);
         }
         known.settle(closed.model, routes);
     }
 
     // One more on each arc of a vehicle that is worth as much as the greatest. Where there is one, no move is known any
     // more that names the vehicle.
-    fn raise_vehicle(
-        &mut self,
-        closed: Closed<'_>,
-        vehicle: u32,
-        list: &[u32],
-        greatest: &Worth,
-        known: &mut Known,
-    )
-        requires vehicle { vehicle < length closed.model.now.vehicles }
-        requires nodes { All (λ node. node < closed.model.now.nodes) list.now }
-        requires short { length list.now ≤ 1000 }
-        requires covers { self.old.nodes ≡ closed.model.now.nodes }
-        requires few { AtMost (1000000000 + 1001 * vehicle) (counted self.old) }
+    fn raise_vehicle(&mut self, list: &VehicleList<'_, '_>, greatest: &Worth, known: &mut Known)
+        requires counts { AreUpTo list.now.closed.model.now.nodes (1000000000 + 1001 * list.now.vehicle) self.old }
         ensures covers { self.new.nodes ≡ self.old.nodes }
-        ensures few { AtMost (1000000000 + 1001 * (vehicle + 1)) (counted self.new) }
+        ensures few { AtMost (1000000000 + 1001 * (list.now.vehicle + 1)) (counted self.new) }
         ensures raised { counted self.new
-            ≡ raised_in_turn closed.entry.model.now greatest.now (counted self.old)
-            (arcs_of closed.entry.model.now vehicle list.now) }
+            ≡ raised_in_turn list.now.closed.model.now greatest.now (counted self.old)
+            (arcs_of list.now.closed.model.now list.now.vehicle list.now.nodes.now) }
         ensures fewer { (k u w : ℕ) → IsTrue (is_known known.new k u w) → IsTrue (is_known known.old k u w) }
-        ensures spares { (lists : List (List ℕ)) (first : Raised) → list.now ≡ route lists vehicle
+        ensures spares { (lists : List (List ℕ)) (first : Raised) → list.now.nodes.now ≡ route lists list.now.vehicle
             → SparesKnown lists first (counted self.old) known.old
             → SparesKnown lists first (counted self.new) known.new }
         ensures learns { Learns known.new → Learns known.old }
     {
-        if self.raise_route(closed, vehicle, list, greatest) {
-            known.forget(vehicle);
+        if self.raise_route(list, greatest) {
+            known.forget(list.vehicle);
         }
     }
 
@@ -81,105 +75,96 @@ impl Penalties {
             penalty: 0,
         };
         for vehicle in 0..closed.model.vehicles.len() as u32 {
-            best = self.greatest_in(closed, vehicle, routes.list(vehicle), best);
+            let list = VehicleList {
+                closed,
+                vehicle,
+                nodes: routes.list(vehicle),
+            };
+            best = self.greatest_in(&list, best);
         }
         best
     }
 
     // The greatest worth so far and of the arcs of a vehicle.
-    fn greatest_in(&self, closed: Closed<'_>, vehicle: u32, list: &[u32], so_far: Worth) -> Worth
-        requires vehicle { vehicle < length closed.model.now.vehicles }
-        requires nodes { All (λ node. node < closed.model.now.nodes) list.now }
-        requires covers { self.now.nodes ≡ closed.model.now.nodes }
+    fn greatest_in(&self, list: &VehicleList<'_, '_>, so_far: Worth) -> Worth
+        requires { self.now.nodes ≡ list.now.closed.model.now.nodes }
         ensures { result
-            ≡ greatest (worth_of closed.entry.model.now (counted self.now)) so_far
-            (arcs_of closed.entry.model.now vehicle list.now) }
+            ≡ greatest (worth_of list.now.closed.model.now (counted self.now)) so_far
+            (arcs_of list.now.closed.model.now list.now.vehicle list.now.nodes.now) }
     {
-        if list.is_empty() {
+        let nodes = list.nodes;
+        if nodes.is_empty() {
             return so_far;
         }
-        let ends = closed.model.vehicles.get(vehicle as usize);
+        let ends = list.closed.model.vehicles.get(list.vehicle as usize);
         let mut best = so_far;
         let mut at = ends.start;
-        for &node in list {
-            best = best.or_greater(self.worth(closed, vehicle, at, node));
+        for &node in nodes {
+            best = best.or_greater(self.worth(list, at, node));
             at = node;
         }
-        best.or_greater(self.worth(closed, vehicle, at, ends.end))
+        best.or_greater(self.worth(list, at, ends.end))
     }
 
-    // What an arc is worth.
+    // What an arc of a vehicle is worth.
     #[inline]
-    fn worth(&self, closed: Closed<'_>, vehicle: u32, origin: u32, target: u32) -> Worth
-        requires vehicle { vehicle < length closed.model.now.vehicles }
-        requires origin { origin < closed.model.now.nodes }
-        requires target { target < closed.model.now.nodes }
-        requires covers { self.now.nodes ≡ closed.model.now.nodes }
+    fn worth(&self, list: &VehicleList<'_, '_>, origin: u32, target: u32) -> Worth
+        requires origin { origin < list.now.closed.model.now.nodes }
+        requires target { target < list.now.closed.model.now.nodes }
+        requires covers { self.now.nodes ≡ list.now.closed.model.now.nodes }
         ensures { result
-            ≡ worth_of closed.entry.model.now (counted self.now)
-            (record { vehicle = vehicle; origin = origin; target = target }) }
+            ≡ worth_of list.now.closed.model.now (counted self.now)
+            (record { vehicle = list.now.vehicle; origin = origin; target = target }) }
     {
         Worth {
-            cost: closed.model.arc_cost(vehicle, origin, target),
+            cost: list.closed.model.arc_cost(list.vehicle, origin, target),
             penalty: self.at(origin, target),
         }
     }
 
     // One more on each arc of a vehicle that is worth as much as the greatest; whether there was one.
-    fn raise_route(
-        &mut self,
-        closed: Closed<'_>,
-        vehicle: u32,
-        list: &[u32],
-        greatest: &Worth,
-    ) -> bool
-        requires vehicle { vehicle < length closed.model.now.vehicles }
-        requires nodes { All (λ node. node < closed.model.now.nodes) list.now }
-        requires short { length list.now ≤ 1000 }
-        requires covers { self.old.nodes ≡ closed.model.now.nodes }
-        requires few { AtMost (1000000000 + 1001 * vehicle) (counted self.old) }
+    fn raise_route(&mut self, list: &VehicleList<'_, '_>, greatest: &Worth) -> bool
+        requires counts { AreUpTo list.now.closed.model.now.nodes (1000000000 + 1001 * list.now.vehicle) self.old }
         ensures covers { self.new.nodes ≡ self.old.nodes }
-        ensures few { AtMost (1000000000 + 1001 * (vehicle + 1)) (counted self.new) }
+        ensures few { AtMost (1000000000 + 1001 * (list.now.vehicle + 1)) (counted self.new) }
         ensures raised { counted self.new
-            ≡ raised_in_turn closed.entry.model.now greatest.now (counted self.old)
-            (arcs_of closed.entry.model.now vehicle list.now) }
+            ≡ raised_in_turn list.now.closed.model.now greatest.now (counted self.old)
+            (arcs_of list.now.closed.model.now list.now.vehicle list.now.nodes.now) }
         ensures same { result ≡ false → counted self.new ≡ counted self.old }
     {
-        if list.is_empty() {
+        let nodes = list.nodes;
+        if nodes.is_empty() {
             return false;
         }
-        let ends = closed.model.vehicles.get(vehicle as usize);
+        let ends = list.closed.model.vehicles.get(list.vehicle as usize);
         let mut at = ends.start;
         let mut any = false;
-        for &node in list {
-            any |= self.raise_arc(closed, vehicle, at, node, greatest);
+        for &node in nodes {
+            any |= self.raise_arc(list, at, node, greatest);
             at = node;
         }
-        any | self.raise_arc(closed, vehicle, at, ends.end, greatest)
+        any | self.raise_arc(list, at, ends.end, greatest)
     }
 
-    // One more on an arc if it is worth as much as the greatest; whether it is.
+    // One more on an arc of a vehicle if it is worth as much as the greatest; whether it is.
     #[inline]
     fn raise_arc(
         &mut self,
-        closed: Closed<'_>,
-        vehicle: u32,
+        list: &VehicleList<'_, '_>,
         origin: u32,
         target: u32,
         greatest: &Worth,
     ) -> bool
-        requires vehicle { vehicle < length closed.model.now.vehicles }
-        requires origin { origin < closed.model.now.nodes }
-        requires target { target < closed.model.now.nodes }
-        requires covers { self.old.nodes ≡ closed.model.now.nodes }
-        requires room { AtMost 2000000000 (counted self.old) }
+        requires origin { origin < list.now.closed.model.now.nodes }
+        requires target { target < list.now.closed.model.now.nodes }
+        requires counts { AreUpTo list.now.closed.model.now.nodes 2000000000 self.old }
         ensures covers { self.new.nodes ≡ self.old.nodes }
         ensures raised { counted self.new
-            ≡ raised_once closed.entry.model.now greatest.now (counted self.old)
-            (record { vehicle = vehicle; origin = origin; target = target }) }
+            ≡ raised_once list.now.closed.model.now greatest.now (counted self.old)
+            (record { vehicle = list.now.vehicle; origin = origin; target = target }) }
         ensures same { result ≡ false → counted self.new ≡ counted self.old }
     {
-        let worth = self.worth(closed, vehicle, origin, target);
+        let worth = self.worth(list, origin, target);
         if greatest.is_no_more(&worth) {
             self.increase(origin, target);
             return true;

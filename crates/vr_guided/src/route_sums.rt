@@ -1,18 +1,17 @@
 //! The sums of all vehicles with their lists.
 
-ghost use Rattle.std.specs.Prelude.{◌≡◌, ◌<◌, ◌≤◌, ℕ, All, IfOk, IsTrue, List, length, slice_index_or};
-ghost use Rattle.vr_guided.specs.Counts.{AtMost, counted};
+ghost use Rattle.std.specs.Prelude.{◌≡◌, ◌<◌, ℕ, IfOk, IsTrue, List, length, slice_index_or};
+ghost use Rattle.vr_guided.specs.Counts.{counted};
 ghost use Rattle.vr_guided.specs.RouteSums.{AreAllRouteSums, AreRouteSums, IsWritten, no_route_sums};
 ghost use Rattle.vr_model.specs.moves.Moves.{apply};
-ghost use Rattle.vr_model.specs.routes.Routes.{route};
 ghost use Rattle.vr_model.specs.routes.Rules.{is_valid};
 
-use crate::penalties::Penalties;
 use crate::sums::Sums;
 use crate::two_vehicles::vehicles_of;
+use crate::weights::{ListWeights, VehicleWeights, Weights};
 use std::alloc::Global;
 use std::marker::Model;
-use vr_model::{Closed, Model as RoutingModel, Move, NoMemory};
+use vr_model::{Model as RoutingModel, Move, NoMemory};
 use vr_routes::Routes;
 
 /// What the arcs of one vehicle add up to before each stop, taken on and back.
@@ -31,17 +30,13 @@ impl RouteSums {
         }
     }
 
-    // Becomes that of vehicle `v` with a list.
-    fn write(&mut self, closed: Closed<'_>, penalties: &Penalties, v: u32, list: &[u32])
-        requires vehicle { v < length closed.model.now.vehicles }
-        requires nodes { All (λ node. node < closed.model.now.nodes) list.now }
-        requires short { length list.now ≤ 1000 }
-        requires covers { penalties.now.nodes ≡ closed.model.now.nodes }
-        requires few { AtMost 1000000000 (counted penalties.now) }
-        ensures { AreRouteSums closed.entry.model.now (counted penalties.now) v list.now self.new }
+    // Becomes that of a vehicle with a list.
+    fn write(&mut self, list: &ListWeights<'_, '_, '_>)
+        ensures { AreRouteSums list.now.arcs.on.closed.model.now (counted list.now.arcs.on.penalties.now)
+            list.now.arcs.vehicle list.now.nodes.now self.new }
     {
-        self.on.write(closed, penalties, v, list, false);
-        self.back.write(closed, penalties, v, list, true);
+        self.on.write(list, false);
+        self.back.write(list, true);
     }
 }
 
@@ -73,52 +68,65 @@ impl AllRouteSums {
     }
 
     /// Becomes those of the lists of routes. Takes no memory.
-    pub fn write(&mut self, closed: Closed<'_>, penalties: &Penalties, routes: &Routes)
-        requires valid { IsTrue (is_valid closed.model.now routes.now.lists) }
-        requires many { length self.old ≡ length closed.model.now.vehicles }
-        requires covers { penalties.now.nodes ≡ closed.model.now.nodes }
-        requires few { AtMost 1000000000 (counted penalties.now) }
-        ensures { AreAllRouteSums closed.entry.model.now (counted penalties.now) routes.now.lists self.new }
+    pub fn write(&mut self, weights: Weights<'_, '_>, routes: &Routes)
+        requires valid { IsTrue (is_valid weights.closed.model.now routes.now.lists) }
+        requires many { length self.old ≡ length weights.closed.model.now.vehicles }
+        ensures { AreAllRouteSums weights.entry.closed.model.now (counted weights.entry.penalties.now) routes.now.lists
+            self.new }
     {
-        for v in 0..closed.model.vehicles.len() as u32 {
-            self.vehicles[v as usize].write(closed, penalties, v, routes.list(v));
+        for v in 0..weights.closed.model.vehicles.len() as u32 {
+            let arcs = VehicleWeights {
+                on: weights,
+                vehicle: v,
+            };
+            let list = ListWeights {
+                arcs,
+                nodes: routes.list(v),
+            };
+            self.vehicles[v as usize].write(&list);
         }
     }
 
     // Writes the sums of one vehicle with its list, where there is such a vehicle.
-    fn write_of(&mut self, closed: Closed<'_>, penalties: &Penalties, routes: &Routes, v: u32)
-        requires valid { IsTrue (is_valid closed.model.now routes.now.lists) }
-        requires many { length self.old ≡ length closed.model.now.vehicles }
-        requires covers { penalties.now.nodes ≡ closed.model.now.nodes }
-        requires few { AtMost 1000000000 (counted penalties.now) }
-        ensures { IsWritten closed.entry.model.now (counted penalties.now) routes.now.lists v self.old self.new }
+    fn write_of(&mut self, weights: Weights<'_, '_>, routes: &Routes, v: u32)
+        requires valid { IsTrue (is_valid weights.closed.model.now routes.now.lists) }
+        requires many { length self.old ≡ length weights.closed.model.now.vehicles }
+        ensures { IsWritten weights.entry.closed.model.now (counted weights.entry.penalties.now) routes.now.lists v
+            self.old self.new }
     {
-        if (v as usize) < closed.model.vehicles.len() {
-            self.vehicles[v as usize].write(closed, penalties, v, routes.list(v));
+        if (v as usize) < weights.closed.model.vehicles.len() {
+            let arcs = VehicleWeights {
+                on: weights,
+                vehicle: v,
+            };
+            let list = ListWeights {
+                arcs,
+                nodes: routes.list(v),
+            };
+            self.vehicles[v as usize].write(&list);
         }
     }
 
     /// Where these are the sums of the lists before a move, they become those of `routes`, which has made it. Takes no
     /// memory.
-    pub fn follow(&mut self, closed: Closed<'_>, penalties: &Penalties, routes: &Routes, mv: Move)
-        requires valid { IsTrue (is_valid closed.model.now routes.now.lists) }
-        requires many { length self.old ≡ length closed.model.now.vehicles }
-        requires covers { penalties.now.nodes ≡ closed.model.now.nodes }
-        requires few { AtMost 1000000000 (counted penalties.now) }
+    pub fn follow(&mut self, weights: Weights<'_, '_>, routes: &Routes, mv: Move)
+        requires valid { IsTrue (is_valid weights.closed.model.now routes.now.lists) }
+        requires many { length self.old ≡ length weights.closed.model.now.vehicles }
         ensures { (lists : List (List ℕ))
-            → AreAllRouteSums closed.entry.model.now (counted penalties.now) lists self.old
-            → routes.now.lists ≡ apply closed.entry.model.now lists mv
-            → AreAllRouteSums closed.entry.model.now (counted penalties.now) routes.now.lists self.new }
+            → AreAllRouteSums weights.entry.closed.model.now (counted weights.entry.penalties.now) lists self.old
+            → routes.now.lists ≡ apply weights.entry.closed.model.now lists mv
+            → AreAllRouteSums weights.entry.closed.model.now (counted weights.entry.penalties.now) routes.now.lists
+            self.new }
     {
         let Some(named) = vehicles_of(mv) else {
-            self.write(closed, penalties, routes);
+            self.write(weights, routes);
             return;
         };
-        self.write_of(closed, penalties, routes, named.v);
+        self.write_of(weights, routes, named.v);
         if named.w == named.v {
             return;
         }
-        self.write_of(closed, penalties, routes, named.w);
+        self.write_of(weights, routes, named.w);
     }
 
     /// The sums of a vehicle.

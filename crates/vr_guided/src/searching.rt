@@ -13,6 +13,7 @@ use crate::costly::has_costly_arc;
 use crate::guiding::Guiding;
 use crate::penalties::Penalties;
 use crate::route_sums::AllRouteSums;
+use crate::weights::Weights;
 use std::alloc::Global;
 use std::sync::ledger::Ledger;
 use vr_descent::{Incumbent, Progress, ScanEnd};
@@ -44,8 +45,9 @@ pub struct Guided {
 /// more moves than the limit has tries, and the watchers have been told the events up to there: of the event in hand,
 /// the first few. Memory is taken once at the beginning, and then by the judge and the watchers alone.
 ///
-/// A move that was refused is not asked about again as long as the lists of its vehicles stay and none of their arcs is
-/// penalised once more, where no dimension has a cost of its global span.
+/// Where no dimension has a cost of its global span, moves of a row that a scan refused whole are not asked about again
+/// as long as the lists of their vehicles stay, no arc of these is penalised once more, and of kinds that change it the
+/// same visits are active.
 pub fn guide<J: Judge, L: Ledger>(
     alloc: Global,
     model: &Model,
@@ -98,9 +100,8 @@ pub fn guide<J: Judge, L: Ledger>(
     };
     note_all(watch, at.event(Kind::First))?;
     let mut state = State::open(alloc, closed, routes, at)?;
-    let end = improve(
-        closed, judge, routes, limit, lambda, &mut state, watch, steps,
-    )?;
+    let bounds = Bounds { limit, lambda };
+    let end = improve(closed, judge, routes, bounds, &mut state, watch, steps)?;
     Ok(Guided {
         report: state.at.report(end),
         best: state.best.routes,
@@ -142,63 +143,67 @@ impl State {
     }
 }
 
+// How far guided search may go, and what penalised costs weigh beside others.
+#[derive(Clone, Copy)]
+struct Bounds {
+    limit: Limit,
+    lambda: Lambda,
+}
+
 // Searches on from where it stands, and says why it ended.
 fn improve<J: Judge, L: Ledger>(
     closed: Closed<'_>,
     judge: &mut J,
     routes: &mut Routes,
-    limit: Limit,
-    lambda: Lambda,
+    bounds: Bounds,
     state: &mut State,
     watch: &mut Vec<Box<dyn Watch>>,
     steps: &mut Steps<L>,
 ) -> Result<End, NoMemory>
     requires judge_model { J.model judge.old ≡ closed.model.now }
-    requires limits { AreLimits limit lambda }
-    requires stands { Stands closed.model.now limit (J.committed judge.old) routes.old state.old }
+    requires limits { AreLimits bounds.limit bounds.lambda }
+    requires stands { Stands closed.model.now bounds.limit (J.committed judge.old) routes.old state.old }
     ensures outcome { IfOk result (λ stop. outcome_of routes.new.lists state.new stop
-        (from_state closed.entry.model.now limit lambda routes.old.lists state.old).events
-        ≡ from_state closed.entry.model.now limit lambda routes.old.lists state.old) }
+        (from_state closed.entry.model.now bounds.limit bounds.lambda routes.old.lists state.old).events
+        ≡ from_state closed.entry.model.now bounds.limit bounds.lambda routes.old.lists state.old) }
     ensures told { OnOk result (Told (λ w later. after w later) watch.old.items watch.new.items
-        (from_state closed.entry.model.now limit lambda routes.old.lists state.old).events) }
+        (from_state closed.entry.model.now bounds.limit bounds.lambda routes.old.lists state.old).events) }
     ensures asked { OnOk result (J.asked judge.new + state.old.at.used ≤ J.asked judge.old + state.new.at.used) }
     ensures looked { OnOk result (J.looked judge.new + 3 * state.old.at.used
         ≤ J.looked judge.old + 3 * state.new.at.used) }
-    ensures stands { OnOk result (Stands closed.entry.model.now limit (J.committed judge.new) routes.new state.new) }
+    ensures stands { OnOk result (Stands closed.entry.model.now bounds.limit
+        (J.committed judge.new) routes.new state.new) }
     ensures no_dearer { OnOk result (state.new.best.cost ≤ℤ state.old.best.cost) }
 
     ensures judge_model { J.model judge.new ≡ closed.entry.model.now }
     ensures holds { HoldSame closed.entry.model.now (J.committed judge.new) routes.new }
     ensures told_in_part { OnErr result (ToldInPart (λ w later. after w later) watch.old.items watch.new.items
-        (from_state closed.entry.model.now limit lambda routes.old.lists state.old).events) }
-    ensures asked_at_most { OnErr result (J.asked judge.new + state.old.at.used ≤ J.asked judge.old + limit.tries) }
+        (from_state closed.entry.model.now bounds.limit bounds.lambda routes.old.lists state.old).events) }
+    ensures asked_at_most { OnErr result (J.asked judge.new + state.old.at.used
+        ≤ J.asked judge.old + bounds.limit.tries) }
     ensures looked_at_most { OnErr result (J.looked judge.new + 3 * state.old.at.used
-        ≤ J.looked judge.old + 3 * limit.tries) }
+        ≤ J.looked judge.old + 3 * bounds.limit.tries) }
 {
     let mut known = Known::of(closed.model);
-    state.route_sums.write(closed, &state.penalties, routes);
-    'scans: while state.at.found != limit.solutions {
+    let penalties = &state.penalties;
+    let before = Weights { closed, penalties };
+    state.route_sums.write(before, routes);
+    'scans: while state.at.found != bounds.limit.solutions {
+        let penalties = &state.penalties;
+        let weights = Weights { closed, penalties };
         let guiding = Guiding {
-            model: closed.model,
-            lambda,
-            penalties: &state.penalties,
+            weights,
+            lambda: bounds.lambda,
             route_sums: &state.route_sums,
         };
+        let model = closed.model;
+        let limit = bounds.limit;
         let ended = state.at.advance(
-            closed.model,
-            judge,
-            routes,
-            &guiding,
-            limit,
-            watch,
-            steps,
-            &mut known,
+            model, judge, routes, &guiding, limit, watch, steps, &mut known,
         )?;
         match ended {
             ScanEnd::Accepted { mv, .. } => {
-                state
-                    .route_sums
-                    .follow(closed, &state.penalties, routes, mv);
+                state.route_sums.follow(weights, routes, mv);
                 state.best.offer(routes, &state.at);
             }
             ScanEnd::Complete { length } => {
@@ -206,7 +211,9 @@ fn improve<J: Judge, L: Ledger>(
                     return Ok(End::Optimum);
                 }
                 state.penalties.raise(closed, routes, &mut known);
-                state.route_sums.write(closed, &state.penalties, routes);
+                let penalties = &state.penalties;
+                let raised = Weights { closed, penalties };
+                state.route_sums.write(raised, routes);
                 note_all(watch, state.at.event(Kind::Round))?;
             }
             ScanEnd::Cut => return Ok(End::Tries),

@@ -1,8 +1,8 @@
 //! Sums of what arcs add along the list of a vehicle.
 
-ghost use Rattle.std.specs.Prelude.{◌≡◌, ◌<◌, ◌≤◌, ◌++◌, ◌∷◌, [], ◌-◌, ◌^◌, ◌+ℤ◌, All, List, ℕ, ℤ, length, pos};
+ghost use Rattle.std.specs.Prelude.{◌≡◌, ◌<◌, ◌≤◌, ◌++◌, ◌∷◌, [], ◌-◌, ◌^◌, ◌+ℤ◌, List, ℕ, ℤ, length, pos};
 ghost use Rattle.std.specs.Prelude.{slice_range, take};
-ghost use Rattle.vr_guided.specs.Counts.{AtMost, counted};
+ghost use Rattle.vr_guided.specs.Counts.{counted};
 ghost use Rattle.vr_guided.specs.Sums.{AreArcSums, weight_by};
 ghost use Rattle.vr_model.specs.routes.Routes.{UsedArc, arcs_from};
 ghost use Rattle.vr_model.specs.tables.Numbers.{number_at, total_by};
@@ -10,10 +10,9 @@ ghost use Rattle.vr_model.specs.tables.Tables.{vehicle_at};
 ghost use Rattle.vr_model.specs.tables.WellFormed.{IsIn};
 ghost use Rattle.vr_balance.specs.Sums.{last_of, line_nodes};
 
-use crate::penalties::Penalties;
+use crate::weights::ListWeights;
 use arrayvec::ArrayVec;
 use std::marker::Model;
-use vr_model::Closed;
 
 /// At each stop of a vehicle with its list, what the arcs before it add up to. Penalties times costs take more than the
 /// 64 bits that `vr_balance` has for a sum.
@@ -44,31 +43,20 @@ impl Sums {
     }
 
     /// Writes the sums of a vehicle with a list, of arcs that are taken on, or back.
-    pub fn write(
-        &mut self,
-        closed: Closed<'_>,
-        penalties: &Penalties,
-        v: u32,
-        list: &[u32],
-        back: bool,
-    )
-        requires vehicle { v < length closed.model.now.vehicles }
-        requires nodes { All (λ node. node < closed.model.now.nodes) list.now }
-        requires short { length list.now ≤ 1000 }
-        requires covers { penalties.now.nodes ≡ closed.model.now.nodes }
-        requires few { AtMost 1000000000 (counted penalties.now) }
-        ensures { AreArcSums (weight_by closed.entry.model.now (counted penalties.now) back) v
-            (vehicle_at closed.entry.model.now v).start
-            (line_nodes closed.entry.model.now v list.now) self.new }
+    pub fn write(&mut self, list: &ListWeights<'_, '_, '_>, back: bool)
+        ensures { AreArcSums (weight_by list.now.arcs.on.closed.model.now (counted list.now.arcs.on.penalties.now) back)
+            list.now.arcs.vehicle (vehicle_at list.now.arcs.on.closed.model.now list.now.arcs.vehicle).start
+            (line_nodes list.now.arcs.on.closed.model.now list.now.arcs.vehicle list.now.nodes.now) self.new }
     {
-        let ends = closed.model.vehicles.get(v as usize);
+        let arcs = list.arcs;
+        let nodes = list.nodes;
         self.begin();
-        let mut at = ends.start;
-        for &node in list {
-            self.add(penalties.weight_by(closed, v, at, node, back));
+        let mut at = arcs.start();
+        for &node in nodes {
+            self.add(arcs.weight_by(at, node, back));
             at = node;
         }
-        self.add(penalties.weight_by(closed, v, at, ends.end, back));
+        self.add(arcs.weight_by(at, arcs.end(), back));
     }
 
     // Begins: before the first stop nothing was added.

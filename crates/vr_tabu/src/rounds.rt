@@ -1,12 +1,14 @@
 //! One round: the best candidate among all moves.
 
+ghost use Rattle.std.proofs.Props.{props};
 ghost use Rattle.std.specs.Prelude.{◌≡◌, ◌+◌, ◌*◌, ◌≤◌, ◌&&◌, int_le, IsTrue, IfOk, IfSome, OnErr};
 ghost use Rattle.vr_model.specs.moves.MoveTests.{is_move};
 ghost use Rattle.vr_model.specs.moves.Moves.{apply, moves};
+ghost use Rattle.vr_model.specs.tables.WellFormedOnce.{IsWellFormed-prop};
 ghost use Rattle.vr_known.specs.Passing.{Takes, tried, within};
 ghost use Rattle.vr_routes.specs.Changes.{IsChange};
-ghost use Rattle.vr_tabu.specs.Rounds.{IsCeiling, IsKnown, IsNoBetter, IsPassed, aspiration, better_with, bound_of};
-ghost use Rattle.vr_tabu.specs.Rounds.{end_with, is_no_less, move_of, round_end, tries_of};
+ghost use Rattle.vr_tabu.specs.Rounds.{IsCeiling, IsJudgeOf, IsKnown, IsNoBetter, IsPassed, aspiration, better_with};
+ghost use Rattle.vr_tabu.specs.Rounds.{bound_of, end_with, is_no_less, move_of, round_end, tries_of};
 ghost use Rattle.vr_tabu.specs.Standing.{IsKnownState};
 ghost use Rattle.vr_tabu.specs.Tabus.{tabus_of};
 ghost use Rattle.vr_tabu.specs.TabuSearches.{is_tabu, round_of};
@@ -14,6 +16,7 @@ ghost use Rattle.vr_tabu.specs.TabuSearches.{is_tabu, round_of};
 use crate::new_list::NewList;
 use crate::passing::NoBetter;
 use crate::searching::State;
+use crate::tabu_list::WholeChange;
 use std::marker::PhantomData;
 use std::sync::ledger::Ledger;
 use vr_descent::{MoveList, moves};
@@ -44,8 +47,12 @@ pub struct Round<'a> {
     model: &'a Model,
     routes: &'a Routes,
     state: &'a State,
-    // no move that makes this difference or more is a candidate; none where that is not known
     ceiling: Option<i64>,
+    // the lists are valid, and their cost and that of the best ones are known
+    ghost known: { IsKnownState model.now routes.now state.now } by { Prim.hlevel (props, IsWellFormed-prop) },
+    // no move that makes the ceiling or more is a candidate; it is none where that is not known
+    ghost bounded: { IsCeiling model.now (tabus_of state.now.tabus) state.now.best.routes.lists routes.now.lists
+        ceiling },
 }
 
 impl<'a> Round<'a> {
@@ -56,8 +63,6 @@ impl<'a> Round<'a> {
         ensures model { result.model.now ≡ model.now }
         ensures routes { result.routes.now ≡ routes.now }
         ensures state { result.state.now ≡ state.now }
-        ensures ceiling { IsCeiling model.now (tabus_of state.now.tabus) state.now.best.routes.lists
-            routes.now.lists result.ceiling }
     {
         let ceiling = ceiling_of(model, routes, state);
         Round {
@@ -82,11 +87,8 @@ impl<'a> Round<'a> {
         rest: u64,
         steps: &mut Steps<L>,
     ) -> Result<RoundEnd, NoMemory>
-        requires known { IsKnownState self.now.model.now self.now.routes.now self.now.state.now }
-        requires ceiling { IsCeiling self.now.model.now (tabus_of self.now.state.now.tabus)
-            self.now.state.now.best.routes.lists self.now.routes.now.lists self.now.ceiling }
-        requires judge_model { J.model judge.old ≡ self.now.model.now }
-        requires committed { J.committed judge.old ≡ self.now.routes.now.lists }
+        requires judge { IsJudgeOf self.now.model.now self.now.routes.now.lists (J.model judge.old)
+            (J.committed judge.old) }
         requires rest { rest ≤ 1000000000 }
         ensures ends { IfOk result (λ ended. ended ≡ round_end self.now.model.now self.now.routes.now.lists
             (round_of self.now.model.now (tabus_of self.now.state.now.tabus) self.now.state.now.best.routes.lists
@@ -111,11 +113,8 @@ impl<'a> Round<'a> {
         list: &mut MoveList<'_>,
         steps: &mut Steps<L>,
     ) -> Result<RoundEnd, NoMemory>
-        requires known { IsKnownState self.now.model.now self.now.routes.now self.now.state.now }
-        requires ceiling { IsCeiling self.now.model.now (tabus_of self.now.state.now.tabus)
-            self.now.state.now.best.routes.lists self.now.routes.now.lists self.now.ceiling }
-        requires judge_model { J.model judge.old ≡ self.now.model.now }
-        requires committed { J.committed judge.old ≡ self.now.routes.now.lists }
+        requires judge { IsJudgeOf self.now.model.now self.now.routes.now.lists (J.model judge.old)
+            (J.committed judge.old) }
         requires list { list.old ≡ moves self.now.model.now self.now.routes.now.lists }
         requires rest { rest ≤ 1000000000 }
         ensures ends { IfOk result (λ ended. ended ≡ round_end self.now.model.now self.now.routes.now.lists
@@ -156,9 +155,8 @@ impl<'a> Round<'a> {
         rest: u64,
         length: &mut u64,
     ) -> Option<Move>
-        requires known { IsKnownState self.now.model.now self.now.routes.now self.now.state.now }
-        requires judge_model { J.model judge.old ≡ self.now.model.now }
-        requires committed { J.committed judge.old ≡ self.now.routes.now.lists }
+        requires judge { IsJudgeOf self.now.model.now self.now.routes.now.lists (J.model judge.old)
+            (J.committed judge.old) }
         ensures takes { Takes (IsPassed self.now.model.now self.now.routes.now.lists
             (bound_of best self.now.ceiling)) list.old length.old result list.new length.new }
         ensures model { J.model judge.new ≡ J.model judge.old }
@@ -201,11 +199,8 @@ impl<'a> Round<'a> {
         after: &mut NewList,
         steps: &mut Steps<L>,
     ) -> Result<Option<Candidate>, NoMemory>
-        requires known { IsKnownState self.now.model.now self.now.routes.now self.now.state.now }
-        requires ceiling { IsCeiling self.now.model.now (tabus_of self.now.state.now.tabus)
-            self.now.state.now.best.routes.lists self.now.routes.now.lists self.now.ceiling }
-        requires judge_model { J.model judge.old ≡ self.now.model.now }
-        requires committed { J.committed judge.old ≡ self.now.routes.now.lists }
+        requires judge { IsJudgeOf self.now.model.now self.now.routes.now.lists (J.model judge.old)
+            (J.committed judge.old) }
         requires mv { IsTrue (is_move self.now.model.now self.now.routes.now.lists mv) }
         requires best { IfSome best (IsKnown self.now.model.now self.now.routes.now.lists) }
         ensures best { IfOk result (λ found. move_of found ≡ better_with self.now.model.now
@@ -234,11 +229,8 @@ impl<'a> Round<'a> {
         after: &mut NewList,
         steps: &mut Steps<L>,
     ) -> Result<Option<Candidate>, NoMemory>
-        requires known { IsKnownState self.now.model.now self.now.routes.now self.now.state.now }
-        requires ceiling { IsCeiling self.now.model.now (tabus_of self.now.state.now.tabus)
-            self.now.state.now.best.routes.lists self.now.routes.now.lists self.now.ceiling }
-        requires judge_model { J.model judge.old ≡ self.now.model.now }
-        requires committed { J.committed judge.old ≡ self.now.routes.now.lists }
+        requires judge { IsJudgeOf self.now.model.now self.now.routes.now.lists (J.model judge.old)
+            (J.committed judge.old) }
         requires mv { IsTrue (is_move self.now.model.now self.now.routes.now.lists mv) }
         requires best { IfSome best (IsKnown self.now.model.now self.now.routes.now.lists) }
         ensures best { IfOk result (λ found. move_of found ≡ better_with self.now.model.now
@@ -272,9 +264,8 @@ impl<'a> Round<'a> {
     // Whether the judge tells by the numbers of a move that it is no better than the best candidate so far.
     #[inline]
     fn is_told_no_better<J: Judge>(&self, judge: &mut J, mv: Move, best: Option<Candidate>) -> bool
-        requires known { IsKnownState self.now.model.now self.now.routes.now self.now.state.now }
-        requires judge_model { J.model judge.old ≡ self.now.model.now }
-        requires committed { J.committed judge.old ≡ self.now.routes.now.lists }
+        requires judge { IsJudgeOf self.now.model.now self.now.routes.now.lists (J.model judge.old)
+            (J.committed judge.old) }
         requires mv { IsTrue (is_move self.now.model.now self.now.routes.now.lists mv) }
         ensures no_better { IsTrue result → IsNoBetter self.now.model.now self.now.routes.now.lists mv
             (bound_of best self.now.ceiling) }
@@ -291,22 +282,24 @@ impl<'a> Round<'a> {
 
     // Whether a move is tabu, told by its change.
     fn is_tabu(&self, _mv: Move, change: &Change, after: &mut NewList) -> bool
-        requires known { IsKnownState self.now.model.now self.now.routes.now self.now.state.now }
         requires mv { IsTrue (is_move self.now.model.now self.now.routes.now.lists _mv) }
         requires change { IsChange self.now.model.now self.now.routes.now.lists _mv change.now }
         ensures { result ≡ is_tabu self.now.model.now (tabus_of self.now.state.now.tabus) self.now.routes.now.lists
             (apply self.now.model.now self.now.routes.now.lists _mv) }
     {
-        self.state
-            .tabus
-            .is_tabu(Closed { model: self.model }, self.routes, change, after)
+        let closed = Closed { model: self.model };
+        let lists = WholeChange {
+            closed,
+            routes: self.routes,
+            change,
+        };
+        self.state.tabus.is_tabu(lists, after)
     }
 
     // Whether a move that makes a difference is tabu and leads to lists that cost no less than the best before. Where
     // they cost less, whether it is tabu is not asked.
     #[inline]
     fn is_forbidden(&self, mv: Move, difference: i64, change: &Change, after: &mut NewList) -> bool
-        requires known { IsKnownState self.now.model.now self.now.routes.now self.now.state.now }
         requires mv { IsTrue (is_move self.now.model.now self.now.routes.now.lists mv) }
         requires change { IsChange self.now.model.now self.now.routes.now.lists mv change.now }
         ensures { result ≡ (int_le (aspiration self.now.model.now self.now.state.now.best.routes.lists
@@ -323,7 +316,6 @@ impl<'a> Round<'a> {
     // Moves that make a lesser difference lead to lists that cost less than any before.
     #[inline]
     fn aspiration(&self) -> i64
-        requires known { IsKnownState self.now.model.now self.now.routes.now self.now.state.now }
         ensures { result ≡ aspiration self.now.model.now self.now.state.now.best.routes.lists
             self.now.routes.now.lists }
     {

@@ -7,11 +7,11 @@ ghost use Rattle.vr_model.specs.moves.Moves.{apply};
 ghost use Rattle.vr_model.specs.routes.Costs.{cost};
 ghost use Rattle.vr_model.specs.routes.Rules.{is_valid};
 ghost use Rattle.vr_model.specs.tables.Tables.{visits};
-ghost use Rattle.vr_model.specs.tables.WellFormed.{IsWellFormed};
+ghost use Rattle.vr_model.specs.tables.WellFormed.{IsIn, IsWellFormed};
 ghost use Rattle.vr_descent.specs.Searching.{after_move, move_event, behind};
 ghost use Rattle.vr_routes.specs.Judging.{HoldSame, moved};
 ghost use Rattle.vr_watch.specs.Told.{Told, ToldInPart};
-ghost use Rattle.vr_tabu.specs.Rounds.{IsKnown, round_end, tries_of};
+ghost use Rattle.vr_tabu.specs.Rounds.{IsJudgeOf, IsKnown, round_end, tries_of};
 ghost use Rattle.vr_tabu.specs.Standing.{AreBounds, IsBegun, IsKnownState, Stands};
 ghost use Rattle.vr_descent.specs.Incumbents.{IsBest, kept};
 ghost use Rattle.vr_tabu.specs.Standing.{from_state, left_of, next_events};
@@ -20,7 +20,7 @@ ghost use Rattle.vr_tabu.specs.Tabus.{tabus_of};
 
 use crate::new_list::NewList;
 use crate::rounds::{Candidate, Round, RoundEnd};
-use crate::tabu_list::TabuList;
+use crate::tabu_list::{TabuList, WholeChange};
 use std::alloc::Global;
 use std::sync::ledger::Ledger;
 use vr_descent::{Incumbent, Progress};
@@ -220,8 +220,12 @@ impl State {
         let mut change = Change::blank();
         let mut after = NewList::new();
         Change::write(closed.model, routes, mv, &mut change);
-        self.tabus
-            .follow(closed, routes, &change, tenure, &mut after);
+        let lists = WholeChange {
+            closed,
+            routes,
+            change: &change,
+        };
+        self.tabus.follow(lists, tenure, &mut after);
     }
 
     // Makes the best candidate of a round of so many moves, and tells the watchers. Where memory is wanting, routes and
@@ -269,8 +273,7 @@ impl State {
     fn follow(&mut self, routes: &Routes, tries: u64, difference: i64)
         requires tries { self.old.at.used + tries < 2 ^ 64 }
         requires found { self.old.at.found + 1 < 2 ^ 64 }
-        requires low { pos 0 ≤ℤ (self.old.at.cost +ℤ difference) }
-        requires high { (self.old.at.cost +ℤ difference) ≤ℤ pos (2 ^ 63 - 1) }
+        requires cost { IsIn (pos 0) (pos (2 ^ 63 - 1)) (self.old.at.cost +ℤ difference) }
         requires visits { self.old.best.routes.visits ≡ routes.now.visits }
         requires many { length self.old.best.routes.lists ≡ length routes.now.lists }
         ensures at { self.new.at ≡ record {
@@ -298,8 +301,7 @@ fn run_round<J: Judge, L: Ledger>(
     steps: &mut Steps<L>,
 ) -> Result<RoundEnd, NoMemory>
     requires known { IsKnownState model.now routes.now state.now }
-    requires judge_model { J.model judge.old ≡ model.now }
-    requires committed { J.committed judge.old ≡ routes.now.lists }
+    requires judge { IsJudgeOf model.now routes.now.lists (J.model judge.old) (J.committed judge.old) }
     requires rest { rest ≤ 1000000000 }
     ensures ends { IfOk result (λ ended. ended ≡ round_end model.now routes.now.lists
         (round_of model.now (tabus_of state.now.tabus) state.now.best.routes.lists routes.now.lists rest)) }

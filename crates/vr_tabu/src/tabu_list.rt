@@ -24,6 +24,18 @@ pub struct TabuList {
     pub until: Vec<u64>,
 }
 
+/// A change of all lists, which are those of a model before it and after it.
+#[derive(Clone, Copy)]
+pub struct WholeChange<'m, 'r, 'c> {
+    pub closed: Closed<'m>,
+    pub routes: &'r Routes,
+    pub change: &'c Change,
+    /// These are lists of the model.
+    pub ghost before: { IsTrue (are_lists closed.model.now routes.now.lists) },
+    /// So are those after it.
+    pub ghost after: { IsTrue (are_lists closed.model.now (changed routes.now.lists change.now)) },
+}
+
 impl TabuList {
     /// In the first round no visit is tabu.
     pub fn new(alloc: Global, nodes: u32) -> Result<TabuList, NoMemory>
@@ -77,27 +89,20 @@ impl TabuList {
 
     /// Whether a change is tabu in this round: each visit that it changes is. The list is written over. Takes no
     /// memory.
-    pub fn is_tabu(
-        &self,
-        closed: Closed<'_>,
-        routes: &Routes,
-        change: &Change,
-        after: &mut NewList,
-    ) -> bool
-        requires are_lists { IsTrue (are_lists closed.model.now routes.now.lists) }
-        requires made { IsMadeOn routes.now change.now }
-        requires after { IsTrue (are_lists closed.model.now (changed routes.now.lists change.now)) }
+    pub fn is_tabu(&self, lists: WholeChange<'_, '_, '_>, after: &mut NewList) -> bool
+        requires made { IsMadeOn lists.routes.now lists.change.now }
         ensures { result
-            ≡ is_tabu closed.entry.model.now (tabus_of self.now) routes.now.lists
-            (changed routes.now.lists change.now) }
+            ≡ is_tabu lists.entry.closed.model.now (tabus_of self.now) lists.entry.routes.now.lists
+            (changed lists.entry.routes.now.lists lists.entry.change.now) }
     {
+        let change = lists.change;
         for k in 0..change.parts() {
-            after.write(routes, change, k);
+            after.write(lists.routes, change, k);
             let vehicle = change.vehicle(k);
             let list = ListChange {
-                routes,
+                routes: lists.routes,
                 vehicle,
-                start: start_of(closed.model, vehicle),
+                start: start_of(lists.closed.model, vehicle),
                 after,
             };
             if self.frees(&list) {
@@ -149,31 +154,24 @@ impl TabuList {
 
     /// Goes on to the next round: the visits that a change of these lists changes are tabu for `tenure` rounds from
     /// then on. The list is written over. Takes no memory.
-    pub fn follow(
-        &mut self,
-        closed: Closed<'_>,
-        routes: &Routes,
-        change: &Change,
-        tenure: u32,
-        after: &mut NewList,
-    )
-        requires are_lists { IsTrue (are_lists closed.model.now routes.now.lists) }
-        requires made { IsMadeOn routes.now change.now }
-        requires after { IsTrue (are_lists closed.model.now (changed routes.now.lists change.now)) }
+    pub fn follow(&mut self, lists: WholeChange<'_, '_, '_>, tenure: u32, after: &mut NewList)
+        requires made { IsMadeOn lists.routes.now lists.change.now }
         requires round { self.old.round ≤ 1000000000 }
-        requires covers { length self.old.until.items ≡ closed.model.now.nodes }
-        ensures next { tabus_of self.new ≡ next_round closed.entry.model.now tenure routes.now.lists
-            (changed routes.now.lists change.now) (tabus_of self.old) }
-        ensures covers { length self.new.until.items ≡ closed.entry.model.now.nodes }
+        requires covers { length self.old.until.items ≡ lists.closed.model.now.nodes }
+        ensures next { tabus_of self.new ≡ next_round lists.entry.closed.model.now tenure
+            lists.entry.routes.now.lists (changed lists.entry.routes.now.lists lists.entry.change.now)
+            (tabus_of self.old) }
+        ensures covers { length self.new.until.items ≡ lists.entry.closed.model.now.nodes }
     {
         let until = self.round + 1 + tenure as u64;
+        let change = lists.change;
         for k in 0..change.parts() {
-            after.write(routes, change, k);
+            after.write(lists.routes, change, k);
             let vehicle = change.vehicle(k);
             let list = ListChange {
-                routes,
+                routes: lists.routes,
                 vehicle,
-                start: start_of(closed.model, vehicle),
+                start: start_of(lists.closed.model, vehicle),
                 after,
             };
             self.forbid(&list, until);

@@ -4,7 +4,7 @@ use Rattle.vr_model.specs.tables.Numbers.{each}
 use Rattle.vr_model.specs.routes.Routes.{arcs_of, route}
 use Rattle.vr_guided.specs.Guides.{is_costly}
 use Rattle.vr_guided.proofs.ArcLemmas.{some_of_this, none_of_this, none_left}
-use Rattle.vr_guided.proofs.ListLemmas.{has_list, list_below, vehicles_left}
+use Rattle.vr_guided.proofs.ListLemmas.{has_list, list_below, list_short, vehicles_left}
 use Rattle.vr_guided.proofs.costly.has_costly_arc.Goals as goal
 
 pub loop-vehicle-init : goal.loop-vehicle-init
@@ -14,8 +14,12 @@ loop-vehicle-init c =
 pub list-requires : goal.list-requires
 list-requires c = record { vehicle = has_list c.args.closed.model.now c.args.routes.now.lists c.requires.valid c.loop-vehicle-test.true c.len-vehicle-end.ensures }
 
-pub is_route_costly-requires-clause-nodes : goal.is_route_costly-requires-clause-nodes
-is_route_costly-requires-clause-nodes c = list_below c.args.closed.model.now c.args.routes.now.lists c.requires.valid c.loop-vehicle.vehicle c.list.ensures.value
+pub invariant_of-list : goal.invariant_of-list
+invariant_of-list c = record {
+  there = omega (arith, c.loop-vehicle-test.true, c.len-vehicle-end.ensures);
+  below = list_below c.args.closed.model.now c.args.routes.now.lists c.requires.valid c.loop-vehicle.vehicle c.list.ensures.value;
+  short = list_short c.args.closed.model.now c.args.routes.now.lists c.requires.valid c.args.closed.well_formed c.loop-vehicle.vehicle c.list.ensures.value;
+}
 
 pub returns-then-is_route_costly : goal.returns-then-is_route_costly
 returns-then-is_route_costly c =

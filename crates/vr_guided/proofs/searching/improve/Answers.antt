@@ -28,17 +28,29 @@ use Rattle.vr_guided.proofs.GuidedStay.{guided_stays}
 use Rattle.vr_guided.proofs.SpareLemmas.{still_refused}
 use Rattle.vr_guided.proofs.searching.improve.Goals as goal
 
+pub invariant_of-before : goal.invariant_of-before
+invariant_of-before g c =
+    let stands = c.requires.stands in
+    record {
+      covers = stands.covers;
+      few = few_more (counted c.args.state.now.penalties) c.args.state.now.at.used 1000000000 (let low = stands.used in let most = c.requires.limits.tries in omega (arith, low, most)) stands.few;
+    }
+
+pub invariant_of-weights : goal.invariant_of-weights
+invariant_of-weights g c =
+    let stands = c.scans.invariant.stands in
+    record {
+      covers = stands.covers;
+      few = few_more (counted c.scans.state.penalties) c.scans.state.at.used 1000000000 (let low = stands.used in let most = c.requires.limits.tries in omega (arith, low, most)) stands.few;
+    }
+
 pub invariant_of-guiding : goal.invariant_of-guiding
 invariant_of-guiding g c =
     let limits = c.requires.limits in
     record {
       sound = record {
-        few = few_more (counted c.scans.state.penalties) c.scans.state.at.used 1000000000 (let low = c.scans.invariant.stands.used in let most = limits.tries in omega (arith, low, most)) c.scans.invariant.stands.few;
-        covers = c.scans.invariant.stands.covers;
-        p_from_one = limits.p_from_one;
-        p_to_1000 = limits.p_to_1000;
-        q_from_one = limits.q_from_one;
-        q_to_1000 = limits.q_to_1000;
+        p_in_range = record { at_least = limits.p_from_one; at_most = limits.p_to_1000 };
+        q_in_range = record { at_least = limits.q_from_one; at_most = limits.q_to_1000 };
       };
     }
 
@@ -62,7 +74,7 @@ scans-init g c =
       looked = omega arith;
       no_dearer = omega (arith, ints);
       goes = record { told = []; outcome = refl; heard = told_nothing (λ w. (goal.Watch-dyn g (w.vtable, w.value)).after w.value) _ };
-      known = nothing_refused c.args.closed.model.now (makes_less c.args.closed.model.now c.args.lambda (counted c.args.state.now.penalties)) c.args.routes.now.lists c.of-known.result c.of-known.ensures.none;
+      known = nothing_refused c.args.closed.model.now (makes_less c.args.closed.model.now c.args.bounds.lambda (counted c.args.state.now.penalties)) c.args.routes.now.lists c.of-known.result c.of-known.ensures.none;
       learns = c.of-known.ensures.learns;
     }
 
@@ -96,8 +108,8 @@ advance-requires-clause-found g c =
 
 pub returns-in_err-ended-clause-told_in_part : goal.returns-in_err-ended-clause-told_in_part
 returns-in_err-ended-clause-told_in_part g c =
-    let more = apart c.scans.state.at.found c.args.limit.solutions c.scans-test.true in
-    on_err c.from_residual.result (scan_in_part c.args.closed.model.now c.args.limit c.args.lambda (counted c.scans.state.penalties) c.scans.routes.lists c.scans.state.best.routes.lists c.scans.state.at.used c.scans.state.at.found (λ w. (goal.Watch-dyn g (w.vtable, w.value)).after w.value) (from_state c.args.closed.model.now c.args.limit c.args.lambda c.args.routes.now.lists c.args.state.now) _ _ _ more c.scans.invariant.goes c.in_err-ended.ensures.told_in_part)
+    let more = apart c.scans.state.at.found c.args.bounds.limit.solutions c.scans-test.true in
+    on_err c.from_residual.result (scan_in_part c.args.closed.model.now c.args.bounds.limit c.args.bounds.lambda (counted c.scans.state.penalties) c.scans.routes.lists c.scans.state.best.routes.lists c.scans.state.at.used c.scans.state.at.found (λ w. (goal.Watch-dyn g (w.vtable, w.value)).after w.value) (from_state c.args.closed.model.now c.args.bounds.limit c.args.bounds.lambda c.args.routes.now.lists c.args.state.now) _ _ _ more c.scans.invariant.goes c.in_err-ended.ensures.told_in_part)
 
 pub returns-in_err-ended-clause-asked_at_most : goal.returns-in_err-ended-clause-asked_at_most
 returns-in_err-ended-clause-asked_at_most g c =
@@ -109,7 +121,7 @@ returns-in_err-ended-clause-looked_at_most g c =
 
 pub offer-requires-clause-visits : goal.offer-requires-clause-visits
 offer-requires-clause-visits g c =
-    let at = accepted_at c.args.closed.model.now (makes_less c.args.closed.model.now c.args.lambda (counted c.scans.state.penalties)) c.scans.routes.lists (c.args.limit.tries - c.scans.state.at.used) c.in-Accepted.place c.in-Accepted.mv c.in-Accepted.difference (sym c.in-Accepted.is ∙ c.in_ok-ended.ensures.ends) in
+    let at = accepted_at c.args.closed.model.now (makes_less c.args.closed.model.now c.args.bounds.lambda (counted c.scans.state.penalties)) c.scans.routes.lists (c.args.bounds.limit.tries - c.scans.state.at.used) c.in-Accepted.place c.in-Accepted.mv c.in-Accepted.difference (sym c.in-Accepted.is ∙ c.in_ok-ended.ensures.ends) in
     let routes_new : c.advance.new.routes ≡ moved c.args.closed.model.now c.scans.routes c.in-Accepted.mv = c.in_ok-ended.ensures.routes ∙ ap (routes_after c.args.closed.model.now c.scans.routes) at.scanned in
     c.scans.invariant.stands.best.same_visits ∙ sym (ap (λ r. r.visits) routes_new)
 
@@ -119,8 +131,8 @@ offer-requires-clause-many g c =
 
 pub scans-smaller-in-Accepted : goal.scans-smaller-in-Accepted
 scans-smaller-in-Accepted g c =
-    let at = accepted_at c.args.closed.model.now (makes_less c.args.closed.model.now c.args.lambda (counted c.scans.state.penalties)) c.scans.routes.lists (c.args.limit.tries - c.scans.state.at.used) c.in-Accepted.place c.in-Accepted.mv c.in-Accepted.difference (sym c.in-Accepted.is ∙ c.in_ok-ended.ensures.ends) in
-    let at_new : c.advance.new.self ≡ after_move c.args.closed.model.now c.scans.routes.lists c.in-Accepted.mv c.in-Accepted.place c.scans.state.at = c.in_ok-ended.ensures.progress ∙ ap (progress_after c.args.closed.model.now c.args.limit c.scans.routes.lists c.scans.state.at) at.scanned in
+    let at = accepted_at c.args.closed.model.now (makes_less c.args.closed.model.now c.args.bounds.lambda (counted c.scans.state.penalties)) c.scans.routes.lists (c.args.bounds.limit.tries - c.scans.state.at.used) c.in-Accepted.place c.in-Accepted.mv c.in-Accepted.difference (sym c.in-Accepted.is ∙ c.in_ok-ended.ensures.ends) in
+    let at_new : c.advance.new.self ≡ after_move c.args.closed.model.now c.scans.routes.lists c.in-Accepted.mv c.in-Accepted.place c.scans.state.at = c.in_ok-ended.ensures.progress ∙ ap (progress_after c.args.closed.model.now c.args.bounds.limit c.scans.routes.lists c.scans.state.at) at.scanned in
     let used_new = ap (λ p. p.used) at_new in
     let one = at.from_one in
     let within = at.within in
@@ -128,10 +140,10 @@ scans-smaller-in-Accepted g c =
 
 pub scans-preserved-in-Accepted : goal.scans-preserved-in-Accepted
 scans-preserved-in-Accepted g c =
-    let more = apart c.scans.state.at.found c.args.limit.solutions c.scans-test.true in
-    let after = after_scan c.args.closed.model.now c.args.limit c.args.lambda (counted c.scans.state.penalties) c.scans.routes.lists c.scans.state.best.routes.lists c.scans.state.at.used c.scans.state.at.found (λ w. (goal.Watch-dyn g (w.vtable, w.value)).after w.value) (from_state c.args.closed.model.now c.args.limit c.args.lambda c.args.routes.now.lists c.args.state.now) _ _ _ more c.scans.invariant.goes c.in_ok-ended.ensures.told in
-    let at = accepted_at c.args.closed.model.now (makes_less c.args.closed.model.now c.args.lambda (counted c.scans.state.penalties)) c.scans.routes.lists (c.args.limit.tries - c.scans.state.at.used) c.in-Accepted.place c.in-Accepted.mv c.in-Accepted.difference (sym c.in-Accepted.is ∙ c.in_ok-ended.ensures.ends) in
-    let at_new : c.advance.new.self ≡ after_move c.args.closed.model.now c.scans.routes.lists c.in-Accepted.mv c.in-Accepted.place c.scans.state.at = c.in_ok-ended.ensures.progress ∙ ap (progress_after c.args.closed.model.now c.args.limit c.scans.routes.lists c.scans.state.at) at.scanned in
+    let more = apart c.scans.state.at.found c.args.bounds.limit.solutions c.scans-test.true in
+    let after = after_scan c.args.closed.model.now c.args.bounds.limit c.args.bounds.lambda (counted c.scans.state.penalties) c.scans.routes.lists c.scans.state.best.routes.lists c.scans.state.at.used c.scans.state.at.found (λ w. (goal.Watch-dyn g (w.vtable, w.value)).after w.value) (from_state c.args.closed.model.now c.args.bounds.limit c.args.bounds.lambda c.args.routes.now.lists c.args.state.now) _ _ _ more c.scans.invariant.goes c.in_ok-ended.ensures.told in
+    let at = accepted_at c.args.closed.model.now (makes_less c.args.closed.model.now c.args.bounds.lambda (counted c.scans.state.penalties)) c.scans.routes.lists (c.args.bounds.limit.tries - c.scans.state.at.used) c.in-Accepted.place c.in-Accepted.mv c.in-Accepted.difference (sym c.in-Accepted.is ∙ c.in_ok-ended.ensures.ends) in
+    let at_new : c.advance.new.self ≡ after_move c.args.closed.model.now c.scans.routes.lists c.in-Accepted.mv c.in-Accepted.place c.scans.state.at = c.in_ok-ended.ensures.progress ∙ ap (progress_after c.args.closed.model.now c.args.bounds.limit c.scans.routes.lists c.scans.state.at) at.scanned in
     let routes_new : c.advance.new.routes ≡ moved c.args.closed.model.now c.scans.routes c.in-Accepted.mv = c.in_ok-ended.ensures.routes ∙ ap (routes_after c.args.closed.model.now c.scans.routes) at.scanned in
     let one = at.from_one in
     let within = at.within in
@@ -163,10 +175,10 @@ scans-preserved-in-Accepted g c =
       asked = omega (arith, c.in_ok-ended.ensures.asked, c.scans.invariant.asked);
       looked = omega (arith, c.in_ok-ended.ensures.looked, c.scans.invariant.looked);
       no_dearer = subst (λ b. b.cost ≤ℤ c.args.state.now.best.cost) (sym offered) (kept_no_dearer c.scans.state.best c.advance.new.routes c.advance.new.self.cost c.args.state.now.best.cost c.scans.invariant.no_dearer);
-      goes = subst (λ b. Goes (λ w. (goal.Watch-dyn g (w.vtable, w.value)).after w.value) (from_state c.args.closed.model.now c.args.limit c.args.lambda c.args.routes.now.lists c.args.state.now) (from_here c.args.closed.model.now c.args.limit c.args.lambda (counted c.scans.state.penalties) c.advance.new.routes.lists b c.advance.new.self.used c.advance.new.self.found) c.args.watch.now.items c.advance.new.watch.items) (sym lists_kept)
-          (subst (λ p. Goes (λ w. (goal.Watch-dyn g (w.vtable, w.value)).after w.value) (from_state c.args.closed.model.now c.args.limit c.args.lambda c.args.routes.now.lists c.args.state.now) (from_here c.args.closed.model.now c.args.limit c.args.lambda (counted c.scans.state.penalties) c.advance.new.routes.lists (cheaper c.args.closed.model.now c.scans.state.best.routes.lists (apply c.args.closed.model.now c.scans.routes.lists c.in-Accepted.mv)) p.used p.found) c.args.watch.now.items c.advance.new.watch.items) (sym at_new)
-          (subst (λ r. Goes (λ w. (goal.Watch-dyn g (w.vtable, w.value)).after w.value) (from_state c.args.closed.model.now c.args.limit c.args.lambda c.args.routes.now.lists c.args.state.now) (from_here c.args.closed.model.now c.args.limit c.args.lambda (counted c.scans.state.penalties) r.lists (cheaper c.args.closed.model.now c.scans.state.best.routes.lists (apply c.args.closed.model.now c.scans.routes.lists c.in-Accepted.mv)) (c.scans.state.at.used + c.in-Accepted.place) (c.scans.state.at.found + 1)) c.args.watch.now.items c.advance.new.watch.items) (sym routes_new)
-          (goes_as (λ w. (goal.Watch-dyn g (w.vtable, w.value)).after w.value) (from_state c.args.closed.model.now c.args.limit c.args.lambda c.args.routes.now.lists c.args.state.now) _ _ _ _ (ap (left_after c.args.closed.model.now c.args.limit c.args.lambda (counted c.scans.state.penalties) c.scans.routes.lists c.scans.state.best.routes.lists c.scans.state.at.used c.scans.state.at.found) at.scanned) after)));
+      goes = subst (λ b. Goes (λ w. (goal.Watch-dyn g (w.vtable, w.value)).after w.value) (from_state c.args.closed.model.now c.args.bounds.limit c.args.bounds.lambda c.args.routes.now.lists c.args.state.now) (from_here c.args.closed.model.now c.args.bounds.limit c.args.bounds.lambda (counted c.scans.state.penalties) c.advance.new.routes.lists b c.advance.new.self.used c.advance.new.self.found) c.args.watch.now.items c.advance.new.watch.items) (sym lists_kept)
+          (subst (λ p. Goes (λ w. (goal.Watch-dyn g (w.vtable, w.value)).after w.value) (from_state c.args.closed.model.now c.args.bounds.limit c.args.bounds.lambda c.args.routes.now.lists c.args.state.now) (from_here c.args.closed.model.now c.args.bounds.limit c.args.bounds.lambda (counted c.scans.state.penalties) c.advance.new.routes.lists (cheaper c.args.closed.model.now c.scans.state.best.routes.lists (apply c.args.closed.model.now c.scans.routes.lists c.in-Accepted.mv)) p.used p.found) c.args.watch.now.items c.advance.new.watch.items) (sym at_new)
+          (subst (λ r. Goes (λ w. (goal.Watch-dyn g (w.vtable, w.value)).after w.value) (from_state c.args.closed.model.now c.args.bounds.limit c.args.bounds.lambda c.args.routes.now.lists c.args.state.now) (from_here c.args.closed.model.now c.args.bounds.limit c.args.bounds.lambda (counted c.scans.state.penalties) r.lists (cheaper c.args.closed.model.now c.scans.state.best.routes.lists (apply c.args.closed.model.now c.scans.routes.lists c.in-Accepted.mv)) (c.scans.state.at.used + c.in-Accepted.place) (c.scans.state.at.found + 1)) c.args.watch.now.items c.advance.new.watch.items) (sym routes_new)
+          (goes_as (λ w. (goal.Watch-dyn g (w.vtable, w.value)).after w.value) (from_state c.args.closed.model.now c.args.bounds.limit c.args.bounds.lambda c.args.routes.now.lists c.args.state.now) _ _ _ _ (ap (left_after c.args.closed.model.now c.args.bounds.limit c.args.bounds.lambda (counted c.scans.state.penalties) c.scans.routes.lists c.scans.state.best.routes.lists c.scans.state.at.used c.scans.state.at.found) at.scanned) after)));
       known = c.in_ok-ended.ensures.known;
       learns = λ h. c.scans.invariant.learns (c.in_ok-ended.ensures.learns h);
     }
@@ -179,40 +191,43 @@ pub raise-requires-clause-valid : goal.raise-requires-clause-valid
 raise-requires-clause-valid g c =
     c.in_ok-ended.ensures.holds.valid
 
-pub raise-requires-clause-few : goal.raise-requires-clause-few
-raise-requires-clause-few g c =
-    few_more (counted c.scans.state.penalties) c.scans.state.at.used 1000000000 (let low = c.scans.invariant.stands.used in let most = c.requires.limits.tries in omega (arith, low, most)) c.scans.invariant.stands.few
-
-pub raise-requires-clause-covers : goal.raise-requires-clause-covers
-raise-requires-clause-covers g c =
-    c.scans.invariant.stands.covers
+pub raise-requires-clause-counts : goal.raise-requires-clause-counts
+raise-requires-clause-counts g c =
+    let stands = c.scans.invariant.stands in
+    record {
+      covers = stands.covers;
+      few = few_more (counted c.scans.state.penalties) c.scans.state.at.used 1000000000 (let low = stands.used in let most = c.requires.limits.tries in omega (arith, low, most)) stands.few;
+    }
 
 pub raise-requires-clause-costly : goal.raise-requires-clause-costly
 raise-requires-clause-costly g c =
     costly_of (c.in-Complete.length == 0) (has_costly_arc c.args.closed.model.now c.advance.new.routes.lists) (sym c.is_stuck.ensures ∙ c.if-is_stuck.false)
 
-pub write-requires-in-Complete-clause-few : goal.write-requires-in-Complete-clause-few
-write-requires-in-Complete-clause-few g c =
-    let done = completed c.args.closed.model.now (makes_less c.args.closed.model.now c.args.lambda (counted c.scans.state.penalties)) c.scans.routes.lists (c.args.limit.tries - c.scans.state.at.used) c.in-Complete.length (sym c.in-Complete.is ∙ c.in_ok-ended.ensures.ends) in
+pub invariant_of-raised : goal.invariant_of-raised
+invariant_of-raised g c =
+    let done = completed c.args.closed.model.now (makes_less c.args.closed.model.now c.args.bounds.lambda (counted c.scans.state.penalties)) c.scans.routes.lists (c.args.bounds.limit.tries - c.scans.state.at.used) c.in-Complete.length (sym c.in-Complete.is ∙ c.in_ok-ended.ensures.ends) in
     let scanned = done.0 in
     let low = done.1 in
     let routes_new : c.advance.new.routes ≡ c.scans.routes = c.in_ok-ended.ensures.routes ∙ ap (routes_after c.args.closed.model.now c.scans.routes) scanned in
     let ends : is_at_end c.args.closed.model.now (standing c.scans.routes.lists c.scans.state.best.routes.lists c.scans.state.at.used c.scans.state.at.found) c.in-Complete.length ≡ false = ap (λ r. (c.in-Complete.length == 0) || not (has_costly_arc c.args.closed.model.now r.lists)) (sym routes_new) ∙ (sym c.is_stuck.ensures ∙ c.if-is_stuck.false) in
-    let one = some_moves c.args.closed.model.now c.args.limit c.args.lambda (counted c.scans.state.penalties) c.scans.routes.lists c.scans.state.best.routes.lists c.scans.state.at.used c.scans.state.at.found c.in-Complete.length ends in
+    let one = some_moves c.args.closed.model.now c.args.bounds.limit c.args.bounds.lambda (counted c.scans.state.penalties) c.scans.routes.lists c.scans.state.best.routes.lists c.scans.state.at.used c.scans.state.at.found c.in-Complete.length ends in
     let raised_new : counted c.raise.new.self ≡ raised c.args.closed.model.now (counted c.scans.state.penalties) c.scans.routes.lists = c.raise.ensures.raised ∙ ap (λ r. raised c.args.closed.model.now (counted c.scans.state.penalties) r.lists) routes_new in
-    few_more (counted c.raise.new.self) (c.scans.state.at.used + c.in-Complete.length) 1000000000 (omega (arith, low, c.scans.invariant.stands.used, c.requires.limits.tries))
-    (subst (λ p. AtMost (c.scans.state.at.used + c.in-Complete.length) p) (sym raised_new) (few_raised c.args.closed.model.now (counted c.scans.state.penalties) c.scans.routes.lists c.scans.state.at.used c.in-Complete.length one c.scans.invariant.stands.few))
+    record {
+      covers = c.raise.ensures.nodes ∙ c.scans.invariant.stands.covers;
+      few = few_more (counted c.raise.new.self) (c.scans.state.at.used + c.in-Complete.length) 1000000000 (omega (arith, low, c.scans.invariant.stands.used, c.requires.limits.tries))
+          (subst (λ p. AtMost (c.scans.state.at.used + c.in-Complete.length) p) (sym raised_new) (few_raised c.args.closed.model.now (counted c.scans.state.penalties) c.scans.routes.lists c.scans.state.at.used c.in-Complete.length one c.scans.invariant.stands.few));
+    }
 
 pub scans-smaller : goal.scans-smaller
 scans-smaller g c =
-    let done = completed c.args.closed.model.now (makes_less c.args.closed.model.now c.args.lambda (counted c.scans.state.penalties)) c.scans.routes.lists (c.args.limit.tries - c.scans.state.at.used) c.in-Complete.length (sym c.in-Complete.is ∙ c.in_ok-ended.ensures.ends) in
+    let done = completed c.args.closed.model.now (makes_less c.args.closed.model.now c.args.bounds.lambda (counted c.scans.state.penalties)) c.scans.routes.lists (c.args.bounds.limit.tries - c.scans.state.at.used) c.in-Complete.length (sym c.in-Complete.is ∙ c.in_ok-ended.ensures.ends) in
     let scanned = done.0 in
     let low = done.1 in
-    let at_new : c.advance.new.self ≡ record { used = c.scans.state.at.used + c.in-Complete.length; found = c.scans.state.at.found; cost = c.scans.state.at.cost } = c.in_ok-ended.ensures.progress ∙ ap (progress_after c.args.closed.model.now c.args.limit c.scans.routes.lists c.scans.state.at) scanned in
+    let at_new : c.advance.new.self ≡ record { used = c.scans.state.at.used + c.in-Complete.length; found = c.scans.state.at.found; cost = c.scans.state.at.cost } = c.in_ok-ended.ensures.progress ∙ ap (progress_after c.args.closed.model.now c.args.bounds.limit c.scans.routes.lists c.scans.state.at) scanned in
     let routes_new : c.advance.new.routes ≡ c.scans.routes = c.in_ok-ended.ensures.routes ∙ ap (routes_after c.args.closed.model.now c.scans.routes) scanned in
     let ends : is_at_end c.args.closed.model.now (standing c.scans.routes.lists c.scans.state.best.routes.lists c.scans.state.at.used c.scans.state.at.found) c.in-Complete.length ≡ false = ap (λ r. (c.in-Complete.length == 0) || not (has_costly_arc c.args.closed.model.now r.lists)) (sym routes_new) ∙ (sym c.is_stuck.ensures ∙ c.if-is_stuck.false) in
     let used_new = ap (λ p. p.used) at_new in
-    let one = some_moves c.args.closed.model.now c.args.limit c.args.lambda (counted c.scans.state.penalties) c.scans.routes.lists c.scans.state.best.routes.lists c.scans.state.at.used c.scans.state.at.found c.in-Complete.length ends in
+    let one = some_moves c.args.closed.model.now c.args.bounds.limit c.args.bounds.lambda (counted c.scans.state.penalties) c.scans.routes.lists c.scans.state.best.routes.lists c.scans.state.at.used c.scans.state.at.found c.in-Complete.length ends in
     omega (arith, used_new, one, low, c.scans.invariant.stands.used)
 
 pub returns-in_err-note_all-in-Complete-clause-judge_model : goal.returns-in_err-note_all-in-Complete-clause-judge_model
@@ -225,53 +240,53 @@ returns-in_err-note_all-in-Complete-clause-holds g c =
 
 pub returns-in_err-note_all-in-Complete-clause-told_in_part : goal.returns-in_err-note_all-in-Complete-clause-told_in_part
 returns-in_err-note_all-in-Complete-clause-told_in_part g c =
-    let more = apart c.scans.state.at.found c.args.limit.solutions c.scans-test.true in
-    let after = after_scan c.args.closed.model.now c.args.limit c.args.lambda (counted c.scans.state.penalties) c.scans.routes.lists c.scans.state.best.routes.lists c.scans.state.at.used c.scans.state.at.found (λ w. (goal.Watch-dyn g (w.vtable, w.value)).after w.value) (from_state c.args.closed.model.now c.args.limit c.args.lambda c.args.routes.now.lists c.args.state.now) _ _ _ more c.scans.invariant.goes c.in_ok-ended.ensures.told in
-    let done = completed c.args.closed.model.now (makes_less c.args.closed.model.now c.args.lambda (counted c.scans.state.penalties)) c.scans.routes.lists (c.args.limit.tries - c.scans.state.at.used) c.in-Complete.length (sym c.in-Complete.is ∙ c.in_ok-ended.ensures.ends) in
+    let more = apart c.scans.state.at.found c.args.bounds.limit.solutions c.scans-test.true in
+    let after = after_scan c.args.closed.model.now c.args.bounds.limit c.args.bounds.lambda (counted c.scans.state.penalties) c.scans.routes.lists c.scans.state.best.routes.lists c.scans.state.at.used c.scans.state.at.found (λ w. (goal.Watch-dyn g (w.vtable, w.value)).after w.value) (from_state c.args.closed.model.now c.args.bounds.limit c.args.bounds.lambda c.args.routes.now.lists c.args.state.now) _ _ _ more c.scans.invariant.goes c.in_ok-ended.ensures.told in
+    let done = completed c.args.closed.model.now (makes_less c.args.closed.model.now c.args.bounds.lambda (counted c.scans.state.penalties)) c.scans.routes.lists (c.args.bounds.limit.tries - c.scans.state.at.used) c.in-Complete.length (sym c.in-Complete.is ∙ c.in_ok-ended.ensures.ends) in
     let scanned = done.0 in
     let low = done.1 in
-    let at_new : c.advance.new.self ≡ record { used = c.scans.state.at.used + c.in-Complete.length; found = c.scans.state.at.found; cost = c.scans.state.at.cost } = c.in_ok-ended.ensures.progress ∙ ap (progress_after c.args.closed.model.now c.args.limit c.scans.routes.lists c.scans.state.at) scanned in
+    let at_new : c.advance.new.self ≡ record { used = c.scans.state.at.used + c.in-Complete.length; found = c.scans.state.at.found; cost = c.scans.state.at.cost } = c.in_ok-ended.ensures.progress ∙ ap (progress_after c.args.closed.model.now c.args.bounds.limit c.scans.routes.lists c.scans.state.at) scanned in
     let routes_new : c.advance.new.routes ≡ c.scans.routes = c.in_ok-ended.ensures.routes ∙ ap (routes_after c.args.closed.model.now c.scans.routes) scanned in
     let ends : is_at_end c.args.closed.model.now (standing c.scans.routes.lists c.scans.state.best.routes.lists c.scans.state.at.used c.scans.state.at.found) c.in-Complete.length ≡ false = ap (λ r. (c.in-Complete.length == 0) || not (has_costly_arc c.args.closed.model.now r.lists)) (sym routes_new) ∙ (sym c.is_stuck.ensures ∙ c.if-is_stuck.false) in
     let round : c.event.result ≡ event_at c.args.closed.model.now (tried (standing c.scans.routes.lists c.scans.state.best.routes.lists c.scans.state.at.used c.scans.state.at.found) c.in-Complete.length) kind.Round = c.event.ensures ∙ (ap (λ p. event_of p kind.Round) at_new ∙ ap (λ k. record { tries = c.scans.state.at.used + c.in-Complete.length; kind = kind.Round; cost = k }) c.scans.invariant.stands.costs) in
-    let at_event = goes_as (λ w. (goal.Watch-dyn g (w.vtable, w.value)).after w.value) (from_state c.args.closed.model.now c.args.limit c.args.lambda c.args.routes.now.lists c.args.state.now) _ _ _ _ (ap (left_after c.args.closed.model.now c.args.limit c.args.lambda (counted c.scans.state.penalties) c.scans.routes.lists c.scans.state.best.routes.lists c.scans.state.at.used c.scans.state.at.found) scanned ∙ at_round c.args.closed.model.now c.args.limit c.args.lambda (counted c.scans.state.penalties) c.scans.routes.lists c.scans.state.best.routes.lists c.scans.state.at.used c.scans.state.at.found c.in-Complete.length ends) after in
-    on_err c.from_residual-in_err-note_all-in-Complete.result (breaks_off (λ w. (goal.Watch-dyn g (w.vtable, w.value)).after w.value) (from_state c.args.closed.model.now c.args.limit c.args.lambda c.args.routes.now.lists c.args.state.now) (from_here c.args.closed.model.now c.args.limit c.args.lambda (raised c.args.closed.model.now (counted c.scans.state.penalties) c.scans.routes.lists) c.scans.routes.lists c.scans.state.best.routes.lists (c.scans.state.at.used + c.in-Complete.length) c.scans.state.at.found) (event_at c.args.closed.model.now (tried (standing c.scans.routes.lists c.scans.state.best.routes.lists c.scans.state.at.used c.scans.state.at.found) c.in-Complete.length) kind.Round ∷ []) _ _ _ at_event
+    let at_event = goes_as (λ w. (goal.Watch-dyn g (w.vtable, w.value)).after w.value) (from_state c.args.closed.model.now c.args.bounds.limit c.args.bounds.lambda c.args.routes.now.lists c.args.state.now) _ _ _ _ (ap (left_after c.args.closed.model.now c.args.bounds.limit c.args.bounds.lambda (counted c.scans.state.penalties) c.scans.routes.lists c.scans.state.best.routes.lists c.scans.state.at.used c.scans.state.at.found) scanned ∙ at_round c.args.closed.model.now c.args.bounds.limit c.args.bounds.lambda (counted c.scans.state.penalties) c.scans.routes.lists c.scans.state.best.routes.lists c.scans.state.at.used c.scans.state.at.found c.in-Complete.length ends) after in
+    on_err c.from_residual-in_err-note_all-in-Complete.result (breaks_off (λ w. (goal.Watch-dyn g (w.vtable, w.value)).after w.value) (from_state c.args.closed.model.now c.args.bounds.limit c.args.bounds.lambda c.args.routes.now.lists c.args.state.now) (from_here c.args.closed.model.now c.args.bounds.limit c.args.bounds.lambda (raised c.args.closed.model.now (counted c.scans.state.penalties) c.scans.routes.lists) c.scans.routes.lists c.scans.state.best.routes.lists (c.scans.state.at.used + c.in-Complete.length) c.scans.state.at.found) (event_at c.args.closed.model.now (tried (standing c.scans.routes.lists c.scans.state.best.routes.lists c.scans.state.at.used c.scans.state.at.found) c.in-Complete.length) kind.Round ∷ []) _ _ _ at_event
     (subst (λ event. ToldInPart (λ w. (goal.Watch-dyn g (w.vtable, w.value)).after w.value) c.advance.new.watch.items c.note_all.new.watch.items (event ∷ [])) round c.in_err-note_all-in-Complete.ensures.told_in_part))
 
 pub returns-in_err-note_all-in-Complete-clause-asked_at_most : goal.returns-in_err-note_all-in-Complete-clause-asked_at_most
 returns-in_err-note_all-in-Complete-clause-asked_at_most g c =
-    let done = completed c.args.closed.model.now (makes_less c.args.closed.model.now c.args.lambda (counted c.scans.state.penalties)) c.scans.routes.lists (c.args.limit.tries - c.scans.state.at.used) c.in-Complete.length (sym c.in-Complete.is ∙ c.in_ok-ended.ensures.ends) in
+    let done = completed c.args.closed.model.now (makes_less c.args.closed.model.now c.args.bounds.lambda (counted c.scans.state.penalties)) c.scans.routes.lists (c.args.bounds.limit.tries - c.scans.state.at.used) c.in-Complete.length (sym c.in-Complete.is ∙ c.in_ok-ended.ensures.ends) in
     let scanned = done.0 in
     let low = done.1 in
-    let at_new : c.advance.new.self ≡ record { used = c.scans.state.at.used + c.in-Complete.length; found = c.scans.state.at.found; cost = c.scans.state.at.cost } = c.in_ok-ended.ensures.progress ∙ ap (progress_after c.args.closed.model.now c.args.limit c.scans.routes.lists c.scans.state.at) scanned in
+    let at_new : c.advance.new.self ≡ record { used = c.scans.state.at.used + c.in-Complete.length; found = c.scans.state.at.found; cost = c.scans.state.at.cost } = c.in_ok-ended.ensures.progress ∙ ap (progress_after c.args.closed.model.now c.args.bounds.limit c.scans.routes.lists c.scans.state.at) scanned in
     let used_new = ap (λ p. p.used) at_new in
     on_err c.from_residual-in_err-note_all-in-Complete.result (omega (arith, c.in_ok-ended.ensures.asked, c.scans.invariant.asked, used_new, low, c.scans.invariant.stands.used))
 
 pub returns-in_err-note_all-in-Complete-clause-looked_at_most : goal.returns-in_err-note_all-in-Complete-clause-looked_at_most
 returns-in_err-note_all-in-Complete-clause-looked_at_most g c =
-    let done = completed c.args.closed.model.now (makes_less c.args.closed.model.now c.args.lambda (counted c.scans.state.penalties)) c.scans.routes.lists (c.args.limit.tries - c.scans.state.at.used) c.in-Complete.length (sym c.in-Complete.is ∙ c.in_ok-ended.ensures.ends) in
+    let done = completed c.args.closed.model.now (makes_less c.args.closed.model.now c.args.bounds.lambda (counted c.scans.state.penalties)) c.scans.routes.lists (c.args.bounds.limit.tries - c.scans.state.at.used) c.in-Complete.length (sym c.in-Complete.is ∙ c.in_ok-ended.ensures.ends) in
     let scanned = done.0 in
     let low = done.1 in
-    let at_new : c.advance.new.self ≡ record { used = c.scans.state.at.used + c.in-Complete.length; found = c.scans.state.at.found; cost = c.scans.state.at.cost } = c.in_ok-ended.ensures.progress ∙ ap (progress_after c.args.closed.model.now c.args.limit c.scans.routes.lists c.scans.state.at) scanned in
+    let at_new : c.advance.new.self ≡ record { used = c.scans.state.at.used + c.in-Complete.length; found = c.scans.state.at.found; cost = c.scans.state.at.cost } = c.in_ok-ended.ensures.progress ∙ ap (progress_after c.args.closed.model.now c.args.bounds.limit c.scans.routes.lists c.scans.state.at) scanned in
     let used_new = ap (λ p. p.used) at_new in
     on_err c.from_residual-in_err-note_all-in-Complete.result (omega (arith, c.in_ok-ended.ensures.looked, c.scans.invariant.looked, used_new, low, c.scans.invariant.stands.used))
 
 pub scans-preserved : goal.scans-preserved
 scans-preserved g c =
-    let more = apart c.scans.state.at.found c.args.limit.solutions c.scans-test.true in
-    let after = after_scan c.args.closed.model.now c.args.limit c.args.lambda (counted c.scans.state.penalties) c.scans.routes.lists c.scans.state.best.routes.lists c.scans.state.at.used c.scans.state.at.found (λ w. (goal.Watch-dyn g (w.vtable, w.value)).after w.value) (from_state c.args.closed.model.now c.args.limit c.args.lambda c.args.routes.now.lists c.args.state.now) _ _ _ more c.scans.invariant.goes c.in_ok-ended.ensures.told in
-    let done = completed c.args.closed.model.now (makes_less c.args.closed.model.now c.args.lambda (counted c.scans.state.penalties)) c.scans.routes.lists (c.args.limit.tries - c.scans.state.at.used) c.in-Complete.length (sym c.in-Complete.is ∙ c.in_ok-ended.ensures.ends) in
+    let more = apart c.scans.state.at.found c.args.bounds.limit.solutions c.scans-test.true in
+    let after = after_scan c.args.closed.model.now c.args.bounds.limit c.args.bounds.lambda (counted c.scans.state.penalties) c.scans.routes.lists c.scans.state.best.routes.lists c.scans.state.at.used c.scans.state.at.found (λ w. (goal.Watch-dyn g (w.vtable, w.value)).after w.value) (from_state c.args.closed.model.now c.args.bounds.limit c.args.bounds.lambda c.args.routes.now.lists c.args.state.now) _ _ _ more c.scans.invariant.goes c.in_ok-ended.ensures.told in
+    let done = completed c.args.closed.model.now (makes_less c.args.closed.model.now c.args.bounds.lambda (counted c.scans.state.penalties)) c.scans.routes.lists (c.args.bounds.limit.tries - c.scans.state.at.used) c.in-Complete.length (sym c.in-Complete.is ∙ c.in_ok-ended.ensures.ends) in
     let scanned = done.0 in
     let low = done.1 in
-    let at_new : c.advance.new.self ≡ record { used = c.scans.state.at.used + c.in-Complete.length; found = c.scans.state.at.found; cost = c.scans.state.at.cost } = c.in_ok-ended.ensures.progress ∙ ap (progress_after c.args.closed.model.now c.args.limit c.scans.routes.lists c.scans.state.at) scanned in
+    let at_new : c.advance.new.self ≡ record { used = c.scans.state.at.used + c.in-Complete.length; found = c.scans.state.at.found; cost = c.scans.state.at.cost } = c.in_ok-ended.ensures.progress ∙ ap (progress_after c.args.closed.model.now c.args.bounds.limit c.scans.routes.lists c.scans.state.at) scanned in
     let routes_new : c.advance.new.routes ≡ c.scans.routes = c.in_ok-ended.ensures.routes ∙ ap (routes_after c.args.closed.model.now c.scans.routes) scanned in
     let ends : is_at_end c.args.closed.model.now (standing c.scans.routes.lists c.scans.state.best.routes.lists c.scans.state.at.used c.scans.state.at.found) c.in-Complete.length ≡ false = ap (λ r. (c.in-Complete.length == 0) || not (has_costly_arc c.args.closed.model.now r.lists)) (sym routes_new) ∙ (sym c.is_stuck.ensures ∙ c.if-is_stuck.false) in
     let round : c.event.result ≡ event_at c.args.closed.model.now (tried (standing c.scans.routes.lists c.scans.state.best.routes.lists c.scans.state.at.used c.scans.state.at.found) c.in-Complete.length) kind.Round = c.event.ensures ∙ (ap (λ p. event_of p kind.Round) at_new ∙ ap (λ k. record { tries = c.scans.state.at.used + c.in-Complete.length; kind = kind.Round; cost = k }) c.scans.invariant.stands.costs) in
-    let at_event = goes_as (λ w. (goal.Watch-dyn g (w.vtable, w.value)).after w.value) (from_state c.args.closed.model.now c.args.limit c.args.lambda c.args.routes.now.lists c.args.state.now) _ _ _ _ (ap (left_after c.args.closed.model.now c.args.limit c.args.lambda (counted c.scans.state.penalties) c.scans.routes.lists c.scans.state.best.routes.lists c.scans.state.at.used c.scans.state.at.found) scanned ∙ at_round c.args.closed.model.now c.args.limit c.args.lambda (counted c.scans.state.penalties) c.scans.routes.lists c.scans.state.best.routes.lists c.scans.state.at.used c.scans.state.at.found c.in-Complete.length ends) after in
+    let at_event = goes_as (λ w. (goal.Watch-dyn g (w.vtable, w.value)).after w.value) (from_state c.args.closed.model.now c.args.bounds.limit c.args.bounds.lambda c.args.routes.now.lists c.args.state.now) _ _ _ _ (ap (left_after c.args.closed.model.now c.args.bounds.limit c.args.bounds.lambda (counted c.scans.state.penalties) c.scans.routes.lists c.scans.state.best.routes.lists c.scans.state.at.used c.scans.state.at.found) scanned ∙ at_round c.args.closed.model.now c.args.bounds.limit c.args.bounds.lambda (counted c.scans.state.penalties) c.scans.routes.lists c.scans.state.best.routes.lists c.scans.state.at.used c.scans.state.at.found c.in-Complete.length ends) after in
     let used_new = ap (λ p. p.used) at_new in
     let found_new = ap (λ p. p.found) at_new in
     let best_old = c.scans.invariant.stands.best in
-    let one = some_moves c.args.closed.model.now c.args.limit c.args.lambda (counted c.scans.state.penalties) c.scans.routes.lists c.scans.state.best.routes.lists c.scans.state.at.used c.scans.state.at.found c.in-Complete.length ends in
+    let one = some_moves c.args.closed.model.now c.args.bounds.limit c.args.bounds.lambda (counted c.scans.state.penalties) c.scans.routes.lists c.scans.state.best.routes.lists c.scans.state.at.used c.scans.state.at.found c.in-Complete.length ends in
     let raised_new : counted c.raise.new.self ≡ raised c.args.closed.model.now (counted c.scans.state.penalties) c.scans.routes.lists = c.raise.ensures.raised ∙ ap (λ r. raised c.args.closed.model.now (counted c.scans.state.penalties) r.lists) routes_new in
     record {
       model = c.in_ok-ended.ensures.judge_model;
@@ -290,42 +305,42 @@ scans-preserved g c =
       asked = omega (arith, c.in_ok-ended.ensures.asked, c.scans.invariant.asked);
       looked = omega (arith, c.in_ok-ended.ensures.looked, c.scans.invariant.looked);
       no_dearer = c.scans.invariant.no_dearer;
-      goes = subst (λ q. Goes (λ w. (goal.Watch-dyn g (w.vtable, w.value)).after w.value) (from_state c.args.closed.model.now c.args.limit c.args.lambda c.args.routes.now.lists c.args.state.now) (from_here c.args.closed.model.now c.args.limit c.args.lambda q c.advance.new.routes.lists c.scans.state.best.routes.lists c.advance.new.self.used c.advance.new.self.found) c.args.watch.now.items c.note_all.new.watch.items) (sym raised_new)
-          (subst (λ p. Goes (λ w. (goal.Watch-dyn g (w.vtable, w.value)).after w.value) (from_state c.args.closed.model.now c.args.limit c.args.lambda c.args.routes.now.lists c.args.state.now) (from_here c.args.closed.model.now c.args.limit c.args.lambda (raised c.args.closed.model.now (counted c.scans.state.penalties) c.scans.routes.lists) c.advance.new.routes.lists c.scans.state.best.routes.lists p.used p.found) c.args.watch.now.items c.note_all.new.watch.items) (sym at_new)
-          (subst (λ r. Goes (λ w. (goal.Watch-dyn g (w.vtable, w.value)).after w.value) (from_state c.args.closed.model.now c.args.limit c.args.lambda c.args.routes.now.lists c.args.state.now) (from_here c.args.closed.model.now c.args.limit c.args.lambda (raised c.args.closed.model.now (counted c.scans.state.penalties) c.scans.routes.lists) r.lists c.scans.state.best.routes.lists (c.scans.state.at.used + c.in-Complete.length) c.scans.state.at.found) c.args.watch.now.items c.note_all.new.watch.items) (sym routes_new)
-          (goes_more (λ w. (goal.Watch-dyn g (w.vtable, w.value)).after w.value) (from_state c.args.closed.model.now c.args.limit c.args.lambda c.args.routes.now.lists c.args.state.now) (from_here c.args.closed.model.now c.args.limit c.args.lambda (raised c.args.closed.model.now (counted c.scans.state.penalties) c.scans.routes.lists) c.scans.routes.lists c.scans.state.best.routes.lists (c.scans.state.at.used + c.in-Complete.length) c.scans.state.at.found) (event_at c.args.closed.model.now (tried (standing c.scans.routes.lists c.scans.state.best.routes.lists c.scans.state.at.used c.scans.state.at.found) c.in-Complete.length) kind.Round ∷ []) _ _ _ at_event
+      goes = subst (λ q. Goes (λ w. (goal.Watch-dyn g (w.vtable, w.value)).after w.value) (from_state c.args.closed.model.now c.args.bounds.limit c.args.bounds.lambda c.args.routes.now.lists c.args.state.now) (from_here c.args.closed.model.now c.args.bounds.limit c.args.bounds.lambda q c.advance.new.routes.lists c.scans.state.best.routes.lists c.advance.new.self.used c.advance.new.self.found) c.args.watch.now.items c.note_all.new.watch.items) (sym raised_new)
+          (subst (λ p. Goes (λ w. (goal.Watch-dyn g (w.vtable, w.value)).after w.value) (from_state c.args.closed.model.now c.args.bounds.limit c.args.bounds.lambda c.args.routes.now.lists c.args.state.now) (from_here c.args.closed.model.now c.args.bounds.limit c.args.bounds.lambda (raised c.args.closed.model.now (counted c.scans.state.penalties) c.scans.routes.lists) c.advance.new.routes.lists c.scans.state.best.routes.lists p.used p.found) c.args.watch.now.items c.note_all.new.watch.items) (sym at_new)
+          (subst (λ r. Goes (λ w. (goal.Watch-dyn g (w.vtable, w.value)).after w.value) (from_state c.args.closed.model.now c.args.bounds.limit c.args.bounds.lambda c.args.routes.now.lists c.args.state.now) (from_here c.args.closed.model.now c.args.bounds.limit c.args.bounds.lambda (raised c.args.closed.model.now (counted c.scans.state.penalties) c.scans.routes.lists) r.lists c.scans.state.best.routes.lists (c.scans.state.at.used + c.in-Complete.length) c.scans.state.at.found) c.args.watch.now.items c.note_all.new.watch.items) (sym routes_new)
+          (goes_more (λ w. (goal.Watch-dyn g (w.vtable, w.value)).after w.value) (from_state c.args.closed.model.now c.args.bounds.limit c.args.bounds.lambda c.args.routes.now.lists c.args.state.now) (from_here c.args.closed.model.now c.args.bounds.limit c.args.bounds.lambda (raised c.args.closed.model.now (counted c.scans.state.penalties) c.scans.routes.lists) c.scans.routes.lists c.scans.state.best.routes.lists (c.scans.state.at.used + c.in-Complete.length) c.scans.state.at.found) (event_at c.args.closed.model.now (tried (standing c.scans.routes.lists c.scans.state.best.routes.lists c.scans.state.at.used c.scans.state.at.found) c.in-Complete.length) kind.Round ∷ []) _ _ _ at_event
           (subst (λ event. Told (λ w. (goal.Watch-dyn g (w.vtable, w.value)).after w.value) c.advance.new.watch.items c.note_all.new.watch.items (event ∷ [])) round c.in_ok-note_all-in-Complete.ensures.told))));
-      known = still_refused c.args.closed.model.now c.args.closed.well_formed c.args.lambda (counted c.scans.state.penalties) (counted c.raise.new.self) c.advance.new.routes.lists c.in_ok-ended.ensures.holds.valid
+      known = still_refused c.args.closed.model.now c.args.closed.well_formed c.args.bounds.lambda (counted c.scans.state.penalties) (counted c.raise.new.self) c.advance.new.routes.lists c.in_ok-ended.ensures.holds.valid
           c.advance.new.known c.raise.new.known c.raise.ensures.fewer c.raise.ensures.spares c.raise.ensures.settled c.in_ok-ended.ensures.known;
       learns = λ h. c.scans.invariant.learns (c.in_ok-ended.ensures.learns (c.raise.ensures.learns h));
     }
 
 pub returns-then-is_stuck-clause-outcome : goal.returns-then-is_stuck-clause-outcome
 returns-then-is_stuck-clause-outcome g c =
-    let more = apart c.scans.state.at.found c.args.limit.solutions c.scans-test.true in
-    let after = after_scan c.args.closed.model.now c.args.limit c.args.lambda (counted c.scans.state.penalties) c.scans.routes.lists c.scans.state.best.routes.lists c.scans.state.at.used c.scans.state.at.found (λ w. (goal.Watch-dyn g (w.vtable, w.value)).after w.value) (from_state c.args.closed.model.now c.args.limit c.args.lambda c.args.routes.now.lists c.args.state.now) _ _ _ more c.scans.invariant.goes c.in_ok-ended.ensures.told in
-    let done = completed c.args.closed.model.now (makes_less c.args.closed.model.now c.args.lambda (counted c.scans.state.penalties)) c.scans.routes.lists (c.args.limit.tries - c.scans.state.at.used) c.in-Complete.length (sym c.in-Complete.is ∙ c.in_ok-ended.ensures.ends) in
+    let more = apart c.scans.state.at.found c.args.bounds.limit.solutions c.scans-test.true in
+    let after = after_scan c.args.closed.model.now c.args.bounds.limit c.args.bounds.lambda (counted c.scans.state.penalties) c.scans.routes.lists c.scans.state.best.routes.lists c.scans.state.at.used c.scans.state.at.found (λ w. (goal.Watch-dyn g (w.vtable, w.value)).after w.value) (from_state c.args.closed.model.now c.args.bounds.limit c.args.bounds.lambda c.args.routes.now.lists c.args.state.now) _ _ _ more c.scans.invariant.goes c.in_ok-ended.ensures.told in
+    let done = completed c.args.closed.model.now (makes_less c.args.closed.model.now c.args.bounds.lambda (counted c.scans.state.penalties)) c.scans.routes.lists (c.args.bounds.limit.tries - c.scans.state.at.used) c.in-Complete.length (sym c.in-Complete.is ∙ c.in_ok-ended.ensures.ends) in
     let scanned = done.0 in
     let low = done.1 in
-    let at_new : c.advance.new.self ≡ record { used = c.scans.state.at.used + c.in-Complete.length; found = c.scans.state.at.found; cost = c.scans.state.at.cost } = c.in_ok-ended.ensures.progress ∙ ap (progress_after c.args.closed.model.now c.args.limit c.scans.routes.lists c.scans.state.at) scanned in
+    let at_new : c.advance.new.self ≡ record { used = c.scans.state.at.used + c.in-Complete.length; found = c.scans.state.at.found; cost = c.scans.state.at.cost } = c.in_ok-ended.ensures.progress ∙ ap (progress_after c.args.closed.model.now c.args.bounds.limit c.scans.routes.lists c.scans.state.at) scanned in
     let routes_new : c.advance.new.routes ≡ c.scans.routes = c.in_ok-ended.ensures.routes ∙ ap (routes_after c.args.closed.model.now c.scans.routes) scanned in
     let ends : is_at_end c.args.closed.model.now (standing c.scans.routes.lists c.scans.state.best.routes.lists c.scans.state.at.used c.scans.state.at.found) c.in-Complete.length ≡ true = ap (λ r. (c.in-Complete.length == 0) || not (has_costly_arc c.args.closed.model.now r.lists)) (sym routes_new) ∙ (sym c.is_stuck.ensures ∙ c.if-is_stuck.true) in
-    let goes = goes_as (λ w. (goal.Watch-dyn g (w.vtable, w.value)).after w.value) (from_state c.args.closed.model.now c.args.limit c.args.lambda c.args.routes.now.lists c.args.state.now) _ _ _ _ (ap (left_after c.args.closed.model.now c.args.limit c.args.lambda (counted c.scans.state.penalties) c.scans.routes.lists c.scans.state.best.routes.lists c.scans.state.at.used c.scans.state.at.found) scanned ∙ at_end c.args.closed.model.now c.args.limit c.args.lambda (counted c.scans.state.penalties) c.scans.routes.lists c.scans.state.best.routes.lists c.scans.state.at.used c.scans.state.at.found c.in-Complete.length ends) after in
-    ap (λ r. record { last = r.lists; best = c.scans.state.best.routes.lists; report = record { tries = c.advance.new.self.used; solutions = c.advance.new.self.found; «end» = Optimum }; events = (from_state c.args.closed.model.now c.args.limit c.args.lambda c.args.routes.now.lists c.args.state.now).events }) routes_new
-    ∙ (ap (λ p. record { last = c.scans.routes.lists; best = c.scans.state.best.routes.lists; report = record { tries = p.used; solutions = p.found; «end» = Optimum }; events = (from_state c.args.closed.model.now c.args.limit c.args.lambda c.args.routes.now.lists c.args.state.now).events }) at_new ∙ ends_so (from_state c.args.closed.model.now c.args.limit c.args.lambda c.args.routes.now.lists c.args.state.now) goes.told c.scans.routes.lists c.scans.state.best.routes.lists (c.scans.state.at.used + c.in-Complete.length) c.scans.state.at.found Optimum goes.outcome)
+    let goes = goes_as (λ w. (goal.Watch-dyn g (w.vtable, w.value)).after w.value) (from_state c.args.closed.model.now c.args.bounds.limit c.args.bounds.lambda c.args.routes.now.lists c.args.state.now) _ _ _ _ (ap (left_after c.args.closed.model.now c.args.bounds.limit c.args.bounds.lambda (counted c.scans.state.penalties) c.scans.routes.lists c.scans.state.best.routes.lists c.scans.state.at.used c.scans.state.at.found) scanned ∙ at_end c.args.closed.model.now c.args.bounds.limit c.args.bounds.lambda (counted c.scans.state.penalties) c.scans.routes.lists c.scans.state.best.routes.lists c.scans.state.at.used c.scans.state.at.found c.in-Complete.length ends) after in
+    ap (λ r. record { last = r.lists; best = c.scans.state.best.routes.lists; report = record { tries = c.advance.new.self.used; solutions = c.advance.new.self.found; «end» = Optimum }; events = (from_state c.args.closed.model.now c.args.bounds.limit c.args.bounds.lambda c.args.routes.now.lists c.args.state.now).events }) routes_new
+    ∙ (ap (λ p. record { last = c.scans.routes.lists; best = c.scans.state.best.routes.lists; report = record { tries = p.used; solutions = p.found; «end» = Optimum }; events = (from_state c.args.closed.model.now c.args.bounds.limit c.args.bounds.lambda c.args.routes.now.lists c.args.state.now).events }) at_new ∙ ends_so (from_state c.args.closed.model.now c.args.bounds.limit c.args.bounds.lambda c.args.routes.now.lists c.args.state.now) goes.told c.scans.routes.lists c.scans.state.best.routes.lists (c.scans.state.at.used + c.in-Complete.length) c.scans.state.at.found Optimum goes.outcome)
 
 pub returns-then-is_stuck-clause-told : goal.returns-then-is_stuck-clause-told
 returns-then-is_stuck-clause-told g c =
-    let more = apart c.scans.state.at.found c.args.limit.solutions c.scans-test.true in
-    let after = after_scan c.args.closed.model.now c.args.limit c.args.lambda (counted c.scans.state.penalties) c.scans.routes.lists c.scans.state.best.routes.lists c.scans.state.at.used c.scans.state.at.found (λ w. (goal.Watch-dyn g (w.vtable, w.value)).after w.value) (from_state c.args.closed.model.now c.args.limit c.args.lambda c.args.routes.now.lists c.args.state.now) _ _ _ more c.scans.invariant.goes c.in_ok-ended.ensures.told in
-    let done = completed c.args.closed.model.now (makes_less c.args.closed.model.now c.args.lambda (counted c.scans.state.penalties)) c.scans.routes.lists (c.args.limit.tries - c.scans.state.at.used) c.in-Complete.length (sym c.in-Complete.is ∙ c.in_ok-ended.ensures.ends) in
+    let more = apart c.scans.state.at.found c.args.bounds.limit.solutions c.scans-test.true in
+    let after = after_scan c.args.closed.model.now c.args.bounds.limit c.args.bounds.lambda (counted c.scans.state.penalties) c.scans.routes.lists c.scans.state.best.routes.lists c.scans.state.at.used c.scans.state.at.found (λ w. (goal.Watch-dyn g (w.vtable, w.value)).after w.value) (from_state c.args.closed.model.now c.args.bounds.limit c.args.bounds.lambda c.args.routes.now.lists c.args.state.now) _ _ _ more c.scans.invariant.goes c.in_ok-ended.ensures.told in
+    let done = completed c.args.closed.model.now (makes_less c.args.closed.model.now c.args.bounds.lambda (counted c.scans.state.penalties)) c.scans.routes.lists (c.args.bounds.limit.tries - c.scans.state.at.used) c.in-Complete.length (sym c.in-Complete.is ∙ c.in_ok-ended.ensures.ends) in
     let scanned = done.0 in
     let low = done.1 in
-    let at_new : c.advance.new.self ≡ record { used = c.scans.state.at.used + c.in-Complete.length; found = c.scans.state.at.found; cost = c.scans.state.at.cost } = c.in_ok-ended.ensures.progress ∙ ap (progress_after c.args.closed.model.now c.args.limit c.scans.routes.lists c.scans.state.at) scanned in
+    let at_new : c.advance.new.self ≡ record { used = c.scans.state.at.used + c.in-Complete.length; found = c.scans.state.at.found; cost = c.scans.state.at.cost } = c.in_ok-ended.ensures.progress ∙ ap (progress_after c.args.closed.model.now c.args.bounds.limit c.scans.routes.lists c.scans.state.at) scanned in
     let routes_new : c.advance.new.routes ≡ c.scans.routes = c.in_ok-ended.ensures.routes ∙ ap (routes_after c.args.closed.model.now c.scans.routes) scanned in
     let ends : is_at_end c.args.closed.model.now (standing c.scans.routes.lists c.scans.state.best.routes.lists c.scans.state.at.used c.scans.state.at.found) c.in-Complete.length ≡ true = ap (λ r. (c.in-Complete.length == 0) || not (has_costly_arc c.args.closed.model.now r.lists)) (sym routes_new) ∙ (sym c.is_stuck.ensures ∙ c.if-is_stuck.true) in
-    let goes = goes_as (λ w. (goal.Watch-dyn g (w.vtable, w.value)).after w.value) (from_state c.args.closed.model.now c.args.limit c.args.lambda c.args.routes.now.lists c.args.state.now) _ _ _ _ (ap (left_after c.args.closed.model.now c.args.limit c.args.lambda (counted c.scans.state.penalties) c.scans.routes.lists c.scans.state.best.routes.lists c.scans.state.at.used c.scans.state.at.found) scanned ∙ at_end c.args.closed.model.now c.args.limit c.args.lambda (counted c.scans.state.penalties) c.scans.routes.lists c.scans.state.best.routes.lists c.scans.state.at.used c.scans.state.at.found c.in-Complete.length ends) after in
-    goes_to_end (λ w. (goal.Watch-dyn g (w.vtable, w.value)).after w.value) (from_state c.args.closed.model.now c.args.limit c.args.lambda c.args.routes.now.lists c.args.state.now) (standing c.scans.routes.lists c.scans.state.best.routes.lists (c.scans.state.at.used + c.in-Complete.length) c.scans.state.at.found) Optimum _ _ goes
+    let goes = goes_as (λ w. (goal.Watch-dyn g (w.vtable, w.value)).after w.value) (from_state c.args.closed.model.now c.args.bounds.limit c.args.bounds.lambda c.args.routes.now.lists c.args.state.now) _ _ _ _ (ap (left_after c.args.closed.model.now c.args.bounds.limit c.args.bounds.lambda (counted c.scans.state.penalties) c.scans.routes.lists c.scans.state.best.routes.lists c.scans.state.at.used c.scans.state.at.found) scanned ∙ at_end c.args.closed.model.now c.args.bounds.limit c.args.bounds.lambda (counted c.scans.state.penalties) c.scans.routes.lists c.scans.state.best.routes.lists c.scans.state.at.used c.scans.state.at.found c.in-Complete.length ends) after in
+    goes_to_end (λ w. (goal.Watch-dyn g (w.vtable, w.value)).after w.value) (from_state c.args.closed.model.now c.args.bounds.limit c.args.bounds.lambda c.args.routes.now.lists c.args.state.now) (standing c.scans.routes.lists c.scans.state.best.routes.lists (c.scans.state.at.used + c.in-Complete.length) c.scans.state.at.found) Optimum _ _ goes
 
 pub returns-then-is_stuck-clause-asked : goal.returns-then-is_stuck-clause-asked
 returns-then-is_stuck-clause-asked g c =
@@ -337,10 +352,10 @@ returns-then-is_stuck-clause-looked g c =
 
 pub returns-then-is_stuck-clause-stands : goal.returns-then-is_stuck-clause-stands
 returns-then-is_stuck-clause-stands g c =
-    let done = completed c.args.closed.model.now (makes_less c.args.closed.model.now c.args.lambda (counted c.scans.state.penalties)) c.scans.routes.lists (c.args.limit.tries - c.scans.state.at.used) c.in-Complete.length (sym c.in-Complete.is ∙ c.in_ok-ended.ensures.ends) in
+    let done = completed c.args.closed.model.now (makes_less c.args.closed.model.now c.args.bounds.lambda (counted c.scans.state.penalties)) c.scans.routes.lists (c.args.bounds.limit.tries - c.scans.state.at.used) c.in-Complete.length (sym c.in-Complete.is ∙ c.in_ok-ended.ensures.ends) in
     let scanned = done.0 in
     let low = done.1 in
-    let at_new : c.advance.new.self ≡ record { used = c.scans.state.at.used + c.in-Complete.length; found = c.scans.state.at.found; cost = c.scans.state.at.cost } = c.in_ok-ended.ensures.progress ∙ ap (progress_after c.args.closed.model.now c.args.limit c.scans.routes.lists c.scans.state.at) scanned in
+    let at_new : c.advance.new.self ≡ record { used = c.scans.state.at.used + c.in-Complete.length; found = c.scans.state.at.found; cost = c.scans.state.at.cost } = c.in_ok-ended.ensures.progress ∙ ap (progress_after c.args.closed.model.now c.args.bounds.limit c.scans.routes.lists c.scans.state.at) scanned in
     let routes_new : c.advance.new.routes ≡ c.scans.routes = c.in_ok-ended.ensures.routes ∙ ap (routes_after c.args.closed.model.now c.scans.routes) scanned in
     let ends : is_at_end c.args.closed.model.now (standing c.scans.routes.lists c.scans.state.best.routes.lists c.scans.state.at.used c.scans.state.at.found) c.in-Complete.length ≡ true = ap (λ r. (c.in-Complete.length == 0) || not (has_costly_arc c.args.closed.model.now r.lists)) (sym routes_new) ∙ (sym c.is_stuck.ensures ∙ c.if-is_stuck.true) in
     let used_new = ap (λ p. p.used) at_new in
@@ -372,26 +387,26 @@ returns-then-is_stuck-clause-holds g c =
 
 pub returns-in-Cut-clause-outcome : goal.returns-in-Cut-clause-outcome
 returns-in-Cut-clause-outcome g c =
-    let more = apart c.scans.state.at.found c.args.limit.solutions c.scans-test.true in
-    let after = after_scan c.args.closed.model.now c.args.limit c.args.lambda (counted c.scans.state.penalties) c.scans.routes.lists c.scans.state.best.routes.lists c.scans.state.at.used c.scans.state.at.found (λ w. (goal.Watch-dyn g (w.vtable, w.value)).after w.value) (from_state c.args.closed.model.now c.args.limit c.args.lambda c.args.routes.now.lists c.args.state.now) _ _ _ more c.scans.invariant.goes c.in_ok-ended.ensures.told in
-    let scanned = was_cut c.args.closed.model.now (makes_less c.args.closed.model.now c.args.lambda (counted c.scans.state.penalties)) c.scans.routes.lists (c.args.limit.tries - c.scans.state.at.used) (sym c.in-Cut.is ∙ c.in_ok-ended.ensures.ends) in
-    let at_new : c.advance.new.self ≡ record { used = c.args.limit.tries; found = c.scans.state.at.found; cost = c.scans.state.at.cost } = c.in_ok-ended.ensures.progress ∙ ap (progress_after c.args.closed.model.now c.args.limit c.scans.routes.lists c.scans.state.at) scanned in
+    let more = apart c.scans.state.at.found c.args.bounds.limit.solutions c.scans-test.true in
+    let after = after_scan c.args.closed.model.now c.args.bounds.limit c.args.bounds.lambda (counted c.scans.state.penalties) c.scans.routes.lists c.scans.state.best.routes.lists c.scans.state.at.used c.scans.state.at.found (λ w. (goal.Watch-dyn g (w.vtable, w.value)).after w.value) (from_state c.args.closed.model.now c.args.bounds.limit c.args.bounds.lambda c.args.routes.now.lists c.args.state.now) _ _ _ more c.scans.invariant.goes c.in_ok-ended.ensures.told in
+    let scanned = was_cut c.args.closed.model.now (makes_less c.args.closed.model.now c.args.bounds.lambda (counted c.scans.state.penalties)) c.scans.routes.lists (c.args.bounds.limit.tries - c.scans.state.at.used) (sym c.in-Cut.is ∙ c.in_ok-ended.ensures.ends) in
+    let at_new : c.advance.new.self ≡ record { used = c.args.bounds.limit.tries; found = c.scans.state.at.found; cost = c.scans.state.at.cost } = c.in_ok-ended.ensures.progress ∙ ap (progress_after c.args.closed.model.now c.args.bounds.limit c.scans.routes.lists c.scans.state.at) scanned in
     let routes_new : c.advance.new.routes ≡ c.scans.routes = c.in_ok-ended.ensures.routes ∙ ap (routes_after c.args.closed.model.now c.scans.routes) scanned in
-    let all : c.scans.state.at.used + (c.args.limit.tries - c.scans.state.at.used) ≡ c.args.limit.tries = omega (arith, c.scans.invariant.stands.used) in
-    let goes = goes_as (λ w. (goal.Watch-dyn g (w.vtable, w.value)).after w.value) (from_state c.args.closed.model.now c.args.limit c.args.lambda c.args.routes.now.lists c.args.state.now) _ _ _ _ (ap (left_after c.args.closed.model.now c.args.limit c.args.lambda (counted c.scans.state.penalties) c.scans.routes.lists c.scans.state.best.routes.lists c.scans.state.at.used c.scans.state.at.found) scanned ∙ ap (λ k. ended (standing c.scans.routes.lists c.scans.state.best.routes.lists k c.scans.state.at.found) Tries) all) after in
-    ap (λ r. record { last = r.lists; best = c.scans.state.best.routes.lists; report = record { tries = c.advance.new.self.used; solutions = c.advance.new.self.found; «end» = Tries }; events = (from_state c.args.closed.model.now c.args.limit c.args.lambda c.args.routes.now.lists c.args.state.now).events }) routes_new
-    ∙ (ap (λ p. record { last = c.scans.routes.lists; best = c.scans.state.best.routes.lists; report = record { tries = p.used; solutions = p.found; «end» = Tries }; events = (from_state c.args.closed.model.now c.args.limit c.args.lambda c.args.routes.now.lists c.args.state.now).events }) at_new ∙ ends_so (from_state c.args.closed.model.now c.args.limit c.args.lambda c.args.routes.now.lists c.args.state.now) goes.told c.scans.routes.lists c.scans.state.best.routes.lists c.args.limit.tries c.scans.state.at.found Tries goes.outcome)
+    let all : c.scans.state.at.used + (c.args.bounds.limit.tries - c.scans.state.at.used) ≡ c.args.bounds.limit.tries = omega (arith, c.scans.invariant.stands.used) in
+    let goes = goes_as (λ w. (goal.Watch-dyn g (w.vtable, w.value)).after w.value) (from_state c.args.closed.model.now c.args.bounds.limit c.args.bounds.lambda c.args.routes.now.lists c.args.state.now) _ _ _ _ (ap (left_after c.args.closed.model.now c.args.bounds.limit c.args.bounds.lambda (counted c.scans.state.penalties) c.scans.routes.lists c.scans.state.best.routes.lists c.scans.state.at.used c.scans.state.at.found) scanned ∙ ap (λ k. ended (standing c.scans.routes.lists c.scans.state.best.routes.lists k c.scans.state.at.found) Tries) all) after in
+    ap (λ r. record { last = r.lists; best = c.scans.state.best.routes.lists; report = record { tries = c.advance.new.self.used; solutions = c.advance.new.self.found; «end» = Tries }; events = (from_state c.args.closed.model.now c.args.bounds.limit c.args.bounds.lambda c.args.routes.now.lists c.args.state.now).events }) routes_new
+    ∙ (ap (λ p. record { last = c.scans.routes.lists; best = c.scans.state.best.routes.lists; report = record { tries = p.used; solutions = p.found; «end» = Tries }; events = (from_state c.args.closed.model.now c.args.bounds.limit c.args.bounds.lambda c.args.routes.now.lists c.args.state.now).events }) at_new ∙ ends_so (from_state c.args.closed.model.now c.args.bounds.limit c.args.bounds.lambda c.args.routes.now.lists c.args.state.now) goes.told c.scans.routes.lists c.scans.state.best.routes.lists c.args.bounds.limit.tries c.scans.state.at.found Tries goes.outcome)
 
 pub returns-in-Cut-clause-told : goal.returns-in-Cut-clause-told
 returns-in-Cut-clause-told g c =
-    let more = apart c.scans.state.at.found c.args.limit.solutions c.scans-test.true in
-    let after = after_scan c.args.closed.model.now c.args.limit c.args.lambda (counted c.scans.state.penalties) c.scans.routes.lists c.scans.state.best.routes.lists c.scans.state.at.used c.scans.state.at.found (λ w. (goal.Watch-dyn g (w.vtable, w.value)).after w.value) (from_state c.args.closed.model.now c.args.limit c.args.lambda c.args.routes.now.lists c.args.state.now) _ _ _ more c.scans.invariant.goes c.in_ok-ended.ensures.told in
-    let scanned = was_cut c.args.closed.model.now (makes_less c.args.closed.model.now c.args.lambda (counted c.scans.state.penalties)) c.scans.routes.lists (c.args.limit.tries - c.scans.state.at.used) (sym c.in-Cut.is ∙ c.in_ok-ended.ensures.ends) in
-    let at_new : c.advance.new.self ≡ record { used = c.args.limit.tries; found = c.scans.state.at.found; cost = c.scans.state.at.cost } = c.in_ok-ended.ensures.progress ∙ ap (progress_after c.args.closed.model.now c.args.limit c.scans.routes.lists c.scans.state.at) scanned in
+    let more = apart c.scans.state.at.found c.args.bounds.limit.solutions c.scans-test.true in
+    let after = after_scan c.args.closed.model.now c.args.bounds.limit c.args.bounds.lambda (counted c.scans.state.penalties) c.scans.routes.lists c.scans.state.best.routes.lists c.scans.state.at.used c.scans.state.at.found (λ w. (goal.Watch-dyn g (w.vtable, w.value)).after w.value) (from_state c.args.closed.model.now c.args.bounds.limit c.args.bounds.lambda c.args.routes.now.lists c.args.state.now) _ _ _ more c.scans.invariant.goes c.in_ok-ended.ensures.told in
+    let scanned = was_cut c.args.closed.model.now (makes_less c.args.closed.model.now c.args.bounds.lambda (counted c.scans.state.penalties)) c.scans.routes.lists (c.args.bounds.limit.tries - c.scans.state.at.used) (sym c.in-Cut.is ∙ c.in_ok-ended.ensures.ends) in
+    let at_new : c.advance.new.self ≡ record { used = c.args.bounds.limit.tries; found = c.scans.state.at.found; cost = c.scans.state.at.cost } = c.in_ok-ended.ensures.progress ∙ ap (progress_after c.args.closed.model.now c.args.bounds.limit c.scans.routes.lists c.scans.state.at) scanned in
     let routes_new : c.advance.new.routes ≡ c.scans.routes = c.in_ok-ended.ensures.routes ∙ ap (routes_after c.args.closed.model.now c.scans.routes) scanned in
-    let all : c.scans.state.at.used + (c.args.limit.tries - c.scans.state.at.used) ≡ c.args.limit.tries = omega (arith, c.scans.invariant.stands.used) in
-    let goes = goes_as (λ w. (goal.Watch-dyn g (w.vtable, w.value)).after w.value) (from_state c.args.closed.model.now c.args.limit c.args.lambda c.args.routes.now.lists c.args.state.now) _ _ _ _ (ap (left_after c.args.closed.model.now c.args.limit c.args.lambda (counted c.scans.state.penalties) c.scans.routes.lists c.scans.state.best.routes.lists c.scans.state.at.used c.scans.state.at.found) scanned ∙ ap (λ k. ended (standing c.scans.routes.lists c.scans.state.best.routes.lists k c.scans.state.at.found) Tries) all) after in
-    goes_to_end (λ w. (goal.Watch-dyn g (w.vtable, w.value)).after w.value) (from_state c.args.closed.model.now c.args.limit c.args.lambda c.args.routes.now.lists c.args.state.now) (standing c.scans.routes.lists c.scans.state.best.routes.lists c.args.limit.tries c.scans.state.at.found) Tries _ _ goes
+    let all : c.scans.state.at.used + (c.args.bounds.limit.tries - c.scans.state.at.used) ≡ c.args.bounds.limit.tries = omega (arith, c.scans.invariant.stands.used) in
+    let goes = goes_as (λ w. (goal.Watch-dyn g (w.vtable, w.value)).after w.value) (from_state c.args.closed.model.now c.args.bounds.limit c.args.bounds.lambda c.args.routes.now.lists c.args.state.now) _ _ _ _ (ap (left_after c.args.closed.model.now c.args.bounds.limit c.args.bounds.lambda (counted c.scans.state.penalties) c.scans.routes.lists c.scans.state.best.routes.lists c.scans.state.at.used c.scans.state.at.found) scanned ∙ ap (λ k. ended (standing c.scans.routes.lists c.scans.state.best.routes.lists k c.scans.state.at.found) Tries) all) after in
+    goes_to_end (λ w. (goal.Watch-dyn g (w.vtable, w.value)).after w.value) (from_state c.args.closed.model.now c.args.bounds.limit c.args.bounds.lambda c.args.routes.now.lists c.args.state.now) (standing c.scans.routes.lists c.scans.state.best.routes.lists c.args.bounds.limit.tries c.scans.state.at.found) Tries _ _ goes
 
 pub returns-in-Cut-clause-asked : goal.returns-in-Cut-clause-asked
 returns-in-Cut-clause-asked g c =
@@ -403,10 +418,10 @@ returns-in-Cut-clause-looked g c =
 
 pub returns-in-Cut-clause-stands : goal.returns-in-Cut-clause-stands
 returns-in-Cut-clause-stands g c =
-    let scanned = was_cut c.args.closed.model.now (makes_less c.args.closed.model.now c.args.lambda (counted c.scans.state.penalties)) c.scans.routes.lists (c.args.limit.tries - c.scans.state.at.used) (sym c.in-Cut.is ∙ c.in_ok-ended.ensures.ends) in
-    let at_new : c.advance.new.self ≡ record { used = c.args.limit.tries; found = c.scans.state.at.found; cost = c.scans.state.at.cost } = c.in_ok-ended.ensures.progress ∙ ap (progress_after c.args.closed.model.now c.args.limit c.scans.routes.lists c.scans.state.at) scanned in
+    let scanned = was_cut c.args.closed.model.now (makes_less c.args.closed.model.now c.args.bounds.lambda (counted c.scans.state.penalties)) c.scans.routes.lists (c.args.bounds.limit.tries - c.scans.state.at.used) (sym c.in-Cut.is ∙ c.in_ok-ended.ensures.ends) in
+    let at_new : c.advance.new.self ≡ record { used = c.args.bounds.limit.tries; found = c.scans.state.at.found; cost = c.scans.state.at.cost } = c.in_ok-ended.ensures.progress ∙ ap (progress_after c.args.closed.model.now c.args.bounds.limit c.scans.routes.lists c.scans.state.at) scanned in
     let routes_new : c.advance.new.routes ≡ c.scans.routes = c.in_ok-ended.ensures.routes ∙ ap (routes_after c.args.closed.model.now c.scans.routes) scanned in
-    let all : c.scans.state.at.used + (c.args.limit.tries - c.scans.state.at.used) ≡ c.args.limit.tries = omega (arith, c.scans.invariant.stands.used) in
+    let all : c.scans.state.at.used + (c.args.bounds.limit.tries - c.scans.state.at.used) ≡ c.args.bounds.limit.tries = omega (arith, c.scans.invariant.stands.used) in
     let used_new = ap (λ p. p.used) at_new in
     let found_new = ap (λ p. p.found) at_new in
     let best_old = c.scans.invariant.stands.best in
@@ -436,13 +451,13 @@ returns-in-Cut-clause-holds g c =
 
 pub returns-clause-outcome : goal.returns-clause-outcome
 returns-clause-outcome g c =
-    let goes = goes_as (λ w. (goal.Watch-dyn g (w.vtable, w.value)).after w.value) (from_state c.args.closed.model.now c.args.limit c.args.lambda c.args.routes.now.lists c.args.state.now) _ _ _ _ (enough c.args.closed.model.now c.args.limit c.args.lambda (counted c.scans.state.penalties) c.scans.routes.lists c.scans.state.best.routes.lists c.scans.state.at.used c.scans.state.at.found (same_count c.scans.state.at.found c.args.limit.solutions c.scans-test.false)) c.scans.invariant.goes in
-    ends_so (from_state c.args.closed.model.now c.args.limit c.args.lambda c.args.routes.now.lists c.args.state.now) goes.told c.scans.routes.lists c.scans.state.best.routes.lists c.scans.state.at.used c.scans.state.at.found Solutions goes.outcome
+    let goes = goes_as (λ w. (goal.Watch-dyn g (w.vtable, w.value)).after w.value) (from_state c.args.closed.model.now c.args.bounds.limit c.args.bounds.lambda c.args.routes.now.lists c.args.state.now) _ _ _ _ (enough c.args.closed.model.now c.args.bounds.limit c.args.bounds.lambda (counted c.scans.state.penalties) c.scans.routes.lists c.scans.state.best.routes.lists c.scans.state.at.used c.scans.state.at.found (same_count c.scans.state.at.found c.args.bounds.limit.solutions c.scans-test.false)) c.scans.invariant.goes in
+    ends_so (from_state c.args.closed.model.now c.args.bounds.limit c.args.bounds.lambda c.args.routes.now.lists c.args.state.now) goes.told c.scans.routes.lists c.scans.state.best.routes.lists c.scans.state.at.used c.scans.state.at.found Solutions goes.outcome
 
 pub returns-clause-told : goal.returns-clause-told
 returns-clause-told g c =
-    let goes = goes_as (λ w. (goal.Watch-dyn g (w.vtable, w.value)).after w.value) (from_state c.args.closed.model.now c.args.limit c.args.lambda c.args.routes.now.lists c.args.state.now) _ _ _ _ (enough c.args.closed.model.now c.args.limit c.args.lambda (counted c.scans.state.penalties) c.scans.routes.lists c.scans.state.best.routes.lists c.scans.state.at.used c.scans.state.at.found (same_count c.scans.state.at.found c.args.limit.solutions c.scans-test.false)) c.scans.invariant.goes in
-    goes_to_end (λ w. (goal.Watch-dyn g (w.vtable, w.value)).after w.value) (from_state c.args.closed.model.now c.args.limit c.args.lambda c.args.routes.now.lists c.args.state.now) (standing c.scans.routes.lists c.scans.state.best.routes.lists c.scans.state.at.used c.scans.state.at.found) Solutions _ _ goes
+    let goes = goes_as (λ w. (goal.Watch-dyn g (w.vtable, w.value)).after w.value) (from_state c.args.closed.model.now c.args.bounds.limit c.args.bounds.lambda c.args.routes.now.lists c.args.state.now) _ _ _ _ (enough c.args.closed.model.now c.args.bounds.limit c.args.bounds.lambda (counted c.scans.state.penalties) c.scans.routes.lists c.scans.state.best.routes.lists c.scans.state.at.used c.scans.state.at.found (same_count c.scans.state.at.found c.args.bounds.limit.solutions c.scans-test.false)) c.scans.invariant.goes in
+    goes_to_end (λ w. (goal.Watch-dyn g (w.vtable, w.value)).after w.value) (from_state c.args.closed.model.now c.args.bounds.limit c.args.bounds.lambda c.args.routes.now.lists c.args.state.now) (standing c.scans.routes.lists c.scans.state.best.routes.lists c.scans.state.at.used c.scans.state.at.found) Solutions _ _ goes
 
 pub returns-clause-asked : goal.returns-clause-asked
 returns-clause-asked g c =
@@ -474,4 +489,4 @@ advance-requires-clause-known g c =
 
 pub advance-requires-clause-stays : goal.advance-requires-clause-stays
 advance-requires-clause-stays g c h =
-    guided_stays c.args.closed.model.now c.args.closed.well_formed (c.scans.invariant.learns h) c.args.lambda (counted c.scans.state.penalties)
+    guided_stays c.args.closed.model.now c.args.closed.well_formed (c.scans.invariant.learns h) c.args.bounds.lambda (counted c.scans.state.penalties)

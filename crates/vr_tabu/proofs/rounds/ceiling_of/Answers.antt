@@ -1,4 +1,4 @@
-use Rattle.std.proofs.Common.{◌≡◌, arith, w64, to_z, of_z}
+use Rattle.std.proofs.Common.{arith}
 use Rattle.std.proofs.lemmas.Int.{ints}
 use Rattle.vr_model.proofs.routes.CostFits.{costs_are_bounded}
 use Rattle.vr_tabu.specs.Tabus.{tabus_of}

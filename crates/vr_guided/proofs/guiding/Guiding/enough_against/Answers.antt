@@ -9,8 +9,8 @@ use Rattle.vr_guided.proofs.guiding.Guiding.enough_against.Goals as goal
 pub nonzero_div-weighed : goal.nonzero_div-weighed
 nonzero_div-weighed c =
     let s = c.args.self.now.sound in
-    let q_from = s.q_from_one in
-    let q_to = s.q_to_1000 in
+    let q_from = s.q_in_range.at_least in
+    let q_to = s.q_in_range.at_most in
     let low = c.weighed-weighed.ensures.low in
     let high = c.weighed-weighed.ensures.high in
     let some : 0 < of_z w64 c.args.self.now.lambda.q = omega (arith, ints, q_from, q_to) in
@@ -19,7 +19,7 @@ nonzero_div-weighed c =
 
 pub returns : goal.returns
 returns c =
-    let low = c.requires.low in
-    let high = c.requires.high in
+    let low = c.requires.at_least in
+    let high = c.requires.at_most in
     let as_read : to_z w128 (of_z w128 c.args.saved) ≡ c.args.saved = omega (arith, ints, low, high) in
     subst (λ z. IfSome c.where_enough.result (λ e. is_gain c.args.self.now.lambda e (pos 0 -ℤ z) ≡ false)) as_read c.where_enough.ensures

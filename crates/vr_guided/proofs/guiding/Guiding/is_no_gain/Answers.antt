@@ -10,16 +10,16 @@ use Rattle.vr_guided.proofs.guiding.Guiding.is_no_gain.Goals as goal
 pub returns-then-saved-eq0 : goal.returns-then-saved-eq0
 returns-then-saved-eq0 c = λ none. (
     let low : pos 0 ≤ℤ c.args.difference = omega (arith, ints, none) in
-    let from = c.requires.low in
-    let to = c.requires.high in
+    let from = c.requires.at_least in
+    let to = c.requires.at_most in
     let same = c.if-saved-eq0.true in
     let nothing : c.args.saved ≡ pos 0 = omega (arith, ints, from, to, same) in
-    none_at_zero c.args.self.now.lambda c.args.difference c.args.saved c.args.self.now.sound.q_from_one low nothing)
+    none_at_zero c.args.self.now.lambda c.args.difference c.args.saved c.args.self.now.sound.q_in_range.at_least low nothing)
 
 pub returns : goal.returns
 returns c = λ none. (
-    let low = c.requires.low in
-    let high = c.requires.high in
+    let low = c.requires.at_least in
+    let high = c.requires.at_most in
     let range = c.ranges.difference in
     let same : to_z w64 (of_z w64 c.args.difference) ≡ c.args.difference = omega (arith, ints, range) in
     let as_read : to_z w128 (of_z w128 (pos 0 -ℤ to_z w128 (of_z w128 c.args.saved))) ≡ pos 0 -ℤ c.args.saved = omega (arith, ints, low, high) in

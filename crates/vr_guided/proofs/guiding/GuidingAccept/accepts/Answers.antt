@@ -9,7 +9,7 @@ use Rattle.vr_guided.proofs.guiding.GuidingAccept.accepts.Goals as goal
 pub returns : goal.returns
 returns c =
     let at = c.args.self.now in
-    let p = counted at.penalties.now in
+    let p = counted at.weights.penalties.now in
     let lists = c.args.routes.now.lists in
     let range = c.ranges.difference in
     let same : to_z w64 (of_z w64 c.args.difference) ≡ c.args.difference = omega (arith, ints, range) in
@@ -19,4 +19,4 @@ returns c =
     let as_read : to_z w128 (of_z w128 c.penalised_change.result) ≡ c.penalised_change.result = omega (arith, ints, least, most) in
     c.gains.ensures
     ∙ (ap₂ (is_gain at.lambda) same as_read
-    ∙ makes_less_where at.model.now at.lambda p lists c.args.mv c.args.difference c.penalised_change.result c.requires.difference change.value)
+    ∙ makes_less_where at.weights.closed.model.now at.lambda p lists c.args.mv c.args.difference c.penalised_change.result c.requires.difference change.value)

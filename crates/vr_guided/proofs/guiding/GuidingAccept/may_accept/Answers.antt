@@ -16,23 +16,21 @@ use Rattle.vr_guided.proofs.guiding.GuidingAccept.may_accept.Goals as goal
 told : (before after saved : ℤ) → (before -ℤ after) ≤ℤ saved → pos 0 ≤ℤ ((after -ℤ before) +ℤ saved)
 told before after saved most = omega (arith, ints, most)
 
-pub saved_at_most-saved-requires-clause-after : goal.saved_at_most-saved-requires-clause-after
-saved_at_most-saved-requires-clause-after c =
-    let model = c.args.self.now.model.now in
+pub invariant_of-weighed-2 : goal.invariant_of-weighed-2
+invariant_of-weighed-2 c =
+    let weights = c.args.self.now.weights in
+    let model = weights.closed.model.now in
     let lists = c.args.routes.now.lists in
-    subst (λ ls. IsTrue (are_lists model ls)) (sym c.requires.change.lists_are) (moves_keep_lists model c.requires.well_formed lists c.args._mv (are-lists model lists c.requires.valid) c.requires.mv)
-
-pub change-requires-clause-after : goal.change-requires-clause-after
-change-requires-clause-after c =
-    let model = c.args.self.now.model.now in
-    let lists = c.args.routes.now.lists in
-    subst (λ ls. IsTrue (are_lists model ls)) (sym c.requires.change.lists_are) (moves_keep_lists model c.requires.well_formed lists c.args._mv (are-lists model lists c.requires.valid) c.requires.mv)
+    record {
+      parts = c.requires.change.parts_are;
+      after = subst (λ ls. IsTrue (are_lists model ls)) (sym c.requires.change.lists_are) (moves_keep_lists model weights.closed.well_formed lists c.args._mv (are-lists model lists c.requires.valid) c.requires.mv);
+    }
 
 pub returns-then-is_no_gain : goal.returns-then-is_no_gain
 returns-then-is_no_gain c = record {
   passed = λ refused valid low. (
       let at = c.args.self.now in
-      let p = counted at.penalties.now in
+      let p = counted at.weights.penalties.now in
       let lists = c.args.routes.now.lists in
       let range = c.ranges.least in
       let same : to_z w64 (of_z w64 c.args.least) ≡ c.args.least = omega (arith, ints, range) in
@@ -40,26 +38,26 @@ returns-then-is_no_gain c = record {
       let from = c.saved_at_most-saved.ensures.low in
       let to = c.saved_at_most-saved.ensures.high in
       let as_read : to_z w128 (of_z w128 saved) ≡ saved = omega (arith, ints, from, to) in
-      let most = subst (λ ls. (penalised at.model.now p lists -ℤ penalised at.model.now p ls) ≤ℤ saved) c.requires.change.lists_are c.saved_at_most-saved.ensures.most in
+      let most = subst (λ ls. (penalised at.weights.closed.model.now p lists -ℤ penalised at.weights.closed.model.now p ls) ≤ℤ saved) c.requires.change.lists_are c.saved_at_most-saved.ensures.most in
       let none = subst (λ d. is_gain at.lambda d (pos 0 -ℤ saved) ≡ false) same
       (subst (λ z. is_gain at.lambda (to_z w64 (of_z w64 c.args.least)) (pos 0 -ℤ z) ≡ false) as_read (c.is_no_gain.ensures c.if-is_no_gain.true)) in
-      let no_gain = none_saved at.lambda c.args.least (penalised_change at.model.now p lists c.args._mv) saved at.sound.p_from_one none (told (penalised at.model.now p lists) (penalised at.model.now p (apply at.model.now lists c.args._mv)) saved most) in
-      passed_over at.model.now at.lambda p lists c.args._mv c.args.least at.sound.q_from_one no_gain low);
+      let no_gain = none_saved at.lambda c.args.least (penalised_change at.weights.closed.model.now p lists c.args._mv) saved at.sound.p_in_range.at_least none (told (penalised at.weights.closed.model.now p lists) (penalised at.weights.closed.model.now p (apply at.weights.closed.model.now lists c.args._mv)) saved most) in
+      passed_over at.weights.closed.model.now at.lambda p lists c.args._mv c.args.least at.sound.q_in_range.at_least no_gain low);
 }
 
 pub returns : goal.returns
 returns c = record {
   passed = λ refused valid low. (
       let at = c.args.self.now in
-      let p = counted at.penalties.now in
+      let p = counted at.weights.penalties.now in
       let lists = c.args.routes.now.lists in
       let range = c.ranges.least in
       let same : to_z w64 (of_z w64 c.args.least) ≡ c.args.least = omega (arith, ints, range) in
-      let change = c.change.ensures in
-      let from = at_least (2 ^ 100) c.change.result change.bound in
-      let to = at_most (2 ^ 100) c.change.result change.bound in
-      let as_read : to_z w128 (of_z w128 c.change.result) ≡ c.change.result = omega (arith, ints, from, to) in
-      let value = change.value ∙ ap (λ ls. penalised at.model.now p ls -ℤ penalised at.model.now p lists) c.requires.change.lists_are in
+      let change = c.difference.ensures in
+      let from = at_least (2 ^ 100) c.difference.result change.bound in
+      let to = at_most (2 ^ 100) c.difference.result change.bound in
+      let as_read : to_z w128 (of_z w128 c.difference.result) ≡ c.difference.result = omega (arith, ints, from, to) in
+      let value = change.value ∙ ap (λ ls. penalised at.weights.closed.model.now p ls -ℤ penalised at.weights.closed.model.now p lists) c.requires.change.lists_are in
       let none = sym (c.gains.ensures ∙ ap₂ (is_gain at.lambda) same (as_read ∙ value)) ∙ refused in
-      passed_over at.model.now at.lambda p lists c.args._mv c.args.least at.sound.q_from_one none low);
+      passed_over at.weights.closed.model.now at.lambda p lists c.args._mv c.args.least at.sound.q_in_range.at_least none low);
 }

@@ -9,16 +9,16 @@ use Rattle.vr_guided.proofs.SavingLemmas.{changed_have_lists, never_a_gain}
 use Rattle.vr_guided.proofs.guiding.GuidingAccept.may_accept_by_numbers.Goals as goal
 
 pub saved_by_lists-saved-requires-clause-v : goal.saved_by_lists-saved-requires-clause-v
-saved_by_lists-saved-requires-clause-v c = (changed_have_lists c.args.self.now.model.now c.args.routes.now.lists c.args.mv c.requires.mv c.in-Some.changed (subst (AreChanged c.args.self.now.model.now c.args.routes.now.lists c.args.mv) c.in-Some.is c.vehicles_changed.ensures)).0
+saved_by_lists-saved-requires-clause-v c = (changed_have_lists c.args.self.now.weights.closed.model.now c.args.routes.now.lists c.args.mv c.requires.mv c.in-Some.changed (subst (AreChanged c.args.self.now.weights.closed.model.now c.args.routes.now.lists c.args.mv) c.in-Some.is c.vehicles_changed.ensures)).0
 
 pub saved_by_lists-saved-requires-clause-w : goal.saved_by_lists-saved-requires-clause-w
-saved_by_lists-saved-requires-clause-w c = (changed_have_lists c.args.self.now.model.now c.args.routes.now.lists c.args.mv c.requires.mv c.in-Some.changed (subst (AreChanged c.args.self.now.model.now c.args.routes.now.lists c.args.mv) c.in-Some.is c.vehicles_changed.ensures)).1
+saved_by_lists-saved-requires-clause-w c = (changed_have_lists c.args.self.now.weights.closed.model.now c.args.routes.now.lists c.args.mv c.requires.mv c.in-Some.changed (subst (AreChanged c.args.self.now.weights.closed.model.now c.args.routes.now.lists c.args.mv) c.in-Some.is c.vehicles_changed.ensures)).1
 
 pub returns : goal.returns
 returns c = record {
   passed = λ none_taken. (
       let at = c.args.self.now in
-      let p = counted at.penalties.now in
+      let p = counted at.weights.penalties.now in
       let lists = c.args.routes.now.lists in
       let range = c.ranges.least in
       let same : to_z w64 (of_z w64 c.args.least) ≡ c.args.least = omega (arith, ints, range) in
@@ -28,6 +28,6 @@ returns c = record {
       let to = s.high in
       let as_read : to_z w128 (of_z w128 (pos 0 -ℤ to_z w128 (of_z w128 saved))) ≡ pos 0 -ℤ saved = omega (arith, ints, from, to) in
       let none = sym (c.gains.ensures ∙ ap₂ (is_gain at.lambda) same as_read) ∙ none_taken in
-      never_a_gain at.model.now c.requires.well_formed p at.sound.few at.lambda at.sound.p_from_one at.sound.q_from_one lists c.requires.valid c.args.mv c.requires.mv
-      c.in-Some.changed (subst (AreChanged c.args.self.now.model.now c.args.routes.now.lists c.args.mv) c.in-Some.is c.vehicles_changed.ensures) saved s.most c.args.least none);
+      never_a_gain at.weights.closed.model.now at.weights.closed.well_formed p at.weights.few at.lambda at.sound.p_in_range.at_least at.sound.q_in_range.at_least lists c.requires.valid c.args.mv c.requires.mv
+      c.in-Some.changed (subst (AreChanged c.args.self.now.weights.closed.model.now c.args.routes.now.lists c.args.mv) c.in-Some.is c.vehicles_changed.ensures) saved s.most c.args.least none);
 }

@@ -19,6 +19,6 @@ returns c = record {
       let high = s.high in
       let as_read : to_z w128 (of_z w128 saved) ≡ saved = omega (arith, ints, low, high) in
       let none = subst (λ z. IfSome c.enough_against.result (λ e. is_gain at.lambda e (pos 0 -ℤ z) ≡ false)) as_read c.enough_against.ensures in
-      enough_for_run at.model.now c.requires.well_formed (counted at.penalties.now) at.sound.few at.lambda at.sound.p_from_one at.sound.q_from_one lists c.requires.valid c.args.mv
-      c.in-Some.changed (subst (AreChanged c.args.self.now.model.now c.args.routes.now.lists c.args.mv) c.in-Some.is c.vehicles_changed.ensures) saved s.most c.enough_against.result none);
+      enough_for_run at.weights.closed.model.now at.weights.closed.well_formed (counted at.weights.penalties.now) at.weights.few at.lambda at.sound.p_in_range.at_least at.sound.q_in_range.at_least lists c.requires.valid c.args.mv
+      c.in-Some.changed (subst (AreChanged c.args.self.now.weights.closed.model.now c.args.routes.now.lists c.args.mv) c.in-Some.is c.vehicles_changed.ensures) saved s.most c.enough_against.result none);
 }

@@ -18,8 +18,8 @@ loop-vehicle-init c =
       goes = ap (λ best. raised_in_turn model best old (each (range_with_len 0 (length model.vehicles - 0)) (λ v. arcs_of model v (route lists v)))) c.greatest-greatest.ensures
           ∙ (ap (λ k. raised_in_turn model (greatest (worth_of model old) worthless (used_arcs model lists)) old (each (range_with_len 0 k) (λ v. arcs_of model v (route lists v)))) (vehicles_left c.args.closed.model.now c.args.routes.now.lists c.requires.valid)
           ∙ raised_all model old lists c.requires.costly);
-      nodes = c.requires.covers;
-      few = at_most_more old 1000000000 _ (omega arith) c.requires.few;
+      nodes = c.requires.counts.covers;
+      few = at_most_more old 1000000000 _ (omega arith) c.requires.counts.few;
       fewer = λ k u w h. h;
       spares = λ k r u w one two origin target from to. refl;
       learns = λ h. h;
@@ -28,11 +28,12 @@ loop-vehicle-init c =
 pub list-requires : goal.list-requires
 list-requires c = record { vehicle = has_list c.args.closed.model.now c.args.routes.now.lists c.requires.valid c.loop-vehicle-test.true c.len-vehicle-end.ensures }
 
-pub raise_vehicle-requires-clause-nodes : goal.raise_vehicle-requires-clause-nodes
-raise_vehicle-requires-clause-nodes c = list_below c.args.closed.model.now c.args.routes.now.lists c.requires.valid c.loop-vehicle.vehicle c.list.ensures.value
-
-pub raise_vehicle-requires-clause-short : goal.raise_vehicle-requires-clause-short
-raise_vehicle-requires-clause-short c = list_short c.args.closed.model.now c.args.routes.now.lists c.requires.valid c.args.closed.well_formed c.loop-vehicle.vehicle c.list.ensures.value
+pub invariant_of-list : goal.invariant_of-list
+invariant_of-list c = record {
+  there = omega (arith, c.loop-vehicle-test.true, c.len-vehicle-end.ensures);
+  below = list_below c.args.closed.model.now c.args.routes.now.lists c.requires.valid c.loop-vehicle.vehicle c.list.ensures.value;
+  short = list_short c.args.closed.model.now c.args.routes.now.lists c.requires.valid c.args.closed.well_formed c.loop-vehicle.vehicle c.list.ensures.value;
+}
 
 pub loop-vehicle-preserved : goal.loop-vehicle-preserved
 loop-vehicle-preserved c =

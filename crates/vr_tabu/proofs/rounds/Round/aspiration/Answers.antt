@@ -5,7 +5,7 @@ use Rattle.vr_tabu.proofs.rounds.Round.aspiration.Goals as goal
 
 pub overflow_sub-result : goal.overflow_sub-result
 overflow_sub-result c =
-    let known = c.requires.known in
+    let known = c.args.self.now.known in
     let fits = costs_are_bounded c.args.self.now.model.now known.well_formed c.args.self.now.routes.now.lists known.valid in
     let best_fits = costs_are_bounded c.args.self.now.model.now known.well_formed c.args.self.now.state.now.best.routes.lists known.best.valid in
     let costs = known.costs in
@@ -14,7 +14,7 @@ overflow_sub-result c =
 
 pub returns : goal.returns
 returns c =
-    let known = c.requires.known in
+    let known = c.args.self.now.known in
     let fits = costs_are_bounded c.args.self.now.model.now known.well_formed c.args.self.now.routes.now.lists known.valid in
     let best_fits = costs_are_bounded c.args.self.now.model.now known.well_formed c.args.self.now.state.now.best.routes.lists known.best.valid in
     let costs = known.costs in

@@ -5,12 +5,13 @@ use Rattle.vr_model.proofs.moves.KeptLists.{moves_keep_lists}
 use Rattle.vr_model.proofs.routes.Lists.{are-lists}
 use Rattle.vr_tabu.proofs.rounds.Round.is_tabu.Goals as goal
 
-pub is_tabu-requires-clause-are_lists : goal.is_tabu-requires-clause-are_lists
-is_tabu-requires-clause-are_lists c = are-lists c.args.self.now.model.now c.args.self.now.routes.now.lists c.requires.known.valid
-
-pub is_tabu-requires-clause-after : goal.is_tabu-requires-clause-after
-is_tabu-requires-clause-after c =
+pub invariant_of-lists : goal.invariant_of-lists
+invariant_of-lists c =
+    let known = c.args.self.now.known in
     let model = c.args.self.now.model.now in
     let lists = c.args.self.now.routes.now.lists in
-    subst (λ after. IsTrue (are_lists model after)) (sym c.requires.change.lists_are)
-    (moves_keep_lists model c.requires.known.well_formed lists c.args._mv (are-lists model lists c.requires.known.valid) c.requires.mv)
+    let before = are-lists model lists known.valid in
+    record {
+      before = before;
+      after = subst (λ ls. IsTrue (are_lists model ls)) (sym c.requires.change.lists_are) (moves_keep_lists model known.well_formed lists c.args._mv before c.requires.mv);
+    }

@@ -1,4 +1,4 @@
-use Rattle.std.proofs.Common.{◌≡◌, ◌∙◌, ℕ, suc, ◌+◌, ◌^◌, ◌<◌, ◌≤◌, ◌∷◌, length, refl, sym, ap, arith}
+use Rattle.std.proofs.Common.{◌≡◌, ◌∙◌, ℕ, suc, ◌+◌, ◌^◌, ◌<◌, ◌≤◌, length, refl, sym, ap, arith}
 use Rattle.std.specs.Prelude.{None}
 use Rattle.std.specs.List.{list_all}
 use Rattle.vr_model.specs.deciding.Testing.{and_right}
@@ -39,7 +39,7 @@ returns-then-length-rest-clause-ends g c =
     let best = c.args.self.now.state.now.best.routes.lists in
     let i = c.loop-mv.invariant in
     let t = c.in-Some.ensures.takes in
-    let is = pass_over model tabus best lists c.loop-mv.best c.args.self.now.ceiling c.loop-mv.list t.behind c.loop-mv.length c.next_open.new.length i.known c.requires.ceiling t.passes i.counted i.moves i.left in
+    let is = pass_over model tabus best lists c.loop-mv.best c.args.self.now.ceiling c.loop-mv.list t.behind c.loop-mv.length c.next_open.new.length i.known c.args.self.now.bounded t.passes i.counted i.moves i.left in
     let all = all_with is.at (length t.behind) (length c.next_open.new.list) (length (moves model lists)) is.sum (ap length t.first) in
     let counts = is.counts in
     let most = at_most is.at in
@@ -57,7 +57,7 @@ loop-mv-preserved g c =
     let i = c.loop-mv.invariant in
     let e = c.in_ok-best.ensures in
     let t = c.in-Some.ensures.takes in
-    let is = pass_over model tabus best lists c.loop-mv.best c.args.self.now.ceiling c.loop-mv.list t.behind c.loop-mv.length c.next_open.new.length i.known c.requires.ceiling t.passes i.counted i.moves i.left in
+    let is = pass_over model tabus best lists c.loop-mv.best c.args.self.now.ceiling c.loop-mv.list t.behind c.loop-mv.length c.next_open.new.length i.known c.args.self.now.bounded t.passes i.counted i.moves i.left in
     let counts = is.counts in
     let from = is.from in
     let under = c.if-length-rest.false in
@@ -85,7 +85,7 @@ returns-then-length-rest-2-clause-ends g c =
     let best = c.args.self.now.state.now.best.routes.lists in
     let i = c.loop-mv.invariant in
     let t = c.in_default.ensures.takes in
-    let is = pass_over model tabus best lists c.loop-mv.best c.args.self.now.ceiling c.loop-mv.list t.behind c.loop-mv.length c.next_open.new.length i.known c.requires.ceiling t.passes i.counted i.moves i.left in
+    let is = pass_over model tabus best lists c.loop-mv.best c.args.self.now.ceiling c.loop-mv.list t.behind c.loop-mv.length c.next_open.new.length i.known c.args.self.now.bounded t.passes i.counted i.moves i.left in
     let counts = is.counts in
     let sum = is.sum in
     let most = at_most is.at in
@@ -99,7 +99,7 @@ returns-clause-ends g c =
     let best = c.args.self.now.state.now.best.routes.lists in
     let i = c.loop-mv.invariant in
     let t = c.in_default.ensures.takes in
-    let is = pass_over model tabus best lists c.loop-mv.best c.args.self.now.ceiling c.loop-mv.list t.behind c.loop-mv.length c.next_open.new.length i.known c.requires.ceiling t.passes i.counted i.moves i.left in
+    let is = pass_over model tabus best lists c.loop-mv.best c.args.self.now.ceiling c.loop-mv.list t.behind c.loop-mv.length c.next_open.new.length i.known c.args.self.now.bounded t.passes i.counted i.moves i.left in
     let counts = is.counts in
     let under = c.if-length-rest-2.false in
     let few = c.requires.rest in
@@ -114,7 +114,7 @@ returns-clause-asked g c =
     let lists = c.args.self.now.routes.now.lists in
     let tabus = tabus_of c.args.self.now.state.now.tabus in
     let best = c.args.self.now.state.now.best.routes.lists in
-    let is = pass_over model tabus best lists c.loop-mv.best c.args.self.now.ceiling c.loop-mv.list t.behind c.loop-mv.length c.next_open.new.length i.known c.requires.ceiling t.passes i.counted i.moves i.left in
+    let is = pass_over model tabus best lists c.loop-mv.best c.args.self.now.ceiling c.loop-mv.list t.behind c.loop-mv.length c.next_open.new.length i.known c.args.self.now.bounded t.passes i.counted i.moves i.left in
     let counts = is.counts in
     let from = is.from in
     let under = c.if-length-rest-2.false in
@@ -123,18 +123,6 @@ returns-clause-asked g c =
     let tries : tries_of c.args.rest c.end_of.result ≡ c.next_open.new.length = ap (tries_of c.args.rest) c.end_of.ensures ∙ tries_end c.args.rest c.next_open.new.length c.loop-mv.best in
     let same = c.in_default.ensures.asked in
     omega (arith, i.asked, same, from, at, tries)
-
-pub next_open-requires-clause-judge_model : goal.next_open-requires-clause-judge_model
-next_open-requires-clause-judge_model g c = c.loop-mv.invariant.model ∙ c.requires.judge_model
-
-pub next_open-requires-clause-committed : goal.next_open-requires-clause-committed
-next_open-requires-clause-committed g c = c.loop-mv.invariant.committed ∙ c.requires.committed
-
-pub try_move-requires-clause-judge_model : goal.try_move-requires-clause-judge_model
-try_move-requires-clause-judge_model g c = c.in-Some.ensures.model ∙ (c.loop-mv.invariant.model ∙ c.requires.judge_model)
-
-pub try_move-requires-clause-committed : goal.try_move-requires-clause-committed
-try_move-requires-clause-committed g c = c.in-Some.ensures.committed ∙ (c.loop-mv.invariant.committed ∙ c.requires.committed)
 
 -- ---- how often the judge was asked what moves make at least
 

@@ -9,4 +9,4 @@ returns-then-is_told_no_better-clause-best g c =
     let tabus = tabus_of c.args.self.now.state.now.tabus in
     let best = c.args.self.now.state.now.best.routes.lists in
     let ceiling = c.args.self.now.ceiling in
-    dearer model tabus best lists c.args.best ceiling c.args.mv c.requires.best c.requires.ceiling (c.is_told_no_better.ensures.no_better c.if-is_told_no_better.true)
+    dearer model tabus best lists c.args.best ceiling c.args.mv c.requires.best c.args.self.now.bounded (c.is_told_no_better.ensures.no_better c.if-is_told_no_better.true)

@@ -18,10 +18,10 @@ returns-then-is_no_less-clause-best g c =
     let best = c.args.self.now.state.now.best.routes.lists in
     let ceiling = c.args.self.now.ceiling in
     let least = c.least_difference-least.result in
-    let low = subst (λ (m : Model). IsLeast m lists c.args.mv least) c.requires.judge_model c.least_difference-least.ensures.least in
+    let low = subst (λ (m : Model). IsLeast m lists c.args.mv least) c.requires.judge.model_is c.least_difference-least.ensures.least in
     let same : to_z w64 (of_z w64 least) ≡ least = omega (arith, ints, c.least_difference-least.type_inv) in
     let no_less = ap (is_no_less (bound_of c.args.best ceiling)) (sym same) ∙ (ap (λ b. is_no_less b (to_z w64 (of_z w64 least))) (sym c.bound.ensures) ∙ (sym c.is_no_less.ensures ∙ c.if-is_no_less.true)) in
-    dearer model tabus best lists c.args.best ceiling c.args.mv c.requires.best c.requires.ceiling (no_better_by model tabus best lists (bound_of c.args.best ceiling) c.args.mv least low no_less)
+    dearer model tabus best lists c.args.best ceiling c.args.mv c.requires.best c.args.self.now.bounded (no_better_by model tabus best lists (bound_of c.args.best ceiling) c.args.mv least low no_less)
 
 pub returns-in-Refused-clause-best : goal.returns-in-Refused-clause-best
 returns-in-Refused-clause-best g c =
@@ -30,7 +30,7 @@ returns-in-Refused-clause-best g c =
     let tabus = tabus_of c.args.self.now.state.now.tabus in
     let best = c.args.self.now.state.now.best.routes.lists in
     let ceiling = c.args.self.now.ceiling in
-    let same = c.least_difference-least.ensures.model ∙ c.requires.judge_model in
+    let same = c.least_difference-least.ensures.model ∙ c.requires.judge.model_is in
     refused model tabus best lists c.args.best c.args.mv (sym c.in-Refused.is ∙ (c.in_ok-judge.ensures.verdict ∙ ap (λ m. verdict_of m lists c.args.mv) same))
 
 pub returns-then-is_no_less-2-clause-best : goal.returns-then-is_no_less-2-clause-best
@@ -40,12 +40,12 @@ returns-then-is_no_less-2-clause-best g c =
     let tabus = tabus_of c.args.self.now.state.now.tabus in
     let best = c.args.self.now.state.now.best.routes.lists in
     let ceiling = c.args.self.now.ceiling in
-    let same_model = c.least_difference-least.ensures.model ∙ c.requires.judge_model in
+    let same_model = c.least_difference-least.ensures.model ∙ c.requires.judge.model_is in
     let told = sym c.in-Difference.is ∙ (c.in_ok-judge.ensures.verdict ∙ ap (λ m. verdict_of m lists c.args.mv) same_model) in
     let difference = c.in-Difference.difference in
-    let same = fits_change model tabus best lists c.args.mv difference c.requires.known.well_formed c.requires.known.valid told in
+    let same = fits_change model tabus best lists c.args.mv difference c.args.self.now.known.well_formed c.args.self.now.known.valid told in
     let known = difference_known model tabus best lists c.args.mv difference told in
-    dearer model tabus best lists c.args.best ceiling c.args.mv c.requires.best c.requires.ceiling
+    dearer model tabus best lists c.args.best ceiling c.args.mv c.requires.best c.args.self.now.bounded
     (no_better_by model tabus best lists (bound_of c.args.best ceiling) c.args.mv difference (least_itself model tabus best lists c.args.mv difference known)
     (ap (is_no_less (bound_of c.args.best ceiling)) (sym same) ∙ (ap (λ b. is_no_less b (to_z w64 (of_z w64 difference))) (sym c.bound-in-Difference.ensures) ∙ (sym c.is_no_less-in-Difference.ensures ∙ c.if-is_no_less-2.true))))
 
@@ -56,10 +56,10 @@ returns-then-is_forbidden-clause-best g c =
     let tabus = tabus_of c.args.self.now.state.now.tabus in
     let best = c.args.self.now.state.now.best.routes.lists in
     let ceiling = c.args.self.now.ceiling in
-    let same_model = c.least_difference-least.ensures.model ∙ c.requires.judge_model in
+    let same_model = c.least_difference-least.ensures.model ∙ c.requires.judge.model_is in
     let told = sym c.in-Difference.is ∙ (c.in_ok-judge.ensures.verdict ∙ ap (λ m. verdict_of m lists c.args.mv) same_model) in
     let difference = c.in-Difference.difference in
-    let same = fits_change model tabus best lists c.args.mv difference c.requires.known.well_formed c.requires.known.valid told in
+    let same = fits_change model tabus best lists c.args.mv difference c.args.self.now.known.well_formed c.args.self.now.known.valid told in
     kept_out model tabus best lists c.args.best c.args.mv difference told
     (ap (λ d. int_le (aspiration model best lists) d && is_tabu model tabus lists (apply model lists c.args.mv)) (sym same) ∙ (sym c.is_forbidden.ensures ∙ c.if-is_forbidden.true))
 
@@ -70,10 +70,10 @@ returns-else-is_forbidden-clause-best g c =
     let tabus = tabus_of c.args.self.now.state.now.tabus in
     let best = c.args.self.now.state.now.best.routes.lists in
     let ceiling = c.args.self.now.ceiling in
-    let same_model = c.least_difference-least.ensures.model ∙ c.requires.judge_model in
+    let same_model = c.least_difference-least.ensures.model ∙ c.requires.judge.model_is in
     let told = sym c.in-Difference.is ∙ (c.in_ok-judge.ensures.verdict ∙ ap (λ m. verdict_of m lists c.args.mv) same_model) in
     let difference = c.in-Difference.difference in
-    let same = fits_change model tabus best lists c.args.mv difference c.requires.known.well_formed c.requires.known.valid told in
+    let same = fits_change model tabus best lists c.args.mv difference c.args.self.now.known.well_formed c.args.self.now.known.valid told in
     taken model tabus best lists c.args.best ceiling c.args.mv difference c.requires.best told
     (ap (is_no_less (bound_of c.args.best ceiling)) (sym same) ∙ (ap (λ b. is_no_less b (to_z w64 (of_z w64 difference))) (sym c.bound-in-Difference.ensures) ∙ (sym c.is_no_less-in-Difference.ensures ∙ c.if-is_no_less-2.false)))
     (ap (λ d. int_le (aspiration model best lists) d && is_tabu model tabus lists (apply model lists c.args.mv)) (sym same) ∙ (sym c.is_forbidden.ensures ∙ c.if-is_forbidden.false))

@@ -21,17 +21,14 @@ pub returns-in_err-commit-clause-told_in_part : goal.returns-in_err-commit-claus
 returns-in_err-commit-clause-told_in_part g c = on_err c.from_residual.result
     (none_behind (λ w. (goal.Watch-dyn g (w.vtable, w.value)).after w.value) _ _ [] _ (told_nothing _ _))
 
-pub follow-requires-clause-low : goal.follow-requires-clause-low
-follow-requires-clause-low g c =
+pub follow-requires-clause-cost : goal.follow-requires-clause-cost
+follow-requires-clause-cost g c =
     let fits = costs_are_bounded c.args.closed.model.now c.args.closed.well_formed _ c.requires.valid in
     let before = costs_are_bounded c.args.closed.model.now c.args.closed.well_formed _ c.requires.holds.valid in
-    omega (arith, ints, c.requires.cost, c.requires.known, fits.least, fits.greatest, before.least, before.greatest)
-
-pub follow-requires-clause-high : goal.follow-requires-clause-high
-follow-requires-clause-high g c =
-    let fits = costs_are_bounded c.args.closed.model.now c.args.closed.well_formed _ c.requires.valid in
-    let before = costs_are_bounded c.args.closed.model.now c.args.closed.well_formed _ c.requires.holds.valid in
-    omega (arith, ints, c.requires.cost, c.requires.known, fits.least, fits.greatest, before.least, before.greatest)
+    record {
+      at_least = omega (arith, ints, c.requires.cost, c.requires.known, fits.least, fits.greatest, before.least, before.greatest);
+      at_most = omega (arith, ints, c.requires.cost, c.requires.known, fits.least, fits.greatest, before.least, before.greatest);
+    }
 
 pub follow-requires-clause-visits : goal.follow-requires-clause-visits
 follow-requires-clause-visits g c = c.requires.best.same_visits ∙ sym (ap (λ r. r.visits) c.in_ok-commit.ensures.routes)

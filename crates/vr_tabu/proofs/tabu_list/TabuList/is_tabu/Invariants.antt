@@ -9,6 +9,6 @@ use Rattle.vr_tabu.proofs.tabu_list.TabuList.is_tabu.Given as goal
 -- the parts so far free no visit
 abbrev pub invariant-loop-k : goal.invariant-loop-k
 invariant-loop-k l = record {
-  left : list_any (λ j. frees (tabus_of l.self) (change_of l.closed.model.now l.routes.lists l.change j)) (from_to l.k (length l.change))
-      ≡ list_any (λ j. frees (tabus_of l.self) (change_of l.closed.model.now l.routes.lists l.change j)) (below (length l.change));
+  left : list_any (λ j. frees (tabus_of l.self) (change_of l.lists.closed.model.now l.lists.routes.now.lists l.change j)) (from_to l.k (length l.change))
+      ≡ list_any (λ j. frees (tabus_of l.self) (change_of l.lists.closed.model.now l.lists.routes.now.lists l.change j)) (below (length l.change));
 }

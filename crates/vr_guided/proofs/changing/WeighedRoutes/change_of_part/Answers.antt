@@ -1,0 +1,70 @@
+use Rattle.std.proofs.Common.{◌≡◌, ◌∙◌, ◌+◌, ◌-◌, ◌<◌, ◌++◌, ◌∷◌, [], List, ℕ, length, take, drop, ap, ap₂, sym, subst, arith}
+use Rattle.std.specs.Prelude.{◌-ℤ◌, All, slice_range}
+use Rattle.std.proofs.lemmas.Int.{ints}
+use Rattle.vr_model.specs.routes.Routes.{route}
+use Rattle.vr_model.specs.tables.Tables.{vehicle_at}
+use Rattle.vr_routes.specs.Pieces.{joined}
+use Rattle.vr_guided.specs.Counts.{counted}
+use Rattle.vr_guided.specs.Walks.{stretch_weight, unused_weight}
+use Rattle.vr_balance.specs.Sums.{last_of}
+use Rattle.vr_routes.proofs.JoinedPieces.{all_left, all_right}
+use Rattle.vr_guided.proofs.PartLemmas.{as_read, part_value, new_length}
+use Rattle.vr_guided.proofs.changing.WeighedRoutes.change_of_part.Goals as goal
+
+pub new_stretch-new-requires-clause-start : goal.new_stretch-new-requires-clause-start
+new_stretch-new-requires-clause-start c = c.node_before-start.ensures.below c.args.self.now.on.closed.model.now.nodes c.start.ensures.below (subst (λ xs. All (λ node. node < c.args.self.now.on.closed.model.now.nodes) xs) (sym c.list-list.ensures.value) c.requires.old_nodes)
+
+pub new_stretch-new-requires-clause-next : goal.new_stretch-new-requires-clause-next
+new_stretch-new-requires-clause-next c = c.node_from-next.ensures.below c.args.self.now.on.closed.model.now.nodes c.end.ensures.below (subst (λ xs. All (λ node. node < c.args.self.now.on.closed.model.now.nodes) xs) (sym c.list-list.ensures.value) c.requires.old_nodes)
+
+pub new_stretch-new-requires-clause-pieces : goal.new_stretch-new-requires-clause-pieces
+new_stretch-new-requires-clause-pieces c =
+    let lists = c.args.self.now.routes.now.lists in
+    let ends = c.strip-ends.ensures in
+    let list : List ℕ = route c.args.self.now.routes.now.lists c.args.v in
+    let middle : List ℕ = joined lists c.strip-ends.result.middle.now in
+    record {
+      within = ends.within;
+      nodes = all_left (λ node. node < c.args.self.now.on.closed.model.now.nodes) middle (drop c.strip-ends.result.behind list)
+          (all_right (λ node. node < c.args.self.now.on.closed.model.now.nodes) (take c.strip-ends.result.front list) (middle ++ drop c.strip-ends.result.behind list) (subst (λ xs. All (λ node. node < c.args.self.now.on.closed.model.now.nodes) xs) ends.joins c.requires.nodes));
+    }
+
+pub returns-clause-low : goal.returns-clause-low
+returns-clause-low c =
+    let n = c.new_stretch-new.ensures in
+    let o = c.old_stretch-old.ensures in
+    let same = as_read c.new_stretch-new.result.total c.old_stretch-old.result c.unused.result c.unused-2.result n.low n.high o.low o.high c.unused.ensures.low c.unused.ensures.high c.unused-2.ensures.low c.unused-2.ensures.high in
+    omega (arith, ints, same, n.low, n.high, o.low, o.high, c.unused.ensures.low, c.unused.ensures.high, c.unused-2.ensures.low, c.unused-2.ensures.high)
+
+pub returns-clause-high : goal.returns-clause-high
+returns-clause-high c =
+    let n = c.new_stretch-new.ensures in
+    let o = c.old_stretch-old.ensures in
+    let same = as_read c.new_stretch-new.result.total c.old_stretch-old.result c.unused.result c.unused-2.result n.low n.high o.low o.high c.unused.ensures.low c.unused.ensures.high c.unused-2.ensures.low c.unused-2.ensures.high in
+    omega (arith, ints, same, n.low, n.high, o.low, o.high, c.unused.ensures.low, c.unused.ensures.high, c.unused-2.ensures.low, c.unused-2.ensures.high)
+
+pub returns-clause-value : goal.returns-clause-value
+returns-clause-value c =
+    let m = c.args.self.now.on.closed.model.now in
+    let p = counted c.args.self.now.on.penalties.now in
+    let v = c.args.v in
+    let lists = c.args.self.now.routes.now.lists in
+    let list : List ℕ = route c.args.self.now.routes.now.lists c.args.v in
+    let pieces = c.args.pieces.now in
+    let front = c.strip-ends.result.front in
+    let behind = c.strip-ends.result.behind in
+    let middle : List ℕ = joined lists c.strip-ends.result.middle.now in
+    let next = c.node_from-next.result in
+    let n = c.new_stretch-new.ensures in
+    let o = c.old_stretch-old.ensures in
+    let same = as_read c.new_stretch-new.result.total c.old_stretch-old.result c.unused.result c.unused-2.result n.low n.high o.low o.high c.unused.ensures.low c.unused.ensures.high c.unused-2.ensures.low c.unused-2.ensures.high in
+    let start_is : c.node_before-start.result ≡ last_of (vehicle_at m v).start (take front list) = c.node_before-start.ensures.node ∙ ap₂ (λ s xs. last_of s (take front xs)) c.start.ensures.value c.list-list.ensures.value in
+    let new_is : c.new_stretch-new.result.total ≡ stretch_weight m p v (last_of (vehicle_at m v).start (take front list)) middle next = n.total ∙ ap (λ s. stretch_weight m p v s middle next) start_is in
+    let before : c.unused.result ≡ unused_weight m p v (length list) = c.unused.ensures.value ∙ ap (unused_weight m p v) (ap length c.list-list.ensures.value) in
+    let after_len : front + c.new_stretch-new.result.nodes + (length c.list-list.result.now - behind) ≡ length (joined lists pieces)
+    = ap₂ (λ k l. front + k + (l - behind)) n.nodes (ap length c.list-list.ensures.value) ∙ sym (new_length lists v pieces c.strip-ends.result.middle.now front behind c.strip-ends.ensures) in
+    let after : c.unused-2.result ≡ unused_weight m p v (length (joined lists pieces)) = c.unused-2.ensures.value ∙ ap (unused_weight m p v) after_len in
+    let first = ap₂ (λ xs e. drop behind xs ++ e ∷ []) (sym c.list-list.ensures.value) (sym c.end.ensures.value) ∙ c.node_from-next.ensures.node.first in
+    let old_is : c.old_stretch-old.result ≡ stretch_weight m p v (last_of (vehicle_at m v).start (take front list)) (slice_range list front behind) next = o.total next c.node_from-next.ensures.node.others first in
+    same ∙ (ap₂ (λ x y. x -ℤ y) (ap₂ (λ x y. x -ℤ y) new_is after) (ap₂ (λ x y. x -ℤ y) old_is before)
+    ∙ sym (part_value m p v lists pieces c.strip-ends.result.middle.now front behind next c.node_from-next.ensures.node.others c.strip-ends.ensures first))

@@ -1,0 +1,138 @@
+//! What arcs add with their penalties.
+
+ghost use Rattle.std.specs.Prelude.{◌≡◌, ◌<◌, ◌≤◌, ◌≤ℤ◌, ◌*ℤ◌, ◌^◌, All, length, pos, true};
+ghost use Rattle.vr_guided.specs.Counts.{AtMost, counted};
+ghost use Rattle.vr_guided.specs.Sums.{weight_by};
+ghost use Rattle.vr_guided.specs.Walks.{unused_weight, weight};
+ghost use Rattle.vr_model.specs.tables.Tables.{vehicle_at};
+ghost use Rattle.vr_model.specs.tables.WellFormed.{IsIn};
+
+use crate::penalties::Penalties;
+use vr_model::Closed;
+
+/// The arcs of a model with their penalties. What an arc adds is its cost times its penalty.
+#[derive(Clone, Copy)]
+pub struct Weights<'m, 'p> {
+    pub closed: Closed<'m>,
+    pub penalties: &'p Penalties,
+    /// Each arc has a penalty.
+    pub ghost covers: { penalties.now.nodes ≡ closed.model.now.nodes },
+    /// None was penalised more than 10^9 times.
+    pub ghost few: { AtMost 1000000000 (counted penalties.now) },
+}
+
+/// Those of a vehicle.
+#[derive(Clone, Copy)]
+pub struct VehicleWeights<'m, 'p> {
+    pub on: Weights<'m, 'p>,
+    pub vehicle: u32,
+    /// The model has it.
+    pub ghost there: { vehicle < length on.closed.model.now.vehicles },
+}
+
+/// Those of a vehicle with a list, of at most 1000 nodes.
+#[derive(Clone, Copy)]
+pub struct ListWeights<'m, 'p, 'r> {
+    pub arcs: VehicleWeights<'m, 'p>,
+    pub nodes: &'r [u32],
+    /// The model has the nodes.
+    pub ghost below: { All (λ node. node < arcs.on.closed.model.now.nodes) nodes.now },
+    /// They are few.
+    pub ghost short: { length nodes.now ≤ 1000 },
+}
+
+impl<'m, 'p> VehicleWeights<'m, 'p> {
+    /// Where the vehicle starts.
+    #[inline]
+    pub fn start(&self) -> u32
+        ensures value { result ≡ (vehicle_at self.now.on.closed.model.now self.now.vehicle).start }
+        ensures below { result < self.now.on.closed.model.now.nodes }
+    {
+        let model = self.on.closed.model;
+        model.vehicles.get(self.vehicle as usize).start
+    }
+
+    /// Where it ends.
+    #[inline]
+    pub fn end(&self) -> u32
+        ensures value { result ≡ (vehicle_at self.now.on.closed.model.now self.now.vehicle).end }
+        ensures below { result < self.now.on.closed.model.now.nodes }
+    {
+        let model = self.on.closed.model;
+        model.vehicles.get(self.vehicle as usize).end
+    }
+
+    /// Whether another vehicle has the same arc costs.
+    #[inline]
+    pub fn has_costs_of(&self, v: u32) -> bool
+        requires { v < length self.now.on.closed.model.now.vehicles }
+        ensures { result ≡ true → (vehicle_at self.now.on.closed.model.now v).costs
+            ≡ (vehicle_at self.now.on.closed.model.now self.now.vehicle).costs }
+    {
+        let vehicles = &self.on.closed.model.vehicles;
+        vehicles.get(v as usize).costs == vehicles.get(self.vehicle as usize).costs
+    }
+
+    /// What an arc adds: its cost times its penalty. Most arcs have none, and then the cost is not looked up.
+    #[inline]
+    pub fn weight(&self, origin: u32, target: u32) -> i128
+        requires origin { origin < self.now.on.closed.model.now.nodes }
+        requires target { target < self.now.on.closed.model.now.nodes }
+        ensures value { result ≡ weight self.now.on.closed.model.now (counted self.now.on.penalties.now)
+            (record { vehicle = self.now.vehicle; origin = origin; target = target }) }
+        ensures low { pos 0 ≤ℤ result }
+        ensures high { result ≤ℤ pos (2 ^ 70) }
+    {
+        let penalty = self.on.penalties.at(origin, target);
+        if penalty == 0 {
+            return 0;
+        }
+        times(
+            penalty,
+            self.on.closed.model.arc_cost(self.vehicle, origin, target),
+        )
+    }
+
+    /// What an arc adds that is taken on, or back from its target to its origin.
+    #[inline]
+    pub fn weight_by(&self, origin: u32, target: u32, back: bool) -> i128
+        requires origin { origin < self.now.on.closed.model.now.nodes }
+        requires target { target < self.now.on.closed.model.now.nodes }
+        ensures value { result ≡ weight_by self.now.on.closed.model.now (counted self.now.on.penalties.now) back
+            (record { vehicle = self.now.vehicle; origin = origin; target = target }) }
+        ensures range { IsIn (pos 0) (pos (2 ^ 70)) result }
+    {
+        if back {
+            self.weight(target, origin)
+        } else {
+            self.weight(origin, target)
+        }
+    }
+
+    /// What the arc from its start to its end adds where it has `len = 0` visits: it takes no arc then.
+    #[inline]
+    pub fn unused(&self, len: u32) -> i128
+        ensures low { pos 0 ≤ℤ result }
+        ensures high { result ≤ℤ pos (2 ^ 70) }
+        ensures value { result
+            ≡ unused_weight self.now.on.closed.model.now (counted self.now.on.penalties.now) self.now.vehicle len }
+    {
+        if len > 0 {
+            return 0;
+        }
+        let vehicle = self.on.closed.model.vehicles.get(self.vehicle as usize);
+        self.weight(vehicle.start, vehicle.end)
+    }
+}
+
+// A penalty times a cost.
+#[inline]
+fn times(penalty: u32, cost: i64) -> i128
+    requires few { penalty ≤ 1000000000 }
+    requires cost { IsIn (pos 0) (pos (2 ^ 40)) cost }
+    ensures value { result ≡ pos penalty *ℤ cost }
+    ensures low { pos 0 ≤ℤ result }
+    ensures high { result ≤ℤ pos (2 ^ 70) }
+{
+    penalty as i128 * cost as i128
+}
