@@ -1,5 +1,5 @@
 -- What is known of items in lists.
-use Rattle.std.proofs.Common.{◌≡◌, ◌∙◌, ◌<◌, ◌+◌, ℕ, zero, suc, List, [], Bool, true, false, Option, Some, None, ℤ, ◌≤ℤ◌, refl, ap, sym, subst, inl, inr, arith, length, length-set}
+use Rattle.std.proofs.Common.{◌≡◌, ◌∙◌, ◌<◌, ◌+◌, ℕ, zero, suc, List, [], Bool, true, false, Option, refl, ap, sym, subst, inl, inr, arith, length, length-set}
 use Rattle.std.specs.Prelude.{map, not, replicate, slice_index_or, slice_set}
 use Rattle.std.specs.List.{list_all}
 use Rattle.std.proofs.lemmas.Bool.Decides.{eqb_tells}
@@ -11,7 +11,7 @@ use Rattle.vr_model.specs.routes.Rules.{allows_vehicle, is_route_open}
 use Rattle.vr_model.specs.declared.records.Model.{Model}
 use Rattle.vr_model.proofs.routes.Lists.{route_set_other}
 use Rattle.vr_model.proofs.tables.Members.{from_each, from_map, of_below, of_from_to}
-use Rattle.vr_rules.specs.Placing.{improves, nodes_of}
+use Rattle.vr_rules.specs.Placing.{nodes_of}
 use Rattle.vr_rules.specs.declared.items.Item.{Item}
 use Rattle.vr_rules.specs.declared.items.Item.TheVariants.{Visit, PickupAndDelivery}
 use Rattle.vr_rules.specs.declared.items.Candidate.{Candidate}
@@ -20,29 +20,10 @@ use Rattle.vr_first_insert.specs.declared.choice.Placing.TheVariants.{One, Two}
 use Rattle.vr_first_insert.specs.declared.known.Known.{Known}
 use Rattle.vr_first_insert.specs.declared.known.Known.TheVariants.{Nothing, AtLeast, Best}
 use Rattle.vr_model.proofs.tables.Tests.{clash}
-use Rattle.vr_first_insert.specs.Kept.{best_of, candidate_at, is_settled, row_at, AddsAtLeast, AreKnown, AreRows, IsForgotten, IsKnown}
-use Rattle.vr_first_insert.specs.Placings.{best_in, choices_in, key_of, may_improve, pair_choice, placed, visit_choice}
+use Rattle.vr_first_insert.specs.Kept.{best_of, candidate_at, is_settled, row_at, AreKnown, AreRows, IsForgotten, IsKnown}
+use Rattle.vr_first_insert.specs.Placings.{best_in, choices_in, may_improve, pair_choice, placed, visit_choice}
 use Rattle.vr_first_insert.proofs.ReadyLemmas.{closed-by_vehicle, passed-closed}
-use Rattle.vr_first_insert.proofs.BoundLemmas.{none-improves, passed-over}
-use Rattle.vr_first_insert.proofs.LeastMerged.{merged_best, weighed-merged}
-
--- an item whose bound is not better than the best so far
-pub item-passed_over : (model : Model) (v : ℕ) (list : List ℕ) (candidate : Candidate) (best : Option Choice) (least : ℤ) → AddsAtLeast model v list candidate.item least
-    → may_improve best candidate.class least ≡ false → best ≡ best_in model v list candidate best
-item-passed_over model v list candidate best least = by candidate.item
-  where
-    not-better : may_improve best candidate.class least ≡ false → (next : Choice) → next.class ≡ candidate.class → least ≤ℤ next.increase → improves key_of best next ≡ false
-    not-better h next = none-improves best candidate.class least h next
-
-    by : (item : Item) → AddsAtLeast model v list item least → may_improve best candidate.class least ≡ false → best ≡ best_in model v list (record { item = item; class = candidate.class }) best
-    by (Visit node) adds h = passed-over model list best (choices_in model v list candidate.class (Visit node)) (λ choice there.
-        from_map (visit_choice model v list candidate.class node) (gaps list) choice there (λ t low is.
-        not-better h choice (ap (λ c. c.class) is) (subst (λ x. least ≤ℤ x) (sym (ap (λ c. c.increase) is)) (adds t (let l = of_below (suc (length list)) t low in omega (arith, l))))))
-    by (PickupAndDelivery pickup delivery) adds h = passed-over model list best (choices_in model v list candidate.class (PickupAndDelivery pickup delivery)) (λ choice there.
-        from_each (λ s. map (pair_choice model v list candidate.class pickup delivery s) (from_to s (suc (length list)))) (gaps list) choice there (λ s s_in inner.
-        from_map (pair_choice model v list candidate.class pickup delivery s) (from_to s (suc (length list))) choice inner (λ t t_in is.
-        let l = of_below (suc (length list)) s s_in in let b = of_from_to s (suc (length list)) t t_in in let high = b.1 in
-        not-better h choice (ap (λ c. c.class) is) (subst (λ x. least ≤ℤ x) (sym (ap (λ c. c.increase) is)) (adds s t (omega (arith, l)) (omega (arith, high)))))))
+use Rattle.vr_first_insert.proofs.ToldLemmas.{best-merged, bound-passed_over}
 
 -- an item of which the vehicle may not visit some node
 pub item-closed : (model : Model) (v : ℕ) (list : List ℕ) (candidate : Candidate) (best : Option Choice) → is_route_open model v list ≡ true
@@ -60,16 +41,6 @@ item-closed model v list candidate best stands = by candidate.item
         let b = of_from_to s (suc (length list)) t t_in in let from = b.0 in let high = b.1 in
         ap (λ c. is_route_open model c.vehicle (placed list c.placing)) is ∙ closed-by_vehicle model v list (Two pickup delivery s t) (omega (arith, from), omega (arith, high)) stands h)))
 
-best_of-merged : (found best : Option Choice) → best_of (Best found) best ≡ merged_best key_of best found
-best_of-merged None best = refl
-best_of-merged (Some next) best = refl
-
--- the best in a list beside the best so far
-pub best-merged : (model : Model) (v : ℕ) (list : List ℕ) (candidate : Candidate) (found best : Option Choice) → found ≡ best_in model v list candidate None → best_of (Best found) best ≡ best_in model v list candidate best
-best-merged model v list candidate found best e =
-    best_of-merged found best ∙ ap (merged_best key_of best) e
-    ∙ sym (weighed-merged key_of (λ next. is_route_open model next.vehicle (placed list next.placing)) best (choices_in model v list candidate.class candidate.item))
-
 no-better : (b : Bool) → not b ≡ true → b ≡ false
 no-better false h = refl
 no-better true h = absurd (clash false h refl)
@@ -77,7 +48,7 @@ no-better true h = absurd (clash false h refl)
 -- where what is known tells the best, it is so beside the best so far
 pub settled-is : (model : Model) (v : ℕ) (list : List ℕ) (candidate : Candidate) (known : Known) (best : Option Choice) → is_settled known candidate.class best ≡ true → IsKnown model v list candidate known → best_of known best ≡ best_in model v list candidate best
 settled-is model v list candidate Nothing best h is = absurd (clash false h refl)
-settled-is model v list candidate (AtLeast least) best h is = item-passed_over model v list candidate best least is (no-better (may_improve best candidate.class least) h)
+settled-is model v list candidate (AtLeast bound) best h is = bound-passed_over model v list candidate best bound.least is (no-better (may_improve best candidate.class bound.least) h)
 settled-is model v list candidate (Best found) best h is = best-merged model v list candidate found best is
 
 -- what is known of one candidate is written

@@ -1,6 +1,7 @@
 -- What is known of items in lists.
 use Rattle.std.specs.Prelude.{◌≡◌, ℕ, ◌<◌, ◌≤◌, ⊤, Bool, true, false, not, List, [], length, ℤ, ◌≤ℤ◌}
-use Rattle.std.specs.Prelude.{slice_index_or, slice_set, Option, Some, None}
+use Rattle.std.specs.Prelude.{cond, slice_index_or, slice_set, IfSome, Option, Some, None}
+use Rattle.vr_model.specs.tables.Numbers.{is_lex_less}
 use Rattle.vr_model.specs.routes.Routes.{route}
 use Rattle.vr_model.specs.first.Choosing.{better}
 use Rattle.vr_model.specs.declared.records.Model.{Model}
@@ -20,14 +21,14 @@ better_choice best next = better key_of best next
 -- the better of the best so far and what is known to be best
 abbrev pub best_of : Known → Option Choice → Option Choice
 best_of Nothing best = best
-best_of (AtLeast least) best = best
+best_of (AtLeast bound) best = best
 best_of (Best None) best = best
 best_of (Best (Some next)) best = better_choice best next
 
 -- what is known tells the best beside the best so far: it is the best in the list, or none there is better
 abbrev pub is_settled : Known → ℕ → Option Choice → Bool
 is_settled Nothing class best = false
-is_settled (AtLeast least) class best = not (may_improve best class least)
+is_settled (AtLeast bound) class best = not (may_improve best class bound.least)
 is_settled (Best found) class best = true
 
 -- an item adds at least so much, wherever it is put in the list of vehicle v
@@ -36,10 +37,29 @@ AddsAtLeast model v list (Visit node) least = IsLeast model v list node least
 AddsAtLeast model v list (PickupAndDelivery pickup delivery) least = (s t : ℕ) → s ≤ length list → t ≤ length list
     → least ≤ℤ pair_increase model v list pickup delivery s t
 
+-- the best choice of a candidate in the list of vehicle v, where there is one, adds at least so much
+abbrev pub BestAddsAtLeast : Model → ℕ → List ℕ → Candidate → ℤ → Type 0
+BestAddsAtLeast model v list candidate least = IfSome (best_in model v list candidate None)
+    (λ choice. least ≤ℤ choice.increase)
+
+-- what a search of a list tells that began with the best so far: what is better is the best of the list, and where
+-- nothing is, the best of the list adds no less than the best so far. A search that began with some best found one.
+abbrev pub told_by : Option Choice → Option Choice → Known
+told_by None found = Best found
+told_by (Some best) None = Best None
+told_by (Some best) (Some next) = cond (is_lex_less (key_of next) (key_of best)) (Best (Some next))
+    (AtLeast (record { least = best.increase; searched = true }))
+
+-- what a search for an item begins with: for a pair whose bound no search told the best so far, and else nothing
+abbrev pub begun_with : Item → Bool → Option Choice → Option Choice
+begun_with item true best = None
+begun_with (Visit node) false best = None
+begun_with (PickupAndDelivery pickup delivery) false best = best
+
 -- what is known of a candidate in the list of vehicle v is so
 abbrev pub IsKnown : Model → ℕ → List ℕ → Candidate → Known → Type 0
 IsKnown model v list candidate Nothing = ⊤
-IsKnown model v list candidate (AtLeast least) = AddsAtLeast model v list candidate.item least
+IsKnown model v list candidate (AtLeast bound) = BestAddsAtLeast model v list candidate bound.least
 IsKnown model v list candidate (Best best) = best ≡ best_in model v list candidate None
 
 -- row v of rows

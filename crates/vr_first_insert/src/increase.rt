@@ -1,8 +1,9 @@
 //! What an insertion adds to the arc costs of its vehicle, by the arcs at its places.
 
-ghost use Rattle.std.specs.Prelude.{◌≡◌, ◌<◌, ◌≤◌, ◌^◌, length, neg_ℤ, pos, ◌+ℤ◌, ◌≤ℤ◌};
+ghost use Rattle.std.specs.Prelude.{◌≡◌, ◌<◌, ◌≤◌, ◌^◌, cond, length, neg_ℤ, pos, ◌+ℤ◌, ◌≤ℤ◌};
 ghost use Rattle.vr_model.specs.tables.Tables.{arc_cost};
 ghost use Rattle.vr_first_insert.specs.Increases.{arc_at as arc_at_of, detour as detour_of};
+ghost use Rattle.vr_model.specs.routes.Routes.{is_empty};
 ghost use Rattle.vr_first_insert.specs.Increases.{node_before as node_before_of, node_behind as node_behind_of};
 ghost use Rattle.vr_first_insert.specs.Increases.{pair_increase as pair_increase_of};
 ghost use Rattle.vr_first_insert.specs.Increases.{visit_increase as visit_increase_of};
@@ -35,18 +36,19 @@ fn node_behind(list: &VehicleList<'_>, t: usize) -> u32
     }
 }
 
-// What the arc to a place costs, nothing in an empty list.
-fn arc_at(list: &VehicleList<'_>, t: usize) -> i64
-    requires { t ≤ length list.now.nodes.now }
-    ensures value { result ≡ arc_at_of list.now.closed.model.now list.now.vehicle list.now.nodes.now t }
+// What the arc between two neighbours costs, nothing in an empty list.
+fn arc_between(list: &VehicleList<'_>, a: u32, b: u32) -> i64
+    requires first { a < list.now.closed.model.now.nodes }
+    requires second { b < list.now.closed.model.now.nodes }
+    ensures value { result ≡ cond (is_empty list.now.nodes.now) (pos 0)
+        (arc_cost list.now.closed.model.now list.now.vehicle a b) }
     ensures low { pos 0 ≤ℤ result }
     ensures high { result ≤ℤ pos (2 ^ 40) }
 {
     if list.nodes.is_empty() {
         return 0;
     }
-    let model = list.closed.model;
-    model.arc_cost(list.vehicle, node_before(list, t), node_behind(list, t))
+    list.closed.model.arc_cost(list.vehicle, a, b)
 }
 
 // From a node over another to a third, less what was driven there before.
@@ -74,7 +76,7 @@ pub(crate) fn visit_increase(list: &VehicleList<'_>, x: u32, t: usize) -> i64
 {
     let a = node_before(list, t);
     let b = node_behind(list, t);
-    detour(list, a, x, b, arc_at(list, t))
+    detour(list, a, x, b, arc_between(list, a, b))
 }
 
 // What a pair before one place adds.
@@ -93,7 +95,7 @@ fn together(list: &VehicleList<'_>, pickup: u32, delivery: u32, s: usize) -> i64
     let a = node_before(list, s);
     let b = node_behind(list, s);
     list.closed.model.arc_cost(list.vehicle, a, pickup)
-        + detour(list, pickup, delivery, b, arc_at(list, s))
+        + detour(list, pickup, delivery, b, arc_between(list, a, b))
 }
 
 // What a pair before two places adds.

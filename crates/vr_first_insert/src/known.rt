@@ -1,8 +1,9 @@
 //! What is known of items in lists that have not changed since.
 
 ghost use Rattle.std.specs.Prelude.{◌≡◌, ◌<◌, IfOk, length, replicate};
-ghost use Rattle.vr_first_insert.specs.Kept.{best_of, better_choice, is_settled as is_settled_of};
-ghost use Rattle.vr_first_insert.specs.Kept.{AddsAtLeast, IsForgotten, IsKnown};
+ghost use Rattle.vr_first_insert.specs.Kept.{begun_with as begun_with_of, best_of, better_choice};
+ghost use Rattle.vr_first_insert.specs.Kept.{is_settled as is_settled_of, told_by as told_by_of};
+ghost use Rattle.vr_first_insert.specs.Kept.{AddsAtLeast, BestAddsAtLeast, IsForgotten, IsKnown};
 ghost use Rattle.vr_first_insert.specs.Placings.{best_in, MayHold};
 ghost use Rattle.vr_first_insert.specs.VehicleLists.{IsReadyList};
 ghost use Rattle.vr_first_insert.specs.declared.known.Known.TheVariants.{Nothing};
@@ -19,13 +20,21 @@ use vr_lists::NodeTables;
 use vr_model::NoMemory;
 use vr_rules::{Candidate, Item};
 
+/// What the best choice of an item in a list adds at least.
+#[derive(Clone, Copy, Drop)]
+pub(crate) struct Bound {
+    pub(crate) least: i64,
+    /// Whether a search of the list told it, and not the arcs alone.
+    pub(crate) searched: bool,
+}
+
 /// What is known of an item in a list.
 #[derive(Clone, Copy, Drop)]
 pub(crate) enum Known {
     /// Nothing yet.
     Nothing,
-    /// The item adds at least so much, wherever it is put.
-    AtLeast(i64),
+    /// What the best choice adds at least, where there is one.
+    AtLeast(Bound),
     /// The best choice, `None` where none is allowed.
     Best(Option<Choice>),
 }
@@ -37,7 +46,7 @@ pub(crate) fn is_settled(known: &Known, class: u32, best: Option<Choice>) -> boo
 {
     match known {
         Known::Nothing => false,
-        Known::AtLeast(least) => !may_improve(best, class, *least),
+        Known::AtLeast(bound) => !may_improve(best, class, bound.least),
         Known::Best(_) => true,
     }
 }
@@ -73,6 +82,64 @@ fn least_in(list: &VehicleList<'_>, item: Item) -> i64
     }
 }
 
+// What a search tells that began with the best so far: what is better is the best of the list.
+fn told_by(best: Option<Choice>, found: Option<Choice>) -> Known
+    ensures { result ≡ told_by_of best found }
+{
+    match (best, found) {
+        (Some(best), Some(next)) => told_beside(best, next),
+        (_, found) => Known::Best(found),
+    }
+}
+
+// The same where there was a best so far.
+fn told_beside(best: Choice, next: Choice) -> Known
+    ensures { result ≡ told_by_of (Some best) (Some next) }
+{
+    if improves(Some(best), next) {
+        Known::Best(Some(next))
+    } else {
+        Known::AtLeast(Bound {
+            least: best.increase,
+            searched: true,
+        })
+    }
+}
+
+// What a search for an item begins with. For a pair that is the best so far, so that few places are tried; but where a
+// search told the bound, and for a visit, whose best place is soon found, it is nothing: what is found then is the best
+// of the list, and serves until that changes.
+fn begun_with(item: Item, searched: bool, best: Option<Choice>) -> Option<Choice>
+    ensures { result ≡ begun_with_of item searched best }
+{
+    if searched {
+        return None;
+    }
+    match item {
+        Item::Visit(_) => None,
+        Item::PickupAndDelivery(_, _) => best,
+    }
+}
+
+// What a search of a list tells that begins with the best so far.
+fn sought(
+    room: &mut Room,
+    lookups: &NodeTables<'_>,
+    keeps: &[Kept],
+    list: &VehicleList<'_>,
+    candidate: Candidate,
+    best: Option<Choice>,
+) -> Result<Known, NoMemory>
+    requires lookups { lookups.now ≡ list.now.closed.model.now }
+    requires ready { IsReadyList list.now keeps.now }
+    requires may_hold { MayHold list.now.closed.model.now list.now.nodes.now candidate.item }
+    ensures { IfOk result (λ known. known ≡ told_by_of best
+        (best_in list.now.closed.model.now list.now.vehicle list.now.nodes.now candidate best)) }
+{
+    let found = best_in_list(room, lookups, keeps, list, candidate, best)?;
+    Ok(told_by(best, found))
+}
+
 /// What is known of an item in a list once it was asked whether it is better than the best so far.
 pub(crate) fn asked(
     room: &mut Room,
@@ -94,43 +161,47 @@ pub(crate) fn asked(
 {
     match known {
         Known::Best(_) => Ok(known),
-        Known::AtLeast(least) => {
-            let known = tried(room, lookups, keeps, list, candidate, least, best)?;
+        Known::AtLeast(bound) => {
+            let known = tried(room, lookups, keeps, list, candidate, bound, best)?;
             Ok(known)
         }
         Known::Nothing => {
-            let least = least_in(list, candidate.item);
-            let known = tried(room, lookups, keeps, list, candidate, least, best)?;
+            let bound = Bound {
+                least: least_in(list, candidate.item),
+                searched: false,
+            };
+            let known = tried(room, lookups, keeps, list, candidate, bound, best)?;
             Ok(known)
         }
     }
 }
 
-// The same of an item that adds `least` at least: where that is not better than the best so far, it is all that is
-// known.
+// The same of an item of which a bound is known: where that is not better than the best so far, no more is known.
 fn tried(
     room: &mut Room,
     lookups: &NodeTables<'_>,
     keeps: &[Kept],
     list: &VehicleList<'_>,
     candidate: Candidate,
-    least: i64,
+    bound: Bound,
     best: Option<Choice>,
 ) -> Result<Known, NoMemory>
     requires lookups { lookups.now ≡ list.now.closed.model.now }
     requires ready { IsReadyList list.now keeps.now }
     requires may_hold { MayHold list.now.closed.model.now list.now.nodes.now candidate.item }
-    requires least { AddsAtLeast list.now.closed.model.now list.now.vehicle list.now.nodes.now candidate.item least }
+    requires bound { BestAddsAtLeast list.now.closed.model.now list.now.vehicle list.now.nodes.now candidate
+        bound.least }
     ensures known { IfOk result (IsKnown list.now.closed.model.now list.now.vehicle list.now.nodes.now
         candidate) }
     ensures better { IfOk result (λ known. best_of known best
         ≡ best_in list.now.closed.model.now list.now.vehicle list.now.nodes.now candidate best) }
 {
-    if !may_improve(best, candidate.class, least) {
-        return Ok(Known::AtLeast(least));
+    if !may_improve(best, candidate.class, bound.least) {
+        return Ok(Known::AtLeast(bound));
     }
-    let found = best_in_list(room, lookups, keeps, list, candidate, None)?;
-    Ok(Known::Best(found))
+    let begin = begun_with(candidate.item, bound.searched, best);
+    let known = sought(room, lookups, keeps, list, candidate, begin)?;
+    Ok(known)
 }
 
 /// A row for each of `vehicles` lists, in which nothing is known of any of `count` items.

@@ -40,9 +40,39 @@ struct Asked<'a> {
     lists: &'a [Seq<u32>],
 }
 
-// The best beside candidate `i` in the list of vehicle `v`, where `row` has what is known of the candidates in it. If
-// that does not tell, the list is asked, and what it says is written.
+// The best beside candidate `i` in the list of vehicle `v`, where `row` has what is known of the candidates in it.
 fn settle(
+    room: &mut Room,
+    on: &Asked<'_>,
+    v: usize,
+    i: usize,
+    row: &mut Row,
+    best: Option<Choice>,
+) -> Result<Option<Choice>, NoMemory>
+    requires asked { AreAsked on.now }
+    requires candidate { i < length on.now.items.candidates.now }
+    requires may_hold { MayBeHeld on.now i }
+    requires there { v < length on.now.lists.now }
+    requires row { AreKnown on.now.items.closed.model.now v (route on.now.lists.now v) on.now.items.candidates.now
+        row.old }
+    ensures best { IfOk result (λ chosen. chosen ≡ best_in on.now.items.closed.model.now v (route on.now.lists.now v)
+        (candidate_at on.now.items.candidates.now i) best) }
+    ensures row { OnOk result (AreKnown on.now.items.closed.model.now v (route on.now.lists.now v)
+        on.now.items.candidates.now row.new) }
+{
+    let candidates = on.items.candidates;
+    let known = row.get(i);
+    if is_settled(&known, candidates[i].class, best) {
+        return Ok(better_of(best, &known));
+    }
+    let best = ask(room, on, v, i, row, best)?;
+    Ok(best)
+}
+
+// The same, where what is known does not tell: the list is asked, and what it says is written. It stands apart, so that
+// what it needs is no burden where nothing is asked.
+#[inline(never)]
+fn ask(
     room: &mut Room,
     on: &Asked<'_>,
     v: usize,
@@ -64,9 +94,6 @@ fn settle(
     let candidates = on.items.candidates;
     let candidate = candidates[i];
     let known = row.get(i);
-    if is_settled(&known, candidate.class, best) {
-        return Ok(better_of(best, &known));
-    }
     let lists = on.lists;
     let nodes = lists[v].as_slice();
     let list = VehicleList {

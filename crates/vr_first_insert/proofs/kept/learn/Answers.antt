@@ -1,4 +1,4 @@
-use Rattle.std.proofs.Common.{◌≡◌, ◌∙◌, ◌+◌, ◌<◌, ℕ, List, length, arith}
+use Rattle.std.proofs.Common.{◌∙◌, ◌<◌, ℕ, length, arith}
 use Rattle.std.proofs.lemmas.List.{length-set}
 use Rattle.vr_model.specs.moves.Moves.{with_route}
 use Rattle.vr_rules.proofs.FrontLemmas.{left_behind, moved_more}

@@ -1,6 +1,6 @@
-use Rattle.std.proofs.Common.{◌∙◌, ap, subst}
-use Rattle.vr_first_insert.specs.Kept.{best_of, IsKnown}
-use Rattle.vr_first_insert.proofs.KeptLemmas.{best-merged}
+use Rattle.std.proofs.Common.{◌≡◌, ◌∙◌, ap, of_z, rules, subst, sym, to_z, w64}
+use Rattle.vr_first_insert.specs.Kept.{best_of, BestAddsAtLeast, IsKnown}
+use Rattle.vr_first_insert.proofs.ToldLemmas.{best-adds, best-merged}
 use Rattle.vr_first_insert.proofs.known.asked.Goals as goal
 
 pub returns-in-Best-clause-better : goal.returns-in-Best-clause-better
@@ -9,3 +9,11 @@ returns-in-Best-clause-better c =
     let list = c.args.list.now.nodes.now in
     ap (λ known. best_of known c.args.best) c.in-Best.is
     ∙ best-merged model c.args.list.now.vehicle list c.args.candidate c.in-Best.field-0 c.args.best (subst (IsKnown model c.args.list.now.vehicle list c.args.candidate) c.in-Best.is c.requires.known)
+
+pub tried-requires-in-Nothing-clause-bound : goal.tried-requires-in-Nothing-clause-bound
+tried-requires-in-Nothing-clause-bound c =
+    let model = c.args.list.now.closed.model.now in
+    let list = c.args.list.now.nodes.now in
+    let v = c.args.list.now.vehicle in
+    let fits : to_z w64 (of_z w64 c.least_in.result) ≡ c.least_in.result = search rules in
+    subst (BestAddsAtLeast model v list c.args.candidate) (sym fits) (best-adds model v list c.args.candidate c.least_in.result c.least_in.ensures)

@@ -1,10 +1,22 @@
-use Rattle.std.proofs.Common.{◌∙◌, ℕ, ap, sym}
+use Rattle.std.proofs.Common.{◌≡◌, ◌∙◌, ℕ, [], ap, arith, length, subst, sym}
+use Rattle.std.proofs.lemmas.List.{get_or_default}
 use Rattle.vr_model.specs.routes.Routes.{route}
-use Rattle.vr_first_insert.specs.Kept.{candidate_at}
+use Rattle.vr_first_insert.specs.Kept.{candidate_at, AreKnown}
 use Rattle.vr_first_insert.specs.Placings.{best_in}
 use Rattle.vr_first_insert.proofs.InsertLemmas.{best_in_lists-more}
 use Rattle.vr_first_insert.proofs.KeptLemmas.{row-written}
 use Rattle.vr_first_insert.proofs.search.best_in_lists.Goals as goal
+
+pub settle-requires-clause-row : goal.settle-requires-clause-row
+settle-requires-clause-row c =
+    let model = c.args.on.now.items.closed.model.now in
+    let lists = c.args.on.now.lists.now in
+    let v : ℕ = c.loop-v.v in
+    let rows = c.loop-v.rows in
+    let known = c.loop-v.invariant.rows in
+    let many : length rows ≡ length lists = known.many in
+    let there = c.loop-v-test.true in
+    subst (AreKnown model v (route lists v) c.args.on.now.items.candidates.now) (get_or_default rows v [] c.index-rows-v.result (omega (arith, many, there))) (known.each v there)
 
 pub loop-v-preserved : goal.loop-v-preserved
 loop-v-preserved c =

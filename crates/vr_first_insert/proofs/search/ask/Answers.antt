@@ -1,0 +1,49 @@
+use Rattle.std.proofs.Common.{◌≡◌, ◌∙◌, ℕ, ap, sym, subst}
+use Rattle.vr_model.specs.routes.Routes.{route}
+use Rattle.vr_first_insert.specs.Kept.{candidate_at, AreKnown, IsKnown}
+use Rattle.vr_first_insert.specs.Placings.{best_in, MayHold}
+use Rattle.vr_first_insert.proofs.InsertLemmas.{list_at}
+use Rattle.vr_first_insert.proofs.KeptLemmas.{known-written}
+use Rattle.vr_first_insert.specs.Ready.{IsReady}
+use Rattle.vr_first_insert.proofs.search.ask.Goals as goal
+
+pub asked-requires-clause-may_hold : goal.asked-requires-clause-may_hold
+asked-requires-clause-may_hold c =
+    let lists = c.args.on.now.lists.now in
+    let v : ℕ = c.args.v in
+    let list : c.as_slice-nodes.result.now ≡ route lists v = list_at lists v c.as_slice-nodes.result.now c.index-lists-v.result c.as_slice-nodes.ensures c.index-lists-v.is c.requires.there in
+    subst (λ list. MayHold c.args.on.now.items.closed.model.now list (candidate_at c.args.on.now.items.candidates.now c.args.i).item) (sym list) (c.requires.may_hold v c.requires.there)
+
+pub asked-requires-clause-known : goal.asked-requires-clause-known
+asked-requires-clause-known c =
+    let model = c.args.on.now.items.closed.model.now in
+    let lists = c.args.on.now.lists.now in
+    let v : ℕ = c.args.v in
+    let list : c.as_slice-nodes.result.now ≡ route lists v = list_at lists v c.as_slice-nodes.result.now c.index-lists-v.result c.as_slice-nodes.ensures c.index-lists-v.is c.requires.there in
+    subst (λ list. IsKnown model v list (candidate_at c.args.on.now.items.candidates.now c.args.i) c.get-known.result) (sym list)
+    (subst (IsKnown model v (route lists v) (candidate_at c.args.on.now.items.candidates.now c.args.i)) (sym c.get-known.ensures) (c.requires.row.each c.args.i c.requires.candidate))
+
+pub asked-requires-clause-ready : goal.asked-requires-clause-ready
+asked-requires-clause-ready c =
+    let lists = c.args.on.now.lists.now in
+    let v : ℕ = c.args.v in
+    let list : c.as_slice-nodes.result.now ≡ route lists v = list_at lists v c.as_slice-nodes.result.now c.index-lists-v.result c.as_slice-nodes.ensures c.index-lists-v.is c.requires.there in
+    subst (λ list. IsReady c.args.on.now.items.closed.model.now v list c.args.on.now.keeps.now) (sym list) (c.requires.asked.ready v c.requires.there)
+
+pub returns-clause-best : goal.returns-clause-best
+returns-clause-best c =
+    let lists = c.args.on.now.lists.now in
+    let v : ℕ = c.args.v in
+    let list : c.as_slice-nodes.result.now ≡ route lists v = list_at lists v c.as_slice-nodes.result.now c.index-lists-v.result c.as_slice-nodes.ensures c.index-lists-v.is c.requires.there in
+    c.better_of.ensures ∙ c.in_ok-told.ensures.better ∙ ap (λ list. best_in c.args.on.now.items.closed.model.now v list (candidate_at c.args.on.now.items.candidates.now c.args.i) c.args.best) list
+
+pub returns-clause-row : goal.returns-clause-row
+returns-clause-row c =
+    let model = c.args.on.now.items.closed.model.now in
+    let lists = c.args.on.now.lists.now in
+    let v : ℕ = c.args.v in
+    let candidate = candidate_at c.args.on.now.items.candidates.now c.args.i in
+    let told = c.in_ok-told.told in
+    let list : c.as_slice-nodes.result.now ≡ route lists v = list_at lists v c.as_slice-nodes.result.now c.index-lists-v.result c.as_slice-nodes.ensures c.index-lists-v.is c.requires.there in
+    subst (AreKnown model v (route lists v) c.args.on.now.items.candidates.now) (sym c.set.ensures)
+    (known-written model v (route lists v) c.args.on.now.items.candidates.now c.args.row.now c.args.i told c.requires.row (subst (λ l. IsKnown model v l candidate told) list c.in_ok-told.ensures.known))
