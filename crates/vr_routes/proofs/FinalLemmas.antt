@@ -7,7 +7,9 @@ use Rattle.std.proofs.lemmas.Map.Made.{IsDistinct-from_AllPairs}
 use Rattle.std.proofs.lemmas.Map.Steps.{length-le_from_distinct_below}
 use Rattle.vr_model.proofs.routes.Lists.{place_of_held, route_set_other, route_set_same}
 use Rattle.vr_model.specs.routes.Routes.{route, holds}
-use Rattle.vr_routes.specs.Seats.{IsSeat, IsOnce, HaveNodes}
+use Rattle.vr_routes.specs.Seats.{IsSeat, IsOnce, HaveNodes, MayHave, MayHaveTwo, Seated}
+use Rattle.vr_routes.specs.Pieces.{ListAfter, joined, no_part, IsWithin}
+use Rattle.vr_routes.specs.Changes.{AreParts, MayChange}
 use Rattle.vr_routes.proofs.SeatLemmas.{active_at}
 use Rattle.vr_routes.proofs.TourLemmas.{set_twice}
 use Rattle.vr_model.proofs.moves.Times.{times_set}
@@ -53,26 +55,62 @@ emptied lists v w nodes others apart = set_twice (slice_set lists v nodes) w oth
 pub written_in_turn : (lists : List (List ℕ)) (v w : ℕ) (nodes others : List ℕ) → v ≢ w → slice_set (slice_set (slice_set lists w []) v nodes) w others ≡ slice_set (slice_set lists v nodes) w others
 written_in_turn lists v w nodes others apart = ap (λ l. slice_set l w others) (sym (set_commute lists v w nodes [] apart)) ∙ set_twice (slice_set lists v nodes) w [] others
 
--- two lists that take the place of others have room, and their nodes are few
-pub record AreSet (n : ℕ) (list more : List ℕ) : Type 0 where
-  pub first_fits : length list ≤ n
-  pub second_fits : length more ≤ n
-  pub first_below : All (λ node. node < n) list
-  pub second_below : All (λ node. node < n) more
+-- what a change that may be made gives the vehicle of its one part
+pub record IsGiven (seated : Seated) (part : ListAfter) : Type 0 where
+  pub may : MayHave seated part.vehicle (joined seated.lists part.pieces)
+  pub fits : length (joined seated.lists part.pieces) ≤ seated.nodes
+  pub within : All (IsWithin seated.lists) part.pieces
 
-pub two_set : (n : ℕ) (lists : List (List ℕ)) (v w : ℕ) (list more : List ℕ) → v < length lists → w < length lists → v ≢ w
-    → IsOnce (slice_set (slice_set lists v list) w more) → HaveNodes n (slice_set (slice_set lists v list) w more) → AreSet n list more
-two_set n lists v w list more low low_w apart once have =
-    let half : List (List ℕ) = slice_set lists v list in
+pub one_given : (seated : Seated) (part : ListAfter) → MayChange seated (part ∷ []) → IsGiven seated part
+one_given seated part change =
+    let v : ℕ = part.vehicle in
+    let list : List ℕ = joined seated.lists part.pieces in
+    let final : List (List ℕ) = slice_set seated.lists v list in
+    let low : v < length seated.lists = change.parts_are.each_vehicle 0 no_part (omega arith) in
+    let there : v < length final = omega (arith, low, length-set seated.lists v list) in
+    let row : route final v ≡ list = route_set_same seated.lists v list low in
+    record {
+      may = record { vehicle = low; nodes = list_below seated.nodes final change.once change.have v there list row; once = change.once };
+      fits = list_fits seated.nodes final change.once change.have v there list row;
+      within = change.parts_are.each_within 0 no_part (omega arith);
+    }
+
+-- what it gives the vehicles of its two parts
+pub record AreGiven (seated : Seated) (part other : ListAfter) : Type 0 where
+  pub may : MayHaveTwo seated part.vehicle (joined seated.lists part.pieces) other.vehicle (joined seated.lists other.pieces)
+  pub first_fits : length (joined seated.lists part.pieces) ≤ seated.nodes
+  pub second_fits : length (joined seated.lists other.pieces) ≤ seated.nodes
+  pub first_within : All (IsWithin seated.lists) part.pieces
+  pub second_within : All (IsWithin seated.lists) other.pieces
+
+pub two_given : (seated : Seated) (part other : ListAfter) → MayChange seated (part ∷ other ∷ []) → AreGiven seated part other
+two_given seated part other change =
+    let v : ℕ = part.vehicle in
+    let w : ℕ = other.vehicle in
+    let list : List ℕ = joined seated.lists part.pieces in
+    let more : List ℕ = joined seated.lists other.pieces in
+    let half : List (List ℕ) = slice_set seated.lists v list in
     let final : List (List ℕ) = slice_set half w more in
-    let there : v < length final = omega (arith, low, length-set lists v list, length-set half w more) in
-    let low_half : w < length half = omega (arith, low_w, length-set lists v list) in
+    let are = change.parts_are in
+    let low : v < length seated.lists = are.each_vehicle 0 no_part (omega arith) in
+    let low_w : w < length seated.lists = are.each_vehicle 1 no_part (omega arith) in
+    let apart : v ≢ w = are.apart 0 1 no_part (omega arith) (omega arith) in
+    let there : v < length final = omega (arith, low, length-set seated.lists v list, length-set half w more) in
+    let low_half : w < length half = omega (arith, low_w, length-set seated.lists v list) in
     let there_w : w < length final = omega (arith, low_half, length-set half w more) in
-    let row : route final v ≡ list = route_set_other half w v more apart ∙ route_set_same lists v list low in
+    let row : route final v ≡ list = route_set_other half w v more apart ∙ route_set_same seated.lists v list low in
     let row_w : route final w ≡ more = route_set_same half w more low_half in
     record {
-      first_fits = list_fits n final once have v there list row;
-      second_fits = list_fits n final once have w there_w more row_w;
-      first_below = list_below n final once have v there list row;
-      second_below = list_below n final once have w there_w more row_w;
+      may = record {
+        vehicle = low;
+        other = low_w;
+        apart = apart;
+        nodes = list_below seated.nodes final change.once change.have v there list row;
+        others = list_below seated.nodes final change.once change.have w there_w more row_w;
+        once = change.once;
+      };
+      first_fits = list_fits seated.nodes final change.once change.have v there list row;
+      second_fits = list_fits seated.nodes final change.once change.have w there_w more row_w;
+      first_within = are.each_within 0 no_part (omega arith);
+      second_within = are.each_within 1 no_part (omega arith);
     }

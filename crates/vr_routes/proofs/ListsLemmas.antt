@@ -137,6 +137,14 @@ pub same_filled : (whole now : List (List ℕ)) (v : ℕ) → v < length now →
     → (w : ℕ) → w < length whole → IsSameOrEmpty (route whole w) (route (slice_set now v (route whole v)) w)
 same_filled whole now v low some w w_low = one_set (λ u l. IsSameOrEmpty (route whole u) l) now v (route whole v) low (inl refl) w (some w w_low)
 
+-- the lists so far are those that are wanted, and the others are empty
+pub done_or_left : (whole now : List (List ℕ)) (v : ℕ) → ((w : ℕ) → w < v → route now w ≡ route whole w) → ((w : ℕ) → v ≤ w → route now w ≡ [])
+    → (w : ℕ) → w < length whole → IsSameOrEmpty (route whole w) (route now w)
+done_or_left whole now v done left w _ = elim (cases_lt w v) [
+  | inl before ↦ inl (done w before)
+  | inr from ↦ inr (left w from)
+]
+
 -- no node stands twice in them
 pub filled_once : (whole now : List (List ℕ)) (v : ℕ) → length now ≡ length whole → v < length whole → ((w : ℕ) → w < length whole → IsSameOrEmpty (route whole w) (route now w)) → IsOnce whole
     → IsOnce (slice_set now v (route whole v))

@@ -20,24 +20,21 @@ reversed_joined xs a b =
     ∙ append_assoc (take a xs) (reverse (slice_range xs a (suc b))) (slice_range xs (suc b) (length xs))
     ∙ ap (λ l. take a xs ++ (reverse (slice_range xs a (suc b)) ++ l)) (slice_to_end xs (suc b))
 
-pub removed_joined : (xs : List ℕ) (a : ℕ) → slice_range xs 0 a ++ slice_range xs (a + 1) (length xs) ≡ remove xs a
-removed_joined xs a =
-    ap (λ e. slice_range xs 0 a ++ slice_range xs e (length xs)) (add-one a)
-    ∙ ap (λ l. l ++ slice_range xs (suc a) (length xs)) (from_start xs a)
-    ∙ ap (λ l. take a xs ++ l) (slice_to_end xs (suc a))
+-- a node in the place of others, or of none
+pub put_joined : (xs : List ℕ) (a b x : ℕ) → (slice_range xs 0 a ++ x ∷ []) ++ slice_range xs b (length xs) ≡ take a xs ++ x ∷ drop b xs
+put_joined xs a b x =
+    ap (λ l. (l ++ x ∷ []) ++ slice_range xs b (length xs)) (from_start xs a)
+    ∙ append_assoc (take a xs) (x ∷ []) (slice_range xs b (length xs))
+    ∙ ap (λ l. take a xs ++ x ∷ l) (slice_to_end xs b)
 
-pub inserted_joined : (xs : List ℕ) (t x : ℕ) → (slice_range xs 0 t ++ x ∷ []) ++ slice_range xs t (length xs) ≡ insert xs t x
-inserted_joined xs t x =
-    ap (λ l. (l ++ x ∷ []) ++ slice_range xs t (length xs)) (from_start xs t)
-    ∙ append_assoc (take t xs) (x ∷ []) (slice_range xs t (length xs))
-    ∙ ap (λ l. take t xs ++ x ∷ l) (slice_to_end xs t)
+pub removed_is : (xs : List ℕ) (a : ℕ) → take a xs ++ drop (a + 1) xs ≡ remove xs a
+removed_is xs a = ap (λ e. take a xs ++ drop e xs) (add-one a)
 
-pub replaced_joined : (xs : List ℕ) (a x : ℕ) → a < length xs → (slice_range xs 0 a ++ x ∷ []) ++ slice_range xs (a + 1) (length xs) ≡ slice_set xs a x
-replaced_joined xs a x low =
-    ap (λ e. (slice_range xs 0 a ++ x ∷ []) ++ slice_range xs e (length xs)) (add-one a)
-    ∙ ap (λ l. (l ++ x ∷ []) ++ slice_range xs (suc a) (length xs)) (from_start xs a)
-    ∙ append_assoc (take a xs) (x ∷ []) (slice_range xs (suc a) (length xs))
-    ∙ ap (λ l. take a xs ++ x ∷ l) (slice_to_end xs (suc a)) ∙ sym (set_split xs a x low)
+pub inserted_is : (xs : List ℕ) (t x : ℕ) → take t xs ++ x ∷ drop (t + 0) xs ≡ insert xs t x
+inserted_is xs t x = ap (λ e. take t xs ++ x ∷ drop e xs) (let same : t + 0 ≡ t = omega arith in same)
+
+pub replaced_is : (xs : List ℕ) (a x : ℕ) → a < length xs → take a xs ++ x ∷ drop (a + 1) xs ≡ slice_set xs a x
+replaced_is xs a x low = ap (λ e. take a xs ++ x ∷ drop e xs) (add-one a) ∙ sym (set_split xs a x low)
 
 pub ends_joined : (xs ys : List ℕ) (a b : ℕ) → slice_range ys 0 b ++ slice_range xs a (length xs) ≡ take b ys ++ drop a xs
 ends_joined xs ys a b = ap (λ l. l ++ slice_range xs a (length xs)) (from_start ys b) ∙ ap (λ l. take b ys ++ l) (slice_to_end xs a)

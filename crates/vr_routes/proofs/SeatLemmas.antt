@@ -3,7 +3,7 @@ use Rattle.std.proofs.Common.{◌⊎◌, ◌≡◌, ◌≢◌, ◌∙◌, ℕ, z
 use Rattle.std.specs.Prelude.{IsTrue, ◌==◌, slice_index, slice_index_or, slice_set, Option, MatchOption}
 use Rattle.std.proofs.lemmas.Bool.{cases_lt}
 use Rattle.std.proofs.lemmas.Bool.Decides.{eqb_tells, Decides-eqb}
-use Rattle.std.proofs.lemmas.List.{get_or-set_other, get_or-set_same, get_or_append_left, get_or_push, get_or_past, length-append, get_or_default}
+use Rattle.std.proofs.lemmas.List.{get_or-set_other, get_or-set_same, get_or_append_left, get_or_push, get_or_past, length-append, length-replicate, get_or_default}
 use Rattle.std.proofs.lemmas.Map.Made.{IsDistinct-from_AllPairs}
 use Rattle.std.proofs.lemmas.Map.Steps.{length-le_from_distinct_below}
 use Rattle.vr_model.proofs.routes.Lists.{held_at, place_of_held, route_set_other, route_set_same}
@@ -179,7 +179,12 @@ module _ (lists : List (List ℕ)) (seats : List (Option Seat)) (seated : IsSeat
         ]
 
     pub put_seated : IsSeated new_lists new_seats
-    put_seated = record { told = put_told; there = put_there }
+    put_seated = record {
+      told = put_told;
+      there = put_there;
+      few_vehicles = omega (arith, seated.few_vehicles, length-set lists v row);
+      few_nodes = omega (arith, seated.few_nodes, length-set seats x (Some (seat v last)));
+    }
 
   -- the last node of a list is taken out
   module _ (v x : ℕ) (rest : List ℕ) (low : v < length lists) (ends : route lists v ≡ rest ++ x ∷ []) where
@@ -251,7 +256,12 @@ module _ (lists : List (List ℕ)) (seats : List (Option Seat)) (seated : IsSeat
         ]
 
     pub take_seated : IsSeated lists_left seats_left
-    take_seated = record { told = take_told; there = take_there }
+    take_seated = record {
+      told = take_told;
+      there = take_there;
+      few_vehicles = omega (arith, seated.few_vehicles, length-set lists v rest);
+      few_nodes = omega (arith, seated.few_nodes, length-set seats x None);
+    }
 
 -- ---- empty lists
 
@@ -265,8 +275,10 @@ seat_of_none zero x = refl
 seat_of_none (suc n) zero = refl
 seat_of_none (suc n) (suc x) = seat_of_none n x
 
-pub empty_seated : (n m : ℕ) (lists : List (List ℕ)) (seats : List (Option Seat)) → lists ≡ replicate n [] → seats ≡ replicate m None → IsSeated lists seats
-empty_seated n m lists seats empty none = record {
+pub empty_seated : (n m : ℕ) (lists : List (List ℕ)) (seats : List (Option Seat)) → n ≤ 100 → m ≤ 1000 → lists ≡ replicate n [] → seats ≡ replicate m None → IsSeated lists seats
+empty_seated n m lists seats few few_nodes empty none = record {
   told = λ v k low within. absurd (let r : length (route lists v) ≡ 0 = ap (λ l. length (route l v)) empty ∙ ap length (route_of_empty n v) in omega (arith, within, r));
   there = λ node s e. absurd (none_or_some (seat_at seats node) s e (ap (λ l. seat_at l node) none ∙ seat_of_none m node));
+  few_vehicles = (let long : length (replicate {A = List ℕ} n []) ≡ n = length-replicate n [] in omega (arith, few, ap length empty, long));
+  few_nodes = (let long : length (replicate {A = Option Seat} m None) ≡ m = length-replicate m None in omega (arith, few_nodes, ap length none, long));
 }

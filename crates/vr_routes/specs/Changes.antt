@@ -8,6 +8,7 @@ use Rattle.vr_model.specs.declared.neighbours.Move.{Move}
 use Rattle.vr_model.specs.tables.Tables.{visits}
 use Rattle.vr_model.specs.moves.MoveTests.{is_move}
 use Rattle.vr_model.specs.tables.WellFormed.{IsWellFormed}
+use Rattle.vr_routes.specs.Seats.{Seated, IsOnce, HaveNodes}
 use Rattle.vr_routes.specs.Tours.{Tours}
 use Rattle.vr_routes.specs.Pieces.{ListAfter, joined, changed, IsWithin}
 
@@ -34,6 +35,12 @@ pub record AreParts (lists : List (List ℕ)) (parts : List ListAfter) : Type 0 
 -- a part gives its vehicle another list than it has
 abbrev pub IsOther : List (List ℕ) → ListAfter → Type 0
 IsOther lists part = joined lists part.pieces ≢ route lists part.vehicle
+
+-- lists may be changed so: after it no node stands twice, and each one is among those that may stand there
+pub record MayChange (seated : Seated) (parts : List ListAfter) : Type 0 where
+  pub parts_are : AreParts seated.lists parts
+  pub once : IsOnce (changed seated.lists parts)
+  pub have : HaveNodes seated.nodes (changed seated.lists parts)
 
 -- a change of lists is the one that a move of theirs makes, and no part of it leaves its list as it is
 pub record IsChange (model : Model) (lists : List (List ℕ)) (mv : Move) (parts : List ListAfter) : Type 0 where

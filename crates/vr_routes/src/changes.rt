@@ -1,23 +1,19 @@
 //! What a move changes.
 
-ghost use Rattle.std.specs.Prelude.{◌≡◌, ◌≢◌, ◌<◌, ◌≤◌, All, true, false, IsTrue, [], ◌∷◌, length, IfSome, MatchOption};
-ghost use Rattle.vr_model.specs.tables.Tables.{pair_at, visits};
+ghost use Rattle.std.specs.Prelude.{◌≡◌, ◌<◌, ◌≤◌, true, false, IsTrue, [], ◌∷◌, length, IfSome, MatchOption};
+ghost use Rattle.vr_model.specs.tables.Tables.{visits};
 ghost use Rattle.vr_model.specs.tables.WellFormed.{IsWellFormed};
 ghost use Rattle.vr_model.specs.moves.MoveTests.{is_move};
-ghost use Rattle.vr_model.specs.moves.Moves.{without_pair};
-ghost use Rattle.vr_model.specs.routes.Routes.{route};
 ghost use Rattle.vr_model.specs.declared.neighbours.Move.TheVariants.{TwoOpt, OrOpt, Relocate, Exchange, Cross};
 ghost use Rattle.vr_model.specs.declared.neighbours.Move.TheVariants.{MakeActive, MakeInactive, SwapActive};
 ghost use Rattle.vr_model.specs.declared.neighbours.Move.TheVariants.{PairActive, PairInactive, RelocatePair};
-ghost use Rattle.vr_routes.specs.Pieces.{changed, no_part, part_at, IsWithin};
-ghost use Rattle.vr_routes.specs.Seats.{IsOnce, HaveNodes};
-ghost use Rattle.vr_routes.specs.Changes.{AreParts, IsChange};
-ghost use Rattle.vr_routes.specs.Pairs.{ArePlaces};
+ghost use Rattle.vr_routes.specs.Pieces.{changed, no_part, part_at};
+ghost use Rattle.vr_routes.specs.Changes.{IsChange, MayChange};
 
 use crate::conditions::{is_move, pair_served, pair_together};
 use crate::filling::fill;
-use crate::kinds;
-use crate::pairs::PairPlaces;
+use crate::kinds::{Ends, Stretch, TwoGaps, TwoPlaces, take_pair};
+use crate::pairs::{Served, Standing};
 use crate::pieces::{Part, Piece};
 use crate::routes::Routes;
 use crate::rows::Row;
@@ -116,7 +112,13 @@ impl Change {
         ensures { IsChange model.now routes.now.lists (TwoOpt v a b) self.new }
     {
         self.has_second = false;
-        kinds::reverse(routes, v, a, b, &mut self.first);
+        let places = TwoPlaces {
+            routes,
+            v,
+            lo: a,
+            hi: b,
+        };
+        places.reverse(&mut self.first);
     }
 
     #[inline]
@@ -133,7 +135,13 @@ impl Change {
         ensures { IsChange model.now routes.now.lists (OrOpt v a k t) self.new }
     {
         self.has_second = false;
-        kinds::move_chain(routes, v, a, k, t, &mut self.first);
+        let chain = Stretch {
+            routes,
+            v,
+            from: a,
+            nodes: k,
+        };
+        chain.move_to(t, &mut self.first);
     }
 
     #[inline]
@@ -150,8 +158,20 @@ impl Change {
         ensures { IsChange model.now routes.now.lists (Relocate v a w t) self.new }
     {
         self.has_second = true;
-        kinds::take_out(routes, v, a, &mut self.first);
-        kinds::put_in(routes, w, t, routes.node_at(v, a), &mut self.second);
+        let visit = Stretch {
+            routes,
+            v,
+            from: a,
+            nodes: 1,
+        };
+        visit.take_out(&mut self.first);
+        let gap = Stretch {
+            routes,
+            v: w,
+            from: t,
+            nodes: 0,
+        };
+        gap.put(routes.node_at(v, a), &mut self.second);
     }
 
     #[inline]
@@ -169,12 +189,30 @@ impl Change {
     {
         if v == w {
             self.has_second = false;
-            kinds::swap_within(routes, v, a, b, &mut self.first);
+            let places = TwoPlaces {
+                routes,
+                v,
+                lo: a,
+                hi: b,
+            };
+            places.swap(&mut self.first);
             return;
         }
         self.has_second = true;
-        kinds::put_at(routes, v, a, routes.node_at(w, b), &mut self.first);
-        kinds::put_at(routes, w, b, routes.node_at(v, a), &mut self.second);
+        let one = Stretch {
+            routes,
+            v,
+            from: a,
+            nodes: 1,
+        };
+        one.put(routes.node_at(w, b), &mut self.first);
+        let other = Stretch {
+            routes,
+            v: w,
+            from: b,
+            nodes: 1,
+        };
+        other.put(routes.node_at(v, a), &mut self.second);
     }
 
     #[inline]
@@ -183,8 +221,16 @@ impl Change {
         ensures { IsChange model.now routes.now.lists (Cross v a w b) self.new }
     {
         self.has_second = true;
-        kinds::join_ends(routes, v, a, w, b, &mut self.first);
-        kinds::join_ends(routes, w, b, v, a, &mut self.second);
+        let one = Ends { routes, v, a, w, b };
+        one.join(&mut self.first);
+        let other = Ends {
+            routes,
+            v: w,
+            a: b,
+            w: v,
+            b: a,
+        };
+        other.join(&mut self.second);
     }
 
     #[inline]
@@ -193,7 +239,13 @@ impl Change {
         ensures { IsChange model.now routes.now.lists (MakeInactive v a) self.new }
     {
         self.has_second = false;
-        kinds::take_out(routes, v, a, &mut self.first);
+        let visit = Stretch {
+            routes,
+            v,
+            from: a,
+            nodes: 1,
+        };
+        visit.take_out(&mut self.first);
     }
 
     #[inline]
@@ -202,7 +254,13 @@ impl Change {
         ensures { IsChange model.now routes.now.lists (MakeActive u w t) self.new }
     {
         self.has_second = false;
-        kinds::put_in(routes, w, t, u, &mut self.first);
+        let gap = Stretch {
+            routes,
+            v: w,
+            from: t,
+            nodes: 0,
+        };
+        gap.put(u, &mut self.first);
     }
 
     #[inline]
@@ -211,7 +269,13 @@ impl Change {
         ensures { IsChange model.now routes.now.lists (SwapActive v a u) self.new }
     {
         self.has_second = false;
-        kinds::put_at(routes, v, a, u, &mut self.first);
+        let visit = Stretch {
+            routes,
+            v,
+            from: a,
+            nodes: 1,
+        };
+        visit.put(u, &mut self.first);
     }
 
     #[inline]
@@ -228,14 +292,8 @@ impl Change {
         ensures { IsChange model.now routes.now.lists (PairActive p w s t) self.new }
     {
         self.has_second = false;
-        kinds::put_pair(
-            routes,
-            w,
-            s,
-            t,
-            *model.pairs.get(p as usize),
-            &mut self.first,
-        );
+        let gaps = TwoGaps { routes, v: w, s, t };
+        gaps.put_pair(*model.pairs.get(p as usize), &mut self.first);
     }
 
     #[inline]
@@ -248,7 +306,13 @@ impl Change {
             None => unreachable!(),
             Some(at) => {
                 self.has_second = false;
-                kinds::take_pair(routes, at, &mut self.first);
+                let on = Standing {
+                    model: closed.model,
+                    routes,
+                    p,
+                    at,
+                };
+                take_pair(on, &mut self.first);
             }
         }
     }
@@ -268,50 +332,47 @@ impl Change {
     {
         match pair_served(model, routes, p) {
             None => unreachable!(),
-            Some(at) => self.put_elsewhere(model, routes, p, at, w, s, t),
+            Some(at) => {
+                let on = Standing {
+                    model,
+                    routes,
+                    p,
+                    at,
+                };
+                let served = Served { on };
+                self.put_elsewhere(served, w, s, t)
+            }
         }
     }
 
-    // Puts the served pair `p`, which stands at `at`, into the list of `w`.
+    // Puts a pair that is served into the list of `w`.
     #[inline]
-    fn put_elsewhere(
-        &mut self,
-        model: &RoutingModel,
-        routes: &Routes,
-        p: u32,
-        at: PairPlaces,
-        w: u32,
-        s: u32,
-        t: u32,
-    )
-        requires is_one { is_move model.now routes.now.lists (RelocatePair p w s t) ≡ true }
-        requires pair { p < length model.now.pairs }
-        requires stands { ArePlaces routes.now.lists (pair_at model.now p) at.vehicle at.pickup at.delivery }
-        requires served { at.pickup < at.delivery }
-        requires vehicle { w < length routes.now.lists }
-        requires order { s ≤ t }
-        requires gap { t ≤ length (without_pair (pair_at model.now p) (route routes.now.lists w)) }
-        ensures { IsChange model.now routes.now.lists (RelocatePair p w s t) self.new }
+    fn put_elsewhere(&mut self, served: Served<'_, '_>, w: u32, s: u32, t: u32)
+        requires is_one { is_move served.on.model.now served.on.routes.now.lists (RelocatePair served.on.p w s t)
+            ≡ true }
+        ensures { let on = served.entry.on in
+            IsChange on.model.now on.routes.now.lists (RelocatePair on.p w s t) self.new }
     {
+        let on = served.on;
+        let at = on.at;
+        let routes = on.routes;
         routes.know_once();
-        let pair = *model.pairs.get(p as usize);
+        let pair = *on.model.pairs.get(on.p as usize);
         if w == at.vehicle {
             self.has_second = false;
-            kinds::move_pair(
+            let places = TwoPlaces {
                 routes,
-                w,
-                at.pickup,
-                at.delivery,
-                s,
-                t,
-                pair,
-                &mut self.first,
-            );
+                v: w,
+                lo: at.pickup,
+                hi: at.delivery,
+            };
+            places.move_pair(s, t, pair, &mut self.first);
             return;
         }
         self.has_second = true;
-        kinds::take_pair(routes, at, &mut self.first);
-        kinds::put_pair(routes, w, s, t, pair, &mut self.second);
+        take_pair(on, &mut self.first);
+        let gaps = TwoGaps { routes, v: w, s, t };
+        gaps.put_pair(pair, &mut self.second);
     }
 
     /// How many lists are changed.
@@ -356,10 +417,7 @@ impl Change {
 
     /// Gives the vehicles of the change their lists. The rows are written over.
     pub(crate) fn rebuild(&self, seating: &mut Seating, first: &mut Row, second: &mut Row)
-        requires few { seating.old.nodes ≤ 1000 }
-        requires parts { AreParts seating.old.lists self.now }
-        requires once { IsOnce (changed seating.old.lists self.now) }
-        requires nodes { HaveNodes seating.old.nodes (changed seating.old.lists self.now) }
+        requires { MayChange seating.old self.now }
         ensures lists { seating.new.lists ≡ changed seating.old.lists self.now }
         ensures nodes { seating.new.nodes ≡ seating.old.nodes }
     {
@@ -373,31 +431,22 @@ impl Change {
 
 // Gives the vehicle of a part its list.
 fn rebuild_one(seating: &mut Seating, part: &Part, row: &mut Row)
-    requires few { seating.old.nodes ≤ 1000 }
-    requires vehicle { part.now.vehicle < length seating.old.lists }
-    requires within { All (IsWithin seating.old.lists) part.now.pieces }
-    requires once { IsOnce (changed seating.old.lists (part.now ∷ [])) }
-    requires have { HaveNodes seating.old.nodes (changed seating.old.lists (part.now ∷ [])) }
+    requires { MayChange seating.old (part.now ∷ []) }
     ensures lists { seating.new.lists ≡ changed seating.old.lists (part.now ∷ []) }
     ensures nodes { seating.new.nodes ≡ seating.old.nodes }
 {
+    seating.know_few();
     fill(seating, part.pieces(), row);
     seating.set_list(part.vehicle(), row.as_slice());
 }
 
 // Gives the vehicles of two parts their lists.
 fn rebuild_two(seating: &mut Seating, part: &Part, other: &Part, row: &mut Row, second: &mut Row)
-    requires few { seating.old.nodes ≤ 1000 }
-    requires vehicle { part.now.vehicle < length seating.old.lists }
-    requires other { other.now.vehicle < length seating.old.lists }
-    requires apart { part.now.vehicle ≢ other.now.vehicle }
-    requires within { All (IsWithin seating.old.lists) part.now.pieces }
-    requires others_within { All (IsWithin seating.old.lists) other.now.pieces }
-    requires once { IsOnce (changed seating.old.lists (part.now ∷ other.now ∷ [])) }
-    requires have { HaveNodes seating.old.nodes (changed seating.old.lists (part.now ∷ other.now ∷ [])) }
+    requires { MayChange seating.old (part.now ∷ other.now ∷ []) }
     ensures lists { seating.new.lists ≡ changed seating.old.lists (part.now ∷ other.now ∷ []) }
     ensures nodes { seating.new.nodes ≡ seating.old.nodes }
 {
+    seating.know_few();
     fill(seating, part.pieces(), row);
     fill(seating, other.pieces(), second);
     seating.set_two(

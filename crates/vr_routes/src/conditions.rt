@@ -10,7 +10,9 @@ ghost use Rattle.vr_model.specs.declared.neighbours.Move.TheVariants.{TwoOpt, Or
 ghost use Rattle.vr_model.specs.declared.neighbours.Move.TheVariants.{MakeActive, MakeInactive, SwapActive};
 ghost use Rattle.vr_model.specs.declared.neighbours.Move.TheVariants.{PairActive, PairInactive, RelocatePair};
 
-use crate::pairs::{PairPlaces, is_elsewhere, is_pair_inactive, pair_places, rest_len};
+use crate::pairs::{
+    PairPlaces, Served, Standing, is_elsewhere, is_pair_inactive, pair_places, rest_len,
+};
 use crate::routes::Routes;
 use vr_model::{Model, Move};
 
@@ -174,27 +176,26 @@ fn is_relocate_pair(model: &Model, routes: &Routes, p: u32, w: u32, s: u32, t: u
 {
     match pair_served(model, routes, p) {
         None => false,
-        Some(at) => is_put_elsewhere(model, routes, p, at, w, s, t),
+        Some(at) => {
+            let on = Standing {
+                model,
+                routes,
+                p,
+                at,
+            };
+            let served = Served { on };
+            is_put_elsewhere(served, w, s, t)
+        }
     }
 }
 
-// Whether the served pair `p`, which stands at `at`, may be put there.
+// Whether a pair that is served may be put there.
 #[inline]
-fn is_put_elsewhere(
-    model: &Model,
-    routes: &Routes,
-    p: u32,
-    at: PairPlaces,
-    w: u32,
-    s: u32,
-    t: u32,
-) -> bool
-    requires pair { p < length model.now.pairs }
-    requires served { is_pair_served model.now routes.now.lists p ≡ true }
-    requires places { ArePlaces routes.now.lists (pair_at model.now p) at.vehicle at.pickup at.delivery }
-    requires order { at.pickup < at.delivery }
-    ensures { result ≡ is_move model.now routes.now.lists (RelocatePair p w s t) }
+fn is_put_elsewhere(served: Served<'_, '_>, w: u32, s: u32, t: u32) -> bool
+    ensures { let on = served.entry.on in result ≡ is_move on.model.now on.routes.now.lists (RelocatePair on.p w s t) }
 {
+    let at = served.on.at;
+    let routes = served.on.routes;
     routes.know_once();
     if w >= routes.vehicles() {
         return false;

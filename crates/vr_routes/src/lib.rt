@@ -1,4 +1,14 @@
 //! Lists of visits with look-ups, what a move changes in them, and the change made in place.
+//!
+//! `Routes` has the list of each vehicle, and for each node where it stands; `Change` has the lists after a move as
+//! pieces of the lists before it, chains and nodes, so that nothing is copied before a move is accepted.
+//!
+//! Invariant: each visit stands in one list at most, where the look-ups say, and the visits in no list are a list of
+//! their own. A change is made on the routes from which it was written (`IsMadeOn`); its pieces, joined, are the lists
+//! that the definition of the move gives. `Judge` is the trait of what judges moves: it holds the same lists as the
+//! routes that it is asked about.
+//!
+//! All searches, filters and cost terms stand on this crate, and constructions end in it.
 #![tactic(auto)]
 
 mod changes;

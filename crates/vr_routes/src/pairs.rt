@@ -2,6 +2,7 @@
 
 ghost use Rattle.std.specs.Prelude.{◌≡◌, ◌<◌, ◌≤◌, false, length, MatchOption};
 ghost use Rattle.vr_model.specs.routes.Routes.{route};
+ghost use Rattle.vr_model.specs.tables.Tables.{pair_at};
 ghost use Rattle.vr_model.specs.moves.Moves.{is_pair_inactive, is_pair_together, without_pair};
 ghost use Rattle.vr_model.specs.declared.records.Pair.{Pair as Paired};
 ghost use Rattle.vr_routes.specs.Pairs.{are_together, ArePlaces, is_elsewhere};
@@ -18,6 +19,27 @@ pub struct PairPlaces {
     pub pickup: u32,
     /// The place of the delivery there.
     pub delivery: u32,
+}
+
+/// Pair `p` of a model, whose nodes stand in one list.
+#[derive(Clone, Copy)]
+pub struct Standing<'m, 'r> {
+    pub model: &'m Model,
+    pub routes: &'r Routes,
+    pub p: u32,
+    pub at: PairPlaces,
+    /// There is the pair.
+    pub ghost pair: { p < length model.now.pairs },
+    /// Its nodes stand there.
+    pub ghost places: { ArePlaces routes.now.lists (pair_at model.now p) at.vehicle at.pickup at.delivery },
+}
+
+/// Such a pair that is served: its pickup comes first.
+#[derive(Clone, Copy)]
+pub struct Served<'m, 'r> {
+    pub on: Standing<'m, 'r>,
+    /// The delivery comes behind it.
+    pub ghost order: { on.at.pickup < on.at.delivery },
 }
 
 /// Where the nodes of a pair stand, `None` where they do not stand in one list.

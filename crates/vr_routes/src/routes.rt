@@ -114,6 +114,7 @@ impl Routes {
         requires many { length self.old.lists ≡ length other.now.lists }
         ensures { self.new ≡ other.now }
     {
+        other.seating.know_once();
         self.seating.assign(&other.seating);
         write_inactive(&self.seating, self.visits.list(0), &mut self.inactive);
     }
@@ -386,7 +387,6 @@ pub fn visits_of(alloc: Global, model: &RoutingModel) -> Result<Seating, NoMemor
 
 // Puts a node behind the visits before it, where it is one.
 fn add_visit(model: &RoutingModel, node: u32, seating: &mut Seating)
-    requires few { seating.old.nodes ≤ 1000 }
     requires node { node < seating.old.nodes }
     requires before { seating.old.lists ≡ filter (is_visit model.now) (below node) ∷ [] }
     ensures lists { seating.new.lists ≡ filter (is_visit model.now) (below (node + 1)) ∷ [] }
@@ -400,8 +400,6 @@ fn add_visit(model: &RoutingModel, node: u32, seating: &mut Seating)
 // Puts the nodes of lists into empty lists, where there are as many, each node is a visit, and none stands twice.
 fn seat_lists(model: &RoutingModel, lists: &[Seq<u32>], seating: &mut Seating) -> bool
     requires nodes { seating.old.nodes ≡ model.now.nodes }
-    requires few { seating.old.nodes ≤ 1000 }
-    requires few_vehicles { length seating.old.lists ≤ 100 }
     requires empty { (v : ℕ) → route seating.old.lists v ≡ [] }
     ensures nodes { seating.new.nodes ≡ seating.old.nodes }
     ensures many { length seating.new.lists ≡ length seating.old.lists }
@@ -410,6 +408,7 @@ fn seat_lists(model: &RoutingModel, lists: &[Seq<u32>], seating: &mut Seating) -
     ensures passes { length lists.now ≡ length seating.old.lists → HaveVisits model.now lists.now
         → IsOnce lists.now → result ≡ true }
 {
+    seating.know_few();
     if lists.len() != seating.vehicles() {
         return false;
     }
@@ -424,7 +423,6 @@ fn seat_lists(model: &RoutingModel, lists: &[Seq<u32>], seating: &mut Seating) -
 // Puts the nodes of a list behind those of a vehicle, where each is a visit that stands nowhere.
 fn seat_list(model: &RoutingModel, list: &[u32], v: u32, seating: &mut Seating) -> bool
     requires nodes { seating.old.nodes ≡ model.now.nodes }
-    requires few { seating.old.nodes ≤ 1000 }
     requires vehicle { v < length seating.old.lists }
     requires visits { HaveVisits model.now seating.old.lists }
     ensures nodes { seating.new.nodes ≡ seating.old.nodes }

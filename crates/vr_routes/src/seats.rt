@@ -1,10 +1,10 @@
 //! Lists with the place of each node beside them.
 
-ghost use Rattle.std.specs.Prelude.{◌≡◌, ℕ, ◌≢◌, ◌<◌, ◌≤◌, false, All, [], ◌∷◌, ◌++◌, length, slice_index, replicate};
+ghost use Rattle.std.specs.Prelude.{◌≡◌, ℕ, ◌<◌, ◌≤◌, false, [], ◌∷◌, ◌++◌, length, slice_index, replicate};
 ghost use Rattle.std.specs.Prelude.{IsTrue, MatchOption, IfOk};
 ghost use Rattle.vr_model.specs.routes.Routes.{route, is_active};
 ghost use Rattle.vr_model.specs.moves.Moves.{with_route};
-ghost use Rattle.vr_routes.specs.Seats.{HaveNodes, IsSeat, IsOnce, IsSameOrEmpty};
+ghost use Rattle.vr_routes.specs.Seats.{IsSeat, IsOnce, IsSameOrEmpty, MayHave, MayHaveAll, MayHaveTwo};
 
 use crate::rows::Row;
 use std::alloc::Global;
@@ -41,6 +41,8 @@ impl Model for Seating {
 impl Seating {
     /// Empty lists for `vehicles` vehicles over the numbers below `nodes`.
     pub fn empty(alloc: Global, vehicles: usize, nodes: usize) -> Result<Seating, NoMemory>
+        requires few_vehicles { vehicles ≤ 100 }
+        requires few_nodes { nodes ≤ 1000 }
         ensures lists { IfOk result (λ s. s.lists ≡ replicate vehicles []) }
         ensures nodes { IfOk result (λ s. s.nodes ≡ nodes) }
     {
@@ -123,7 +125,6 @@ impl Seating {
     pub fn put(&mut self, v: u32, node: u32)
         requires vehicle { v < length self.old.lists }
         requires node { node < self.old.nodes }
-        requires few { self.old.nodes ≤ 1000 }
         requires inactive { is_active self.old.lists node ≡ false }
         ensures lists { self.new.lists ≡ with_route self.old.lists v (route self.old.lists v ++ node ∷ []) }
         ensures nodes { self.new.nodes ≡ self.old.nodes }
@@ -169,10 +170,7 @@ impl Seating {
 
     /// Gives a vehicle another list, with which no node stands twice.
     pub fn set_list(&mut self, v: u32, nodes: &[u32])
-        requires vehicle { v < length self.old.lists }
-        requires nodes { All (λ node. node < self.old.nodes) nodes.now }
-        requires few { self.old.nodes ≤ 1000 }
-        requires once { IsOnce (with_route self.old.lists v nodes.now) }
+        requires { MayHave self.old v nodes.now }
         ensures lists { self.new.lists ≡ with_route self.old.lists v nodes.now }
         ensures nodes { self.new.nodes ≡ self.old.nodes }
     {
@@ -184,13 +182,7 @@ impl Seating {
 
     /// Gives two vehicles other lists, with which no node stands twice.
     pub fn set_two(&mut self, v: u32, nodes: &[u32], w: u32, others: &[u32])
-        requires vehicle { v < length self.old.lists }
-        requires other { w < length self.old.lists }
-        requires apart { v ≢ w }
-        requires nodes { All (λ node. node < self.old.nodes) nodes.now }
-        requires others { All (λ node. node < self.old.nodes) others.now }
-        requires few { self.old.nodes ≤ 1000 }
-        requires once { IsOnce (with_route (with_route self.old.lists v nodes.now) w others.now) }
+        requires { MayHaveTwo self.old v nodes.now w others.now }
         ensures lists { self.new.lists ≡ with_route (with_route self.old.lists v nodes.now) w others.now }
         ensures nodes { self.new.nodes ≡ self.old.nodes }
     {
@@ -201,14 +193,11 @@ impl Seating {
 
     /// Gives each vehicle the list that it has in `other`.
     pub fn assign(&mut self, other: &Seating)
-        requires many { length self.old.lists ≡ length other.now.lists }
-        requires few { self.old.nodes ≤ 1000 }
-        requires few_vehicles { length self.old.lists ≤ 100 }
-        requires nodes { HaveNodes self.old.nodes other.now.lists }
+        requires { MayHaveAll self.old other.now.lists }
         ensures lists { self.new.lists ≡ other.now.lists }
         ensures nodes { self.new.nodes ≡ self.old.nodes }
     {
-        other.know_once();
+        other.know_few();
         self.clear_all();
         for v in 0..other.vehicles() {
             self.set_list(v as u32, other.list(v as u32));
@@ -217,14 +206,11 @@ impl Seating {
 
     /// Gives each vehicle its list of `lists`, in which no node stands twice. A list that is the same is left alone.
     pub fn set_lists(&mut self, lists: &[Seq<u32>])
-        requires many { length self.old.lists ≡ length lists.now }
-        requires few { self.old.nodes ≤ 1000 }
-        requires few_vehicles { length self.old.lists ≤ 100 }
-        requires nodes { HaveNodes self.old.nodes lists.now }
-        requires once { IsOnce lists.now }
+        requires { MayHaveAll self.old lists.now }
         ensures lists { self.new.lists ≡ lists.now }
         ensures nodes { self.new.nodes ≡ self.old.nodes }
     {
+        self.know_few();
         self.clear_others(lists);
         for v in 0..lists.len() {
             self.fill(v as u32, lists[v].as_slice());
@@ -234,11 +220,11 @@ impl Seating {
     // Takes all nodes out of each list that is another one in `lists`.
     fn clear_others(&mut self, lists: &[Seq<u32>])
         requires many { length self.old.lists ≡ length lists.now }
-        requires few_vehicles { length self.old.lists ≤ 100 }
         ensures each { (v : ℕ) → v < length lists.now → IsSameOrEmpty (route lists.now v) (route self.new.lists v) }
         ensures many { length self.new.lists ≡ length self.old.lists }
         ensures nodes { self.new.nodes ≡ self.old.nodes }
     {
+        self.know_few();
         for v in 0..lists.len() {
             self.clear_other(v as u32, lists[v].as_slice());
         }
@@ -257,10 +243,7 @@ impl Seating {
 
     // Gives a vehicle a list, with which no node stands twice, where it has not got it: then it has none.
     fn fill(&mut self, v: u32, nodes: &[u32])
-        requires vehicle { v < length self.old.lists }
-        requires nodes { All (λ node. node < self.old.nodes) nodes.now }
-        requires few { self.old.nodes ≤ 1000 }
-        requires once { IsOnce (with_route self.old.lists v nodes.now) }
+        requires may { MayHave self.old v nodes.now }
         requires there { IsSameOrEmpty nodes.now (route self.old.lists v) }
         ensures lists { self.new.lists ≡ with_route self.old.lists v nodes.now }
         ensures nodes { self.new.nodes ≡ self.old.nodes }
@@ -272,14 +255,23 @@ impl Seating {
 
     // Takes all nodes out.
     fn clear_all(&mut self)
-        requires few_vehicles { length self.old.lists ≤ 100 }
         ensures lists { (v : ℕ) → route self.new.lists v ≡ [] }
         ensures many { length self.new.lists ≡ length self.old.lists }
         ensures nodes { self.new.nodes ≡ self.old.nodes }
     {
+        self.know_few();
         for v in 0..self.vehicles() {
             self.clear(v as u32);
         }
+    }
+
+    /// There are few lists, and few nodes that may stand in them. It does nothing.
+    pub fn know_few(&self)
+        ensures vehicles { length self.now.lists ≤ 100 }
+        ensures nodes { self.now.nodes ≤ 1000 }
+    {
+        // To read a field is to know what holds of all seatings.
+        let _rows = &self.rows;
     }
 
     /// No node stands at two places. It does nothing.

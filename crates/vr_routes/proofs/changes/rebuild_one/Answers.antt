@@ -1,37 +1,24 @@
-use Rattle.std.proofs.Common.{◌≡◌, ◌∙◌, ◌<◌, ℕ, List, length, length-set, ap, sym, subst, arith}
-use Rattle.std.specs.Prelude.{slice_set, All}
-use Rattle.vr_model.proofs.routes.Lists.{route_set_same}
-use Rattle.vr_model.specs.routes.Routes.{route}
-use Rattle.vr_routes.specs.Pieces.{joined}
-use Rattle.vr_routes.specs.Seats.{IsOnce}
-use Rattle.vr_routes.proofs.FinalLemmas.{list_fits, list_below}
+use Rattle.std.proofs.Common.{◌∙◌, length, ap, sym, subst, arith}
+use Rattle.std.specs.Prelude.{All}
+use Rattle.vr_routes.specs.Pieces.{joined, IsWithin}
+use Rattle.vr_routes.specs.Seats.{MayHave}
+use Rattle.vr_routes.proofs.FinalLemmas.{one_given}
 use Rattle.vr_routes.proofs.changes.rebuild_one.Goals as goal
+
+pub fill-requires-clause-within : goal.fill-requires-clause-within
+fill-requires-clause-within c =
+    let given = one_given c.args.seating.now c.args.part.now c.requires in
+    subst (All (IsWithin c.args.seating.now.lists)) (sym c.pieces.ensures.value) given.within
 
 pub fill-requires-clause-room : goal.fill-requires-clause-room
 fill-requires-clause-room c =
-    let lists : List (List ℕ) = c.args.seating.now.lists in
-    let v = c.args.part.now.vehicle in
-    let list : List ℕ = joined lists c.args.part.now.pieces in
-    let final : List (List ℕ) = slice_set lists v list in
-    let low : v < length final = omega (arith, c.requires.vehicle, length-set lists v list) in
-    let row : route final v ≡ list = route_set_same lists v list c.requires.vehicle in
-    let fits = list_fits c.args.seating.now.nodes final c.requires.once c.requires.have v low list row in
-    let same = ap (λ p. length (joined lists p)) c.pieces.ensures.value in
-    omega (arith, fits, same, c.requires.few)
+    let fits = (one_given c.args.seating.now c.args.part.now c.requires).fits in
+    let same = ap (λ p. length (joined c.args.seating.now.lists p)) c.pieces.ensures.value in
+    omega (arith, fits, same, c.know_few.ensures.nodes)
 
-pub set_list-requires-clause-nodes : goal.set_list-requires-clause-nodes
-set_list-requires-clause-nodes c =
-    let lists : List (List ℕ) = c.args.seating.now.lists in
-    let v = c.args.part.now.vehicle in
-    let list : List ℕ = joined lists c.args.part.now.pieces in
-    let final : List (List ℕ) = slice_set lists v list in
-    let low : v < length final = omega (arith, c.requires.vehicle, length-set lists v list) in
-    let row : route final v ≡ list = route_set_same lists v list c.requires.vehicle in
-    subst (λ l. All (λ node. node < c.args.seating.now.nodes) l) (sym (c.as_slice.ensures.value ∙ c.fill.ensures ∙ ap (joined lists) c.pieces.ensures.value))
-    (list_below c.args.seating.now.nodes final c.requires.once c.requires.have v low list row)
-
-pub set_list-requires-clause-once : goal.set_list-requires-clause-once
-set_list-requires-clause-once c =
-    let lists : List (List ℕ) = c.args.seating.now.lists in
-    subst IsOnce (sym (ap (λ v. slice_set lists v c.as_slice.result.now) c.vehicle.ensures
-    ∙ ap (slice_set lists c.args.part.now.vehicle) (c.as_slice.ensures.value ∙ c.fill.ensures ∙ ap (joined lists) c.pieces.ensures.value))) c.requires.once
+pub set_list-requires : goal.set_list-requires
+set_list-requires c =
+    let seated = c.args.seating.now in
+    let given = one_given seated c.args.part.now c.requires in
+    let list = c.as_slice.ensures.value ∙ c.fill.ensures ∙ ap (joined seated.lists) c.pieces.ensures.value in
+    subst (λ v. MayHave seated v c.as_slice.result.now) (sym c.vehicle.ensures) (subst (MayHave seated c.args.part.now.vehicle) (sym list) given.may)

@@ -1,11 +1,30 @@
-use Rattle.std.proofs.Common.{◌≡◌, ◌∙◌, ℕ, List, sym, ap}
+use Rattle.std.proofs.Common.{◌≡◌, ◌∙◌, ◌<◌, ℕ, List, length, sym, ap, subst, arith}
 use Rattle.std.specs.Prelude.{slice_set, slice_index}
 use Rattle.vr_model.specs.routes.Routes.{route}
 use Rattle.vr_model.specs.declared.neighbours.Move.TheVariants.{Exchange}
+use Rattle.vr_routes.specs.Changes.{IsAfter}
+use Rattle.vr_routes.proofs.PieceLemmas.{replaced_is}
 use Rattle.vr_routes.proofs.FactLemmas.{of_exchange}
 use Rattle.vr_routes.proofs.ChangeLemmas.{one_part, two_parts, exchanged_within, exchanged_between}
 use Rattle.vr_routes.proofs.DifferLemmas.{replaced_differs, apart_between}
 use Rattle.vr_routes.proofs.changes.Change.write_exchange.Goals as goal
+
+pub invariant_of-places : goal.invariant_of-places
+invariant_of-places c =
+    let lists : List (List ℕ) = c.args.routes.now.lists in
+    let test = of_exchange c.args.model.now lists c.args.v c.args.a c.args.w c.args.b c.requires.is_one in
+    let same : c.args.v ≡ c.args.w = c.if-v-w.true in
+    record { vehicle = test.vehicle; order = test.behind same; place = subst (λ u. c.args.b < length (route lists u)) (sym same) test.other_place }
+
+pub invariant_of-one : goal.invariant_of-one
+invariant_of-one c =
+    let test = of_exchange c.args.model.now c.args.routes.now.lists c.args.v c.args.a c.args.w c.args.b c.requires.is_one in
+    record { vehicle = test.vehicle; within = omega (arith, test.place) }
+
+pub invariant_of-other : goal.invariant_of-other
+invariant_of-other c =
+    let test = of_exchange c.args.model.now c.args.routes.now.lists c.args.v c.args.a c.args.w c.args.b c.requires.is_one in
+    record { vehicle = test.other; within = omega (arith, test.other_place) }
 
 pub returns-then-v-w : goal.returns-then-v-w
 returns-then-v-w c =
@@ -17,7 +36,7 @@ returns-then-v-w c =
     let x : ℕ = slice_index (route lists v) a in
     let same : v ≡ w = c.if-v-w.true in
     let low = (of_exchange c.args.model.now c.args.routes.now.lists c.args.v c.args.a c.args.w c.args.b c.requires.is_one).vehicle in
-    one_part c.args.model.now lists (Exchange v a w b) _ v _ low c.swap_within.ensures
+    one_part c.args.model.now lists (Exchange v a w b) _ v _ low c.swap.ensures
     (ap (λ u. slice_set lists v (slice_set (slice_set (route lists v) a (slice_index (route lists u) b)) b x)) same
     ∙ exchanged_within lists v w a b (slice_index (route lists w) b) x same low) c.requires.is_one
 
@@ -31,7 +50,9 @@ returns c =
     let test = of_exchange c.args.model.now c.args.routes.now.lists c.args.v c.args.a c.args.w c.args.b c.requires.is_one in
     let y : ℕ = slice_index (route lists w) b in
     let x : ℕ = slice_index (route lists v) a in
-    two_parts c.args.model.now lists (Exchange v a w b) _ _ v w _ _ test.vehicle test.other c.if-v-w.false c.put_at.ensures c.put_at-2.ensures
+    two_parts c.args.model.now lists (Exchange v a w b) _ _ v w _ _ test.vehicle test.other c.if-v-w.false
+    (subst (IsAfter lists c.put.new.part v) (replaced_is (route lists v) a c.node_at.result test.place) c.put.ensures)
+    (subst (IsAfter lists c.put-2.new.part w) (replaced_is (route lists w) b c.node_at-2.result test.other_place) c.put-2.ensures)
     (ap (λ z. slice_set (slice_set lists v (slice_set (route lists v) a z)) w (slice_set (route lists w) b c.node_at-2.result)) c.node_at.ensures
     ∙ ap (λ z. slice_set (slice_set lists v (slice_set (route lists v) a y)) w (slice_set (route lists w) b z)) c.node_at-2.ensures
     ∙ exchanged_between lists v w b x (slice_set (route lists v) a y) c.if-v-w.false)

@@ -6,6 +6,11 @@ use Rattle.vr_routes.proofs.FactLemmas.{of_pair_active}
 use Rattle.vr_routes.proofs.ChangeLemmas.{one_part}
 use Rattle.vr_routes.proofs.changes.Change.write_pair_active.Goals as goal
 
+pub invariant_of-gaps : goal.invariant_of-gaps
+invariant_of-gaps c =
+    let test = of_pair_active c.args.model.now c.args.routes.now.lists c.args.p c.args.w c.args.s c.args.t c.requires.is_one in
+    record { vehicle = test.vehicle; order = test.order; gap = test.gap }
+
 pub returns : goal.returns
 returns c =
     let lists = c.args.routes.now.lists in

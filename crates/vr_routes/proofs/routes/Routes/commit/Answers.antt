@@ -8,21 +8,17 @@ use Rattle.vr_routes.proofs.TourLemmas.{held_below}
 use Rattle.vr_routes.proofs.CommitLemmas.{as_many_lists, once_after, entry_after}
 use Rattle.vr_routes.proofs.routes.Routes.commit.Goals as goal
 
-pub rebuild-requires-clause-once : goal.rebuild-requires-clause-once
-rebuild-requires-clause-once c =
+pub rebuild-requires : goal.rebuild-requires
+rebuild-requires c =
     let tours : Tours = record { visits = route c.self.inside.visits.lists 0; lists = c.self.inside.seating.lists } in
     let parts = c.args.change.now in
     let made : IsMadeOn tours parts = subst (λ t. IsMadeOn t parts) (sym c.self.view_is) c.requires.made in
     let once : IsOnce tours.lists = c.know_once.ensures in
-    once_after tours parts made once
-
-pub rebuild-requires-clause-nodes : goal.rebuild-requires-clause-nodes
-rebuild-requires-clause-nodes c =
-    let tours : Tours = record { visits = route c.self.inside.visits.lists 0; lists = c.self.inside.seating.lists } in
-    let parts = c.args.change.now in
-    let made : IsMadeOn tours parts = subst (λ t. IsMadeOn t parts) (sym c.self.view_is) c.requires.made in
-    let once : IsOnce tours.lists = c.know_once.ensures in
-    λ node active. held_below tours.visits c.self.inside.seating.nodes c.self.invariant.each_visit_is_node node (entry_after tours parts made once c.self.invariant.each_entry_is_visit node active)
+    record {
+      parts_are = made.makes.parts_are;
+      once = once_after tours parts made once;
+      have = λ node active. held_below tours.visits c.self.inside.seating.nodes c.self.invariant.each_visit_is_node node (entry_after tours parts made once c.self.invariant.each_entry_is_visit node active);
+    }
 
 pub invariant_of-self : goal.invariant_of-self
 invariant_of-self c =

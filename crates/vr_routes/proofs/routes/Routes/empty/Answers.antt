@@ -10,6 +10,9 @@ use Rattle.vr_routes.proofs.TourLemmas.{visits_below, visits_ascend, few_visits,
 use Rattle.vr_routes.proofs.TourLemmas.{seen}
 use Rattle.vr_routes.proofs.routes.Routes.empty.Goals as goal
 
+pub empty-requires-clause-few_vehicles : goal.empty-requires-clause-few_vehicles
+empty-requires-clause-few_vehicles c = let fleet = c.requires.well_formed.number_of_vehicles.at_most in omega (arith, fleet, c.len.ensures)
+
 pub write_inactive-requires-clause-few : goal.write_inactive-requires-clause-few
 write_inactive-requires-clause-few c =
     let few = few_visits c.args.model.now in

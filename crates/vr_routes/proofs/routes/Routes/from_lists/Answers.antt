@@ -14,6 +14,9 @@ use Rattle.vr_routes.specs.Tours.{HaveVisits}
 use Rattle.vr_routes.proofs.ListsLemmas.{are_lists_of, many_of, visits_of, once_of}
 use Rattle.vr_routes.proofs.routes.Routes.from_lists.Goals as goal
 
+pub empty-requires-clause-few_vehicles : goal.empty-requires-clause-few_vehicles
+empty-requires-clause-few_vehicles c = let fleet = c.requires.well_formed.number_of_vehicles.at_most in omega (arith, fleet, c.len.ensures)
+
 pub write_inactive-requires-clause-few : goal.write_inactive-requires-clause-few
 write_inactive-requires-clause-few c =
     let few = few_visits c.args.model.now in

@@ -5,10 +5,13 @@ use Rattle.vr_routes.specs.Tours.{Tours, inactive_of}
 use Rattle.vr_routes.proofs.TourLemmas.{held_below}
 use Rattle.vr_routes.proofs.routes.Routes.set_lists.Goals as goal
 
-pub set_lists-requires-clause-nodes : goal.set_lists-requires-clause-nodes
-set_lists-requires-clause-nodes c = λ node active.
-    held_below (route c.self.inside.visits.lists 0) c.self.inside.seating.nodes c.self.invariant.each_visit_is_node node
-    (subst (λ (t : Tours). IsTrue (holds t.visits node)) (sym c.self.view_is) (c.requires.visits node active))
+pub set_lists-requires : goal.set_lists-requires
+set_lists-requires c = record {
+  many = subst (λ (t : Tours). length t.lists ≡ length c.args.lists.now) (sym c.self.view_is) c.requires.many;
+  nodes = λ node active. held_below (route c.self.inside.visits.lists 0) c.self.inside.seating.nodes c.self.invariant.each_visit_is_node node
+      (subst (λ (t : Tours). IsTrue (holds t.visits node)) (sym c.self.view_is) (c.requires.visits node active));
+  once = c.requires.once;
+}
 
 pub invariant_of-self : goal.invariant_of-self
 invariant_of-self c =

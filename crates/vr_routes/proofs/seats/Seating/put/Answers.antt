@@ -1,4 +1,4 @@
-use Rattle.std.proofs.Common.{◌≡◌, ◌<◌, ◌≤◌, ◌++◌, ◌∷◌, [], false, length, sym, subst, ap, ◌∙◌, arith}
+use Rattle.std.proofs.Common.{◌≡◌, ◌<◌, ◌++◌, ◌∷◌, [], false, length, sym, subst, ap, ◌∙◌, arith}
 use Rattle.std.proofs.lemmas.List.{get_or_default}
 use Rattle.vr_model.specs.routes.Routes.{route, is_active}
 use Rattle.vr_routes.proofs.SeatLemmas.{row_has_room, put_seated}
@@ -10,11 +10,10 @@ push-requires c =
     let seats = c.self.inside.seats.items in
     let low : c.args.v < length rows = subst (λ s. c.args.v < length s.lists) (sym c.self.view_is) c.requires.vehicle in
     let within : c.args.node < length seats = subst (λ s. c.args.node < s.nodes) (sym c.self.view_is) c.requires.node in
-    let few : length seats ≤ 1000 = subst (λ s. s.nodes ≤ 1000) (sym c.self.view_is) c.requires.few in
     let inactive : is_active rows c.args.node ≡ false = subst (λ s. is_active s.lists c.args.node ≡ false) (sym c.self.view_is) c.requires.inactive in
     let room = row_has_room rows seats c.self.invariant c.args.v c.args.node low within inactive in
     let row : length c.index_mut-row.result.now ≡ length (route rows c.args.v) = ap length (c.index_mut-row.ensures.value ∙ get_or_default rows c.args.v c.index_mut-row.result.now [] low) in
-    omega (arith, row, room, few)
+    omega (arith, row, room, c.self.invariant.few_nodes)
 
 pub invariant_of-self : goal.invariant_of-self
 invariant_of-self c =

@@ -16,24 +16,19 @@ loop-v-init c = record {
   some = c.clear_others.ensures.each;
 }
 
-pub fill-requires-clause-vehicle : goal.fill-requires-clause-vehicle
-fill-requires-clause-vehicle c = omega (arith, c.loop-v-test.true, c.loop-v.invariant.many, c.requires.many)
-
-pub fill-requires-clause-nodes : goal.fill-requires-clause-nodes
-fill-requires-clause-nodes c =
-    let whole = c.args.lists.now in
-    let v : ℕ = c.loop-v.v in
-    let row : c.as_slice.result.now ≡ route whole v = c.as_slice.ensures ∙ c.index-lists-v.is ∙ get_or_default whole v c.index-lists-v.result [] c.loop-v-test.true in
-    subst (λ n. All (λ node. node < n) c.as_slice.result.now) (sym c.loop-v.invariant.nodes)
-    (list_below c.args.self.now.nodes whole c.requires.once c.requires.nodes v c.loop-v-test.true c.as_slice.result.now (sym row))
-
-pub fill-requires-clause-once : goal.fill-requires-clause-once
-fill-requires-clause-once c =
+pub fill-requires-clause-may : goal.fill-requires-clause-may
+fill-requires-clause-may c =
     let whole = c.args.lists.now in
     let now = c.loop-v.self.lists in
     let v : ℕ = c.loop-v.v in
+    let many = c.loop-v.invariant.many ∙ c.requires.many in
     let row : c.as_slice.result.now ≡ route whole v = c.as_slice.ensures ∙ c.index-lists-v.is ∙ get_or_default whole v c.index-lists-v.result [] c.loop-v-test.true in
-    subst (λ l. IsOnce (slice_set now v l)) (sym row) (filled_once whole now v (c.loop-v.invariant.many ∙ c.requires.many) c.loop-v-test.true c.loop-v.invariant.some c.requires.once)
+    record {
+      vehicle = omega (arith, c.loop-v-test.true, many);
+      nodes = subst (λ n. All (λ node. node < n) c.as_slice.result.now) (sym c.loop-v.invariant.nodes)
+          (list_below c.args.self.now.nodes whole c.requires.once c.requires.nodes v c.loop-v-test.true c.as_slice.result.now (sym row));
+      once = subst (λ l. IsOnce (slice_set now v l)) (sym row) (filled_once whole now v many c.loop-v-test.true c.loop-v.invariant.some c.requires.once);
+    }
 
 pub fill-requires-clause-there : goal.fill-requires-clause-there
 fill-requires-clause-there c =

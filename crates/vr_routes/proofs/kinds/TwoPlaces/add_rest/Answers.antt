@@ -4,27 +4,30 @@ use Rattle.vr_model.specs.routes.Routes.{route}
 use Rattle.vr_routes.specs.Changes.{IsAfter}
 use Rattle.vr_routes.specs.Pairs.{is_past}
 use Rattle.vr_routes.proofs.RestLemmas.{rest_slices, few_pieces}
-use Rattle.vr_routes.proofs.kinds.add_rest.Goals as goal
+use Rattle.vr_routes.proofs.kinds.TwoPlaces.add_rest.Goals as goal
 
 pub returns-clause-room : goal.returns-clause-room
 returns-clause-room c =
+    let on = c.args.self in
     let a = c.args in
     let one = c.some_chain.ensures.room in
     let two = c.some_chain-2.ensures.room in
     let three = c.some_chain-3.ensures.room in
     let first = ap (λ r. is_past a.i r) c.least.ensures in
-    let second = ap (λ r. is_past (r + 1) (c.least-2.result + 1)) c.greatest.ensures ∙ ap (λ r. is_past ((a.i + (a.lo - a.i)) + 1) (r + 1)) c.least-2.ensures in
+    let second = ap (λ r. is_past (r + 1) (c.least-2.result + 1)) c.greatest.ensures ∙ ap (λ r. is_past ((a.i + (on.lo - a.i)) + 1) (r + 1)) c.least-2.ensures in
     let third = ap (λ r. is_past (r + 2) (a.j + 2)) c.greatest-2.ensures in
-    let few = few_pieces a.lo a.hi a.i a.j c.requires.order c.requires.places in
+    let few = few_pieces on.lo on.hi a.i a.j on.order c.requires.places in
     omega (arith, one, two, three, first, second, third, few)
 
 pub returns-clause-after : goal.returns-clause-after
-returns-clause-after c lists w list low place gap before =
+returns-clause-after c w list gap before =
+    let on = c.args.self in
     let a = c.args in
-    let row : List ℕ = route lists a.v in
+    let lists : List (List ℕ) = on.routes.now.lists in
+    let row : List ℕ = route lists on.v in
+    let low = on.vehicle in
     let r1 = c.least.ensures in
     let r2 = c.least-2.ensures in
-    let order = c.requires.order in
     let s1 = c.some_chain.ensures.after lists w list low (omega (arith, r1, gap)) before in
     let s2 = c.some_chain-2.ensures.after lists w (list ++ slice_range row a.i c.least.result) low (omega (arith, r2, gap)) s1 in
     let s3 = c.some_chain-3.ensures.after lists w ((list ++ slice_range row a.i c.least.result) ++ slice_range row (c.greatest.result + 1) (c.least-2.result + 1)) low gap s2 in
@@ -33,7 +36,7 @@ returns-clause-after c lists w list low place gap before =
     ∙ append_assoc list (slice_range row a.i c.least.result) (slice_range row (c.greatest.result + 1) (c.least-2.result + 1) ++ slice_range row (c.greatest-2.result + 2) (a.j + 2))
     ∙ ap (λ l. list ++ l) (
     ap (λ r. slice_range row a.i r ++ (slice_range row (c.greatest.result + 1) (c.least-2.result + 1) ++ slice_range row (c.greatest-2.result + 2) (a.j + 2))) c.least.ensures
-    ∙ ap (λ r. slice_range row a.i (a.j - (a.j - a.lo)) ++ (slice_range row (r + 1) (c.least-2.result + 1) ++ slice_range row (c.greatest-2.result + 2) (a.j + 2))) c.greatest.ensures
-    ∙ ap (λ r. slice_range row a.i (a.j - (a.j - a.lo)) ++ (slice_range row ((a.i + (a.lo - a.i)) + 1) (r + 1) ++ slice_range row (c.greatest-2.result + 2) (a.j + 2))) c.least-2.ensures
-    ∙ ap (λ r. slice_range row a.i (a.j - (a.j - a.lo)) ++ (slice_range row ((a.i + (a.lo - a.i)) + 1) ((a.j - (a.j - (a.hi - 1))) + 1) ++ slice_range row (r + 2) (a.j + 2))) c.greatest-2.ensures
-    ∙ sym (rest_slices row a.lo a.hi a.i a.j order place c.requires.places))) s3
+    ∙ ap (λ r. slice_range row a.i (a.j - (a.j - on.lo)) ++ (slice_range row (r + 1) (c.least-2.result + 1) ++ slice_range row (c.greatest-2.result + 2) (a.j + 2))) c.greatest.ensures
+    ∙ ap (λ r. slice_range row a.i (a.j - (a.j - on.lo)) ++ (slice_range row ((a.i + (on.lo - a.i)) + 1) (r + 1) ++ slice_range row (c.greatest-2.result + 2) (a.j + 2))) c.least-2.ensures
+    ∙ ap (λ r. slice_range row a.i (a.j - (a.j - on.lo)) ++ (slice_range row ((a.i + (on.lo - a.i)) + 1) ((a.j - (a.j - (on.hi - 1))) + 1) ++ slice_range row (r + 2) (a.j + 2))) c.greatest-2.ensures
+    ∙ sym (rest_slices row on.lo on.hi a.i a.j on.order on.place c.requires.places))) s3
