@@ -18,7 +18,9 @@
 mod blocks;
 mod laws;
 mod memory;
+mod moves;
 pub mod nests;
+pub mod patterns;
 mod sieve;
 mod stamps;
 mod stretches;
@@ -26,6 +28,7 @@ mod touched;
 
 pub use laws::{cost_is_local, moves_are_local, validity_is_local};
 pub use memory::Known;
+pub use moves::Moves;
 pub use sieve::Sieve;
 pub use stretches::Stretch;
 pub use touched::Touched;

@@ -1,8 +1,7 @@
 //! Inactive visits that are put in.
 
-ghost use Rattle.std.specs.Prelude.{◌≡◌, ◌+◌, ◌++◌, ⊤, ℕ, ◌≤◌, suc, true, length, slice_index, map};
-ghost use Rattle.std.specs.Iterator.{YieldsFirst, item_count};
-ghost use Rattle.vr_known.specs.Passing.{ArePassed, Looked, Takes, tried};
+ghost use Rattle.std.specs.Prelude.{◌≡◌, ℕ, ◌≤◌, suc, length, slice_index, map, refl};
+ghost use Rattle.vr_known.specs.Passing.{ArePassed};
 ghost use Rattle.vr_model.specs.tables.Numbers.{each};
 ghost use Rattle.vr_model.specs.tables.Tables.{visits};
 ghost use Rattle.vr_model.specs.routes.Routes.{route, vehicles};
@@ -11,32 +10,21 @@ ghost use Rattle.vr_model.specs.declared.records.Model.{Model as Defined};
 ghost use Rattle.vr_model.specs.declared.neighbours.Move.TheVariants.{MakeActive};
 ghost use Rattle.vr_model.specs.declared.neighbours.Neighbourhood.TheVariants.{MakeActive as MakeActiveKind};
 
-use std::marker::Model;
-use vr_known::nests::{Each, Family, Listed, Numbered, Run, next_of};
-use vr_known::{Sieve, Stretch};
+use vr_known::nests::{Each, Family, Run};
+use vr_known::patterns::{All, Pattern};
+use vr_known::{Moves, Sieve};
 use vr_model::{Move, Neighbourhood};
 use vr_routes::Routes;
 
-// The places of `w` before which `u` may be put.
+/// The places of `w` before which `u` may be put.
 #[derive(Drop)]
-struct Gaps {
+pub struct Gaps {
     u: u32,
     w: u32,
 }
 
-impl Numbered for Gaps {
-    ghost is_sound = { λ s. ⊤ };
-
-    ghost count = { λ s. 4294967296 };
-
-    ghost passes = { λ s k. true };
-
+impl Pattern for Gaps {
     ghost move_at = { λ s k. MakeActive s.u s.w k };
-
-    #[inline]
-    fn has(&self, _k: u32) -> bool {
-        true
-    }
 
     #[inline]
     fn make(&self, k: u32) -> Move {
@@ -47,38 +35,26 @@ impl Numbered for Gaps {
         }
     }
 
-    #[inline]
-    fn run(&self) -> Option<Move> {
-        Some(self.make(0))
-    }
-
-    #[inline]
-    fn many(&self, from: u32, to: u32) -> u32 {
-        to - from
-    }
+    ghost differ_in_last = { λ s k. refl };
 }
 
-// The vehicles to which `u` may be added.
+/// The vehicles to which `u` may be added.
 #[derive(Drop)]
-struct Targets<'a> {
+pub struct Targets<'a> {
     routes: &'a Routes,
     u: u32,
 }
 
 impl<'a> Family for Targets<'a> {
-    type Inner = Run<Gaps>;
-
-    ghost is_sound = { λ s. ⊤ };
+    type Inner = Run<All<Gaps>>;
 
     ghost count = { λ s. length s.routes.now.lists };
-
-    ghost passes = { λ s k. true };
 
     ghost moves = { λ s k. map (MakeActive s.u k) (gaps (route s.routes.now.lists k)) };
 
     #[inline]
-    fn open(&self, k: u32) -> Option<Run<Gaps>> {
-        Some(Run::new(Gaps { u: self.u, w: k }, 0, self.routes.len(k) + 1))
+    fn open(&self, k: u32) -> Option<Run<All<Gaps>>> {
+        Some(Run::new(All(Gaps { u: self.u, w: k }), 0, self.routes.len(k) + 1))
     }
 
     #[inline]
@@ -91,9 +67,9 @@ impl<'a> Family for Targets<'a> {
     }
 }
 
-// The inactive visits.
+/// The inactive visits.
 #[derive(Drop)]
-struct Nodes<'a> {
+pub struct Nodes<'a> {
     routes: &'a Routes,
     nodes: &'a [u32],
     vehicles: u32,
@@ -105,8 +81,6 @@ impl<'a> Family for Nodes<'a> {
     ghost is_sound = { λ s. s.vehicles ≡ length s.routes.now.lists };
 
     ghost count = { λ s. length s.nodes.now };
-
-    ghost passes = { λ s k. true };
 
     ghost moves = { λ s k. each (vehicles s.routes.now.lists) λ w.
         map (MakeActive (slice_index s.nodes.now k) w) (gaps (route s.routes.now.lists w)) };
@@ -123,62 +97,7 @@ impl<'a> Family for Nodes<'a> {
 
 /// The moves that put an inactive visit into a list (OR-Tools' `MakeActive`), in lexicographic order of their numbers.
 /// Contracts see the list of those that are left.
-#[derive(Drop)]
-pub struct MakeActiveMoves<'a> {
-    left: Each<Nodes<'a>>,
-}
-
-impl<'a> Model for MakeActiveMoves<'a> {
-    ghost use Rattle.std.specs.Prelude.{List};
-    ghost use Rattle.vr_model.specs.declared.neighbours.Move.{Move as Moved};
-
-    ghost Value = { List Moved };
-
-    ghost view = { λ s. ⟦<Each<Nodes<'static>> as Listed>⟧.rest s.left };
-
-    ghost invariant = { λ s. ⟦<Each<Nodes<'static>> as Listed>⟧.is_sound s.left };
-}
-
-impl<'a> MakeActiveMoves<'a> {
-    /// Takes the first of the moves that are left, behind some that are passed over, which are counted.
-    #[inline(always)]
-    pub fn step<S: Sieve>(
-        &mut self,
-        sieve: &S,
-        judge: &mut S::Judge,
-        passed: &mut u64,
-    ) -> Option<Move>
-        requires ready { S.is_ready sieve.now }
-        requires can_ask { S.can_ask sieve.now judge.old }
-        ensures takes { Takes (S.covers sieve.now) self.old passed.old result self.new passed.new }
-        ensures looked { Looked (S.can_ask sieve.now) S.judged S.looked (S.tries sieve.now)
-            judge.old passed.old judge.new (passed.new + tried result) }
-    {
-        self.left.step(sieve, judge, passed)
-    }
-
-    /// Takes those at the front that differ from the move that was taken last in their last number alone, where the
-    /// sieve could tell nothing of them.
-    #[inline(always)]
-    pub fn stretch(&mut self) -> Stretch
-        ensures { self.old ≡ result ++ self.new }
-    {
-        self.left.stretch()
-    }
-}
-
-impl<'a> Iterator for MakeActiveMoves<'a> {
-    type Item = Move;
-
-    ghost next_gives = { YieldsFirst (λ moves. moves) };
-
-    ghost remaining = { item_count (λ moves. moves) };
-
-    #[inline(always)]
-    fn next(&mut self) -> Option<Move> {
-        next_of(&mut self.left)
-    }
-}
+pub type MakeActiveMoves<'a> = Moves<Each<Nodes<'a>>>;
 
 /// The moves that put an inactive visit into a list (OR-Tools' `MakeActive`), in lexicographic order of their numbers.
 pub fn make_active<'a>(routes: &'a Routes) -> MakeActiveMoves<'a>
@@ -187,15 +106,13 @@ pub fn make_active<'a>(routes: &'a Routes) -> MakeActiveMoves<'a>
 {
     let vehicles = routes.vehicles();
     let nodes = routes.inactive();
-    MakeActiveMoves {
-        left: Each::new(
-            Nodes {
-                routes,
-                nodes,
-                vehicles,
-            },
-            0,
-            nodes.len() as u32,
-        ),
-    }
+    Moves::new(Each::new(
+        Nodes {
+            routes,
+            nodes,
+            vehicles,
+        },
+        0,
+        nodes.len() as u32,
+    ))
 }

@@ -1,8 +1,7 @@
 //! Inactive visits that take the place of nodes.
 
-ghost use Rattle.std.specs.Prelude.{◌≡◌, ◌+◌, ⊤, ℕ, ◌<◌, ◌≤◌, true, length, slice_index, map};
-ghost use Rattle.std.specs.Iterator.{YieldsFirst, item_count};
-ghost use Rattle.vr_known.specs.Passing.{ArePassed, Looked, Takes, tried};
+ghost use Rattle.std.specs.Prelude.{◌≡◌, ℕ, ◌<◌, ◌≤◌, length, slice_index, map};
+ghost use Rattle.vr_known.specs.Passing.{ArePassed};
 ghost use Rattle.vr_model.specs.tables.Numbers.{each};
 ghost use Rattle.vr_model.specs.tables.Tables.{visits};
 ghost use Rattle.vr_model.specs.routes.Routes.{route};
@@ -11,26 +10,21 @@ ghost use Rattle.vr_model.specs.declared.records.Model.{Model as Defined};
 ghost use Rattle.vr_model.specs.declared.neighbours.Move.TheVariants.{SwapActive};
 ghost use Rattle.vr_model.specs.declared.neighbours.Neighbourhood.TheVariants.{SwapActive as SwapActiveKind};
 
-use std::marker::Model;
-use vr_known::Sieve;
-use vr_known::nests::{Each, Family, Listed, Numbered, Run, next_of};
+use vr_known::nests::{Each, Family, Numbered, Run};
+use vr_known::{Moves, Sieve};
 use vr_model::{Move, Neighbourhood};
 use vr_routes::Routes;
 
-// The inactive visits that may take the place of the node at place `a` of `v`.
+/// The inactive visits that may take the place of the node at place `a` of `v`.
 #[derive(Drop)]
-struct Newcomers<'a> {
+pub struct Newcomers<'a> {
     v: u32,
     a: u32,
     nodes: &'a [u32],
 }
 
 impl<'a> Numbered for Newcomers<'a> {
-    ghost is_sound = { λ s. ⊤ };
-
     ghost count = { λ s. length s.nodes.now };
-
-    ghost passes = { λ s k. true };
 
     ghost move_at = { λ s k. SwapActive s.v s.a (slice_index s.nodes.now k) };
 
@@ -92,9 +86,9 @@ fn end_within(nodes: &[u32], from: u32, end: u32, lowest: u32, first: u32) -> u3
     end
 }
 
-// The places of `v`.
+/// The places of `v`.
 #[derive(Drop)]
-struct Places<'a> {
+pub struct Places<'a> {
     v: u32,
     nodes: &'a [u32],
 }
@@ -105,8 +99,6 @@ impl<'a> Family for Places<'a> {
     ghost is_sound = { λ s. (length s.nodes.now ≤ 1000) × (s.v < 100) };
 
     ghost count = { λ s. 4294967296 };
-
-    ghost passes = { λ s k. true };
 
     ghost moves = { λ s k. map (SwapActive s.v k) s.nodes.now };
 
@@ -129,9 +121,9 @@ impl<'a> Family for Places<'a> {
     }
 }
 
-// The vehicles.
+/// The vehicles.
 #[derive(Drop)]
-struct Vehicles<'a> {
+pub struct Vehicles<'a> {
     routes: &'a Routes,
     nodes: &'a [u32],
 }
@@ -142,8 +134,6 @@ impl<'a> Family for Vehicles<'a> {
     ghost is_sound = { λ s. length s.nodes.now ≤ 1000 };
 
     ghost count = { λ s. length s.routes.now.lists };
-
-    ghost passes = { λ s k. true };
 
     ghost moves = { λ s k. each (places (route s.routes.now.lists k)) λ a. map (SwapActive k a) s.nodes.now };
 
@@ -160,53 +150,7 @@ impl<'a> Family for Vehicles<'a> {
 
 /// The moves that let an inactive visit take the place of a node (OR-Tools' `SwapActive`), in lexicographic order of
 /// their numbers. Contracts see the list of those that are left.
-#[derive(Drop)]
-pub struct SwapActiveMoves<'a> {
-    left: Each<Vehicles<'a>>,
-}
-
-impl<'a> Model for SwapActiveMoves<'a> {
-    ghost use Rattle.std.specs.Prelude.{List};
-    ghost use Rattle.vr_model.specs.declared.neighbours.Move.{Move as Moved};
-
-    ghost Value = { List Moved };
-
-    ghost view = { λ s. ⟦<Each<Vehicles<'static>> as Listed>⟧.rest s.left };
-
-    ghost invariant = { λ s. ⟦<Each<Vehicles<'static>> as Listed>⟧.is_sound s.left };
-}
-
-impl<'a> SwapActiveMoves<'a> {
-    /// Takes the first of the moves that are left, behind some that are passed over, which are counted.
-    #[inline(always)]
-    pub fn step<S: Sieve>(
-        &mut self,
-        sieve: &S,
-        judge: &mut S::Judge,
-        passed: &mut u64,
-    ) -> Option<Move>
-        requires ready { S.is_ready sieve.now }
-        requires can_ask { S.can_ask sieve.now judge.old }
-        ensures takes { Takes (S.covers sieve.now) self.old passed.old result self.new passed.new }
-        ensures looked { Looked (S.can_ask sieve.now) S.judged S.looked (S.tries sieve.now)
-            judge.old passed.old judge.new (passed.new + tried result) }
-    {
-        self.left.step(sieve, judge, passed)
-    }
-}
-
-impl<'a> Iterator for SwapActiveMoves<'a> {
-    type Item = Move;
-
-    ghost next_gives = { YieldsFirst (λ moves. moves) };
-
-    ghost remaining = { item_count (λ moves. moves) };
-
-    #[inline(always)]
-    fn next(&mut self) -> Option<Move> {
-        next_of(&mut self.left)
-    }
-}
+pub type SwapActiveMoves<'a> = Moves<Each<Vehicles<'a>>>;
 
 /// The moves that let an inactive visit take the place of a node (OR-Tools' `SwapActive`), in lexicographic order of
 /// their numbers.
@@ -216,7 +160,5 @@ pub fn swap_active<'a>(routes: &'a Routes) -> SwapActiveMoves<'a>
 {
     let vehicles = routes.vehicles();
     let nodes = routes.inactive();
-    SwapActiveMoves {
-        left: Each::new(Vehicles { routes, nodes }, 0, vehicles),
-    }
+    Moves::new(Each::new(Vehicles { routes, nodes }, 0, vehicles))
 }

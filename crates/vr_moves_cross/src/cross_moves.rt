@@ -1,34 +1,28 @@
 //! Fronts of lists that change vehicles.
 
-ghost use Rattle.std.specs.Prelude.{◌≡◌, ◌+◌, ◌++◌, ⊤, ℕ, ◌<◌, ◌≤◌, suc, true, length, map, filter};
-ghost use Rattle.std.specs.Iterator.{YieldsFirst, item_count};
+ghost use Rattle.std.specs.Prelude.{◌≡◌, ℕ, ◌<◌, ◌≤◌, suc, length, map, filter};
 ghost use Rattle.vr_model.specs.tables.Numbers.{each, from_to};
 ghost use Rattle.vr_model.specs.routes.Routes.{route, vehicles};
 ghost use Rattle.vr_model.specs.moves.Moves.{gaps, has_some_front, moves_in};
-ghost use Rattle.vr_known.specs.Passing.{ArePassed, Looked, Takes, tried};
+ghost use Rattle.vr_known.specs.Passing.{ArePassed};
 ghost use Rattle.vr_model.specs.declared.records.Model.{Model as Defined};
 ghost use Rattle.vr_model.specs.declared.neighbours.Move.TheVariants.{Cross};
 ghost use Rattle.vr_model.specs.declared.neighbours.Neighbourhood.TheVariants.{Cross as CrossKind};
 
-use std::marker::Model;
-use vr_known::nests::{Each, Family, Listed, Numbered, Run, next_of};
-use vr_known::{Sieve, Stretch};
+use vr_known::nests::{Each, Family, Numbered, Run};
+use vr_known::{Moves, Sieve};
 use vr_model::{Move, Neighbourhood};
 use vr_routes::Routes;
 
-// The places of `w` before which its front may end, where that of `v` ends before place `a`.
+/// The places of `w` before which its front may end, where that of `v` ends before place `a`.
 #[derive(Drop)]
-struct Gaps {
+pub struct Gaps {
     v: u32,
     a: u32,
     w: u32,
 }
 
 impl Numbered for Gaps {
-    ghost is_sound = { λ s. ⊤ };
-
-    ghost count = { λ s. 4294967296 };
-
     ghost passes = { λ s k. has_some_front s.a k };
 
     ghost move_at = { λ s k. Cross s.v s.a s.w k };
@@ -62,9 +56,9 @@ impl Numbered for Gaps {
     }
 }
 
-// The vehicles that may change fronts with `v`.
+/// The vehicles that may change fronts with `v`.
 #[derive(Drop)]
-struct Targets<'a> {
+pub struct Targets<'a> {
     routes: &'a Routes,
     v: u32,
     a: u32,
@@ -76,8 +70,6 @@ impl<'a> Family for Targets<'a> {
     ghost is_sound = { λ s. s.v < 100 };
 
     ghost count = { λ s. length s.routes.now.lists };
-
-    ghost passes = { λ s k. true };
 
     ghost moves = { λ s k. map (Cross s.v s.a k) (filter (has_some_front s.a) (gaps (route s.routes.now.lists k))) };
 
@@ -105,9 +97,9 @@ impl<'a> Family for Targets<'a> {
     }
 }
 
-// The places of `v` before which its front may end.
+/// The places of `v` before which its front may end.
 #[derive(Drop)]
-struct Places<'a> {
+pub struct Places<'a> {
     routes: &'a Routes,
     v: u32,
     vehicles: u32,
@@ -120,8 +112,6 @@ impl<'a> Family for Places<'a> {
         × (s.vehicles ≤ 100) };
 
     ghost count = { λ s. suc (length (route s.routes.now.lists s.v)) };
-
-    ghost passes = { λ s k. true };
 
     ghost moves = { λ s k. each (from_to (suc s.v) (length s.routes.now.lists)) λ w.
         map (Cross s.v k w) (filter (has_some_front k) (gaps (route s.routes.now.lists w))) };
@@ -137,9 +127,9 @@ impl<'a> Family for Places<'a> {
     }
 }
 
-// The vehicles.
+/// The vehicles.
 #[derive(Drop)]
-struct Vehicles<'a> {
+pub struct Vehicles<'a> {
     routes: &'a Routes,
     vehicles: u32,
 }
@@ -150,8 +140,6 @@ impl<'a> Family for Vehicles<'a> {
     ghost is_sound = { λ s. (s.vehicles ≡ length s.routes.now.lists) × (s.vehicles ≤ 100) };
 
     ghost count = { λ s. length s.routes.now.lists };
-
-    ghost passes = { λ s k. true };
 
     ghost moves = { λ s k. each (gaps (route s.routes.now.lists k)) λ a.
         each (from_to (suc k) (length s.routes.now.lists)) λ w.
@@ -170,62 +158,7 @@ impl<'a> Family for Vehicles<'a> {
 
 /// The moves that let the fronts of two lists change vehicles (OR-Tools' `Cross`), in lexicographic order of their
 /// numbers. Contracts see the list of those that are left.
-#[derive(Drop)]
-pub struct CrossMoves<'a> {
-    left: Each<Vehicles<'a>>,
-}
-
-impl<'a> Model for CrossMoves<'a> {
-    ghost use Rattle.std.specs.Prelude.{List};
-    ghost use Rattle.vr_model.specs.declared.neighbours.Move.{Move as Moved};
-
-    ghost Value = { List Moved };
-
-    ghost view = { λ s. ⟦<Each<Vehicles<'static>> as Listed>⟧.rest s.left };
-
-    ghost invariant = { λ s. ⟦<Each<Vehicles<'static>> as Listed>⟧.is_sound s.left };
-}
-
-impl<'a> CrossMoves<'a> {
-    /// Takes the first of the moves that are left, behind some that are passed over, which are counted.
-    #[inline(always)]
-    pub fn step<S: Sieve>(
-        &mut self,
-        sieve: &S,
-        judge: &mut S::Judge,
-        passed: &mut u64,
-    ) -> Option<Move>
-        requires ready { S.is_ready sieve.now }
-        requires can_ask { S.can_ask sieve.now judge.old }
-        ensures takes { Takes (S.covers sieve.now) self.old passed.old result self.new passed.new }
-        ensures looked { Looked (S.can_ask sieve.now) S.judged S.looked (S.tries sieve.now)
-            judge.old passed.old judge.new (passed.new + tried result) }
-    {
-        self.left.step(sieve, judge, passed)
-    }
-
-    /// Takes those at the front that differ from the move that was taken last in their last number alone, where the
-    /// sieve could tell nothing of them.
-    #[inline(always)]
-    pub fn stretch(&mut self) -> Stretch
-        ensures { self.old ≡ result ++ self.new }
-    {
-        self.left.stretch()
-    }
-}
-
-impl<'a> Iterator for CrossMoves<'a> {
-    type Item = Move;
-
-    ghost next_gives = { YieldsFirst (λ moves. moves) };
-
-    ghost remaining = { item_count (λ moves. moves) };
-
-    #[inline(always)]
-    fn next(&mut self) -> Option<Move> {
-        next_of(&mut self.left)
-    }
-}
+pub type CrossMoves<'a> = Moves<Each<Vehicles<'a>>>;
 
 /// The moves that let the fronts of two lists change vehicles (OR-Tools' `Cross`), in lexicographic order of their
 /// numbers.
@@ -233,7 +166,5 @@ pub fn cross_chains<'a>(routes: &'a Routes) -> CrossMoves<'a>
     ensures { (model : Defined) → result ≡ moves_in model routes.now.lists CrossKind }
 {
     let vehicles = routes.vehicles();
-    CrossMoves {
-        left: Each::new(Vehicles { routes, vehicles }, 0, vehicles),
-    }
+    Moves::new(Each::new(Vehicles { routes, vehicles }, 0, vehicles))
 }

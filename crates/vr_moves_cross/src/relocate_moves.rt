@@ -1,42 +1,30 @@
 //! Nodes that are moved to other lists.
 
-ghost use Rattle.std.specs.Prelude.{◌≡◌, ◌+◌, ◌++◌, ⊤, ℕ, ◌<◌, ◌≤◌, suc, true, length, map, filter};
-ghost use Rattle.std.specs.Iterator.{YieldsFirst, item_count};
+ghost use Rattle.std.specs.Prelude.{◌≡◌, ℕ, ◌<◌, ◌≤◌, suc, length, map, filter, refl};
 ghost use Rattle.vr_model.specs.tables.Numbers.{each};
 ghost use Rattle.vr_model.specs.routes.Routes.{route, vehicles};
 ghost use Rattle.vr_model.specs.moves.Moves.{places, gaps, is_other, moves_in};
-ghost use Rattle.vr_known.specs.Passing.{ArePassed, Looked, Takes, tried};
+ghost use Rattle.vr_known.specs.Passing.{ArePassed};
 ghost use Rattle.vr_model.specs.declared.records.Model.{Model as Defined};
 ghost use Rattle.vr_model.specs.declared.neighbours.Move.TheVariants.{Relocate};
 ghost use Rattle.vr_model.specs.declared.neighbours.Neighbourhood.TheVariants.{Relocate as RelocateKind};
 
-use std::marker::Model;
-use vr_known::nests::{Each, Family, Listed, Numbered, Run, next_of};
-use vr_known::{Sieve, Stretch};
+use vr_known::nests::{Each, Family, Run};
+use vr_known::patterns::{All, Pattern};
+use vr_known::{Moves, Sieve};
 use vr_model::{Move, Neighbourhood};
 use vr_routes::Routes;
 
-// The places of `w` before which the node at place `a` of `v` may be put.
+/// The places of `w` before which the node at place `a` of `v` may be put.
 #[derive(Drop)]
-struct Gaps {
+pub struct Gaps {
     v: u32,
     a: u32,
     w: u32,
 }
 
-impl Numbered for Gaps {
-    ghost is_sound = { λ s. ⊤ };
-
-    ghost count = { λ s. 4294967296 };
-
-    ghost passes = { λ s k. true };
-
+impl Pattern for Gaps {
     ghost move_at = { λ s k. Relocate s.v s.a s.w k };
-
-    #[inline]
-    fn has(&self, _k: u32) -> bool {
-        true
-    }
 
     #[inline]
     fn make(&self, k: u32) -> Move {
@@ -48,27 +36,19 @@ impl Numbered for Gaps {
         }
     }
 
-    #[inline]
-    fn run(&self) -> Option<Move> {
-        Some(self.make(0))
-    }
-
-    #[inline]
-    fn many(&self, from: u32, to: u32) -> u32 {
-        to - from
-    }
+    ghost differ_in_last = { λ s k. refl };
 }
 
-// The vehicles to which the node at place `a` of `v` may be moved.
+/// The vehicles to which the node at place `a` of `v` may be moved.
 #[derive(Drop)]
-struct Targets<'a> {
+pub struct Targets<'a> {
     routes: &'a Routes,
     v: u32,
     a: u32,
 }
 
 impl<'a> Family for Targets<'a> {
-    type Inner = Run<Gaps>;
+    type Inner = Run<All<Gaps>>;
 
     ghost is_sound = { λ s. s.v < 100 };
 
@@ -79,7 +59,7 @@ impl<'a> Family for Targets<'a> {
     ghost moves = { λ s k. map (Relocate s.v s.a k) (gaps (route s.routes.now.lists k)) };
 
     #[inline]
-    fn open(&self, k: u32) -> Option<Run<Gaps>> {
+    fn open(&self, k: u32) -> Option<Run<All<Gaps>>> {
         if self.v == k {
             return None;
         }
@@ -88,7 +68,7 @@ impl<'a> Family for Targets<'a> {
             a: self.a,
             w: k,
         };
-        Some(Run::new(gaps, 0, self.routes.len(k) + 1))
+        Some(Run::new(All(gaps), 0, self.routes.len(k) + 1))
     }
 
     #[inline]
@@ -101,9 +81,9 @@ impl<'a> Family for Targets<'a> {
     }
 }
 
-// The places of `v`.
+/// The places of `v`.
 #[derive(Drop)]
-struct Places<'a> {
+pub struct Places<'a> {
     routes: &'a Routes,
     v: u32,
     vehicles: u32,
@@ -115,8 +95,6 @@ impl<'a> Family for Places<'a> {
     ghost is_sound = { λ s. (s.vehicles ≡ length s.routes.now.lists) × (s.v < 100) };
 
     ghost count = { λ s. length (route s.routes.now.lists s.v) };
-
-    ghost passes = { λ s k. true };
 
     ghost moves = { λ s k. each (filter (is_other s.v) (vehicles s.routes.now.lists)) λ w.
         map (Relocate s.v k w) (gaps (route s.routes.now.lists w)) };
@@ -132,9 +110,9 @@ impl<'a> Family for Places<'a> {
     }
 }
 
-// The vehicles.
+/// The vehicles.
 #[derive(Drop)]
-struct Vehicles<'a> {
+pub struct Vehicles<'a> {
     routes: &'a Routes,
     vehicles: u32,
 }
@@ -145,8 +123,6 @@ impl<'a> Family for Vehicles<'a> {
     ghost is_sound = { λ s. s.vehicles ≡ length s.routes.now.lists };
 
     ghost count = { λ s. length s.routes.now.lists };
-
-    ghost passes = { λ s k. true };
 
     ghost moves = { λ s k. each (places (route s.routes.now.lists k)) λ a.
         each (filter (is_other k) (vehicles s.routes.now.lists)) λ w.
@@ -166,62 +142,7 @@ impl<'a> Family for Vehicles<'a> {
 
 /// The moves that put a node into the list of another vehicle (OR-Tools' `Relocate`), in lexicographic order of their
 /// numbers. Contracts see the list of those that are left.
-#[derive(Drop)]
-pub struct RelocateMoves<'a> {
-    left: Each<Vehicles<'a>>,
-}
-
-impl<'a> Model for RelocateMoves<'a> {
-    ghost use Rattle.std.specs.Prelude.{List};
-    ghost use Rattle.vr_model.specs.declared.neighbours.Move.{Move as Moved};
-
-    ghost Value = { List Moved };
-
-    ghost view = { λ s. ⟦<Each<Vehicles<'static>> as Listed>⟧.rest s.left };
-
-    ghost invariant = { λ s. ⟦<Each<Vehicles<'static>> as Listed>⟧.is_sound s.left };
-}
-
-impl<'a> RelocateMoves<'a> {
-    /// Takes the first of the moves that are left, behind some that are passed over, which are counted.
-    #[inline(always)]
-    pub fn step<S: Sieve>(
-        &mut self,
-        sieve: &S,
-        judge: &mut S::Judge,
-        passed: &mut u64,
-    ) -> Option<Move>
-        requires ready { S.is_ready sieve.now }
-        requires can_ask { S.can_ask sieve.now judge.old }
-        ensures takes { Takes (S.covers sieve.now) self.old passed.old result self.new passed.new }
-        ensures looked { Looked (S.can_ask sieve.now) S.judged S.looked (S.tries sieve.now)
-            judge.old passed.old judge.new (passed.new + tried result) }
-    {
-        self.left.step(sieve, judge, passed)
-    }
-
-    /// Takes those at the front that differ from the move that was taken last in their last number alone, where the
-    /// sieve could tell nothing of them.
-    #[inline(always)]
-    pub fn stretch(&mut self) -> Stretch
-        ensures { self.old ≡ result ++ self.new }
-    {
-        self.left.stretch()
-    }
-}
-
-impl<'a> Iterator for RelocateMoves<'a> {
-    type Item = Move;
-
-    ghost next_gives = { YieldsFirst (λ moves. moves) };
-
-    ghost remaining = { item_count (λ moves. moves) };
-
-    #[inline(always)]
-    fn next(&mut self) -> Option<Move> {
-        next_of(&mut self.left)
-    }
-}
+pub type RelocateMoves<'a> = Moves<Each<Vehicles<'a>>>;
 
 /// The moves that put a node into the list of another vehicle (OR-Tools' `Relocate`), in lexicographic order of their
 /// numbers.
@@ -229,7 +150,5 @@ pub fn relocate<'a>(routes: &'a Routes) -> RelocateMoves<'a>
     ensures { (model : Defined) → result ≡ moves_in model routes.now.lists RelocateKind }
 {
     let vehicles = routes.vehicles();
-    RelocateMoves {
-        left: Each::new(Vehicles { routes, vehicles }, 0, vehicles),
-    }
+    Moves::new(Each::new(Vehicles { routes, vehicles }, 0, vehicles))
 }

@@ -1,8 +1,7 @@
 //! Served pairs that are put elsewhere.
 
-ghost use Rattle.std.specs.Prelude.{◌≡◌, ◌+◌, ◌++◌, ⊤, ℕ, ◌<◌, ◌≤◌, suc, true, length, map, filter};
-ghost use Rattle.std.specs.Iterator.{YieldsFirst, item_count};
-ghost use Rattle.vr_known.specs.Passing.{ArePassed, Looked, Takes, tried};
+ghost use Rattle.std.specs.Prelude.{◌≡◌, ℕ, ◌<◌, ◌≤◌, suc, length, map, filter};
+ghost use Rattle.vr_known.specs.Passing.{ArePassed};
 ghost use Rattle.vr_model.specs.tables.Numbers.{each, from_to};
 ghost use Rattle.vr_model.specs.routes.Routes.{route, vehicles};
 ghost use Rattle.vr_model.specs.tables.Tables.{pair_at};
@@ -13,16 +12,15 @@ ghost use Rattle.vr_model.specs.declared.neighbours.Neighbourhood.TheVariants.{R
 ghost use Rattle.vr_routes.specs.Pairs.{ArePlaces, is_elsewhere};
 ghost use Rattle.vr_moves_pair.specs.Putting.{puts_into};
 
-use std::marker::Model;
-use vr_known::nests::{Each, Family, Listed, Numbered, Run, next_of};
-use vr_known::{Sieve, Stretch};
+use vr_known::nests::{Each, Family, Numbered, Run};
+use vr_known::{Moves, Sieve};
 use vr_model::{Model as RoutingModel, Move, Neighbourhood};
 use vr_routes::{PairPlaces, Routes, is_elsewhere, pair_served, rest_len};
 
-// The places of the rest of `w` before which the delivery may be put, where the pickup is put before place `s`. The
-// place where it stands is none of them.
+/// The places of the rest of `w` before which the delivery may be put, where the pickup is put before place `s`. The
+/// place where it stands is none of them.
 #[derive(Drop)]
-struct Deliveries {
+pub struct Deliveries {
     p: u32,
     w: u32,
     s: u32,
@@ -31,8 +29,6 @@ struct Deliveries {
 
 impl Numbered for Deliveries {
     ghost is_sound = { λ m. m.at.pickup < m.at.delivery };
-
-    ghost count = { λ m. 4294967296 };
 
     ghost passes = { λ m t. is_elsewhere m.at.vehicle m.at.pickup m.at.delivery m.w m.s t };
 
@@ -68,9 +64,9 @@ impl Numbered for Deliveries {
     }
 }
 
-// The places of the rest of `w`, which has `n`, before which the pickup may be put.
+/// The places of the rest of `w`, which has `n`, before which the pickup may be put.
 #[derive(Drop)]
-struct Pickups {
+pub struct Pickups {
     p: u32,
     w: u32,
     n: u32,
@@ -99,8 +95,6 @@ impl Family for Pickups {
 
     ghost count = { λ m. suc m.n };
 
-    ghost passes = { λ m s. true };
-
     ghost moves = { λ m s. map (RelocatePair m.p m.w s)
         (filter (λ t. is_elsewhere m.at.vehicle m.at.pickup m.at.delivery m.w s t) (from_to s (suc m.n))) };
 
@@ -118,9 +112,9 @@ impl Family for Pickups {
     }
 }
 
-// The vehicles to which pair `p` may be moved.
+/// The vehicles to which pair `p` may be moved.
 #[derive(Drop)]
-struct Targets<'a> {
+pub struct Targets<'a> {
     model: &'a RoutingModel,
     routes: &'a Routes,
     p: u32,
@@ -134,8 +128,6 @@ impl<'a> Family for Targets<'a> {
         × ArePlaces m.routes.now.lists (pair_at m.model.now m.p) m.at.vehicle m.at.pickup m.at.delivery × (m.p < 500) };
 
     ghost count = { λ m. length m.routes.now.lists };
-
-    ghost passes = { λ m w. true };
 
     ghost moves = { λ m w. puts_into (pair_at m.model.now m.p) m.p w (route m.routes.now.lists w) };
 
@@ -154,9 +146,9 @@ impl<'a> Family for Targets<'a> {
     }
 }
 
-// The pairs that are served.
+/// The pairs that are served.
 #[derive(Drop)]
-struct Pairs<'a> {
+pub struct Pairs<'a> {
     model: &'a RoutingModel,
     routes: &'a Routes,
     vehicles: u32,
@@ -193,62 +185,7 @@ impl<'a> Family for Pairs<'a> {
 
 /// The moves that put a served pair elsewhere (this project's own), in lexicographic order of their numbers. Contracts
 /// see the list of those that are left.
-#[derive(Drop)]
-pub struct RelocatePairMoves<'a> {
-    left: Each<Pairs<'a>>,
-}
-
-impl<'a> Model for RelocatePairMoves<'a> {
-    ghost use Rattle.std.specs.Prelude.{List};
-    ghost use Rattle.vr_model.specs.declared.neighbours.Move.{Move as Moved};
-
-    ghost Value = { List Moved };
-
-    ghost view = { λ s. ⟦<Each<Pairs<'static>> as Listed>⟧.rest s.left };
-
-    ghost invariant = { λ s. ⟦<Each<Pairs<'static>> as Listed>⟧.is_sound s.left };
-}
-
-impl<'a> RelocatePairMoves<'a> {
-    /// Takes the first of the moves that are left, behind some that are passed over, which are counted.
-    #[inline(always)]
-    pub fn step<S: Sieve>(
-        &mut self,
-        sieve: &S,
-        judge: &mut S::Judge,
-        passed: &mut u64,
-    ) -> Option<Move>
-        requires ready { S.is_ready sieve.now }
-        requires can_ask { S.can_ask sieve.now judge.old }
-        ensures takes { Takes (S.covers sieve.now) self.old passed.old result self.new passed.new }
-        ensures looked { Looked (S.can_ask sieve.now) S.judged S.looked (S.tries sieve.now)
-            judge.old passed.old judge.new (passed.new + tried result) }
-    {
-        self.left.step(sieve, judge, passed)
-    }
-
-    /// Takes those at the front that differ from the move that was taken last in their last number alone, where the
-    /// sieve could tell nothing of them.
-    #[inline(always)]
-    pub fn stretch(&mut self) -> Stretch
-        ensures { self.old ≡ result ++ self.new }
-    {
-        self.left.stretch()
-    }
-}
-
-impl<'a> Iterator for RelocatePairMoves<'a> {
-    type Item = Move;
-
-    ghost next_gives = { YieldsFirst (λ moves. moves) };
-
-    ghost remaining = { item_count (λ moves. moves) };
-
-    #[inline(always)]
-    fn next(&mut self) -> Option<Move> {
-        next_of(&mut self.left)
-    }
-}
+pub type RelocatePairMoves<'a> = Moves<Each<Pairs<'a>>>;
 
 /// The moves that put a served pair elsewhere (this project's own), in lexicographic order of their numbers.
 pub fn relocate_pair<'a>(model: &'a RoutingModel, routes: &'a Routes) -> RelocatePairMoves<'a>
@@ -257,15 +194,13 @@ pub fn relocate_pair<'a>(model: &'a RoutingModel, routes: &'a Routes) -> Relocat
 {
     let vehicles = routes.vehicles();
     let count = model.pairs.len() as u32;
-    RelocatePairMoves {
-        left: Each::new(
-            Pairs {
-                model,
-                routes,
-                vehicles,
-            },
-            0,
-            count,
-        ),
-    }
+    Moves::new(Each::new(
+        Pairs {
+            model,
+            routes,
+            vehicles,
+        },
+        0,
+        count,
+    ))
 }

@@ -1,34 +1,28 @@
 //! Chains that are moved within a list.
 
-ghost use Rattle.std.specs.Prelude.{◌≡◌, ⊤, ℕ, ◌+◌, ◌++◌, ◌-◌, ◌<◌, ◌≤◌, nat_le, suc, true, length, map, filter};
-ghost use Rattle.std.specs.Iterator.{YieldsFirst, item_count};
+ghost use Rattle.std.specs.Prelude.{◌≡◌, ℕ, ◌+◌, ◌-◌, ◌<◌, ◌≤◌, nat_le, suc, length, map, filter};
 ghost use Rattle.vr_model.specs.tables.Numbers.{below, each, from_to};
 ghost use Rattle.vr_model.specs.routes.Routes.{route};
 ghost use Rattle.vr_model.specs.moves.Moves.{places, is_other, has_chain, moves_in};
-ghost use Rattle.vr_known.specs.Passing.{ArePassed, Looked, Takes, tried};
+ghost use Rattle.vr_known.specs.Passing.{ArePassed};
 ghost use Rattle.vr_model.specs.declared.records.Model.{Model as Defined};
 ghost use Rattle.vr_model.specs.declared.neighbours.Move.TheVariants.{OrOpt};
 ghost use Rattle.vr_model.specs.declared.neighbours.Neighbourhood.TheVariants.{OrOpt as OrOptKind};
 
-use std::marker::Model;
-use vr_known::nests::{Each, Family, Listed, Numbered, Run, next_of};
-use vr_known::{Sieve, Stretch};
+use vr_known::nests::{Each, Family, Numbered, Run};
+use vr_known::{Moves, Sieve};
 use vr_model::{Move, Neighbourhood};
 use vr_routes::Routes;
 
-// The places before which the `k` nodes of `v` from place `a` on may be put.
+/// The places before which the `k` nodes of `v` from place `a` on may be put.
 #[derive(Drop)]
-struct Gaps {
+pub struct Gaps {
     v: u32,
     a: u32,
     k: u32,
 }
 
 impl Numbered for Gaps {
-    ghost is_sound = { λ s. ⊤ };
-
-    ghost count = { λ s. 4294967296 };
-
     ghost passes = { λ s k. is_other s.a k };
 
     ghost move_at = { λ s t. OrOpt s.v s.a s.k t };
@@ -62,9 +56,9 @@ impl Numbered for Gaps {
     }
 }
 
-// How many nodes of `v`, which has `n`, may be moved from place `a` on.
+/// How many nodes of `v`, which has `n`, may be moved from place `a` on.
 #[derive(Drop)]
-struct Chains {
+pub struct Chains {
     v: u32,
     a: u32,
     n: u32,
@@ -106,9 +100,9 @@ impl Family for Chains {
     }
 }
 
-// The places of `v`, which has `n`, where a chain begins.
+/// The places of `v`, which has `n`, where a chain begins.
 #[derive(Drop)]
-struct Begins {
+pub struct Begins {
     v: u32,
     n: u32,
 }
@@ -119,8 +113,6 @@ impl Family for Begins {
     ghost is_sound = { λ s. (s.n ≤ 1000) × (s.v < 100) };
 
     ghost count = { λ s. s.n };
-
-    ghost passes = { λ s k. true };
 
     ghost moves = { λ s k. each (filter (λ j. nat_le (k + j) s.n) (from_to 1 4)) λ j.
         map (OrOpt s.v k j) (filter (is_other k) (below (suc (s.n - j)))) };
@@ -136,20 +128,16 @@ impl Family for Begins {
     }
 }
 
-// The vehicles.
+/// The vehicles.
 #[derive(Drop)]
-struct Vehicles<'a> {
+pub struct Vehicles<'a> {
     routes: &'a Routes,
 }
 
 impl<'a> Family for Vehicles<'a> {
     type Inner = Each<Begins>;
 
-    ghost is_sound = { λ s. ⊤ };
-
     ghost count = { λ s. length s.routes.now.lists };
-
-    ghost passes = { λ s k. true };
 
     ghost moves = { λ s k. each (places (route s.routes.now.lists k)) λ a.
         each (filter (has_chain (route s.routes.now.lists k) a) (from_to 1 4)) λ j.
@@ -165,62 +153,7 @@ impl<'a> Family for Vehicles<'a> {
 
 /// The moves that put up to three nodes elsewhere in their list (OR-Tools' `OrOpt`), in lexicographic order of their
 /// numbers. Contracts see the list of those that are left.
-#[derive(Drop)]
-pub struct OrOptMoves<'a> {
-    left: Each<Vehicles<'a>>,
-}
-
-impl<'a> Model for OrOptMoves<'a> {
-    ghost use Rattle.std.specs.Prelude.{List};
-    ghost use Rattle.vr_model.specs.declared.neighbours.Move.{Move as Moved};
-
-    ghost Value = { List Moved };
-
-    ghost view = { λ s. ⟦<Each<Vehicles<'static>> as Listed>⟧.rest s.left };
-
-    ghost invariant = { λ s. ⟦<Each<Vehicles<'static>> as Listed>⟧.is_sound s.left };
-}
-
-impl<'a> OrOptMoves<'a> {
-    /// Takes the first of the moves that are left, behind some that are passed over, which are counted.
-    #[inline(always)]
-    pub fn step<S: Sieve>(
-        &mut self,
-        sieve: &S,
-        judge: &mut S::Judge,
-        passed: &mut u64,
-    ) -> Option<Move>
-        requires ready { S.is_ready sieve.now }
-        requires can_ask { S.can_ask sieve.now judge.old }
-        ensures takes { Takes (S.covers sieve.now) self.old passed.old result self.new passed.new }
-        ensures looked { Looked (S.can_ask sieve.now) S.judged S.looked (S.tries sieve.now)
-            judge.old passed.old judge.new (passed.new + tried result) }
-    {
-        self.left.step(sieve, judge, passed)
-    }
-
-    /// Takes those at the front that differ from the move that was taken last in their last number alone, where the
-    /// sieve could tell nothing of them.
-    #[inline(always)]
-    pub fn stretch(&mut self) -> Stretch
-        ensures { self.old ≡ result ++ self.new }
-    {
-        self.left.stretch()
-    }
-}
-
-impl<'a> Iterator for OrOptMoves<'a> {
-    type Item = Move;
-
-    ghost next_gives = { YieldsFirst (λ moves. moves) };
-
-    ghost remaining = { item_count (λ moves. moves) };
-
-    #[inline(always)]
-    fn next(&mut self) -> Option<Move> {
-        next_of(&mut self.left)
-    }
-}
+pub type OrOptMoves<'a> = Moves<Each<Vehicles<'a>>>;
 
 /// The moves that put up to three nodes elsewhere in their list (OR-Tools' `OrOpt`), in lexicographic order of their
 /// numbers.
@@ -228,7 +161,5 @@ pub fn or_opt<'a>(routes: &'a Routes) -> OrOptMoves<'a>
     ensures { (model : Defined) → result ≡ moves_in model routes.now.lists OrOptKind }
 {
     let vehicles = routes.vehicles();
-    OrOptMoves {
-        left: Each::new(Vehicles { routes }, 0, vehicles),
-    }
+    Moves::new(Each::new(Vehicles { routes }, 0, vehicles))
 }

@@ -1,0 +1,79 @@
+//! The moves of a neighbourhood that are left to try, whichever it is.
+
+ghost use Rattle.std.specs.Prelude.{◌≡◌, ◌+◌, ◌++◌};
+ghost use Rattle.std.specs.Iterator.{YieldsFirst, item_count};
+ghost use Rattle.vr_known.specs.Passing.{Looked, Takes, tried};
+
+use crate::nests::Listed;
+use crate::{Known, Sieve, Stretch};
+use std::marker::Model;
+use vr_model::Move;
+
+/// Moves that are left to try. Contracts see their list.
+#[derive(Drop)]
+pub struct Moves<L: Listed> {
+    left: L,
+}
+
+impl<L: Listed> Model for Moves<L> {
+    ghost use Rattle.std.specs.Prelude.{List};
+    ghost use Rattle.vr_model.specs.declared.neighbours.Move.{Move as Moved};
+
+    ghost Value = { List Moved };
+
+    ghost view = { λ s. L.rest s.left };
+
+    ghost invariant = { λ s. L.is_sound s.left };
+}
+
+impl<L: Listed> Moves<L> {
+    /// All that a list has.
+    #[inline]
+    pub fn new(left: L) -> Moves<L>
+        requires sound { L.is_sound left }
+        ensures { result ≡ L.rest left }
+    {
+        Moves { left }
+    }
+
+    /// Takes the first of the moves that are left, behind some that are passed over, which are counted.
+    #[inline(always)]
+    pub fn step<S: Sieve>(
+        &mut self,
+        sieve: &S,
+        judge: &mut S::Judge,
+        passed: &mut u64,
+    ) -> Option<Move>
+        requires ready { S.is_ready sieve.now }
+        requires can_ask { S.can_ask sieve.now judge.old }
+        ensures takes { Takes (S.covers sieve.now) self.old passed.old result self.new passed.new }
+        ensures looked { Looked (S.can_ask sieve.now) S.judged S.looked (S.tries sieve.now)
+            judge.old passed.old judge.new (passed.new + tried result) }
+    {
+        self.left.step(sieve, judge, passed)
+    }
+
+    /// Takes those at the front that differ from the move that was taken last in their last number alone, where the
+    /// sieve could tell nothing of them.
+    #[inline(always)]
+    pub fn stretch(&mut self) -> Stretch
+        ensures { self.old ≡ result ++ self.new }
+    {
+        self.left.stretch()
+    }
+}
+
+impl<L: Listed> Iterator for Moves<L> {
+    type Item = Move;
+
+    ghost next_gives = { YieldsFirst (λ moves. moves) };
+
+    ghost remaining = { item_count (λ moves. moves) };
+
+    // Nothing is known, so none is passed over.
+    #[inline]
+    fn next(&mut self) -> Option<Move> {
+        let mut passed = 0;
+        self.step(&Known::none(), &mut (), &mut passed)
+    }
+}
