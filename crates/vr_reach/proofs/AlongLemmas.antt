@@ -20,7 +20,7 @@ use Rattle.vr_reach.specs.Rows.{BothWays, row_at}
 use Rattle.vr_reach.specs.KnownRows.{AreFirstRows, AreLastRows, AreRowsIfUsed, IsReachingFrom}
 use Rattle.vr_reach.specs.Lists.{IsUsed}
 use Rattle.vr_reach.specs.Standing.{IsReachedAt}
-use Rattle.vr_reach.specs.Stops.{AreEndsOf, AreSoundBreaks}
+use Rattle.vr_reach.specs.Stops.{AreEndSets, AreSoundBreaks}
 use Rattle.vr_reach.specs.Stretches.{SharesBack, SharesFront}
 use Rattle.vr_reach.proofs.LineParts.{end_allows, form_of, sound_line, start_allows_set}
 use Rattle.vr_reach.proofs.SweepLemmas.{hold_first, hold_last, read_front, HoldFrom}
@@ -40,7 +40,7 @@ crossing_by model d v ends are levels form hop sound set cumuls = record {
 
 module _ (sound : LinesAreSound) (model : Model) (well : IsWellFormed model) (d v : ℕ) (d_low : d < length model.dimensions) (v_low : v < length model.vehicles) where
   -- the levels of the start
-  pub started : StartIsReached → (ends : Ends) → AreEndsOf model d v ends → (levels : List (List Run)) → AreStartLevels ends.start_set ends.breaks levels → AreLevels ends.breaks levels → (list : List ℕ) → IsUsed model list → IsReachedAt model d v list 0 levels
+  pub started : StartIsReached → (ends : Ends) → AreEndSets model d v ends → (levels : List (List Run)) → AreStartLevels ends.start_set ends.breaks levels → AreLevels ends.breaks levels → (list : List ℕ) → IsUsed model list → IsReachedAt model d v list 0 levels
   started law ends are levels is form list used =
       let same = are.breaks_are.same in
       let set = are.start_set_is in record {
@@ -49,7 +49,7 @@ module _ (sound : LinesAreSound) (model : Model) (well : IsWellFormed model) (d 
       }
 
   -- the levels of the end
-  pub finished : EndIsReached → (ends : Ends) → AreEndsOf model d v ends → (levels : List (List Run)) → AreEndLevels ends.end_set ends.breaks levels → AreLevels ends.breaks levels → (list : List ℕ) → IsUsed model list → IsReachingFrom model d v list (suc (length list)) levels
+  pub finished : EndIsReached → (ends : Ends) → AreEndSets model d v ends → (levels : List (List Run)) → AreEndLevels ends.end_set ends.breaks levels → AreLevels ends.breaks levels → (list : List ℕ) → IsUsed model list → IsReachingFrom model d v list (suc (length list)) levels
   finished law ends are levels is form list used =
       let same = are.breaks_are.same in
       let set = are.end_set_is in

@@ -104,6 +104,10 @@ all_four a b c d is_a is_b is_c is_d = ap₂ (λ x y. x && y) (ap₂ (λ x y. x 
 pub first_fails : (a b c d : Bool) → false ≡ a → false ≡ (a && b && c && d)
 first_fails a b c d is = ap (λ x. x && b && c && d) is
 
+pub second_fails : (a b c d : Bool) → false ≡ b → false ≡ (a && b && c && d)
+second_fails true b c d is = ap (λ x. x && c && d) is
+second_fails false b c d is = refl
+
 -- ---- which sets are of no more than one run
 
 pub single : (n : ℕ) → n ≤ 1 → nat_le n 1 ≡ true

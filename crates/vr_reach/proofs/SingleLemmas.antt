@@ -1,5 +1,5 @@
 -- Walks that carry one run.
-use Rattle.std.proofs.Common.{◌≡◌, ◌∙◌, ℕ, zero, suc, ◌+◌, ◌*◌, ◌-◌, ◌<◌, ◌≤◌, false, List, [], ◌∷◌, length, sum_by, ℤ, pos, ◌+ℤ◌, ◌-ℤ◌, ◌≤ℤ◌, ◌<ℤ◌, refl, sym, ap, ap₂, subst, arith}
+use Rattle.std.proofs.Common.{◌≡◌, ◌∙◌, ℕ, zero, suc, ◌+◌, ◌*◌, ◌-◌, ◌<◌, ◌≤◌, false, List, [], ◌∷◌, length, sum_by, to_z, of_z, w64, ◌^◌, ℤ, pos, neg_ℤ, ◌+ℤ◌, ◌-ℤ◌, ◌≤ℤ◌, ◌<ℤ◌, refl, sym, ap, ap₂, subst, arith}
 use Rattle.std.specs.Prelude.{IsTrue, ◌&&◌, ◌↔◌, int_le}
 use Rattle.std.specs.Int.{int_max, int_min}
 use Rattle.std.specs.List.{range_with_len}
@@ -11,7 +11,7 @@ use Rattle.vr_spans.specs.declared.runs.Run.{Run}
 use Rattle.vr_spans.specs.Runs.{has, in_run, IsNormal, ShareANumber}
 use Rattle.vr_model.specs.tables.Numbers.{horizon, within}
 use Rattle.vr_model.specs.tables.Tables.{dimension_at, transit}
-use Rattle.vr_model.specs.tables.WellFormed.{IsWellFormed}
+use Rattle.vr_model.specs.tables.WellFormed.{IsIn, IsWellFormed}
 use Rattle.vr_model.specs.declared.records.Model.{Model}
 use Rattle.vr_model.specs.schedules.Lines.{Line, line, line_arc}
 use Rattle.vr_model.specs.schedules.Schedules.{IsFeasible, IsReached, ReachesEnd, allows, arc_at}
@@ -35,6 +35,14 @@ use Rattle.vr_reach.specs.VisitRuns.{HasCumulEnds, IsAllowedRun}
 use Rattle.vr_reach.specs.Lists.{IsUsed, node_at_stop}
 use Rattle.vr_reach.proofs.Counting.{first_arc, runs_of}
 use Rattle.vr_reach.proofs.LineParts.{hop_between_stops, sound_line}
+
+-- a number far from the ends of 64 bits is read as it is
+pub as_is : (x : ℤ) → neg_ℤ (pos (2 ^ 40)) ≤ℤ x → x ≤ℤ pos (2 ^ 40) → to_z w64 (of_z w64 x) ≡ x
+as_is x low high = omega (arith, ints, low, high)
+
+-- and so is a cumul
+pub cumul_read : (x : ℤ) → IsIn (pos 0) horizon x → to_z w64 (of_z w64 x) ≡ x
+cumul_read x range = let low = range.at_least in let high = range.at_most in omega (arith, ints, low, high)
 
 -- a cumul that is reached is allowed
 reached_allowed : (line : Line) → IsSound line → (k b : ℕ) (x : ℤ) → k ≤ length line.arcs → IsReached line k b x → IsTrue (allows line k x)

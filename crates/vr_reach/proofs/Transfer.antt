@@ -15,7 +15,8 @@ use Rattle.vr_reach.specs.Lists.{IsUsed}
 use Rattle.vr_reach.specs.Stretches.{SharesFront, SharesBack}
 use Rattle.vr_reach.specs.declared.ends.Ends.{Ends}
 use Rattle.vr_reach.specs.Stops.{AreEndsOf}
-use Rattle.vr_reach.specs.KnownRows.{AreRowsOf}
+use Rattle.vr_reach.specs.KnownRows.{AreRowsOf, IsReachingFrom}
+use Rattle.vr_reach.specs.Standing.{IsReachedAt}
 
 take_of_map : {B : Type 0} (f : ℕ → B) (list : List ℕ) (rest : List B) (k : ℕ) → k ≤ length list → take k (map f list ++ rest) ≡ map f (take k list)
 take_of_map f list rest zero le = refl
@@ -92,26 +93,19 @@ as_many_rows model d v list rows are = (are.forward.row_of_each_stop, are.backwa
 
 module _ (model : Model) (d v : ℕ) (old new : List ℕ) (ends : Ends) (are : AreEndsOf model d v ends) (rows : BothWays) (kept : is_empty old ≡ false → AreRowsOf model d v old rows) (used : IsUsed model new) where
   -- the levels at the last stop that both lists share at the front
-  pub left_at : (a : ℕ) → SharesFront old new a → (levels : List (List Run)) → (a ≡ 0 → levels ≡ ends.start_levels) → (0 < a → levels ≡ row_at rows.forward a)
-      → AreLevels ends.breaks levels × AreReached (line model d v new) a levels
-  left_at zero shares levels start row = (subst (AreLevels ends.breaks) (sym (start refl)) are.start_form, subst (AreReached (line model d v new) 0) (sym (start refl)) (are.start_is new used))
+  pub left_at : (a : ℕ) → SharesFront old new a → (levels : List (List Run)) → (a ≡ 0 → levels ≡ ends.start_levels) → (0 < a → levels ≡ row_at rows.forward a) → IsReachedAt model d v new a levels
+  left_at zero shares levels start row = subst (IsReachedAt model d v new 0) (sym (start refl)) (record { form = subst (λ breaks. AreLevels breaks ends.start_levels) are.sets.breaks_are.same are.start_form; reached = are.start_is new used })
   left_at (suc a) shares levels start row =
       let within = shares.within_old in
       let r = kept (not_empty old (omega (arith, within))) in
       let f = r.forward.each (suc a) (omega (arith, within)) in
-      let here = row (omega arith) in (
-        subst (AreLevels ends.breaks) (sym here) (subst (λ b. AreLevels b (row_at rows.forward (suc a))) (sym are.breaks_are.same) f.form),
-        subst (AreReached (line model d v new) (suc a)) (sym here) (reached_too model d v old new (suc a) shares (row_at rows.forward (suc a)) f.reached),
-      )
+      subst (IsReachedAt model d v new (suc a)) (sym (row (omega arith))) (record { form = f.form; reached = reached_too model d v old new (suc a) shares (row_at rows.forward (suc a)) f.reached })
 
   -- the levels at the first stop that both lists share at the back
-  pub met_at : (z : ℕ) → SharesBack old new z → (levels : List (List Run)) → (z ≡ 0 → levels ≡ ends.end_levels) → (0 < z → levels ≡ row_at rows.backward (length old - z + 1))
-      → AreLevels ends.breaks levels × AreReachingEnd (line model d v new) (length new - z + 1) levels
+  pub met_at : (z : ℕ) → SharesBack old new z → (levels : List (List Run)) → (z ≡ 0 → levels ≡ ends.end_levels) → (0 < z → levels ≡ row_at rows.backward (length old - z + 1)) → IsReachingFrom model d v new (length new - z + 1) levels
   met_at zero shares levels finish row =
-      let e : suc (length new) ≡ length new - 0 + 1 = omega arith in (
-        subst (AreLevels ends.breaks) (sym (finish refl)) are.end_form,
-        subst (λ k. AreReachingEnd (line model d v new) k levels) e (subst (AreReachingEnd (line model d v new) (suc (length new))) (sym (finish refl)) (are.end_is new used)),
-      )
+      let e : suc (length new) ≡ length new - 0 + 1 = omega arith in
+      subst (λ k. IsReachingFrom model d v new k levels) e (subst (IsReachingFrom model d v new (suc (length new))) (sym (finish refl)) (record { form = subst (λ breaks. AreLevels breaks ends.end_levels) are.sets.breaks_are.same are.end_form; reaching = are.end_is new used }))
   met_at (suc z) shares levels finish row =
       let within = shares.within_old in
       let within_new = shares.within_new in
@@ -119,8 +113,6 @@ module _ (model : Model) (d v : ℕ) (old new : List ℕ) (ends : Ends) (are : A
       let k : suc (length old - suc z) ≡ length old - suc z + 1 = omega (arith, within) in
       let j : suc (length new - suc z) ≡ length new - suc z + 1 = omega (arith, within_new) in
       let f = r.backward.each (suc (length old - suc z)) (omega (arith, within)) in
-      let here : levels ≡ row_at rows.backward (suc (length old - suc z)) = row (omega arith) ∙ sym (ap (row_at rows.backward) k) in (
-        subst (AreLevels ends.breaks) (sym here) (subst (λ b. AreLevels b (row_at rows.backward (suc (length old - suc z)))) (sym are.breaks_are.same) f.form),
-        subst (λ i. AreReachingEnd (line model d v new) i levels) j (subst (AreReachingEnd (line model d v new) (suc (length new - suc z))) (sym here)
-            (reaching_too model d v old new (suc z) shares (row_at rows.backward (suc (length old - suc z))) f.reaching)),
-      )
+      let here : levels ≡ row_at rows.backward (suc (length old - suc z)) = row (omega arith) ∙ sym (ap (row_at rows.backward) k) in
+      subst (λ i. IsReachingFrom model d v new i levels) j (subst (IsReachingFrom model d v new (suc (length new - suc z))) (sym here)
+      (record { form = f.form; reaching = reaching_too model d v old new (suc z) shares (row_at rows.backward (suc (length old - suc z))) f.reaching }))

@@ -7,6 +7,7 @@ use Rattle.vr_reach.specs.declared.legs.Leg.{Leg}
 
 -- there is not one run to walk with all along a leg, and where walks without a break are tried, none of them tells
 pub record IsGivenUp (leg : Leg) : Type 0 where
-  pub not_one : IsTrue (is_one_run_each leg.stops.closed.model.now leg.stops.d leg.stops.v leg.from.now leg.to.now) → ⊥
-  pub untold : IsTrue (may_go_alone leg.stops.closed.model.now leg.stops.d leg.stops.v leg.from.now)
+  pub not_one : IsTrue (is_one_run_each leg.stops.of.closed.model.now leg.stops.of.d leg.stops.of.v leg.from.now
+      leg.to.now) → ⊥
+  pub untold : IsTrue (may_go_alone leg.stops.of.closed.model.now leg.stops.of.d leg.stops.of.v leg.from.now)
       → IsUntold (line_of_leg leg) leg.from.now leg.to.now leg.begin leg.last

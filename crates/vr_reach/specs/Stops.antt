@@ -20,13 +20,17 @@ pub record AreSoundBreaks (model : Model) (d v : ℕ) (ends : Ends) : Type 0 whe
   pub few : length ends.breaks ≤ 8
   pub valid : All IsBreak ends.breaks
 
--- the breaks of vehicle v, what its start and its end allow, and their levels in each of its lines
-pub record AreEndsOf (model : Model) (d v : ℕ) (ends : Ends) : Type 0 where
+-- the breaks of vehicle v, and what its start and its end allow
+pub record AreEndSets (model : Model) (d v : ℕ) (ends : Ends) : Type 0 where
   pub breaks_are : AreSoundBreaks model d v ends
   pub start_set_is : IsSetOf (allowed_by model d v Start) ends.start_set
+  pub end_set_is : IsSetOf (allowed_by model d v End) ends.end_set
+
+-- the same, with the levels of its start and its end in each of its lines
+pub record AreEndsOf (model : Model) (d v : ℕ) (ends : Ends) : Type 0 where
+  pub sets : AreEndSets model d v ends
   pub start_form : AreLevels ends.breaks ends.start_levels
   pub start_is : (list : List ℕ) → IsUsed model list → AreReached (line model d v list) 0 ends.start_levels
-  pub end_set_is : IsSetOf (allowed_by model d v End) ends.end_set
   pub end_form : AreLevels ends.breaks ends.end_levels
   pub end_is : (list : List ℕ) → IsUsed model list
       → AreReachingEnd (line model d v list) (suc (length list)) ends.end_levels

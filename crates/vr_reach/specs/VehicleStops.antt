@@ -1,10 +1,9 @@
 -- The stops that one vehicle may have in one dimension.
 use Rattle.std.specs.Prelude.{ℕ, ◌<◌, List, length}
 use Rattle.vr_model.specs.schedules.Lines.{Line, line}
+use Rattle.vr_reach.specs.declared.driven.Driven.{Driven}
 use Rattle.vr_reach.specs.declared.stops.StopsFor.{StopsFor}
-use Rattle.vr_reach.specs.declared.stops.VehicleStops.{VehicleStops}
-use Rattle.vr_reach.specs.Stops.{AreEndsOf, AreStops}
-use Rattle.vr_reach.specs.VisitSets.{AreVisitSets}
+use Rattle.vr_reach.specs.Stops.{AreStops}
 
 -- the line of the vehicle with a list
 abbrev pub line_for : StopsFor → List ℕ → Line
@@ -16,15 +15,6 @@ pub record AreStopsFor (stops : StopsFor) : Type 0 where
   pub vehicle : stops.v < length stops.closed.model.now.vehicles
   pub are : AreStops stops.closed.model.now stops.d stops.of_dimension.now
 
--- ---- what is looked up of them
-
--- the line of the vehicle with a list
-abbrev pub line_of : VehicleStops → List ℕ → Line
-line_of stops list = line stops.closed.model.now stops.d stops.v list
-
--- what is at hand is what the vehicle asks in its dimension
-pub record AreVehicleStops (stops : VehicleStops) : Type 0 where
-  pub dimension : stops.d < length stops.closed.model.now.dimensions
-  pub vehicle : stops.v < length stops.closed.model.now.vehicles
-  pub ends : AreEndsOf stops.closed.model.now stops.d stops.v stops.ends.now
-  pub visits : AreVisitSets stops.closed.model.now stops.d stops.v stops.visits.now
+-- the line of a vehicle with a list that it drives
+abbrev pub line_of : Driven → Line
+line_of of = line of.closed.model.now of.d of.v of.list.now

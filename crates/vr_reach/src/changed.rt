@@ -5,9 +5,10 @@ ghost use Rattle.vr_reach.specs.KnownRows.{AreRowsIfUsed};
 ghost use Rattle.vr_reach.specs.Lists.{IsTour};
 ghost use Rattle.vr_reach.specs.VehicleStops.{AreStopsFor};
 
+use crate::driven::Driven;
 use crate::rows::Rows;
 use crate::spliced::Spliced;
-use crate::stops::{StopsFor, VehicleStops};
+use crate::stops::{ListStops, StopsFor};
 use crate::stretches::Stretch;
 use std::alloc::Global;
 use vr_model::NoMemory;
@@ -56,16 +57,16 @@ pub fn rewrite_rows(
         .of_dimension
         .visits
         .of(stops.closed.model, stops.d, stops.v);
-    let asked = VehicleStops {
+    let of = Driven {
         closed: stops.closed,
         d: stops.d,
         v: stops.v,
-        ends,
-        visits,
+        list: &whole,
     };
+    let asked = ListStops { of, ends, visits };
     let ahead = known_with(old, stretch.front);
     let behind = known_with(old, stretch.back);
-    rows.rewrite(alloc, &asked, list, ahead, behind)?;
+    rows.rewrite(alloc, &asked, ahead, behind)?;
     Ok(())
 }
 

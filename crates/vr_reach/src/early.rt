@@ -2,7 +2,6 @@
 
 ghost use Rattle.std.specs.Prelude.{◌≡◌, ◌↔◌, ◌+◌, ◌<◌, ◌≤◌, ◌≤ℤ◌, ◌^◌, suc, All, IfSome, IsTrue, is_some, [], length};
 ghost use Rattle.std.specs.Prelude.{List, ℤ, neg_ℤ, pos};
-ghost use Rattle.vr_model.specs.schedules.Lines.{line};
 ghost use Rattle.vr_model.specs.tables.Numbers.{horizon};
 ghost use Rattle.vr_model.specs.tables.Tables.{breaks_of, dimension_at};
 ghost use Rattle.vr_model.specs.tables.WellFormed.{IsIn};
@@ -12,15 +11,17 @@ ghost use Rattle.vr_reach.specs.Early.{has_cumul_behind, AreChosen, AreEarly, Ar
 ghost use Rattle.vr_reach.specs.Early.{IsEarliestBehind};
 ghost use Rattle.vr_reach.specs.Lists.{IsUsed};
 ghost use Rattle.vr_reach.specs.Stops.{AreStops};
-ghost use Rattle.vr_reach.specs.VehicleStops.{line_for, AreStopsFor};
+ghost use Rattle.vr_reach.specs.VehicleStops.{line_for, line_of, AreStopsFor};
 ghost use Rattle.vr_reach.specs.VisitRuns.{have_stops_one_run, AreVisitRuns, HasCumulEnds, IsFinish, IsRunFor};
 
+use crate::driven::Driven;
+use crate::run_walks::RunLine;
 use crate::runs::run_of;
 use crate::single::{Ahead, finish_of, slack_of, stop_ahead};
 use crate::spliced::Spliced;
 use crate::stops::{Stops, StopsFor, node_at};
 use arrayvec::ArrayVec;
-use vr_model::{Closed, Model, laws};
+use vr_model::Model;
 use vr_spans::Run;
 
 /// The cumuls of the stops of one list.
@@ -48,7 +49,6 @@ pub fn single_runs<'a>(model: &Model, d: u32, v: u32, stops: &'a Stops) -> Optio
     ensures finish { IfSome result (λ runs. IsFinish model.now d v runs.finish) }
     ensures known { is_some result ≡ have_stops_one_run model.now d v }
 {
-    vr_steps::laws::runs_are_counted();
     let ends = &stops.ends[v as usize];
     if !ends.has_no_breaks() {
         return None;
@@ -75,54 +75,54 @@ pub fn write_earliest(stops: &StopsFor, list: &[u32], cumuls: &mut Cumuls) -> bo
     ensures stops { IsTrue result → length cumuls.new.items ≡ suc (suc (length list.now)) }
     ensures range { IsTrue result → All (IsIn (pos 0) horizon) cumuls.new.items }
 {
-    laws::chosen_is_least();
-    laws::lines_are_sound();
     let (closed, d, v) = (stops.closed, stops.d, stops.v);
     match single_runs(closed.model, d, v, stops.of_dimension) {
         Some(runs) => {
             if runs.start.lo > runs.start.hi {
                 return false;
             }
-            drive(closed, d, v, &runs, list, cumuls)
+            let whole = Spliced::whole(list);
+            let of = Driven {
+                closed,
+                d,
+                v,
+                list: &whole,
+            };
+            let line = RunLine {
+                of,
+                evaluator: closed.model.dimensions.get(d as usize).evaluator_of(v),
+                slack: slack_of(closed, d),
+                visits: runs.visits,
+                finish: runs.finish,
+            };
+            drive(&line, runs.start, cumuls)
         }
         None => false,
     }
 }
 
 // Writes the earliest cumuls of all stops, where each can be had from the one before.
-fn drive(
-    closed: Closed<'_>,
-    d: u32,
-    v: u32,
-    runs: &StopRuns,
-    list: &[u32],
-    cumuls: &mut Cumuls,
-) -> bool
-    requires dimension { d < length closed.model.now.dimensions }
-    requires vehicle { v < length closed.model.now.vehicles }
-    requires used { IsUsed closed.model.now list.now }
-    requires few { length list.now ≤ 1000 }
-    requires start { IsRunFor (allowed_by closed.model.now d v Start) runs.now.start }
-    requires some { runs.now.start.lo ≤ℤ runs.now.start.hi }
-    requires visits { AreVisitRuns closed.model.now d v runs.now.visits.now }
-    requires finish { IsFinish closed.model.now d v runs.now.finish }
+fn drive(line: &RunLine, start: Run, cumuls: &mut Cumuls) -> bool
+    requires few { length line.now.of.list.now ≤ 1000 }
+    requires start { IsRunFor (allowed_by line.now.of.closed.model.now line.now.of.d line.now.of.v Start) start }
+    requires some { start.lo ≤ℤ start.hi }
     ensures found { IsTrue result ↔ ((found : List ℤ)
-        × AreFoundInTurn (line closed.entry.model.now d v list.now) (suc (length list.now)) found) }
-    ensures early { IsTrue result → AreEarly (line closed.entry.model.now d v list.now)
-        (length list.now + 1) cumuls.new.items }
+        × AreFoundInTurn (line_of line.now.of) (suc (length line.now.of.list.now)) found) }
+    ensures early { IsTrue result → AreEarly (line_of line.now.of) (length line.now.of.list.now + 1) cumuls.new.items }
 {
-    laws::lines_are_sound();
-    let evaluator = closed.model.dimensions.get(d as usize).evaluator_of(v);
-    let slack = slack_of(closed, d);
-    let whole = Spliced::whole(list);
-    let mut origin = node_at(closed, v, &whole, 0);
-    let mut cumul = runs.start.lo;
+    let of = &line.of;
+    let mut origin = node_at(of, 0);
+    let mut cumul = start.lo;
     cumuls.clear();
     cumuls.push(cumul);
-    for k in 0..list.len() + 1 {
-        let ahead = stop_ahead(closed, d, v, runs.visits, runs.finish, &whole, k);
-        let transit = closed.model.transit_by(d, v, evaluator, origin, ahead.node);
-        match earliest_behind(cumul, transit, slack, ahead.allowed) {
+    let n = of.list.len();
+    for k in 0..n + 1 {
+        let ahead = stop_ahead(line, k);
+        let transit = of
+            .closed
+            .model
+            .transit_by(of.d, of.v, line.evaluator, origin, ahead.node);
+        match earliest_behind(cumul, transit, line.slack, ahead.allowed) {
             Some(next) => cumul = next,
             None => return false,
         }

@@ -4,8 +4,9 @@ ghost use Rattle.std.specs.Prelude.{◌≡◌, ◌<◌, ℕ, length, slice_index
 ghost use Rattle.vr_model.specs.routes.Routes.{is_empty};
 ghost use Rattle.vr_reach.specs.Stops.{AreEndsOf};
 
+use crate::driven::VehicleIn;
 use std::alloc::Global;
-use vr_model::{Closed, NoMemory, laws};
+use vr_model::{Closed, NoMemory};
 use vr_spans::Spans;
 use vr_steps::{Breaks, Levels, StopName, allowed_at, end_levels, start_levels};
 
@@ -21,15 +22,11 @@ pub(crate) struct Ends {
 }
 
 impl Ends {
-    // The ends of vehicle `v` in dimension `d`.
-    pub(crate) fn build(alloc: Global, closed: Closed<'_>, d: u32, v: u32) -> Result<Ends, NoMemory>
-        requires dimension { d < length closed.model.now.dimensions }
-        requires vehicle { v < length closed.model.now.vehicles }
-        ensures { IfOk result (AreEndsOf closed.entry.model.now d v) }
+    // The ends of a vehicle in a dimension.
+    pub(crate) fn build(alloc: Global, vehicle: VehicleIn<'_>) -> Result<Ends, NoMemory>
+        ensures { IfOk result (AreEndsOf vehicle.entry.closed.model.now vehicle.entry.d vehicle.entry.v) }
     {
-        laws::lines_are_sound();
-        vr_steps::laws::start_is_reached();
-        vr_steps::laws::end_is_reached();
+        let (closed, d, v) = (vehicle.closed, vehicle.d, vehicle.v);
         let breaks = Breaks::of(closed.model.dimensions.get(d as usize), v);
         let start_set = allowed_at(alloc, closed.model, d, v, StopName::Start)?;
         let start_levels = start_levels(alloc, &start_set, &breaks)?;
@@ -62,7 +59,12 @@ pub(crate) fn ends_of_each(alloc: Global, closed: Closed<'_>, d: u32) -> Result<
 {
     let mut ends = Vec::with_capacity(alloc, closed.model.vehicles.len())?;
     for v in 0..closed.model.vehicles.len() {
-        ends.push(Ends::build(alloc, closed, d, v as u32)?)?;
+        let vehicle = VehicleIn {
+            closed,
+            d,
+            v: v as u32,
+        };
+        ends.push(Ends::build(alloc, vehicle)?)?;
     }
     Ok(ends)
 }

@@ -1,17 +1,35 @@
 //! A leg of a list, along which a walk goes.
 
-use crate::spliced::Spliced;
-use crate::stops::VehicleStops;
+ghost use Rattle.std.proofs.Props.{props};
+ghost use Rattle.std.specs.Prelude.{◌<◌, ◌≤◌, suc, length, IfSome};
+ghost use Rattle.vr_reach.specs.Once.{IfSome-prop};
+ghost use Rattle.vr_reach.specs.Tested.{IsReachedBy, IsReachingBy};
+ghost use Rattle.vr_reach.specs.VehicleStops.{line_of};
+ghost use Rattle.vr_reach.specs.VisitRuns.{AreVisitRuns};
+
+use crate::stops::ListStops;
+use vr_spans::Run;
 use vr_steps::Levels;
 
 // Two stops of a list of a vehicle, the levels at which the first is reached, and those from which the end is reached
-// at the last.
+// at the last; and the run that each visit allows the vehicle, by its node, where none allows more than one.
 #[derive(Clone, Copy)]
-pub(crate) struct Leg<'a> {
-    pub(crate) stops: VehicleStops<'a>,
-    pub(crate) list: &'a Spliced<'a>,
+pub(crate) struct Leg<'m, 'l, 's, 'r> {
+    pub(crate) stops: ListStops<'m, 'l, 's>,
+    pub(crate) runs: Option<&'s [Run]>,
     pub(crate) begin: usize,
     pub(crate) last: usize,
-    pub(crate) from: &'a Levels,
-    pub(crate) to: &'a Levels,
+    pub(crate) from: &'r Levels,
+    pub(crate) to: &'r Levels,
+    // They are those of the vehicle.
+    pub ghost runs_are: { IfSome runs (λ found. AreVisitRuns stops.of.closed.model.now stops.of.d stops.of.v
+        found.now) } by { Prim.hlevel (props, IfSome-prop) },
+    // The leg has an arc.
+    pub ghost order: { begin < last },
+    // There is its last stop.
+    pub ghost within: { last ≤ suc (length stops.of.list.now) },
+    // The first stop is reached so.
+    pub ghost begun: { IsReachedBy (line_of stops.of) begin from.now } by { Prim.hlevel props },
+    // The end is reached so from the last.
+    pub ghost met: { IsReachingBy (line_of stops.of) last to.now } by { Prim.hlevel props },
 }

@@ -5,40 +5,37 @@ ghost use Rattle.vr_model.specs.schedules.Choices.{is_feasible};
 ghost use Rattle.vr_model.specs.schedules.Schedules.{IsFeasible};
 ghost use Rattle.vr_steps.specs.Levels.{level_at};
 ghost use Rattle.vr_reach.specs.Alone.{GoesAlone, IsUntold};
-ghost use Rattle.vr_reach.specs.RunWalks.{line_along, IsRunWalk};
+ghost use Rattle.vr_reach.specs.RunWalks.{line_along};
 ghost use Rattle.vr_reach.specs.Singles.{is_run};
 ghost use Rattle.vr_reach.specs.Tries.{tries_between};
 
+use crate::run_walks::RunWalk;
 use crate::runs::shares_with;
-use crate::single::{RunWalk, carry_run, run_at};
+use crate::single::{carry_run, run_at};
 use std::sync::ledger::Ledger;
-use vr_model::{Steps, laws};
+use vr_model::Steps;
 
 // Whether the line of a list is feasible, where walks along a leg without a break on the way tell: it is not where what
 // is reached with no break taken misses all from which the end is reached with all of them taken, and it is where a
 // walk with some number of breaks taken before it serves. Nothing is told where more than one run is reached at first,
 // and where neither is so. It counts a try for each arc that such a walk goes over.
 pub(crate) fn told_without_breaks<L: Ledger>(walk: &RunWalk, tries: &mut Steps<L>) -> Option<bool>
-    requires walk { IsRunWalk walk.now }
     ensures told { IfSome result (λ passed. passed ≡ is_feasible (line_along walk.now)) }
-    ensures untold { result ≡ None → IsTrue (is_run (level_at walk.now.leg.from.now 0))
-        → IsUntold (line_along walk.now) walk.now.leg.from.now walk.now.leg.to.now
-        walk.now.leg.begin walk.now.leg.last }
-    ensures known { IsSome result → IsTrue (is_run (level_at walk.now.leg.from.now 0)) × (IsUntold
-        (line_along walk.now) walk.now.leg.from.now walk.now.leg.to.now walk.now.leg.begin walk.now.leg.last → ⊥) }
+    ensures untold { result ≡ None → IsTrue (is_run (level_at walk.now.from.now 0))
+        → IsUntold (line_along walk.now) walk.now.from.now walk.now.to.now
+        walk.now.begin walk.now.last }
+    ensures known { IsSome result → IsTrue (is_run (level_at walk.now.from.now 0)) × (IsUntold
+        (line_along walk.now) walk.now.from.now walk.now.to.now walk.now.begin walk.now.last → ⊥) }
     ensures count { tries.new ≤ tries.old
-        + tries_between (line_along walk.now) walk.now.leg.begin walk.now.leg.last }
+        + tries_between (line_along walk.now) walk.now.begin walk.now.last }
 {
-    laws::lines_are_sound();
-    laws::chosen_where_feasible();
-    laws::feasible_where_levels_meet();
-    let begun = run_at(walk.leg.from, 0)?;
+    let begun = run_at(walk.from, 0)?;
     let run = carry_run(walk, 0, begun, tries);
-    let all = walk.leg.to.len() - 1;
-    if !shares_with(run, walk.leg.to.level(all)) {
+    let all = walk.to.len() - 1;
+    if !shares_with(run, walk.to.level(all)) {
         return Some(false);
     }
-    let goes = shares_with(run, walk.leg.to.level(0));
+    let goes = shares_with(run, walk.to.level(0));
     if goes {
         return Some(true);
     }
@@ -51,15 +48,14 @@ pub(crate) fn told_without_breaks<L: Ledger>(walk: &RunWalk, tries: &mut Steps<L
 
 // Whether a walk without a break serves, with one break taken before it or more; where not, nothing is told.
 fn goes_with_some<L: Ledger>(walk: &RunWalk, tries: &mut Steps<L>) -> bool
-    requires walk { IsRunWalk walk.now }
     ensures goes { IsTrue result → IsFeasible (line_along walk.now) }
     ensures exact { IsTrue result ↔ ((taken : ℕ) × (1 ≤ taken) × (taken ≤ length (line_along walk.now).breaks)
-        × GoesAlone (line_along walk.now) walk.now.leg.from.now walk.now.leg.to.now
-        walk.now.leg.begin walk.now.leg.last taken) }
+        × GoesAlone (line_along walk.now) walk.now.from.now walk.now.to.now
+        walk.now.begin walk.now.last taken) }
     ensures count { tries.new ≤ tries.old
-        + length (line_along walk.now).breaks * (walk.now.leg.last - walk.now.leg.begin) }
+        + length (line_along walk.now).breaks * (walk.now.last - walk.now.begin) }
 {
-    for taken in 1..walk.leg.from.len() {
+    for taken in 1..walk.from.len() {
         if goes_with(walk, taken, tries) {
             return true;
         }
@@ -69,19 +65,16 @@ fn goes_with_some<L: Ledger>(walk: &RunWalk, tries: &mut Steps<L>) -> bool
 
 // Whether a walk without a break serves, with so many breaks taken before it; where not, nothing is told.
 fn goes_with<L: Ledger>(walk: &RunWalk, taken: usize, tries: &mut Steps<L>) -> bool
-    requires walk { IsRunWalk walk.now }
-    requires taken { taken ≤ length (line_along walk.now).breaks }
+    requires { taken ≤ length (line_along walk.now).breaks }
     ensures goes { IsTrue result → IsFeasible (line_along walk.now) }
-    ensures exact { IsTrue result ↔ GoesAlone (line_along walk.now) walk.now.leg.from.now walk.now.leg.to.now
-        walk.now.leg.begin walk.now.leg.last taken }
-    ensures count { tries.new ≤ tries.old + (walk.now.leg.last - walk.now.leg.begin) }
+    ensures exact { IsTrue result ↔ GoesAlone (line_along walk.now) walk.now.from.now walk.now.to.now
+        walk.now.begin walk.now.last taken }
+    ensures count { tries.new ≤ tries.old + (walk.now.last - walk.now.begin) }
 {
-    laws::lines_are_sound();
-    laws::feasible_where_levels_meet();
-    let Some(begun) = run_at(walk.leg.from, taken) else {
+    let Some(begun) = run_at(walk.from, taken) else {
         return false;
     };
     let run = carry_run(walk, taken, begun, tries);
-    let goes = shares_with(run, walk.leg.to.level(taken));
+    let goes = shares_with(run, walk.to.level(taken));
     goes
 }

@@ -5,14 +5,13 @@ ghost use Rattle.vr_model.specs.schedules.Lines.{Line as Defined};
 ghost use Rattle.vr_model.specs.schedules.Schedules.{IsFeasible};
 ghost use Rattle.vr_steps.specs.Lines.{IsLineOf, IsSoundLine};
 ghost use Rattle.vr_steps.specs.declared.lines.Line.{Line as Made};
-ghost use Rattle.vr_reach.specs.KnownRows.{AreFirstRows, AreLastRows, AreRowsOf};
-ghost use Rattle.vr_reach.specs.Lists.{IsUsed};
+ghost use Rattle.vr_reach.specs.DrivenRows.{AreFirstOn, AreLastOn};
+ghost use Rattle.vr_reach.specs.KnownRows.{AreRowsOf};
 ghost use Rattle.vr_reach.specs.Rows.{AreRows};
-ghost use Rattle.vr_reach.specs.VehicleStops.{AreVehicleStops};
 
 use crate::Sweep;
 use crate::shared::share_at_first;
-use crate::stops::VehicleStops;
+use crate::stops::ListStops;
 use std::alloc::Global;
 use std::marker::Model;
 use vr_model::NoMemory;
@@ -83,21 +82,17 @@ impl Rows {
     pub(crate) fn rewrite(
         &mut self,
         alloc: Global,
-        stops: &VehicleStops,
-        list: &[u32],
+        stops: &ListStops,
         ahead: usize,
         behind: usize,
     ) -> Result<(), NoMemory>
-        requires stops { AreVehicleStops stops.now }
-        requires used { IsUsed stops.now.closed.model.now list.now }
-        requires ahead { AreFirstRows stops.now.closed.model.now stops.now.d stops.now.v list.now ahead
-            self.old.forward }
-        requires behind { AreLastRows stops.now.closed.model.now stops.now.d stops.now.v list.now behind
-            self.old.backward }
-        ensures { OnOk result (AreRowsOf stops.now.closed.model.now stops.now.d stops.now.v list.now self.new) }
+        requires ahead { AreFirstOn stops.now.of ahead self.old.forward }
+        requires behind { AreLastOn stops.now.of behind self.old.backward }
+        ensures { OnOk result (AreRowsOf stops.now.of.closed.model.now stops.now.of.d stops.now.of.v
+            stops.now.of.list.now self.new) }
     {
-        self.ahead.forward_along(alloc, stops, list, ahead)?;
-        self.behind.backward_along(alloc, stops, list, behind)?;
+        self.ahead.forward_along(alloc, stops, ahead)?;
+        self.behind.backward_along(alloc, stops, behind)?;
         Ok(())
     }
 
@@ -113,8 +108,6 @@ impl Rows {
         ensures { (line : Made) → AreRows line self.now → (defined : Defined) → IsLineOf defined line →
             IsTrue result ↔ IsFeasible defined }
     {
-        vr_steps::laws::feasible_where_shared();
-        vr_steps::laws::lines_stand_for_theirs();
         share_at_first(&self.ahead, &self.behind)
     }
 

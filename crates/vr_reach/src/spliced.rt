@@ -69,7 +69,7 @@ impl<'a> Spliced<'a> {
     #[inline]
     pub(crate) fn len(&self) -> usize
         ensures value { result ≡ length self.now }
-        ensures fits { length self.now + 1 < 2 ^ 64 }
+        ensures fits { length self.now + 2 < 2 ^ 64 }
     {
         self.front + self.middle.len() + (self.old.len() - self.behind)
     }

@@ -1,23 +1,26 @@
 //! Walks through what an insertion changes in a list whose rows are known, the stretch told or the levels kept.
 
-ghost use Rattle.std.specs.Prelude.{◌≡◌, ◌+◌, ◌<◌, ◌≤◌, IsTrue, length, IfOk, OnOk};
+ghost use Rattle.std.specs.Prelude.{◌≡◌, ◌+◌, ◌≤◌, IsTrue, length, IfOk, OnOk};
 ghost use Rattle.vr_model.specs.schedules.Choices.{is_feasible};
 ghost use Rattle.vr_reach.specs.Lists.{IsUsed};
+ghost use Rattle.vr_reach.specs.DrivenRows.{IsReachedOn};
 ghost use Rattle.vr_reach.specs.KnownRows.{IsKnownList};
 ghost use Rattle.vr_reach.specs.Standing.{is_stuck, IsReachedAt, ReachesNoEnd};
 ghost use Rattle.vr_reach.specs.Stretches.{SharesFront, SharesBack, SharesEnds};
-ghost use Rattle.vr_reach.specs.VehicleStops.{line_for, AreStopsFor, AreVehicleStops};
+ghost use Rattle.vr_reach.specs.VehicleStops.{line_for, AreStopsFor};
 
+use crate::driven::Driven;
 use crate::known::KnownList;
 use crate::legs::Leg;
 use crate::spliced::Spliced;
-use crate::stops::{StopsFor, VehicleStops, hop_of, set_of};
+use crate::stops::{ListStops, StopsFor, hop_from, set_at};
 use crate::stretches::Stretch;
+use crate::uncounted::Crossing;
 use crate::walking::{levels_before, levels_behind, walk_uncounted};
 use crate::walks::Walk;
 use std::marker::Brand;
-use std::sync::ledger::{Blank, Ledger};
-use vr_model::{NoMemory, Steps, laws};
+use std::sync::ledger::Blank;
+use vr_model::NoMemory;
 use vr_steps::Levels;
 
 /// Whether the line of a list of a vehicle is feasible, found by a walk through what differs from the list before,
@@ -48,21 +51,22 @@ pub fn goes_between(
     let from = levels_before(ends, known.rows, shared.front);
     let to = levels_behind(ends, known.rows, known.list.len(), shared.back);
     let whole = Spliced::whole(new);
-    let leg = Leg {
-        stops: VehicleStops {
-            closed: stops.closed,
-            d: stops.d,
-            v: stops.v,
-            ends,
-            visits,
-        },
+    let of = Driven {
+        closed: stops.closed,
+        d: stops.d,
+        v: stops.v,
         list: &whole,
+    };
+    let asked = ListStops { of, ends, visits };
+    let leg = Leg {
+        stops: asked,
+        runs,
         begin: shared.front,
         last: new.len() - shared.back + 1,
         from,
         to,
     };
-    let goes = walk_uncounted::<Brand>(&leg, runs, walk, Blank::new(1))?;
+    let goes = walk_uncounted::<Brand, Brand>(&leg, walk, Blank::new(1), Blank::new(1))?;
     Ok(goes)
 }
 
@@ -93,14 +97,15 @@ pub fn leave_rows(
         .visits
         .of(stops.closed.model, stops.d, stops.v);
     let from = levels_before(ends, known.rows, front);
-    let asked = VehicleStops {
+    let whole = Spliced::whole(new);
+    let of = Driven {
         closed: stops.closed,
         d: stops.d,
         v: stops.v,
-        ends,
-        visits,
+        list: &whole,
     };
-    cross_arc::<Brand>(&asked, new, front, from, walk, Blank::new(1))?;
+    let asked = ListStops { of, ends, visits };
+    cross_arc(&asked, front, from, walk)?;
     walk.hand_over(here);
     Ok(())
 }
@@ -127,14 +132,15 @@ pub fn go_on(
         .of_dimension
         .visits
         .of(stops.closed.model, stops.d, stops.v);
-    let asked = VehicleStops {
+    let whole = Spliced::whole(list);
+    let of = Driven {
         closed: stops.closed,
         d: stops.d,
         v: stops.v,
-        ends,
-        visits,
+        list: &whole,
     };
-    cross_arc::<Brand>(&asked, list, k, here, walk, Blank::new(1))?;
+    let asked = ListStops { of, ends, visits };
+    cross_arc(&asked, k, here, walk)?;
     walk.hand_over(here);
     Ok(())
 }
@@ -171,21 +177,22 @@ pub fn goes_from(
         .runs_of(stops.closed.model, stops.d, stops.v);
     let to = levels_behind(ends, known.rows, known.list.len(), back);
     let whole = Spliced::whole(new);
-    let leg = Leg {
-        stops: VehicleStops {
-            closed: stops.closed,
-            d: stops.d,
-            v: stops.v,
-            ends,
-            visits,
-        },
+    let of = Driven {
+        closed: stops.closed,
+        d: stops.d,
+        v: stops.v,
         list: &whole,
+    };
+    let asked = ListStops { of, ends, visits };
+    let leg = Leg {
+        stops: asked,
+        runs,
         begin: k,
         last: new.len() - back + 1,
         from: here,
         to,
     };
-    let goes = walk_uncounted::<Brand>(&leg, runs, walk, Blank::new(1))?;
+    let goes = walk_uncounted::<Brand, Brand>(&leg, walk, Blank::new(1), Blank::new(1))?;
     Ok(goes)
 }
 
@@ -195,9 +202,6 @@ pub fn is_stuck(levels: &Levels) -> bool
     ensures exact { result ≡ is_stuck levels.now }
     ensures no_end { IsTrue result → ReachesNoEnd levels.now }
 {
-    laws::lines_are_sound();
-    laws::chosen_where_feasible();
-    laws::feasible_where_levels_meet();
     none_reached(levels)
 }
 
@@ -214,28 +218,21 @@ fn none_reached(levels: &Levels) -> bool
 }
 
 // Lets a walk stand behind the arc from a stop of a list.
-fn cross_arc<L: Ledger>(
-    stops: &VehicleStops,
-    list: &[u32],
-    k: usize,
-    from: &Levels,
-    walk: &mut Walk,
-    blank: Blank,
-) -> Result<(), NoMemory>
-    requires name { blank.name ≡ L.name }
-    requires parts { blank.parts ≡ L.parts }
-    requires some { 0 < blank.parts }
-    requires stops { AreVehicleStops stops.now }
-    requires used { IsUsed stops.now.closed.model.now list.now }
-    requires stop { k ≤ length list.now }
-    requires from { IsReachedAt stops.now.closed.model.now stops.now.d stops.now.v list.now k from.now }
-    ensures { OnOk result (IsReachedAt stops.now.closed.model.now stops.now.d stops.now.v list.now (k + 1) walk.new) }
+fn cross_arc(stops: &ListStops, k: usize, from: &Levels, walk: &mut Walk) -> Result<(), NoMemory>
+    requires stop { k ≤ length stops.now.of.list.now }
+    requires from { IsReachedOn stops.now.of k from.now }
+    ensures { OnOk result (IsReachedOn stops.now.of (k + 1) walk.new) }
 {
-    laws::lines_are_sound();
-    vr_steps::laws::reached_behind_arc();
-    let mut steps = Steps::<L>::new(blank);
-    let hop = hop_of(stops, list, k);
-    let next = set_of(stops, list, k + 1);
-    walk.leave(from, hop, next, &stops.ends.breaks, &mut steps)?;
+    // that the list is in memory says that the sum fits
+    let _few = stops.of.list.len();
+    let hop = hop_from(&stops.of, k);
+    let next = set_at(stops, k + 1);
+    let crossing = Crossing {
+        levels: from,
+        hop,
+        allowed: next,
+        breaks: &stops.ends.breaks,
+    };
+    walk.cross(&crossing)?;
     Ok(())
 }

@@ -1,16 +1,19 @@
 //! What the stops of one dimension ask.
 
-ghost use Rattle.std.specs.Prelude.{◌≡◌, ◌+◌, suc, ◌<◌, ◌≤◌, length, IfOk, IfSome, is_some};
+ghost use Rattle.std.proofs.Props.{props};
+ghost use Rattle.std.specs.Prelude.{◌≡◌, suc, ◌<◌, ◌≤◌, length, IfOk, IfSome, is_some};
 ghost use Rattle.vr_steps.specs.Arcs.{IsSoundHop};
 ghost use Rattle.vr_steps.specs.Reached.{hop_at, IsAllowedSet};
-ghost use Rattle.vr_reach.specs.Lists.{node_at_stop, IsTour};
-ghost use Rattle.vr_reach.specs.Stops.{AreStops};
+ghost use Rattle.vr_reach.specs.Lists.{node_at_stop};
+ghost use Rattle.vr_reach.specs.Once.{IsNormalFrom-prop};
+ghost use Rattle.vr_reach.specs.Stops.{AreEndSets, AreStops};
 ghost use Rattle.vr_reach.specs.VisitRuns.{have_visits_one_run, AreVisitRuns};
-ghost use Rattle.vr_reach.specs.VehicleStops.{line_of, AreVehicleStops};
+ghost use Rattle.vr_reach.specs.VehicleStops.{line_of};
+ghost use Rattle.vr_reach.specs.VisitSets.{AreVisitSets};
 
+use crate::driven::Driven;
 use crate::ends::{Ends, ends_of_each};
 use crate::runs::run_tables;
-use crate::spliced::Spliced;
 use crate::visits::VisitSets;
 use std::alloc::Global;
 use vr_model::{Closed, Model, NoMemory, Seq};
@@ -47,7 +50,6 @@ impl Stops {
         ensures runs { IfSome result (λ runs. AreVisitRuns model.now d v runs.now) }
         ensures known { is_some result ≡ have_visits_one_run model.now d v }
     {
-        vr_steps::laws::runs_are_counted();
         let k = *self.visits.table_of.get(v as usize);
         match self.runs.get(k) {
             Some(runs) => Some(runs.as_slice()),
@@ -69,89 +71,64 @@ pub struct StopsFor<'m, 's> {
     pub of_dimension: &'s Stops,
 }
 
-// The stops that vehicle `v` may have in dimension `d`: what its start, its end and its breaks ask, and the cumuls that
-// each visit allows it.
+// What its start, its end and its breaks ask a vehicle that drives a list, and the cumuls that each visit allows it.
 #[derive(Clone, Copy)]
-pub(crate) struct VehicleStops<'a> {
-    pub(crate) closed: Closed<'a>,
-    pub(crate) d: u32,
-    pub(crate) v: u32,
-    pub(crate) ends: &'a Ends,
-    pub(crate) visits: &'a [Spans],
+pub(crate) struct ListStops<'m, 'l, 's> {
+    pub(crate) of: Driven<'m, 'l>,
+    pub(crate) ends: &'s Ends,
+    pub(crate) visits: &'s [Spans],
+    // The ends are those of the vehicle.
+    pub ghost ends_are: { AreEndSets of.closed.model.now of.d of.v ends.now } by { Prim.hlevel
+        (props, IsNormalFrom-prop) },
+    // The cumuls are those that the visits allow it.
+    pub ghost sets_are: { AreVisitSets of.closed.model.now of.d of.v visits.now } by { Prim.hlevel
+        (props, IsNormalFrom-prop) },
 }
 
 // The cumuls that stop `k` of a list allows.
 #[inline]
-pub(crate) fn set_at<'a>(stops: &VehicleStops<'a>, list: &Spliced, k: usize) -> &'a Spans
-    requires stops { AreVehicleStops stops.now }
-    requires tour { IsTour stops.now.closed.model.now list.now }
-    requires stop { k ≤ suc (length list.now) }
-    ensures { IsAllowedSet (line_of stops.now list.now) k result.now }
+pub(crate) fn set_at<'s>(stops: &ListStops<'_, '_, 's>, k: usize) -> &'s Spans
+    requires { k ≤ suc (length stops.now.of.list.now) }
+    ensures { IsAllowedSet (line_of stops.now.of) k result.now }
 {
     if k == 0 {
         return &stops.ends.start_set;
     }
+    let list = stops.of.list;
     if k > list.len() {
         return &stops.ends.end_set;
     }
     &stops.visits[list.get(k - 1) as usize]
 }
 
-// The same, where the list is written out.
+// The node at a stop of a list.
 #[inline]
-pub(crate) fn set_of<'a>(stops: &VehicleStops<'a>, list: &[u32], k: usize) -> &'a Spans
-    requires stops { AreVehicleStops stops.now }
-    requires tour { IsTour stops.now.closed.model.now list.now }
-    requires stop { k ≤ suc (length list.now) }
-    ensures { IsAllowedSet (line_of stops.now list.now) k result.now }
+pub(crate) fn node_at(of: &Driven, k: usize) -> u32
+    requires { k ≤ suc (length of.now.list.now) }
+    ensures node { result ≡ node_at_stop of.now.closed.model.now of.now.v of.now.list.now k }
+    ensures below { result < of.now.closed.model.now.nodes }
 {
-    let whole = Spliced::whole(list);
-    set_at(stops, &whole, k)
-}
-
-// The node at a stop of vehicle `v` with a list.
-#[inline]
-pub(crate) fn node_at(closed: Closed<'_>, v: u32, list: &Spliced, k: usize) -> u32
-    requires vehicle { v < length closed.model.now.vehicles }
-    requires tour { IsTour closed.model.now list.now }
-    requires stop { k ≤ suc (length list.now) }
-    ensures node { result ≡ node_at_stop closed.entry.model.now v list.now k }
-    ensures below { result < closed.entry.model.now.nodes }
-{
+    let model = of.closed.model;
+    let list = of.list;
     if k == 0 {
-        return closed.model.vehicles.get(v as usize).start;
+        return model.vehicles.get(of.v as usize).start;
     }
     if k > list.len() {
-        return closed.model.vehicles.get(v as usize).end;
+        return model.vehicles.get(of.v as usize).end;
     }
     list.get(k - 1)
 }
 
 // The arc from a stop of a list to the next one.
 #[inline]
-pub(crate) fn hop_from(stops: &VehicleStops, list: &Spliced, k: usize) -> Hop
-    requires stops { AreVehicleStops stops.now }
-    requires tour { IsTour stops.now.closed.model.now list.now }
-    requires stop { k ≤ length list.now }
-    ensures exact { result ≡ hop_at (line_of stops.now list.now) k }
+pub(crate) fn hop_from(of: &Driven, k: usize) -> Hop
+    requires { k ≤ length of.now.list.now }
+    ensures exact { result ≡ hop_at (line_of of.now) k }
     ensures sound { IsSoundHop result }
 {
     // that the list is in memory says that the sum fits
-    let _few = list.len();
-    let origin = node_at(stops.closed, stops.v, list, k);
-    let target = node_at(stops.closed, stops.v, list, k + 1);
-    hop(stops.closed.model, stops.d, stops.v, origin, target)
-}
-
-// The same, where the list is written out.
-#[inline]
-pub(crate) fn hop_of(stops: &VehicleStops, list: &[u32], k: usize) -> Hop
-    requires stops { AreVehicleStops stops.now }
-    requires tour { IsTour stops.now.closed.model.now list.now }
-    requires stop { k ≤ length list.now }
-    ensures exact { result ≡ hop_at (line_of stops.now list.now) k }
-    ensures sound { IsSoundHop result }
-{
-    let whole = Spliced::whole(list);
-    hop_from(stops, &whole, k)
+    let _few = of.list.len();
+    let origin = node_at(of, k);
+    let target = node_at(of, k + 1);
+    hop(of.closed.model, of.d, of.v, origin, target)
 }

@@ -4,6 +4,7 @@ ghost use Rattle.std.specs.Prelude.{◌≡◌, ◌≢◌, ◌+◌, ◌<◌, ◌�
 ghost use Rattle.vr_model.specs.tables.Numbers.{number_at};
 ghost use Rattle.vr_reach.specs.VisitSets.{capacity_of, AreSets, AreTables, AreVisitSets, IsSetOfNode, IsTableOf};
 
+use crate::driven::VehicleIn;
 use std::alloc::Global;
 use vr_model::{Closed, Model, NoMemory, Seq};
 use vr_spans::Spans;
@@ -31,19 +32,22 @@ impl VisitSets {
             table_of: Seq::new(alloc),
         };
         for v in 0..closed.model.vehicles.len() {
-            sets.add(alloc, closed, d, v as u32)?;
+            let vehicle = VehicleIn {
+                closed,
+                d,
+                v: v as u32,
+            };
+            sets.add(alloc, vehicle)?;
         }
         Ok(sets)
     }
 
     // Adds the next vehicle, which shares the table of another of the same capacity.
-    fn add(&mut self, alloc: Global, closed: Closed<'_>, d: u32, v: u32) -> Result<(), NoMemory>
-        requires dimension { d < length closed.model.now.dimensions }
-        requires vehicle { v < length closed.model.now.vehicles }
-        requires before { AreSets closed.model.now d v self.old }
-        ensures { OnOk result (AreSets closed.entry.model.now d (v + 1) self.new) }
+    fn add(&mut self, alloc: Global, vehicle: VehicleIn<'_>) -> Result<(), NoMemory>
+        requires { AreSets vehicle.closed.model.now vehicle.d vehicle.v self.old }
+        ensures { OnOk result (AreSets vehicle.entry.closed.model.now vehicle.entry.d (vehicle.entry.v + 1) self.new) }
     {
-        let k = table_for(alloc, closed, d, v, &mut self.capacities, &mut self.tables)?;
+        let k = table_for(alloc, vehicle, &mut self.capacities, &mut self.tables)?;
         self.table_of.push(k)?;
         Ok(())
     }
@@ -60,34 +64,28 @@ impl VisitSets {
     }
 }
 
-// The number of the table of vehicle `v`, which is added where no table has its capacity.
+// The number of the table of a vehicle, which is added where no table has its capacity.
 fn table_for(
     alloc: Global,
-    closed: Closed<'_>,
-    d: u32,
-    v: u32,
+    vehicle: VehicleIn<'_>,
     capacities: &mut Seq<i64>,
     tables: &mut Seq<Seq<Spans>>,
 ) -> Result<usize, NoMemory>
-    requires dimension { d < length closed.model.now.dimensions }
-    requires vehicle { v < length closed.model.now.vehicles }
-    requires before { AreTables closed.model.now d capacities.old tables.old }
-    ensures tables { OnOk result (AreTables closed.entry.model.now d capacities.new tables.new) }
-    ensures table { IfOk result (IsTableOf closed.entry.model.now d v capacities.new) }
-    ensures kept { OnOk result ((w : ℕ) (k : ℕ) → IsTableOf closed.entry.model.now d w capacities.old k
-        → IsTableOf closed.entry.model.now d w capacities.new k) }
+    requires { AreTables vehicle.closed.model.now vehicle.d capacities.old tables.old }
+    ensures tables { OnOk result (AreTables vehicle.entry.closed.model.now vehicle.entry.d capacities.new tables.new) }
+    ensures table { IfOk result (IsTableOf vehicle.entry.closed.model.now vehicle.entry.d vehicle.entry.v
+        capacities.new) }
+    ensures kept { OnOk result ((w : ℕ) (k : ℕ)
+        → IsTableOf vehicle.entry.closed.model.now vehicle.entry.d w capacities.old k
+        → IsTableOf vehicle.entry.closed.model.now vehicle.entry.d w capacities.new k) }
 {
-    let capacity = *closed
-        .model
-        .dimensions
-        .get(d as usize)
-        .capacities
-        .get(v as usize);
+    let dimension = vehicle.closed.model.dimensions.get(vehicle.d as usize);
+    let capacity = *dimension.capacities.get(vehicle.v as usize);
     let k = place_of(capacities.as_slice(), capacity);
     if k < capacities.len() {
         return Ok(k);
     }
-    tables.push(visit_sets(alloc, closed, d, v)?)?;
+    tables.push(visit_sets(alloc, vehicle)?)?;
     capacities.push(capacity)?;
     Ok(k)
 }
@@ -106,34 +104,27 @@ fn place_of(capacities: &[i64], capacity: i64) -> usize
     capacities.len()
 }
 
-// The cumuls that each visit allows vehicle `v`, and no cumuls for each node that is none.
-fn visit_sets(alloc: Global, closed: Closed<'_>, d: u32, v: u32) -> Result<Seq<Spans>, NoMemory>
-    requires dimension { d < length closed.model.now.dimensions }
-    requires vehicle { v < length closed.model.now.vehicles }
-    ensures { IfOk result (AreVisitSets closed.entry.model.now d v) }
+// The cumuls that each visit allows a vehicle, and no cumuls for each node that is none.
+fn visit_sets(alloc: Global, vehicle: VehicleIn<'_>) -> Result<Seq<Spans>, NoMemory>
+    ensures { IfOk result (AreVisitSets vehicle.entry.closed.model.now vehicle.entry.d vehicle.entry.v) }
 {
-    let mut sets = Seq::with_capacity(alloc, closed.model.nodes as usize)?;
-    for node in 0..closed.model.nodes {
-        sets.push(visit_set(alloc, closed, d, v, node)?)?;
+    let nodes = vehicle.closed.model.nodes;
+    let mut sets = Seq::with_capacity(alloc, nodes as usize)?;
+    for node in 0..nodes {
+        sets.push(visit_set(alloc, vehicle, node)?)?;
     }
     Ok(sets)
 }
 
-// The cumuls that a visit allows vehicle `v`, none where the node is no visit.
-fn visit_set(
-    alloc: Global,
-    closed: Closed<'_>,
-    d: u32,
-    v: u32,
-    node: u32,
-) -> Result<Spans, NoMemory>
-    requires dimension { d < length closed.model.now.dimensions }
-    requires vehicle { v < length closed.model.now.vehicles }
-    ensures { IfOk result (IsSetOfNode closed.entry.model.now d (capacity_of closed.entry.model.now d v) node) }
+// The cumuls that a visit allows a vehicle, none where the node is no visit.
+fn visit_set(alloc: Global, vehicle: VehicleIn<'_>, node: u32) -> Result<Spans, NoMemory>
+    ensures { IfOk result (IsSetOfNode vehicle.entry.closed.model.now vehicle.entry.d
+        (capacity_of vehicle.entry.closed.model.now vehicle.entry.d vehicle.entry.v) node) }
 {
-    if !closed.model.is_visit(node) {
+    let model = vehicle.closed.model;
+    if !model.is_visit(node) {
         return Ok(Spans::new(alloc));
     }
-    let set = allowed_at(alloc, closed.model, d, v, StopName::Visit(node))?;
+    let set = allowed_at(alloc, model, vehicle.d, vehicle.v, StopName::Visit(node))?;
     Ok(set)
 }

@@ -6,47 +6,43 @@ ghost use Rattle.vr_model.specs.schedules.Weights.{walk_weight, list_weight};
 ghost use Rattle.vr_reach.specs.Rows.{row_at};
 ghost use Rattle.vr_reach.specs.Lists.{is_feasible_list, IsTour, IsUsed};
 ghost use Rattle.vr_reach.specs.KnownRows.{IsKnownList};
-ghost use Rattle.vr_reach.specs.Legs.{line_of_leg, IsLeg};
+ghost use Rattle.vr_reach.specs.Legs.{line_of_leg};
 ghost use Rattle.vr_reach.specs.Spliced.{AreSeams};
 ghost use Rattle.vr_reach.specs.Splices.{spliced_by};
 ghost use Rattle.vr_reach.specs.GivenUp.{IsGivenUp};
 ghost use Rattle.vr_reach.specs.Tries.{list_tries, tries_between};
 ghost use Rattle.vr_reach.specs.VehicleStops.{line_for, AreStopsFor};
-ghost use Rattle.vr_reach.specs.VisitRuns.{AreVisitRuns};
 
+use crate::driven::Driven;
 use crate::ends::Ends;
 use crate::known::KnownList;
 use crate::legs::Leg;
 use crate::probing::told_without_breaks;
 use crate::rows::Rows;
-use crate::single::{RunWalk, finish_of, runs_between, slack_of, walk_by_runs};
+use crate::run_walks::{RunLine, RunWalk};
+use crate::single::{finish_of, runs_between, slack_of, walk_by_runs};
 use crate::spliced::{Splice, Spliced};
-use crate::stops::{StopsFor, VehicleStops, hop_from, set_at};
+use crate::stops::{ListStops, StopsFor, hop_from, set_at};
 use crate::stretches::Stretch;
 use crate::walks::Walk;
 use std::marker::Brand;
 use std::sync::ledger::{Blank, Ledger};
-use vr_model::{NoMemory, Steps, laws};
-use vr_spans::Run;
+use vr_model::{NoMemory, Steps};
 use vr_steps::Levels;
 
 // Whether the line of a list is feasible, found by a walk along a leg of it. The walk carries one run where that is all
 // there is; else, where no visit allows more, walks without a break are asked first, whose arcs are counted as tries.
 fn walk_through<L: Ledger, M: Ledger>(
     leg: &Leg,
-    runs: Option<&[Run]>,
     walk: &mut Walk,
     steps: &mut Steps<L>,
     tries: &mut Steps<M>,
 ) -> Result<bool, NoMemory>
-    requires leg { IsLeg leg.now }
-    requires runs { IfSome runs (λ found. AreVisitRuns leg.now.stops.closed.model.now leg.now.stops.d leg.now.stops.v
-        found.now) }
     ensures exact { IfOk result (λ passed. passed ≡ is_feasible (line_of_leg leg.now)) }
     ensures count { steps.new ≤ steps.old + walk_weight (line_of_leg leg.now) leg.now.begin leg.now.last }
     ensures tries { tries.new ≤ tries.old + tries_between (line_of_leg leg.now) leg.now.begin leg.now.last }
 {
-    let told = told_by_runs(leg, runs, steps, tries);
+    let told = told_by_runs(leg, steps, tries);
     if let Some(passed) = told {
         return Ok(passed);
     }
@@ -57,38 +53,34 @@ fn walk_through<L: Ledger, M: Ledger>(
 // The same, where walks that carry one run tell.
 fn told_by_runs<L: Ledger, M: Ledger>(
     leg: &Leg,
-    runs: Option<&[Run]>,
     steps: &mut Steps<L>,
     tries: &mut Steps<M>,
 ) -> Option<bool>
-    requires leg { IsLeg leg.now }
-    requires runs { IfSome runs (λ found. AreVisitRuns leg.now.stops.closed.model.now leg.now.stops.d leg.now.stops.v
-        found.now) }
     ensures told { IfSome result (λ passed. passed ≡ is_feasible (line_of_leg leg.now)) }
     ensures untold { result ≡ None → steps.new ≡ steps.old }
-    ensures given_up { result ≡ None → IsSome runs.entry → IsGivenUp leg.now }
-    ensures known { IsSome result → IsSome runs.entry × (IsGivenUp leg.now → ⊥) }
+    ensures given_up { result ≡ None → IsSome leg.now.runs → IsGivenUp leg.now }
+    ensures known { IsSome result → IsSome leg.now.runs × (IsGivenUp leg.now → ⊥) }
     ensures count { steps.new ≤ steps.old + walk_weight (line_of_leg leg.now) leg.now.begin leg.now.last }
     ensures tries { tries.new ≤ tries.old + tries_between (line_of_leg leg.now) leg.now.begin leg.now.last }
 {
-    let visits = runs?;
-    let stops = &leg.stops;
-    let finish = finish_of(stops.closed.model, stops.d, stops.v, stops.ends)?;
-    let evaluator = stops
-        .closed
-        .model
-        .dimensions
-        .get(stops.d as usize)
-        .evaluator_of(stops.v);
-    let slack = slack_of(stops.closed, stops.d);
-    let walk = RunWalk {
-        leg: *leg,
-        evaluator,
-        slack,
+    let visits = leg.runs?;
+    let (closed, d, v) = (leg.stops.of.closed, leg.stops.of.d, leg.stops.of.v);
+    let finish = finish_of(closed.model, d, v, leg.stops.ends)?;
+    let line = RunLine {
+        of: leg.stops.of,
+        evaluator: closed.model.dimensions.get(d as usize).evaluator_of(v),
+        slack: slack_of(closed, d),
         visits,
         finish,
     };
-    if let Some(between) = runs_between(stops.ends, leg) {
+    let walk = RunWalk {
+        line,
+        begin: leg.begin,
+        last: leg.last,
+        from: leg.from,
+        to: leg.to,
+    };
+    if let Some(between) = runs_between(leg.stops.ends, &walk) {
         let passed = walk_by_runs(&walk, between, steps);
         return Some(passed);
     }
@@ -102,23 +94,18 @@ fn walk_by_sets<L: Ledger>(
     walk: &mut Walk,
     steps: &mut Steps<L>,
 ) -> Result<bool, NoMemory>
-    requires leg { IsLeg leg.now }
     ensures exact { IfOk result (λ passed. passed ≡ is_feasible (line_of_leg leg.now)) }
     ensures count { steps.new ≤ steps.old + walk_weight (line_of_leg leg.now) leg.now.begin leg.now.last }
 {
-    laws::lines_are_sound();
-    laws::chosen_where_feasible();
-    laws::reached_as_tested();
-    laws::end_reached_as_tested();
-    vr_steps::laws::runs_are_counted();
-    vr_steps::laws::reached_behind_arc();
     let breaks = &leg.stops.ends.breaks;
-    let hop = hop_from(&leg.stops, leg.list, leg.begin);
-    let next = set_at(&leg.stops, leg.list, leg.begin + 1);
+    // that the list is in memory says that the sums fit
+    let _few = leg.stops.of.list.len();
+    let hop = hop_from(&leg.stops.of, leg.begin);
+    let next = set_at(&leg.stops, leg.begin + 1);
     walk.leave(leg.from, hop, next, breaks, steps)?;
     for k in leg.begin + 1..leg.last {
-        let hop = hop_from(&leg.stops, leg.list, k);
-        let next = set_at(&leg.stops, leg.list, k + 1);
+        let hop = hop_from(&leg.stops.of, k);
+        let next = set_at(&leg.stops, k + 1);
         walk.step(hop, next, breaks, steps)?;
     }
     let passed = walk.meets(leg.to, steps);
@@ -165,10 +152,9 @@ pub fn passes_along<L: Ledger, M: Ledger>(
     if n == 0 {
         return Ok(true);
     }
-    let told = Stretch {
-        front: splice.front,
-        back: old.len() - splice.behind,
-    };
+    let back = old.len() - splice.behind;
+    let front = splice.front;
+    let told = Stretch { front, back };
     let stretch = Stretch::of(old, &new, told);
     if stretch.front == old.len() && stretch.front == n {
         return Ok(true);
@@ -183,21 +169,22 @@ pub fn passes_along<L: Ledger, M: Ledger>(
         .runs_of(stops.closed.model, stops.d, stops.v);
     let from = levels_before(ends, known.rows, stretch.front);
     let to = levels_behind(ends, known.rows, old.len(), stretch.back);
-    let leg = Leg {
-        stops: VehicleStops {
-            closed: stops.closed,
-            d: stops.d,
-            v: stops.v,
-            ends,
-            visits,
-        },
+    let of = Driven {
+        closed: stops.closed,
+        d: stops.d,
+        v: stops.v,
         list: &new,
+    };
+    let asked = ListStops { of, ends, visits };
+    let leg = Leg {
+        stops: asked,
+        runs,
         begin: stretch.front,
         last: n - stretch.back + 1,
         from,
         to,
     };
-    let passed = walk_through(&leg, runs, walk, steps, tries)?;
+    let passed = walk_through(&leg, walk, steps, tries)?;
     Ok(passed)
 }
 
@@ -219,62 +206,43 @@ pub fn goes_through(stops: &StopsFor, list: &[u32], walk: &mut Walk) -> Result<b
         .of_dimension
         .runs_of(stops.closed.model, stops.d, stops.v);
     let whole = Spliced::whole(list);
-    let leg = Leg {
-        stops: VehicleStops {
-            closed: stops.closed,
-            d: stops.d,
-            v: stops.v,
-            ends,
-            visits,
-        },
+    let of = Driven {
+        closed: stops.closed,
+        d: stops.d,
+        v: stops.v,
         list: &whole,
+    };
+    let asked = ListStops { of, ends, visits };
+    let leg = Leg {
+        stops: asked,
+        runs,
         begin: 0,
         last: list.len() + 1,
         from: &ends.start_levels,
         to: &ends.end_levels,
     };
-    let goes = walk_uncounted::<Brand>(&leg, runs, walk, Blank::new(1))?;
+    let goes = walk_uncounted::<Brand, Brand>(&leg, walk, Blank::new(1), Blank::new(1))?;
     Ok(goes)
 }
 
 // The same as `walk_through`, where nobody counts steps or tries.
-pub(crate) fn walk_uncounted<L: Ledger>(
+pub(crate) fn walk_uncounted<L: Ledger, M: Ledger>(
     leg: &Leg,
-    runs: Option<&[Run]>,
     walk: &mut Walk,
     blank: Blank,
+    other: Blank,
 ) -> Result<bool, NoMemory>
     requires name { blank.name ≡ L.name }
     requires parts { blank.parts ≡ L.parts }
     requires some { 0 < blank.parts }
-    requires leg { IsLeg leg.now }
-    requires runs { IfSome runs (λ found. AreVisitRuns leg.now.stops.closed.model.now leg.now.stops.d leg.now.stops.v
-        found.now) }
+    requires other_name { other.name ≡ M.name }
+    requires other_parts { other.parts ≡ M.parts }
+    requires other_some { 0 < other.parts }
     ensures { IfOk result (λ goes. goes ≡ is_feasible (line_of_leg leg.now)) }
 {
     let mut steps = Steps::<L>::new(blank);
-    let goes = walk_untried::<L, Brand>(leg, runs, walk, &mut steps, Blank::new(1))?;
-    Ok(goes)
-}
-
-// The same as `walk_through`, where nobody counts tries.
-fn walk_untried<L: Ledger, M: Ledger>(
-    leg: &Leg,
-    runs: Option<&[Run]>,
-    walk: &mut Walk,
-    steps: &mut Steps<L>,
-    blank: Blank,
-) -> Result<bool, NoMemory>
-    requires name { blank.name ≡ M.name }
-    requires parts { blank.parts ≡ M.parts }
-    requires some { 0 < blank.parts }
-    requires leg { IsLeg leg.now }
-    requires runs { IfSome runs (λ found. AreVisitRuns leg.now.stops.closed.model.now leg.now.stops.d leg.now.stops.v
-        found.now) }
-    ensures { IfOk result (λ goes. goes ≡ is_feasible (line_of_leg leg.now)) }
-{
-    let mut tries = Steps::<M>::new(blank);
-    let goes = walk_through(leg, runs, walk, steps, &mut tries)?;
+    let mut tries = Steps::<M>::new(other);
+    let goes = walk_through(leg, walk, &mut steps, &mut tries)?;
     Ok(goes)
 }
 

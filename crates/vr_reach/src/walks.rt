@@ -12,10 +12,11 @@ ghost use Rattle.vr_reach.specs.Walks.{EndsAt, Meets, runs_in};
 
 use crate::Rows;
 use crate::shared::share;
+use crate::uncounted::Crossing;
 use std::alloc::Global;
-use std::marker::{Brand, Model};
+use std::marker::Model;
 use std::mem;
-use std::sync::ledger::{Blank, Ledger};
+use std::sync::ledger::Ledger;
 use vr_model::{NoMemory, Steps};
 use vr_spans::Spans;
 use vr_steps::{Breaks, Hop, Levels, Line, can_end, cross_into, start_levels, start_levels_into};
@@ -83,8 +84,7 @@ impl Walk {
         ensures { IfOk result (λ goes. (defined : Defined) → IsLineOf defined line.now →
             IsTrue goes ↔ IsFeasible defined) }
     {
-        vr_steps::laws::lines_stand_for_theirs();
-        walk_along::<Brand>(line, &mut self.here, &mut self.next, Blank::new(1))?;
+        walk_along(line, &mut self.here, &mut self.next)?;
         Ok(self.ends(&line.breaks))
     }
 
@@ -96,7 +96,6 @@ impl Walk {
         requires here { AreLevels breaks.now self.now }
         ensures { (line : Defined) → EndsAt line breaks.now self.now → IsTrue result ↔ IsFeasible line }
     {
-        vr_steps::laws::feasible_at_end();
         can_end(&self.here, breaks)
     }
 
@@ -119,6 +118,17 @@ impl Walk {
         ensures kept { OnErr result (self.new ≡ self.old) }
     {
         cross_into(from, hop, next, breaks, steps, &mut self.next)?;
+        mem::swap(&mut self.here, &mut self.next);
+        Ok(())
+    }
+
+    // Stands behind an arc that leads from a stop with these levels, where nobody counts steps.
+    pub(crate) fn cross(&mut self, crossing: &Crossing) -> Result<(), NoMemory>
+        ensures exact { OnOk result (AreCrossed crossing.now.levels.now crossing.now.hop crossing.now.allowed.now
+            crossing.now.breaks.now self.new) }
+        ensures levels { OnOk result (AreLevels crossing.now.breaks.now self.new) }
+    {
+        crossing.on(&mut self.next)?;
         mem::swap(&mut self.here, &mut self.next);
         Ok(())
     }
@@ -172,7 +182,6 @@ impl Walk {
         ensures normal { All IsNormal self.now }
         ensures normal_behind { All IsNormal behind.now }
     {
-        vr_steps::laws::feasible_where_shared();
         count_runs(&self.here, steps);
         count_runs(behind, steps);
         share(&self.here, behind)
@@ -180,33 +189,19 @@ impl Walk {
 }
 
 // Writes what is reached at the last stop of a line over `here`.
-fn walk_along<L: Ledger>(
-    line: &Line,
-    here: &mut Levels,
-    next: &mut Levels,
-    blank: Blank,
-) -> Result<(), NoMemory>
-    requires name { blank.name ≡ L.name }
-    requires parts { blank.parts ≡ L.parts }
-    requires some { 0 < blank.parts }
-    requires sound { IsSoundLine line.now }
+fn walk_along(line: &Line, here: &mut Levels, next: &mut Levels) -> Result<(), NoMemory>
+    requires { IsSoundLine line.now }
     ensures { OnOk result (IsForwardRow line.now (length line.now.hops) here.new) }
 {
-    vr_steps::laws::lines_stand_for_theirs();
-    vr_steps::laws::start_is_reached();
-    vr_steps::laws::reached_behind_arc();
-    let mut steps = Steps::<L>::new(blank);
     start_levels_into(line.allowed.get(0), &line.breaks, here)?;
     for k in 0..line.hops.len() {
-        let hop = *line.hops.get(k);
-        cross_into(
-            here,
-            hop,
-            line.allowed.get(k + 1),
-            &line.breaks,
-            &mut steps,
-            next,
-        )?;
+        let crossing = Crossing {
+            levels: here,
+            hop: *line.hops.get(k),
+            allowed: line.allowed.get(k + 1),
+            breaks: &line.breaks,
+        };
+        crossing.on(next)?;
         mem::swap(here, next);
     }
     Ok(())

@@ -24,10 +24,6 @@ pub(crate) fn pieces_at_end(alloc: Global, line: &Line) -> Result<Seq<Piece>, No
     ensures pieces { IfOk result ArePieces }
     ensures told { IfOk result (TellStartsAt line.now (length line.now.hops)) }
 {
-    vr_steps::laws::lines_stand_for_theirs();
-    vr_steps::laws::arc_alone();
-    vr_model::laws::reached_at_start();
-    vr_model::laws::reached_by_crossing();
     let mut here = Seq::new(alloc);
     let mut next = Seq::new(alloc);
     begin(line.allowed.get(0), &mut here)?;

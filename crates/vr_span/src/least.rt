@@ -36,9 +36,6 @@ pub fn span(alloc: Global, line: &Line) -> Result<Option<Least>, NoMemory>
     ensures first { IfOk result (λ found. IfSome found (IsFirstPlan line.now)) }
     ensures none { IfOk result (λ found. IsNone found → IsUnfeasible line.now) }
 {
-    vr_steps::laws::lines_stand_for_theirs();
-    vr_model::laws::chosen_is_least();
-    vr_model::laws::chosen_where_feasible();
     let Some(way) = shortest_way(alloc, line)? else {
         return Ok(None);
     };
@@ -61,9 +58,6 @@ fn shortest_way(alloc: Global, line: &Line) -> Result<Option<Piece>, NoMemory>
     ensures cumul { IfOk result (λ found. IfSome found (λ way. IsIn (pos 0) horizon way.lo)) }
     ensures start { IfOk result (λ found. IfSome found (λ way. IsIn (pos 0) horizon way.first)) }
 {
-    vr_steps::laws::lines_stand_for_theirs();
-    vr_model::laws::cumul_where_levels_meet();
-    vr_model::laws::reached_at_end();
     let pieces = pieces_at_end(alloc, line)?;
     let way = shortest(pieces.as_slice());
     Ok(way)
@@ -82,7 +76,6 @@ fn schedule_between(
     requires end { IsIn (pos 0) horizon end }
     ensures { IfOk result (IsChosenBetween line.now start end) }
 {
-    vr_steps::laws::lines_stand_for_theirs();
     let mut narrow = same_line(alloc, line)?;
     pin(alloc, &mut narrow, line.hops.len(), end)?;
     pin(alloc, &mut narrow, 0, start)?;

@@ -6,24 +6,25 @@ use Rattle.vr_reach.proofs.along.write_behind.Goals as goal
 
 pub write_back-requires-clause-known : goal.write_back-requires-clause-known
 write_back-requires-clause-known c =
-    let stops = c.args.stops.now in
-    let list = c.args.list.now in
+    let of = c.args.stops.now.of in
+    let list = of.list.now in
     let is : c.split_at_mut-rows.result.0.now ≡ take (suc (suc (length list))) (drop c.args.first c.args.kept.now) =
-    (let two : length list + 2 ≡ suc (suc (length list)) = omega arith in c.split_at_mut-rows.ensures.front ∙ ap₂ take two c.split_at_mut-behind.ensures.back) in
-    subst (AreLastRows stops.closed.model.now stops.d stops.v list c.args.known) (sym is) c.requires.known
+    (let two : c.len-n.result + 2 ≡ suc (suc (length list)) = omega (arith, c.len-n.ensures.value) in c.split_at_mut-rows.ensures.front ∙ ap₂ take two c.split_at_mut-behind.ensures.back) in
+    subst (AreLastRows of.closed.model.now of.d of.v list c.args.known) (sym is) c.requires.known
 
 pub write_back-requires-clause-long : goal.write_back-requires-clause-long
 write_back-requires-clause-long c =
-    let list = c.args.list.now in
+    let of = c.args.stops.now.of in
+    let list = of.list.now in
     let is : c.split_at_mut-rows.result.0.now ≡ take (suc (suc (length list))) (drop c.args.first c.args.kept.now) =
-    (let two : length list + 2 ≡ suc (suc (length list)) = omega arith in c.split_at_mut-rows.ensures.front ∙ ap₂ take two c.split_at_mut-behind.ensures.back) in
+    (let two : c.len-n.result + 2 ≡ suc (suc (length list)) = omega (arith, c.len-n.ensures.value) in c.split_at_mut-rows.ensures.front ∙ ap₂ take two c.split_at_mut-behind.ensures.back) in
     ap length is ∙ window_long c.args.kept.now c.args.first (suc (suc (length list))) c.requires.there
 
 pub returns : goal.returns
 returns c =
-    let stops = c.args.stops.now in
-    let list = c.args.list.now in
+    let of = c.args.stops.now.of in
+    let list = of.list.now in
     let there = c.requires.there in
     let before = ap length c.split_at_mut-behind.ensures.front ∙ length-take-le c.args.first c.args.kept.now (omega (arith, there)) in
     let rows = c.in_ok-write_back.ensures in
-    record { rows = subst (AreReachingRows stops.closed.model.now stops.d stops.v list) (sym (window_of c.split_at_mut-behind.result.0.now c.write_back.new.rows c.split_at_mut-rows.result.1.now c.args.first (suc (suc (length list))) before rows.row_of_each_stop)) rows }
+    record { rows = subst (AreReachingRows of.closed.model.now of.d of.v list) (sym (window_of c.split_at_mut-behind.result.0.now c.write_back.new.rows c.split_at_mut-rows.result.1.now c.args.first (suc (suc (length list))) before rows.row_of_each_stop)) rows }

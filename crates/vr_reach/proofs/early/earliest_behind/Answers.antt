@@ -5,11 +5,8 @@ use Rattle.std.proofs.lemmas.Int.{ints, clamps}
 use Rattle.vr_model.specs.tables.Numbers.{horizon}
 use Rattle.vr_model.specs.tables.WellFormed.{IsIn}
 use Rattle.vr_reach.proofs.FoundLemmas.{is_behind, too_great, too_late}
+use Rattle.vr_reach.proofs.SingleLemmas.{as_is}
 use Rattle.vr_reach.proofs.early.earliest_behind.Goals as goal
-
--- a number far from the ends of 64 bits is read as it is
-as_is : (x : ℤ) → neg_ℤ (pos (2 ^ 40)) ≤ℤ x → x ≤ℤ pos (2 ^ 40) → to_z w64 (of_z w64 x) ≡ x
-as_is x low high = omega (arith, ints, low, high)
 
 -- the cumul and the sum that leads to it, as they are read
 module _ (cumul t lo : ℤ) (range : IsIn (pos 0) horizon cumul) (least : neg_ℤ (pos (2 ^ 31)) ≤ℤ t) (greatest : t ≤ℤ pos (2 ^ 31)) (ends : IsIn (pos 0) horizon lo) where

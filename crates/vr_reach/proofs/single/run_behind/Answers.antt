@@ -1,11 +1,8 @@
 use Rattle.std.proofs.Common.{◌≡◌, ◌∙◌, ◌+ℤ◌, ◌≤ℤ◌, to_z, of_z, w64, ℤ, pos, neg_ℤ, ◌^◌, ap₂, arith}
 use Rattle.std.specs.Int.{int_min}
 use Rattle.std.proofs.lemmas.Int.{ints, clamps}
+use Rattle.vr_reach.proofs.SingleLemmas.{as_is}
 use Rattle.vr_reach.proofs.single.run_behind.Goals as goal
-
--- a number far from the ends of 64 bits is read as it is
-as_is : (x : ℤ) → neg_ℤ (pos (2 ^ 40)) ≤ℤ x → x ≤ℤ pos (2 ^ 40) → to_z w64 (of_z w64 x) ≡ x
-as_is x low high = omega (arith, ints, low, high)
 
 pub overflow_add-run-2 : goal.overflow_add-run-2
 overflow_add-run-2 c =

@@ -1,11 +1,19 @@
 use Rattle.std.proofs.Common.{subst}
 use Rattle.vr_steps.specs.Levels.{AreLevels}
-use Rattle.vr_reach.proofs.LineParts.{reached_next}
+use Rattle.vr_reach.proofs.AlongLemmas.{crossing_by}
+use Rattle.vr_reach.proofs.DrivenLemmas.{next_on}
 use Rattle.vr_reach.proofs.standing.cross_arc.Goals as goal
 
+pub invariant_of-crossing : goal.invariant_of-crossing
+invariant_of-crossing c =
+    let of = c.args.stops.now.of in
+    record {
+      sound = crossing_by of.closed.model.now of.d of.v c.args.stops.now.ends.now c.args.stops.now.ends_are.breaks_are c.args.from.now c.requires.from.form c.hop_from-hop.result c.hop_from-hop.ensures.sound c.set_at-next.result.now c.set_at-next.ensures.cumuls;
+    }
+
 pub returns : goal.returns
-returns g c = record {
-  form = subst (λ breaks. AreLevels breaks c.leave.new.self) c.requires.stops.ends.breaks_are.same c.in_ok-leave.ensures.levels;
-  reached = reached_next c.lines_are_sound.ensures c.args.stops.now.closed.model.now c.args.stops.now.closed.well_formed c.args.stops.now.d c.args.stops.now.v c.requires.stops.dimension c.requires.stops.vehicle c.args.list.now c.requires.used c.reached_behind_arc.ensures c.args.stops.now.ends.now.breaks c.requires.stops.ends.breaks_are.same
-      c.args.k c.requires.stop c.hop_of-hop.result c.hop_of-hop.ensures.exact c.set_of-next.result.now c.set_of-next.ensures c.args.from.now c.leave.new.self c.requires.from.reached c.in_ok-leave.ensures.exact;
-}
+returns c =
+    let same = c.args.stops.now.ends_are.breaks_are.same in record {
+      form = subst (λ breaks. AreLevels breaks c.cross.new.self) same c.in_ok-cross.ensures.levels;
+      reached = next_on c.args.stops.now.of c.args.stops.now.ends.now.breaks same c.args.k c.requires.stop c.hop_from-hop.result c.hop_from-hop.ensures.exact c.set_at-next.result.now c.set_at-next.ensures c.args.from.now c.cross.new.self c.requires.from.reached c.in_ok-cross.ensures.exact;
+    }

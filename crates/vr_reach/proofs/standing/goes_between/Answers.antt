@@ -1,10 +1,10 @@
 use Rattle.std.proofs.Common.{◌+◌, ◌-◌, ◌∙◌, length, ap, sym, subst, arith}
 use Rattle.vr_model.specs.schedules.Choices.{is_feasible}
 use Rattle.vr_model.specs.schedules.Lines.{line}
-use Rattle.vr_steps.specs.Levels.{AreLevels}
-use Rattle.vr_steps.specs.Reached.{AreReachingEnd}
 use Rattle.vr_reach.specs.Lists.{IsUsed}
 use Rattle.vr_reach.specs.Stretches.{SharesFront, SharesBack}
+use Rattle.vr_reach.specs.Tested.{IsReachingBy}
+use Rattle.vr_reach.proofs.DrivenLemmas.{reached_by, reaching_by}
 use Rattle.vr_reach.proofs.Transfer.{as_many_rows, left_at, met_at, not_empty}
 use Rattle.vr_reach.proofs.Tables.{ends_here}
 use Rattle.vr_reach.proofs.standing.goes_between.Goals as goal
@@ -23,8 +23,21 @@ levels_behind-to-requires-clause-row c = λ some.
     let n = (as_many_rows c.args.stops.now.closed.model.now c.args.stops.now.d c.args.stops.now.v c.args.known.now.list.now c.args.known.now.rows.now (c.requires.known (not_empty c.args.known.now.list.now (omega (arith, some, within))))).1 in
     omega (arith, n, within, some)
 
-pub walk_uncounted-requires-clause-leg : goal.walk_uncounted-requires-clause-leg
-walk_uncounted-requires-clause-leg c =
+pub invariant_of-of : goal.invariant_of-of
+invariant_of-of c = record {
+  dimension = c.requires.stops.dimension;
+  vehicle = c.requires.stops.vehicle;
+  used = subst (IsUsed c.args.stops.now.closed.model.now) (sym c.whole-whole.ensures) c.requires.used;
+}
+
+pub invariant_of-asked : goal.invariant_of-asked
+invariant_of-asked c = record {
+  ends_are = (ends_here c.args.stops.now.closed.model.now c.args.stops.now.d c.args.stops.now.v c.args.stops.now.of_dimension.now c.requires.stops.are c.requires.stops.vehicle c.index-ends.result.now c.index-ends.ensures).sets;
+  sets_are = c.of-visits.ensures;
+}
+
+pub invariant_of-leg : goal.invariant_of-leg
+invariant_of-leg c =
     let m = c.args.stops.now.closed.model.now in
     let d = c.args.stops.now.d in
     let v = c.args.stops.now.v in
@@ -40,22 +53,13 @@ walk_uncounted-requires-clause-leg c =
     let front = subst (λ l. SharesFront old l c.args.shared.front) (sym same) c.requires.shared.front in
     let back = subst (λ l. SharesBack old l c.args.shared.back) (sym same) c.requires.shared.back in
     let ends = ends_here m d v c.args.stops.now.of_dimension.now c.requires.stops.are c.requires.stops.vehicle here c.index-ends.ensures in
-    let begun = left_at m d v old new here ends c.args.known.now.rows.now c.requires.known used c.args.shared.front front from c.levels_before-from.ensures.start c.levels_before-from.ensures.row in
-    let met = met_at m d v old new here ends c.args.known.now.rows.now c.requires.known used c.args.shared.back back to c.levels_behind-to.ensures.end c.levels_behind-to.ensures.row in
     record {
-      stops = record {
-        dimension = c.requires.stops.dimension;
-        vehicle = c.requires.stops.vehicle;
-        ends = ends;
-        visits = c.of-visits.ensures;
-      };
-      used = used;
+      runs_are = c.runs_of-runs.ensures.runs;
       order = omega (arith, apart);
       within = omega (arith, many);
-      from_form = subst (λ breaks. AreLevels breaks from) ends.breaks_are.same begun.0;
-      from = begun.1;
-      to_form = subst (λ breaks. AreLevels breaks to) ends.breaks_are.same met.0;
-      to = subst (λ n. AreReachingEnd (line m d v new) (n - c.args.shared.back + 1) to) many met.1;
+      begun = reached_by m d v new c.args.shared.front from (left_at m d v old new here ends c.args.known.now.rows.now c.requires.known used c.args.shared.front front from c.levels_before-from.ensures.start c.levels_before-from.ensures.row);
+      met = subst (λ n. IsReachingBy (line m d v new) (n - c.args.shared.back + 1) to) many
+          (reaching_by m d v new (length new - c.args.shared.back + 1) to (met_at m d v old new here ends c.args.known.now.rows.now c.requires.known used c.args.shared.back back to c.levels_behind-to.ensures.end c.levels_behind-to.ensures.row));
     }
 
 pub returns : goal.returns

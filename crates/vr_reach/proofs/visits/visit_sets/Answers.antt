@@ -6,13 +6,13 @@ use Rattle.vr_reach.proofs.visits.visit_sets.Goals as goal
 
 pub loop-node-preserved : goal.loop-node-preserved
 loop-node-preserved c =
-    let m = c.args.closed.model.now in
-    let d = c.args.d in
+    let m = c.args.vehicle.closed.model.now in
+    let d = c.args.vehicle.d in
     let before = c.loop-node.sets in
     let new = c.in_ok-visit_set.field-0 in
     let n = length-append before (new ∷ []) in
     let long = c.loop-node.invariant.long in
-    let P = IsSetOfNode m d (capacity_of m d c.args.v) in
+    let P = IsSetOfNode m d (capacity_of m d c.args.vehicle.v) in
     record {
       long = ap length c.in_ok-push.ensures.ok ∙ omega (arith, n, long);
       each = λ k low. subst (λ sets. P k (get_or sets k [])) (sym c.in_ok-push.ensures.ok) (elim (cases_lt k c.loop-node.node) [

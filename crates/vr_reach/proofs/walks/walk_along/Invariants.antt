@@ -3,4 +3,4 @@ use Rattle.vr_reach.proofs.walks.walk_along.Given as goal
 
 -- the levels are what stop k is reached at
 abbrev pub invariant-loop-k : goal.invariant-loop-k
-invariant-loop-k g l = IsForwardRow l.line l.k l.here
+invariant-loop-k l = IsForwardRow l.line l.k l.here

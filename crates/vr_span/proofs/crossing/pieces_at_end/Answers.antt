@@ -1,6 +1,9 @@
 use Rattle.std.proofs.Common.{◌≡◌, ◌+◌, [], length, sym, subst, arith}
 use Rattle.vr_steps.specs.Arcs.{IsSoundHop}
 use Rattle.vr_steps.specs.Levels.{IsCumuls}
+use Rattle.vr_model.proofs.schedules.Crossing.{reached_by_crossing}
+use Rattle.vr_model.proofs.schedules.LevelEnds.{reached_at_start}
+use Rattle.vr_steps.proofs.LawLemmas.{arc_alone, lines_stand_for_theirs}
 use Rattle.vr_span.specs.Pieces.{ArePieces, Arrive}
 use Rattle.vr_span.specs.Starts.{TellStartsAt}
 use Rattle.vr_span.proofs.LineLemmas.{begin_at, behind_at}
@@ -9,7 +12,7 @@ use Rattle.vr_span.proofs.crossing.pieces_at_end.Goals as goal
 pub loop-k-init : goal.loop-k-init
 loop-k-init c = record {
   pieces = c.in_ok-begin.ensures.pieces;
-  told = begin_at c.lines_stand_for_theirs.ensures c.args.line.now c.requires.sound c.reached_at_start.ensures c.get.result.now (c.get.ensures.value []) c.begin.new.out c.in_ok-begin.ensures.exact;
+  told = begin_at lines_stand_for_theirs c.args.line.now c.requires.sound reached_at_start c.get.result.now (c.get.ensures.value []) c.begin.new.out c.in_ok-begin.ensures.exact;
 }
 
 pub cross-requires-clause-hop : goal.cross-requires-clause-hop
@@ -28,7 +31,7 @@ loop-k-preserved c =
     record {
       pieces = subst ArePieces (sym c.swap.ensures.x_after) c.in_ok-cross.ensures.pieces;
       told = subst (TellStartsAt line (c.loop-k.k + 1)) (sym c.swap.ensures.x_after)
-          (behind_at c.lines_stand_for_theirs.ensures line c.requires.sound c.reached_by_crossing.ensures c.arc_alone.ensures c.loop-k.k (omega arith) hop c.get-hop.ensures.value set (c.get-allowed.ensures.value []) c.loop-k.here out c.loop-k.invariant.told arrive);
+          (behind_at lines_stand_for_theirs line c.requires.sound reached_by_crossing arc_alone c.loop-k.k (omega arith) hop c.get-hop.ensures.value set (c.get-allowed.ensures.value []) c.loop-k.here out c.loop-k.invariant.told arrive);
     }
 
 pub returns-clause-told : goal.returns-clause-told

@@ -1,10 +1,11 @@
 use Rattle.std.proofs.Common.{subst, sym}
 use Rattle.vr_steps.specs.Reached.{AreReached}
+use Rattle.vr_steps.proofs.LawLemmas.{lines_stand_for_theirs}
 use Rattle.vr_reach.proofs.walks.Walk.goes_along.Goals as goal
 
 pub returns : goal.returns
 returns c = λ defined of.
-    let s = c.lines_stand_for_theirs.ensures defined c.args.line.now of c.requires in
+    let s = lines_stand_for_theirs defined c.args.line.now of c.requires in
     c.ends.ensures defined (record {
       sound = s.sound;
       breaks_are = s.breaks;

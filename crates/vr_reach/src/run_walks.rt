@@ -1,0 +1,57 @@
+//! What a walk of one run asks.
+
+ghost use Rattle.std.proofs.Props.{props};
+ghost use Rattle.std.specs.Prelude.{◌≡◌, ◌<◌, ◌≤◌, suc, length, pos};
+ghost use Rattle.vr_model.specs.tables.Numbers.{horizon};
+ghost use Rattle.vr_model.specs.tables.Tables.{dimension_at, evaluator_of};
+ghost use Rattle.vr_model.specs.tables.WellFormed.{IsIn};
+ghost use Rattle.vr_reach.specs.Tested.{IsReachedBy, IsReachingBy};
+ghost use Rattle.vr_reach.specs.VehicleStops.{line_of};
+ghost use Rattle.vr_reach.specs.VisitRuns.{AreVisitRuns, IsFinish};
+
+use crate::driven::Driven;
+use crate::single::Ahead;
+use vr_model::Evaluator;
+use vr_spans::Run;
+use vr_steps::Levels;
+
+// A list of a vehicle, where no visit and not the end allows more than one run: the runs, and what the arcs take.
+#[derive(Clone, Copy)]
+pub(crate) struct RunLine<'m, 'l, 's> {
+    pub(crate) of: Driven<'m, 'l>,
+    pub(crate) evaluator: &'m Evaluator,
+    // the greatest slack
+    pub(crate) slack: i64,
+    // the run that each visit allows, by its node
+    pub(crate) visits: &'s [Run],
+    pub(crate) finish: Ahead,
+    // The evaluator is that of the vehicle.
+    pub ghost evaluator_is: { evaluator.now
+        ≡ evaluator_of (dimension_at of.closed.model.now of.d) of.v } by { Prim.hlevel props },
+    // The slack is that of the dimension.
+    pub ghost slack_is: { slack ≡ (dimension_at of.closed.model.now of.d).slack_max } by { Prim.hlevel props },
+    pub ghost slack_range: { IsIn (pos 0) horizon slack },
+    // The runs are those of the vehicle.
+    pub ghost runs_are: { AreVisitRuns of.closed.model.now of.d of.v visits.now } by { Prim.hlevel props },
+    // The end is its end.
+    pub ghost finish_is: { IsFinish of.closed.model.now of.d of.v finish } by { Prim.hlevel props },
+}
+
+// A leg of such a list: two stops, the levels at which the first is reached, and those from which the end is reached at
+// the last.
+#[derive(Clone, Copy)]
+pub(crate) struct RunWalk<'m, 'l, 's, 'r> {
+    pub(crate) line: RunLine<'m, 'l, 's>,
+    pub(crate) begin: usize,
+    pub(crate) last: usize,
+    pub(crate) from: &'r Levels,
+    pub(crate) to: &'r Levels,
+    // The leg has an arc.
+    pub ghost order: { begin < last },
+    // There is its last stop.
+    pub ghost within: { last ≤ suc (length line.of.list.now) },
+    // The first stop is reached so.
+    pub ghost begun: { IsReachedBy (line_of line.of) begin from.now } by { Prim.hlevel props },
+    // The end is reached so from the last.
+    pub ghost met: { IsReachingBy (line_of line.of) last to.now } by { Prim.hlevel props },
+}
