@@ -5,9 +5,10 @@
 //! stop. The tight schedule is found in the same way, where the end of the line was first narrowed to its least cumul
 //! and then the start to its greatest.
 //!
-//! What is looked up of a dimension for all lists is a [`Table`]. A [`Timing`] is what the chosen schedule of one list
-//! comes to, found by the earliest cumuls where those tell it and by a [`Chooser`] else; an [`Extent`] is from where to
-//! where the schedules of several lists reach.
+//! What is looked up of a dimension for all lists is a [`Table`], and what is looked up once of a whole model is
+//! [`Lookups`], which all that ask it share. A [`Timing`] is what the chosen schedule of one list comes to, found by
+//! the earliest cumuls where those tell it and by a [`Chooser`] else; an [`Extent`] is from where to where the
+//! schedules of several lists reach.
 //!
 //! `vr_print` asks for whole schedules, `vr_rules` and `vr_costfilter` for what they come to.
 #![tactic(auto)]
@@ -16,6 +17,7 @@ mod choosers;
 mod cumuls;
 mod ends;
 mod extents;
+mod lookups;
 mod narrow;
 mod paying;
 mod plans;
@@ -26,6 +28,7 @@ mod timings;
 
 pub use choosers::Chooser;
 pub use extents::{Extent, global_cost, wider};
+pub use lookups::Lookups;
 pub use narrow::{pin, same_line};
 pub use paying::may_pay_alone;
 pub use plans::Plan;

@@ -6,14 +6,14 @@ ghost use Rattle.vr_model.specs.routes.Routes.{are_lists};
 ghost use Rattle.vr_model.specs.routes.Rules.{is_valid};
 ghost use Rattle.vr_rules.specs.Parts.{AreTimed};
 ghost use Rattle.vr_rules.specs.Placing.{AreMarks};
-ghost use Rattle.vr_plan.specs.Tables.{AreTables, IsTable};
+ghost use Rattle.vr_plan.specs.Tables.{IsTable};
 ghost use Rattle.vr_rules.specs.Totals.{HasTotal};
 
 use crate::costs::{arcs_of_routes, fixed_of_routes};
 use crate::penalties::penalty_of_groups;
 use crate::sums::sums_of;
 use vr_model::{Closed, NoMemory, Parts};
-use vr_plan::{Table, Timer, global_cost};
+use vr_plan::{Lookups, Table, Timer, global_cost};
 use vr_routes::Routes;
 
 // What the chosen schedules of routes cost in all dimensions.
@@ -49,45 +49,40 @@ fn with_dimension(
 }
 
 // What the chosen schedules of routes cost.
-fn timed_of(
-    closed: Closed<'_>,
-    tables: &[Table],
-    routes: &Routes,
-    timer: &mut Timer,
-) -> Result<Timed, NoMemory>
-    requires tables { AreTables closed.model.now tables.now }
-    requires lists { IsTrue (are_lists closed.model.now routes.now.lists) }
-    ensures { IfOk result (AreTimed closed.entry.model.now routes.now.lists
-        (length closed.entry.model.now.dimensions)) }
+fn timed_of(lookups: &Lookups<'_>, routes: &Routes, timer: &mut Timer) -> Result<Timed, NoMemory>
+    requires lists { IsTrue (are_lists lookups.now.closed.model.now routes.now.lists) }
+    ensures { IfOk result (AreTimed lookups.now.closed.model.now routes.now.lists
+        (length lookups.now.closed.model.now.dimensions)) }
 {
     let mut timed = Timed {
         global: 0,
         soft: 0,
         span: 0,
     };
+    let closed = lookups.closed;
     for d in 0..closed.model.dimensions.len() {
-        timed = with_dimension(closed, &tables[d], d as u32, routes, timed, timer)?;
+        let table = lookups.table(d as u32);
+        timed = with_dimension(closed, table, d as u32, routes, timed, timer)?;
     }
     Ok(timed)
 }
 
 // What valid routes cost at their chosen schedules, by the marks of their active nodes.
 pub(crate) fn parts_of(
-    closed: Closed<'_>,
-    tables: &[Table],
+    lookups: &Lookups<'_>,
     routes: &Routes,
     marks: &[bool],
     timer: &mut Timer,
 ) -> Result<Parts, NoMemory>
-    requires tables { AreTables closed.model.now tables.now }
-    requires valid { IsTrue (is_valid closed.model.now routes.now.lists) }
-    requires marks { AreMarks closed.model.now.nodes routes.now.lists marks.now }
+    requires valid { IsTrue (is_valid lookups.now.closed.model.now routes.now.lists) }
+    requires marks { AreMarks lookups.now.closed.model.now.nodes routes.now.lists marks.now }
     ensures parts { IfOk result (λ parts. parts
-        ≡ parts_at closed.entry.model.now (assigned closed.entry.model.now routes.now.lists)) }
+        ≡ parts_at lookups.now.closed.model.now (assigned lookups.now.closed.model.now routes.now.lists)) }
     ensures total { IfOk result HasTotal }
 {
+    let closed = lookups.closed;
     let penalty = penalty_of_groups(closed, marks);
-    let timed = timed_of(closed, tables, routes, timer)?;
+    let timed = timed_of(lookups, routes, timer)?;
     Ok(Parts {
         arcs: arcs_of_routes(closed, routes),
         fixed: fixed_of_routes(closed, routes),

@@ -18,9 +18,8 @@ use crate::routes_open::{Driving, is_route_open};
 use crate::validity::{is_open, is_open_beside, is_valid, is_valid_where_open};
 use std::alloc::Global;
 use std::marker::Model;
-use vr_lists::NodeTables;
 use vr_model::{Closed, Model as RoutingModel, NoMemory, Parts};
-use vr_plan::{Table, Timer, tables_of};
+use vr_plan::{Lookups, Timer};
 use vr_routes::Routes;
 
 /// The rules of a model, ready to be asked of any lists. Contracts see the model, which no call changes.
@@ -30,9 +29,7 @@ use vr_routes::Routes;
 /// has more than four runs, or a list is longer, has more pairs, or its vehicle more breaks, than any before.
 #[derive(Drop)]
 pub struct Rules<'m> {
-    model: &'m RoutingModel,
-    tables: Vec<Table>,
-    lookups: NodeTables<'m>,
+    lookups: Lookups<'m>,
     // on the heap, since it is large
     kept: Box<Kept>,
 }
@@ -48,13 +45,10 @@ struct Kept {
 
 impl<'m> Model for Rules<'m> {
     ghost use Rattle.vr_model.specs.declared.records.Model.{Model as Defined};
-    ghost use Rattle.vr_rules.specs.Opened.{AreOpened};
 
     ghost Value = { Defined };
 
-    ghost view = { λ rules. rules.model.now };
-
-    ghost invariant = { λ rules. AreOpened rules.model.now rules.tables.items rules.lookups };
+    ghost view = { λ rules. rules.lookups.closed.model.now };
 }
 
 impl<'m> Rules<'m> {
@@ -63,10 +57,16 @@ impl<'m> Rules<'m> {
         requires { IsWellFormed model.now }
         ensures { IfOk result (λ rules. rules ≡ model.now) }
     {
+        let lookups = Lookups::open(alloc, Closed { model })?;
+        Rules::over(alloc, &lookups)
+    }
+
+    /// The same, over what was looked up of the model.
+    pub fn over(alloc: Global, lookups: &Lookups<'m>) -> Result<Rules<'m>, NoMemory>
+        ensures { IfOk result (λ rules. rules ≡ lookups.now.closed.model.now) }
+    {
         Ok(Rules {
-            model,
-            tables: tables_of(alloc, model)?,
-            lookups: NodeTables::open(alloc, model)?,
+            lookups: lookups.share()?,
             kept: Box::new(
                 alloc,
                 Kept {
@@ -83,9 +83,7 @@ impl<'m> Rules<'m> {
         ensures model { result.now ≡ self.now }
         ensures well_formed { IsWellFormed self.now }
     {
-        // what holds of the model is known where the tables are read too
-        let _ = &self.tables;
-        self.model
+        self.lookups.closed.model
     }
 
     /// Whether vehicle `v` may drive a list: the list is empty, or its line in each dimension has a schedule, it serves
@@ -100,9 +98,9 @@ impl<'m> Rules<'m> {
         ensures model { self.new ≡ self.old }
     {
         let answer = is_route_open(
-            self.model,
-            &self.tables,
-            &self.lookups,
+            self.lookups.closed.model,
+            self.lookups.tables(),
+            self.lookups.nodes(),
             v,
             list,
             &mut self.kept.driving,
@@ -118,15 +116,8 @@ impl<'m> Rules<'m> {
         ensures model { self.new ≡ self.old }
     {
         let kept = &mut *self.kept;
-        write_marks(self.model, routes, &mut kept.marks)?;
-        let answer = is_open(
-            Closed { model: self.model },
-            &self.tables,
-            &self.lookups,
-            routes,
-            &kept.marks,
-            &mut kept.driving,
-        )?;
+        write_marks(self.lookups.closed.model, routes, &mut kept.marks)?;
+        let answer = is_open(&self.lookups, routes, &kept.marks, &mut kept.driving)?;
         Ok(answer)
     }
 
@@ -138,10 +129,8 @@ impl<'m> Rules<'m> {
         ensures model { self.new ≡ self.old }
     {
         let kept = &mut *self.kept;
-        write_marks(self.model, routes, &mut kept.marks)?;
+        write_marks(self.lookups.closed.model, routes, &mut kept.marks)?;
         let answer = is_open_beside(
-            Closed { model: self.model },
-            &self.tables,
             &self.lookups,
             others,
             routes,
@@ -159,9 +148,8 @@ impl<'m> Rules<'m> {
         ensures model { self.new ≡ self.old }
     {
         let kept = &mut *self.kept;
-        write_marks(self.model, routes, &mut kept.marks)?;
-        let closed = Closed { model: self.model };
-        let answer = is_valid_where_open(closed, &self.lookups, routes, &kept.marks);
+        write_marks(self.lookups.closed.model, routes, &mut kept.marks)?;
+        let answer = is_valid_where_open(&self.lookups, routes, &kept.marks);
         Ok(answer)
     }
 
@@ -173,15 +161,8 @@ impl<'m> Rules<'m> {
         ensures model { self.new ≡ self.old }
     {
         let kept = &mut *self.kept;
-        write_marks(self.model, routes, &mut kept.marks)?;
-        let answer = is_valid(
-            Closed { model: self.model },
-            &self.tables,
-            &self.lookups,
-            routes,
-            &kept.marks,
-            &mut kept.driving,
-        )?;
+        write_marks(self.lookups.closed.model, routes, &mut kept.marks)?;
+        let answer = is_valid(&self.lookups, routes, &kept.marks, &mut kept.driving)?;
         Ok(answer)
     }
 
@@ -194,14 +175,8 @@ impl<'m> Rules<'m> {
         ensures model { self.new ≡ self.old }
     {
         let kept = &mut *self.kept;
-        write_marks(self.model, routes, &mut kept.marks)?;
-        let parts = parts_of(
-            Closed { model: self.model },
-            &self.tables,
-            routes,
-            &kept.marks,
-            &mut kept.timer,
-        )?;
+        write_marks(self.lookups.closed.model, routes, &mut kept.marks)?;
+        let parts = parts_of(&self.lookups, routes, &kept.marks, &mut kept.timer)?;
         Ok(parts)
     }
 

@@ -8,30 +8,31 @@ ghost use Rattle.vr_model.specs.routes.Rules.{is_open as is_open_of, is_route_op
 ghost use Rattle.vr_model.specs.routes.Rules.{is_valid as is_valid_of};
 ghost use Rattle.vr_routes.specs.Tours.{are_routes_open as are_routes_open_of};
 ghost use Rattle.vr_rules.specs.Placing.{fits_by, AreBuilt, AreMarks};
-ghost use Rattle.vr_plan.specs.Tables.{AreTables};
 
 use crate::complete::{is_complete, marked};
 use crate::routes_open::{Driving, is_route_open};
-use vr_lists::NodeTables;
 use vr_model::{Closed, Group, NoMemory};
-use vr_plan::Table;
+use vr_plan::Lookups;
 use vr_routes::Routes;
 
 // Whether each vehicle may drive its list.
 fn are_routes_open(
-    closed: Closed<'_>,
-    tables: &[Table],
-    lookups: &NodeTables<'_>,
+    lookups: &Lookups<'_>,
     routes: &Routes,
     driving: &mut Driving,
 ) -> Result<bool, NoMemory>
-    requires tables { AreTables closed.model.now tables.now }
-    requires lookups { lookups.now ≡ closed.model.now }
-    requires lists { IsTrue (are_lists closed.model.now routes.now.lists) }
-    ensures { IfOk result (λ all. all ≡ are_routes_open_of closed.entry.model.now routes.now.lists) }
+    requires lists { IsTrue (are_lists lookups.now.closed.model.now routes.now.lists) }
+    ensures { IfOk result (λ all. all ≡ are_routes_open_of lookups.now.closed.model.now routes.now.lists) }
 {
     for v in 0..routes.vehicles() {
-        if !is_route_open(closed.model, tables, lookups, v, routes.list(v), driving)? {
+        if !is_route_open(
+            lookups.closed.model,
+            lookups.tables(),
+            lookups.nodes(),
+            v,
+            routes.list(v),
+            driving,
+        )? {
             return Ok(false);
         }
     }
@@ -47,47 +48,46 @@ fn is_same(one: &[u32], other: &[u32]) -> bool
 
 // Whether a vehicle may drive a list, where it may drive another one.
 fn stays_open(
-    closed: Closed<'_>,
-    tables: &[Table],
-    lookups: &NodeTables<'_>,
+    lookups: &Lookups<'_>,
     v: u32,
     other: &[u32],
     list: &[u32],
     driving: &mut Driving,
 ) -> Result<bool, NoMemory>
-    requires tables { AreTables closed.model.now tables.now }
-    requires lookups { lookups.now ≡ closed.model.now }
-    requires vehicle { v < length closed.model.now.vehicles }
-    requires visits { IsTrue (list_all (is_visit closed.model.now) list.now) }
+    requires vehicle { v < length lookups.now.closed.model.now.vehicles }
+    requires visits { IsTrue (list_all (is_visit lookups.now.closed.model.now) list.now) }
     requires distinct { IsTrue (is_distinct list.now) }
-    requires other { is_route_open_of closed.model.now v other.now ≡ true }
-    ensures { IfOk result (λ answer. answer ≡ is_route_open_of closed.entry.model.now v list.now) }
+    requires other { is_route_open_of lookups.now.closed.model.now v other.now ≡ true }
+    ensures { IfOk result (λ answer. answer ≡ is_route_open_of lookups.now.closed.model.now v list.now) }
 {
     if is_same(list, other) {
         return Ok(true);
     }
-    let open = is_route_open(closed.model, tables, lookups, v, list, driving)?;
+    let open = is_route_open(
+        lookups.closed.model,
+        lookups.tables(),
+        lookups.nodes(),
+        v,
+        list,
+        driving,
+    )?;
     Ok(open)
 }
 
 // Whether each vehicle may drive its list, where each may drive its list of others.
 fn are_routes_open_beside(
-    closed: Closed<'_>,
-    tables: &[Table],
-    lookups: &NodeTables<'_>,
+    lookups: &Lookups<'_>,
     others: &Routes,
     routes: &Routes,
     driving: &mut Driving,
 ) -> Result<bool, NoMemory>
-    requires tables { AreTables closed.model.now tables.now }
-    requires lookups { lookups.now ≡ closed.model.now }
-    requires others { AreBuilt closed.model.now others.now.lists }
-    requires lists { IsTrue (are_lists closed.model.now routes.now.lists) }
-    ensures { IfOk result (λ all. all ≡ are_routes_open_of closed.entry.model.now routes.now.lists) }
+    requires others { AreBuilt lookups.now.closed.model.now others.now.lists }
+    requires lists { IsTrue (are_lists lookups.now.closed.model.now routes.now.lists) }
+    ensures { IfOk result (λ all. all ≡ are_routes_open_of lookups.now.closed.model.now routes.now.lists) }
 {
     for v in 0..routes.vehicles() {
         let (other, list) = (others.list(v), routes.list(v));
-        if !stays_open(closed, tables, lookups, v, other, list, driving)? {
+        if !stays_open(lookups, v, other, list, driving)? {
             return Ok(false);
         }
     }
@@ -117,85 +117,67 @@ fn groups_fit(closed: Closed<'_>, marks: &[bool]) -> bool
 
 // Whether routes of the model are open, by the marks of their active nodes.
 pub(crate) fn is_open(
-    closed: Closed<'_>,
-    tables: &[Table],
-    lookups: &NodeTables<'_>,
+    lookups: &Lookups<'_>,
     routes: &Routes,
     marks: &[bool],
     driving: &mut Driving,
 ) -> Result<bool, NoMemory>
-    requires tables { AreTables closed.model.now tables.now }
-    requires lookups { lookups.now ≡ closed.model.now }
-    requires lists { IsTrue (are_lists closed.model.now routes.now.lists) }
-    requires marks { AreMarks closed.model.now.nodes routes.now.lists marks.now }
-    ensures { IfOk result (λ answer. answer ≡ is_open_of closed.entry.model.now routes.now.lists) }
+    requires lists { IsTrue (are_lists lookups.now.closed.model.now routes.now.lists) }
+    requires marks { AreMarks lookups.now.closed.model.now.nodes routes.now.lists marks.now }
+    ensures { IfOk result (λ answer. answer ≡ is_open_of lookups.now.closed.model.now routes.now.lists) }
 {
-    if !groups_fit(closed, marks) {
+    if !groups_fit(lookups.closed, marks) {
         return Ok(false);
     }
-    let all = are_routes_open(closed, tables, lookups, routes, driving)?;
+    let all = are_routes_open(lookups, routes, driving)?;
     Ok(all)
 }
 
 // The same, where others are open.
 pub(crate) fn is_open_beside(
-    closed: Closed<'_>,
-    tables: &[Table],
-    lookups: &NodeTables<'_>,
+    lookups: &Lookups<'_>,
     others: &Routes,
     routes: &Routes,
     marks: &[bool],
     driving: &mut Driving,
 ) -> Result<bool, NoMemory>
-    requires tables { AreTables closed.model.now tables.now }
-    requires lookups { lookups.now ≡ closed.model.now }
-    requires others { AreBuilt closed.model.now others.now.lists }
-    requires lists { IsTrue (are_lists closed.model.now routes.now.lists) }
-    requires marks { AreMarks closed.model.now.nodes routes.now.lists marks.now }
-    ensures { IfOk result (λ answer. answer ≡ is_open_of closed.entry.model.now routes.now.lists) }
+    requires others { AreBuilt lookups.now.closed.model.now others.now.lists }
+    requires lists { IsTrue (are_lists lookups.now.closed.model.now routes.now.lists) }
+    requires marks { AreMarks lookups.now.closed.model.now.nodes routes.now.lists marks.now }
+    ensures { IfOk result (λ answer. answer ≡ is_open_of lookups.now.closed.model.now routes.now.lists) }
 {
-    if !groups_fit(closed, marks) {
+    if !groups_fit(lookups.closed, marks) {
         return Ok(false);
     }
-    let all = are_routes_open_beside(closed, tables, lookups, others, routes, driving)?;
+    let all = are_routes_open_beside(lookups, others, routes, driving)?;
     Ok(all)
 }
 
 // Whether open routes of the model are valid, by the marks of their active nodes.
-pub(crate) fn is_valid_where_open(
-    closed: Closed<'_>,
-    lookups: &NodeTables<'_>,
-    routes: &Routes,
-    marks: &[bool],
-) -> bool
-    requires lookups { lookups.now ≡ closed.model.now }
-    requires built { AreBuilt closed.model.now routes.now.lists }
-    requires marks { AreMarks closed.model.now.nodes routes.now.lists marks.now }
-    ensures { result ≡ is_valid_of closed.entry.model.now routes.now.lists }
+pub(crate) fn is_valid_where_open(lookups: &Lookups<'_>, routes: &Routes, marks: &[bool]) -> bool
+    requires built { AreBuilt lookups.now.closed.model.now routes.now.lists }
+    requires marks { AreMarks lookups.now.closed.model.now.nodes routes.now.lists marks.now }
+    ensures { result ≡ is_valid_of lookups.now.closed.model.now routes.now.lists }
 {
     // the marks are those of the routes
     let _marked = routes;
-    is_complete(closed.model, lookups, marks)
+    is_complete(lookups.closed.model, lookups.nodes(), marks)
 }
 
 // Whether routes of the model are valid, by the marks of their active nodes.
 pub(crate) fn is_valid(
-    closed: Closed<'_>,
-    tables: &[Table],
-    lookups: &NodeTables<'_>,
+    lookups: &Lookups<'_>,
     routes: &Routes,
     marks: &[bool],
     driving: &mut Driving,
 ) -> Result<bool, NoMemory>
-    requires tables { AreTables closed.model.now tables.now }
-    requires lookups { lookups.now ≡ closed.model.now }
-    requires lists { IsTrue (are_lists closed.model.now routes.now.lists) }
-    requires marks { AreMarks closed.model.now.nodes routes.now.lists marks.now }
-    ensures { IfOk result (λ answer. answer ≡ is_valid_of closed.entry.model.now routes.now.lists) }
+    requires lists { IsTrue (are_lists lookups.now.closed.model.now routes.now.lists) }
+    requires marks { AreMarks lookups.now.closed.model.now.nodes routes.now.lists marks.now }
+    ensures { IfOk result (λ answer. answer ≡ is_valid_of lookups.now.closed.model.now routes.now.lists) }
 {
-    if !is_complete(closed.model, lookups, marks) {
+    if !is_complete(lookups.closed.model, lookups.nodes(), marks) {
         return Ok(false);
     }
-    let valid = is_open(closed, tables, lookups, routes, marks, driving)?;
+    let valid = is_open(lookups, routes, marks, driving)?;
     Ok(valid)
 }

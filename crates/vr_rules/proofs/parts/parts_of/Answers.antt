@@ -10,22 +10,22 @@ use Rattle.vr_rules.proofs.parts.parts_of.Goals as goal
 
 pub penalty_of_groups-penalty-requires-clause-fit : goal.penalty_of_groups-penalty-requires-clause-fit
 penalty_of_groups-penalty-requires-clause-fit c =
-    groups_fit-open c.args.closed.model.now c.args.closed.well_formed c.args.routes.now.lists c.args.marks.now c.requires.marks (valid-open c.args.closed.model.now c.args.routes.now.lists c.requires.valid)
+    groups_fit-open c.args.lookups.now.closed.model.now c.args.lookups.now.closed.well_formed c.args.routes.now.lists c.args.marks.now c.requires.marks (valid-open c.args.lookups.now.closed.model.now c.args.routes.now.lists c.requires.valid)
 
-pub timed_of-requires-clause-lists : goal.timed_of-requires-clause-lists
-timed_of-requires-clause-lists c = are-lists c.args.closed.model.now c.args.routes.now.lists c.requires.valid
+pub timed_of-requires : goal.timed_of-requires
+timed_of-requires c = record { lists = are-lists c.args.lookups.now.closed.model.now c.args.routes.now.lists c.requires.valid }
 
 pub arcs_of_routes-requires : goal.arcs_of_routes-requires
-arcs_of_routes-requires c = are-lists c.args.closed.model.now c.args.routes.now.lists c.requires.valid
+arcs_of_routes-requires c = are-lists c.args.lookups.now.closed.model.now c.args.routes.now.lists c.requires.valid
 
 pub fixed_of_routes-requires : goal.fixed_of_routes-requires
-fixed_of_routes-requires c = are-lists c.args.closed.model.now c.args.routes.now.lists c.requires.valid
+fixed_of_routes-requires c = are-lists c.args.lookups.now.closed.model.now c.args.routes.now.lists c.requires.valid
 
 pub returns-clause-parts : goal.returns-clause-parts
 returns-clause-parts c =
-    let model = c.args.closed.model.now in
+    let model = c.args.lookups.now.closed.model.now in
     let lists = c.args.routes.now.lists in
-    let few = c.args.closed.well_formed.number_of_dimensions in
+    let few = c.args.lookups.now.closed.well_formed.number_of_dimensions in
     let timed = c.in_ok-timed.ensures in
     let arcs_read : to_z w64 (of_z w64 c.arcs_of_routes.result) ≡ c.arcs_of_routes.result = omega (arith, ints, c.arcs_of_routes.ensures.low, c.arcs_of_routes.ensures.high) in
     let fixed_read : to_z w64 (of_z w64 c.fixed_of_routes.result) ≡ c.fixed_of_routes.result = omega (arith, ints, c.fixed_of_routes.ensures.low, c.fixed_of_routes.ensures.high) in
@@ -35,7 +35,7 @@ returns-clause-parts c =
     let global_read : to_z w64 (of_z w64 c.in_ok-timed.timed.global) ≡ c.in_ok-timed.timed.global = omega (arith, ints, timed.global_in_range.low, timed.global_in_range.high, few) in
     let arcs = arcs_read ∙ c.arcs_of_routes.ensures.value in
     let fixed = fixed_read ∙ c.fixed_of_routes.ensures.value in
-    let penalty = penalty_read ∙ c.penalty_of_groups-penalty.ensures.value ∙ penalty_part-marks model c.args.closed.well_formed lists c.args.marks.now c.requires.marks in
+    let penalty = penalty_read ∙ c.penalty_of_groups-penalty.ensures.value ∙ penalty_part-marks model c.args.lookups.now.closed.well_formed lists c.args.marks.now c.requires.marks in
     let global = global_read ∙ timed.global in
     let soft = soft_read ∙ timed.soft ∙ soft-part model lists in
     let span = span_read ∙ timed.span ∙ span-part model lists in
@@ -43,9 +43,9 @@ returns-clause-parts c =
 
 pub returns-clause-total : goal.returns-clause-total
 returns-clause-total c =
-    let model = c.args.closed.model.now in
+    let model = c.args.lookups.now.closed.model.now in
     let lists = c.args.routes.now.lists in
-    let few = c.args.closed.well_formed.number_of_dimensions in
+    let few = c.args.lookups.now.closed.well_formed.number_of_dimensions in
     let timed = c.in_ok-timed.ensures in
     let arcs_read : to_z w64 (of_z w64 c.arcs_of_routes.result) ≡ c.arcs_of_routes.result = omega (arith, ints, c.arcs_of_routes.ensures.low, c.arcs_of_routes.ensures.high) in
     let fixed_read : to_z w64 (of_z w64 c.fixed_of_routes.result) ≡ c.fixed_of_routes.result = omega (arith, ints, c.fixed_of_routes.ensures.low, c.fixed_of_routes.ensures.high) in
@@ -55,11 +55,11 @@ returns-clause-total c =
     let global_read : to_z w64 (of_z w64 c.in_ok-timed.timed.global) ≡ c.in_ok-timed.timed.global = omega (arith, ints, timed.global_in_range.low, timed.global_in_range.high, few) in
     let arcs = arcs_read ∙ c.arcs_of_routes.ensures.value in
     let fixed = fixed_read ∙ c.fixed_of_routes.ensures.value in
-    let penalty = penalty_read ∙ c.penalty_of_groups-penalty.ensures.value ∙ penalty_part-marks model c.args.closed.well_formed lists c.args.marks.now c.requires.marks in
+    let penalty = penalty_read ∙ c.penalty_of_groups-penalty.ensures.value ∙ penalty_part-marks model c.args.lookups.now.closed.well_formed lists c.args.marks.now c.requires.marks in
     let global = global_read ∙ timed.global in
     let soft = soft_read ∙ timed.soft ∙ soft-part model lists in
     let span = span_read ∙ timed.span ∙ span-part model lists in
-    let h = (costs_are_bounded model c.args.closed.well_formed lists c.requires.valid).parts in
+    let h = (costs_are_bounded model c.args.lookups.now.closed.well_formed lists c.requires.valid).parts in
     let total : HasTotal (parts_at model (assigned model lists)) = record {
       arcs = h.arcs.at_least;
       fixed = h.fixed.at_least;
